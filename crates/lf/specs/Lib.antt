@@ -1,0 +1,17 @@
+pub mod Syntax
+pub mod Substitution
+pub mod SkeletonTyping
+pub mod Typing
+pub mod Skeletons
+pub mod Eta
+pub mod Variables
+pub mod Subordination
+pub mod Extension
+pub mod Worlds
+pub mod Rules
+pub mod Depth
+pub mod AtOnce
+pub mod Deep
+pub mod DeepTyping
+pub mod Entries
+pub mod Laws

@@ -1,0 +1,5 @@
+pub mod Cuts
+pub mod Positions
+pub mod Firsts
+pub mod Lists
+pub mod TokensUnique

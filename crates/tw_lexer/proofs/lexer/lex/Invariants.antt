@@ -1,0 +1,18 @@
+use Rattle.std.proofs.Common.{◌≡◌, ◌≤◌, ◌-◌, length}
+use Rattle.std.specs.List.{All}
+use Rattle.tw_lexer.specs.Places.{place_of}
+use Rattle.tw_lexer.specs.Tokens.{IsWithin}
+use Rattle.tw_lexer.proofs.Lists.{Leads}
+use Rattle.tw_lexer.proofs.lexer.lex.Given as goal
+
+-- the tokens so far lead from where the reading began to here, and none of them ends the declaration
+abbrev pub invariant-loop-token : goal.invariant-loop-token
+invariant-loop-token l = record {
+  within : l.from ≤ length l.text;
+  place : l.at ≡ place_of l.text l.from;
+  leads : Leads l.text l.fn.from l.list.items l.from;
+  tokens : All (IsWithin (length l.text)) l.list.items;
+}
+
+abbrev pub decreases-loop-token : goal.decreases-loop-token
+decreases-loop-token l = length l.text - l.from

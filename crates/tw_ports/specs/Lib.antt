@@ -1,0 +1,4 @@
+pub mod Ports
+pub mod Files
+pub mod Memory
+pub mod Real

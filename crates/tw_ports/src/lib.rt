@@ -1,0 +1,17 @@
+//! Where bytes come from and go to: sources, sinks and stores of files, each of which counts its faults.
+#![tactic(auto)]
+
+mod files;
+mod memory;
+mod ports;
+mod real;
+mod slices;
+mod sure;
+#[cfg(test)]
+mod tests;
+
+pub use files::{FileAnswer, Files, SureFiles};
+pub use memory::{MemSink, MemSource};
+pub use ports::{ReadAnswer, Sink, Source, WriteAnswer};
+pub use real::{ReaderSource, WriterSink};
+pub use sure::{SureSink, SureSource};

@@ -1,0 +1,9 @@
+pub mod Pieces
+pub mod Seen
+pub mod Counted
+pub mod Sound
+pub mod Turned
+pub mod Served
+pub mod Readings
+pub mod Declared
+pub mod Kept

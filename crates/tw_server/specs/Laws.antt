@@ -1,0 +1,28 @@
+-- Laws of runs.
+use Rattle.std.specs.Prelude.{◌≡◌, ◌≢◌, ◌⊎◌, ℕ, ◌^◌, ◌≤◌, List, ◌++◌, length, Bool, true, Some}
+use Rattle.std.specs.declared.option.Option.{Option}
+use Rattle.tw_server.specs.View.{State, IsSound}
+use Rattle.tw_server.specs.Machine.{Step}
+use Rattle.tw_server.specs.Outcome.{Serves, IsCommandLine}
+use Rattle.tw_server.specs.declared.status.Status.{Status}
+use Rattle.tw_server.specs.declared.status.Status.TheVariants.{Done, ReadFault, WriteFault, NoMemory, InputLong}
+
+-- an input of no more than 2 ^ 40 bytes is never too long
+abbrev pub ShortIsNotLong : Type 0
+ShortIsNotLong = (words : List (List ℕ)) (input : List ℕ) (left' written written' : Option (List ℕ)) (v w : State) (status : Status)
+    → length input ≤ 2 ^ 40 → Serves words (Some input) left' written written' v status w → status ≢ InputLong
+
+-- with good words, no fault of source or sink and no more than 2 ^ 40 bytes, a run is done, or memory is wanting before it
+abbrev pub FaultlessIsDone : Type 0
+FaultlessIsDone = (words : List (List ℕ)) (input : List ℕ) (left' written written' : Option (List ℕ)) (v w : State) (status : Status)
+    → IsCommandLine words → length input ≤ 2 ^ 40 → status ≢ ReadFault → status ≢ WriteFault
+    → Serves words (Some input) left' written written' v status w → (status ≡ Done) ⊎ (status ≡ NoMemory)
+
+-- an input has one division into steps: two steps on whole lines at its front take the same bytes
+abbrev pub OneReading : Type 0
+OneReading = (v v' w w' : State) (took took' more more' reply reply' : List ℕ)
+    → Step true v took reply w → Step true v' took' reply' w' → took ++ more ≡ took' ++ more' → took ≡ took'
+
+-- a step keeps the signature canonical
+abbrev pub StepKeepsSound : Type 0
+StepKeepsSound = (whole : Bool) (v w : State) (took reply : List ℕ) → Step whole v took reply w → IsSound v.view → IsSound w.view

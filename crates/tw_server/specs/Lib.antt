@@ -1,0 +1,17 @@
+pub mod Lines
+pub mod Words
+pub mod SessionView
+pub mod View
+pub mod ViewCode
+pub mod Declaration
+pub mod Refusing
+pub mod Replies
+pub mod Machine
+pub mod Outcome
+pub mod Laws
+pub mod ExitCodes
+pub mod Counts
+pub mod Feed
+pub mod Gather
+pub mod Written
+pub mod Turns

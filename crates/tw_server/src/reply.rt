@@ -1,0 +1,56 @@
+//! Replies, and how they are written.
+ghost use Rattle.tw_server.specs.Counts.{CountsWrites};
+ghost use Rattle.tw_server.specs.Replies.{reply_bytes};
+ghost use Rattle.tw_server.specs.Written.{GainsReply};
+
+use crate::write::{Unwritten, write_all, write_both};
+use tw_ports::Sink;
+
+/// The last line of a reply to an accepted command.
+const OK: &[u8] = b"%% OK %%\n";
+
+/// The last line of a refusal.
+const ABORT: &[u8] = b"%% ABORT %%\n";
+
+const NO_MEMORY: &[u8] = b"E0 Memory\n%% ABORT %%\n";
+
+const UNKNOWN_COMMAND: &[u8] = b"C1 UnknownCommand\n%% ABORT %%\n";
+
+const TEXT_LONG: &[u8] = b"C4 TextLong\n%% ABORT %%\n";
+
+const LONG_LINE: &[u8] = b"C5 LongLine\n%% ABORT %%\n";
+
+/// What a command answers.
+#[derive(Drop)]
+pub enum Reply {
+    /// Nothing at all, to a blank line.
+    Nothing,
+    /// A declaration is made, and this is its report.
+    Accepted(Vec<u8>),
+    /// A declaration is refused, and this line says why.
+    Refused(Vec<u8>),
+    /// Memory is wanting.
+    NoMemory,
+    /// The line is no command.
+    UnknownCommand,
+    /// The declaration's text is too long.
+    TextLong,
+    /// The command line is too long.
+    LongLine,
+}
+
+/// Writes a reply. It takes no memory.
+pub fn write_reply<K: Sink>(sink: &mut K, reply: &Reply) -> Result<(), Unwritten>
+    ensures bytes { GainsReply (K.written sink.old) (K.written sink.new) (reply_bytes reply.now) result }
+    ensures counts { CountsWrites (K.faults sink.old) (K.faults sink.new) result }
+{
+    match reply {
+        Reply::Nothing => write_all(sink, b""),
+        Reply::Accepted(report) => write_both(sink, report, OK),
+        Reply::Refused(line) => write_both(sink, line, ABORT),
+        Reply::NoMemory => write_all(sink, NO_MEMORY),
+        Reply::UnknownCommand => write_all(sink, UNKNOWN_COMMAND),
+        Reply::TextLong => write_all(sink, TEXT_LONG),
+        Reply::LongLine => write_all(sink, LONG_LINE),
+    }
+}

@@ -1,0 +1,4 @@
+pub mod Views
+pub mod Args
+pub mod OpenViews
+pub mod OpenArgs

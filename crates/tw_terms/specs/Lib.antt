@@ -1,0 +1,3 @@
+pub mod View
+pub mod OpenView
+pub mod Codes

@@ -1,0 +1,25 @@
+//! The terms, types and kinds of LF, with de Bruijn numbers for variables.
+//! Contracts see each of them as the plain syntax of the crate `lf`, through the views in `specs/View.antt`.
+#![tactic(auto)]
+
+pub mod canonical;
+#[tactic(auto, using(crate::proofs::Args::types))]
+pub mod context;
+pub mod copy;
+pub mod depth;
+#[tactic(auto, using(crate::proofs::OpenArgs::open_types))]
+pub mod open_context;
+#[tactic(auto, using(crate::proofs::OpenArgs::open_spines))]
+pub mod open_terms;
+pub mod same;
+#[tactic(auto, using(crate::proofs::Args::types_and_skeletons))]
+pub mod skeletons;
+
+pub use canonical::{ConstId, Head, Kind, MetaId, Skeleton, Spine, Term, Ty};
+pub use context::Context;
+pub use open_context::OpenContext;
+pub use open_terms::{Open, OpenHead, OpenSpine, OpenTy};
+pub use skeletons::skeleton;
+
+#[cfg(test)]
+mod tests;
