@@ -3,3 +3,4 @@ pub mod Positions
 pub mod Firsts
 pub mod Lists
 pub mod TokensUnique
+pub mod TokensExist

@@ -1,5 +1,5 @@
 -- Laws of how a text is cut and read.
-use Rattle.std.specs.Prelude.{◌≡◌, ℕ, List, ◌++◌}
+use Rattle.std.specs.Prelude.{◌≡◌, ◌≤◌, ◌⊎◌, ℕ, List, ◌++◌, length}
 use Rattle.tw_lexer.specs.Cut.{cut_after}
 use Rattle.tw_lexer.specs.Tokens.{ThroughDot, HasFault}
 use Rattle.tw_lexer.specs.declared.cut.Cut.{Cut}
@@ -26,3 +26,7 @@ FaultIsUnique = (text : List ℕ) (from : ℕ) (p q : Place) → HasFault text f
 -- what has a fault before its first dot has no tokens through that dot
 abbrev pub FaultExcludesTokens : Type 0
 FaultExcludesTokens = (text : List ℕ) (from : ℕ) (ts : List Token) (upto : ℕ) (place : Place) → ThroughDot text from ts upto → HasFault text from place → ⊥
+
+-- a text has its tokens through the first dot, or a fault before it
+abbrev pub TextIsRead : Type 0
+TextIsRead = (text : List ℕ) (from : ℕ) → from ≤ length text → ((ts : List Token) × (upto : ℕ) × ThroughDot text from ts upto) ⊎ ((place : Place) × HasFault text from place)

@@ -1,6 +1,6 @@
 //! The classes of bytes.
 ghost use Rattle.std.specs.Prelude.{◌≡◌};
-ghost use Rattle.tw_lexer.specs.Bytes.{class_of, is_plain};
+ghost use Rattle.tw_lexer.specs.Bytes.{is_white_space, class_of, is_plain};
 
 use crate::token::TokenKind;
 
@@ -44,4 +44,11 @@ pub fn is_plain(byte: u8) -> bool
     ensures { result ≡ is_plain byte }
 {
     matches!(class_of(byte), Class::Plain)
+}
+
+/// Whether a byte is white space.
+pub fn is_white_space(byte: u8) -> bool
+    ensures { result ≡ is_white_space byte }
+{
+    byte == b' ' || (9 <= byte && byte <= 13)
 }

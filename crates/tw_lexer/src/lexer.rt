@@ -140,7 +140,7 @@ fn ends(kind: TokenKind) -> bool
     matches!(kind, TokenKind::Dot | TokenKind::End)
 }
 
-/// The tokens from a byte on, through the first dot or the end of the text. Linear in the bytes read.
+/// The tokens from a byte on, through the first dot or the end of the text.
 pub fn lex(alloc: Global, text: &[u8], from: usize, at: Place) -> Result<Tokens, LexFault>
     requires short { length text.now < 2 ^ 32 - 1 }
     requires within { from ≤ length text.now }

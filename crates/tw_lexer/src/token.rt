@@ -1,6 +1,7 @@
 //! Tokens.
 use crate::place::Place;
 
+/// What a token is: an identifier, a keyword, one of the marks, or the end of the text.
 #[derive(Clone, Copy, Debug, PartialEq, Eq)]
 pub enum TokenKind {
     Ident,

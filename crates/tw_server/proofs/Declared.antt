@@ -15,6 +15,7 @@ use Rattle.tw_lexer.specs.declared.token.TokenKind.TheVariants.{Ident, Keyword, 
 use Rattle.tw_lexer.proofs.TokensUnique.{tokens_unique}
 use Rattle.tw_server.specs.Declaration.{IsRead, IsForm, IsFamilyForm, IsFamily, IsEmpty, IsOtherForm, HasCause}
 use Rattle.tw_server.specs.Refusing.{IsRefusalOf}
+use Rattle.tw_server.specs.View.{View}
 use Rattle.tw_server.specs.declared.session.Refusal.{Refusal}
 use Rattle.tw_server.specs.declared.session.Refusal.TheVariants as refusals
 
@@ -82,26 +83,26 @@ read_unique text ts us t u h k =
     (same.0, let g = sym e ∙ k.behind in cc)
 
 -- a text that isn't of the form with these tokens is of the form with none
-no_family : (text : List ℕ) (ts : List Token) (t : Token) → IsRead text ts t → ((name : List ℕ) → IsFamilyForm text ts t name → ⊥) → (name : List ℕ) → IsFamily text name → ⊥
-no_family text ts t read none name (us, u, other, form) =
+no_family : (text : List ℕ) (ts : List Token) (t : Token) → IsRead text ts t → ((name : List ℕ) → IsFamilyForm text ts name → t.kind ≡ End → ⊥) → (name : List ℕ) → IsFamily text name → ⊥
+no_family text ts t read none name (us, u, other, form, last) =
     let same = read_unique text us ts u t other read in
-    none name (subst (λ (x : Token). IsFamilyForm text ts x name) same.1 (subst (λ (xs : List Token). IsFamilyForm text xs u name) same.0 form))
+    none name (subst (λ (xs : List Token). IsFamilyForm text xs name) same.0 form) (ap (λ (x : Token). x.kind) (sym same.1) ∙ last)
 
 -- the refusal of tokens that are of no known form has its cause
-pub refused : (text : List ℕ) (ts : List Token) (t : Token) (refusal : Refusal) → IsRead text ts t → ((name : List ℕ) → IsFamilyForm text ts t name → ⊥) → IsRefusalOf text ts refusal → HasCause text refusal
-refused text [] t refusal read none h = absurd h
-refused text (first ∷ ts) t refusals.NoMemory read none h = tt
-refused text (first ∷ ts) t (refusals.Lex place) read none h = absurd h
-refused text (first ∷ ts) t (refusals.Syntax place) read none h = record {
+pub refused : (v : View) (text : List ℕ) (ts : List Token) (t : Token) (refusal : Refusal) → IsRead text ts t → ((name : List ℕ) → IsFamilyForm text ts name → t.kind ≡ End → ⊥) → IsRefusalOf text ts refusal → HasCause v text refusal
+refused v text [] t refusal read none h = absurd h
+refused v text (first ∷ ts) t refusals.Memory read none h = tt
+refused v text (first ∷ ts) t (refusals.Lex place) read none h = absurd h
+refused v text (first ∷ ts) t (refusals.Syntax place) read none h = record {
   tokens = first ∷ ts;
   next = t;
   read = read;
-  last = first;
+  only = first;
   first = read.through.0;
   at_end = h.0;
   behind = h.1 ∙ end_place text first read.through.0 h.0;
 }
-refused text (first ∷ ts) t (refusals.Unsupported place shown) read none h = record {
+refused v text (first ∷ ts) t (refusals.Unsupported place shown) read none h = record {
   tokens = first ∷ ts;
   next = t;
   read = read;
@@ -114,10 +115,10 @@ refused text (first ∷ ts) t (refusals.Unsupported place shown) read none h = r
 }
 
 -- four tokens of the form are a family's
-pub family_form : (text : List ℕ) (ts : List Token) (t d : Token) (name : List ℕ) → length ts ≡ 4 → IsForm text (slice_index_or ts 0 d) (slice_index_or ts 1 d) (slice_index_or ts 2 d) (slice_index_or ts 3 d) t name → IsFamilyForm text ts t name
-family_form text [] t d name l f = absurd (omega (arith, l))
-family_form text (a ∷ []) t d name l f = absurd (omega (arith, l))
-family_form text (a ∷ b ∷ []) t d name l f = absurd (omega (arith, l))
-family_form text (a ∷ b ∷ c ∷ []) t d name l f = absurd (omega (arith, l))
-family_form text (a ∷ b ∷ c ∷ e ∷ []) t d name l f = f
-family_form text (a ∷ b ∷ c ∷ e ∷ x ∷ xs) t d name l f = absurd (omega (arith, l))
+pub family_form : (text : List ℕ) (ts : List Token) (d : Token) (name : List ℕ) → length ts ≡ 4 → IsForm text (slice_index_or ts 0 d) (slice_index_or ts 1 d) (slice_index_or ts 2 d) (slice_index_or ts 3 d) name → IsFamilyForm text ts name
+family_form text [] d name l f = absurd (omega (arith, l))
+family_form text (a ∷ []) d name l f = absurd (omega (arith, l))
+family_form text (a ∷ b ∷ []) d name l f = absurd (omega (arith, l))
+family_form text (a ∷ b ∷ c ∷ []) d name l f = absurd (omega (arith, l))
+family_form text (a ∷ b ∷ c ∷ e ∷ []) d name l f = f
+family_form text (a ∷ b ∷ c ∷ e ∷ x ∷ xs) d name l f = absurd (omega (arith, l))

@@ -1,5 +1,5 @@
 -- How an input is divided.
-use Rattle.std.proofs.Common.{◌≡◌, ◌≢◌, ℕ, ◌+◌, ◌<◌, ◌≤◌, ◌^◌, List, [], ◌∷◌, ◌++◌, length, refl, sym, ap, ap₂, ◌∙◌, arith, subst, append-nil, append_assoc, length-append, Bool, true, false, inl, inr, None, Some}
+use Rattle.std.proofs.Common.{◌≡◌, ◌≢◌, ℕ, ◌+◌, ◌-◌, ◌<◌, ◌≤◌, ◌^◌, List, [], ◌∷◌, ◌++◌, length, refl, sym, ap, ap₂, ◌∙◌, arith, subst, append-nil, append_assoc, length-append, Bool, true, false, inl, inr, None, Some}
 use Rattle.std.specs.Prelude.{◌⊎◌, nat_lt}
 use Rattle.std.specs.declared.option.Option.{Option}
 use Rattle.std.specs.Io.KnownBytes.{Consumes}
@@ -12,13 +12,15 @@ use Rattle.tw_server.specs.View.{State}
 use Rattle.tw_server.specs.declared.command.Said.{Said}
 use Rattle.tw_server.specs.declared.command.Said.TheVariants.{TooLong, Blank, ReadDecl, Quit, Unknown}
 use Rattle.tw_server.specs.Machine.{Behind, Takes, Step}
-use Rattle.tw_server.specs.Outcome.{Serves, Outcome, Ran, IsCommandLine}
+use Rattle.tw_server.specs.Outcome.{Serves, Outcome, Ran, AreGoodWords}
+use Rattle.tw_ports.specs.Ports.{count_after}
+use Rattle.tw_server.specs.Counts.{StatusCounts}
 use Rattle.tw_server.specs.Laws.{FaultlessIsDone, OneReading, ShortIsNotLong}
 use Rattle.tw_server.specs.declared.status.Status.{Status}
 use Rattle.tw_server.specs.declared.status.Status.TheVariants.{Done, BadWords, ReadFault, WriteFault, NoMemory, InputLong}
 use borrow.Author.Tests.{ltb-true, ltb-false}
 
-longer : (taken read unread : List ℕ) → taken ≡ read ++ unread → length read ≡ 2 ^ 40 → unread ≢ [] → 2 ^ 40 < length taken
+longer : (taken read ahead : List ℕ) → taken ≡ read ++ ahead → length read ≡ 2 ^ 40 → ahead ≢ [] → 2 ^ 40 < length taken
 longer taken read [] e l n = absurd (n refl)
 longer taken read (x ∷ xs) e l n = omega (arith, ap length e, length-append read (x ∷ xs))
 
@@ -29,7 +31,7 @@ taken_within input (Some rest) taken h = omega (arith, ap length h, length-appen
 not_long : (words : List (List ℕ)) (left : Option (List ℕ)) (v w : State) (taken gained : List ℕ) → length taken ≤ 2 ^ 40 → Outcome words left InputLong v taken gained w → ⊥
 not_long words left v w taken gained l o =
     let r : Ran left InputLong v taken gained w = o.1 in
-    let k = longer taken _ r.unread r.read r.ends.2 r.ends.1 in omega arith
+    let k = longer taken _ r.ahead r.read r.ends.2 r.ends.1 in omega arith
 
 pub short_is_not_long : ShortIsNotLong
 short_is_not_long words input left' written written' v w status l s e =
@@ -37,19 +39,23 @@ short_is_not_long words input left' written written' v w status l s e =
     let k = taken_within input left' s.taken s.consumed in
     not_long words left' v w s.taken s.gained (omega arith) o
 
-done_or_none : (words : List (List ℕ)) (left : Option (List ℕ)) (status : Status) (v w : State) (taken gained : List ℕ) → IsCommandLine words → length taken ≤ 2 ^ 40 → status ≢ ReadFault → status ≢ WriteFault
+-- a count that is raised has changed, below its last value
+raised : (n : ℕ) → n < 2 ^ 64 - 1 → n ≡ count_after true n → ⊥
+raised n h e = omega (arith, e)
+
+done_or_none : (words : List (List ℕ)) (left : Option (List ℕ)) (status : Status) (v w : State) (taken gained : List ℕ) (r k : ℕ) → AreGoodWords words → length taken ≤ 2 ^ 40 → r < 2 ^ 64 - 1 → k < 2 ^ 64 - 1 → StatusCounts r r k k status
     → Outcome words left status v taken gained w → (status ≡ Done) ⊎ (status ≡ NoMemory)
-done_or_none words left Done v w taken gained good l r k o = inl refl
-done_or_none words left BadWords v w taken gained good l r k o = absurd (o.0 good)
-done_or_none words left ReadFault v w taken gained good l r k o = absurd (r refl)
-done_or_none words left WriteFault v w taken gained good l r k o = absurd (k refl)
-done_or_none words left NoMemory v w taken gained good l r k o = inr refl
-done_or_none words left InputLong v w taken gained good l r k o = absurd (not_long words left v w taken gained l o)
+done_or_none words left Done v w taken gained r k good l p q c o = inl refl
+done_or_none words left BadWords v w taken gained r k good l p q c o = absurd (o.0 good)
+done_or_none words left ReadFault v w taken gained r k good l p q c o = absurd (raised r p c.0)
+done_or_none words left WriteFault v w taken gained r k good l p q c o = absurd (raised k q c.1)
+done_or_none words left NoMemory v w taken gained r k good l p q c o = inr refl
+done_or_none words left InputLong v w taken gained r k good l p q c o = absurd (not_long words left v w taken gained l o)
 
 pub faultless_is_done : FaultlessIsDone
-faultless_is_done words input left' written written' v w status good l r k s =
+faultless_is_done words input left' written written' v w status r k good l p q c s =
     let t = taken_within input left' s.taken s.consumed in
-    done_or_none words left' status v w s.taken s.gained good (omega arith) r k s.outcome
+    done_or_none words left' status v w s.taken s.gained r k good (omega arith) p q c s.outcome
 
 same_line : (a b x y : List ℕ) → HasNoFeed a → HasNoFeed b → a ++ 10 ∷ x ≡ b ++ 10 ∷ y → (a ≡ b) × (x ≡ y)
 same_line [] [] x y p q e = (refl, cc)
@@ -86,7 +92,7 @@ no_feed_inside : (a z : List ℕ) → HasNoFeed (a ++ 10 ∷ z) → ⊥
 no_feed_inside [] z h = h.0 refl
 no_feed_inside (x ∷ a) z h = no_feed_inside a z h.1
 
--- a text that comes to its point at a line feed goes no further
+-- a text that comes to its dot at a line feed goes no further
 no_further : (a b x y : List ℕ) → (body : List ℕ) → IsOpen b body → is_over a ≡ true → a ++ 10 ∷ x ≡ b ++ y → length a < length b → ⊥
 no_further a b x y body o over e h =
     let f = front_of a b (10 ∷ x) y e (omega arith) in

@@ -12,7 +12,7 @@ use Rattle.tw_lexer.specs.declared.cut.Cut.{Cut}
 use Rattle.tw_lexer.specs.declared.cut.Cut.TheVariants.{Plain, Done}
 use Rattle.tw_lexer.proofs.Cuts.{cut_after-append}
 use Rattle.tw_server.specs.Lines.{HasNoFeed, IsOpen, is_over}
-use Rattle.tw_server.specs.Feed.{Held, Sees, GivesByte, Stopped}
+use Rattle.tw_server.specs.Feed.{Pending, Sees, GivesByte, Stopped}
 use Rattle.tw_server.specs.declared.feed.Stop.{Stop}
 use Rattle.tw_server.specs.declared.text.Lost.TheVariants as losts
 use Rattle.std.specs.Prelude.{◌⊎◌}
@@ -20,16 +20,16 @@ use Rattle.std.proofs.Common.{inl, inr, Ok, Err}
 use Rattle.tw_server.specs.declared.text.Lost.{Lost}
 use Rattle.tw_server.specs.Gather.{IsKept, IsPushed, IsGathered, LineSoFar, TextSoFar, ReadsText}
 
-pub Sees-nil : (a : Held) (left : Option (List ℕ)) → Sees a left a left []
+pub Sees-nil : (a : Pending) (left : Option (List ℕ)) → Sees a left a left []
 Sees-nil a left = record { first = Consumes-nil _; counted = omega arith }
 
-pub Sees-trans : {a b c : Held} {la lb lc : Option (List ℕ)} {xs ys : List ℕ} → Sees a la b lb xs → Sees b lb c lc ys → Sees a la c lc (xs ++ ys)
+pub Sees-trans : {a b c : Pending} {la lb lc : Option (List ℕ)} {xs ys : List ℕ} → Sees a la b lb xs → Sees b lb c lc ys → Sees a la c lc (xs ++ ys)
 Sees-trans {xs = xs} {ys = ys} p q = record {
   first = Consumes-trans _ _ _ _ _ p.first q.first;
   counted = omega (arith, length-append xs ys);
 }
 
-pub Sees-same : {a b : Held} {la lb : Option (List ℕ)} {xs ys : List ℕ} → Sees a la b lb xs → xs ≡ ys → Sees a la b lb ys
+pub Sees-same : {a b : Pending} {la lb : Option (List ℕ)} {xs ys : List ℕ} → Sees a la b lb xs → xs ≡ ys → Sees a la b lb ys
 Sees-same {a = a} {b = b} {la = la} {lb = lb} s e = subst (Sees a la b lb) e s
 
 -- the list grows at its end
@@ -66,7 +66,7 @@ open_more text body b h n = record {
   before = h.before;
 }
 
--- a line feed before the point begins a new line
+-- a line feed before the dot begins a new line
 pub open_next : (text body : List ℕ) → is_over text ≡ false → IsOpen text body → IsOpen (text ++ 10 ∷ []) []
 open_next text body e h = record {
   front = text ++ 10 ∷ [];
@@ -77,7 +77,7 @@ open_next text body e h = record {
 }
 
 -- nothing of a text was read
-pub text_begins : (a : Held) (left : Option (List ℕ)) (lost : Lost) (kept : List ℕ) → lost ≡ losts.Nothing → kept ≡ [] → TextSoFar a left a left lost kept Plain
+pub text_begins : (a : Pending) (left : Option (List ℕ)) (lost : Lost) (kept : List ℕ) → lost ≡ losts.Nothing → kept ≡ [] → TextSoFar a left a left lost kept Plain
 text_begins a left lost kept e k = record {
   text = [];
   body = [];
@@ -88,7 +88,7 @@ text_begins a left lost kept e k = record {
 }
 
 -- a text goes on by a byte
-pub text_more : {a b c : Held} {la lb lc : Option (List ℕ)} {lost lost' : Lost} {kept kept' : List ℕ} {cut cut' : Cut} (x : ℕ) → TextSoFar a la b lb lost kept cut
+pub text_more : {a b c : Pending} {la lb lc : Option (List ℕ)} {lost lost' : Lost} {kept kept' : List ℕ} {cut cut' : Cut} (x : ℕ) → TextSoFar a la b lb lost kept cut
     → Sees b lb c lc (x ∷ []) → ((text : List ℕ) → IsGathered lost kept text → IsGathered lost' kept' (text ++ x ∷ [])) → cut' ≡ cut_after cut (x ∷ []) → ((x ≡ 10) × (is_done cut ≡ false)) ⊎ (x ≡ 10 → ⊥)
     → TextSoFar a la c lc lost' kept' cut'
 text_more {cut = cut} x i s gather o (inl next) = record {

@@ -10,12 +10,12 @@ use Rattle.tw_ports.proofs.Gained.{Gains-nil, Gains-trans, Gains-same}
 use Rattle.std.proofs.KnownBytes.{Consumes-nil}
 use Rattle.tw_server.specs.Written.{GainsFront, GainsReply}
 use Rattle.tw_server.specs.View.{State}
-use Rattle.tw_server.specs.Feed.{Held, Sees}
+use Rattle.tw_server.specs.Feed.{Pending, Sees}
 use Rattle.std.specs.List.{AllByRecursion}
 use Rattle.tw_server.specs.Replies.{banner, usage}
 use Rattle.tw_server.specs.View.{IsSound}
 use Rattle.tw_server.specs.Machine.{Step, Run, Turn}
-use Rattle.tw_server.specs.Outcome.{Ends, IsCommandLine, IsCut, Ran, RanTo, Outcome, Serves}
+use Rattle.tw_server.specs.Outcome.{Ends, AreGoodWords, IsCut, Ran, RanTo, Outcome, Serves}
 use Rattle.tw_server.specs.Turns.{Moves, RanSoFar, TurnOf}
 use Rattle.tw_server.specs.declared.status.Status.{Status}
 use Rattle.tw_server.specs.declared.status.Status.TheVariants.{Done, BadWords, ReadFault, WriteFault, NoMemory, InputLong}
@@ -32,16 +32,16 @@ flat_more f [] t = append-nil (f t)
 flat_more f (x ∷ xs) t = ap (λ (l : List ℕ). f x ++ l) (flat_more f xs t) ∙ sym (append_assoc (f x) (flat_map f xs) (f t))
 
 -- before the first turn
-pub so_far_nil : (left written written' : Option (List ℕ)) (v : State) (feed : Held) → feed ≡ record { held = []; seen = 0 } → Gains written written' banner → RanSoFar left left written written' v feed v
+pub so_far_nil : (left written written' : Option (List ℕ)) (v : State) (feed : Pending) → feed ≡ record { held = []; seen = 0 } → Gains written written' banner → RanSoFar left left written written' v feed v
 so_far_nil left written written' v feed e g = record {
   turns = [];
   run = refl;
-  sees = subst (λ (f : Held). Sees (record { held = []; seen = 0 }) left f left []) (sym e) (Sees-nil _ left);
+  sees = subst (λ (f : Pending). Sees (record { held = []; seen = 0 }) left f left []) (sym e) (Sees-nil _ left);
   gains = subst (Gains written written') (sym (append-nil banner)) g;
 }
 
 -- after one turn more
-pub so_far_more : {left lb lc written wb wc : Option (List ℕ)} {v u w : State} {b c : Held} (done : Unit {0}) → RanSoFar left lb written wb v b u
+pub so_far_more : {left lb lc written wb wc : Option (List ℕ)} {v u w : State} {b c : Pending} (done : Unit {0}) → RanSoFar left lb written wb v b u
     → Moves b lb c lc wb wc (λ took last. TurnOf lc c (Ok done) u took last w) → RanSoFar left lc written wc v c w
 so_far_more {written = written} {wb = wb} {wc = wc} {v = v} {u = u} {w = w} done i m =
     let t : Turn = record { took = m.took; reply = m.last; after = w } in
@@ -67,26 +67,26 @@ run_sound v (t ∷ ts) u r s =
     ((k, rest.0), rest.1)
 
 -- and so does the end of a run
-ends_sound : (left : Option (List ℕ)) (status : Status) (v w : State) (tail last unread : List ℕ) (looked : ℕ) → Ends left status v tail last w unread looked → IsSound v.view → IsSound w.view
-ends_sound left Done v w tail last unread looked (inl quit) s = subst (λ (x : State). IsSound x.view) (sym quit.2) s
-ends_sound left Done v w tail last unread looked (inr step) s = step_sound false v w tail last step.0 s
-ends_sound left ReadFault v w tail last unread looked h s = subst (λ (x : State). IsSound x.view) (sym h.0.same) s
-ends_sound left InputLong v w tail last unread looked h s = subst (λ (x : State). IsSound x.view) (sym h.0.same) s
-ends_sound left WriteFault v w tail last unread looked h s = step_sound h.whole v w tail h.reply h.step s
-ends_sound left NoMemory v w tail last unread looked h s = absurd h
-ends_sound left BadWords v w tail last unread looked h s = absurd h
+ends_sound : (left : Option (List ℕ)) (status : Status) (v w : State) (tail last ahead : List ℕ) (looked : ℕ) → Ends left status v tail last w ahead looked → IsSound v.view → IsSound w.view
+ends_sound left Done v w tail last ahead looked (inl quit) s = subst (λ (x : State). IsSound x.view) (sym quit.2) s
+ends_sound left Done v w tail last ahead looked (inr step) s = step_sound false v w tail last step.0 s
+ends_sound left ReadFault v w tail last ahead looked h s = subst (λ (x : State). IsSound x.view) (sym h.0.same) s
+ends_sound left InputLong v w tail last ahead looked h s = subst (λ (x : State). IsSound x.view) (sym h.0.same) s
+ends_sound left WriteFault v w tail last ahead looked h s = step_sound h.whole v w tail h.reply h.step s
+ends_sound left NoMemory v w tail last ahead looked h s = absurd h
+ends_sound left BadWords v w tail last ahead looked h s = absurd h
 
-outcome_of : (words : List (List ℕ)) (left : Option (List ℕ)) (status : Status) (v u w : State) (taken gained tail last unread : List ℕ) (looked : ℕ) → IsCommandLine words
-    → Ends left status u tail last w unread looked → Ran left status v taken gained w → Outcome words left status v taken gained w
-outcome_of words left Done v u w taken gained tail last unread looked k e r = (k, r)
-outcome_of words left ReadFault v u w taken gained tail last unread looked k e r = (k, r)
-outcome_of words left InputLong v u w taken gained tail last unread looked k e r = (k, r)
-outcome_of words left WriteFault v u w taken gained tail last unread looked k e r = inr (inr (k, r))
-outcome_of words left NoMemory v u w taken gained tail last unread looked k e r = absurd e
-outcome_of words left BadWords v u w taken gained tail last unread looked k e r = absurd e
+outcome_of : (words : List (List ℕ)) (left : Option (List ℕ)) (status : Status) (v u w : State) (taken gained tail last ahead : List ℕ) (looked : ℕ) → AreGoodWords words
+    → Ends left status u tail last w ahead looked → Ran left status v taken gained w → Outcome words left status v taken gained w
+outcome_of words left Done v u w taken gained tail last ahead looked k e r = (k, r)
+outcome_of words left ReadFault v u w taken gained tail last ahead looked k e r = (k, r)
+outcome_of words left InputLong v u w taken gained tail last ahead looked k e r = (k, r)
+outcome_of words left WriteFault v u w taken gained tail last ahead looked k e r = inr (inr (k, r))
+outcome_of words left NoMemory v u w taken gained tail last ahead looked k e r = absurd e
+outcome_of words left BadWords v u w taken gained tail last ahead looked k e r = absurd e
 
 -- the last turn ends the run
-pub ran : {left lb lc written wb wc : Option (List ℕ)} {v u w : State} {b c : Held} (words : List (List ℕ)) (status : Status) → IsCommandLine words → IsSound v.view → RanSoFar left lb written wb v b u
+pub ran : {left lb lc written wb wc : Option (List ℕ)} {v u w : State} {b c : Pending} (words : List (List ℕ)) (status : Status) → AreGoodWords words → IsSound v.view → RanSoFar left lb written wb v b u
     → Moves b lb c lc wb wc (λ took last. TurnOf lc c (Err status) u took last w) → Serves words left lc written wc v status w
 ran {left = left} {lc = lc} {written = written} {wb = wb} {wc = wc} {v = v} {u = u} {w = w} {c = c} words status good sound i m =
     let front = flat_map (λ x. x.took) i.turns in
@@ -99,7 +99,7 @@ ran {left = left} {lc = lc} {written = written} {wb = wb} {wc = wc} {v = v} {u =
       mid = u;
       tail = m.took;
       last = m.last;
-      unread = c.held;
+      ahead = c.held;
       run = i.run;
       ends = ends;
       read = refl;
@@ -122,36 +122,36 @@ cut_of : (a b : Option (List ℕ)) (all : List ℕ) (f : GainsFront a b all) →
 cut_of a b all f = (f.1, f.2, f.4)
 
 -- the banner was cut short
-pub banner_cut : (words : List (List ℕ)) (left written written' : Option (List ℕ)) (v : State) → IsCommandLine words → IsSound v.view → GainsFront written written' banner → Serves words left left written written' v WriteFault v
+pub banner_cut : (words : List (List ℕ)) (left written written' : Option (List ℕ)) (v : State) → AreGoodWords words → IsSound v.view → GainsFront written written' banner → Serves words left left written written' v WriteFault v
 banner_cut words left written written' v good sound f = record {
   taken = [];
   gained = f.0;
   consumed = Consumes-nil left;
   gains = f.3;
-  outcome = inr (inl (good, cut_of written written' banner f, record { unread = refl; same = refl }));
+  outcome = inr (inl (good, cut_of written written' banner f, record { nothing_read = refl; same = refl }));
   sound_before = sound;
   sound_after = sound;
 }
 
 -- the words are bad
-pub usage_cut : (words : List (List ℕ)) (left written written' : Option (List ℕ)) (v : State) → (IsCommandLine words → ⊥) → IsSound v.view → GainsFront written written' usage → Serves words left left written written' v WriteFault v
+pub usage_cut : (words : List (List ℕ)) (left written written' : Option (List ℕ)) (v : State) → (AreGoodWords words → ⊥) → IsSound v.view → GainsFront written written' usage → Serves words left left written written' v WriteFault v
 usage_cut words left written written' v bad sound f = record {
   taken = [];
   gained = f.0;
   consumed = Consumes-nil left;
   gains = f.3;
-  outcome = inl (bad, cut_of written written' usage f, record { unread = refl; same = refl });
+  outcome = inl (bad, cut_of written written' usage f, record { nothing_read = refl; same = refl });
   sound_before = sound;
   sound_after = sound;
 }
 
-pub usage_told : (words : List (List ℕ)) (left written written' : Option (List ℕ)) (v : State) → (IsCommandLine words → ⊥) → IsSound v.view → Gains written written' usage → Serves words left left written written' v BadWords v
+pub usage_told : (words : List (List ℕ)) (left written written' : Option (List ℕ)) (v : State) → (AreGoodWords words → ⊥) → IsSound v.view → Gains written written' usage → Serves words left left written written' v BadWords v
 usage_told words left written written' v bad sound f = record {
   taken = [];
   gained = usage;
   consumed = Consumes-nil left;
   gains = f;
-  outcome = (bad, refl, record { unread = refl; same = refl });
+  outcome = (bad, refl, record { nothing_read = refl; same = refl });
   sound_before = sound;
   sound_after = sound;
 }
@@ -163,12 +163,12 @@ no_memory words left written v sound = record {
   gained = [];
   consumed = Consumes-nil left;
   gains = Gains-nil written;
-  outcome = (refl, record { unread = refl; same = refl });
+  outcome = (refl, record { nothing_read = refl; same = refl });
   sound_before = sound;
   sound_after = sound;
 }
 
 -- words that are not empty are no command line
-pub words_bad : {W : Type 0} (f : W → List ℕ) (words : List W) → (length words == 0) ≡ false → IsCommandLine (map f words) → ⊥
+pub words_bad : {W : Type 0} (f : W → List ℕ) (words : List W) → (length words == 0) ≡ false → AreGoodWords (map f words) → ⊥
 words_bad f [] n good = cc
 words_bad f (word ∷ words) n good = good

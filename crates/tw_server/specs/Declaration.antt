@@ -25,20 +25,20 @@ pub record IsRead (text : List ℕ) (tokens : List Token) (next : Token) : Type 
   pub through : ThroughDot text 0 tokens upto
   pub behind : first_token text upto ≡ Ok next
 
--- a name, a colon, the word `type` and a dot, and nothing behind them
-pub record IsForm (text : List ℕ) (first colon word dot next : Token) (name : List ℕ) : Type 0 where
-  pub kinds : (first.kind ≡ Ident) × (colon.kind ≡ Colon) × (word.kind ≡ Ident) × (dot.kind ≡ Dot) × (next.kind ≡ End)
+-- a name, a colon, the word `type` and a dot
+pub record IsForm (text : List ℕ) (first colon word dot : Token) (name : List ℕ) : Type 0 where
+  pub kinds : (first.kind ≡ Ident) × (colon.kind ≡ Colon) × (word.kind ≡ Ident) × (dot.kind ≡ Dot)
   pub named : name ≡ spelling text first
   pub free : IsFree name
   pub says_type : spelling text word ≡ codes "type"
 
-abbrev pub IsFamilyForm : List ℕ → List Token → Token → List ℕ → Type 0
-IsFamilyForm text (first ∷ colon ∷ word ∷ dot ∷ []) next name = IsForm text first colon word dot next name
-IsFamilyForm text tokens next name = ⊥
+abbrev pub IsFamilyForm : List ℕ → List Token → List ℕ → Type 0
+IsFamilyForm text (first ∷ colon ∷ word ∷ dot ∷ []) name = IsForm text first colon word dot name
+IsFamilyForm text tokens name = ⊥
 
--- the one form so far: `c : type.`
+-- the one form so far: `c : type.`, and nothing behind it
 abbrev pub IsFamily : List ℕ → List ℕ → Type 0
-IsFamily text name = (tokens : List Token) × (next : Token) × IsRead text tokens next × IsFamilyForm text tokens next name
+IsFamily text name = (tokens : List Token) × (next : Token) × IsRead text tokens next × IsFamilyForm text tokens name × (next.kind ≡ End)
 
 -- the entry of a family without arguments
 abbrev pub family_entry : List ℕ → Entry
@@ -52,8 +52,8 @@ pub record Accepts (v : View) (text report : List ℕ) (w : View) : Type 0 where
   pub keeps : w ≡ with_entry v (family_entry name)
 
 -- no token stands here, neither in the declaration nor first behind its dot
-abbrev pub IsUnread : List ℕ → Place → Type 0
-IsUnread text place = HasFault text 0 place
+abbrev pub HasNoToken : List ℕ → Place → Type 0
+HasNoToken text place = HasFault text 0 place
     ⊎ ((tokens : List Token) × (upto : ℕ) × ThroughDot text 0 tokens upto × (first_token text upto ≡ Err place))
 
 -- the text has no token; the place is just behind its last byte
@@ -61,9 +61,9 @@ pub record IsEmpty (text : List ℕ) (place : Place) : Type 0 where
   pub tokens : List Token
   pub next : Token
   pub read : IsRead text tokens next
-  pub last : Token
-  pub first : first_token text 0 ≡ Ok last
-  pub at_end : last.kind ≡ End
+  pub only : Token
+  pub first : first_token text 0 ≡ Ok only
+  pub at_end : only.kind ≡ End
   pub behind : place ≡ place_of text (length text)
 
 -- the text is read, and is not of the one form; its first token stands here
@@ -78,23 +78,24 @@ pub record IsOtherForm (text : List ℕ) (place : Place) (shown : List ℕ) : Ty
   pub at : place ≡ head.at
   pub shows : shown ≡ spelling text head
 
--- the cause of a refusal; want of memory has none
-abbrev pub HasCause : List ℕ → Refusal → Type 0
-HasCause text refusals.NoMemory = Unit {0}
-HasCause text (refusals.Lex place) = IsUnread text place
-HasCause text (refusals.Syntax place) = IsEmpty text place
-HasCause text (refusals.Unsupported place shown) = IsOtherForm text place shown.items
+-- the cause of a refusal over a view; want of memory has none
+abbrev pub HasCause : View → List ℕ → Refusal → Type 0
+HasCause v text refusals.Memory = Unit {0}
+HasCause v text (refusals.Lex place) = HasNoToken text place
+HasCause v text (refusals.Syntax place) = IsEmpty text place
+HasCause v text (refusals.Unsupported place shown) = IsOtherForm text place shown.items
 
-abbrev pub show_place : Place → List ℕ
-show_place place = codes "stdin:" ++ decimal place.line ++ codes ":" ++ decimal place.column
+-- where a text came from, and a place in it
+abbrev pub show_place : List ℕ → Place → List ℕ
+show_place origin place = origin ++ codes ":" ++ decimal place.line ++ codes ":" ++ decimal place.column
 
 -- the line of a refusal
-abbrev pub refusal_line : Refusal → List ℕ
-refusal_line refusals.NoMemory = codes "E0 Memory\n"
-refusal_line (refusals.Lex place) = show_place place ++ codes " E1 Lex\n"
-refusal_line (refusals.Syntax place) = show_place place ++ codes " E2 Syntax\n"
-refusal_line (refusals.Unsupported place shown) = show_place place ++ codes " E21 Unsupported " ++ shown.items ++ codes "\n"
+abbrev pub refusal_line : List ℕ → Refusal → List ℕ
+refusal_line origin refusals.Memory = codes "E0 Memory\n"
+refusal_line origin (refusals.Lex place) = show_place origin place ++ codes " E1 Lex\n"
+refusal_line origin (refusals.Syntax place) = show_place origin place ++ codes " E2 Syntax\n"
+refusal_line origin (refusals.Unsupported place shown) = show_place origin place ++ codes " E21 Unsupported " ++ shown.items ++ codes "\n"
 
 -- a refused text, and the line that says why
-abbrev pub Refuses : List ℕ → List ℕ → Type 0
-Refuses text line = (refusal : Refusal) × HasCause text refusal × (line ≡ refusal_line refusal)
+abbrev pub Refuses : View → List ℕ → List ℕ → List ℕ → Type 0
+Refuses v origin text line = (refusal : Refusal) × HasCause v text refusal × (line ≡ refusal_line origin refusal)

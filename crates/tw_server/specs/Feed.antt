@@ -8,27 +8,27 @@ use Rattle.tw_server.specs.declared.feed.Stop.{Stop}
 use Rattle.tw_server.specs.declared.feed.Stop.TheVariants as stops
 
 -- the bytes that were read and not yet looked at, and how many were looked at
-pub record Held : Type 0 where
+pub record Pending : Type 0 where
   pub held : List ℕ
   pub seen : ℕ
 
 -- Why nothing more is looked at: the input has ended, a read failed, or a further byte is there after as many as are taken.
-abbrev pub Stopped : Stop → Held → Option (List ℕ) → Type 0
+abbrev pub Stopped : Stop → Pending → Option (List ℕ) → Type 0
 Stopped stops.End feed left = (feed.held ≡ []) × IsAtEnd left
 Stopped stops.Failed feed left = feed.held ≡ []
 Stopped stops.Long feed left = (feed.held ≢ []) × (feed.seen ≡ 2 ^ 40)
 
 -- These bytes were looked at: they come first in what was held and left before.
-pub record Sees (old : Held) (left : Option (List ℕ)) (new : Held) (left' : Option (List ℕ)) (bytes : List ℕ) : Type 0 where
+pub record Sees (old : Pending) (left : Option (List ℕ)) (new : Pending) (left' : Option (List ℕ)) (bytes : List ℕ) : Type 0 where
   pub first : Consumes (prepend_known old.held left) (prepend_known new.held left') bytes
   pub counted : new.seen ≡ old.seen + length bytes
 
 -- something is held, or nothing more can be
-abbrev pub Fills : Held → Option (List ℕ) → Held → Option (List ℕ) → Result (Unit {0}) Stop → Type 0
+abbrev pub Fills : Pending → Option (List ℕ) → Pending → Option (List ℕ) → Result (Unit {0}) Stop → Type 0
 Fills old left new left' (Ok done) = Keeps (prepend_known old.held left) (prepend_known new.held left') × (new.held ≢ []) × (new.seen ≡ old.seen) × (new.seen ≤ 2 ^ 40)
 Fills old left new left' (Err stop) = Keeps (prepend_known old.held left) (prepend_known new.held left') × Stopped stop new left' × (new.seen ≡ old.seen) × (new.seen ≤ 2 ^ 40)
 
 -- what looking at one byte gives
-abbrev pub GivesByte : Held → Option (List ℕ) → Held → Option (List ℕ) → Result ℕ Stop → Type 0
+abbrev pub GivesByte : Pending → Option (List ℕ) → Pending → Option (List ℕ) → Result ℕ Stop → Type 0
 GivesByte old left new left' (Ok b) = Sees old left new left' (b ∷ []) × (new.seen ≤ 2 ^ 40)
 GivesByte old left new left' (Err stop) = Sees old left new left' [] × Stopped stop new left' × (new.seen ≤ 2 ^ 40)

@@ -7,7 +7,7 @@ use Rattle.tw_lexer.specs.Cut.{cut_after}
 use Rattle.tw_lexer.specs.declared.cut.Cut.{Cut}
 use Rattle.tw_lexer.specs.declared.cut.Cut.TheVariants.{Plain}
 use Rattle.tw_server.specs.Lines.{IsLine, IsText, IsOpen, HasNoFeed}
-use Rattle.tw_server.specs.Feed.{Held, Sees, Stopped}
+use Rattle.tw_server.specs.Feed.{Pending, Sees, Stopped}
 use Rattle.tw_server.specs.declared.feed.Stop.{Stop}
 use Rattle.tw_server.specs.declared.text.Lost.{Lost}
 use Rattle.tw_server.specs.declared.text.Lost.TheVariants as losts
@@ -23,7 +23,7 @@ IsPushed None b new = new ≡ None
 IsPushed (Some xs) b new = MatchBool (nat_lt (length xs) 65536) (new ≡ Some (xs ++ b ∷ [])) (new ≡ None)
 
 -- a line was read, or as much of it as there is
-abbrev pub ReadsLine : Held → Option (List ℕ) → Held → Option (List ℕ) → Option (List ℕ) → Result (Unit {0}) Stop → Type 0
+abbrev pub ReadsLine : Pending → Option (List ℕ) → Pending → Option (List ℕ) → Option (List ℕ) → Result (Unit {0}) Stop → Type 0
 ReadsLine old left new left' kept (Ok done) = (line body : List ℕ) × IsLine true line body × IsKept kept body × Sees old left new left' line × (new.seen ≤ 2 ^ 40)
 ReadsLine old left new left' kept (Err stop) = (line body : List ℕ) × IsLine false line body × IsKept kept body × Sees old left new left' line × Stopped stop new left' × (new.seen ≤ 2 ^ 40)
 
@@ -34,19 +34,19 @@ IsGathered losts.TooLong kept text = 2 ^ 24 < length text
 IsGathered losts.NoMemory kept text = ⊤
 
 -- a text was read, or as much of it as there is
-abbrev pub ReadsText : Held → Option (List ℕ) → Held → Option (List ℕ) → Lost → List ℕ → Result (Unit {0}) Stop → Type 0
+abbrev pub ReadsText : Pending → Option (List ℕ) → Pending → Option (List ℕ) → Lost → List ℕ → Result (Unit {0}) Stop → Type 0
 ReadsText old left new left' lost kept (Ok done) = (text : List ℕ) × IsText true text × IsGathered lost kept text × Sees old left new left' text × (new.seen ≤ 2 ^ 40)
 ReadsText old left new left' lost kept (Err stop) = (text : List ℕ) × IsText false text × IsGathered lost kept text × Sees old left new left' text × Stopped stop new left' × (new.seen ≤ 2 ^ 40)
 
 -- a line so far
-pub record LineSoFar (old : Held) (left : Option (List ℕ)) (new : Held) (left' : Option (List ℕ)) (kept : Option (List ℕ)) : Type 0 where
+pub record LineSoFar (old : Pending) (left : Option (List ℕ)) (new : Pending) (left' : Option (List ℕ)) (kept : Option (List ℕ)) : Type 0 where
   pub body : List ℕ
   pub plain : HasNoFeed body
   pub keeps : IsKept kept body
   pub sees : Sees old left new left' body
 
 -- a text so far, and where its last byte stands
-pub record TextSoFar (old : Held) (left : Option (List ℕ)) (new : Held) (left' : Option (List ℕ)) (lost : Lost) (kept : List ℕ) (cut : Cut) : Type 0 where
+pub record TextSoFar (old : Pending) (left : Option (List ℕ)) (new : Pending) (left' : Option (List ℕ)) (lost : Lost) (kept : List ℕ) (cut : Cut) : Type 0 where
   pub text : List ℕ
   pub body : List ℕ
   pub open_yet : IsOpen text body

@@ -1,24 +1,25 @@
 -- Laws of runs.
-use Rattle.std.specs.Prelude.{◌≡◌, ◌≢◌, ◌⊎◌, ℕ, ◌^◌, ◌≤◌, List, ◌++◌, length, Bool, true, Some}
+use Rattle.std.specs.Prelude.{◌≡◌, ◌≢◌, ◌⊎◌, ℕ, ◌^◌, ◌-◌, ◌<◌, ◌≤◌, List, ◌++◌, length, Bool, true, Some}
 use Rattle.std.specs.declared.option.Option.{Option}
 use Rattle.tw_server.specs.View.{State, IsSound}
+use Rattle.tw_server.specs.Counts.{StatusCounts}
 use Rattle.tw_server.specs.Machine.{Step}
-use Rattle.tw_server.specs.Outcome.{Serves, IsCommandLine}
+use Rattle.tw_server.specs.Outcome.{Serves, AreGoodWords}
 use Rattle.tw_server.specs.declared.status.Status.{Status}
-use Rattle.tw_server.specs.declared.status.Status.TheVariants.{Done, ReadFault, WriteFault, NoMemory, InputLong}
+use Rattle.tw_server.specs.declared.status.Status.TheVariants.{Done, NoMemory, InputLong}
 
 -- an input of no more than 2 ^ 40 bytes is never too long
 abbrev pub ShortIsNotLong : Type 0
 ShortIsNotLong = (words : List (List ℕ)) (input : List ℕ) (left' written written' : Option (List ℕ)) (v w : State) (status : Status)
     → length input ≤ 2 ^ 40 → Serves words (Some input) left' written written' v status w → status ≢ InputLong
 
--- with good words, no fault of source or sink and no more than 2 ^ 40 bytes, a run is done, or memory is wanting before it
+-- with good words, unchanged counts of faults below their last value and no more than 2 ^ 40 bytes, a run is done, or memory is wanting before it
 abbrev pub FaultlessIsDone : Type 0
-FaultlessIsDone = (words : List (List ℕ)) (input : List ℕ) (left' written written' : Option (List ℕ)) (v w : State) (status : Status)
-    → IsCommandLine words → length input ≤ 2 ^ 40 → status ≢ ReadFault → status ≢ WriteFault
+FaultlessIsDone = (words : List (List ℕ)) (input : List ℕ) (left' written written' : Option (List ℕ)) (v w : State) (status : Status) (read_faults write_faults : ℕ)
+    → AreGoodWords words → length input ≤ 2 ^ 40 → read_faults < 2 ^ 64 - 1 → write_faults < 2 ^ 64 - 1 → StatusCounts read_faults read_faults write_faults write_faults status
     → Serves words (Some input) left' written written' v status w → (status ≡ Done) ⊎ (status ≡ NoMemory)
 
--- an input has one division into steps: two steps on whole lines at its front take the same bytes
+-- two commands on whole lines at the front of one input take the same bytes
 abbrev pub OneReading : Type 0
 OneReading = (v v' w w' : State) (took took' more more' reply reply' : List ℕ)
     → Step true v took reply w → Step true v' took' reply' w' → took ++ more ≡ took' ++ more' → took ≡ took'

@@ -18,7 +18,7 @@ pub record IsLine (whole : Bool) (line body : List ℕ) : Type 0 where
   pub spelled : line ≡ body ++ ending whole
   pub plain : HasNoFeed body
 
--- whether a declaration's text has come to the point that ends it
+-- whether a declaration's text has come to the dot that ends it
 abbrev pub is_over : List ℕ → Bool
 is_over text = is_done (cut_after Plain text)
 
@@ -26,7 +26,7 @@ is_over text = is_done (cut_after Plain text)
 abbrev pub IsWholeLines : List ℕ → Type 0
 IsWholeLines bytes = (bytes ≡ []) ⊎ ((front : List ℕ) × (bytes ≡ front ++ 10 ∷ []))
 
--- A text that goes on: it had not come to its point at its last line feed. The body is the line after that.
+-- A text that goes on: it had not come to its dot at its last line feed. The body is the line after that.
 pub record IsOpen (text body : List ℕ) : Type 0 where
   pub front : List ℕ
   pub spelled : text ≡ front ++ body
@@ -34,7 +34,7 @@ pub record IsOpen (text body : List ℕ) : Type 0 where
   pub plain : HasNoFeed body
   pub before : is_over front ≡ false
 
--- a text: it ends with the first line that has its point, or with the end of the input
+-- a text: it ends with the first line that has its dot, or with the end of the input
 abbrev pub IsText : Bool → List ℕ → Type 0
 IsText true text = (lines body : List ℕ) × IsOpen lines body × (is_over lines ≡ true) × (text ≡ lines ++ 10 ∷ [])
 IsText false text = (body : List ℕ) × IsOpen text body

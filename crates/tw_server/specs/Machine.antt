@@ -50,7 +50,7 @@ pub record IsMade (v : View) (text reply : List ℕ) (w : View) : Type 0 where
 pub record IsRefused (v : View) (text reply : List ℕ) (w : View) : Type 0 where
   pub short : length text ≤ 2 ^ 24
   pub line : List ℕ
-  pub refuses : Refuses text line
+  pub refuses : Refuses v (codes "stdin") text line
   pub says : reply ≡ line ++ refused
   pub same : w ≡ v
 

@@ -14,9 +14,9 @@ use Rattle.tw_server.specs.declared.status.Status.TheVariants.{Done, BadWords, R
 use Rattle.tw_server.specs.declared.command.Said.TheVariants.{ReadDecl, Quit}
 
 -- the words of the program are good: there are none
-abbrev pub IsCommandLine : List (List ℕ) → Type 0
-IsCommandLine [] = Unit {0}
-IsCommandLine (word ∷ words) = ⊥
+abbrev pub AreGoodWords : List (List ℕ) → Type 0
+AreGoodWords [] = Unit {0}
+AreGoodWords (word ∷ words) = ⊥
 
 -- the first bytes of all, and not all of them
 abbrev pub IsCut : List ℕ → List ℕ → Type 0
@@ -24,15 +24,15 @@ IsCut part all = (rest : List ℕ) × (all ≡ part ++ rest) × (rest ≢ [])
 
 -- the input has ended: all that was read was looked at, and the source has no more
 abbrev pub HasEnded : Option (List ℕ) → List ℕ → Type 0
-HasEnded left unread = (unread ≡ []) × IsAtEnd left
+HasEnded left ahead = (ahead ≡ []) × IsAtEnd left
 
 -- the bytes are the line that ends the run
-pub record IsQuit (left : Option (List ℕ)) (unread bytes : List ℕ) : Type 0 where
+pub record IsQuit (left : Option (List ℕ)) (ahead bytes : List ℕ) : Type 0 where
   pub whole : Bool
   pub body : List ℕ
   pub line : IsLine whole bytes body
   pub says : said_of body ≡ Quit
-  pub at_end : whole ≡ false → HasEnded left unread
+  pub at_end : whole ≡ false → HasEnded left ahead
 
 -- no command is whole in these bytes: a line without its line feed, or the begin of a declaration
 abbrev pub IsUnfinished : List ℕ → Type 0
@@ -46,24 +46,24 @@ pub record BreaksOff (v : State) (tail last : List ℕ) (w : State) : Type 0 whe
   pub same : w ≡ v
 
 -- The step was made, and its reply written in part. A body that takes a declaration back where its report can't be written passes, as a step that wanted memory.
-pub record IsCutShort (left : Option (List ℕ)) (v : State) (tail last : List ℕ) (w : State) (unread : List ℕ) : Type 0 where
+pub record IsCutShort (left : Option (List ℕ)) (v : State) (tail last : List ℕ) (w : State) (ahead : List ℕ) : Type 0 where
   pub whole : Bool
   pub reply : List ℕ
   pub step : Step whole v tail reply w
   pub cut : IsCut last reply
-  pub at_end : whole ≡ false → HasEnded left unread
+  pub at_end : whole ≡ false → HasEnded left ahead
 
--- How a run ends, after its last whole step. The tail is what was looked at then, last what was written for it; unread was read from the source and not looked at; so many bytes were looked at in all.
+-- How a run ends, after its last whole step. The tail is what was looked at then, last what was written for it; ahead was read from the source and not looked at; so many bytes were looked at in all.
 abbrev pub Ends : Option (List ℕ) → Status → State → List ℕ → List ℕ → State → List ℕ → ℕ → Type 0
 -- `quit`, or the end of the input, with the command that it cuts short
-Ends left Done v tail last w unread looked =
-    (IsQuit left unread tail × (last ≡ []) × (w ≡ v)) ⊎ (Step false v tail last w × HasEnded left unread)
+Ends left Done v tail last w ahead looked =
+    (IsQuit left ahead tail × (last ≡ []) × (w ≡ v)) ⊎ (Step false v tail last w × HasEnded left ahead)
 -- all that was read is whole steps and less than one more
-Ends left ReadFault v tail last w unread looked = BreaksOff v tail last w × (unread ≡ [])
-Ends left InputLong v tail last w unread looked = BreaksOff v tail last w × (unread ≢ []) × (looked ≡ 2 ^ 40)
-Ends left WriteFault v tail last w unread looked = IsCutShort left v tail last w unread
-Ends left NoMemory v tail last w unread looked = ⊥
-Ends left BadWords v tail last w unread looked = ⊥
+Ends left ReadFault v tail last w ahead looked = BreaksOff v tail last w × (ahead ≡ [])
+Ends left InputLong v tail last w ahead looked = BreaksOff v tail last w × (ahead ≢ []) × (looked ≡ 2 ^ 40)
+Ends left WriteFault v tail last w ahead looked = IsCutShort left v tail last w ahead
+Ends left NoMemory v tail last w ahead looked = ⊥
+Ends left BadWords v tail last w ahead looked = ⊥
 
 -- a run of the session from v to w: it took these bytes from the source, and gained is its transcript
 pub record Ran (left : Option (List ℕ)) (status : Status) (v : State) (taken gained : List ℕ) (w : State) : Type 0 where
@@ -71,10 +71,10 @@ pub record Ran (left : Option (List ℕ)) (status : Status) (v : State) (taken g
   pub mid : State
   pub tail : List ℕ
   pub last : List ℕ
-  pub unread : List ℕ
+  pub ahead : List ℕ
   pub run : Run v turns mid
-  pub ends : Ends left status mid tail last w unread (length (flat_map (λ t. t.took) turns ++ tail))
-  pub read : taken ≡ (flat_map (λ t. t.took) turns ++ tail) ++ unread
+  pub ends : Ends left status mid tail last w ahead (length (flat_map (λ t. t.took) turns ++ tail))
+  pub read : taken ≡ (flat_map (λ t. t.took) turns ++ tail) ++ ahead
   pub wrote : gained ≡ (banner ++ flat_map (λ t. t.reply) turns) ++ last
   pub within : length (flat_map (λ t. t.took) turns ++ tail) ≤ 2 ^ 40
   -- the signature is canonical LF after each command
@@ -82,20 +82,20 @@ pub record Ran (left : Option (List ℕ)) (status : Status) (v : State) (taken g
 
 -- a status that comes of a run
 abbrev pub RanTo : List (List ℕ) → Option (List ℕ) → Status → State → List ℕ → List ℕ → State → Type 0
-RanTo words left status v taken gained w = IsCommandLine words × Ran left status v taken gained w
+RanTo words left status v taken gained w = AreGoodWords words × Ran left status v taken gained w
 
 -- nothing was read, and nothing of the session changed
 pub record IsUntouched (v : State) (taken : List ℕ) (w : State) : Type 0 where
-  pub unread : taken ≡ []
+  pub nothing_read : taken ≡ []
   pub same : w ≡ v
 
 -- what the call comes to, by its status
 abbrev pub Outcome : List (List ℕ) → Option (List ℕ) → Status → State → List ℕ → List ℕ → State → Type 0
-Outcome words left BadWords v taken gained w = (IsCommandLine words → ⊥) × (gained ≡ usage) × IsUntouched v taken w
+Outcome words left BadWords v taken gained w = (AreGoodWords words → ⊥) × (gained ≡ usage) × IsUntouched v taken w
 Outcome words left NoMemory v taken gained w = (gained ≡ []) × IsUntouched v taken w
 Outcome words left WriteFault v taken gained w =
-    ((IsCommandLine words → ⊥) × IsCut gained usage × IsUntouched v taken w)
-    ⊎ (IsCommandLine words × IsCut gained banner × IsUntouched v taken w)
+    ((AreGoodWords words → ⊥) × IsCut gained usage × IsUntouched v taken w)
+    ⊎ (AreGoodWords words × IsCut gained banner × IsUntouched v taken w)
     ⊎ RanTo words left WriteFault v taken gained w
 Outcome words left Done v taken gained w = RanTo words left Done v taken gained w
 Outcome words left ReadFault v taken gained w = RanTo words left ReadFault v taken gained w

@@ -9,7 +9,7 @@ use Rattle.tw_server.specs.declared.session.Refusal.TheVariants as refusals
 -- the first token says what is shown, and where
 abbrev pub IsRefusalOf : List ℕ → List Token → Refusal → Type 0
 IsRefusalOf text [] refusal = ⊥
-IsRefusalOf text (first ∷ tokens) refusals.NoMemory = Unit {0}
+IsRefusalOf text (first ∷ tokens) refusals.Memory = Unit {0}
 IsRefusalOf text (first ∷ tokens) (refusals.Lex place) = ⊥
 IsRefusalOf text (first ∷ tokens) (refusals.Syntax place) = (first.kind ≡ End) × (place ≡ first.at)
 IsRefusalOf text (first ∷ tokens) (refusals.Unsupported place shown) = (first.kind ≢ End) × (place ≡ first.at) × (shown.items ≡ spelling text first)

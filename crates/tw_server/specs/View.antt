@@ -21,5 +21,5 @@ pub record State : Type 0 where
   pub view : View
   pub faults : ℕ
 
-abbrev pub at_fault : View → ℕ → State
-at_fault view n = record { view = view; faults = n }
+abbrev pub state_at : View → ℕ → State
+state_at view n = record { view = view; faults = n }

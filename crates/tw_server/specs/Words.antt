@@ -1,12 +1,9 @@
 -- The words of command lines, and what they say.
-use Rattle.std.specs.Prelude.{ℕ, List, [], ◌∷◌, ◌++◌, length, codes, Bool, nat_lt, nat_le, ◌==◌, ◌||◌, ◌&&◌, if◌then◌else◌}
+use Rattle.std.specs.Prelude.{ℕ, List, [], ◌∷◌, ◌++◌, length, codes, nat_lt, if◌then◌else◌}
 use Rattle.std.specs.Str.{bytes_eq}
+use Rattle.tw_lexer.specs.Bytes.{is_white_space}
 use Rattle.tw_server.specs.declared.command.Said.{Said}
 use Rattle.tw_server.specs.declared.command.Said.TheVariants.{TooLong, Blank, ReadDecl, Quit, Unknown}
-
--- space, tab, line feed, vertical tab, form feed and carriage return
-abbrev pub is_white_space : ℕ → Bool
-is_white_space b = (b == 32) || (nat_le 9 b && nat_le b 13)
 
 -- the word, where it has any byte
 abbrev pub word_of : List ℕ → List (List ℕ)

@@ -1,6 +1,9 @@
 //! The command lines.
 ghost use Rattle.std.specs.Prelude.{◌≡◌, ◌<◌, ◌≤◌, ◌++◌, [], ◌∷◌, false, length, take, drop, slice_index, MatchOption};
-ghost use Rattle.tw_server.specs.Words.{is_white_space, word_of, words_of, said_by};
+ghost use Rattle.tw_lexer.specs.Bytes.{is_white_space};
+ghost use Rattle.tw_server.specs.Words.{word_of, words_of, said_by};
+
+use tw_lexer::is_white_space;
 
 /// What a command line says.
 #[derive(Clone, Copy, Debug, PartialEq, Eq)]
@@ -15,12 +18,6 @@ pub enum Said {
     Quit,
     /// The words are no command.
     Unknown,
-}
-
-fn is_white_space(byte: u8) -> bool
-    ensures { result ≡ is_white_space byte }
-{
-    byte == b' ' || (9 <= byte && byte <= 13)
 }
 
 // The bytes from the first one that is no white space.

@@ -1,6 +1,6 @@
 //! The bytes of a source, one by one.
 ghost use Rattle.std.specs.Prelude.{◌≡◌, ◌≤◌, ◌<◌, ◌^◌, ◌+◌, ◌≢◌, [], ◌∷◌, length, take, drop, IfOk};
-ghost use Rattle.tw_server.specs.Feed.{Held, GivesByte, Fills};
+ghost use Rattle.tw_server.specs.Feed.{Pending, GivesByte, Fills};
 ghost use Rattle.tw_server.specs.Counts.{CountsReads};
 
 use std::alloc::{AllocError, Global};
@@ -34,7 +34,7 @@ pub struct Feed {
 }
 
 impl Model for Feed {
-    ghost Value = { Held };
+    ghost Value = { Pending };
 
     ghost view = { λ f. record { held = drop f.at (take f.upto f.piece.items); seen = f.seen } };
 

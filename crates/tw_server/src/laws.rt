@@ -1,17 +1,18 @@
 //! Laws of runs. They have no code.
 ghost use Rattle.tw_server.specs.Laws.{FaultlessIsDone, OneReading, ShortIsNotLong, StepKeepsSound};
 
-/// An input of no more than 2 ^ 40 bytes is never too long.
+/// A source that tells no more than 2 ^ 40 bytes is never too long.
 pub fn short_is_not_long()
     ensures { ShortIsNotLong }
 {}
 
-/// With good words, no fault and no more than 2 ^ 40 bytes the status is `Done`, or memory is wanting before the banner.
+/// With good words, counts of faults that stay, and a source that tells no more than 2 ^ 40 bytes, the status is `Done`, or memory
+/// is wanting before the banner.
 pub fn faultless_is_done()
     ensures { FaultlessIsDone }
 {}
 
-/// However an input is read, it is divided into the same steps.
+/// Two commands on whole lines at the front of one input take the same bytes, whatever the session knows.
 pub fn one_reading()
     ensures { OneReading }
 {}

@@ -13,9 +13,7 @@ mod text;
 mod write;
 
 pub use command::Said;
-pub use feed::Stop;
 pub use laws::{faultless_is_done, one_reading, short_is_not_long, step_keeps_sound};
-pub use reply::Reply;
 pub use server::serve;
 pub use session::{Refusal, Session, show_refusal};
 pub use status::{Status, exit_code};

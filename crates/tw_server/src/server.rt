@@ -5,8 +5,8 @@ ghost use Rattle.tw_server.specs.Replies.{reply_bytes};
 ghost use Rattle.tw_server.specs.Lines.{IsLine};
 ghost use Rattle.tw_server.specs.Words.{said_of};
 ghost use Rattle.tw_server.specs.Machine.{AnswersLine, RepliesTo};
-ghost use Rattle.tw_server.specs.View.{View, IsSound, at_fault};
-ghost use Rattle.tw_server.specs.Outcome.{Serves, IsCommandLine};
+ghost use Rattle.tw_server.specs.View.{View, IsSound, state_at};
+ghost use Rattle.tw_server.specs.Outcome.{Serves, AreGoodWords};
 ghost use Rattle.tw_server.specs.Turns.{Answered, DeclTurn, LastTurn, Moves, TurnOf};
 ghost use Rattle.tw_server.specs.Gather.{IsGathered, IsKept};
 ghost use Rattle.tw_server.specs.Counts.{CountsWrites, StatusCounts, TurnCounts};
@@ -15,7 +15,7 @@ use crate::command::{Said, words_say};
 use crate::feed::{Feed, Stop};
 use crate::line::{Line, read_line};
 use crate::reply::{Reply, write_reply};
-use crate::session::{Session, show_refusal};
+use crate::session::{Refusal, Session, show_refusal};
 use crate::status::Status;
 use crate::text::{Lost, Text, read_text};
 use crate::write::{Unwritten, write_all};
@@ -23,6 +23,9 @@ use std::alloc::Global;
 use tw_ports::{Files, Sink, Source};
 
 const BANNER: &[u8] = b"Twelf 1.4 LF profile\n%% OK %%\n";
+
+/// Where the texts of `readDecl` come from.
+const ORIGIN: &str = "stdin";
 
 const USAGE: &[u8] = b"usage: twelf [--steps N] [--generate N] [FILE]...\n";
 
@@ -36,7 +39,8 @@ fn reply_to(alloc: Global, session: &mut Session, text: &Text) -> Reply
         Lost::TooLong => Reply::TextLong,
         Lost::Nothing => match session.declare_one(alloc, &text.bytes) {
             Ok(report) => Reply::Accepted(report),
-            Err(refusal) => match show_refusal(alloc, &refusal) {
+            Err(Refusal::Memory) => Reply::NoMemory,
+            Err(refusal) => match show_refusal(alloc, &refusal, ORIGIN) {
                 Ok(line) => Reply::Refused(line),
                 Err(_) => Reply::NoMemory,
             },
@@ -123,7 +127,7 @@ fn command<S: Source, K: Sink, F: Files>(
     requires { feed.old.seen ≤ 2 ^ 40 }
     ensures moves { (bytes body : List ℕ) → IsLine true bytes body → IsKept line.now body
         → Moves feed.old (S.left source.old) feed.new (S.left source.new) (K.written sink.old) (K.written sink.new)
-        (λ rest last. TurnOf (S.left source.new) feed.new result (at_fault session.old (F.faults files.old)) (bytes ++ rest) last (at_fault session.new (F.faults files.new))) }
+        (λ rest last. TurnOf (S.left source.new) feed.new result (state_at session.old (F.faults files.old)) (bytes ++ rest) last (state_at session.new (F.faults files.new))) }
     ensures counts { TurnCounts (S.faults source.old) (S.faults source.new) (K.faults sink.old) (K.faults sink.new) result }
     ensures files { HoldsOn (F.held files.old) (F.held files.new) }
 {
@@ -148,7 +152,7 @@ fn last_command<K: Sink, F: Files>(
     files: &mut F,
 ) -> Result<(), Unwritten>
     ensures last { (bytes body : List ℕ) → IsLine false bytes body → IsKept line.now body
-        → LastTurn (K.written sink.old) (K.written sink.new) (at_fault session.old (F.faults files.old)) bytes body (at_fault session.new (F.faults files.new)) result }
+        → LastTurn (K.written sink.old) (K.written sink.new) (state_at session.old (F.faults files.old)) bytes body (state_at session.new (F.faults files.new)) result }
     ensures counts { CountsWrites (K.faults sink.old) (K.faults sink.new) result }
     ensures files { HoldsOn (F.held files.old) (F.held files.new) }
 {
@@ -172,7 +176,7 @@ fn turn<S: Source, K: Sink, F: Files>(
     files: &mut F,
 ) -> Result<(), Status>
     ensures moves { Moves feed.old (S.left source.old) feed.new (S.left source.new) (K.written sink.old) (K.written sink.new)
-        (λ took last. TurnOf (S.left source.new) feed.new result (at_fault session.old (F.faults files.old)) took last (at_fault session.new (F.faults files.new))) }
+        (λ took last. TurnOf (S.left source.new) feed.new result (state_at session.old (F.faults files.old)) took last (state_at session.new (F.faults files.new))) }
     ensures counts { TurnCounts (S.faults source.old) (S.faults source.new) (K.faults sink.old) (K.faults sink.new) result }
     ensures files { HoldsOn (F.held files.old) (F.held files.new) }
 {
@@ -199,9 +203,9 @@ fn run<S: Source, K: Sink, F: Files>(
 ) -> Status
     requires fresh { feed.old ≡ record { held = []; seen = 0 } }
     requires sound { IsSound session.old }
-    ensures serves { (words : List (List ℕ)) → IsCommandLine words
+    ensures serves { (words : List (List ℕ)) → AreGoodWords words
         → Serves words (S.left source.old) (S.left source.new) (K.written sink.old) (K.written sink.new)
-        (at_fault session.old (F.faults files.old)) result (at_fault session.new (F.faults files.new)) }
+        (state_at session.old (F.faults files.old)) result (state_at session.new (F.faults files.new)) }
     ensures counts { StatusCounts (S.faults source.old) (S.faults source.new) (K.faults sink.old) (K.faults sink.new) result }
     ensures files { HoldsOn (F.held files.old) (F.held files.new) }
 {
@@ -218,8 +222,8 @@ fn run<S: Source, K: Sink, F: Files>(
 /// Answers commands until `quit` or the end of the input.
 ///
 /// `words` are the words after the program's name; none is known yet, so every list of words but the empty one is bad.
-/// What is written is the transcript of one run of the session. The line's buffer is taken before the banner, so that after it
-/// only a declaration can want memory. Each byte is looked at a bounded number of times.
+/// What is written is the transcript of one run of the session, as far as source and sink tell what they hold. The line's buffer
+/// is taken before the banner, so that after it only a declaration can want memory.
 pub fn serve<S: Source, K: Sink, F: Files>(
     alloc: Global,
     words: &[String],
@@ -230,7 +234,7 @@ pub fn serve<S: Source, K: Sink, F: Files>(
 ) -> Status
     // The transcript theorem.
     ensures serves { Serves (map (λ w. string_bytes w) words.now) (S.left source.old) (S.left source.new) (K.written sink.old) (K.written sink.new)
-        (at_fault session.old (F.faults files.old)) result (at_fault session.new (F.faults files.new)) }
+        (state_at session.old (F.faults files.old)) result (state_at session.new (F.faults files.new)) }
     // A read or a write failed exactly where the status says so: it doesn't give up by itself, swallow a fault or go on behind one.
     ensures counts { StatusCounts (S.faults source.old) (S.faults source.new) (K.faults sink.old) (K.faults sink.new) result }
     // The files hold what they held.

@@ -4,7 +4,8 @@ ghost use Rattle.tw_lexer.specs.Tokens.{IsWithin};
 ghost use Rattle.tw_lexer.specs.declared.token.Token.{Token};
 ghost use Rattle.tw_server.specs.Declaration.{HasCause, IsFamily, IsFamilyForm, IsFree, refusal_line, show_place};
 ghost use Rattle.tw_server.specs.Refusing.{IsRefusalOf};
-ghost use Rattle.tw_server.specs.declared.session.Refusal.TheVariants.{NoMemory};
+ghost use Rattle.tw_server.specs.View.{View};
+ghost use Rattle.tw_server.specs.declared.session.Refusal.TheVariants.{Memory};
 
 use std::alloc::{AllocError, AllocFailed, Global};
 use std::marker::Model;
@@ -15,7 +16,7 @@ use tw_terms::Kind;
 #[derive(Debug, Drop)]
 pub enum Refusal {
     /// Memory is wanting.
-    NoMemory,
+    Memory,
     /// No token stands here.
     Lex(Place),
     /// The text has no declaration; the place is its end.
@@ -25,18 +26,18 @@ pub enum Refusal {
 }
 
 impl From<AllocError> for Refusal {
-    ghost from_gives = { λ _ e. e ≡ NoMemory };
+    ghost from_gives = { λ _ e. e ≡ Memory };
 
     fn from(_: AllocError) -> Self {
-        Refusal::NoMemory
+        Refusal::Memory
     }
 }
 
 impl<T: Drop> From<AllocFailed<T>> for Refusal {
-    ghost from_gives = { λ _ e. e ≡ NoMemory };
+    ghost from_gives = { λ _ e. e ≡ Memory };
 
     fn from(_: AllocFailed<T>) -> Self {
-        Refusal::NoMemory
+        Refusal::Memory
     }
 }
 
@@ -94,9 +95,12 @@ impl Session {
         requires { length text.now < 2 ^ 32 - 1 }
         ensures ok { IfOk result (λ report. Accepts self.old text.now report.items self.new) }
         ensures err { OnErr result (self.new ≡ self.old) }
-        ensures cause { IfErr result (λ refusal. HasCause text.now refusal) }
+        ensures cause { IfErr result (λ refusal. HasCause self.old text.now refusal) }
     {
-        let name = read_family(alloc, text)?;
+        let name = match read_family(alloc, text) {
+            Ok(name) => name,
+            Err(refusal) => return Err(refusal),
+        };
         let report = report_of(alloc, name)?;
         let name = name.to_vec(alloc)?;
         self.entries.push(Kept {
@@ -119,12 +123,12 @@ fn report_of(alloc: Global, name: &[u8]) -> Result<Vec<u8>, AllocError>
 // The name of the family that the text declares.
 fn read_family(alloc: Global, text: &[u8]) -> Result<&[u8], Refusal>
     requires { length text.now < 2 ^ 32 - 1 }
-    ensures { MatchResult result (λ name. IsFamily text.now name.now) (λ refusal. HasCause text.now refusal) }
+    ensures { (v : View) → MatchResult result (λ name. IsFamily text.now name.now) (λ refusal. HasCause v text.now refusal) }
 {
     let tokens = match lex(alloc, text, 0, Place { line: 1, column: 1 }) {
         Ok(tokens) => tokens,
         Err(LexFault::Bad(place)) => return Err(Refusal::Lex(place)),
-        Err(LexFault::NoMemory) => return Err(Refusal::NoMemory),
+        Err(LexFault::NoMemory) => return Err(Refusal::Memory),
     };
     let next = match next_token(text, tokens.upto, tokens.at) {
         Ok(next) => next,
@@ -136,15 +140,17 @@ fn read_family(alloc: Global, text: &[u8]) -> Result<&[u8], Refusal>
     }
 }
 
-// The name, where these tokens are the form of a family.
+// The name, where these tokens are the form of a family and nothing is behind them.
 fn family_name<'a>(text: &'a [u8], tokens: &[Token], next: &Token) -> Option<&'a [u8]>
     requires { All (IsWithin (length text.now)) tokens.now }
-    ensures { MatchOption result ((name : List ℕ) → IsFamilyForm text.now tokens.now next.now name → ⊥) (λ name. IsFamilyForm text.now tokens.now next.now name.now) }
+    ensures { MatchOption result ((name : List ℕ) → IsFamilyForm text.now tokens.now name → next.now.kind ≡ TokenKind.End → ⊥)
+        (λ name. IsFamilyForm text.now tokens.now name.now × (next.now.kind ≡ TokenKind.End)) }
 {
     match tokens {
         [first, colon, word, dot] => {
             let name = &text[first.from..first.upto];
-            if has_kinds(first, colon, word, dot, next)
+            if next.kind == TokenKind::End
+                && has_kinds(first, colon, word, dot)
                 && is_free(name)
                 && &text[word.from..word.upto] == b"type".as_slice()
             {
@@ -157,14 +163,13 @@ fn family_name<'a>(text: &'a [u8], tokens: &[Token], next: &Token) -> Option<&'a
     }
 }
 
-fn has_kinds(first: &Token, colon: &Token, word: &Token, dot: &Token, next: &Token) -> bool
-    ensures { IsTrue result ↔ (first.now.kind ≡ TokenKind.Ident) × (colon.now.kind ≡ TokenKind.Colon) × (word.now.kind ≡ TokenKind.Ident) × (dot.now.kind ≡ TokenKind.Dot) × (next.now.kind ≡ TokenKind.End) }
+fn has_kinds(first: &Token, colon: &Token, word: &Token, dot: &Token) -> bool
+    ensures { IsTrue result ↔ (first.now.kind ≡ TokenKind.Ident) × (colon.now.kind ≡ TokenKind.Colon) × (word.now.kind ≡ TokenKind.Ident) × (dot.now.kind ≡ TokenKind.Dot) }
 {
     first.kind == TokenKind::Ident
         && colon.kind == TokenKind::Colon
         && word.kind == TokenKind::Ident
         && dot.kind == TokenKind::Dot
-        && next.kind == TokenKind::End
 }
 
 // Whether the name has no fixed meaning.
@@ -190,20 +195,20 @@ fn refuse(alloc: Global, text: &[u8], tokens: &[Token]) -> Refusal
     }
     match text[first.from..first.upto].to_vec(alloc) {
         Ok(shown) => Refusal::Unsupported(first.at, shown),
-        Err(_) => Refusal::NoMemory,
+        Err(_) => Refusal::Memory,
     }
 }
 
-/// The line of a refusal.
-pub fn show_refusal(alloc: Global, refusal: &Refusal) -> Result<Vec<u8>, AllocError>
-    ensures { IfOk result (λ line. line.items ≡ refusal_line refusal.now) }
+/// The line of a refusal. The origin is the name of the file that the text came from, or `stdin`.
+pub fn show_refusal(alloc: Global, refusal: &Refusal, origin: &str) -> Result<Vec<u8>, AllocError>
+    ensures { IfOk result (λ line. line.items ≡ refusal_line origin.now refusal.now) }
 {
     match refusal {
-        Refusal::NoMemory => b"E0 Memory\n".to_vec(alloc),
-        Refusal::Lex(place) => place_line(alloc, place, b" E1 Lex\n"),
-        Refusal::Syntax(place) => place_line(alloc, place, b" E2 Syntax\n"),
+        Refusal::Memory => b"E0 Memory\n".to_vec(alloc),
+        Refusal::Lex(place) => place_line(alloc, origin, place, b" E1 Lex\n"),
+        Refusal::Syntax(place) => place_line(alloc, origin, place, b" E2 Syntax\n"),
         Refusal::Unsupported(place, shown) => {
-            let mut line = place_line(alloc, place, b" E21 Unsupported ")?;
+            let mut line = place_line(alloc, origin, place, b" E21 Unsupported ")?;
             line.extend_from_slice(shown)?;
             line.push(b'\n')?;
             Ok(line)
@@ -212,10 +217,15 @@ pub fn show_refusal(alloc: Global, refusal: &Refusal) -> Result<Vec<u8>, AllocEr
 }
 
 // A line that begins with a place.
-fn place_line(alloc: Global, place: &Place, rest: &[u8]) -> Result<Vec<u8>, AllocError>
-    ensures { IfOk result (λ line. line.items ≡ show_place place.now ++ rest.now) }
+fn place_line(
+    alloc: Global,
+    origin: &str,
+    place: &Place,
+    rest: &[u8],
+) -> Result<Vec<u8>, AllocError>
+    ensures { IfOk result (λ line. line.items ≡ show_place origin.now place.now ++ rest.now) }
 {
-    let shown = format!(in alloc; "stdin:{}:{}", place.line, place.column)?;
+    let shown = format!(in alloc; "{origin}:{}:{}", place.line, place.column)?;
     let mut line = shown.into_bytes();
     line.extend_from_slice(rest)?;
     Ok(line)

@@ -1,14 +1,21 @@
-// How a call of the server ends.
+//! How a call of the server ends.
 ghost use Rattle.std.specs.Prelude.{◌≡◌};
 ghost use Rattle.tw_server.specs.ExitCodes.{code_of};
 
+/// How a call of `serve` ended.
 #[derive(Clone, Copy, Debug, PartialEq, Eq)]
 pub enum Status {
+    /// `quit` or the end of the input was read, and every reply was written.
     Done,
+    /// The words are bad, and the usage line was written.
     BadWords,
+    /// A read failed.
     ReadFault,
+    /// A write failed, and the last reply was written in part.
     WriteFault,
+    /// Memory was wanting before the banner.
     NoMemory,
+    /// More bytes came than one run may look at.
     InputLong,
 }
 

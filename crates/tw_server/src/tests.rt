@@ -137,8 +137,8 @@ fn refused_declarations(rt: HostRuntime) -> Result<(), Fail> {
         ("% a comment.\n", "stdin:1:1 E1 Lex"),
         ("c\x00 : type.\n", "stdin:1:2 E1 Lex"),
     ] {
-        let input = format!(in alloc; "readDecl\n{text}")?;
-        let wanted = format!(in alloc; "{line}\n{ABORT}")?;
+        let input = format!(in alloc; "readDecl\nnat : type.\nreadDecl\n{text}")?;
+        let wanted = format!(in alloc; "nat : type.\n%% OK %%\n{line}\n{ABORT}")?;
         check_row(&rt, alloc, &input, &wanted)?;
     }
     Ok(())
@@ -264,7 +264,7 @@ fn a_session_serves_again(rt: HostRuntime) -> Result<(), Fail> {
 fn shown_refusals(rt: HostRuntime) -> Result<(), Fail> {
     let alloc = rt.alloc();
     assert_eq!(rt;
-        show_refusal(alloc, &Refusal::NoMemory)?.as_slice(),
+        show_refusal(alloc, &Refusal::Memory, "stdin")?.as_slice(),
         b"E0 Memory\n".as_slice()
     );
     Ok(())

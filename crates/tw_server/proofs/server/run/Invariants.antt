@@ -1,12 +1,12 @@
 use Rattle.std.proofs.Common.{◌≡◌, ◌+◌, ◌-◌, ◌^◌}
 use Rattle.tw_ports.specs.Files.{HoldsOn}
-use Rattle.tw_server.specs.View.{at_fault}
+use Rattle.tw_server.specs.View.{state_at}
 use Rattle.tw_server.specs.Turns.{RanSoFar}
 use Rattle.tw_server.proofs.server.run.Given as goal
 
 abbrev pub invariant-loop-status : goal.invariant-loop-status
 invariant-loop-status g l = record {
-  run : RanSoFar (g.S.Source.left l.fn.source) (g.S.Source.left l.source) (g.K.Sink.written l.fn.sink) (g.K.Sink.written l.sink) (at_fault l.fn.session (g.F.Files.faults l.fn.files)) l.feed (at_fault l.session (g.F.Files.faults l.files));
+  run : RanSoFar (g.S.Source.left l.fn.source) (g.S.Source.left l.source) (g.K.Sink.written l.fn.sink) (g.K.Sink.written l.sink) (state_at l.fn.session (g.F.Files.faults l.fn.files)) l.feed (state_at l.session (g.F.Files.faults l.files));
   reads : g.S.Source.faults l.source ≡ g.S.Source.faults l.fn.source;
   writes : g.K.Sink.faults l.sink ≡ g.K.Sink.faults l.fn.sink;
   files : HoldsOn (g.F.Files.held l.fn.files) (g.F.Files.held l.files);

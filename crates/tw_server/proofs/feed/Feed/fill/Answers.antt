@@ -1,6 +1,6 @@
 use Rattle.std.proofs.Common.{◌≡◌, ℕ, List, [], ◌<◌, ◌≤◌, ◌^◌, ◌-◌, arith, ap, refl, length, sym, ◌∙◌, subst}
 use Rattle.std.proofs.KnownBytes.{Keeps-refl}
-use Rattle.tw_server.specs.Feed.{Held}
+use Rattle.tw_server.specs.Feed.{Pending}
 use Rattle.tw_server.proofs.Pieces.{length_between}
 use Rattle.tw_server.proofs.feed.Feed.fill.Goals as goal
 
@@ -8,7 +8,7 @@ pub returns-then-self-clause-fills : goal.returns-then-self-clause-fills
 returns-then-self-clause-fills g c =
     let f = c.self.inside in (
       Keeps-refl _,
-      λ e. absurd (omega (arith, length_between f.piece.items f.at f.upto c.self.invariant.1, ap length (ap (λ (h : Held). h.held) c.self.view_is ∙ e))),
+      λ e. absurd (omega (arith, length_between f.piece.items f.at f.upto c.self.invariant.1, ap length (ap (λ (h : Pending). h.held) c.self.view_is ∙ e))),
       refl,
-      subst (λ (h : Held). h.seen ≤ 2 ^ 40) c.self.view_is c.self.invariant.3,
+      subst (λ (h : Pending). h.seen ≤ 2 ^ 40) c.self.view_is c.self.invariant.3,
     )
