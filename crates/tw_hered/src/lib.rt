@@ -1,6 +1,6 @@
 //! Hereditary substitution: what is put in for a variable is applied to the variable's arguments at once, so that the result is canonical again.
 //!
-//! A call answers `TooDeep` where its result is deeper than 4,096, and `NoMemory` where memory is wanting.
+//! A call answers `TooDeep` where its result is deeper than 4,096 (`instantiate` never does), and `NoMemory` where memory is wanting.
 //! The machine's stack is memory too: a walk nests at most 8,500 levels, and past these it wants memory.
 #![tactic(auto)]
 

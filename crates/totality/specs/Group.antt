@@ -1,0 +1,64 @@
+-- The record of a checked group, and what is checked of a group.
+use Rattle.std.specs.Prelude.{◌≡◌, ℕ, List, Bool, true, ◌⊎◌}
+use Rattle.lf.specs.Syntax.{LfType}
+use Rattle.lf.specs.Typing.{Signature, IsContext}
+use Rattle.lf.specs.Variables.{target, onto, Within}
+use Rattle.lf.specs.Subordination.{Block, Member, IsDeclared, SelfContained}
+use Rattle.totality.specs.Clause.{Clause, IsClause, IsSubgoal}
+use Rattle.totality.specs.Marks.{Mark, input_places}
+use Rattle.totality.specs.Ground.{Subgoals}
+use Rattle.totality.specs.Modes.{WellModed}
+use Rattle.totality.specs.Worlded.{WellWorlded, BlocksServe}
+use Rattle.totality.specs.Order.{Order, IsAtPlaces}
+use Rattle.totality.specs.Descent.{GroupDescends}
+use Rattle.totality.specs.Cover.{CoveredInputs, CoveredOutputs}
+use Rattle.totality.specs.Total.{HasTotalMarks, Lasting}
+
+-- A test of subordination over a signature and blocks: each family is below itself, a family below one below f is below f,
+-- and the families below a declared family are self-contained.
+pub record IsSubordination (Σ : Signature) (W : List Block) (below : ℕ → ℕ → Bool) : Type 0 where
+  pub itself : (f : ℕ) → below f f ≡ true
+  pub through : (f g : ℕ) → below f g ≡ true → Within (below g) (below f)
+  pub self_contained : (f : ℕ) → IsDeclared Σ f → SelfContained Σ W (below f)
+
+-- The record of a group: its families with their marks, its worlds, for each of its families which families were below it when
+-- the record was made, and the families that are frozen by it.
+pub record Checked : Type 0 where
+  pub families : List ℕ
+  pub marks : ℕ → List Mark
+  pub worlds : List Block
+  pub below : ℕ → ℕ → Bool
+  pub frozen : ℕ → Bool
+
+-- The frozen families of a record: its own, the targets of its blocks' entries, all below these; they are self-contained.
+pub record IsFrozenBy (Σ : Signature) (R : Checked) : Type 0 where
+  pub families_frozen : (f : ℕ) → Member f R.families → R.frozen f ≡ true
+  pub targets_frozen : (B : Block) (E : LfType) → Member B R.worlds → Member E B.entries → R.frozen (target E) ≡ true
+  pub below_frozen : (f : ℕ) → Member f R.families → Within (R.below f) R.frozen
+  pub self_contained : SelfContained Σ R.worlds R.frozen
+
+-- A record is right: its families last, the families below each are self-contained, and they are frozen.
+pub record IsRight (Σ : Signature) (R : Checked) : Type 0 where
+  pub lasts : (f : ℕ) → Member f R.families → Lasting Σ f (R.marks f) R.worlds (R.below f)
+  pub self_contained : (f : ℕ) → Member f R.families → SelfContained Σ R.worlds (R.below f)
+  pub frozen : IsFrozenBy Σ R
+
+-- The callee is of the group, or of an earlier record with the same marks, which the blocks serve, and whose families below it
+-- are below it still.
+abbrev pub IsCallee : Checked → List Checked → ℕ → Type 0
+IsCallee R totals b = Member b R.families ⊎ ((Q : Checked) × Member Q totals × Member b Q.families × (Q.marks b ≡ R.marks b) × BlocksServe R.worlds Q.worlds (Q.below b) × Within (Q.below b) (R.below b))
+
+-- What is checked of a group, to be recorded as R, beside the records made before. `moded` has the families with a mode;
+-- the marks of R are those of every family called.
+pub record GroupChecked (Σ : Signature) (R : Checked) (moded : ℕ → Bool) (order : ℕ → Order) (totals : List Checked) : Type 0 where
+  pub marked : (f : ℕ) → Member f R.families → HasTotalMarks Σ f (R.marks f)
+  pub blocks_typed : (B : Block) → Member B R.worlds → IsContext Σ (onto B.entries B.some)
+  pub subordination : IsSubordination Σ R.worlds R.below
+  pub frozen : IsFrozenBy Σ R
+  pub orders_at_inputs : (f : ℕ) → Member f R.families → IsAtPlaces (input_places (R.marks f)) (order f)
+  pub well_moded : (c : Clause) → IsClause Σ R.worlds c → Member (target c.type) R.families → WellModed Σ R.marks moded c
+  pub well_worlded : (c : Clause) → IsClause Σ R.worlds c → Member (target c.type) R.families → WellWorlded Σ R.worlds c
+  pub callees : (c : Clause) → IsClause Σ R.worlds c → Member (target c.type) R.families → (i : ℕ) (A : LfType) → IsSubgoal c i A → IsCallee R totals (target A)
+  pub descending : GroupDescends Σ R.worlds order R.families
+  pub covered_inputs : (f : ℕ) → Member f R.families → CoveredInputs Σ R.marks R.worlds (R.below f) f
+  pub covered_outputs : (c : Clause) → IsClause Σ R.worlds c → Member (target c.type) R.families → Subgoals R.marks c (λ U A. CoveredOutputs Σ R.marks R.worlds (R.below (target c.type)) c U A) (λ U. Unit {0})

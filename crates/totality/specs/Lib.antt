@@ -1,0 +1,17 @@
+pub mod Tests
+pub mod Clause
+pub mod Marks
+pub mod Strict
+pub mod Ground
+pub mod Modes
+pub mod Worlded
+pub mod Order
+pub mod Descent
+pub mod Cover
+pub mod Case
+pub mod Raised
+pub mod Total
+pub mod Group
+pub mod Examples
+pub mod Refusals
+pub mod Laws

@@ -1,0 +1,186 @@
+//! The laws of total families of LF. They have no code: each function carries one law as its contract.
+#![tactic(auto)]
+
+ghost use Rattle.totality.specs.Laws.{CheckedGroupIsRight, LastingIsTotal, LastingGoesOn, LastingOverMore, RecordStaysRight, BelowIsSubordination, KindPlacesAreBelow, VariableIsEntry, CallsHaveRank, RankForbidsCycles, WaysAreDecided, StrictOccurrencesDetermine, GroundFirstIsClosed, GroundAfterIsClosed, TypedTuplesAreRaised, RaisedOutputsCover, HeadsAreKnown, InputGoalCovers, NoOutputsAreCovered, SubgoalContextIsWorld, CallerServesCallee, SmallerHasSmallerInstances};
+ghost use Rattle.totality.specs.Examples.{AdditionLasts, NumbersHaveSums, CopyingLasts, TermsHaveCopies, BlockCaseIsCovered};
+ghost use Rattle.totality.specs.Refusals.{FreePlaceIsExempt, UnsoundMarksAreRefused, MarksMustFit, LoopIsRefused, UngroundIsRefused, MissingWorldIsRefused, CycleIsRefused, SomeVariableCoversNothing, SomeVariableIsNoParameter};
+
+/// The totality theorem: the record of a checked group is right, each of its families lasts.
+pub fn checked_group_is_right()
+    ensures { CheckedGroupIsRight }
+{}
+
+/// What lasts is total now.
+pub fn lasting_is_total()
+    ensures { LastingIsTotal }
+{}
+
+/// What lasts goes on through each legal extension.
+pub fn lasting_goes_on()
+    ensures { LastingGoesOn }
+{}
+
+/// What lasts over a set of families lasts over each greater one.
+pub fn lasting_over_more()
+    ensures { LastingOverMore }
+{}
+
+/// A record stays right in each extension that adds nothing to its frozen families.
+pub fn record_stays_right()
+    ensures { RecordStaysRight }
+{}
+
+/// The subordination of a signature and blocks is a test of subordination.
+pub fn below_is_subordination()
+    ensures { BelowIsSubordination }
+{}
+
+/// By it, the places of a kind have only families below its own.
+pub fn kind_places_are_below()
+    ensures { KindPlacesAreBelow }
+{}
+
+/// In a context of worlds beside a set, a variable whose family is in the set is an entry of an instance.
+pub fn variable_is_entry()
+    ensures { VariableIsEntry }
+{}
+
+/// The local context of a well-worlded subgoal extends a context of worlds to one.
+pub fn subgoal_context_is_world()
+    ensures { SubgoalContextIsWorld }
+{}
+
+/// A context of the caller's worlds is one of the callee's.
+pub fn caller_serves_callee()
+    ensures { CallerServesCallee }
+{}
+
+/// A smaller term has smaller instances.
+pub fn smaller_has_smaller_instances()
+    ensures { SmallerHasSmallerInstances }
+{}
+
+/// Where no call leads back, there is a rank that falls at each call.
+pub fn calls_have_rank()
+    ensures { CallsHaveRank }
+{}
+
+/// Where a rank falls at each call, no call leads back.
+pub fn rank_forbids_cycles()
+    ensures { RankForbidsCycles }
+{}
+
+/// Where equal calls are decided, so are the ways that they lead.
+pub fn ways_are_decided()
+    ensures { WaysAreDecided }
+{}
+
+/// Equal instances give a variable with a strict occurrence the same value.
+pub fn strict_occurrences_determine()
+    ensures { StrictOccurrencesDetermine }
+{}
+
+/// The type of a variable that is ground at first mentions only such variables.
+pub fn ground_first_is_closed()
+    ensures { GroundFirstIsClosed }
+{}
+
+/// The same after a subgoal.
+pub fn ground_after_is_closed()
+    ensures { GroundAfterIsClosed }
+{}
+
+/// In a context of worlds an output uses only local variables whose families are below its own.
+pub fn typed_tuples_are_raised()
+    ensures { TypedTuplesAreRaised }
+{}
+
+/// The outputs of a subgoal are covered where the raised tuples are.
+pub fn raised_outputs_cover()
+    ensures { RaisedOutputsCover }
+{}
+
+/// Splitting: the head of a term of a family is a constant, a local variable or an entry of an instance.
+pub fn heads_are_known()
+    ensures { HeadsAreKnown }
+{}
+
+/// Where clauses cover the goal of input coverage, the inputs of the family are covered.
+pub fn input_goal_covers()
+    ensures { InputGoalCovers }
+{}
+
+/// A subgoal without outputs is covered.
+pub fn no_outputs_are_covered()
+    ensures { NoOutputsAreCovered }
+{}
+
+/// Addition of natural numbers lasts.
+pub fn addition_lasts()
+    ensures { AdditionLasts }
+{}
+
+/// So each two numbers have a sum, with its proof.
+pub fn numbers_have_sums()
+    ensures { NumbersHaveSums }
+{}
+
+/// Copying of lambda terms lasts in the worlds of its block.
+pub fn copying_lasts()
+    ensures { CopyingLasts }
+{}
+
+/// So in each context of the block each term has a copy, with its proof.
+pub fn terms_have_copies()
+    ensures { TermsHaveCopies }
+{}
+
+/// A block's entry covers the case of a block variable.
+pub fn block_case_is_covered()
+    ensures { BlockCaseIsCovered }
+{}
+
+/// A loop does not descend.
+pub fn loop_is_refused()
+    ensures { LoopIsRefused }
+{}
+
+/// A clause with an output that is not ground is not well-moded.
+pub fn unground_is_refused()
+    ensures { UngroundIsRefused }
+{}
+
+/// A family is not total by marks that don't fit its kind.
+pub fn marks_must_fit()
+    ensures { MarksMustFit }
+{}
+
+/// Marks are not sound where an input mentions an output.
+pub fn unsound_marks_are_refused()
+    ensures { UnsoundMarksAreRefused }
+{}
+
+/// A variable in a free place needs no value.
+pub fn free_place_is_exempt()
+    ensures { FreePlaceIsExempt }
+{}
+
+/// A subgoal under a binder is not well-worlded without a block.
+pub fn missing_world_is_refused()
+    ensures { MissingWorldIsRefused }
+{}
+
+/// A cycle of equal calls does not descend.
+pub fn cycle_is_refused()
+    ensures { CycleIsRefused }
+{}
+
+/// An entry covers nothing by what stands in an argument of a `some` variable.
+pub fn some_variable_covers_nothing()
+    ensures { SomeVariableCoversNothing }
+{}
+
+/// Nothing is smaller under a `some` variable.
+pub fn some_variable_is_no_parameter()
+    ensures { SomeVariableIsNoParameter }
+{}

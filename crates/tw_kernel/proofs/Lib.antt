@@ -1,0 +1,7 @@
+pub mod Rules
+pub mod Weakened
+pub mod Variables
+pub mod Spines
+pub mod Roots
+pub mod KindSpines
+pub mod Contexts

@@ -1,0 +1,251 @@
+//! Expected values are worked out by hand.
+use crate::{ExtDecl, ExtTerm, SyntaxFault, parse_decl};
+use std::alloc::{AllocError, Global};
+use std::test::Fail;
+use tw_fixity::{Assoc, Fix, FixTable, Name};
+use tw_lexer::{LexFault, Place, lex};
+
+fn read(alloc: Global, fixities: &FixTable, text: &str) -> Result<ExtDecl, SyntaxFault> {
+    let bytes = text.as_bytes();
+    if bytes.len() >= 1_000_000 {
+        return Err(SyntaxFault::NoMemory);
+    }
+    match lex(alloc, bytes, 0, Place { line: 1, column: 1 }) {
+        Ok(tokens) => parse_decl(alloc, &tokens, bytes, fixities),
+        Err(LexFault::Bad(at)) => Err(SyntaxFault::BadDecl(at)),
+        Err(LexFault::NoMemory) => Err(SyntaxFault::NoMemory),
+    }
+}
+
+fn show_name(line: &mut String, name: &Name) -> Result<(), AllocError> {
+    for byte in name.as_bytes() {
+        line.push(char::from(*byte))?;
+    }
+    Ok(())
+}
+
+// A name with its column, `_` with its column, `*`, `(A > B)`, `(M N)`, `(M : A)`, and binders with the column of their bracket.
+fn show(line: &mut String, term: &ExtTerm) -> Result<(), AllocError> {
+    match term {
+        ExtTerm::Ident(name, at) => {
+            show_name(line, name)?;
+            write!(line, "{}", at.column)
+        }
+        ExtTerm::Hole(at) => write!(line, "_{}", at.column),
+        ExtTerm::Star => line.push_str("*"),
+        ExtTerm::Arrow(domain, range) => {
+            line.push_str("(")?;
+            show(line, domain)?;
+            line.push_str(" > ")?;
+            show(line, range)?;
+            line.push_str(")")
+        }
+        ExtTerm::App(function, argument) => {
+            line.push_str("(")?;
+            show(line, function)?;
+            line.push_str(" ")?;
+            show(line, argument)?;
+            line.push_str(")")
+        }
+        ExtTerm::Ascribe(term, ty) => {
+            line.push_str("(")?;
+            show(line, term)?;
+            line.push_str(" : ")?;
+            show(line, ty)?;
+            line.push_str(")")
+        }
+        ExtTerm::Pi(name, at, domain, range) => {
+            write!(line, "{{{}", at.column)?;
+            show_name(line, name)?;
+            if let Some(domain) = domain {
+                line.push_str(":")?;
+                show(line, domain)?;
+            }
+            line.push_str("}")?;
+            show(line, range)
+        }
+        ExtTerm::Lam(name, at, domain, body) => {
+            write!(line, "[{}", at.column)?;
+            show_name(line, name)?;
+            if let Some(domain) = domain {
+                line.push_str(":")?;
+                show(line, domain)?;
+            }
+            line.push_str("]")?;
+            show(line, body)
+        }
+    }
+}
+
+fn told(alloc: Global, decl: &Result<ExtDecl, SyntaxFault>) -> Result<String, AllocError> {
+    let mut line = String::new(alloc);
+    match decl {
+        Ok(ExtDecl::Declare(name, at, ty)) => {
+            show_name(&mut line, name)?;
+            write!(line, "{} : ", at.column)?;
+            show(&mut line, ty)?;
+        }
+        Ok(ExtDecl::Define(name, ty, term, abbreviated)) => {
+            match name {
+                None => line.push_str("_")?,
+                Some(name) => show_name(&mut line, name)?,
+            }
+            if let Some(ty) = ty {
+                line.push_str(" : ")?;
+                show(&mut line, ty)?;
+            }
+            line.push_str(" = ")?;
+            show(&mut line, term)?;
+            if *abbreviated {
+                line.push_str(" abbreviated")?;
+            }
+        }
+        Err(SyntaxFault::Unsupported(name, at)) => {
+            line.push_str("unsupported ")?;
+            show_name(&mut line, name)?;
+            write!(line, " {}:{}", at.line, at.column)?;
+        }
+        Err(SyntaxFault::Nesting(at)) => write!(line, "nesting {}:{}", at.line, at.column)?,
+        Err(SyntaxFault::Syntax(at)) => write!(line, "syntax {}:{}", at.line, at.column)?,
+        Err(SyntaxFault::Fixity(at)) => write!(line, "fixity {}:{}", at.line, at.column)?,
+        Err(SyntaxFault::BadDecl(at)) => write!(line, "bad {}:{}", at.line, at.column)?,
+        Err(SyntaxFault::NoMemory) => line.push_str("no memory")?,
+    }
+    Ok(line)
+}
+
+#[test]
+fn declarations_are_read(rt: HostRuntime) -> Result<(), Fail> {
+    let alloc = rt.alloc();
+    let none = FixTable::new(alloc);
+    let rows = [
+        ("nat : type.", "nat1 : *"),
+        ("c : a -> b -> d.", "c1 : (a5 > (b10 > d15))"),
+        ("c : a <- b <- d.", "c1 : (d15 > (b10 > a5))"),
+        ("c : a b d.", "c1 : ((a5 b7) d9)"),
+        ("c : a b -> d e.", "c1 : ((a5 b7) > (d12 e14))"),
+        ("c : (a -> b) -> d.", "c1 : ((a6 > b11) > d17)"),
+        ("c : {x:a} b -> d.", "c1 : {5x:a8}(b11 > d16)"),
+        ("c : a -> {x} b x.", "c1 : (a5 > {10x}(b14 x16))"),
+        ("c : f [x:a] [y] x y.", "c1 : (f5 [7x:a10][13y](x17 y19))"),
+        ("c : {_:a} _ -> type.", "c1 : {5_:a8}(_11 > *)"),
+        ("c : a : b : type.", "c1 : ((a5 : b9) : *)"),
+        ("c : a -> b : type.", "c1 : ((a5 > b10) : *)"),
+        ("d : a = b d.", "d : a5 = (b9 d11)"),
+        ("d = b.", "d = b5"),
+        ("_ : a = b.", "_ : a5 = b9"),
+        ("_ = b.", "_ = b5"),
+    ];
+    for (text, want) in rows {
+        let line = told(alloc, &read(alloc, &none, text))?;
+        assert_eq!(rt; line.as_str(), want, "{text}");
+    }
+    Ok(())
+}
+
+#[test]
+fn faults_are_told(rt: HostRuntime) -> Result<(), Fail> {
+    let alloc = rt.alloc();
+    let none = FixTable::new(alloc);
+    let rows = [
+        ("%theorem t : true.", "unsupported %theorem 1:1"),
+        ("c : .", "syntax 1:5"),
+        ("c : ().", "syntax 1:6"),
+        ("c : (a.", "syntax 1:7"),
+        ("c : (a].", "syntax 1:7"),
+        ("c : a).", "syntax 1:6"),
+        ("c : a", "syntax 1:6"),
+        ("c", "syntax 1:2"),
+        ("", "syntax 1:1"),
+        ("= : a.", "syntax 1:1"),
+        ("type : a.", "syntax 1:1"),
+        ("_ : a.", "syntax 1:6"),
+        ("x : = c.", "syntax 1:5"),
+        ("c : a = = b.", "syntax 1:9"),
+        ("c : {type} a.", "syntax 1:6"),
+        ("c : {x y} a.", "syntax 1:8"),
+        ("c : {x:a) b.", "syntax 1:9"),
+        ("c : {x:a}.", "syntax 1:10"),
+        ("c : a -> <- ).", "syntax 1:13"),
+        ("c : a -> b <- d.", "fixity 1:5"),
+        ("c : a <- b -> d.", "fixity 1:5"),
+        ("c : a ->.", "fixity 1:5"),
+        ("c : -> a.", "fixity 1:5"),
+        ("x : a -> = c ->.", "fixity 1:5"),
+        ("c : f (a ->) b.", "fixity 1:8"),
+        ("c : (a ->) <-.", "fixity 1:5"),
+        ("c : {x:a ->} b ->.", "fixity 1:8"),
+    ];
+    for (text, want) in rows {
+        let line = told(alloc, &read(alloc, &none, text))?;
+        assert_eq!(rt; line.as_str(), want, "{text}");
+    }
+    Ok(())
+}
+
+#[test]
+fn operators_are_not_read_yet(rt: HostRuntime) -> Result<(), Fail> {
+    let alloc = rt.alloc();
+    let mut table = FixTable::new(alloc);
+    table.set(Name::from_text(alloc, "=>")?, Fix::Infix(Assoc::Right, 10))?;
+    let line = told(alloc, &read(alloc, &table, "c : p (a => b)."))?;
+    assert_eq!(rt; line.as_str(), "fixity 1:8");
+    Ok(())
+}
+
+fn repeated(
+    alloc: Global,
+    before: &str,
+    part: &str,
+    count: usize,
+    after: &str,
+) -> Result<String, AllocError> {
+    let mut text = String::from_str(alloc, before)?;
+    for _ in 0..count {
+        text.push_str(part)?;
+    }
+    text.push_str(after)?;
+    Ok(text)
+}
+
+#[test]
+fn brackets_nest_a_thousand_deep(rt: HostRuntime) -> Result<(), Fail> {
+    let alloc = rt.alloc();
+    let none = FixTable::new(alloc);
+    let opened = repeated(alloc, "c : ", "(", 1000, "b")?;
+    let whole = repeated(alloc, opened.as_str(), ")", 1000, ".")?;
+    let line = told(alloc, &read(alloc, &none, whole.as_str()))?;
+    assert_eq!(rt; line.as_str(), "c1 : b1005");
+    let deeper = repeated(alloc, "c : ", "(", 1001, "b.")?;
+    let line = told(alloc, &read(alloc, &none, deeper.as_str()))?;
+    assert_eq!(rt; line.as_str(), "nesting 1:1005");
+    let crossed = repeated(alloc, "c : ", "(]", 1001, ".")?;
+    let line = told(alloc, &read(alloc, &none, crossed.as_str()))?;
+    assert_eq!(rt; line.as_str(), "nesting 1:2005");
+    Ok(())
+}
+
+#[test]
+fn binders_nest_a_thousand_deep(rt: HostRuntime) -> Result<(), Fail> {
+    let alloc = rt.alloc();
+    let none = FixTable::new(alloc);
+    let bound = repeated(alloc, "c : ", "{x:a} ", 1000, "a.")?;
+    assert!(rt; read(alloc, &none, bound.as_str()).is_ok());
+    let bound = repeated(alloc, "c : ", "{x} ", 1001, "a.")?;
+    let line = told(alloc, &read(alloc, &none, bound.as_str()))?;
+    assert_eq!(rt; line.as_str(), "nesting 1:4005");
+    Ok(())
+}
+
+#[test]
+fn long_rows_take_no_stack(rt: HostRuntime) -> Result<(), Fail> {
+    let alloc = rt.alloc();
+    let none = FixTable::new(alloc);
+    let arguments = repeated(alloc, "c : a", " a", 65_532, ".")?;
+    assert!(rt; read(alloc, &none, arguments.as_str()).is_ok());
+    let arrows = repeated(alloc, "c : a", " -> a", 32_766, ".")?;
+    assert!(rt; read(alloc, &none, arrows.as_str()).is_ok());
+    let back = repeated(alloc, "c : a", " <- a", 32_766, ".")?;
+    assert!(rt; read(alloc, &none, back.as_str()).is_ok());
+    Ok(())
+}

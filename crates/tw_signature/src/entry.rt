@@ -1,0 +1,81 @@
+//! The entries of a signature. Contracts see an entry as the plain one of the crate `lf`, through the views in `specs/View.antt`.
+ghost use Rattle.std.specs.Prelude.{◌≡◌, IfOk};
+ghost use Rattle.tw_signature.specs.View.{body_of, entry_of};
+
+use std::alloc::{AllocError, Global};
+use tw_fixity::Name;
+use tw_terms::{Kind, Term, Ty};
+
+/// What an entry declares or defines.
+#[derive(Debug, Drop)]
+pub enum Body {
+    /// A family of this kind.
+    Family(Kind),
+    /// A constant of this type.
+    Constant(Ty),
+    /// A definition: a term, its type, and whether it is an abbreviation.
+    Defined { term: Term, ty: Ty, abbrev: bool },
+}
+
+/// A declaration or definition under its name.
+#[derive(Debug, Drop)]
+pub struct Entry {
+    pub name: Name,
+    pub body: Body,
+    /// How many of the leading quantifiers are implicit.
+    pub implicit: u32,
+    /// For each leading quantifier the name to show it by, if it has one.
+    pub hints: Vec<Option<Name>>,
+}
+
+#[tactic(auto, using(tw_terms::proofs::Args::types))]
+impl Body {
+    /// An equal body. Fails only for want of memory.
+    pub fn copy(&self, alloc: Global) -> Result<Body, AllocError>
+        ensures { IfOk result (λ b. body_of b ≡ body_of self.now) }
+    {
+        match self {
+            Body::Family(kind) => Ok(Body::Family(kind.copy(alloc)?)),
+            Body::Constant(ty) => Ok(Body::Constant(ty.copy(alloc)?)),
+            Body::Defined { term, ty, abbrev } => Ok(Body::Defined {
+                term: term.copy(alloc)?,
+                ty: ty.copy(alloc)?,
+                abbrev: *abbrev,
+            }),
+        }
+    }
+}
+
+impl Entry {
+    /// An equal entry. Fails only for want of memory.
+    pub fn copy(&self, alloc: Global) -> Result<Entry, AllocError>
+        ensures { IfOk result (λ e. entry_of e ≡ entry_of self.now) }
+    {
+        Ok(Entry {
+            name: self.name.copy(alloc)?,
+            body: self.body.copy(alloc)?,
+            implicit: self.implicit,
+            hints: copy_hints(alloc, &self.hints)?,
+        })
+    }
+}
+
+/// Equal hints. Fails only for want of memory.
+fn copy_hints(alloc: Global, hints: &[Option<Name>]) -> Result<Vec<Option<Name>>, AllocError>
+    ensures { IfOk result (λ h. h.items ≡ hints.now) }
+{
+    let mut copies = Vec::with_capacity(alloc, hints.len())?;
+    for hint in hints {
+        copies.push(copy_hint(alloc, hint)?)?;
+    }
+    Ok(copies)
+}
+
+fn copy_hint(alloc: Global, hint: &Option<Name>) -> Result<Option<Name>, AllocError>
+    ensures { IfOk result (λ h. h ≡ hint.now) }
+{
+    match hint {
+        Some(name) => Ok(Some(name.copy(alloc)?)),
+        None => Ok(None),
+    }
+}

@@ -1,0 +1,103 @@
+//! The entries in order, with the newest of each name.
+ghost use Rattle.std.specs.Prelude.{◌≡◌, ◌∷◌, [], OnErr, OnOk, IfOk, option_map, length};
+ghost use Rattle.lf.specs.Entries.{entry as entry_numbered, signature_of, IsCanonicalEntry, IsCanonicalSignature};
+ghost use Rattle.tw_signature.specs.View.{entry_of};
+ghost use Rattle.tw_signature.specs.Names.{number_of};
+
+use crate::entry::Entry;
+use std::alloc::{AllocError, Global};
+use std::collections::HashMap;
+use std::marker::Model;
+use tw_fixity::Name;
+use tw_terms::ConstId;
+
+/// The entries of canonical LF. An entry's number is how many stand before it. Contracts see the list of the entries, the newest first.
+#[derive(Drop)]
+pub struct Signature {
+    entries: Vec<Entry>,
+    newest: HashMap<Vec<u8>, u64>,
+}
+
+impl Model for Signature {
+    ghost use Rattle.std.specs.Prelude.{◌≡◌, ℕ, List, map, reverse};
+    ghost use Rattle.std.specs.Coded.{coded_list};
+    ghost use Rattle.lf.specs.Entries.{Entry as LfEntry, IsCanonicalSignature};
+    ghost use Rattle.tw_signature.specs.Codes.{entry_code};
+
+    ghost Value = { List LfEntry };
+
+    ghost coded = { coded_list entry_code };
+
+    ghost use Rattle.tw_signature.specs.View.{entries_of};
+    ghost use Rattle.tw_signature.specs.Names.{number_of};
+    ghost use Rattle.tw_signature.specs.Newest.{number_at};
+
+    ghost view = { λ s. entries_of s.entries.items };
+
+    ghost invariant = { λ s. IsCanonicalSignature (entries_of s.entries.items) × ((name : List ℕ) → number_at s.newest name ≡ number_of (entries_of s.entries.items) name) };
+}
+
+impl Signature {
+    /// The signature with no entry. It keeps the allocator.
+    pub fn new(alloc: Global) -> Signature
+        ensures { result ≡ [] }
+    {
+        Signature {
+            entries: Vec::new(alloc),
+            newest: HashMap::new(alloc),
+        }
+    }
+
+    /// How many entries there are.
+    pub fn len(&self) -> u64
+        ensures { result ≡ length self.now }
+    {
+        self.entries.len() as u64
+    }
+
+    /// The entry of this number.
+    pub fn entry(&self, id: ConstId) -> Option<&Entry>
+        ensures { option_map (λ e. entry_of e.now) result ≡ entry_numbered self.now id.0 }
+    {
+        self.entries.get(id.0 as usize)
+    }
+
+    /// The number of the newest entry of the name.
+    pub fn lookup(&self, name: &Name) -> Option<ConstId>
+        ensures { option_map (λ id. id.0) result ≡ number_of self.now name.now }
+    {
+        self.lookup_bytes(name.as_bytes())
+    }
+
+    /// The same, by the bytes of the name.
+    pub fn lookup_bytes(&self, name: &[u8]) -> Option<ConstId>
+        ensures { option_map (λ id. id.0) result ≡ number_of self.now name.now }
+    {
+        match self.newest.get(name) {
+            Some(number) => Some(ConstId(*number)),
+            None => None,
+        }
+    }
+
+    /// Puts the entry behind the others and gives its number. Without memory the signature stays as it is.
+    pub fn add(&mut self, entry: Entry) -> Result<ConstId, AllocError>
+        requires { IsCanonicalEntry (signature_of self.old) (entry_of entry) }
+        ensures added { OnOk result (self.new ≡ entry_of entry ∷ self.old) }
+        ensures number { IfOk result (λ id. id.0 ≡ length self.old) }
+        ensures unchanged { OnErr result (self.new ≡ self.old) }
+    {
+        let number = self.len();
+        self.entries.reserve(1)?;
+        let name = Vec::from_slice(*self.entries.allocator(), entry.name.as_bytes())?;
+        self.newest.insert(name, number)?;
+        self.entries.push(entry)?;
+        Ok(ConstId(number))
+    }
+
+    /// Each entry may stand over those before it.
+    pub fn is_canonical(&self)
+        ensures { IsCanonicalSignature self.now }
+    {
+        let _ = &self.entries;
+    }
+}

@@ -1,0 +1,120 @@
+-- THE theorem on answers: a solved store whose metavariables have an order of dependency has a typed answer, in which each unbound
+-- metavariable is a variable of the context.
+use Rattle.std.proofs.Common.{◌≡◌, ℕ, List, [], ◌∷◌, Option, Some, None, inl, inr, refl, sym, ap, ◌∙◌, subst}
+use Rattle.lf.specs.Skeletons.{context_skeletons}
+use Rattle.lf.specs.Syntax.{Skeleton, Term, LfType, skeleton}
+use Rattle.lf.specs.Typing.{HasType, IsContext, IsSignature, IsType, Signature}
+use Rattle.unification.specs.Filling.{fill, fill_type}
+use Rattle.unification.specs.PartialInstance.{IsFilling, PartialInstance, ValueBySkeletons, IsTypedStore}
+use Rattle.unification.specs.OpenTyping.{DeclarationsAreTyped, ValueHasType, skeletons_of}
+use Rattle.unification.specs.Dependency.{Item, IsListed, IsDependencyOrder, free_context, values}
+use Rattle.unification.specs.Patterns.{eta_variable}
+use Rattle.unification.specs.Solving.{BindingsAreListed}
+use Rattle.unification.specs.Skeletons.{total_skeletons, skeleton_or_default}
+use Rattle.lf.specs.Subordination.{Member}
+use Rattle.unification.specs.Unifiers.{Binding, BindingsAreTyped, Respects, Solution, SolvesAll, Store}
+use Rattle.unification.proofs.EtaTyped.{eta_typed}
+use Rattle.unification.proofs.Filling.{ValueHasSkeleton, skeleton_fill}
+use Rattle.unification.proofs.Generic.{Fact, Facts, Stage, ordered_at, stage}
+use Rattle.unification.proofs.OpenTypes.{OpenIsType-sound}
+use Rattle.unification.proofs.PlainAnswer.{plain}
+use Rattle.unification.proofs.Scope.{in_weaker_type}
+use Rattle.unification.proofs.Typed.{AllOf, values_typed}
+use Rattle.unification.proofs.RenamingBack.{is_context}
+
+-- (U is the bindings' unifiers, or the store's fillings)
+module _ (Σ : Signature) (ok : IsSignature Σ) (Ψ : ℕ → Option LfType) (bs : List Binding) (U : (ℕ → Option Term) → Type 0) (enough : (F : List LfType) (β : ℕ → Option Term) → PartialInstance Σ [] Ψ (λ m. ⊥) F β → Respects (skeletons_of Ψ) β bs → U β) where
+  abbrev μ : ℕ → Skeleton
+  μ = skeletons_of Ψ
+
+  -- what is listed without a value
+  abbrev Free : List Item → ℕ → Type 0
+  Free is m = (A : LfType) × (Ψ m ≡ Some A) × Member (record { of = m; of_type = A; value = None }) is
+
+  module _ (is : List Item) (order : IsDependencyOrder Σ Ψ U is) (all : (m : ℕ) (A : LfType) → Ψ m ≡ Some A → IsListed is m) (covered : BindingsAreListed is bs) (declarations_typed : DeclarationsAreTyped Σ [] Ψ U) (bindings_typed : BindingsAreTyped Σ [] Ψ U (Free is) bs) (each : (m : ℕ) → IsListed is m → AllOf (Free is) bs m) where
+    abbrev F : List LfType
+    F = free_context μ is
+
+    abbrev β : ℕ → Option Term
+    β = values μ is
+
+    w : Stage Σ μ ok Ψ U is
+    w = stage Σ μ ok Ψ U is order
+
+    fact : (js : List Item) → Facts Σ μ ok Ψ U F β js → (it : Item) → Member it js → Fact Σ μ ok Ψ U F β it.of it.of_type it.value
+    fact [] f it i = absurd i
+    fact (j ∷ js) (f, fs) it (inl e) = subst (λ k. Fact Σ μ ok Ψ U F β k.of k.of_type k.value) (sym e) f
+    fact (j ∷ js) (f, fs) it (inr i) = fact js fs it i
+
+    valued : (js : List Item) → Facts Σ μ ok Ψ U F β js → (m : ℕ) → IsListed js m → (V : Term) × (β m ≡ Some V)
+    valued [] f m l = absurd l
+    valued (j ∷ js) (f, fs) m (inr l) = valued js fs m l
+    valued (j ∷ js) (f, fs) m (inl e) = go j.value f
+      where
+        go : (x : Option Term) → Fact Σ μ ok Ψ U F β j.of j.of_type x → (V : Term) × (β m ≡ Some V)
+        go None (x, q, g) = (eta_variable (skeleton j.of_type) x, ap β e ∙ q)
+        go (Some N) q = (fill μ β N, ap β e ∙ q)
+
+    respects : (cs : List Binding) → BindingsAreListed is cs → Respects μ β cs
+    respects [] c = tt
+    respects (b ∷ cs) ((A, i), c) = (fact is w.facts (record { of = b.of; of_type = A; value = Some b.value }) i, respects cs c)
+
+    not_listed : (m : ℕ) → Ψ m ≡ None → IsListed is m → ⊥
+    not_listed m e l = let r = ordered_at Σ μ ok Ψ U is order m l in no (sym r.1 ∙ e)
+      where
+        no : {A : LfType} → Some A ≡ None → ⊥
+        no e = cc
+
+    skeletons_at : (m : ℕ) → ValueBySkeletons Σ F μ (Ψ m) (β m)
+    skeletons_at m = go (Ψ m) (β m) refl refl (w.by_skeletons m)
+      where
+        go : (x : Option LfType) (y : Option Term) → Ψ m ≡ x → β m ≡ y → ValueHasSkeleton (total_skeletons Σ μ) (context_skeletons F) y (skeleton_or_default x) → ValueBySkeletons Σ F μ x y
+        go None None e f s = tt
+        go None (Some N) e f s = (let p : None ≡ Some N = sym (w.none m (not_listed m e)) ∙ f in cc)
+        go (Some A) (Some N) e f s = s
+        go (Some A) None e f s = let (V, q) = valued is w.facts m (all m A e) in (let p : Some V ≡ None = sym q ∙ f in cc)
+
+    free_typed : (m : ℕ) → Free is m → ValueHasType Σ F μ β (Ψ m) (β m)
+    free_typed m (A, d, i) =
+        let (x, e, g) = fact is w.facts (record { of = m; of_type = A; value = None }) i in
+        put A x (Ψ m) (β m) d e (subst (λ a. HasType Σ F (eta_variable a x) (fill_type μ β A)) (skeleton_fill μ β A) (eta_typed Σ μ ok F x (fill_type μ β A) (w.context x (fill_type μ β A) g) g))
+      where
+        put : (A : LfType) (x : ℕ) (y : Option LfType) (z : Option Term) → y ≡ Some A → z ≡ Some (eta_variable (skeleton A) x) → HasType Σ F (eta_variable (skeleton A) x) (fill_type μ β A) → ValueHasType Σ F μ β y z
+        put A x y z d e h = subst (λ y. ValueHasType Σ F μ β y z) (sym d) (subst (ValueHasType Σ F μ β (Some A)) (sym e) h)
+
+    fills : U β
+    fills = enough F β (record { context = w.context; outer = λ i A g. absurd g; by_skeletons = skeletons_at; typed = λ m v. absurd v; plain_context = (plain Σ Ψ U μ is order).context; plain_values = (plain Σ Ψ U μ is order).all }) (respects bs covered)
+
+    half : PartialInstance Σ [] Ψ (Free is) F β
+    half = record { context = w.context; outer = λ i A g. absurd g; by_skeletons = skeletons_at; typed = free_typed; plain_context = (plain Σ Ψ U μ is order).context; plain_values = (plain Σ Ψ U μ is order).all }
+
+    full : PartialInstance Σ [] Ψ (AllOf (Free is) bs) F β
+    full = values_typed Σ ok [] Ψ U declarations_typed F β fills (Free is) bs half (respects bs covered) bindings_typed
+
+    context : IsContext Σ F
+    context = is_context Σ ok F (λ i X g.
+        let (m, A, l, d, q) = w.entries i X g in
+        let (A', d', j, t, c) = ordered_at Σ μ ok Ψ U is order m l in
+        let s : A' ≡ A = (let z : Some A' ≡ Some A = sym d' ∙ d in cc) in
+        subst (IsType Σ F) (ap (fill_type μ β) s ∙ sym q) (OpenIsType-sound Σ ok [] Ψ U (AllOf (Free is) bs) F β full declarations_typed fills [] A' tt (in_weaker_type (IsListed is) (AllOf (Free is) bs) each A' j) t))
+
+    typed : (m : ℕ) → ValueHasType Σ F μ β (Ψ m) (β m)
+    typed m = go (Ψ m) (β m) refl refl
+      where
+        go : (x : Option LfType) (y : Option Term) → Ψ m ≡ x → β m ≡ y → ValueHasType Σ F μ β x y
+        go None None e f = tt
+        go None (Some N) e f = (let p : None ≡ Some N = sym (w.none m (not_listed m e)) ∙ f in cc)
+        go (Some A) y e f = subst (ValueHasType Σ F μ β (Some A)) f (subst (λ x. ValueHasType Σ F μ β x (β m)) e (full.typed m (each m (all m A e))))
+
+    pub answer : Solution Σ [] (record { metavariables = Ψ; bindings = bs; equations = [] }) F β
+    answer = (record { context = context; outer = λ i A g. absurd g; typed = typed }, (respects bs covered, tt))
+
+-- THE theorem on a leaf: a solved store that is typed up to its own fillings, with an order of its metavariables
+pub answer_of : (Σ : Signature) (ok : IsSignature Σ) (s : Store) → s.equations ≡ [] → (is : List Item) → IsDependencyOrder Σ s.metavariables (IsFilling Σ [] s) is → ((m : ℕ) (A : LfType) → s.metavariables m ≡ Some A → IsListed is m) → BindingsAreListed is s.bindings →
+    IsTypedStore Σ [] (λ m. (A : LfType) × (s.metavariables m ≡ Some A) × Member (record { of = m; of_type = A; value = None }) is) s →
+    ((m : ℕ) → IsListed is m → AllOf (λ m. (A : LfType) × (s.metavariables m ≡ Some A) × Member (record { of = m; of_type = A; value = None }) is) s.bindings m) →
+    Solution Σ [] s (free_context (skeletons_of s.metavariables) is) (values (skeletons_of s.metavariables) is)
+answer_of Σ ok s e is order all covered w each =
+    let r : Solution Σ [] (record { metavariables = s.metavariables; bindings = s.bindings; equations = [] }) (free_context (skeletons_of s.metavariables) is) (values (skeletons_of s.metavariables) is)
+    = answer Σ ok s.metavariables s.bindings (IsFilling Σ [] s) (λ F β h q. (F, h, (q, subst (SolvesAll (skeletons_of s.metavariables) β) (sym e) tt))) is order all covered w.declarations_typed w.bindings_typed each in
+    (r.0, (r.1.0, subst (SolvesAll (skeletons_of s.metavariables) (values (skeletons_of s.metavariables) is)) (sym e) tt))

@@ -1,0 +1,120 @@
+//! The laws of pattern unification with postponed equations, and of search, over canonical LF. They have no code: each function
+//! carries one law as its contract.
+#![tactic(auto)]
+
+ghost use Rattle.unification.specs.Laws.{FillingGoesThrough, FilledTermIsTyped, PuttingInKeeps, StepKeepsUnifiers, StepKeepsForm, RunKeepsUnifiers, RefutedIsNever, RunSolves, KeepingComposes, TypesOfSidesAgree, InversionIsTotal, BindingIsNotCircular, WellFormedHasUnifier, SolvedHasUnifier, SolvedIsMostGeneral, NeverGoesBack, TriedAreDeclared, OfferKeepsForm, SolvingGivesChild, ChildHasUnifier, LeafAnswers, AnswerIsTyped, NothingIsMissed};
+
+/// Filling goes through hereditary substitution.
+pub fn filling_goes_through()
+    ensures { FillingGoesThrough }
+{}
+
+/// A term typed up to the fillings of a typed store is typed under each typed unifier.
+pub fn filled_term_is_typed()
+    ensures { FilledTermIsTyped }
+{}
+
+/// Putting the bindings into a term keeps its type and its fillings.
+pub fn putting_in_keeps()
+    ensures { PuttingInKeeps }
+{}
+
+/// Each permitted step of unification keeps the typed unifiers.
+pub fn step_keeps_unifiers()
+    ensures { StepKeepsUnifiers }
+{}
+
+/// Each permitted step keeps a store well formed.
+pub fn step_keeps_form()
+    ensures { StepKeepsForm }
+{}
+
+/// A run of steps keeps the typed unifiers and the form of the store.
+pub fn run_keeps_unifiers()
+    ensures { RunKeepsUnifiers }
+{}
+
+/// What a run of steps refutes has no typed unifier.
+pub fn refuted_is_never()
+    ensures { RefutedIsNever }
+{}
+
+/// A run of steps ends in an answer of solving.
+pub fn run_solves()
+    ensures { RunSolves }
+{}
+
+/// Keeping the typed unifiers is reflexive and transitive.
+pub fn keeping_composes()
+    ensures { KeepingComposes }
+{}
+
+/// A term has one atomic type, so the equation between the types of two equal sides holds.
+pub fn types_of_sides_agree()
+    ensures { TypesOfSidesAgree }
+{}
+
+/// Inversion has an answer on every term.
+pub fn inversion_is_total()
+    ensures { InversionIsTotal }
+{}
+
+/// A metavariable that can be bound is not reached from its value.
+pub fn binding_is_not_circular()
+    ensures { BindingIsNotCircular }
+{}
+
+/// A well-formed store without equations has a typed unifier.
+pub fn well_formed_has_unifier()
+    ensures { WellFormedHasUnifier }
+{}
+
+/// What is solved has a typed unifier.
+pub fn solved_has_unifier()
+    ensures { SolvedHasUnifier }
+{}
+
+/// The bindings of what is solved are most general.
+pub fn solved_is_most_general()
+    ensures { SolvedIsMostGeneral }
+{}
+
+/// Where the typed unifiers are kept, a store has none if and only if the other has none.
+pub fn never_goes_back()
+    ensures { NeverGoesBack }
+{}
+
+/// The constants that a search tries are the declared ones, the oldest first, each once.
+pub fn tried_are_declared()
+    ensures { TriedAreDeclared }
+{}
+
+/// To offer a head to a hole keeps a store well formed.
+pub fn offer_keeps_form()
+    ensures { OfferKeepsForm }
+{}
+
+/// The store that solving leaves makes a child of the search.
+pub fn solving_gives_child()
+    ensures { SolvingGivesChild }
+{}
+
+/// A child where nothing is postponed has a typed unifier.
+pub fn child_has_unifier()
+    ensures { ChildHasUnifier }
+{}
+
+/// Each instance of a leaf that solves what is postponed there is an answer.
+pub fn leaf_answers()
+    ensures { LeafAnswers }
+{}
+
+/// The answer read off a leaf is a typed instance of its query.
+pub fn answer_is_typed()
+    ensures { AnswerIsTyped }
+{}
+
+/// A search that ended has each closed answer as an instance of a leaf.
+pub fn nothing_is_missed()
+    ensures { NothingIsMissed }
+{}
