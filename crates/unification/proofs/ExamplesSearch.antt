@@ -13,12 +13,13 @@ use Rattle.lf.specs.Syntax.{LfType, Term, app, atom, base, constant, metavariabl
 use Rattle.lf.specs.Typing.{Signature, IsSignature}
 use Rattle.unification.specs.OpenTyping.{Declares, MetavariablesInType, set_at, skeletons_of, OpenIsType}
 use Rattle.unification.specs.Offering.{atom_offered, quantifier_offered}
-use Rattle.unification.specs.Query.{Query, Searches, StopsAtAnswer, start}
+use Rattle.unification.specs.Query.{Query, Searches, StopsAtAnswer, at_last, none_asked, start}
 use Rattle.unification.specs.Reach.{TypeMentions}
-use Rattle.unification.specs.Search.{IsChild, IsInfinite, IsOutOfBudget, IsNode, Node, Offer, Pending, SearchStep, at_heads, at_node, declared_constants, begin_search, child, no_head, search_on, take_goal, take_leaf}
+use Rattle.unification.specs.Search.{IsChild, IsInfinite, IsOutOfBudget, IsNode, Node, Offer, Pending, SearchStep, at_heads, at_node, declared_constants, begin_search, child, is_due, no_head, search_on, take_goal, take_leaf}
 use Rattle.unification.specs.Skeletons.{as_head_skeletons, total_skeletons}
 use Rattle.unification.specs.Scope.{MetavariablesInBindings}
 use Rattle.unification.specs.Unifiers.{Binding}
+use Rattle.unification.specs.Steps.{no_step}
 use Rattle.unification.proofs.Agree.{set_here}
 use Rattle.unification.proofs.Offer.{decide, set_other}
 use Rattle.unification.proofs.Decompose.{keeps_unifiers_refl}
@@ -98,7 +99,7 @@ found_form : IsWellFormed Σ found.store
 found_form = offer_form Σ (canonical_is_signature entries canonical) (start query) 0 [] 0 nil (constant 1) unit found.store 1 start_form start_ok refl tt offer
 
 is_child : IsChild Σ found.store found.store
-is_child = record { keeps = keeps_unifiers_refl Σ [] found.store; left_over = tt; well_formed = found_form }
+is_child = record { run = no_step; keeps = keeps_unifiers_refl Σ [] found.store; left_over = tt; well_formed = found_form }
 
 -- one leaf after one try, and nothing is left to be searched
 pub search : Searches entries query (found ∷ []) 1 []
@@ -213,7 +214,7 @@ node_form zero = one_form Σ₂ (canonical_is_signature endless canonical₂) (h
 node_form (suc n) = offer_form Σ₂ (canonical_is_signature endless canonical₂) (node_at n) n [] 0 nil (constant 1) (pi unit unit) (node_at (suc n)).store (suc (suc n)) (node_form n) (node_is n) (declared_to n n (omega arith)) (hole_free n n (omega arith)) (offer_at n)
 
 node_child : (n : ℕ) → IsChild Σ₂ (node_at n).store (node_at n).store
-node_child n = record { keeps = keeps_unifiers_refl Σ₂ [] (node_at n).store; left_over = tt; well_formed = node_form n }
+node_child n = record { run = no_step; keeps = keeps_unifiers_refl Σ₂ [] (node_at n).store; left_over = tt; well_formed = node_form n }
 
 step_at : (s : State) → SearchStep Σ₂ (declared_constants endless) (shown s) [] (tries_of s) (shown (next_state s))
 step_at (looks_at_node n) = take_goal refl (declared_to n n (omega arith))
@@ -223,13 +224,17 @@ abbrev endless_query : Query
 endless_query = record { metavariables = holes_to 0; next = 1; hole = 0; goal = unit; hole_of = refl; hole_apart = λ m A e o. subst (λ X. TypeMentions 0 X → ⊥) (all_unit 0 m A e) (λ x. x) o }
 
 -- after any number of steps there is one more, and no leaf is ever found
-pub endless_search : IsInfinite Σ₂ (declared_constants endless) (start endless_query)
-endless_search = record { agenda = λ k. shown (state_at k); leaves = λ k. []; tries = λ k. tries_of (state_at k); starts = refl; goes_on = λ k. step_at (state_at k) }
+pub endless_search : IsInfinite endless (at_node (start endless_query) ∷ [])
+endless_search = record { reached = λ k. shown (state_at k); leaves = λ k. []; tries = λ k. tries_of (state_at k); starts = refl; goes_on = λ k. step_at (state_at k) }
 
 -- with no try allowed the budget is spent before the first leaf
-pub no_try : IsOutOfBudget Σ₂ (declared_constants endless) (start endless_query) [] 0
-no_try = record { agenda = shown (looks_at_heads 0); run = search_on (step_at (looks_at_node 0)) begin_search; after = shown (looks_at_node 1); needs_try = step_at (looks_at_heads 0) }
+pub no_try : IsOutOfBudget endless (at_node (start endless_query) ∷ []) [] 0
+no_try = record { reached = shown (looks_at_heads 0); run = search_on (step_at (looks_at_node 0)) begin_search; due = is_due (offer_at 0) }
 
 -- the first search stops at its first answer
 pub first_answer : StopsAtAnswer entries query 1 (found ∷ []) 1
-first_answer = record { earlier = []; last = found; agenda = []; run = search; ends_with = refl; is_answer = refl; as_many = refl }
+first_answer = at_last (search_on (take_goal refl refl) (search_on (child offer is_child found_ok refl) begin_search)) refl refl
+
+-- where no answer is asked for nothing is tried
+pub no_answer : StopsAtAnswer entries query 0 [] 0
+no_answer = none_asked

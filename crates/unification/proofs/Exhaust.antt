@@ -13,7 +13,7 @@ use Rattle.unification.specs.Rigid.{Rigid, past_binders}
 use Rattle.unification.specs.Offering.{MetavariablesInLocals, lambda_over, pi_over, spine_equations}
 use Rattle.unification.specs.Skeletons.{TotalSkeletons, as_head_skeletons, total_skeletons, skeleton_or_default}
 use Rattle.lf.specs.Subordination.{Member}
-use Rattle.unification.specs.Search.{IsExhausted, IsNode, Node, Offer, OfferedHeadHasType, Pending, SearchRun, SearchStep, at_heads, at_node, begin_search, child, constant_heads, local_heads, no_child, no_head, other_target, search_on, take_goal, take_leaf}
+use Rattle.unification.specs.Search.{IsNode, Node, Offer, OfferedHeadHasType, Pending, SearchRun, SearchStep, at_heads, at_node, begin_search, child, constant_heads, local_heads, no_child, no_head, other_target, search_on, take_goal, take_leaf}
 use Rattle.unification.specs.Lists.{followed}
 use Rattle.unification.specs.Unifiers.{ExtendsFilling, Respects, Solution, SolvesAll, Store}
 use Rattle.lf.proofs.Decidability.{variable_type_unique}
@@ -279,7 +279,7 @@ module _ (Σ : Signature) (ok : IsSignature Σ) (cs : List ℕ) (all : (c : ℕ)
           later (inl f) = inl (to_right ls ls' top β f)
           later (inr k) = inr k
 
-  pub exhausted : {node : Node} {ls : List Node} {k : ℕ} → IsExhausted Σ cs node ls k → IsNode Σ node → (β : ℕ → Option Term) → Solution Σ [] node.store [] β → Found node β ls
+  pub exhausted : {node : Node} {ls : List Node} {k : ℕ} → SearchRun Σ cs (at_node node ∷ []) ls k [] → IsNode Σ node → (β : ℕ → Option Term) → Solution Σ [] node.store [] β → Found node β ls
   exhausted {node = node} {ls = ls} r w β s = go (run_keeps r node (from_itself Σ cs node w, tt) β (inl (β, (λ m A e. refl), s)))
     where
       go : Found node β ls ⊎ ⊥ → Found node β ls

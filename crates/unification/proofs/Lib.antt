@@ -58,3 +58,5 @@ pub mod Solving
 pub mod Reach
 pub mod Walk
 pub mod ExamplesSearch
+pub mod Due
+pub mod ExamplesSolving

@@ -4,7 +4,7 @@ use Rattle.lf.specs.Subordination.{Member}
 use Rattle.lf.specs.Syntax.{Term, LfType}
 use Rattle.lf.specs.Typing.{IsSignature, Signature}
 use Rattle.unification.specs.Query.{IsAnswer, OfLeaf, Query, start}
-use Rattle.unification.specs.Search.{IsExhausted, IsNode, Node, Pending, SearchRun, at_node}
+use Rattle.unification.specs.Search.{IsNode, Node, Pending, SearchRun, at_node}
 use Rattle.unification.specs.Unifiers.{ExtendsFilling, Solution}
 use Rattle.unification.proofs.Exhaust.{Found, exhausted}
 use Rattle.unification.proofs.Sound.{leaves_sound}
@@ -19,7 +19,7 @@ module _ (Σ : Signature) (ok : IsSignature Σ) (cs : List ℕ) (q : Query) (q_o
       (β, M, x, record { context = t.0.context; typed = t.0; is_proof = e; proves = m })
 
   -- each closed answer is an instance of a leaf
-  pub nothing_missed : ((c : ℕ) (A : LfType) → Σ.types c ≡ Some A → Member c cs) → {ls : List Node} {k : ℕ} → IsExhausted Σ cs (start q) ls k → (values : ℕ → Option Term) (proof : Term) → IsAnswer Σ q [] values proof → (l : Node) × Member l ls × OfLeaf Σ q l [] values
+  pub nothing_missed : ((c : ℕ) (A : LfType) → Σ.types c ≡ Some A → Member c cs) → {ls : List Node} {k : ℕ} → SearchRun Σ cs (at_node (start q) ∷ []) ls k [] → (values : ℕ → Option Term) (proof : Term) → IsAnswer Σ q [] values proof → (l : Node) × Member l ls × OfLeaf Σ q l [] values
   nothing_missed all {ls = ls} r values proof a =
       let f : Found Σ ok cs all (start q) values ls = exhausted Σ ok cs all r q_ok values (a.typed, (tt, tt)) in
-      (f.at, f.among, record { filling = f.value; instance = f.solution.0; bound = f.solution.1.0; extends = f.extends })
+      (f.at, f.among, record { filling = f.value; instance = f.solution.0; unifies = f.solution.1; extends = f.extends })

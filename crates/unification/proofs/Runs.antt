@@ -38,7 +38,7 @@ module _ (Σ : Signature) (ok : IsSignature Σ) where
   run_refuted w r n F β u = let (β', x, v) = (run_keeps_unifiers w r).complete F β u in refuted_never Σ ok [] n F β' v
 
   pub run_solved : {s s' : Store} → IsWellFormed Σ s → Run Σ [] s s' → s'.equations ≡ [] → Solved Σ s s'
-  run_solved w r e = record { keeps = run_keeps_unifiers w r; well_formed = run_form w r; none_left = e }
+  run_solved w r e = record { run = r; keeps = run_keeps_unifiers w r; well_formed = run_form w r; none_left = e }
 
   pub run_left : {s s' : Store} → IsWellFormed Σ s → Run Σ [] s s' → (s'.equations ≡ [] → ⊥) → AllLeftOver s.metavariables s' s'.equations → Left Σ s s'
-  run_left w r n a = record { keeps = run_keeps_unifiers w r; well_formed = run_form w r; some_left = n; all_left_over = a }
+  run_left w r n a = record { run = r; keeps = run_keeps_unifiers w r; well_formed = run_form w r; some_left = n; all_left_over = a }

@@ -2,18 +2,19 @@
 use Rattle.std.proofs.Common.{◌≡◌, ℕ, List, [], ◌∷◌, Option, Some, None, ◌⊎◌, inl, inr, refl, sym, ap, ◌∙◌, subst}
 use Rattle.lf.specs.Subordination.{Member}
 use Rattle.lf.specs.Syntax.{Term, LfType}
-use Rattle.lf.specs.Typing.{IsSignature, Signature}
+use Rattle.lf.specs.Typing.{IsContext, IsSignature, Signature}
 use Rattle.unification.specs.Dependency.{IsDependencyOrder, IsListed, Item, ValueIsOrdered, free_context, values}
 use Rattle.unification.specs.OpenTyping.{MetavariablesIn, skeletons_of}
-use Rattle.unification.specs.PartialInstance.{IsFilling, IsTypedStore}
+use Rattle.unification.specs.PartialInstance.{IsFilling, IsTypedStore, PartialInstance}
 use Rattle.unification.specs.Search.{IsChild}
 use Rattle.unification.specs.Solving.{AllLeftOver, BindingsAreListed, IsWellFormed, Left, Never, Solved, ValuesAreBindings}
 use Rattle.unification.specs.Putting.{Unbound}
-use Rattle.unification.specs.Unifiers.{Binding, BindingsAreTyped, Equation, KeepsUnifiers, MostGeneral, Solution, Store}
+use Rattle.unification.specs.Unifiers.{Binding, BindingsAreTyped, Equation, KeepsUnifiers, MostGeneral, Solution, Store, Unifies}
 use Rattle.unification.proofs.Answer.{answer_of}
+use Rattle.unification.proofs.Offer.{decide}
 use Rattle.unification.proofs.Partition.{in_both}
 use Rattle.unification.proofs.Scope.{in_weaker}
-use Rattle.unification.proofs.Typed.{AllOf}
+use Rattle.unification.proofs.Typed.{AllOf, values_typed}
 
 -- what is listed without a value
 abbrev pub IsFree : (ℕ → Option LfType) → List Item → ℕ → Type 0
@@ -90,6 +91,30 @@ pub well_formed_answer : (Σ : Signature) (ok : IsSignature Σ) (s : Store) (w :
 well_formed_answer Σ ok s w e = answer_of Σ ok s e w.order w.is_order w.all_listed w.bindings_listed (free_store Σ s w)
     (λ m l. free_or_bound Σ s.metavariables (IsFilling Σ [] s) s.bindings w.order w.order (λ x i. i) w.is_order w.values_bound m l)
 
+-- what is not bound, or is bound
+bound_or_not : (bs : List Binding) (m : ℕ) → Unbound bs m ⊎ ((b : Binding) × Member b bs × (m ≡ b.of))
+bound_or_not [] m = inl tt
+bound_or_not (b ∷ bs) m = go (decide m b.of) (bound_or_not bs m)
+  where
+    go : (m ≡ b.of) ⊎ (m ≡ b.of → ⊥) → Unbound bs m ⊎ ((c : Binding) × Member c bs × (m ≡ c.of)) → Unbound (b ∷ bs) m ⊎ ((c : Binding) × Member c (b ∷ bs) × (m ≡ c.of))
+    go (inl e) r = inr (b, inl refl, e)
+    go (inr n) (inl u) = inl (n, u)
+    go (inr n) (inr (c, i, e)) = inr (c, inr i, e)
+
+all_unbound_or_bound : (bs : List Binding) (m : ℕ) → AllOf (Unbound bs) bs m
+all_unbound_or_bound bs m = go (bound_or_not bs m)
+  where
+    go : Unbound bs m ⊎ ((b : Binding) × Member b bs × (m ≡ b.of)) → AllOf (Unbound bs) bs m
+    go (inl u) = unbound_is bs (Unbound bs) m u
+    go (inr (b, i, e)) = subst (AllOf (Unbound bs) bs) (sym e) (bound_is bs (Unbound bs) b i)
+
+-- THE theorem on well-formed stores: what unifies one and is typed at what is not bound is typed at all
+pub free_values_suffice : (Σ : Signature) (ok : IsSignature Σ) (s : Store) → IsWellFormed Σ s → (F : List LfType) (β : ℕ → Option Term) → IsContext Σ F → PartialInstance Σ [] s.metavariables (Unbound s.bindings) F β → Unifies s β → Solution Σ [] s F β
+free_values_suffice Σ ok s w F β context p u =
+    let fills : IsFilling Σ [] s β = (F, record { context = p.context; outer = p.outer; by_skeletons = p.by_skeletons; typed = λ m v. absurd v; plain_context = p.plain_context; plain_values = p.plain_values }, u) in
+    let full : PartialInstance Σ [] s.metavariables (AllOf (Unbound s.bindings) s.bindings) F β = values_typed Σ ok [] s.metavariables (IsFilling Σ [] s) w.typed.declarations_typed F β fills (Unbound s.bindings) s.bindings p u.0 w.typed.bindings_typed in
+    (record { context = context; outer = p.outer; typed = λ m. full.typed m (all_unbound_or_bound s.bindings m) }, u)
+
 -- what is solved has a typed unifier
 pub solved_unifier : (Σ : Signature) (ok : IsSignature Σ) (s s' : Store) → Solved Σ s s' → (F : List LfType) × (β : ℕ → Option Term) × Solution Σ [] s F β
 solved_unifier Σ ok s s' w =
@@ -110,13 +135,14 @@ keeps_most_general Σ G Ψ es s p = record {
 -- what solving answers is the child of a search
 pub solved_child : (Σ : Signature) (ok : IsSignature Σ) (s s' : Store) → Solved Σ s s' → IsChild Σ s s'
 solved_child Σ ok s s' w = record {
+  run = w.run;
   keeps = w.keeps;
   left_over = subst (AllLeftOver s.metavariables s') (sym w.none_left) tt;
   well_formed = w.well_formed;
 }
 
 pub left_child : (Σ : Signature) (s s' : Store) → Left Σ s s' → IsChild Σ s s'
-left_child Σ s s' w = record { keeps = w.keeps; left_over = w.all_left_over; well_formed = w.well_formed }
+left_child Σ s s' w = record { run = w.run; keeps = w.keeps; left_over = w.all_left_over; well_formed = w.well_formed }
 
 -- a child without equations has a typed unifier, and so has what was offered
 pub child_unifier : (Σ : Signature) (ok : IsSignature Σ) (s s' : Store) → IsChild Σ s s' → s'.equations ≡ [] → (F : List LfType) × (β : ℕ → Option Term) × Solution Σ [] s F β

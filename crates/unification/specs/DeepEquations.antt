@@ -6,7 +6,7 @@ use Rattle.lf.specs.Depth.{depth, type_depth}
 use Rattle.lf.specs.Subordination.{Member}
 use Rattle.lf.specs.Syntax.{Spine, Term, LfType, app, atom, lambda, metavariable, nil, pi, root}
 use Rattle.lf.specs.Typing.{Signature}
-use Rattle.unification.specs.Putting.{PutsIn, PutsInSpine, binders, put_at_bound, put_at_rigid, put_at_unbound, put_in_argument, put_nowhere, put_under_lambda}
+use Rattle.unification.specs.Putting.{PutsIn, PutsInSpine, PutsInType, binders, put_at_bound, put_at_rigid, put_at_unbound, put_in_argument, put_nowhere, put_under_lambda}
 use Rattle.unification.specs.Steps.{Run}
 use Rattle.unification.specs.Unifiers.{Binding, Equation, Store}
 
@@ -27,14 +27,19 @@ module _ (s : Store) where
   abbrev pub IsDeepTerm : ℕ → ℕ → Term → Type 0
   IsDeepTerm limit k M = (limit < depth M) ⊎ ((M' : Term) × (d : PutsIn s.metavariables s.bindings k M M') × PutHasDeep limit d)
 
-  -- a type counts as a term; its parts and indices may meet one
+  -- one of the arguments
   abbrev pub IsDeepSpine : ℕ → ℕ → Spine → Type 0
   IsDeepSpine limit k nil = ⊥
   IsDeepSpine limit k (app M S) = IsDeepTerm limit k M ⊎ IsDeepSpine limit k S
 
+  -- the type itself is deeper than the limit, as it is written or with the bindings put in
+  abbrev pub IsDeepWhole : ℕ → ℕ → LfType → Type 0
+  IsDeepWhole limit k A = (limit < type_depth A) ⊎ ((A' : LfType) × PutsInType s.metavariables s.bindings k A A' × (limit < type_depth A'))
+
+  -- a type counts as a term; its parts and indices may meet one
   abbrev pub IsDeepType : ℕ → ℕ → LfType → Type 0
-  IsDeepType limit k (pi A B) = (limit < type_depth (pi A B)) ⊎ IsDeepType limit k A ⊎ IsDeepType limit (suc k) B
-  IsDeepType limit k (atom a S) = (limit < type_depth (atom a S)) ⊎ IsDeepSpine limit k S
+  IsDeepType limit k (pi A B) = IsDeepWhole limit k (pi A B) ⊎ IsDeepType limit k A ⊎ IsDeepType limit (suc k) B
+  IsDeepType limit k (atom a S) = IsDeepWhole limit k (atom a S) ⊎ IsDeepSpine limit k S
 
   -- one of the types of a local context
   abbrev pub IsDeepContext : ℕ → List LfType → Type 0

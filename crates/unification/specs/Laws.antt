@@ -5,22 +5,22 @@ use Rattle.lf.specs.SkeletonTyping.{TermSkeleton}
 use Rattle.lf.specs.Substitution.{reduce, single, substitute}
 use Rattle.lf.specs.Subordination.{Member}
 use Rattle.lf.specs.Syntax.{Head, Skeleton, Spine, Term, LfType, atom}
-use Rattle.lf.specs.Typing.{HasType, IsSignature, Signature}
+use Rattle.lf.specs.Typing.{HasType, IsContext, IsSignature, Signature}
 use Rattle.unification.specs.Dependency.{free_context, values}
 use Rattle.unification.specs.Filling.{fill, fill_type, moved}
 use Rattle.unification.specs.Inversion.{Inversion}
 use Rattle.unification.specs.Offering.{pi_over}
 use Rattle.unification.specs.OpenTyping.{Declares, MetavariablesIn, OpenHasType, OpenIsType, skeletons_of}
 use Rattle.unification.specs.Outside.{CanBind}
-use Rattle.unification.specs.PartialInstance.{IsFilling, IsTypedStore}
+use Rattle.unification.specs.PartialInstance.{IsFilling, IsTypedStore, PartialInstance}
 use Rattle.unification.specs.Query.{IsAnswer, OfLeaf, Query, Searches, start}
 use Rattle.unification.specs.Reach.{IsReached}
-use Rattle.unification.specs.Search.{IsAscendingFrom, IsChild, IsNode, Node, Offer, Pending, declared_constants}
+use Rattle.unification.specs.Search.{IsAscendingFrom, IsChild, IsNode, Node, Offer, Pending, SearchStep, TryIsDue, declared_constants}
 use Rattle.unification.specs.Skeletons.{FillsBySkeletons, TotalSkeletons, as_head_skeletons}
 use Rattle.unification.specs.Solving.{AllLeftOver, IsWellFormed, Left, Never, Solved}
 use Rattle.unification.specs.Putting.{PutsIn, Unbound}
 use Rattle.unification.specs.Steps.{IsRefuted, Run, Step}
-use Rattle.unification.specs.Unifiers.{Binding, Equation, ExtendsFilling, KeepsUnifiers, MostGeneral, Solution, Store}
+use Rattle.unification.specs.Unifiers.{Binding, Equation, ExtendsFilling, KeepsUnifiers, MostGeneral, Solution, Store, Unifies}
 
 -- Filling and typing of open terms.
 
@@ -40,7 +40,7 @@ PuttingInKeeps = (Σ : Signature) → IsSignature Σ → (s : Store) → IsTyped
 
 -- Unification.
 
--- each permitted step keeps the typed unifiers
+-- each permitted step keeps the typed unifiers of a typed store
 abbrev pub StepKeepsUnifiers : Type 0
 StepKeepsUnifiers = (Σ : Signature) → IsSignature Σ → (G : List LfType) (before after : Store) → IsTypedStore Σ G (Unbound before.bindings) before → Step Σ G before after → KeepsUnifiers Σ G before after
 
@@ -52,11 +52,11 @@ StepKeepsForm = (Σ : Signature) → IsSignature Σ → (before after : Store) �
 abbrev pub RunKeepsUnifiers : Type 0
 RunKeepsUnifiers = (Σ : Signature) → IsSignature Σ → (before after : Store) → IsWellFormed Σ before → Run Σ [] before after → KeepsUnifiers Σ [] before after × IsWellFormed Σ after
 
--- what a run refutes has no typed unifier
+-- a well-formed store that a run refutes has no typed unifier
 abbrev pub RefutedIsNever : Type 0
 RefutedIsNever = (Σ : Signature) → IsSignature Σ → (before after : Store) → IsWellFormed Σ before → Run Σ [] before after → IsRefuted after → Never Σ [] before
 
--- a run to a store without equations solves; one to a store of which each equation is left over leaves them
+-- from a well-formed store, a run to a store without equations solves; one to a store with equations, each left over, leaves them
 abbrev pub RunSolves : Type 0
 RunSolves = (Σ : Signature) → IsSignature Σ → (before after : Store) → IsWellFormed Σ before → Run Σ [] before after →
     (after.equations ≡ [] → Solved Σ before after) × ((after.equations ≡ [] → ⊥) → AllLeftOver before.metavariables after after.equations → Left Σ before after)
@@ -83,17 +83,17 @@ BindingIsNotCircular = (Ψ : ℕ → Option LfType) (bs : List Binding) (D : Lis
 abbrev pub WellFormedHasUnifier : Type 0
 WellFormedHasUnifier = (Σ : Signature) → IsSignature Σ → (s : Store) (w : IsWellFormed Σ s) → s.equations ≡ [] → Solution Σ [] s (free_context (skeletons_of s.metavariables) w.order) (values (skeletons_of s.metavariables) w.order)
 
--- what is solved has a typed unifier, and so isn't never
+-- what is solved had a typed unifier, and so wasn't never
 abbrev pub SolvedHasUnifier : Type 0
 SolvedHasUnifier = (Σ : Signature) → IsSignature Σ → (before after : Store) → Solved Σ before after → ((F : List LfType) × (β : ℕ → Option Term) × Solution Σ [] before F β) × (Never Σ [] before → ⊥)
 
--- the bindings of what is solved, and of what is left relative to the equations left, are most general
+-- from a store without bindings, the bindings of what is solved, and of what is left relative to the equations left, are most general
 abbrev pub SolvedIsMostGeneral : Type 0
 SolvedIsMostGeneral = (Σ : Signature) (Ψ : ℕ → Option LfType) (given : List Equation) (after : Store) →
     (Solved Σ (record { metavariables = Ψ; bindings = []; equations = given }) after → MostGeneral Σ [] Ψ given after)
     × (Left Σ (record { metavariables = Ψ; bindings = []; equations = given }) after → MostGeneral Σ [] Ψ given after)
 
--- where the typed unifiers are kept, either store has none just where the other has none
+-- where the typed unifiers of a store are kept in another, either has none just where the other has none
 abbrev pub NeverGoesBack : Type 0
 NeverGoesBack = (Σ : Signature) (G : List LfType) (before after : Store) → KeepsUnifiers Σ G before after → (Never Σ G after → Never Σ G before) × (Never Σ G before → Never Σ G after)
 
@@ -103,29 +103,38 @@ NeverGoesBack = (Σ : Signature) (G : List LfType) (before after : Store) → Ke
 abbrev pub TriedAreDeclared : Type 0
 TriedAreDeclared = (entries : List Entry) → ((c : ℕ) (A : LfType) → (signature_of entries).types c ≡ Some A → Member c (declared_constants entries)) × ((c : ℕ) → Member c (declared_constants entries) → (A : LfType) × ((signature_of entries).types c ≡ Some A)) × IsAscendingFrom zero (declared_constants entries)
 
+-- a try is due just where the next step makes one
+abbrev pub DueIsTried : Type 0
+DueIsTried = (entries : List Entry) (agenda after : List Pending) (leaves : List Node) (tries : ℕ) → SearchStep (signature_of entries) (declared_constants entries) agenda leaves tries after → (TryIsDue (signature_of entries) agenda → tries ≡ 1) × (tries ≡ 1 → TryIsDue (signature_of entries) agenda)
+
 -- the store that solving leaves makes a child
 abbrev pub SolvingGivesChild : Type 0
 SolvingGivesChild = (Σ : Signature) → IsSignature Σ → (s s' : Store) → (Solved Σ s s' → IsChild Σ s s') × (Left Σ s s' → IsChild Σ s s')
 
--- each instance of a leaf that solves what is postponed there is an answer, in any context
+-- each typed unifier of a leaf, in any context, gives an answer; by the next law it needs to be typed at the free metavariables only
 abbrev pub LeafAnswers : Type 0
 LeafAnswers = (entries : List Entry) → IsCanonicalSignature entries → (q : Query) → IsNode (signature_of entries) (start q) → (leaves : List Node) (tries : ℕ) (agenda : List Pending) → Searches entries q leaves tries agenda → (l : Node) → Member l leaves → (F : List LfType) (β : ℕ → Option Term) → Solution (signature_of entries) [] l.store F β →
     (values : ℕ → Option Term) × (proof : Term) × ExtendsFilling q.metavariables values β × IsAnswer (signature_of entries) q F values proof
+
+-- from a well-formed query each leaf is well formed; so what is typed at the leaf's free metavariables, and unifies, is typed at all
+abbrev pub LeafIsTyped : Type 0
+LeafIsTyped = (entries : List Entry) → IsCanonicalSignature entries → (q : Query) → IsNode (signature_of entries) (start q) → IsWellFormed (signature_of entries) (start q).store → (leaves : List Node) (tries : ℕ) (agenda : List Pending) → Searches entries q leaves tries agenda → (l : Node) → Member l leaves →
+    IsWellFormed (signature_of entries) l.store × ((F : List LfType) (β : ℕ → Option Term) → IsContext (signature_of entries) F → PartialInstance (signature_of entries) [] l.store.metavariables (Unbound l.store.bindings) F β → Unifies l.store β → Solution (signature_of entries) [] l.store F β)
 
 -- to offer a head to a hole that is not bound keeps a store well formed
 abbrev pub OfferKeepsForm : Type 0
 OfferKeepsForm = (Σ : Signature) → IsSignature Σ → (node : Node) (g : ℕ) (D : List LfType) (a : ℕ) (T : Spine) (h : Head) (A : LfType) (s : Store) (n : ℕ) → IsWellFormed Σ node.store → IsNode Σ node → node.store.metavariables g ≡ Some (pi_over D (atom a T)) → Unbound node.store.bindings g → Offer Σ node g D a T h A s n → IsWellFormed Σ s
 
--- a child where nothing is postponed has a typed unifier
+-- where nothing is postponed in a child, what was offered has a typed unifier
 abbrev pub ChildHasUnifier : Type 0
 ChildHasUnifier = (Σ : Signature) → IsSignature Σ → (s s' : Store) → IsChild Σ s s' → s'.equations ≡ [] → (F : List LfType) × (β : ℕ → Option Term) × Solution Σ [] s F β
 
--- the answer read off a leaf where nothing is postponed: the leaf's store is well formed, its free metavariables are the context, and
--- its values are those of the query's variables
+-- the answer read off a leaf where nothing is postponed, from a well-formed query: the leaf's store is well formed, its free metavariables
+-- are the context, and its values are those of the query's variables
 abbrev pub AnswerIsTyped : Type 0
 AnswerIsTyped = (entries : List Entry) → IsCanonicalSignature entries → (q : Query) → IsNode (signature_of entries) (start q) → IsWellFormed (signature_of entries) (start q).store → (leaves : List Node) (tries : ℕ) (agenda : List Pending) → Searches entries q leaves tries agenda → (l : Node) → Member l leaves → l.store.equations ≡ [] →
     (w : IsWellFormed (signature_of entries) l.store) × (shown : ℕ → Option Term) × (proof : Term) × ExtendsFilling q.metavariables shown (values (skeletons_of l.store.metavariables) w.order) × IsAnswer (signature_of entries) q (free_context (skeletons_of l.store.metavariables) w.order) shown proof
 
--- a search that ended has each closed answer as an instance of a leaf
+-- a search that ended has each closed answer as an instance of a leaf, where what is postponed holds
 abbrev pub NothingIsMissed : Type 0
 NothingIsMissed = (entries : List Entry) → IsCanonicalSignature entries → (q : Query) → IsNode (signature_of entries) (start q) → (leaves : List Node) (tries : ℕ) → Searches entries q leaves tries [] → (shown : ℕ → Option Term) (proof : Term) → IsAnswer (signature_of entries) q [] shown proof → (l : Node) × Member l leaves × OfLeaf (signature_of entries) q l [] shown

@@ -2,7 +2,7 @@
 use Rattle.std.specs.Prelude.{◌≡◌, ℕ, suc, List, [], ◌∷◌, Option}
 use Rattle.lf.specs.Rules.{Reduces}
 use Rattle.lf.specs.Subordination.{Member}
-use Rattle.lf.specs.Syntax.{Head, Spine, Term, LfType, app, constant, lambda, metavariable, nil, rename, root, variable}
+use Rattle.lf.specs.Syntax.{Head, Spine, Term, LfType, app, atom, constant, lambda, metavariable, nil, pi, rename, root, variable}
 use Rattle.unification.specs.OpenTyping.{skeletons_of}
 use Rattle.unification.specs.Rigid.{past_binders}
 use Rattle.unification.specs.Unifiers.{Binding}
@@ -37,3 +37,8 @@ module _ (Ψ : ℕ → Option LfType) (bs : List Binding) where
     pub data PutsInSpine : ℕ → Spine → Spine → Type 0 where
       put_nowhere : {k : ℕ} → PutsInSpine k nil nil
       put_in_argument : {k : ℕ} {M M' : Term} {S S' : Spine} → PutsIn k M M' → PutsInSpine k S S' → PutsInSpine k (app M S) (app M' S')
+
+  -- the same in a type
+  pub data PutsInType : ℕ → LfType → LfType → Type 0 where
+    put_in_atom : {k a : ℕ} {S S' : Spine} → PutsInSpine k S S' → PutsInType k (atom a S) (atom a S')
+    put_in_pi : {k : ℕ} {A A' B B' : LfType} → PutsInType k A A' → PutsInType (suc k) B B' → PutsInType k (pi A B) (pi A' B')

@@ -1,13 +1,14 @@
 -- A query: its variables and the hole of its goal are metavariables in the empty context. An answer is an instance of these.
-use Rattle.std.specs.Prelude.{◌≡◌, ℕ, List, [], ◌∷◌, length, Option, Some}
-use Rattle.lf.specs.Entries.{Entry, signature_of}
+use Rattle.std.specs.Prelude.{◌≡◌, ℕ, suc, List, [], ◌∷◌, length, Option, Some}
+use Rattle.lf.specs.Entries.{Entry}
 use Rattle.lf.specs.Syntax.{Term, LfType}
 use Rattle.lf.specs.Typing.{HasType, IsContext, Signature}
 use Rattle.unification.specs.Filling.{fill_type}
+use Rattle.unification.specs.Lists.{followed}
 use Rattle.unification.specs.OpenTyping.{IsInstance, skeletons_of}
 use Rattle.unification.specs.Reach.{TypeMentions}
-use Rattle.unification.specs.Search.{Node, Pending, SearchRun, answer_leaves, at_node, declared_constants}
-use Rattle.unification.specs.Unifiers.{ExtendsFilling, Respects}
+use Rattle.unification.specs.Search.{Node, Pending, SearchesFrom, answer_leaves, at_node}
+use Rattle.unification.specs.Unifiers.{ExtendsFilling, Unifies}
 
 -- the metavariables, the next free number, the hole, which is in no type, and the goal
 pub record Query : Type 0 where
@@ -22,9 +23,9 @@ pub record Query : Type 0 where
 abbrev pub start : Query → Node
 start q = record { store = record { metavariables = q.metavariables; bindings = []; equations = [] }; next = q.next; goals = q.hole ∷ [] }
 
--- The search of a query over canonical LF: all declared constants are tried, the oldest first.
+-- the search of a query, from its root
 abbrev pub Searches : List Entry → Query → List Node → ℕ → List Pending → Type 0
-Searches entries q leaves tries agenda = SearchRun (signature_of entries) (declared_constants entries) (at_node (start q) ∷ []) leaves tries agenda
+Searches entries q leaves tries agenda = SearchesFrom entries (at_node (start q) ∷ []) leaves tries agenda
 
 -- A context, values of the query's variables that are typed in it, and a proof of the goal under them.
 pub record IsAnswer (Σ : Signature) (q : Query) (F : List LfType) (values : ℕ → Option Term) (proof : Term) : Type 0 where
@@ -33,19 +34,18 @@ pub record IsAnswer (Σ : Signature) (q : Query) (F : List LfType) (values : ℕ
   pub is_proof : values q.hole ≡ Some proof
   pub proves : HasType Σ F proof (fill_type (skeletons_of q.metavariables) values q.goal)
 
--- Values that are an instance of a leaf: they fill the leaf's metavariables, and what the leaf binds has the bound term, filled.
+-- Values that are an instance of a leaf: they fill the leaf's metavariables, what the leaf binds has the bound term, filled, and the
+-- equations that are postponed there hold.
 pub record OfLeaf (Σ : Signature) (q : Query) (l : Node) (F : List LfType) (values : ℕ → Option Term) : Type 0 where
   pub filling : ℕ → Option Term
   pub instance : IsInstance Σ [] l.store.metavariables F filling
-  pub bound : Respects (skeletons_of l.store.metavariables) filling l.store.bindings
+  pub unifies : Unifies l.store filling
   pub extends : ExtendsFilling q.metavariables values filling
 
--- A search that stopped at its t-th answer: just so many of its leaves are answers, the last leaf among them.
-pub record StopsAtAnswer (entries : List Entry) (q : Query) (t : ℕ) (leaves : List Node) (tries : ℕ) : Type 0 where
-  pub earlier : List Node
-  pub last : Node
-  pub agenda : List Pending
-  pub run : Searches entries q leaves tries agenda
-  pub ends_with : leaves ≡ Rattle.unification.specs.Lists.followed earlier (last ∷ [])
-  pub is_answer : last.store.equations ≡ []
-  pub as_many : length (answer_leaves leaves) ≡ t
+-- A search that stops at its t-th answer, with its leaves and its number of tries. None is asked for: no leaf, and no try. Else the run
+-- comes to a node that is an answer, with t - 1 answers among the earlier leaves, and it goes no further.
+pub data StopsAtAnswer (entries : List Entry) (q : Query) : ℕ → List Node → ℕ → Type 0 where
+  none_asked : StopsAtAnswer entries q 0 [] 0
+  at_last : {earlier : List Node} {last : Node} {tries : ℕ} {agenda : List Pending} →
+      Searches entries q earlier tries (at_node last ∷ agenda) → last.goals ≡ [] → last.store.equations ≡ [] →
+      StopsAtAnswer entries q (suc (length (answer_leaves earlier))) (followed earlier (last ∷ [])) tries

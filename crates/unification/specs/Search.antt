@@ -1,7 +1,7 @@
 -- Search in depth, without a trail and without continuations: an agenda of what is still to be searched, its steps, and their runs. An infinite
 -- search has runs of every length; one that ends has a run to the empty agenda. All metavariables stand in the empty context.
 use Rattle.std.specs.Prelude.{◌≡◌, ℕ, zero, suc, ◌+◌, ◌≤◌, List, [], ◌∷◌, length, Some, Bool, true, false}
-use Rattle.lf.specs.Entries.{Body, Entry, declare_constant, declare_definition, declare_family}
+use Rattle.lf.specs.Entries.{Body, Entry, declare_constant, declare_definition, declare_family, signature_of}
 use Rattle.lf.specs.SkeletonTyping.{TypeBySkeletons}
 use Rattle.lf.specs.Skeletons.{context_skeletons, family_skeletons}
 use Rattle.lf.specs.Syntax.{Head, Kind, Spine, Term, LfType, app, atom, constant, lambda, metavariable, nil, pi, root, skeleton, variable}
@@ -14,6 +14,7 @@ use Rattle.unification.specs.Patterns.{skeleton_target}
 use Rattle.unification.specs.Scope.{IsScoped}
 use Rattle.unification.specs.Skeletons.{as_head_skeletons, total_skeletons}
 use Rattle.unification.specs.Solving.{AllLeftOver, IsWellFormed, Never}
+use Rattle.unification.specs.Steps.{Run}
 use Rattle.unification.specs.Unifiers.{Equation, KeepsUnifiers, Store}
 
 -- one of two truths
@@ -109,9 +110,10 @@ pub record Offer (Σ : Signature) (node : Node) (g : ℕ) (D : List LfType) (a :
   pub bindings : s.bindings ≡ record { of = g; value = lambda_over D (root h spine) } ∷ node.store.bindings
   pub equations : s.equations ≡ followed node.store.equations (spine_equations D kind T indices)
 
--- A child: what was offered, after unification. The typed unifiers are kept, each equation that is postponed is outside the pattern
--- fragment, and the store is well formed; so where no equation is postponed there is a typed unifier.
+-- A child: what was offered, after permitted steps of unification. The typed unifiers are kept, each equation that is postponed is outside
+-- the pattern fragment, and the store is well formed; so where no equation is postponed there is a typed unifier.
 pub record IsChild (Σ : Signature) (s s' : Store) : Type 0 where
+  pub run : Run Σ [] s s'
   pub keeps : KeepsUnifiers Σ [] s s'
   pub left_over : AllLeftOver s.metavariables s' s'.equations
   pub well_formed : IsWellFormed Σ s'
@@ -152,24 +154,33 @@ module _ (Σ : Signature) (constants : List ℕ) where
     search_on : {agenda agenda' agenda'' : List Pending} {leaves leaves' : List Node} {tries tries' : ℕ} →
         SearchStep agenda leaves tries agenda' → SearchRun agenda' leaves' tries' agenda'' → SearchRun agenda (followed leaves leaves') (tries + tries') agenda''
 
-  -- a search that ended: its tree is exhausted
-  abbrev pub IsExhausted : Node → List Node → ℕ → Type 0
-  IsExhausted node leaves tries = SearchRun (at_node node ∷ []) leaves tries []
+-- A try is due: at the first of the agenda there is a head that is to be offered to the goal's hole. What comes of it is not asked.
+pub data TryIsDue (Σ : Signature) : List Pending → Type 0 where
+  is_due : {node : Node} {rest : List Pending} {g : ℕ} {gs : List ℕ} {D : List LfType} {a : ℕ} {T : Spine} {h : Head} {hs : List Head} {A : LfType} {s : Store} {n : ℕ} →
+      Offer Σ node g D a T h A s n → TryIsDue Σ (at_heads node g gs D a T (h ∷ hs) ∷ rest)
 
-  -- a search that made as many tries as the budget allows, and needs one more before its next leaf or its end
-  pub record IsOutOfBudget (node : Node) (leaves : List Node) (budget : ℕ) : Type 0 where
-    pub agenda : List Pending
-    pub run : SearchRun (at_node node ∷ []) leaves budget agenda
-    pub after : List Pending
-    pub needs_try : SearchStep agenda [] 1 after
+-- The search over canonical LF, from an agenda: all declared constants are tried, the oldest first.
+abbrev pub SearchesFrom : List Entry → List Pending → List Node → ℕ → List Pending → Type 0
+SearchesFrom entries agenda leaves tries after = SearchRun (signature_of entries) (declared_constants entries) agenda leaves tries after
 
-  -- a search without an end: after any number of steps there is one more
-  pub record IsInfinite (node : Node) : Type 0 where
-    pub agenda : ℕ → List Pending
-    pub leaves : ℕ → List Node
-    pub tries : ℕ → ℕ
-    pub starts : agenda zero ≡ at_node node ∷ []
-    pub goes_on : (n : ℕ) → SearchStep (agenda n) (leaves n) (tries n) (agenda (suc n))
+-- a search that ended: its tree is exhausted
+abbrev pub IsExhausted : List Entry → List Pending → List Node → ℕ → Type 0
+IsExhausted entries agenda leaves tries = SearchesFrom entries agenda leaves tries []
+
+-- A search that made as many tries as the budget allows, where one more is due before its next leaf or its end. `agenda` is where the
+-- search was started, `reached` where it stopped.
+pub record IsOutOfBudget (entries : List Entry) (agenda : List Pending) (leaves : List Node) (budget : ℕ) : Type 0 where
+  pub reached : List Pending
+  pub run : SearchesFrom entries agenda leaves budget reached
+  pub due : TryIsDue (signature_of entries) reached
+
+-- a search without an end: after any number of steps there is one more
+pub record IsInfinite (entries : List Entry) (agenda : List Pending) : Type 0 where
+  pub reached : ℕ → List Pending
+  pub leaves : ℕ → List Node
+  pub tries : ℕ → ℕ
+  pub starts : reached zero ≡ agenda
+  pub goes_on : (n : ℕ) → SearchStep (signature_of entries) (declared_constants entries) (reached n) (leaves n) (tries n) (reached (suc n))
 
 -- a leaf is an answer where it has no equation
 abbrev pub without_equations : Node → List Equation → List Node → List Node

@@ -9,6 +9,7 @@ use Rattle.unification.specs.Outside.{Outside}
 use Rattle.unification.specs.PartialInstance.{IsFilling, IsTypedStore}
 use Rattle.unification.specs.Putting.{PutsIn, Unbound, binders}
 use Rattle.unification.specs.Reach.{IsInside}
+use Rattle.unification.specs.Steps.{Run}
 use Rattle.unification.specs.Unifiers.{Binding, Equation, KeepsUnifiers, Solution, Store}
 
 -- each binding is the value of a listed metavariable
@@ -35,9 +36,10 @@ pub record IsWellFormed (Σ : Signature) (s : Store) : Type 0 where
 abbrev pub Never : Signature → List LfType → Store → Type 0
 Never Σ G s = (F : List LfType) (β : ℕ → Option Term) → Solution Σ G s F β → ⊥
 
--- Solved: the typed unifiers are kept, so that the bindings are most general; nothing is left, and the store is well formed, so that
--- there is a typed unifier.
+-- Solved: permitted steps lead there. The typed unifiers are kept, so that the bindings are most general; nothing is left, and the store
+-- is well formed, so that there is a typed unifier.
 pub record Solved (Σ : Signature) (before after : Store) : Type 0 where
+  pub run : Run Σ [] before after
   pub keeps : KeepsUnifiers Σ [] before after
   pub well_formed : IsWellFormed Σ after
   pub none_left : after.equations ≡ []
@@ -58,8 +60,10 @@ abbrev pub AllLeftOver : (ℕ → Option LfType) → Store → List Equation →
 AllLeftOver given s [] = Unit {0}
 AllLeftOver given s (e ∷ es) = LeftOver given s e × AllLeftOver given s es
 
--- Left: the bindings are most general relative to equations that are all left over.
+-- Left: permitted steps lead there, so that no metavariable is added without need. The bindings are most general relative to equations
+-- that are all left over.
 pub record Left (Σ : Signature) (before after : Store) : Type 0 where
+  pub run : Run Σ [] before after
   pub keeps : KeepsUnifiers Σ [] before after
   pub well_formed : IsWellFormed Σ after
   pub some_left : after.equations ≡ [] → ⊥

@@ -2,7 +2,7 @@
 //! carries one law as its contract.
 #![tactic(auto)]
 
-ghost use Rattle.unification.specs.Laws.{FillingGoesThrough, FilledTermIsTyped, PuttingInKeeps, StepKeepsUnifiers, StepKeepsForm, RunKeepsUnifiers, RefutedIsNever, RunSolves, KeepingComposes, TypesOfSidesAgree, InversionIsTotal, BindingIsNotCircular, WellFormedHasUnifier, SolvedHasUnifier, SolvedIsMostGeneral, NeverGoesBack, TriedAreDeclared, OfferKeepsForm, SolvingGivesChild, ChildHasUnifier, LeafAnswers, AnswerIsTyped, NothingIsMissed};
+ghost use Rattle.unification.specs.Laws.{FillingGoesThrough, FilledTermIsTyped, PuttingInKeeps, StepKeepsUnifiers, StepKeepsForm, RunKeepsUnifiers, RefutedIsNever, RunSolves, KeepingComposes, TypesOfSidesAgree, InversionIsTotal, BindingIsNotCircular, WellFormedHasUnifier, SolvedHasUnifier, SolvedIsMostGeneral, NeverGoesBack, TriedAreDeclared, DueIsTried, OfferKeepsForm, SolvingGivesChild, ChildHasUnifier, LeafAnswers, LeafIsTyped, AnswerIsTyped, NothingIsMissed};
 
 /// Filling goes through hereditary substitution.
 pub fn filling_goes_through()
@@ -19,7 +19,7 @@ pub fn putting_in_keeps()
     ensures { PuttingInKeeps }
 {}
 
-/// Each permitted step of unification keeps the typed unifiers.
+/// Each permitted step of unification keeps the typed unifiers of a typed store.
 pub fn step_keeps_unifiers()
     ensures { StepKeepsUnifiers }
 {}
@@ -29,17 +29,17 @@ pub fn step_keeps_form()
     ensures { StepKeepsForm }
 {}
 
-/// A run of steps keeps the typed unifiers and the form of the store.
+/// A run of steps from a well-formed store keeps the typed unifiers and the form.
 pub fn run_keeps_unifiers()
     ensures { RunKeepsUnifiers }
 {}
 
-/// What a run of steps refutes has no typed unifier.
+/// A well-formed store that a run of steps refutes has no typed unifier.
 pub fn refuted_is_never()
     ensures { RefutedIsNever }
 {}
 
-/// A run of steps ends in an answer of solving.
+/// A run of steps from a well-formed store solves it where no equation is left, and leaves the others where each is left over.
 pub fn run_solves()
     ensures { RunSolves }
 {}
@@ -64,17 +64,18 @@ pub fn binding_is_not_circular()
     ensures { BindingIsNotCircular }
 {}
 
-/// A well-formed store without equations has a typed unifier.
+/// A well-formed store without equations has a typed unifier, read off its order of dependency.
 pub fn well_formed_has_unifier()
     ensures { WellFormedHasUnifier }
 {}
 
-/// What is solved has a typed unifier.
+/// What is solved had a typed unifier.
 pub fn solved_has_unifier()
     ensures { SolvedHasUnifier }
 {}
 
-/// The bindings of what is solved are most general.
+/// From a store without bindings, the bindings of what is solved are most general, and those of what is left are so relative to the
+/// equations left.
 pub fn solved_is_most_general()
     ensures { SolvedIsMostGeneral }
 {}
@@ -89,7 +90,12 @@ pub fn tried_are_declared()
     ensures { TriedAreDeclared }
 {}
 
-/// To offer a head to a hole keeps a store well formed.
+/// A try is due just where the next step of a search makes one.
+pub fn due_is_tried()
+    ensures { DueIsTried }
+{}
+
+/// To offer a head to a hole that is not bound keeps a store well formed.
 pub fn offer_keeps_form()
     ensures { OfferKeepsForm }
 {}
@@ -99,22 +105,27 @@ pub fn solving_gives_child()
     ensures { SolvingGivesChild }
 {}
 
-/// A child where nothing is postponed has a typed unifier.
+/// Where nothing is postponed in a child, what was offered has a typed unifier.
 pub fn child_has_unifier()
     ensures { ChildHasUnifier }
 {}
 
-/// Each instance of a leaf that solves what is postponed there is an answer.
+/// Each typed unifier of a leaf gives an answer.
 pub fn leaf_answers()
     ensures { LeafAnswers }
 {}
 
-/// The answer read off a leaf is a typed instance of its query.
+/// From a well-formed query each leaf is well formed: what unifies it and is typed at its free metavariables is typed at all.
+pub fn leaf_is_typed()
+    ensures { LeafIsTyped }
+{}
+
+/// From a well-formed query, the answer read off a leaf where nothing is postponed is a typed instance of the query.
 pub fn answer_is_typed()
     ensures { AnswerIsTyped }
 {}
 
-/// A search that ended has each closed answer as an instance of a leaf.
+/// A search that ended has each closed answer as an instance of a leaf, where what is postponed holds.
 pub fn nothing_is_missed()
     ensures { NothingIsMissed }
 {}
