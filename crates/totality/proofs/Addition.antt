@@ -9,7 +9,7 @@ use Rattle.totality.specs.Clause.{Clause, IsClause, IsSubgoal, constant_clause, 
 use Rattle.totality.specs.Descent.{CallDescends}
 use Rattle.totality.specs.Cover.{AreTerms, CoveredBy, CoveredInputs, CoveredOutputs, OutputsCovered, by_constant}
 use Rattle.totality.specs.Modes.{AllGround, EachHypothesis, InFreePlace, WellModed, WellModedTo, occurs_at}
-use Rattle.totality.specs.Examples.{Addition, AdditionLasts, addition_kinds, addition_marks, addition_record, addition_types, first_below_second, first_place, nat, on_three, plus_kind, plus_s, plus_z, successor, second_moded, var, z, NumbersHaveSums}
+use Rattle.totality.specs.Examples.{Addition, AdditionLasts, AdditionStaysChecked, Later, later_kinds, later_types, addition_kinds, addition_marks, addition_record, addition_types, first_below_second, first_place, nat, on_three, plus_kind, plus_s, plus_z, successor, var, z, NumbersHaveSums}
 use Rattle.std.proofs.Common.{◌≡◌, ℕ, zero, suc, List, [], ◌∷◌, ◌<◌, refl, sym, ap, ap₂, ◌∙◌, subst, arith, inl, inr, true≢false}
 use Rattle.std.specs.Prelude.{Bool, true, false, ◌⊎◌, Some}
 use Rattle.lf.specs.Syntax.{constant, variable, metavariable, Term, Spine, lambda, root, nil, app, LfType, Kind, pi, atom, star, base}
@@ -22,7 +22,8 @@ use Rattle.lf.specs.Extension.{Extends}
 use Rattle.lf.proofs.Target.{target_of, target_renamed}
 use Rattle.lf.proofs.Decidability.{variable_type_unique}
 use Rattle.totality.proofs.After.{record_made, lasting_total}
-use Rattle.totality.proofs.ExampleLemmas.{step, below_itself, below_through}
+use Rattle.totality.proofs.Stays.{stays_checked}
+use Rattle.totality.proofs.ExampleLemmas.{step, below_itself, same_below, in_group}
 
 abbrev plus_goal : LfType
 plus_goal = on_three 1 (var 3) (var 2) (var 1)
@@ -33,47 +34,49 @@ some_type e = cc
 some_kind : {A B : Kind} → Some A ≡ Some B → A ≡ B
 some_kind e = cc
 
-nat_ok : (G : List LfType) → IsType Addition G nat
-nat_ok G = (star, refl, tt)
+-- a signature with the declarations of addition
+module _ (Σ : Signature) (k0 : Σ.kinds 0 ≡ Some star) (k1 : Σ.kinds 1 ≡ Some plus_kind) (t0 : Σ.types 0 ≡ Some nat) (t1 : Σ.types 1 ≡ Some (pi nat nat)) where
+  nat_ok : (G : List LfType) → IsType Σ G nat
+  nat_ok G = (star, k0, tt)
 
-plus_ok : (G : List LfType) (M N P : Term) → HasType Addition G M nat → HasType Addition G N nat → HasType Addition G P nat → IsType Addition G (on_three 1 M N P)
-plus_ok G M N P m n p = (plus_kind, refl, (m, (n, (p, tt))))
+  plus_ok : (G : List LfType) (M N P : Term) → HasType Σ G M nat → HasType Σ G N nat → HasType Σ G P nat → IsType Σ G (on_three 1 M N P)
+  plus_ok G M N P m n p = (plus_kind, k1, (m, (n, (p, tt))))
 
-var_ok : (G : List LfType) (i : ℕ) → TypeAt G i nat → HasType Addition G (var i) nat
-var_ok G i g = (nat, g, refl)
+  var_ok : (G : List LfType) (i : ℕ) → TypeAt G i nat → HasType Σ G (var i) nat
+  var_ok G i g = (nat, g, refl)
 
-s_ok : (G : List LfType) (M : Term) → HasType Addition G M nat → HasType Addition G (successor M) nat
-s_ok G M m = (pi nat nat, refl, (m, refl))
+  s_ok : (G : List LfType) (M : Term) → HasType Σ G M nat → HasType Σ G (successor M) nat
+  s_ok G M m = (pi nat nat, t1, (m, refl))
 
-types_ok : (c : ℕ) (A : LfType) → addition_types c ≡ Some A → IsType Addition [] A
-types_ok zero A e = subst (IsType Addition []) (some_type e) (nat_ok [])
-types_ok (suc zero) A e = subst (IsType Addition []) (some_type e) (nat_ok [], nat_ok (nat ∷ []))
-types_ok (suc (suc zero)) A e = subst (IsType Addition []) (some_type e) (nat_ok [], plus_ok (nat ∷ []) z (var 0) (var 0) (nat, refl, refl) (var_ok (nat ∷ []) 0 refl) (var_ok (nat ∷ []) 0 refl))
-types_ok (suc (suc (suc zero))) A e =
-    let g3 : List LfType = nat ∷ nat ∷ nat ∷ [] in
-    let g4 : List LfType = on_three 1 (var 2) (var 1) (var 0) ∷ g3 in
-    subst (IsType Addition []) (some_type e) (
-      nat_ok [],
-      (
-        nat_ok (nat ∷ []),
+  types_ok : (c : ℕ) (A : LfType) → addition_types c ≡ Some A → IsType Σ [] A
+  types_ok zero A e = subst (IsType Σ []) (some_type e) (nat_ok [])
+  types_ok (suc zero) A e = subst (IsType Σ []) (some_type e) (nat_ok [], nat_ok (nat ∷ []))
+  types_ok (suc (suc zero)) A e = subst (IsType Σ []) (some_type e) (nat_ok [], plus_ok (nat ∷ []) z (var 0) (var 0) (nat, t0, refl) (var_ok (nat ∷ []) 0 refl) (var_ok (nat ∷ []) 0 refl))
+  types_ok (suc (suc (suc zero))) A e =
+      let g3 : List LfType = nat ∷ nat ∷ nat ∷ [] in
+      let g4 : List LfType = on_three 1 (var 2) (var 1) (var 0) ∷ g3 in
+      subst (IsType Σ []) (some_type e) (
+        nat_ok [],
         (
-          nat_ok (nat ∷ nat ∷ []),
+          nat_ok (nat ∷ []),
           (
-            plus_ok g3 (var 2) (var 1) (var 0) (var_ok g3 2 (nat, (nat, refl, refl), refl)) (var_ok g3 1 (nat, refl, refl)) (var_ok g3 0 refl),
-            plus_ok g4 (successor (var 3)) (var 2) (successor (var 1)) (s_ok g4 (var 3) (var_ok g4 3 (nat, (nat, (nat, refl, refl), refl), refl))) (var_ok g4 2 (nat, (nat, refl, refl), refl)) (s_ok g4 (var 1) (var_ok g4 1 (nat, refl, refl))),
+            nat_ok (nat ∷ nat ∷ []),
+            (
+              plus_ok g3 (var 2) (var 1) (var 0) (var_ok g3 2 (nat, (nat, refl, refl), refl)) (var_ok g3 1 (nat, refl, refl)) (var_ok g3 0 refl),
+              plus_ok g4 (successor (var 3)) (var 2) (successor (var 1)) (s_ok g4 (var 3) (var_ok g4 3 (nat, (nat, (nat, refl, refl), refl), refl))) (var_ok g4 2 (nat, (nat, refl, refl), refl)) (s_ok g4 (var 1) (var_ok g4 1 (nat, refl, refl))),
+            ),
           ),
         ),
-      ),
-    )
-types_ok (suc (suc (suc (suc n)))) A e = absurd cc
+      )
+  types_ok (suc (suc (suc (suc n)))) A e = absurd cc
 
-kinds_ok : (a : ℕ) (K : Kind) → addition_kinds a ≡ Some K → IsKind Addition [] K
-kinds_ok zero K e = subst (IsKind Addition []) (some_kind e) tt
-kinds_ok (suc zero) K e = subst (IsKind Addition []) (some_kind e) (nat_ok [], (nat_ok (nat ∷ []), (nat_ok (nat ∷ nat ∷ []), tt)))
-kinds_ok (suc (suc n)) K e = absurd cc
+  kinds_ok : (a : ℕ) (K : Kind) → addition_kinds a ≡ Some K → IsKind Σ [] K
+  kinds_ok zero K e = subst (IsKind Σ []) (some_kind e) tt
+  kinds_ok (suc zero) K e = subst (IsKind Σ []) (some_kind e) (nat_ok [], (nat_ok (nat ∷ []), (nat_ok (nat ∷ nat ∷ []), tt)))
+  kinds_ok (suc (suc n)) K e = absurd cc
 
 addition_ok : IsSignature Addition
-addition_ok = record { types_ok = types_ok; kinds_ok = kinds_ok }
+addition_ok = record { types_ok = types_ok Addition refl refl refl refl; kinds_ok = kinds_ok Addition refl refl refl refl }
 
 -- families below plus
 abbrev S : ℕ → Bool
@@ -257,7 +260,7 @@ sound : HasSoundMarks Addition 1 (addition_marks 1)
 sound = (plus_kind, refl, (tt, (tt, tt)))
 
 -- plus-z and plus-s are well-moded, each call descends
-z_moded : (n : ℕ) → WellModedTo n Addition addition_marks second_moded everything plus_z
+z_moded : (n : ℕ) → WellModedTo n Addition addition_marks in_group everything plus_z
 z_moded zero = tt
 z_moded (suc n) = (sound, (((refl, tt), tt), ground))
   where
@@ -265,9 +268,9 @@ z_moded (suc n) = (sound, (((refl, tt), tt), ground))
     ground zero e o = inl refl
     ground (suc x) e o = absurd cc
 
-s_moded : (n : ℕ) → WellModedTo n Addition addition_marks second_moded everything plus_s
+s_moded : (n : ℕ) → WellModedTo n Addition addition_marks in_group everything plus_s
 s_moded zero = tt
-s_moded (suc n) = (sound, step addition_marks plus_s (λ U A. HasSoundMarks Addition (target A) (addition_marks (target A)) × UsesGoal U (input_places (addition_marks (target A))) A × EachHypothesis (WellModedTo n Addition addition_marks second_moded) second_moded (scope plus_s) (outside plus_s.type plus_s.fixed) U A) (λ U. AllGround addition_marks plus_s U) 3 0 s_first plus_goal refl ((sound, ((refl, tt), ((refl, tt), tt)), tt), ((((refl, tt), tt), tt), ground)))
+s_moded (suc n) = (sound, step addition_marks plus_s (λ U A. HasSoundMarks Addition (target A) (addition_marks (target A)) × UsesGoal U (input_places (addition_marks (target A))) A × EachHypothesis (WellModedTo n Addition addition_marks in_group) in_group (scope plus_s) (outside plus_s.type plus_s.fixed) U A) (λ U. AllGround addition_marks plus_s U) 3 0 s_first plus_goal refl ((sound, ((refl, tt), ((refl, tt), tt)), tt), ((((refl, tt), tt), tt), ground)))
   where
     ground : (x : ℕ) → variables plus_s x ≡ true → outside plus_s.type everything x ≡ false → (s_next x ≡ true) ⊎ (occurs_at (free_places (addition_marks 1)) x (target_arguments plus_s.type) ≡ true) ⊎ InFreePlace addition_marks plus_s x
     ground zero e o = absurd cc
@@ -304,30 +307,9 @@ clauses_of P a b c (from_constant k U e) (inl g) = by k U e g
 clauses_of P a b c (from_constant k U e) (inr m) = absurd m
 clauses_of P a b c (from_entry B later E es i q) g = absurd i
 
--- the families below each are self-contained
-self_contained : (f : ℕ) → IsDeclared Addition f → SelfContained Addition [] (first_below_second f)
-self_contained zero d = record {
-  declared = λ a e. declared a e;
-  kinds_in = kinds_in;
-  types_in = types_in;
-  entries_in = λ B E m. absurd m;
-}
-  where
-    declared : (a : ℕ) → first_below_second 0 a ≡ true → IsDeclared Addition a
-    declared zero e = (star, refl)
-    declared (suc a) e = absurd cc
-
-    kinds_in : (a : ℕ) (K : Kind) → addition_kinds a ≡ Some K → first_below_second 0 a ≡ true → KindFamiliesIn (first_below_second 0) K
-    kinds_in zero K e s = subst (KindFamiliesIn (first_below_second 0)) (some_kind e) tt
-    kinds_in (suc a) K e s = absurd cc
-
-    types_in : (c : ℕ) (A : LfType) → addition_types c ≡ Some A → first_below_second 0 (target A) ≡ true → FamiliesIn (first_below_second 0) A
-    types_in zero A e s = subst (FamiliesIn (first_below_second 0)) (some_type e) refl
-    types_in (suc zero) A e s = subst (FamiliesIn (first_below_second 0)) (some_type e) (refl, refl)
-    types_in (suc (suc zero)) A e s = absurd (true≢false (sym s ∙ sym (ap (λ X. first_below_second 0 (target X)) (some_type e))))
-    types_in (suc (suc (suc zero))) A e s = absurd (true≢false (sym s ∙ sym (ap (λ X. first_below_second 0 (target X)) (some_type e))))
-    types_in (suc (suc (suc (suc n)))) A e s = absurd cc
-self_contained (suc zero) d = record {
+-- the families below the second are self-contained
+self_contained : SelfContained Addition [] (first_below_second 1)
+self_contained = record {
   declared = declared;
   kinds_in = kinds_in;
   types_in = types_in;
@@ -350,37 +332,85 @@ self_contained (suc zero) d = record {
     types_in (suc (suc zero)) A e s = subst (FamiliesIn (first_below_second 1)) (some_type e) (refl, refl)
     types_in (suc (suc (suc zero))) A e s = subst (FamiliesIn (first_below_second 1)) (some_type e) (refl, (refl, (refl, (refl, refl))))
     types_in (suc (suc (suc (suc n)))) A e s = absurd cc
-self_contained (suc (suc f)) (K, e) = absurd cc
 
 group_is_one : {f : ℕ} → Member f (1 ∷ []) → f ≡ 1
 group_is_one (inl e) = e
 group_is_one (inr m) = absurd m
 
+to_group : {f : ℕ} → f ≡ 1 → IsCallee addition_record [] 1 f
+to_group e = ((λ i. same_below e, λ Q q. absurd q), inl (inl e))
+
 marked : HasTotalMarks Addition 1 (addition_marks 1)
 marked = (sound, tt)
 
-plus_checked : GroupChecked Addition addition_record second_moded first_place []
+plus_checked : GroupChecked Addition addition_record first_place []
 plus_checked = record {
   marked = λ f i. subst (λ a. HasTotalMarks Addition a (addition_marks a)) (sym (group_is_one i)) marked;
   blocks_typed = λ B i. absurd i;
-  subordination = record { itself = below_itself; through = below_through; self_contained = self_contained };
+  same_before = λ Q q. absurd q;
+  itself_below = λ f i. below_itself f;
+  self_contained = λ f i. subst (λ a. SelfContained Addition [] (first_below_second a)) (sym (group_is_one i)) self_contained;
   frozen = record {
     families_frozen = λ f i. ap (first_below_second 1) (group_is_one i);
     targets_frozen = λ B E m. absurd m;
     below_frozen = λ f i b e. ap (λ a. first_below_second a b) (sym (group_is_one i)) ∙ e;
-    self_contained = self_contained 1 (plus_kind, refl);
+    self_contained = self_contained;
   };
   orders_at_inputs = λ f i. subst (λ a. IsAtPlaces (input_places (addition_marks a)) (place 1)) (sym (group_is_one i)) refl;
-  well_moded = clauses_of (λ c. WellModed Addition addition_marks second_moded c) z_moded s_moded;
+  well_moded = clauses_of (λ c. WellModed Addition addition_marks in_group c) z_moded s_moded;
   well_worlded = clauses_of (λ c. WellWorlded Addition [] c) (λ i A h. absurd (no_subgoal i A h)) (λ i A h. subst (λ X. IsSequence Addition [] (scope plus_s) (binders [] X)) (sym (the_subgoal i A h)) no_instance);
-  callees = clauses_of (λ c. (i : ℕ) (A : LfType) → IsSubgoal c i A → IsCallee addition_record [] (target A)) (λ i A h. absurd (no_subgoal i A h)) (λ i A h. inl (inl (ap target (the_subgoal i A h))));
+  callees = clauses_of (λ c. (i : ℕ) (A : LfType) → IsSubgoal c i A → IsCallee addition_record [] (target c.type) (target A)) (λ i A h. absurd (no_subgoal i A h)) (λ i A h. to_group (ap target (the_subgoal i A h)));
   descending = clauses_of (λ c. (i : ℕ) (A : LfType) → IsSubgoal c i A → Member (target A) (1 ∷ []) → CallDescends Addition [] first_place (1 ∷ []) c A) (λ i A h. absurd (no_subgoal i A h)) (λ i A h m. subst (CallDescends Addition [] first_place (1 ∷ []) plus_s) (sym (the_subgoal i A h)) plus_descends);
   covered_inputs = λ f i. subst (λ a. CoveredInputs Addition addition_marks [] (first_below_second a) a) (sym (group_is_one i)) plus_inputs;
   covered_outputs = clauses_of (λ c. Subgoals addition_marks c (λ U A. CoveredOutputs Addition addition_marks [] (first_below_second (target c.type)) c U A) (λ U. Unit {0})) tt (step addition_marks plus_s (λ U A. CoveredOutputs Addition addition_marks [] S plus_s U A) (λ U. Unit {0}) 3 0 s_first plus_goal refl (plus_outputs, tt));
 }
 
 pub addition_lasts : AdditionLasts
-addition_lasts = record_made Addition addition_ok addition_record second_moded first_place [] plus_checked (λ Q i. absurd i)
+addition_lasts = record_made Addition addition_ok addition_record first_place [] plus_checked (λ Q i. absurd i)
+
+-- later declarations
+later_ok : IsSignature Later
+later_ok = record { types_ok = types; kinds_ok = kinds }
+  where
+    types : (c : ℕ) (A : LfType) → later_types c ≡ Some A → IsType Later [] A
+    types zero A e = types_ok Later refl refl refl refl 0 A e
+    types (suc zero) A e = types_ok Later refl refl refl refl 1 A e
+    types (suc (suc zero)) A e = types_ok Later refl refl refl refl 2 A e
+    types (suc (suc (suc zero))) A e = types_ok Later refl refl refl refl 3 A e
+    types (suc (suc (suc (suc zero)))) A e = subst (IsType Later []) (some_type e) ((star, refl, tt), (star, refl, tt))
+    types (suc (suc (suc (suc (suc n))))) A e = absurd cc
+
+    kinds : (a : ℕ) (K : Kind) → later_kinds a ≡ Some K → IsKind Later [] K
+    kinds zero K e = kinds_ok Later refl refl refl refl 0 K e
+    kinds (suc zero) K e = kinds_ok Later refl refl refl refl 1 K e
+    kinds (suc (suc zero)) K e = subst (IsKind Later []) (some_kind e) tt
+    kinds (suc (suc (suc n))) K e = absurd cc
+
+later_extends : Extends (first_below_second 1) Addition Later
+later_extends = record { ok = later_ok; types_stay = types; kinds_stay = kinds; no_new = no_new }
+  where
+    types : (c : ℕ) (A : LfType) → addition_types c ≡ Some A → later_types c ≡ Some A
+    types zero A e = e
+    types (suc zero) A e = e
+    types (suc (suc zero)) A e = e
+    types (suc (suc (suc zero))) A e = e
+    types (suc (suc (suc (suc n)))) A e = absurd cc
+
+    kinds : (a : ℕ) (K : Kind) → addition_kinds a ≡ Some K → later_kinds a ≡ Some K
+    kinds zero K e = e
+    kinds (suc zero) K e = e
+    kinds (suc (suc n)) K e = absurd cc
+
+    no_new : (c : ℕ) (A : LfType) → later_types c ≡ Some A → first_below_second 1 (target A) ≡ true → addition_types c ≡ Some A
+    no_new zero A e s = e
+    no_new (suc zero) A e s = e
+    no_new (suc (suc zero)) A e s = e
+    no_new (suc (suc (suc zero))) A e s = e
+    no_new (suc (suc (suc (suc zero)))) A e s = absurd (true≢false (sym s ∙ sym (ap (λ X. first_below_second 1 (target X)) (some_type e))))
+    no_new (suc (suc (suc (suc (suc n))))) A e s = absurd cc
+
+pub stays_after : AdditionStaysChecked
+stays_after = stays_checked Addition Later addition_record first_place [] later_extends plus_checked
 
 pub sums : NumbersHaveSums
 sums M N m n = by (total.1 [] no_variables plus_kind (app M (app N (app z nil))) refl (m, (n, tt)))

@@ -2,7 +2,7 @@
 use Rattle.totality.specs.Marks.{Mark}
 use Rattle.totality.specs.Order.{Order}
 use Rattle.totality.specs.Total.{Lasting, Total}
-use Rattle.totality.specs.Group.{Checked, GroupChecked, IsRight}
+use Rattle.totality.specs.Group.{Checked, GroupChecked, IsFrozenBy, IsRight}
 use Rattle.std.proofs.Common.{refl, ℕ, List, inl}
 use Rattle.std.specs.Prelude.{Bool}
 use Rattle.lf.specs.Typing.{Signature, IsSignature}
@@ -26,26 +26,30 @@ pub lasting_more : (Σ : Signature) (a : ℕ) (m : List Mark) (W : List Block) (
 lasting_more Σ a m W S T h l = (l.0, λ Σ' x G w. l.1 Σ' (extension_over_less T S Σ Σ' h x) G (world_for_callee Σ' W W T S h (λ B i. inl i) w))
 
 -- a self-contained set stays so in a legal extension over a set that holds it
-self_contained_on : (Σ Σ' : Signature) (W : List Block) (S T : ℕ → Bool) → Within S T → Extends T Σ Σ' → SelfContained Σ W S → SelfContained Σ' W S
+pub self_contained_on : (Σ Σ' : Signature) (W : List Block) (S T : ℕ → Bool) → Within S T → Extends T Σ Σ' → SelfContained Σ W S → SelfContained Σ' W S
 self_contained_on Σ Σ' W S T h x s = SelfContained-extends Σ Σ' W S (extension_over_less T S Σ Σ' h x) s
+
+-- so the frozen families of a record
+pub frozen_on : (Σ Σ' : Signature) (R : Checked) → Extends R.frozen Σ Σ' → IsFrozenBy Σ R → IsFrozenBy Σ' R
+frozen_on Σ Σ' R x z = record {
+  families_frozen = z.families_frozen;
+  targets_frozen = z.targets_frozen;
+  below_frozen = z.below_frozen;
+  self_contained = self_contained_on Σ Σ' R.worlds R.frozen R.frozen (λ f e. e) x z.self_contained;
+}
 
 -- A record stays right where nothing is added to its frozen families.
 pub record_on : (Σ Σ' : Signature) (R : Checked) → Extends R.frozen Σ Σ' → IsRight Σ R → IsRight Σ' R
 record_on Σ Σ' R x r = record {
   lasts = λ f i. lasting_on Σ Σ' f (R.marks f) R.worlds (R.below f) (extension_over_less R.frozen (R.below f) Σ Σ' (r.frozen.below_frozen f i) x) (r.lasts f i);
   self_contained = λ f i. self_contained_on Σ Σ' R.worlds (R.below f) R.frozen (r.frozen.below_frozen f i) x (r.self_contained f i);
-  frozen = record {
-    families_frozen = r.frozen.families_frozen;
-    targets_frozen = r.frozen.targets_frozen;
-    below_frozen = r.frozen.below_frozen;
-    self_contained = self_contained_on Σ Σ' R.worlds R.frozen R.frozen (λ f e. e) x r.frozen.self_contained;
-  };
+  frozen = frozen_on Σ Σ' R x r.frozen;
 }
 
 -- the record of a checked group is right
-pub record_made : (Σ : Signature) (ok : IsSignature Σ) (R : Checked) (moded : ℕ → Bool) (order : ℕ → Order) (totals : List Checked) → GroupChecked Σ R moded order totals → ((Q : Checked) → Member Q totals → IsRight Σ Q) → IsRight Σ R
-record_made Σ ok R moded order totals gc rs = record {
-  lasts = conclude Σ ok R moded order totals gc rs;
-  self_contained = λ f i. gc.subordination.self_contained f (let (K, e, s) = (gc.marked f i).0 in (K, e));
+pub record_made : (Σ : Signature) (ok : IsSignature Σ) (R : Checked) (order : ℕ → Order) (totals : List Checked) → GroupChecked Σ R order totals → ((Q : Checked) → Member Q totals → IsRight Σ Q) → IsRight Σ R
+record_made Σ ok R order totals gc rs = record {
+  lasts = conclude Σ ok R order totals gc rs;
+  self_contained = gc.self_contained;
   frozen = gc.frozen;
 }

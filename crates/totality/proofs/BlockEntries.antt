@@ -45,3 +45,9 @@ among_type (E ∷ es) O (suc k) e = let (X, g) = among_type es O k e in (weaken 
 pub drop_typed : (Σ : Signature) (later : List LfType) (E : LfType) (O : List LfType) → IsContext Σ (onto later (E ∷ O)) → IsContext Σ O × IsType Σ O E
 drop_typed Σ [] E O (c, t) = (c, t)
 drop_typed Σ (D ∷ ds) E O c = drop_typed Σ ds E O c.0
+
+-- an index of one of a block's entries is the place of that entry
+pub entry_at : (ds : List LfType) (k : ℕ) → among ds k ≡ true → (later : List LfType) × (E : LfType) × (es : List LfType) × (onto later (E ∷ es) ≡ ds) × (place_of later ≡ k)
+entry_at [] k e = absurd cc
+entry_at (D ∷ ds) zero e = ([], D, ds, refl, refl)
+entry_at (D ∷ ds) (suc k) e = let (later, E, es, p, q) = entry_at ds k e in (D ∷ later, E, es, ap (λ x. D ∷ x) p, ap suc q)

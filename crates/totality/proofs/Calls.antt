@@ -3,7 +3,7 @@ use Rattle.lf.specs.AtOnce.{in_front}
 use Rattle.totality.specs.Marks.{SamePlaces, TypedPlaces, TypedPlacesFrom, UsesPlaces}
 use Rattle.std.proofs.Common.{◌≡◌, ℕ, zero, suc, List, [], ◌∷◌, refl, sym, ap, ◌∙◌, subst}
 use Rattle.std.specs.Prelude.{Bool, true, false}
-use Rattle.totality.proofs.Marks.{SoundPlaces}
+use Rattle.totality.specs.Marks.{MentionChosenOnly}
 use Rattle.lf.specs.Syntax.{Term, Spine, nil, app, LfType, Kind, kind_pi, star, Skeleton, skeleton}
 use Rattle.lf.specs.Substitution.{Image, keep, put, rename_image, lift, single, substitute, substitute_spine, substitute_type, substitute_kind, reduce, substitute_image, after}
 use Rattle.lf.specs.SkeletonTyping.{TermSkeleton}
@@ -28,7 +28,7 @@ same_cons : (V : ℕ → Bool) (x y : Image) (θ τ : ℕ → Image) → x ≡ y
 same_cons V x y θ τ q h zero e = q
 same_cons V x y θ τ q h (suc i) e = h i e
 
-pub inputs_same : (Σ : Signature) (V : ℕ → Bool) (m : List Bool) (G : List LfType) (θ τ : ℕ → Image) (S T : Spine) (K : Kind) → SoundPlaces V m K → SameOn V θ τ → SamePlaces m S T → TypedPlacesFrom Σ m G θ S K → TypedPlacesFrom Σ m G τ T K
+pub inputs_same : (Σ : Signature) (V : ℕ → Bool) (m : List Bool) (G : List LfType) (θ τ : ℕ → Image) (S T : Spine) (K : Kind) → MentionChosenOnly V m K → SameOn V θ τ → SamePlaces m S T → TypedPlacesFrom Σ m G θ S K → TypedPlacesFrom Σ m G τ T K
 inputs_same Σ V [] G θ τ nil nil star v h p i = tt
 inputs_same Σ V [] G θ τ nil nil (kind_pi A K) v h p i = absurd v
 inputs_same Σ V [] G θ τ nil (app N T) K v h p i = absurd p
@@ -73,7 +73,7 @@ module _ (Σ : Signature) (ok : IsSignature Σ) where
   cons_after σ θ a M zero = refl
   cons_after σ θ a M (suc i) = refl
 
-  inputs_at : (P : List Skeleton) (U : ℕ → Bool) (C D X : List LfType) (σ θ : ℕ → Image) (V : ℕ → Bool) (m : List Bool) (S : Spine) (K : Kind) → PartialSubstitution Σ ok [] P U C D σ → IsContext Σ X → AllTyped Σ ok X C θ → IsKind Σ X K → SoundPlaces V m K → UsesPlaces U m S → SpineFitsKind Σ C S (substitute_kind reduce θ K) → TypedPlacesFrom Σ m D (after σ θ) (substitute_spine reduce σ S) K
+  inputs_at : (P : List Skeleton) (U : ℕ → Bool) (C D X : List LfType) (σ θ : ℕ → Image) (V : ℕ → Bool) (m : List Bool) (S : Spine) (K : Kind) → PartialSubstitution Σ ok [] P U C D σ → IsContext Σ X → AllTyped Σ ok X C θ → IsKind Σ X K → MentionChosenOnly V m K → UsesPlaces U m S → SpineFitsKind Σ C S (substitute_kind reduce θ K) → TypedPlacesFrom Σ m D (after σ θ) (substitute_spine reduce σ S) K
   inputs_at P U C D X σ θ V m nil (kind_pi A K) w c t k v u s = absurd s
   inputs_at P U C D X σ θ V [] nil star w c t k v u s = tt
   inputs_at P U C D X σ θ V (b ∷ m) nil star w c t k v u s = absurd v
@@ -90,7 +90,7 @@ module _ (Σ : Signature) (ok : IsSignature Σ) where
       subst (λ f. TypedPlacesFrom Σ m D f (substitute_spine reduce σ S) K) (fun_ext (cons_after σ θ (skeleton A) M)) (inputs_at P U C D (A ∷ X) σ (in_front (put (skeleton A) M) θ) (hide V) m S K w (c, a) (typed_cons X C θ A M t n) k v u (subst (SpineFitsKind Σ C S) (instance_cons X C θ A M K t a k n) s))
 
   -- The lemma on calls
-  pub inputs_part : (P : List Skeleton) (U : ℕ → Bool) (C D : List LfType) (σ : ℕ → Image) (m : List Bool) (S : Spine) (K : Kind) → PartialSubstitution Σ ok [] P U C D σ → IsKind Σ [] K → SoundPlaces nothing m K → UsesPlaces U m S → SpineFitsKind Σ C S K → TypedPlaces Σ m D (substitute_spine reduce σ S) K
+  pub inputs_part : (P : List Skeleton) (U : ℕ → Bool) (C D : List LfType) (σ : ℕ → Image) (m : List Bool) (S : Spine) (K : Kind) → PartialSubstitution Σ ok [] P U C D σ → IsKind Σ [] K → MentionChosenOnly nothing m K → UsesPlaces U m S → SpineFitsKind Σ C S K → TypedPlaces Σ m D (substitute_spine reduce σ S) K
   inputs_part P U C D σ m S K w k v u s =
       let i : TypedPlacesFrom Σ m D (after σ keep) (substitute_spine reduce σ S) K = inputs_at P U C D [] σ keep nothing m S K w tt (λ i A g. absurd g) k v u (subst (SpineFitsKind Σ C S) (sym (substitute_identity_kind reduce K)) s) in
       inputs_same Σ nothing m D (after σ keep) keep (substitute_spine reduce σ S) (substitute_spine reduce σ S) K v (λ j e. absurd cc) (SamePlus-self m (substitute_spine reduce σ S) nil K Σ D (after σ keep) i) i

@@ -5,7 +5,7 @@ use Rattle.totality.specs.Order.{IsAtPlaces, equal, first_argument, later_argume
 use Rattle.totality.specs.Total.{HasTotalMarks, Total}
 use Rattle.totality.specs.Marks.{HasSoundMarks, SamePlaces, TypedPlaces, free_places, input_places}
 use Rattle.totality.specs.Group.{GroupChecked, IsCallee}
-use Rattle.totality.specs.Examples.{Copying, CopyingLasts, application, applied_to, copy_block, copying_kinds, copying_marks, copying_record, copying_types, cp, cp_app, cp_kind, cp_lam, exp, first_below_second, first_place, function, lam, second_moded, var, TermsHaveCopies, z, BlockCaseIsCovered}
+use Rattle.totality.specs.Examples.{Copying, CopyingLasts, application, applied_to, copy_block, copying_kinds, copying_marks, copying_record, copying_types, cp, cp_app, cp_kind, cp_lam, exp, first_below_second, first_place, function, lam, var, TermsHaveCopies, z, BlockCaseIsCovered}
 use Rattle.totality.specs.Clause.{Clause, IsClause, IsSubgoal, among, constant_clause, entry_clause, from_constant, from_entry, outside, scope, variables}
 use Rattle.totality.specs.Descent.{CallDescends}
 use Rattle.totality.specs.Cover.{AreTerms, CoveredBy, CoveredInputs, CoveredOutputs, InstanceIn, OutputsCovered, by_constant, by_entry}
@@ -28,7 +28,7 @@ use Rattle.lf.proofs.Patch.{pick}
 use Rattle.lf.proofs.Strength.{uses_only, strengthening_keeps_typing, Rich}
 use Rattle.totality.proofs.After.{record_made, lasting_total}
 use Rattle.totality.proofs.Core.{grows}
-use Rattle.totality.proofs.ExampleLemmas.{step, below_itself, below_through}
+use Rattle.totality.proofs.ExampleLemmas.{step, below_itself, same_below, in_group}
 use Rattle.totality.proofs.Instances.{entry_of, EntryAt, Begun, instance_typed}
 use mathlib.Core.Path.{fun_ext}
 
@@ -599,13 +599,13 @@ u_subgoal zero A (v, g) = absurd cc
 u_subgoal (suc i) A (v, (C, g, e)) = g
 
 abbrev Moded : ℕ → Clause → (ℕ → Bool) → LfType → Type 0
-Moded n c U A = HasSoundMarks Copying (target A) (copying_marks (target A)) × UsesGoal U (input_places (copying_marks (target A))) A × EachHypothesis (WellModedTo n Copying copying_marks second_moded) second_moded (scope c) (outside c.type c.fixed) U A
+Moded n c U A = HasSoundMarks Copying (target A) (copying_marks (target A)) × UsesGoal U (input_places (copying_marks (target A))) A × EachHypothesis (WellModedTo n Copying copying_marks in_group) in_group (scope c) (outside c.type c.fixed) U A
 
 abbrev Own : Clause → (ℕ → Bool) → Type 0
 Own c U = (x : ℕ) → variables c x ≡ true → outside c.type everything x ≡ false → (U x ≡ true) ⊎ (occurs_at (free_places (copying_marks 1)) x (target_arguments c.type) ≡ true) ⊎ InFreePlace copying_marks c x
 
 -- the hypothesis cp x x, as a clause: it has no variables of its own
-hypothesis_moded : (n : ℕ) → WellModedTo n Copying copying_marks second_moded (under first) (record { outer = exp ∷ scope cp_lam; fixed = under (outside cp_lam.type nothing); type = cp (var 0) (var 0) })
+hypothesis_moded : (n : ℕ) → WellModedTo n Copying copying_marks in_group (under first) (record { outer = exp ∷ scope cp_lam; fixed = under (outside cp_lam.type nothing); type = cp (var 0) (var 0) })
 hypothesis_moded zero = tt
 hypothesis_moded (suc n) = (sound, (((refl, tt), tt), λ x v o. absurd (true≢false o)))
 
@@ -615,7 +615,7 @@ lam_own (suc zero) e o = inl refl
 lam_own (suc (suc zero)) e o = inl refl
 lam_own (suc (suc (suc x))) e o = absurd cc
 
-lam_moded : (n : ℕ) → WellModedTo n Copying copying_marks second_moded everything cp_lam
+lam_moded : (n : ℕ) → WellModedTo n Copying copying_marks in_group everything cp_lam
 lam_moded zero = tt
 lam_moded (suc n) = (sound, step copying_marks cp_lam (Moded n cp_lam) (λ U. AllGround copying_marks cp_lam U) 2 0 first goal refl ((sound, (tt, (((refl, tt), ((refl, tt), tt)), ((refl, ((refl, tt), tt)), tt))), (tt, (hypothesis_moded n, tt))), (((((refl, ((refl, tt), tt)), tt), tt), lam_own))))
 
@@ -628,11 +628,11 @@ app_own (suc (suc (suc (suc zero)))) e o = inl refl
 app_own (suc (suc (suc (suc (suc zero))))) e o = inl refl
 app_own (suc (suc (suc (suc (suc (suc x)))))) e o = absurd cc
 
-app_moded : (n : ℕ) → WellModedTo n Copying copying_marks second_moded everything cp_app
+app_moded : (n : ℕ) → WellModedTo n Copying copying_marks in_group everything cp_app
 app_moded zero = tt
 app_moded (suc n) = (sound, step copying_marks cp_app (Moded n cp_app) (λ U. AllGround copying_marks cp_app U) 5 0 first1 goal1 refl ((sound, ((refl, tt), tt), tt), step copying_marks cp_app (Moded n cp_app) (λ U. AllGround copying_marks cp_app U) 4 1 first2 goal2 (goal2', refl, refl) ((sound, ((refl, tt), tt), tt), ((((refl, tt), ((refl, tt), tt)), tt), app_own))))
 
-u_moded : (n : ℕ) → WellModedTo n Copying copying_marks second_moded everything u_clause
+u_moded : (n : ℕ) → WellModedTo n Copying copying_marks in_group everything u_clause
 u_moded zero = tt
 u_moded (suc n) = (sound, (((refl, tt), tt), λ x v o. absurd (true≢false o)))
 
@@ -676,7 +676,7 @@ clauses_of P a b u c (from_entry B later E es (inl b') q) (inl g) = by later E e
     by (D ∷ (D' ∷ [])) E es q g = absurd cc
     by (D ∷ (D' ∷ (D'' ∷ ds))) E es q g = absurd cc
 
--- the families below each are self-contained
+-- the families below the second are self-contained
 entries_within : (S : ℕ → Bool) → (S 1 ≡ true → S 0 ≡ true) → (B : Block) (E : LfType) → Member B (copy_block ∷ []) → Member E B.entries → S (target E) ≡ true → FamiliesIn S E
 entries_within S z B E (inr m) i s = absurd m
 entries_within S z B E (inl e) i s = by (subst (λ D. Member E D.entries) e i)
@@ -686,24 +686,8 @@ entries_within S z B E (inl e) i s = by (subst (λ D. Member E D.entries) e i)
     by (inr (inl q)) = subst (FamiliesIn S) (sym q) (sym (ap (λ X. S (target X)) q) ∙ s)
     by (inr (inr m)) = absurd m
 
-self_contained : (f : ℕ) → IsDeclared Copying f → SelfContained Copying (copy_block ∷ []) (first_below_second f)
-self_contained zero d = record { declared = declared; kinds_in = kinds_in; types_in = types_in; entries_in = entries_within (first_below_second 0) (λ e. refl) }
-  where
-    declared : (a : ℕ) → first_below_second 0 a ≡ true → IsDeclared Copying a
-    declared zero e = (star, refl)
-    declared (suc a) e = absurd cc
-
-    kinds_in : (a : ℕ) (K : Kind) → copying_kinds a ≡ Some K → first_below_second 0 a ≡ true → KindFamiliesIn (first_below_second 0) K
-    kinds_in zero K e s = subst (KindFamiliesIn (first_below_second 0)) (some_kind e) tt
-    kinds_in (suc a) K e s = absurd cc
-
-    types_in : (c : ℕ) (A : LfType) → copying_types c ≡ Some A → first_below_second 0 (target A) ≡ true → FamiliesIn (first_below_second 0) A
-    types_in zero A e s = subst (FamiliesIn (first_below_second 0)) (some_type e) ((refl, refl), refl)
-    types_in (suc zero) A e s = absurd (true≢false (sym s ∙ sym (ap (λ X. first_below_second 0 (target X)) (some_type e))))
-    types_in (suc (suc zero)) A e s = subst (FamiliesIn (first_below_second 0)) (some_type e) (refl, (refl, refl))
-    types_in (suc (suc (suc zero))) A e s = absurd (true≢false (sym s ∙ sym (ap (λ X. first_below_second 0 (target X)) (some_type e))))
-    types_in (suc (suc (suc (suc n)))) A e s = absurd cc
-self_contained (suc zero) d = record { declared = declared; kinds_in = kinds_in; types_in = types_in; entries_in = entries_within (first_below_second 1) (λ e. refl) }
+self_contained : SelfContained Copying (copy_block ∷ []) (first_below_second 1)
+self_contained = record { declared = declared; kinds_in = kinds_in; types_in = types_in; entries_in = entries_within (first_below_second 1) (λ e. refl) }
   where
     declared : (a : ℕ) → first_below_second 1 a ≡ true → IsDeclared Copying a
     declared zero e = (star, refl)
@@ -721,11 +705,13 @@ self_contained (suc zero) d = record { declared = declared; kinds_in = kinds_in;
     types_in (suc (suc zero)) A e s = subst (FamiliesIn (first_below_second 1)) (some_type e) (refl, (refl, refl))
     types_in (suc (suc (suc zero))) A e s = subst (FamiliesIn (first_below_second 1)) (some_type e) (refl, (refl, (refl, (refl, (refl, (refl, refl))))))
     types_in (suc (suc (suc (suc n)))) A e s = absurd cc
-self_contained (suc (suc f)) (K, e) = absurd cc
 
 group_is_one : {f : ℕ} → Member f (1 ∷ []) → f ≡ 1
 group_is_one (inl e) = e
 group_is_one (inr m) = absurd m
+
+to_group : {f : ℕ} → f ≡ 1 → IsCallee copying_record [] 1 f
+to_group e = ((λ i. same_below e, λ Q q. absurd q), inl (inl e))
 
 marked : HasTotalMarks Copying 1 (copying_marks 1)
 marked = (sound, tt)
@@ -738,21 +724,23 @@ at_app P a b i A h = by (app_subgoal i A h)
     by (inl e) = subst P (sym e) a
     by (inr e) = subst P (sym e) b
 
-copying_checked : GroupChecked Copying copying_record second_moded first_place []
+copying_checked : GroupChecked Copying copying_record first_place []
 copying_checked = record {
   marked = λ f i. subst (λ a. HasTotalMarks Copying a (copying_marks a)) (sym (group_is_one i)) marked;
   blocks_typed = blocks;
-  subordination = record { itself = below_itself; through = below_through; self_contained = self_contained };
+  same_before = λ Q q. absurd q;
+  itself_below = λ f i. below_itself f;
+  self_contained = λ f i. subst (λ a. SelfContained Copying (copy_block ∷ []) (first_below_second a)) (sym (group_is_one i)) self_contained;
   frozen = record {
     families_frozen = λ f i. ap (first_below_second 1) (group_is_one i);
     targets_frozen = targets;
     below_frozen = λ f i b e. ap (λ a. first_below_second a b) (sym (group_is_one i)) ∙ e;
-    self_contained = self_contained 1 (cp_kind, refl);
+    self_contained = self_contained;
   };
   orders_at_inputs = λ f i. subst (λ a. IsAtPlaces (input_places (copying_marks a)) (place 1)) (sym (group_is_one i)) refl;
-  well_moded = clauses_of (λ c. WellModed Copying copying_marks second_moded c) lam_moded app_moded u_moded;
+  well_moded = clauses_of (λ c. WellModed Copying copying_marks in_group c) lam_moded app_moded u_moded;
   well_worlded = clauses_of (λ c. WellWorlded Copying (copy_block ∷ []) c) (λ i A h. subst (λ X. IsSequence Copying (copy_block ∷ []) (scope cp_lam) (binders [] X)) (sym (lam_subgoal i A h)) goal_local) (at_app (λ X. IsSequence Copying (copy_block ∷ []) (scope cp_app) (binders [] X)) no_instance no_instance) (λ i A h. absurd (u_subgoal i A h));
-  callees = clauses_of (λ c. (i : ℕ) (A : LfType) → IsSubgoal c i A → IsCallee copying_record [] (target A)) (λ i A h. inl (inl (ap target (lam_subgoal i A h)))) (at_app (λ X. IsCallee copying_record [] (target X)) (inl (inl refl)) (inl (inl refl))) (λ i A h. absurd (u_subgoal i A h));
+  callees = clauses_of (λ c. (i : ℕ) (A : LfType) → IsSubgoal c i A → IsCallee copying_record [] (target c.type) (target A)) (λ i A h. to_group (ap target (lam_subgoal i A h))) (at_app (λ X. IsCallee copying_record [] 1 (target X)) (to_group refl) (to_group refl)) (λ i A h. absurd (u_subgoal i A h));
   descending = clauses_of (λ c. (i : ℕ) (A : LfType) → IsSubgoal c i A → Member (target A) (1 ∷ []) → Descends c A) (λ i A h m. subst (Descends cp_lam) (sym (lam_subgoal i A h)) goal_descends) (λ i A h m. at_app (Descends cp_app) goal1_descends goal2_descends i A h) (λ i A h m. absurd (u_subgoal i A h));
   covered_inputs = λ f i. subst (λ a. CoveredInputs Copying copying_marks (copy_block ∷ []) (first_below_second a) a) (sym (group_is_one i)) copy_inputs;
   covered_outputs = clauses_of (λ c. Subgoals copying_marks c (λ U A. CoveredOutputs Copying copying_marks (copy_block ∷ []) (first_below_second (target c.type)) c U A) (λ U. Unit {0})) (step copying_marks cp_lam (λ U A. CoveredOutputs Copying copying_marks (copy_block ∷ []) S cp_lam U A) (λ U. Unit {0}) 2 0 first goal refl (copy_outputs, tt)) (step copying_marks cp_app Outputs (λ U. Unit {0}) 5 0 first1 goal1 refl (app_outputs1, step copying_marks cp_app Outputs (λ U. Unit {0}) 4 1 first2 goal2 (goal2', refl, refl) (app_outputs2, tt))) tt;
@@ -775,7 +763,7 @@ copying_checked = record {
         by (inr (inr m)) = absurd m
 
 pub copying_lasts : CopyingLasts
-copying_lasts = record_made Copying copying_ok copying_record second_moded first_place [] copying_checked (λ Q i. absurd i)
+copying_lasts = record_made Copying copying_ok copying_record first_place [] copying_checked (λ Q i. absurd i)
 
 pub copies : TermsHaveCopies
 copies G w M m = by (total.1 G w cp_kind (app M (app (var 0) nil)) refl (m, tt))

@@ -9,7 +9,7 @@ use Rattle.totality.specs.Clause.{Clause, is_variable, occurs_type, outside, sco
 use Rattle.totality.specs.Cover.{AgreesOutside, AreTerms, outer_images, OutputsCovered}
 use Rattle.std.proofs.Common.{◌≡◌, ℕ, zero, suc, List, [], ◌∷◌, ◌<◌, ◌≤◌, ◌+◌, length, refl, sym, ap, ◌∙◌, subst, arith, inl, inr}
 use Rattle.std.specs.Prelude.{Bool, true, false, Some, ◌⊎◌}
-use Rattle.totality.proofs.Marks.{SoundPlaces}
+use Rattle.totality.specs.Marks.{MentionChosenOnly}
 use Rattle.lf.specs.Syntax.{Head, variable, Term, Spine, root, nil, app, LfType, Kind, pi, atom, Skeleton, base, skeleton, weaken}
 use Rattle.lf.specs.Substitution.{Image, put, lift, substitute_spine, substitute_type, substitute_kind, reduce}
 use Rattle.lf.specs.Typing.{Signature, TypeAt, HeadHasType, HasType, SpineType, SpineFitsKind, IsType, IsContext, IsSignature, ImageHasType}
@@ -120,7 +120,7 @@ skel_of_at (B ∷ G) (suc i) A (C, g, e) = skel_of_at G i C g ∙ sym (ap skelet
 
 module _ (Σ : Signature) (ok : IsSignature Σ) where
   -- the inputs of a subgoal under values of what it needs
-  call_inputs : (m : List Bool) (K : Kind) (A : LfType) (P : List Skeleton) (U : ℕ → Bool) (C G : List LfType) (σ : ℕ → Image) → PartialSubstitution Σ ok [] P U C G σ → IsType Σ C A → UsesGoal U m A → SoundPlaces nothing m K → Σ.kinds (target A) ≡ Some K → TypedPlaces Σ m (binders G (substitute_type reduce σ A)) (target_arguments (substitute_type reduce σ A)) K
+  call_inputs : (m : List Bool) (K : Kind) (A : LfType) (P : List Skeleton) (U : ℕ → Bool) (C G : List LfType) (σ : ℕ → Image) → PartialSubstitution Σ ok [] P U C G σ → IsType Σ C A → UsesGoal U m A → MentionChosenOnly nothing m K → Σ.kinds (target A) ≡ Some K → TypedPlaces Σ m (binders G (substitute_type reduce σ A)) (target_arguments (substitute_type reduce σ A)) K
   call_inputs m K (pi B A) P U C G σ w (b, t) u f e = call_inputs m K A P (under U) (B ∷ C) (substitute_type reduce σ B ∷ G) (lift σ) (partial_lift Σ ok [] P U C G σ B w (type_by_skeletons_beside Σ [] C B b)) t u.1 f e
   call_inputs m K (atom a S) P U C G σ w (L, k, s) u f e = inputs_part Σ ok P U C G σ m S K w (ok.kinds_ok a K e) f u (subst (SpineFitsKind Σ C S) (some_inj (sym k ∙ e)) s)
 
@@ -132,7 +132,7 @@ module _ (Σ : Signature) (ok : IsSignature Σ) (m : ℕ → List Mark) (I : Typ
 
   pub record SubgoalOk (a : I) (G : List LfType) (c : Clause) (θ : ℕ → Image) (U : ℕ → Bool) (A : LfType) : Type 0 where
     pub needs : UsesGoal U (input_places (m (target A))) A
-    pub kind : (K : Kind) × (Σ.kinds (target A) ≡ Some K) × SoundPlaces nothing (input_places (m (target A))) K
+    pub kind : (K : Kind) × (Σ.kinds (target A) ≡ Some K) × MentionChosenOnly nothing (input_places (m (target A))) K
     pub call : (σ : ℕ → Image) → Values Σ U (scope c) G σ → PartialSubstitution Σ ok [] (skeletons_beside [] (scope c)) U (scope c) G σ → AgreesOutside c σ θ → CallOk a G (substitute_type reduce σ A) (substitute_spine reduce σ (target_arguments c.type))
     pub outputs : (σ : ℕ → Image) → Values Σ U (scope c) G σ → AgreesOutside c σ θ → AreTerms c U σ → (T : Spine) (K : Kind) → Σ.kinds (target A) ≡ Some K → SamePlaces (input_places (m (target A))) (target_arguments (substitute_type reduce σ A)) T → SpineFitsKind Σ (binders G (substitute_type reduce σ A)) T K → OutputsCovered Σ m c U A G σ T
 

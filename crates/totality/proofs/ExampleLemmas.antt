@@ -1,10 +1,11 @@
 -- What the worked examples share: one step of a walk over subgoals, and the subordination of two families.
-use Rattle.std.proofs.Common.{◌≡◌, ℕ, zero, suc, List, refl, ap, ◌∙◌, subst}
+use Rattle.std.proofs.Common.{◌≡◌, ℕ, zero, suc, List, [], ◌∷◌, refl, sym, ap, ◌∙◌, subst}
 use Rattle.std.specs.Prelude.{Bool, true}
 use Rattle.lf.specs.Syntax.{LfType}
 use Rattle.lf.specs.Typing.{TypeAt}
 use Rattle.lf.specs.Variables.{Within, same_number}
 use Rattle.lf.proofs.Decidability.{variable_type_unique}
+use Rattle.totality.specs.Tests.{is_in}
 use Rattle.totality.specs.Clause.{Clause, scope}
 use Rattle.totality.specs.Marks.{Mark}
 use Rattle.totality.specs.Ground.{EachSubgoal, ground_after}
@@ -14,28 +15,19 @@ use Rattle.totality.specs.Examples.{first_below_second}
 pub step : (m : ℕ → List Mark) (c : Clause) (P : (ℕ → Bool) → LfType → Type 0) (Q : (ℕ → Bool) → Type 0) (n i : ℕ) (U : ℕ → Bool) (X : LfType) → TypeAt (scope c) i X → P U X × EachSubgoal m c P Q n (suc i) (ground_after m c X U) → (A : LfType) → TypeAt (scope c) i A → P U A × EachSubgoal m c P Q n (suc i) (ground_after m c A U)
 step m c P Q n i U X g p A h = subst (λ B. P U B × EachSubgoal m c P Q n (suc i) (ground_after m c B U)) (variable_type_unique (scope c) i X A g h) p
 
+-- the second family alone is of the group
+abbrev pub in_group : ℕ → Bool
+in_group a = is_in a (1 ∷ [])
+
 same_self : (i : ℕ) → same_number i i ≡ true
 same_self zero = refl
 same_self (suc i) = same_self i
-
-number_equal : (i j : ℕ) → same_number i j ≡ true → i ≡ j
-number_equal zero zero e = refl
-number_equal zero (suc j) e = absurd cc
-number_equal (suc i) zero e = absurd cc
-number_equal (suc i) (suc j) e = ap suc (number_equal i j e)
 
 pub below_itself : (f : ℕ) → first_below_second f f ≡ true
 below_itself zero = refl
 below_itself (suc zero) = refl
 below_itself (suc (suc n)) = same_self n
 
-pub below_through : (f g : ℕ) → first_below_second f g ≡ true → Within (first_below_second g) (first_below_second f)
-below_through zero zero e b h = h
-below_through zero (suc g) e b h = absurd cc
-below_through (suc zero) zero e zero h = refl
-below_through (suc zero) zero e (suc b) h = absurd cc
-below_through (suc zero) (suc zero) e b h = h
-below_through (suc zero) (suc (suc g)) e b h = absurd cc
-below_through (suc (suc n)) zero e b h = absurd cc
-below_through (suc (suc n)) (suc zero) e b h = absurd cc
-below_through (suc (suc n)) (suc (suc g)) e b h = ap (λ k. first_below_second (suc (suc k)) b) (number_equal n g e) ∙ h
+-- equal families have the same below them
+pub same_below : {f g : ℕ} → f ≡ g → Within (first_below_second f) (first_below_second g)
+same_below e b h = ap (λ a. first_below_second a b) (sym e) ∙ h

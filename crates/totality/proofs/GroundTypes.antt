@@ -7,7 +7,7 @@ use Rattle.totality.specs.Marks.{Mark, UsesPlaces, input_places, output_places}
 use Rattle.totality.specs.Clause.{Clause, outside, scope, variables}
 use Rattle.std.proofs.Common.{◌≡◌, ℕ, zero, suc, List, [], ◌∷◌, refl, sym, ◌∙◌, subst, inl, inr}
 use Rattle.std.specs.Prelude.{Bool, true, false, Some, ◌⊎◌}
-use Rattle.totality.proofs.Marks.{SoundPlaces}
+use Rattle.totality.specs.Marks.{MentionChosenOnly}
 use Rattle.lf.specs.Syntax.{Term, Spine, nil, app, LfType, Kind, pi, atom, kind_pi, star, Skeleton, skeleton, weaken}
 use Rattle.lf.specs.Substitution.{Image, keep, put, substitute_type, substitute_kind, reduce}
 use Rattle.lf.specs.Typing.{Signature, TypeAt, SpineFitsKind, IsType, IsKind, IsContext, IsSignature}
@@ -52,7 +52,7 @@ module _ (Σ : Signature) (ok : IsSignature Σ) (B F V : ℕ → Bool) (C : List
   place_typed X θ A cx t a = partial_substitution_keeps_types Σ ok [] [] everything X C θ A (record { typed = λ i D g e. t i D g; sk = AllTyped-has_skeleton Σ ok [] X C θ t; source_skeletons = skeleton_context_of_beside Σ ok [] X cx; target_skeletons = skeleton_context_of_beside Σ ok [] C c }) (uses_type_all everything A (λ i. refl)) a
 
   -- at a marked place, where the marked places use V
-  plus_type : (m : List Bool) (S : Spine) (K : Kind) (X : List LfType) (θ : ℕ → Image) (U : ℕ → Bool) → IsContext Σ X → AllTyped Σ ok X C θ → IsKind Σ X K → SoundPlaces U m K → SubUses U V θ → UsesPlaces V m S → SpineFitsKind Σ C S (substitute_kind reduce θ K) → strict_at m B F x S ≡ true → UsesType V Y
+  plus_type : (m : List Bool) (S : Spine) (K : Kind) (X : List LfType) (θ : ℕ → Image) (U : ℕ → Bool) → IsContext Σ X → AllTyped Σ ok X C θ → IsKind Σ X K → MentionChosenOnly U m K → SubUses U V θ → UsesPlaces V m S → SpineFitsKind Σ C S (substitute_kind reduce θ K) → strict_at m B F x S ≡ true → UsesType V Y
   plus_type [] S K X θ U cx t k v su u s e = absurd cc
   plus_type (b ∷ m) nil K X θ U cx t k v su u s e = absurd cc
   plus_type (b ∷ m) (app M S) star X θ U cx t k v su u s e = absurd v
@@ -85,7 +85,7 @@ module _ (Σ : Signature) (ok : IsSignature Σ) where
   outer_bound m c V w j A g e = uses_type_within (outside c.type everything) V A w (outside_types c.type c.outer everything (λ i X h u. uses_type_all everything X (λ k. refl)) j A g (outside_mono c.type c.fixed everything (λ i u. refl) j e))
 
   -- The lemmas
-  pub first_closed : (m : ℕ → List Mark) (c : Clause) (K : Kind) → IsContext Σ c.outer → IsType Σ c.outer c.type → Σ.kinds (target c.type) ≡ Some K → SoundPlaces nothing (input_places (m (target c.type))) K → UsesPlaces (ground_first m c) (input_places (m (target c.type))) (target_arguments c.type) → (i : ℕ) (A : LfType) → TypeAt (scope c) i A → ground_first m c i ≡ true → UsesType (ground_first m c) A
+  pub first_closed : (m : ℕ → List Mark) (c : Clause) (K : Kind) → IsContext Σ c.outer → IsType Σ c.outer c.type → Σ.kinds (target c.type) ≡ Some K → MentionChosenOnly nothing (input_places (m (target c.type))) K → UsesPlaces (ground_first m c) (input_places (m (target c.type))) (target_arguments c.type) → (i : ℕ) (A : LfType) → TypeAt (scope c) i A → ground_first m c i ≡ true → UsesType (ground_first m c) A
   first_closed m c K o t k v u i A g e = by (either_cases (outside c.type everything i) (both (variables c i) (strict_at (input_places (m (target c.type))) nothing (outside c.type c.fixed) i (target_arguments c.type))) e)
     where
       V : ℕ → Bool

@@ -1,7 +1,7 @@
 -- Where the goal of input coverage is covered, the inputs of the family are.
 use Rattle.totality.specs.Case.{HasArguments, IsCoveredCase, IsGroundInstance, Item, chosen_count, covered_places, free_variable, goal_arguments, goal_items, input_goal, past_place}
 use Rattle.totality.specs.Cover.{CoveredBy, CoveredInputs}
-use Rattle.totality.specs.Marks.{AreSound, Mark, NoneFree, TypedPlaces, TypedPlacesFrom, input_places}
+use Rattle.totality.specs.Marks.{Mark, MentionChosenOnly, TypedPlaces, TypedPlacesFrom, input_places}
 use Rattle.std.proofs.Common.{◌≡◌, ℕ, zero, suc, List, [], ◌∷◌, ◌+◌, refl, sym, ap, ◌∙◌, subst, arith}
 use Rattle.std.specs.Prelude.{Bool, true, false, Some}
 use Rattle.lf.specs.Syntax.{variable, Spine, nil, app, LfType, Kind, kind_pi, star, skeleton, rename_type, lift_renaming}
@@ -18,7 +18,6 @@ use Rattle.lf.proofs.Eta.{eta_both, reduce_nil}
 use Rattle.lf.proofs.ToSkeletons.{typed_has_skeleton}
 use Rattle.lf.specs.SkeletonTyping.{TermSkeleton}
 use Rattle.lf.proofs.TypeLaws.{substitute_renamed_type, skeleton_renamed, skeleton_substituted}
-use Rattle.totality.proofs.Marks.{SoundPlaces, sound_inputs}
 
 -- σ gives the variables so far what θ gives the places before that are in V
 abbrev Follows : (ℕ → Bool) → (ℕ → ℕ) → (ℕ → Image) → (ℕ → Image) → Type 0
@@ -37,7 +36,7 @@ module _ (Σ : Signature) {W : List Block} {S : ℕ → Bool} {G : List LfType} 
   abbrev Found : List Bool → Kind → (ℕ → ℕ) → List Item → (ℕ → Image) → Spine → Type 0
   Found m K ρ I σ T = (τ : ℕ → Image) × IsGroundInstance w (goal_items m K ρ I) τ × HasArguments τ (goal_arguments m K) T × ((k : ℕ) → τ (k + chosen_count m K) ≡ σ k)
 
-  found : (V : ℕ → Bool) (m : List Bool) (K : Kind) (ρ : ℕ → ℕ) (I : List Item) (σ θ : ℕ → Image) (T : Spine) → SoundPlaces V m K → IsGroundInstance w I σ → Follows V ρ σ θ → TypedPlacesFrom Σ m G θ T K → Found m K ρ I σ T
+  found : (V : ℕ → Bool) (m : List Bool) (K : Kind) (ρ : ℕ → ℕ) (I : List Item) (σ θ : ℕ → Image) (T : Spine) → MentionChosenOnly V m K → IsGroundInstance w I σ → Follows V ρ σ θ → TypedPlacesFrom Σ m G θ T K → Found m K ρ I σ T
   found V [] star ρ I σ θ nil s g h t = (σ, g, tt, λ k. ap σ (no_more k))
     where
       no_more : (k : ℕ) → k + 0 ≡ k
@@ -66,7 +65,7 @@ module _ (Σ : Signature) {W : List Block} {S : ℕ → Bool} {G : List LfType} 
       one_more : (j n : ℕ) → j + suc n ≡ suc j + n
       one_more j n = omega arith
 
-places_of_goal : (V : ℕ → Bool) (m : List Bool) (K : Kind) → SoundPlaces V m K → covered_places (goal_arguments m K) ≡ m
+places_of_goal : (V : ℕ → Bool) (m : List Bool) (K : Kind) → MentionChosenOnly V m K → covered_places (goal_arguments m K) ≡ m
 places_of_goal V [] star s = refl
 places_of_goal V [] (kind_pi A K) s = absurd s
 places_of_goal V (b ∷ m) star s = absurd s
@@ -77,9 +76,8 @@ some_kind : {K L : Kind} → Some K ≡ Some L → K ≡ L
 some_kind e = cc
 
 -- The theorem
-pub goal_covers : (Σ : Signature) (m : ℕ → List Mark) (W : List Block) (S : ℕ → Bool) (a : ℕ) (K : Kind) → Σ.kinds a ≡ Some K → AreSound nothing (m a) K → NoneFree (m a) → IsCoveredCase Σ W S (input_goal a (input_places (m a)) K) → CoveredInputs Σ m W S a
-goal_covers Σ m W S a K k s n c Σ' x G w T L e t =
+pub goal_covers : (Σ : Signature) (m : ℕ → List Mark) (W : List Block) (S : ℕ → Bool) (a : ℕ) (K : Kind) → Σ.kinds a ≡ Some K → MentionChosenOnly nothing (input_places (m a)) K → IsCoveredCase Σ W S (input_goal a (input_places (m a)) K) → CoveredInputs Σ m W S a
+goal_covers Σ m W S a K k sp c Σ' x G w T L e t =
     let q : L ≡ K = some_kind (sym e ∙ x.kinds_stay a K k) in
-    let sp : SoundPlaces nothing (input_places (m a)) K = sound_inputs nothing (m a) K s n in
     let (τ, i, h, j) = found Σ' w nothing (input_places (m a)) K (λ i. i) [] keep keep T sp tt (λ i e. absurd cc) (subst (TypedPlaces Σ' (input_places (m a)) G T) q t) in
     subst (λ p. CoveredBy w p a T) (places_of_goal nothing (input_places (m a)) K sp) (c Σ' x G w τ i T h)

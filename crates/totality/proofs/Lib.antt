@@ -13,6 +13,7 @@ pub mod Lasting
 pub mod Local
 pub mod Theorem
 pub mod After
+pub mod Stays
 pub mod EtaTest
 pub mod StrictTypes
 pub mod GroundTypes

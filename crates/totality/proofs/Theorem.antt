@@ -4,13 +4,13 @@ use Rattle.std.specs.Prelude.{Bool, true, false, Some, ◌⊎◌}
 use Rattle.lf.specs.Syntax.{Head, Spine, nil, app, LfType, Kind, pi, atom}
 use Rattle.lf.specs.Substitution.{Image, keep, substitute_spine, substitute_type, reduce}
 use Rattle.lf.specs.Typing.{Signature, TypeAt, HeadHasType, IsType, IsContext, IsSignature, ImageHasType, SpineFitsKind}
-use Rattle.lf.specs.Variables.{target, target_arguments, binders, onto, Within, FamiliesIn, Values, everything, nothing, hide}
+use Rattle.lf.specs.Variables.{target, target_arguments, binders, onto, Within, Values, everything, nothing, hide}
 use Rattle.lf.specs.Subordination.{Block, Member}
 use Rattle.lf.specs.Worlds.{World}
 use Rattle.lf.specs.Extension.{Extends}
 use Rattle.lf.specs.Entries.{quantifiers}
-use Rattle.totality.specs.Tests.{both, choose}
-use Rattle.totality.specs.Clause.{Clause, scope, variables, is_variable, with_newest, occurs_type, outside, among, IsSubgoal, IsClause, from_constant, from_entry}
+use Rattle.totality.specs.Tests.{both, choose, is_in}
+use Rattle.totality.specs.Clause.{Clause, scope, variables, outside, among, IsSubgoal, IsClause, from_constant, from_entry}
 use Rattle.totality.specs.Marks.{Mark, input, output, free, input_places, free_places, HasSoundMarks, NoneFree, TypedPlaces, SamePlaces, UsesPlaces}
 use Rattle.totality.specs.Ground.{UsesGoal, EachSubgoal, ground_by, ground_first, ground_after}
 use Rattle.totality.specs.Modes.{AllGround, InFreePlace, occurs_at, occurs_goal, EachHypothesis, WellModedTo}
@@ -21,12 +21,11 @@ use Rattle.totality.specs.Total.{TotalAt, Lasting, HasTotalMarks}
 use Rattle.totality.specs.Group.{Checked, IsRight, IsCallee, GroupChecked}
 use Rattle.lf.proofs.TypeLaws.{substitute_identity_type}
 use Rattle.lf.proofs.Partial.{skeletons_beside, PartialSubstitution, uses_type_all}
-use Rattle.lf.proofs.Strength.{family_target}
-use Rattle.lf.proofs.Target.{target_of, target_renamed}
+use Rattle.lf.proofs.Target.{target_of}
 use Rattle.lf.proofs.Worlds.{world_is_context, world_for_callee}
 use Rattle.lf.proofs.ExtensionTyping.{extension_keeps_types, extension_keeps_contexts, extension_over_less}
 use Rattle.totality.proofs.Assemble.{end_typed}
-use Rattle.totality.proofs.BlockEntries.{member_onto, at_place, onto_onto, index_of, before_at, among_at, among_type, drop_typed}
+use Rattle.totality.proofs.BlockEntries.{at_place, onto_onto, index_of, before_at, among_at, among_type, drop_typed}
 use Rattle.totality.proofs.Core.{out_index, outer_at, ClauseOk, SubgoalOk, Covered, total, either_left, grows}
 use Rattle.totality.proofs.GroundLocal.{IsGroundLocal}
 use Rattle.totality.proofs.Instances.{instance_typed}
@@ -65,18 +64,6 @@ none_goal : (m : List Mark) (x : ℕ) (A : LfType) → NoneFree m → occurs_goa
 none_goal m x (pi A B) n e = none_goal m (suc x) B n e
 none_goal m x (atom a S) n e = none_at m x S n e
 
-abbrev OutOf : LfType → List LfType → ℕ → LfType → Type 0
-OutOf A O i X = (k : ℕ) × (Y : LfType) × TypeAt O k Y × (target X ≡ target Y) × ((V : ℕ → Bool) → is_variable V A i ≡ V k)
-
-quantified : (S : ℕ → Bool) (A : LfType) (O : List LfType) (i : ℕ) (X : LfType) → FamiliesIn S A → TypeAt (binders O A) i X → (S (target X) ≡ true) ⊎ OutOf A O i X
-quantified S (pi B A) O i X (s, f) g = go (quantified S A (B ∷ O) i X f g)
-  where
-    go : (S (target X) ≡ true) ⊎ OutOf A (B ∷ O) i X → (S (target X) ≡ true) ⊎ OutOf (pi B A) O i X
-    go (inl q) = inl q
-    go (inr (zero, Y, e, t, v)) = inl (ap S (t ∙ ap target e ∙ target_renamed suc B) ∙ family_target S B s)
-    go (inr (suc k, Y, (Z, h, e), t, v)) = inr (k, Z, h, t ∙ ap target e ∙ target_renamed suc Z, λ V. v (with_newest (occurs_type zero A) V))
-quantified S (atom a T) O i X f g = inr (i, X, g, refl, λ V. refl)
-
 outside_from : (A : LfType) (V : ℕ → Bool) (i : ℕ) → outside A V i ≡ true → (k : ℕ) × (i ≡ out_index A k) × (V k ≡ true)
 outside_from (pi B A) V i e = go (outside_from A (hide V) i e)
   where
@@ -93,30 +80,15 @@ leads_on : (Σ : Signature) (W : List Block) (order : ℕ → Order) (group : Li
 leads_on Σ W order group a b c no_call k = k
 leads_on Σ W order group a b c (after_call {b = d} e h) k = after_call e (leads_on Σ W order group d b c h k)
 
-module _ (Σ : Signature) (ok : IsSignature Σ) (R : Checked) (moded : ℕ → Bool) (order : ℕ → Order) (totals : List Checked) (gc : GroupChecked Σ R moded order totals) (records : (Q : Checked) → Member Q totals → IsRight Σ Q) where
+module _ (Σ : Signature) (ok : IsSignature Σ) (R : Checked) (order : ℕ → Order) (totals : List Checked) (gc : GroupChecked Σ R order totals) (records : (Q : Checked) → Member Q totals → IsRight Σ Q) where
   clause_typed : (c : Clause) → IsClause Σ R.worlds c → IsContext Σ c.outer × IsType Σ c.outer c.type
   clause_typed c (from_constant k U e) = (tt, ok.types_ok k U e)
   clause_typed c (from_entry B later E es i q) = drop_typed Σ later E (onto es B.some) (subst (IsContext Σ) (onto_onto later (E ∷ es) B.some) (subst (λ X. IsContext Σ (onto X B.some)) (sym q) (gc.blocks_typed B i)))
 
-  abbrev declared : (f : ℕ) → Member f R.families → (K : Kind) × (Σ.kinds f ≡ Some K)
-  declared f i = (((gc.marked f i).0).0, ((gc.marked f i).0).1)
-
-  -- the families of a clause's type are below its target
-  clause_families : (c : Clause) → IsClause Σ R.worlds c → Member (target c.type) R.families → FamiliesIn (R.below (target c.type)) c.type
-  clause_families c (from_constant k U e) g = (gc.subordination.self_contained (target U) (declared (target U) g)).types_in k U e (gc.subordination.itself (target U))
-  clause_families c (from_entry B later E es i e) g = (gc.subordination.self_contained (target E) (declared (target E) g)).entries_in B E i (subst (Member E) e (member_onto later E es)) (gc.subordination.itself (target E))
-
-  goal_below : (c : Clause) (i : ℕ) (A : LfType) → IsClause Σ R.worlds c → Member (target c.type) R.families → IsSubgoal c i A → R.below (target c.type) (target A) ≡ true
-  goal_below c i A k g0 (v, g) = go (quantified (R.below (target c.type)) c.type c.outer i A (clause_families c k g0) g)
-    where
-      go : (R.below (target c.type) (target A) ≡ true) ⊎ OutOf c.type c.outer i A → R.below (target c.type) (target A) ≡ true
-      go (inl q) = q
-      go (inr (n, Y, h, t, w)) = let e : true ≡ false = sym (w everything) ∙ v in absurd cc
-
   -- the marks of what is called
-  callee_marks : (b : ℕ) → IsCallee R totals b → HasTotalMarks Σ b (R.marks b)
-  callee_marks b (inl i) = gc.marked b i
-  callee_marks b (inr (Q, i, f, e, s, w)) = subst (HasTotalMarks Σ b) e (((records Q i).lasts b f).0)
+  callee_marks : (a b : ℕ) → IsCallee R totals a b → HasTotalMarks Σ b (R.marks b)
+  callee_marks a b (w, inl i) = gc.marked b i
+  callee_marks a b (w, inr (Q, i, f, e, s)) = subst (HasTotalMarks Σ b) e (((records Q i).lasts b f).0)
 
   -- in the end all is ground
   end_ground : (c : Clause) → IsClause Σ R.worlds c → Member (target c.type) R.families → (U : ℕ → Bool) → Within (outside c.type everything) U → AllGround R.marks c U → Within (variables c) U
@@ -129,7 +101,7 @@ module _ (Σ : Signature) (ok : IsSignature Σ) (R : Checked) (moded : ℕ → B
           by : (U x ≡ true) ⊎ (occurs_at (free_places (R.marks (target c.type))) x (target_arguments c.type) ≡ true) ⊎ InFreePlace R.marks c x → U x ≡ true
           by (inl u) = u
           by (inr (inl o)) = absurd (none_at (R.marks (target c.type)) x (target_arguments c.type) (gc.marked (target c.type) g).1 o)
-          by (inr (inr p)) = absurd (none_goal (R.marks (target p.subgoal)) x p.subgoal (callee_marks (target p.subgoal) (gc.callees c k g p.index p.subgoal p.is_subgoal)).1 p.occurs_there)
+          by (inr (inr p)) = absurd (none_goal (R.marks (target p.subgoal)) x p.subgoal (callee_marks (target c.type) (target p.subgoal) (gc.callees c k g p.index p.subgoal p.is_subgoal)).1 p.occurs_there)
 
   -- A state of the induction: a family, and the others whose equal calls led to it, each once. `room` more may follow.
   record State : Type 0 where
@@ -187,9 +159,9 @@ module _ (Σ : Signature) (ok : IsSignature Σ) (R : Checked) (moded : ℕ → B
     abbrev Setting : State → List LfType → Type 0
     Setting s G = Extends (R.below s.family) Σ Σ' × World Σ' R.worlds (R.below s.family) G
 
-    is_clause : (b : ℕ) (G : List LfType) (w : World Σ' R.worlds (R.below b) G) (h : Head) (c : Clause) (θ : ℕ → Image) → Extends (R.below b) Σ Σ' → target c.type ≡ b → Offered w h c θ → IsClause Σ R.worlds c
-    is_clause b G w h c θ x f (by_constant k U e) = from_constant k U (x.no_new k U e (ap (λ a. R.below a (target U)) (sym f) ∙ gc.subordination.itself (target U)))
-    is_clause b G w h c θ x f (by_entry B later E es θ' j i q v e) = from_entry B later E es i q
+    is_clause : (b : ℕ) (G : List LfType) (w : World Σ' R.worlds (R.below b) G) (h : Head) (c : Clause) (θ : ℕ → Image) → Extends (R.below b) Σ Σ' → Member b R.families → target c.type ≡ b → Offered w h c θ → IsClause Σ R.worlds c
+    is_clause b G w h c θ x g f (by_constant k U e) = from_constant k U (x.no_new k U e (ap (R.below b) f ∙ gc.itself_below b g))
+    is_clause b G w h c θ x g f (by_entry B later E es θ' j i q v e) = from_entry B later E es i q
 
     module _ (ok' : IsSignature Σ') {S : ℕ → Bool} {G : List LfType} (w : World Σ' R.worlds S G) where
       offered_head : (h : Head) (c : Clause) (θ : ℕ → Image) → Offered w h c θ → HeadHasType Σ' G h (substitute_type reduce θ c.type)
@@ -225,22 +197,19 @@ module _ (Σ : Signature) (ok : IsSignature Σ) (R : Checked) (moded : ℕ → B
       there : (U : ℕ → Bool) (A : LfType) (σ : ℕ → Image) → IsGroundLocal Σ R.worlds c U A → PartialSubstitution Σ' ok' [] (skeletons_beside [] (scope c)) U (scope c) G σ → World Σ' R.worlds (R.below s.family) (binders G (substitute_type reduce σ A))
       there U A σ (V, l) p = subst (World Σ' R.worlds (R.below s.family)) (sym (binders_substituted A σ G)) (local_world Σ' ok' (skeletons_beside [] (scope c)) R.worlds (R.below s.family) (scope c) G U σ blocks' w p (binders [] A) V (ground_sequence_grows (R.below s.family) Σ Σ' x R.worlds (scope c) U (binders [] A) V l)).0
 
-      of_goal : (i : ℕ) (A : LfType) → IsSubgoal c i A → Within (R.below (target A)) (R.below s.family)
-      of_goal i A v = gc.subordination.through s.family (target A) (ap (λ a. R.below a (target A)) (sym fam) ∙ goal_below c i A k group_in v)
-
       abbrev Call : ℕ → LfType → Spine → Type 0
       Call t P H = TotalAt Σ' (R.marks t) t (binders G P) ⊎ ((u : State) × (u.family ≡ t) × Setting u (binders G P) × LexLt (measured u (target_arguments P)) (measured s H))
 
       abbrev Smaller : ℕ → LfType → Spine → Type 0
       Smaller t P H = (u : State) × (u.family ≡ t) × LexLt (measured u (target_arguments P)) (measured s H)
 
-      make_call : (t : ℕ) (P : LfType) (H : Spine) → Within (R.below t) (R.below s.family) → World Σ' R.worlds (R.below s.family) (binders G P) → IsCallee R totals t → (Member t R.families → Smaller t P H) → Call t P H
-      make_call t P H less w' (inl gt) d =
+      make_call : (t : ℕ) (P : LfType) (H : Spine) → World Σ' R.worlds (R.below s.family) (binders G P) → IsCallee R totals s.family t → (Member t R.families → Smaller t P H) → Call t P H
+      make_call t P H w' (hold, inl gt) d =
           let (u, e, l) = d gt in
-          let less' : Within (R.below u.family) (R.below s.family) = subst (λ f. Within (R.below f) (R.below s.family)) (sym e) less in
+          let less' : Within (R.below u.family) (R.below s.family) = subst (λ f. Within (R.below f) (R.below s.family)) (sym e) (hold.0 gt) in
           inr (u, e, (extension_over_less (R.below s.family) (R.below u.family) Σ Σ' less' x, world_for_callee Σ' R.worlds R.worlds (R.below s.family) (R.below u.family) less' (λ B i. inl i) w'), l)
-      make_call t P H less w' (inr (Q, i, f, e, fit, grow)) d =
-          let inner : Within (Q.below t) (R.below s.family) = λ g q. less g (grow g q) in
+      make_call t P H w' (hold, inr (Q, i, f, e, fit)) d =
+          let inner : Within (Q.below t) (R.below s.family) = hold.1 Q i f in
           inl (subst (λ m. TotalAt Σ' m t (binders G P)) e (((records Q i).lasts t f).1 Σ' (extension_over_less (R.below s.family) (Q.below t) Σ Σ' inner x) (binders G P) (world_for_callee Σ' R.worlds Q.worlds (R.below s.family) (Q.below t) inner fit w')))
 
       -- a call to the group is smaller
@@ -265,17 +234,17 @@ module _ (Σ : Signature) (ok : IsSignature Σ) (R : Checked) (moded : ℕ → B
               falls a b e = omega arith
 
       abbrev Moded : (ℕ → Bool) → LfType → Type 0
-      Moded U A = HasSoundMarks Σ (target A) (R.marks (target A)) × UsesGoal U (input_places (R.marks (target A))) A × EachHypothesis (WellModedTo zero Σ R.marks moded) moded (scope c) (outside c.type c.fixed) U A
+      Moded U A = HasSoundMarks Σ (target A) (R.marks (target A)) × UsesGoal U (input_places (R.marks (target A))) A × EachHypothesis (WellModedTo zero Σ R.marks (λ f. is_in f R.families)) (λ f. is_in f R.families) (scope c) (outside c.type c.fixed) U A
 
       subgoal : (i : ℕ) (U : ℕ → Bool) (A : LfType) → IsSubgoal c i A → Moded U A → CoveredOutputs Σ R.marks R.worlds (R.below (target c.type)) c U A → SubgoalOk Σ' ok' R.marks State (λ u. u.family) Setting measured s G c θ U A
       subgoal i U A v (ms, needs, hyps) out =
-          let callee : IsCallee R totals (target A) = gc.callees c k group_in i A v in
-          let (K, e, sound) = (callee_marks (target A) callee).0 in
+          let callee : IsCallee R totals (target c.type) (target A) = gc.callees c k group_in i A v in
+          let (K, e, sound) = (callee_marks (target c.type) (target A) callee).0 in
           let local : IsGroundLocal Σ R.worlds c U A = worlded Σ ok R.worlds gc.blocks_typed c (input_places (R.marks (target A))) U A (gc.well_worlded c k group_in i A v) needs in
           record {
             needs = needs;
-            kind = (K, x.kinds_stay (target A) K e, sound_inputs nothing (R.marks (target A)) K sound (callee_marks (target A) callee).1);
-            call = λ σ vs p o. subst (λ a. Call a (substitute_type reduce σ A) (substitute_spine reduce σ (target_arguments c.type))) (sym (target_of reduce σ A)) (make_call (target A) (substitute_type reduce σ A) (substitute_spine reduce σ (target_arguments c.type)) (of_goal i A v) (there U A σ local p) callee (smaller_call i A σ v o));
+            kind = (K, x.kinds_stay (target A) K e, sound_inputs nothing (R.marks (target A)) K sound (callee_marks (target c.type) (target A) callee).1);
+            call = λ σ vs p o. subst (λ a. Call a (substitute_type reduce σ A) (substitute_spine reduce σ (target_arguments c.type))) (sym (target_of reduce σ A)) (make_call (target A) (substitute_type reduce σ A) (substitute_spine reduce σ (target_arguments c.type)) (there U A σ local p) (subst (λ a. IsCallee R totals a (target A)) fam callee) (smaller_call i A σ v o));
             outputs = outputs_at out;
           }
         where
@@ -299,7 +268,7 @@ module _ (Σ : Signature) (ok : IsSignature Σ) (R : Checked) (moded : ℕ → B
   covers Σ' ok' s G (x, w) T K e i =
       let r : CoveredBy w (input_places (R.marks s.family)) s.family T = gc.covered_inputs s.family s.inside Σ' x G w T K e i in
       let first : ground_by everything (input_places (R.marks s.family)) r.clause ≡ ground_first R.marks r.clause = ap (λ f. ground_by everything (input_places (R.marks f)) r.clause) (sym r.family) in
-      (r.head, r.clause, r.outer, r.values, clause_ok Σ' ok' s G x w r.head r.clause r.outer r.offered r.family (is_clause Σ' s.family G w r.head r.clause r.outer x r.family r.offered), subst (λ U. Values Σ' U (scope r.clause) G r.values) first r.typed, r.agrees, subst (λ U. AreTerms r.clause U r.values) first r.terms, r.same, subst (λ U. UsesPlaces U (input_places (R.marks s.family)) (target_arguments r.clause.type)) first r.uses)
+      (r.head, r.clause, r.outer, r.values, clause_ok Σ' ok' s G x w r.head r.clause r.outer r.offered r.family (is_clause Σ' s.family G w r.head r.clause r.outer x s.inside r.family r.offered), subst (λ U. Values Σ' U (scope r.clause) G r.values) first r.typed, r.agrees, subst (λ U. AreTerms r.clause U r.values) first r.terms, r.same, subst (λ U. UsesPlaces U (input_places (R.marks s.family)) (target_arguments r.clause.type)) first r.uses)
 
   -- The THEOREM: each family of the group lasts.
   pub conclude : (f : ℕ) → Member f R.families → Lasting Σ f (R.marks f) R.worlds (R.below f)

@@ -70,13 +70,14 @@ covered_places (None ∷ Ms) = false ∷ covered_places Ms
 abbrev pub IsCoveredCase : Signature → List Block → (ℕ → Bool) → Case → Type 0
 IsCoveredCase Σ W S C = (Σ' : Signature) → Extends S Σ Σ' → (G : List LfType) (w : World Σ' W S G) (σ : ℕ → Image) → IsGroundInstance w C.items σ → (T : Spine) → HasArguments σ C.arguments T → CoveredBy w (covered_places C.arguments) C.family T
 
--- ρ takes the places before to variables; so it does past a place that isn't chosen
+-- ρ takes the chosen places before to variables; so it does past a place that isn't chosen. What it gives that place has no meaning:
+-- the types of the chosen places must not mention it.
 abbrev pub past_place : (ℕ → ℕ) → ℕ → ℕ
 past_place ρ zero = zero
 past_place ρ (suc i) = ρ i
 
 -- The goal of input coverage has a free variable for each chosen place, of the place's type over those before, and nothing at the
--- others. ρ takes the places before to the variables so far.
+-- others. ρ takes the chosen places before to the variables so far. The types of the chosen places must mention chosen places only.
 abbrev pub goal_items : List Bool → Kind → (ℕ → ℕ) → List Item → List Item
 goal_items [] K ρ I = I
 goal_items (b ∷ m) star ρ I = I
@@ -97,6 +98,6 @@ goal_arguments (b ∷ m) star = []
 goal_arguments (true ∷ m) (kind_pi A K) = Some (eta_long (skeleton A) (variable (chosen_count m K))) ∷ goal_arguments m K
 goal_arguments (false ∷ m) (kind_pi A K) = None ∷ goal_arguments m K
 
--- the goal for the family a of this kind
+-- the goal for the family a of this kind, where the types of the chosen places mention chosen places only
 abbrev pub input_goal : ℕ → List Bool → Kind → Case
 input_goal a m K = record { items = goal_items m K (λ i. i) []; family = a; arguments = goal_arguments m K }

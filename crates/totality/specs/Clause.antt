@@ -3,7 +3,7 @@
 -- The quantifiers of the type make the context `scope`, the last in front: subgoals are solved from the last quantifier back to
 -- the first, and so in the order of this list. A quantifier whose variable occurs in the rest is a variable of the clause, any
 -- other a subgoal. The subgoal at index i is the type at index i; its local context is that under its own quantifiers.
-use Rattle.std.specs.Prelude.{◌≡◌, ℕ, zero, suc, List, [], ◌∷◌, Bool, true, false, not, cond, Some}
+use Rattle.std.specs.Prelude.{◌≡◌, ℕ, zero, suc, List, [], ◌∷◌, Bool, true, false, Some}
 use Rattle.lf.specs.Syntax.{constant, variable, metavariable, Term, Spine, lambda, root, nil, app, LfType, pi, atom}
 use Rattle.lf.specs.Typing.{Signature, TypeAt}
 use Rattle.lf.specs.Variables.{binders, onto, everything, nothing, hide, same_number}
@@ -57,19 +57,6 @@ variables c = is_variable everything c.type
 -- A is the subgoal at index i of the scope
 abbrev pub IsSubgoal : Clause → ℕ → LfType → Type 0
 IsSubgoal c i A = (variables c i ≡ false) × TypeAt (scope c) i A
-
--- how many of the first n indices are in the set
-abbrev pub count_true : (ℕ → Bool) → ℕ → ℕ
-count_true V zero = zero
-count_true V (suc n) = cond (V n) (suc (count_true V n)) (count_true V n)
-
--- Subgoals are numbered in solving order from 1.
-abbrev pub subgoal_number : Clause → ℕ → ℕ
-subgoal_number c i = suc (count_true (λ j. not (variables c j)) i)
-
--- a variable of the clause has as its number how many stand at lower indices
-abbrev pub variable_number : Clause → ℕ → ℕ
-variable_number c i = count_true (variables c) i
 
 -- a set of what stands outside a type, seen under its quantifiers
 abbrev pub outside : LfType → (ℕ → Bool) → ℕ → Bool

@@ -90,6 +90,7 @@ pub record OutputsCovered (Σ : Signature) (m : ℕ → List Mark) (c : Clause) 
   pub is_instance : substitute_type reduce values A ≡ with_arguments (substitute_type reduce σ A) T
 
 -- Covered outputs of the subgoal A of the clause, where the variables U are ground before it: each tuple of typed arguments with the
--- inputs of the subgoal is covered.
+-- inputs of the subgoal is covered. Where U holds a variable and not those in its type, there are no values of U and nothing is
+-- asked. So it may be with a clause whose inputs are not all strict: such a clause covers no inputs and is passed over.
 abbrev pub CoveredOutputs : Signature → (ℕ → List Mark) → List Block → (ℕ → Bool) → Clause → (ℕ → Bool) → LfType → Type 0
 CoveredOutputs Σ m W S c U A = (Σ' : Signature) → Extends S Σ Σ' → (G : List LfType) (w : World Σ' W S G) (h : Head) (θ : ℕ → Image) → Offered w h c θ → (σ : ℕ → Image) → Values Σ' U (scope c) G σ → AgreesOutside c σ θ → AreTerms c U σ → (T : Spine) (K : Kind) → Σ'.kinds (target A) ≡ Some K → SamePlaces (input_places (m (target A))) (target_arguments (substitute_type reduce σ A)) T → SpineFitsKind Σ' (binders G (substitute_type reduce σ A)) T K → OutputsCovered Σ' m c U A G σ T

@@ -10,7 +10,7 @@ use Rattle.totality.specs.Marks.{Mark, input, output}
 use Rattle.totality.specs.Order.{Order, place}
 use Rattle.totality.specs.Case.{Case, block_variable, IsCoveredCase}
 use Rattle.lf.specs.Substitution.{keep}
-use Rattle.totality.specs.Group.{Checked, IsRight}
+use Rattle.totality.specs.Group.{Checked, IsRight, GroupChecked}
 
 -- a variable alone
 abbrev pub var : ℕ → Term
@@ -37,10 +37,6 @@ first_below_second (suc (suc n)) b = same_number (suc (suc n)) b
 -- the order that names the first place
 abbrev pub first_place : ℕ → Order
 first_place a = place 1
-
--- only the second family has a mode
-abbrev pub second_moded : ℕ → Bool
-second_moded a = same_number 1 a
 
 -- Addition. Families: nat = 0, plus = 1. Constants: z = 0, s = 1, plus-z = 2, plus-s = 3.
 
@@ -102,6 +98,30 @@ AdditionLasts = IsRight Addition addition_record
 -- so each two numbers have a sum, with its proof
 abbrev pub NumbersHaveSums : Type 0
 NumbersHaveSums = (M N : Term) → HasType Addition [] M nat → HasType Addition [] N nat → (P : Term) × (D : Term) × HasType Addition [] D (on_three 1 M N P)
+
+-- More declarations after these: b : type and mk : nat -> b, the family 2 and the constant 4.
+abbrev pub later_types : ℕ → Option LfType
+later_types zero = addition_types zero
+later_types (suc zero) = addition_types 1
+later_types (suc (suc zero)) = addition_types 2
+later_types (suc (suc (suc zero))) = addition_types 3
+later_types (suc (suc (suc (suc zero)))) = Some (pi nat (atom 2 nil))
+later_types (suc (suc (suc (suc (suc n))))) = None
+
+-- the kinds of the families
+abbrev pub later_kinds : ℕ → Option Kind
+later_kinds zero = addition_kinds zero
+later_kinds (suc zero) = addition_kinds 1
+later_kinds (suc (suc zero)) = Some star
+later_kinds (suc (suc (suc n))) = None
+
+-- both
+abbrev pub Later : Signature
+Later = record { types = later_types; kinds = later_kinds }
+
+-- the record of plus is checked there too
+abbrev pub AdditionStaysChecked : Type 0
+AdditionStaysChecked = GroupChecked Later addition_record first_place []
 
 -- Copying. Families: exp = 0, cp = 1. Constants: lam = 0, cp-lam = 1, app = 2, cp-app = 3.
 

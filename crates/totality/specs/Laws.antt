@@ -1,5 +1,5 @@
 -- The laws of total families that the functions of this crate carry.
-use Rattle.std.specs.Prelude.{◌≡◌, ℕ, List, [], length, Bool, true, ◌⊎◌, ◌<◌, ◌+◌, Some}
+use Rattle.std.specs.Prelude.{◌≡◌, ℕ, List, [], ◌∷◌, length, Bool, true, ◌⊎◌, ◌<◌, ◌+◌, Some}
 use Rattle.lf.specs.Syntax.{Head, constant, variable, Term, Spine, root, LfType, Kind, atom, Skeleton}
 use Rattle.lf.specs.Substitution.{Image, keep, put, substitute, substitute_spine, substitute_type, reduce}
 use Rattle.lf.specs.SkeletonTyping.{SkeletonAt, SubstitutionBySkeletons}
@@ -9,14 +9,14 @@ use Rattle.lf.specs.Variables.{target, target_arguments, binders, onto, UsesType
 use Rattle.lf.specs.Subordination.{Block, Member, IsDeclared, AreTypedBlocks, IsBelowTest}
 use Rattle.lf.specs.Worlds.{World}
 use Rattle.lf.specs.Extension.{Extends}
-use Rattle.totality.specs.Clause.{Clause, scope, outside, among, IsSubgoal}
-use Rattle.totality.specs.Marks.{Mark, AllInputs, input_places, AreSound, NoneFree, SamePlaces, UsesPlaces}
+use Rattle.totality.specs.Clause.{Clause, scope, outside, IsSubgoal}
+use Rattle.totality.specs.Marks.{Mark, AllInputs, input_places, AreSound, NoneFree, MentionChosenOnly, SamePlaces, UsesPlaces}
 use Rattle.totality.specs.Strict.{strict_at}
 use Rattle.totality.specs.Ground.{ground_first, ground_after, UsesGoal}
 use Rattle.totality.specs.Worlded.{IsSequence, BlocksServe}
 use Rattle.totality.specs.Order.{Order, Smaller, size, KeepsVariables}
 use Rattle.totality.specs.Descent.{LeadsTo, CallsLead, IsEqualCallTest}
-use Rattle.totality.specs.Cover.{InstanceIn, CoveredInputs, CoveredOutputs}
+use Rattle.totality.specs.Cover.{InstanceIn, place_of, CoveredInputs, CoveredOutputs}
 use Rattle.totality.specs.Case.{input_goal, IsCoveredCase}
 use Rattle.totality.specs.Raised.{RaisedPlaces, PlacesBelow, CoveredRaisedOutputs}
 use Rattle.totality.specs.Total.{HasTotalMarks, Total, Lasting}
@@ -26,7 +26,7 @@ use Rattle.totality.specs.Group.{IsSubordination, Checked, IsRight, GroupChecked
 
 -- the record of a checked group is right: each of its families lasts
 abbrev pub CheckedGroupIsRight : Type 0
-CheckedGroupIsRight = (Σ : Signature) → IsSignature Σ → (R : Checked) (moded : ℕ → Bool) (order : ℕ → Order) (totals : List Checked) → GroupChecked Σ R moded order totals → ((Q : Checked) → Member Q totals → IsRight Σ Q) → IsRight Σ R
+CheckedGroupIsRight = (Σ : Signature) → IsSignature Σ → (R : Checked) (order : ℕ → Order) (totals : List Checked) → GroupChecked Σ R order totals → ((Q : Checked) → Member Q totals → IsRight Σ Q) → IsRight Σ R
 
 -- what lasts is total now
 abbrev pub LastingIsTotal : Type 0
@@ -44,6 +44,10 @@ LastingOverMore = (Σ : Signature) (f : ℕ) (m : List Mark) (W : List Block) (S
 abbrev pub RecordStaysRight : Type 0
 RecordStaysRight = (Σ Σ' : Signature) (R : Checked) → Extends R.frozen Σ Σ' → IsRight Σ R → IsRight Σ' R
 
+-- a checked record stays checked in such an extension
+abbrev pub CheckedStaysChecked : Type 0
+CheckedStaysChecked = (Σ Σ' : Signature) (R : Checked) (order : ℕ → Order) (totals : List Checked) → Extends R.frozen Σ Σ' → GroupChecked Σ R order totals → GroupChecked Σ' R order totals
+
 -- Subordination.
 
 -- the subordination of a signature and blocks is a test of subordination
@@ -54,14 +58,18 @@ BelowIsSubordination = (Σ : Signature) → IsSignature Σ → (W : List Block) 
 abbrev pub KindPlacesAreBelow : Type 0
 KindPlacesAreBelow = (Σ : Signature) → IsSignature Σ → (W : List Block) → AreTypedBlocks Σ W → (below : ℕ → ℕ → Bool) → ((f : ℕ) → IsBelowTest Σ W (below f) f) → (a f : ℕ) (K : Kind) → IsDeclared Σ a → below a f ≡ true → Σ.kinds f ≡ Some K → PlacesBelow Σ below a K
 
--- in a context of worlds beside S, a variable whose family is in S is an entry of an instance
+-- Variable i of a context of worlds is the entry E, with the target b, of an instance: what stands for this entry in it.
+abbrev pub EntryIn : {Σ : Signature} {W : List Block} {S : ℕ → Bool} {G : List LfType} → World Σ W S G → ℕ → ℕ → Type 0
+EntryIn {W = W} w i b = (B : Block) × Member B W × (later : List LfType) × (E : LfType) × (es : List LfType) × (onto later (E ∷ es) ≡ B.entries) × (target E ≡ b) × (θ : ℕ → Image) × InstanceIn w B θ × (θ (place_of later) ≡ keep i)
+
+-- in a context of worlds beside S, a variable whose family is in S is an entry of an instance, with this family as its target
 abbrev pub VariableIsEntry : Type 0
-VariableIsEntry = (Σ : Signature) → IsSignature Σ → (W : List Block) (S : ℕ → Bool) (G : List LfType) (w : World Σ W S G) (i : ℕ) (A : LfType) → TypeAt G i A → S (target A) ≡ true → (B : Block) × Member B W × (θ : ℕ → Image) × InstanceIn w B θ × (k : ℕ) × (among B.entries k ≡ true) × (θ k ≡ keep i)
+VariableIsEntry = (Σ : Signature) → IsSignature Σ → (W : List Block) (S : ℕ → Bool) (G : List LfType) (w : World Σ W S G) (i : ℕ) (A : LfType) → TypeAt G i A → S (target A) ≡ true → EntryIn w i (target A)
 
 -- The head h of a term of a family b, over the local context D in the context of w: a constant of Σ, a local variable, or an entry
--- of an instance of the context.
+-- of an instance of the context, each with the target b.
 abbrev pub HeadIsKnown : Signature → List LfType → {Σ' : Signature} {W : List Block} {S : ℕ → Bool} {G : List LfType} → World Σ' W S G → Head → ℕ → Type 0
-HeadIsKnown Σ D {W = W} {G = G} w h b = ((k : ℕ) × (U : LfType) × (h ≡ constant k) × (Σ.types k ≡ Some U) × (target U ≡ b)) ⊎ ((i : ℕ) × (A : LfType) × (h ≡ variable i) × (i < length D) × TypeAt (onto D G) i A × (target A ≡ b)) ⊎ ((j : ℕ) × (h ≡ variable (j + length D)) × (B : Block) × Member B W × (θ : ℕ → Image) × InstanceIn w B θ × (k : ℕ) × (among B.entries k ≡ true) × (θ k ≡ keep j))
+HeadIsKnown Σ D {G = G} w h b = ((k : ℕ) × (U : LfType) × (h ≡ constant k) × (Σ.types k ≡ Some U) × (target U ≡ b)) ⊎ ((i : ℕ) × (A : LfType) × (h ≡ variable i) × (i < length D) × TypeAt (onto D G) i A × (target A ≡ b)) ⊎ ((j : ℕ) × (h ≡ variable (j + length D)) × EntryIn w j b)
 
 -- Splitting: in a legal extension over S and a context of worlds beside S, the head of a term of a family of S is one of these.
 abbrev pub HeadsAreKnown : Type 0
@@ -112,9 +120,14 @@ GroundAfterIsClosed = (Σ : Signature) → IsSignature Σ → (m : ℕ → List 
 
 -- Coverage.
 
--- where clauses cover the goal of input coverage, the inputs of the family are covered
+-- where the types of input places mention input places only, and clauses cover the goal of input coverage, the inputs of the family
+-- are covered
 abbrev pub InputGoalCovers : Type 0
-InputGoalCovers = (Σ : Signature) (m : ℕ → List Mark) (W : List Block) (S : ℕ → Bool) (a : ℕ) (K : Kind) → Σ.kinds a ≡ Some K → AreSound nothing (m a) K → NoneFree (m a) → IsCoveredCase Σ W S (input_goal a (input_places (m a)) K) → CoveredInputs Σ m W S a
+InputGoalCovers = (Σ : Signature) (m : ℕ → List Mark) (W : List Block) (S : ℕ → Bool) (a : ℕ) (K : Kind) → Σ.kinds a ≡ Some K → MentionChosenOnly nothing (input_places (m a)) K → IsCoveredCase Σ W S (input_goal a (input_places (m a)) K) → CoveredInputs Σ m W S a
+
+-- by sound marks without `*`, the types of input places mention input places only
+abbrev pub InputsMentionInputs : Type 0
+InputsMentionInputs = (V : ℕ → Bool) (m : List Mark) (K : Kind) → AreSound V m K → NoneFree m → MentionChosenOnly V (input_places m) K
 
 -- a subgoal without outputs is covered
 abbrev pub NoOutputsAreCovered : Type 0

@@ -69,6 +69,14 @@ AllInputs (input ∷ m) = AllInputs m
 AllInputs (output ∷ m) = ⊥
 AllInputs (free ∷ m) = ⊥
 
+-- The types of the chosen places mention chosen places only. V has those before.
+abbrev pub MentionChosenOnly : (ℕ → Bool) → List Bool → Kind → Type 0
+MentionChosenOnly V (true ∷ m) (kind_pi A K) = UsesType V A × MentionChosenOnly (under V) m K
+MentionChosenOnly V (false ∷ m) (kind_pi A K) = MentionChosenOnly (hide V) m K
+MentionChosenOnly V [] (kind_pi A K) = ⊥
+MentionChosenOnly V [] star = Unit {0}
+MentionChosenOnly V (b ∷ m) star = ⊥
+
 -- The chosen places hold typed terms, where θ stands for the places before. What stands at the other places is of no meaning where
 -- the types of the chosen places mention chosen places only, as those of inputs do by sound marks without `*`.
 abbrev pub TypedPlacesFrom : Signature → List Bool → List LfType → (ℕ → Image) → Spine → Kind → Type 0

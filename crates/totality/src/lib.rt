@@ -1,8 +1,8 @@
 //! The laws of total families of LF. They have no code: each function carries one law as its contract.
 #![tactic(auto)]
 
-ghost use Rattle.totality.specs.Laws.{CheckedGroupIsRight, LastingIsTotal, LastingGoesOn, LastingOverMore, RecordStaysRight, BelowIsSubordination, KindPlacesAreBelow, VariableIsEntry, CallsHaveRank, RankForbidsCycles, WaysAreDecided, StrictOccurrencesDetermine, GroundFirstIsClosed, GroundAfterIsClosed, TypedTuplesAreRaised, RaisedOutputsCover, HeadsAreKnown, InputGoalCovers, NoOutputsAreCovered, SubgoalContextIsWorld, CallerServesCallee, SmallerHasSmallerInstances};
-ghost use Rattle.totality.specs.Examples.{AdditionLasts, NumbersHaveSums, CopyingLasts, TermsHaveCopies, BlockCaseIsCovered};
+ghost use Rattle.totality.specs.Laws.{CheckedGroupIsRight, LastingIsTotal, LastingGoesOn, LastingOverMore, RecordStaysRight, CheckedStaysChecked, BelowIsSubordination, KindPlacesAreBelow, VariableIsEntry, CallsHaveRank, RankForbidsCycles, WaysAreDecided, StrictOccurrencesDetermine, GroundFirstIsClosed, GroundAfterIsClosed, TypedTuplesAreRaised, RaisedOutputsCover, HeadsAreKnown, InputGoalCovers, InputsMentionInputs, NoOutputsAreCovered, SubgoalContextIsWorld, CallerServesCallee, SmallerHasSmallerInstances};
+ghost use Rattle.totality.specs.Examples.{AdditionLasts, AdditionStaysChecked, NumbersHaveSums, CopyingLasts, TermsHaveCopies, BlockCaseIsCovered};
 ghost use Rattle.totality.specs.Refusals.{FreePlaceIsExempt, UnsoundMarksAreRefused, MarksMustFit, LoopIsRefused, UngroundIsRefused, MissingWorldIsRefused, CycleIsRefused, SomeVariableCoversNothing, SomeVariableIsNoParameter};
 
 /// The totality theorem: the record of a checked group is right, each of its families lasts.
@@ -30,6 +30,11 @@ pub fn record_stays_right()
     ensures { RecordStaysRight }
 {}
 
+/// A checked record stays checked in such an extension.
+pub fn checked_stays_checked()
+    ensures { CheckedStaysChecked }
+{}
+
 /// The subordination of a signature and blocks is a test of subordination.
 pub fn below_is_subordination()
     ensures { BelowIsSubordination }
@@ -40,7 +45,7 @@ pub fn kind_places_are_below()
     ensures { KindPlacesAreBelow }
 {}
 
-/// In a context of worlds beside a set, a variable whose family is in the set is an entry of an instance.
+/// In a context of worlds beside a set, a variable whose family is in the set is an entry of an instance, with this family.
 pub fn variable_is_entry()
     ensures { VariableIsEntry }
 {}
@@ -105,9 +110,14 @@ pub fn heads_are_known()
     ensures { HeadsAreKnown }
 {}
 
-/// Where clauses cover the goal of input coverage, the inputs of the family are covered.
+/// Where the types of input places mention input places only, and clauses cover the goal of input coverage, the inputs are covered.
 pub fn input_goal_covers()
     ensures { InputGoalCovers }
+{}
+
+/// By sound marks without `*`, the types of input places mention input places only.
+pub fn inputs_mention_inputs()
+    ensures { InputsMentionInputs }
 {}
 
 /// A subgoal without outputs is covered.
@@ -118,6 +128,11 @@ pub fn no_outputs_are_covered()
 /// Addition of natural numbers lasts.
 pub fn addition_lasts()
     ensures { AdditionLasts }
+{}
+
+/// After later declarations the record of addition is checked still.
+pub fn addition_stays_checked()
+    ensures { AdditionStaysChecked }
 {}
 
 /// So each two numbers have a sum, with its proof.
