@@ -1,5 +1,9 @@
 //! Typing by skeletons, by which tests meet what the calls need.
-ghost use Rattle.std.specs.Prelude.{◌≡◌, ◌∷◌, ◌++◌, IfOk, IfSome, IsTrue, map, slice_get};
+ghost use Rattle.std.specs.Prelude.{◌≡◌, ◌∷◌, ◌++◌, IfOk, IfSome, IsTrue, IsErrOf, length, map, slice_get};
+ghost use Rattle.lf.specs.Substitution.{single, substitute as put_in, substitute_type, reduce};
+ghost use Rattle.lf.specs.Depth.{depth_limit};
+ghost use Rattle.lf.specs.Deep.{DeepSubstitution, DeepTypeSubstitution, DeepReduction};
+ghost use Rattle.tw_hered.specs.Fits.{put_at};
 ghost use Rattle.lf.specs.SkeletonTyping.{HeadSkeleton, TermSkeleton, SpineSkeleton, TypeBySkeletons};
 ghost use Rattle.tw_terms.specs.View.{head_of, term_of, spine_of, type_of, skeleton_of};
 ghost use Rattle.tw_hered.specs.Known.{heads_of};
@@ -151,7 +155,10 @@ pub fn put_in_term<'a>(
     made: &'a Skeleton,
     arg: &Term,
     skel: &'a Skeleton,
-) -> Result<Term, HeredFault> {
+) -> Result<Term, HeredFault>
+    ensures ok { IfOk result (λ m. term_of m ≡ put_in reduce (put_at (length around.entry.bound.now) (skeleton_of skel.now) (term_of arg.now)) (term_of body.now)) }
+    ensures too_deep { IsErrOf result HeredFault.TooDeep → DeepSubstitution depth_limit (put_at (length around.entry.bound.now) (skeleton_of skel.now) (term_of arg.now)) (term_of body.now) }
+{
     let inside = context_around(alloc, around.bound, skel, around.outer)?;
     let arg_typed = term_has(alloc, arg, skel, around.constants, around.outer)?;
     let body_typed = term_has(alloc, body, made, around.constants, &inside)?;
@@ -171,7 +178,10 @@ pub fn put_in_type<'a>(
     body: &'a Ty,
     arg: &Term,
     skel: &'a Skeleton,
-) -> Result<Ty, HeredFault> {
+) -> Result<Ty, HeredFault>
+    ensures ok { IfOk result (λ a. type_of a ≡ substitute_type reduce (put_at (length around.entry.bound.now) (skeleton_of skel.now) (term_of arg.now)) (type_of body.now)) }
+    ensures too_deep { IsErrOf result HeredFault.TooDeep → DeepTypeSubstitution depth_limit (put_at (length around.entry.bound.now) (skeleton_of skel.now) (term_of arg.now)) (type_of body.now) }
+{
     let inside = context_around(alloc, around.bound, skel, around.outer)?;
     let arg_typed = term_has(alloc, arg, skel, around.constants, around.outer)?;
     let body_typed = type_fits(alloc, body, around.constants, around.families, &inside)?;
@@ -191,7 +201,9 @@ pub fn put_in_newest<'a>(
     body: &'a Ty,
     arg: &Term,
     skel: &'a Skeleton,
-) -> Result<Ty, HeredFault> {
+) -> Result<Ty, HeredFault>
+    ensures { IfOk result (λ a. type_of a ≡ substitute_type reduce (single (skeleton_of skel.now) (term_of arg.now)) (type_of body.now)) }
+{
     let inside = context_around(alloc, &[], skel, around.outer)?;
     let arg_typed = term_has(alloc, arg, skel, around.constants, around.outer)?;
     let body_typed = type_fits(alloc, body, around.constants, around.families, &inside)?;
@@ -212,7 +224,10 @@ pub fn apply_typed<'a>(
     spine: &Spine,
     skel: &'a Skeleton,
     family: u64,
-) -> Result<Term, HeredFault> {
+) -> Result<Term, HeredFault>
+    ensures ok { IfOk result (λ m. term_of m ≡ reduce (skeleton_of skel.now) (term_of term.now) (spine_of spine.now)) }
+    ensures too_deep { IsErrOf result HeredFault.TooDeep → DeepReduction depth_limit (skeleton_of skel.now) (term_of term.now) (spine_of spine.now) }
+{
     let made = Skeleton::Base(ConstId(family));
     let term_typed = term_has(alloc, term, skel, around.constants, around.outer)?;
     let spine_typed = spine_has(alloc, spine, skel, &made, around.constants, around.outer)?;
