@@ -44,3 +44,12 @@ FileCounts before now Absent = now ≡ count_after false before
 FileCounts before now TooLong = now ≡ count_after false before
 FileCounts before now Failed = now ≡ count_after true before
 FileCounts before now NoMemory = now ≡ count_after false before
+
+-- exactly what a store of these files answers where the call doesn't fail: the bytes where they are no more than the
+-- limit, or want of memory for them
+abbrev pub LooksUp : Held → List ℕ → ℕ → FileAnswer → Type 0
+LooksUp files name limit (Found bytes) = (held_under name files ≡ Some bytes.items) × (length bytes.items ≤ limit)
+LooksUp files name limit Absent = held_under name files ≡ None
+LooksUp files name limit TooLong = IsSomeAnd (held_under name files) (λ bytes. limit < length bytes)
+LooksUp files name limit Failed = ⊥
+LooksUp files name limit NoMemory = IsSomeAnd (held_under name files) (λ bytes. length bytes ≤ limit)

@@ -1,6 +1,7 @@
 //! Where bytes come from and go to: sources, sinks and stores of files, each of which counts its faults.
 #![tactic(auto)]
 
+mod disk;
 mod files;
 mod memory;
 mod ports;
@@ -10,7 +11,8 @@ mod sure;
 #[cfg(test)]
 mod tests;
 
-pub use files::{FileAnswer, Files, SureFiles};
+pub use disk::DiskFiles;
+pub use files::{FileAnswer, Files, MemFiles, SureFiles};
 pub use memory::{MemSink, MemSource};
 pub use ports::{ReadAnswer, Sink, Source, WriteAnswer};
 pub use real::{ReaderSource, WriterSink};

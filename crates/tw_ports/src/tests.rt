@@ -1,6 +1,7 @@
+use crate::disk::read_within;
 use crate::{
-    FileAnswer, Files, MemSink, MemSource, ReadAnswer, ReaderSource, Sink, Source, SureFiles,
-    SureSink, SureSource, WriteAnswer, WriterSink,
+    DiskFiles, FileAnswer, Files, MemFiles, MemSink, MemSource, ReadAnswer, ReaderSource, Sink,
+    Source, SureFiles, SureSink, SureSource, WriteAnswer, WriterSink,
 };
 use std::alloc::{AllocError, Global};
 use std::io;
@@ -62,9 +63,33 @@ fn sinks_keep_what_they_took(rt: HostRuntime) -> Result<(), AllocError> {
     Ok(())
 }
 
-#[test]
-fn files_are_found_by_name(rt: HostRuntime) -> Result<(), AllocError> {
-    let alloc = rt.alloc();
+// What a store answers, as text.
+fn answer<F: Files>(
+    alloc: Global,
+    files: &mut F,
+    name: &str,
+    limit: usize,
+) -> Result<Vec<u8>, AllocError> {
+    shown(alloc, files.read_file(alloc, name, limit))
+}
+
+fn shown(alloc: Global, answer: FileAnswer) -> Result<Vec<u8>, AllocError> {
+    let mut told = Vec::new(alloc);
+    match answer {
+        FileAnswer::Found(bytes) => {
+            told.extend_from_slice(b"found ")?;
+            told.extend_from_slice(&bytes)?;
+        }
+        FileAnswer::Absent => told.extend_from_slice(b"absent")?,
+        FileAnswer::TooLong => told.extend_from_slice(b"too long")?,
+        FileAnswer::Failed => told.extend_from_slice(b"failed")?,
+        FileAnswer::NoMemory => return Err(AllocError),
+    }
+    Ok(told)
+}
+
+// Three files, two of them with one name.
+fn three(alloc: Global) -> Result<Vec<(String, Vec<u8>)>, AllocError> {
     let mut held = Vec::new(alloc);
     for (name, text) in [("one", "abc"), ("two", ""), ("one", "second")] {
         held.push((
@@ -72,25 +97,101 @@ fn files_are_found_by_name(rt: HostRuntime) -> Result<(), AllocError> {
             text.as_bytes().to_vec(alloc)?,
         ))?;
     }
-    let mut files = SureFiles::new(held);
+    Ok(held)
+}
+
+#[test]
+fn files_are_found_by_name(rt: HostRuntime) -> Result<(), AllocError> {
+    let alloc = rt.alloc();
+    let mut files = SureFiles::new(three(alloc)?);
     for (name, limit, want) in [
         ("one", 3, "found abc"),
         ("one", 2, "too long"),
         ("two", 0, "found "),
         ("on", 9, "absent"),
     ] {
-        let mut told = Vec::new(alloc);
-        match files.read_file(alloc, name, limit) {
-            FileAnswer::Found(bytes) => {
-                told.extend_from_slice(b"found ")?;
-                told.extend_from_slice(&bytes)?;
-            }
-            FileAnswer::Absent => told.extend_from_slice(b"absent")?,
-            FileAnswer::TooLong => told.extend_from_slice(b"too long")?,
-            FileAnswer::Failed => told.extend_from_slice(b"failed")?,
-            FileAnswer::NoMemory => return Err(AllocError),
-        }
+        let told = answer(alloc, &mut files, name, limit)?;
         assert_eq!(rt; told.as_slice(), want.as_bytes(), "{name} within {limit}");
+    }
+    Ok(())
+}
+
+#[test]
+fn files_fail_where_listed(rt: HostRuntime) -> Result<(), AllocError> {
+    let alloc = rt.alloc();
+    let mut files = MemFiles::new(three(alloc)?, vec![in alloc; 4, 1]?);
+    for (name, limit, want) in [
+        ("one", 3, "failed"),
+        ("one", 3, "found abc"),
+        ("on", 3, "absent"),
+        ("on", 3, "failed"),
+        ("one", 2, "too long"),
+    ] {
+        let told = answer(alloc, &mut files, name, limit)?;
+        assert_eq!(rt; told.as_slice(), want.as_bytes(), "{name} within {limit}");
+    }
+    Ok(())
+}
+
+#[test]
+fn the_disk_has_files(rt: HostRuntime) -> Result<(), AllocError> {
+    let alloc = rt.alloc();
+    let mut files = DiskFiles::new(rt);
+    // An empty file, one without end, one that isn't there, a folder, and a path through a file.
+    for (name, limit, want) in [
+        ("/dev/null", 0, "found "),
+        ("/dev/zero", 3, "too long"),
+        ("/dev/zero", 9000, "too long"),
+        ("/no such file", 9, "absent"),
+        ("/", 9, "failed"),
+        ("/dev/null/file", 9, "failed"),
+    ] {
+        let told = answer(alloc, &mut files, name, limit)?;
+        assert_eq!(rt; told.as_slice(), want.as_bytes(), "{name} within {limit}");
+    }
+    Ok(())
+}
+
+// A reader of so many bytes, one of them at each read, which fails in the given call.
+#[derive(Drop)]
+struct Slow {
+    left: u8,
+    calls: u8,
+    failing: u8,
+}
+
+impl io::Read for Slow {
+    fn read(&mut self, buf: &mut [u8]) -> io::Result<usize> {
+        self.calls = self.calls.saturating_add(1);
+        if self.calls == self.failing {
+            return Err(io::Error::from(io::ErrorKind::Other));
+        }
+        if self.left == 0 || buf.is_empty() {
+            return Ok(0);
+        }
+        self.left -= 1;
+        buf[0] = b'a';
+        Ok(1)
+    }
+}
+
+#[test]
+fn open_files_are_read_to_their_end(rt: HostRuntime) -> Result<(), AllocError> {
+    let alloc = rt.alloc();
+    for (left, failing, limit, want) in [
+        (3, 0, 3, "found aaa"),
+        (3, 0, 2, "too long"),
+        (3, 3, 3, "failed"),
+        (3, 4, 3, "failed"),
+        (0, 0, 0, "found "),
+    ] {
+        let mut reader = Slow {
+            left,
+            calls: 0,
+            failing,
+        };
+        let told = shown(alloc, read_within(alloc, &mut reader, limit))?;
+        assert_eq!(rt; told.as_slice(), want.as_bytes(), "{left} within {limit}");
     }
     Ok(())
 }

@@ -1,0 +1,12 @@
+//! The command lines.
+#![tactic(auto)]
+
+mod command;
+mod number;
+mod read;
+#[cfg(test)]
+mod tests;
+mod words;
+
+pub use command::{Command, CommandFault, Parameter, Setting};
+pub use read::read_command;

@@ -1,0 +1,6 @@
+pub mod Examples
+pub mod Uniqueness
+pub mod Walked
+pub mod Rows
+pub mod Meaning
+pub mod Clap
