@@ -1,5 +1,5 @@
 //! The table of operators.
-ghost use Rattle.std.specs.Prelude.{◌≡◌, OnOk, OnErr};
+ghost use Rattle.std.specs.Prelude.{◌≡◌, OnOk, OnErr, None};
 ghost use Rattle.std.specs.FinMap as map;
 
 use crate::name::Name;
@@ -51,10 +51,12 @@ impl FixTable {
         }
     }
 
-    /// Gives a name this row, in place of the one that it had. Fails only for want of memory, and then nothing is changed.
+    /// Gives a name this row, in place of the one that it had. Fails only for want of memory at a name without a row, and then
+    /// nothing is changed.
     pub fn set(&mut self, name: Name, fix: Fix) -> Result<(), AllocError>
         ensures ok { OnOk result (self.new ≡ map.insert self.old name fix) }
         ensures err { OnErr result (self.new ≡ self.old) }
+        ensures absent { OnErr result (map.get self.old name ≡ None) }
     {
         self.rows.insert(name.into_bytes(), fix)?;
         Ok(())
