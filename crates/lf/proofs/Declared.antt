@@ -1,10 +1,10 @@
 -- Every family below a declared family is declared, so the families below it are self-contained.
-use Rattle.std.proofs.Common.{ℕ, List, [], ◌∷◌, subst, inl, inr}
+use Rattle.std.proofs.Common.{ℕ, List, [], ◌∷◌, subst, sym, inl, inr}
 use Rattle.std.specs.Prelude.{Bool}
 use Rattle.lf.specs.Syntax.{LfType, Kind, pi, atom, kind_pi, star}
-use Rattle.lf.specs.Typing.{Signature, IsType, IsKind, IsSignature}
-use Rattle.lf.specs.Variables.{target}
-use Rattle.lf.specs.Subordination.{Block, IsDeclared, AreTypedBlocks, Quantifies, KindQuantifies, Below, below_itself, below_through, below_in_constant, below_in_kind, below_in_entry, SelfContained, IsBelowTest}
+use Rattle.lf.specs.Typing.{Signature, IsType, IsKind, IsContext, IsSignature}
+use Rattle.lf.specs.Variables.{target, onto}
+use Rattle.lf.specs.Subordination.{Block, Member, IsDeclared, AreTypedBlocks, Quantifies, KindQuantifies, Below, below_itself, below_through, below_in_constant, below_in_kind, below_in_entry, SelfContained, IsBelowTest}
 use Rattle.lf.proofs.Strength.{below_contained}
 
 target_declared : (Σ : Signature) (G : List LfType) (A : LfType) → IsType Σ G A → IsDeclared Σ (target A)
@@ -23,12 +23,18 @@ kind_quantified_declared Σ G f (kind_pi A K) a b (t, u) (inr (inl q)) = quantif
 kind_quantified_declared Σ G f (kind_pi A K) a b (t, u) (inr (inr q)) = kind_quantified_declared Σ (A ∷ G) f K a b u q
 kind_quantified_declared Σ G f star a b t q = absurd q
 
+-- an entry of a typed block is a type over what precedes it
+entry_typed : (Σ : Signature) (C : List LfType) (E : LfType) (es : List LfType) → IsContext Σ (onto es C) → Member E es → (G : List LfType) × IsType Σ G E
+entry_typed Σ C E [] w i = absurd i
+entry_typed Σ C E (D ∷ es) (w, t) (inl e) = (onto es C, subst (IsType Σ (onto es C)) (sym e) t)
+entry_typed Σ C E (D ∷ es) (w, t) (inr i) = entry_typed Σ C E es w i
+
 pub below_declared : (Σ : Signature) (W : List Block) → IsSignature Σ → AreTypedBlocks Σ W → {a b : ℕ} → Below Σ W a b → IsDeclared Σ b → IsDeclared Σ a
 below_declared Σ W ok w below_itself d = d
 below_declared Σ W ok w (below_through p q) d = below_declared Σ W ok w p (below_declared Σ W ok w q d)
 below_declared Σ W ok w (below_in_constant {a = a} {b = b} c U e q) d = quantified_declared Σ [] U a b (ok.types_ok c U e) q
 below_declared Σ W ok w (below_in_kind {a = a} {b = b} f K e q) d = kind_quantified_declared Σ [] f K a b (ok.kinds_ok f K e) q
-below_declared Σ W ok w (below_in_entry {a = a} {b = b} B E i j q) d = let (G, t) = w B E i j in quantified_declared Σ G E a b t q
+below_declared Σ W ok w (below_in_entry {a = a} {b = b} B E i j q) d = let (G, t) = entry_typed Σ B.some E B.entries (w B i) j in quantified_declared Σ G E a b t q
 
 pub below_self_contained : (Σ : Signature) (W : List Block) (S : ℕ → Bool) (f : ℕ) → IsSignature Σ → AreTypedBlocks Σ W → IsDeclared Σ f → IsBelowTest Σ W S f → SelfContained Σ W S
 below_self_contained Σ W S f ok w d t = below_contained Σ W S f t (λ a s. below_declared Σ W ok w ((t a).0 s) d)

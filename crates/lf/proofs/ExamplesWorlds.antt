@@ -4,15 +4,23 @@ use Rattle.lf.specs.Syntax.{LfType}
 use Rattle.lf.specs.Substitution.{keep}
 use Rattle.lf.specs.Typing.{HasType, IsContext}
 use Rattle.lf.specs.Variables.{everything, Values}
-use Rattle.lf.specs.Subordination.{Block}
+use Rattle.lf.specs.Subordination.{Block, IsTypedBlock}
 use Rattle.lf.specs.Worlds.{World, no_variables, single_variable, whole_instance, begin_instance, next_entry}
 use Rattle.lf.proofs.Worlds.{world_is_context}
-use Rattle.lf.proofs.Checker.{check_sound, check_type_sound}
-use Rattle.lf.proofs.ExampleSignature.{Σ₀, v, nat, exp, ap, lam}
+use Rattle.lf.proofs.Checker.{check_sound, check_type_sound, type_refused}
+use Rattle.lf.proofs.ExampleSignature.{Σ₀, v, nat, vec, exp, ap, lam}
 
--- the block x : exp
+-- the block x : exp, with the label l
 abbrev B₀ : Block
-B₀ = record { label = 0; some = []; entries = exp ∷ [] }
+B₀ = record { label = 108 ∷ []; some = []; entries = exp ∷ [] }
+
+-- some {n:nat} block {x:vec n} {y:vec n} is typed
+pub typed_block : IsTypedBlock Σ₀ (record { label = 108 ∷ []; some = nat ∷ []; entries = vec (v 1) ∷ vec (v 0) ∷ [] })
+typed_block = (((tt, check_type_sound Σ₀ [] nat refl), check_type_sound Σ₀ (nat ∷ []) (vec (v 0)) refl), check_type_sound Σ₀ (vec (v 0) ∷ nat ∷ []) (vec (v 1)) refl)
+
+-- block {x:vec n} {n:nat} isn't, though each of its entries is a type in some context
+pub untyped_block : IsTypedBlock Σ₀ (record { label = 108 ∷ []; some = []; entries = nat ∷ vec (v 0) ∷ [] }) → ⊥
+untyped_block ((w, t), u) = type_refused Σ₀ [] (vec (v 0)) refl t
 
 -- the set of exp alone
 abbrev S₀ : ℕ → Bool

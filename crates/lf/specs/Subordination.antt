@@ -1,12 +1,12 @@
 -- Subordination: the least relation, over a signature and a list of blocks; self-contained sets of families.
 use Rattle.std.specs.Prelude.{◌≡◌, ℕ, List, [], ◌∷◌, Some, Bool, true, ◌⊎◌, ◌↔◌}
 use Rattle.lf.specs.Syntax.{LfType, Kind, pi, atom, kind_pi, star}
-use Rattle.lf.specs.Typing.{Signature, IsType}
-use Rattle.lf.specs.Variables.{target, FamiliesIn, KindFamiliesIn}
+use Rattle.lf.specs.Typing.{Signature, IsContext}
+use Rattle.lf.specs.Variables.{target, onto, FamiliesIn, KindFamiliesIn}
 
--- A block: the `some` variables, and the entries over them; each list has the newest in front.
+-- A block: the bytes of its label, the `some` variables, and the entries over them; these two lists have the newest in front.
 pub record Block : Type 0 where
-  pub label : ℕ
+  pub label : List ℕ
   pub some : List LfType
   pub entries : List LfType
 
@@ -38,9 +38,12 @@ pub data Below (Σ : Signature) (W : List Block) : ℕ → ℕ → Type 0 where
 abbrev pub IsDeclared : Signature → ℕ → Type 0
 IsDeclared Σ a = (K : Kind) × (Σ.kinds a ≡ Some K)
 
--- each entry of each block is a type in some context
+-- The `some` variables of the block form a context, and each entry is a type over them and the entries before it.
+abbrev pub IsTypedBlock : Signature → Block → Type 0
+IsTypedBlock Σ B = IsContext Σ (onto B.entries B.some)
+
 abbrev pub AreTypedBlocks : Signature → List Block → Type 0
-AreTypedBlocks Σ W = (B : Block) (E : LfType) → Member B W → Member E B.entries → (G : List LfType) × IsType Σ G E
+AreTypedBlocks Σ W = (B : Block) → Member B W → IsTypedBlock Σ B
 
 -- A set of declared families that holds every family in the kind of one of its families, in the type of a constant whose
 -- target is one of them, and in the type of a block's entry whose target is one of them.

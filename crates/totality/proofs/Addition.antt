@@ -25,7 +25,7 @@ use Rattle.totality.proofs.After.{record_made, lasting_total}
 use Rattle.totality.proofs.Stays.{stays_checked}
 use Rattle.totality.proofs.ExampleLemmas.{step, below_itself, same_below, in_group}
 
-abbrev plus_goal : LfType
+abbrev pub plus_goal : LfType
 plus_goal = on_three 1 (var 3) (var 2) (var 1)
 
 some_type : {A B : LfType} → Some A ≡ Some B → A ≡ B
@@ -45,7 +45,7 @@ module _ (Σ : Signature) (k0 : Σ.kinds 0 ≡ Some star) (k1 : Σ.kinds 1 ≡ S
   var_ok : (G : List LfType) (i : ℕ) → TypeAt G i nat → HasType Σ G (var i) nat
   var_ok G i g = (nat, g, refl)
 
-  s_ok : (G : List LfType) (M : Term) → HasType Σ G M nat → HasType Σ G (successor M) nat
+  pub s_ok : (G : List LfType) (M : Term) → HasType Σ G M nat → HasType Σ G (successor M) nat
   s_ok G M m = (pi nat nat, t1, (m, refl))
 
   types_ok : (c : ℕ) (A : LfType) → addition_types c ≡ Some A → IsType Σ [] A
@@ -79,7 +79,7 @@ addition_ok : IsSignature Addition
 addition_ok = record { types_ok = types_ok Addition refl refl refl refl; kinds_ok = kinds_ok Addition refl refl refl refl }
 
 -- families below plus
-abbrev S : ℕ → Bool
+abbrev pub S : ℕ → Bool
 S b = first_below_second 1 b
 
 -- in a context of no blocks, no variable has a family of S
@@ -90,7 +90,7 @@ no_variable (single_variable {A = B} w t n) (suc j) A (C, g, e) q = no_variable 
 no_variable (whole_instance B i e o) j A g q = absurd i
 
 -- the target of a head's type is that of the term
-spine_target : (Σ : Signature) (G : List LfType) (T : Spine) (A C : LfType) → SpineType Σ G T A C → target A ≡ target C
+pub spine_target : (Σ : Signature) (G : List LfType) (T : Spine) (A C : LfType) → SpineType Σ G T A C → target A ≡ target C
 spine_target Σ G nil A C e = ap target e
 spine_target Σ G (app M T) (pi A B) C (m, r) = sym (target_of reduce _ B) ∙ spine_target Σ G T (instantiate_type A M B) C r
 spine_target Σ G (app M T) (atom a U) C r = absurd r
@@ -98,7 +98,7 @@ spine_target Σ G (app M T) (atom a U) C r = absurd r
 one_zero : {n : ℕ} → suc n ≡ zero → ⊥
 one_zero e = omega arith
 
-abbrev NatForm : Signature → List LfType → Term → Type 0
+abbrev pub NatForm : Signature → List LfType → Term → Type 0
 NatForm Σ G M = (M ≡ z) ⊎ ((N : Term) × (M ≡ successor N) × HasType Σ G N nat)
 
 module _ (Σ : Signature) (x : Extends S Addition Σ) (G : List LfType) (w : World Σ [] S G) where
@@ -118,7 +118,7 @@ module _ (Σ : Signature) (x : Extends S Addition Σ) (G : List LfType) (w : Wor
   constant_form (suc (suc (suc zero))) A T e t r = absurd (one_zero (ap target (some_type e) ∙ t))
   constant_form (suc (suc (suc (suc n)))) A T e t r = absurd cc
 
-  nat_form : (M : Term) → HasType Σ G M nat → NatForm Σ G M
+  pub nat_form : (M : Term) → HasType Σ G M nat → NatForm Σ G M
   nat_form (lambda M) m = absurd m
   nat_form (root (constant c) T) (A, e, r) =
       let t : target A ≡ 0 = spine_target Σ G T A nat r in
@@ -126,11 +126,11 @@ module _ (Σ : Signature) (x : Extends S Addition Σ) (G : List LfType) (w : Wor
   nat_form (root (metavariable c) T) (A, e, r) = absurd e
   nat_form (root (variable j) T) (A, g, r) = absurd (no_variable w j A g (ap S (spine_target Σ G T A nat r)))
 
-abbrev z_images : Term → ℕ → Image
+abbrev pub z_images : Term → ℕ → Image
 z_images N zero = put (base 0) N
 z_images N (suc i) = keep i
 
-abbrev s_images : Term → Term → ℕ → Image
+abbrev pub s_images : Term → Term → ℕ → Image
 s_images M N zero = keep 0
 s_images M N (suc zero) = keep 0
 s_images M N (suc (suc zero)) = put (base 0) N
@@ -146,7 +146,7 @@ scope_s_at (suc (suc (suc i))) A g l = absurd (omega arith)
 is_nat : (Σ : Signature) (G : List LfType) (M : Term) (A : LfType) (σ : ℕ → Image) → A ≡ nat → HasType Σ G M nat → ImageHasType Σ G (put (base 0) M) (substitute_type reduce σ A)
 is_nat Σ G M A σ e m = subst (λ X. ImageHasType Σ G (put (base 0) M) (substitute_type reduce σ X)) (sym e) (refl, m)
 
-z_values : (Σ : Signature) (G : List LfType) (N : Term) → HasType Σ G N nat → Values Σ (ground_first addition_marks plus_z) (scope plus_z) G (z_images N)
+pub z_values : (Σ : Signature) (G : List LfType) (N : Term) → HasType Σ G N nat → Values Σ (ground_first addition_marks plus_z) (scope plus_z) G (z_images N)
 z_values Σ G N n = record { typed = typed; closed = closed }
   where
     typed : (i : ℕ) (A : LfType) → TypeAt (nat ∷ []) i A → ground_first addition_marks plus_z i ≡ true → ImageHasType Σ G (z_images N i) (substitute_type reduce (z_images N) A)
@@ -157,10 +157,10 @@ z_values Σ G N n = record { typed = typed; closed = closed }
     closed zero A g u = subst (UsesType (ground_first addition_marks plus_z)) (sym g) tt
     closed (suc i) A (C, g, e) u = absurd g
 
-abbrev s_first : ℕ → Bool
+abbrev pub s_first : ℕ → Bool
 s_first = ground_first addition_marks plus_s
 
-s_values : (Σ : Signature) (G : List LfType) (M N : Term) → HasType Σ G M nat → HasType Σ G N nat → Values Σ s_first (scope plus_s) G (s_images M N)
+pub s_values : (Σ : Signature) (G : List LfType) (M N : Term) → HasType Σ G M nat → HasType Σ G N nat → Values Σ s_first (scope plus_s) G (s_images M N)
 s_values Σ G M N m n = record { typed = typed; closed = closed }
   where
     typed : (i : ℕ) (A : LfType) → TypeAt (scope plus_s) i A → s_first i ≡ true → ImageHasType Σ G (s_images M N i) (substitute_type reduce (s_images M N) A)
@@ -180,18 +180,18 @@ s_values Σ G M N m n = record { typed = typed; closed = closed }
 same_kind : (Σ : Signature) → Extends S Addition Σ → (K : Kind) → Σ.kinds 1 ≡ Some K → plus_kind ≡ K
 same_kind Σ x K e = some_kind (sym (x.kinds_stay 1 plus_kind refl) ∙ e)
 
-z_terms : (N : Term) → AreTerms plus_z (ground_first addition_marks plus_z) (z_images N)
+pub z_terms : (N : Term) → AreTerms plus_z (ground_first addition_marks plus_z) (z_images N)
 z_terms N zero o u = tt
 z_terms N (suc i) o u = absurd cc
 
-s_terms : (M N : Term) → AreTerms plus_s s_first (s_images M N)
+pub s_terms : (M N : Term) → AreTerms plus_s s_first (s_images M N)
 s_terms M N zero o u = absurd cc
 s_terms M N (suc zero) o u = absurd cc
 s_terms M N (suc (suc zero)) o u = tt
 s_terms M N (suc (suc (suc zero))) o u = tt
 s_terms M N (suc (suc (suc (suc i)))) o u = absurd cc
 
-inputs_case : (Σ : Signature) → Extends S Addition Σ → (G : List LfType) (w : World Σ [] S G) (T : Spine) → TypedPlaces Σ (input_places (addition_marks 1)) G T plus_kind → CoveredBy w (input_places (addition_marks 1)) 1 T
+pub inputs_case : (Σ : Signature) → Extends S Addition Σ → (G : List LfType) (w : World Σ [] S G) (T : Spine) → TypedPlaces Σ (input_places (addition_marks 1)) G T plus_kind → CoveredBy w (input_places (addition_marks 1)) 1 T
 inputs_case Σ x G w (app M (app N (app P nil))) (m, (n, i)) = by M (nat_form Σ x G w M m)
   where
     by : (M : Term) → NatForm Σ G M → CoveredBy w (input_places (addition_marks 1)) 1 (app M (app N (app P nil)))

@@ -1,6 +1,6 @@
 -- A local context that is a sequence of instances of strict blocks is `Local`: what its types mention determines the `some` terms.
 use Rattle.totality.specs.Ground.{UsesGoal}
-use Rattle.totality.specs.Worlded.{IsSequence, IsStrictBlock, IsTerm, next_instance, no_instance, past}
+use Rattle.totality.specs.Worlded.{IsSequence, IsStrictBlock, IsTerm, next_instance, no_instance, past_types}
 use Rattle.lf.specs.SkeletonTyping.{HeadSkeletons, SkeletonAt, TermSkeleton, SubstitutionBySkeletons}
 use Rattle.std.proofs.Common.{◌≡◌, ℕ, suc, List, [], ◌∷◌, refl, sym, ap, ◌∙◌, subst}
 use Rattle.std.specs.Prelude.{Bool}
@@ -59,7 +59,7 @@ unfolding skeletons_list
 skeletons_moved κ [] Δ N a n = subst (λ M. TermSkeleton κ Δ M a) (sym (moved_none N)) n
 skeletons_moved κ (E ∷ es) Δ N a n = subst (λ M. TermSkeleton κ (skeleton E ∷ skeletons_list es Δ) M a) (sym (moved_one E es N)) (renaming_keeps_skeletons κ (skeletons_list es Δ) (skeleton E ∷ skeletons_list es Δ) suc (moved_over es N) a (λ i t g. g) (skeletons_moved κ es Δ N a n))
 
-skeletons_past : (es O : List LfType) (x : ℕ) (a : Skeleton) → SkeletonAt (context_skeletons O) x a → SkeletonAt (context_skeletons (onto es O)) (past es x) a
+skeletons_past : (es O : List LfType) (x : ℕ) (a : Skeleton) → SkeletonAt (context_skeletons O) x a → SkeletonAt (context_skeletons (onto es O)) (past_types es x) a
 skeletons_past [] O x a g = g
 skeletons_past (E ∷ es) O x a g = skeletons_past es O x a g
 

@@ -5,7 +5,8 @@ use Rattle.totality.specs.Order.{IsAtPlaces, equal, first_argument, later_argume
 use Rattle.totality.specs.Total.{HasTotalMarks, Total}
 use Rattle.totality.specs.Marks.{HasSoundMarks, SamePlaces, TypedPlaces, free_places, input_places}
 use Rattle.totality.specs.Group.{GroupChecked, IsCallee}
-use Rattle.totality.specs.Examples.{Copying, CopyingLasts, application, applied_to, copy_block, copying_kinds, copying_marks, copying_record, copying_types, cp, cp_app, cp_kind, cp_lam, exp, first_below_second, first_place, function, lam, var, TermsHaveCopies, z, BlockCaseIsCovered}
+use Rattle.totality.specs.Examples.{Copying, CopyingLasts, application, applied_to, copy_block, copying_kinds, copying_marks, copying_record, copying_types, cp, cp_app, cp_kind, cp_lam, exp, first_below_second, first_place, function, lam, var, TermsHaveCopies, z, block_case, BlockCaseIsCovered}
+use Rattle.totality.specs.Case.{HasArguments, IsGroundInstance, covered_places}
 use Rattle.totality.specs.Clause.{Clause, IsClause, IsSubgoal, among, constant_clause, entry_clause, from_constant, from_entry, outside, scope, variables}
 use Rattle.totality.specs.Descent.{CallDescends}
 use Rattle.totality.specs.Cover.{AreTerms, CoveredBy, CoveredInputs, CoveredOutputs, InstanceIn, OutputsCovered, by_constant, by_entry}
@@ -784,8 +785,11 @@ covered_by_block Σ x G w θ b M P e =
     let (j, k) = t.kept 0 refl in
     record { head = variable j; clause = u_clause; outer = λ n. θ (suc n); values = λ n. θ (suc n); offered = by_entry copy_block [] (cp (var 0) (var 0)) (exp ∷ []) θ j (inl refl) refl b k; family = refl; typed = u_values Σ G θ t.typed; agrees = λ n X g. refl; terms = λ n o u. absurd cc; same = (e, tt); uses = ((refl, tt), tt) }
 
+block_instances : (Σ : Signature) → Extends (first_below_second 1) Copying Σ → (G : List LfType) (w : World Σ (copy_block ∷ []) (first_below_second 1) G) (σ : ℕ → Image) → IsGroundInstance w block_case.items σ → (T : Spine) → HasArguments σ block_case.arguments T → CoveredBy w (covered_places block_case.arguments) 1 T
+block_instances Σ x G w σ i nil h = absurd h
+block_instances Σ x G w σ i (app M nil) h = absurd h.1
+block_instances Σ x G w σ (θ, τ, g, b, s, e) (app M (app P nil)) (h, k) = covered_by_block Σ x G w θ b M P (h ∙ ap (λ f. apply_image reduce (f 1) nil) e)
+block_instances Σ x G w σ i (app M (app P (app Q T))) h = absurd h.1
+
 pub block_case_covered : BlockCaseIsCovered
-block_case_covered Σ x G w σ i nil h = absurd h
-block_case_covered Σ x G w σ i (app M nil) h = absurd h.1
-block_case_covered Σ x G w σ (θ, τ, g, b, s, e) (app M (app P nil)) (h, k) = covered_by_block Σ x G w θ b M P (h ∙ ap (λ f. apply_image reduce (f 1) nil) e)
-block_case_covered Σ x G w σ i (app M (app P (app Q T))) h = absurd h.1
+block_case_covered = (refl, refl, block_instances)

@@ -5,7 +5,8 @@ use Rattle.totality.specs.Total.{TotalAt}
 use Rattle.totality.specs.Marks.{Mark, SamePlaces, TypedPlaces, UsesPlaces, input_places}
 use Rattle.totality.specs.Worlded.{IsTerm}
 use Rattle.totality.specs.Ground.{EachSubgoal, Subgoals, UsesGoal, ground_after, ground_first}
-use Rattle.totality.specs.Clause.{Clause, is_variable, occurs_type, outside, scope, variables, with_newest}
+use Rattle.totality.specs.Clause.{Clause, is_variable, outside, scope, variables, with_newest}
+use Rattle.unification.specs.Search.{occurs_type}
 use Rattle.totality.specs.Cover.{AgreesOutside, AreTerms, outer_images, OutputsCovered}
 use Rattle.std.proofs.Common.{◌≡◌, ℕ, zero, suc, List, [], ◌∷◌, ◌<◌, ◌≤◌, ◌+◌, length, refl, sym, ap, ◌∙◌, subst, arith, inl, inr}
 use Rattle.std.specs.Prelude.{Bool, true, false, Some, ◌⊎◌}

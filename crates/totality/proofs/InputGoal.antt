@@ -77,7 +77,7 @@ some_kind e = cc
 
 -- The theorem
 pub goal_covers : (Σ : Signature) (m : ℕ → List Mark) (W : List Block) (S : ℕ → Bool) (a : ℕ) (K : Kind) → Σ.kinds a ≡ Some K → MentionChosenOnly nothing (input_places (m a)) K → IsCoveredCase Σ W S (input_goal a (input_places (m a)) K) → CoveredInputs Σ m W S a
-goal_covers Σ m W S a K k sp c Σ' x G w T L e t =
+goal_covers Σ m W S a K k sp (no_given, no_local, c) Σ' x G w T L e t =
     let q : L ≡ K = some_kind (sym e ∙ x.kinds_stay a K k) in
     let (τ, i, h, j) = found Σ' w nothing (input_places (m a)) K (λ i. i) [] keep keep T sp tt (λ i e. absurd cc) (subst (TypedPlaces Σ' (input_places (m a)) G T) q t) in
     subst (λ p. CoveredBy w p a T) (places_of_goal nothing (input_places (m a)) K sp) (c Σ' x G w τ i T h)

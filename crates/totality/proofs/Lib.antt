@@ -35,3 +35,13 @@ pub mod Ways
 pub mod Subordinate
 pub mod InputGoal
 pub mod Heads
+pub mod OutputCases
+pub mod OutputItems
+pub mod KeptItems
+pub mod GoalHolds
+pub mod OutputGoals
+pub mod Unfolds
+pub mod Split
+pub mod ExamplesCases
+pub mod ExamplesGroups
+pub mod ExamplesMissing

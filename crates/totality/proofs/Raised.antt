@@ -25,7 +25,7 @@ use Rattle.lf.proofs.Strength.{families_renamed, families_substituted, uses_only
 use Rattle.lf.proofs.Strengthening.{TypesIn}
 use mathlib.Core.Path.{fun_ext}
 
-rename_identity : (M : Term) → rename (λ i. i) M ≡ M
+pub rename_identity : (M : Term) → rename (λ i. i) M ≡ M
 rename_identity M = sym (substitution_as_renaming reduce (λ i. i) M) ∙ substitute_identity reduce M
 
 rename_identity_type : (A : LfType) → rename_type (λ i. i) A ≡ A
@@ -66,7 +66,7 @@ module _ (κ : HeadSkeletons) where
   reduce_add_last Δ (arrow c d) (root h T) (app M S) a b X n s = absurd n
   reduce_add_last Δ (arrow c d) (lambda N) (app M S) a b X n (m, s) = reduction_beta c d N M (add_last S X) ∙ reduce_add_last Δ d (substitute reduce (single c M) N) S a b X (substitution_keeps_skeletons κ (c ∷ Δ) Δ (single c M) N d (single_by_skeletons κ c Δ M m) n) s ∙ ap (λ Y. reduce (arrow a b) Y (app X nil)) (sym (reduction_beta c d N M S))
 
-  spine_add_last : (Δ : List Skeleton) (S : Spine) (t a b : Skeleton) (X : Term) → SpineSkeleton κ Δ S t (arrow a b) → TermSkeleton κ Δ X a → SpineSkeleton κ Δ (add_last S X) t b
+  pub spine_add_last : (Δ : List Skeleton) (S : Spine) (t a b : Skeleton) (X : Term) → SpineSkeleton κ Δ S t (arrow a b) → TermSkeleton κ Δ X a → SpineSkeleton κ Δ (add_last S X) t b
   spine_add_last Δ nil t a b X s x = subst (λ z. SpineSkeleton κ Δ (app X nil) z b) (sym s) (x, refl)
   spine_add_last Δ (app M S) (arrow c d) a b X (m, s) x = (m, spine_add_last Δ S d a b X s x)
   spine_add_last Δ (app M S) (base c) a b X s x = absurd s
@@ -83,10 +83,10 @@ module _ (κ : HeadSkeletons) where
       fits zero t e = e
       fits (suc i) t e = tt
 
-  newest_has_skeleton : (a : Skeleton) (Δ : List Skeleton) → TermSkeleton κ (a ∷ Δ) (eta_long a (variable zero)) a
+  pub newest_has_skeleton : (a : Skeleton) (Δ : List Skeleton) → TermSkeleton κ (a ∷ Δ) (eta_long a (variable zero)) a
   newest_has_skeleton a Δ = eta_expand_has_skeleton κ a a (a ∷ Δ) (variable zero) nil refl refl
 
-shift_next : (n : ℕ) (N : Term) → rename (shift_by (suc n)) N ≡ rename suc (rename (shift_by n) N)
+pub shift_next : (n : ℕ) (N : Term) → rename (shift_by (suc n)) N ≡ rename suc (rename (shift_by n) N)
 shift_next n N = ap (λ f. rename f N) (fun_ext (λ i. one_more i n)) ∙ sym (renamings_compose suc (shift_by n) N)
   where
     one_more : (i n : ℕ) → i + suc n ≡ suc (i + n)

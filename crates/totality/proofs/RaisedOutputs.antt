@@ -36,12 +36,12 @@ some_inj : {K L : Kind} → Some K ≡ Some L → K ≡ L
 some_inj e = cc
 
 -- the context under the quantifiers of a type, as that of a closed one and what stands outside
-binders_over : (X : List LfType) (B : LfType) (G : List LfType) → binders (onto X G) B ≡ onto (binders X B) G
+pub binders_over : (X : List LfType) (B : LfType) (G : List LfType) → binders (onto X G) B ≡ onto (binders X B) G
 binders_over X (pi A B) G = binders_over (A ∷ X) B G
 binders_over X (atom a S) G = refl
 
 -- the hypotheses of a subgoal use what is ground before it
-hypotheses_agree : (U : ℕ → Bool) (m : List Bool) (σ τ : ℕ → Image) (A : LfType) (G : List LfType) → SameOn U σ τ → UsesGoal U m A → binders G (substitute_type reduce σ A) ≡ binders G (substitute_type reduce τ A)
+pub hypotheses_agree : (U : ℕ → Bool) (m : List Bool) (σ τ : ℕ → Image) (A : LfType) (G : List LfType) → SameOn U σ τ → UsesGoal U m A → binders G (substitute_type reduce σ A) ≡ binders G (substitute_type reduce τ A)
 hypotheses_agree U m σ τ (pi B A) G h (u, v) = ap (λ X. binders (X ∷ G) (substitute_type reduce (lift σ) A)) (agree_on_type reduce U σ τ B h u) ∙ hypotheses_agree (under U) m (lift σ) (lift τ) A (substitute_type reduce τ B ∷ G) (SameOn-under U σ τ h) v
 hypotheses_agree U m σ τ (atom a S) G h u = refl
 

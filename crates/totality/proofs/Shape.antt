@@ -1,5 +1,6 @@
 -- A quantifier that is no variable of the clause occurs nowhere in it.
-use Rattle.totality.specs.Clause.{is_variable, occurs_type, with_newest, occurs, occurs_spine}
+use Rattle.totality.specs.Clause.{is_variable, with_newest}
+use Rattle.unification.specs.Search.{occurs, occurs_spine, occurs_type}
 use Rattle.totality.specs.Tests.{either}
 use Rattle.std.proofs.Common.{◌≡◌, ℕ, zero, suc, List, ◌∷◌, refl, sym, ap, subst}
 use Rattle.std.specs.Prelude.{Bool, true, false}

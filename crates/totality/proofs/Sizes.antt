@@ -2,7 +2,7 @@
 use Rattle.totality.specs.Order.{Alike, AllAlike, AllSame, AreAtPlaces, InArguments, IsAtPlaces, Less, LessLexicographic, LessSimultaneous, Order, Orders, Same, Smaller, SmallerOrEqual, argument_at, chosen_at, equal, first_argument, later_argument, lexicographic, next_order, no_order, place, simultaneous, smaller, under_constant, under_lambda, under_parameter, KeepsVariables, size, spine_size}
 use Rattle.totality.specs.Marks.{SamePlaces}
 use Rattle.totality.specs.Clause.{Clause, outside, scope}
-use Rattle.totality.specs.Descent.{inside, moved, moved_head, LessCall, SameArgument, SameCall, SmallerArgument}
+use Rattle.totality.specs.Descent.{inside, past_quantifiers, moved_head, LessCall, SameArgument, SameCall, SmallerArgument}
 use Rattle.std.proofs.Common.{◌≡◌, ℕ, zero, suc, List, [], ◌∷◌, ◌<◌, ◌≤◌, ◌+◌, length, refl, sym, ap, ap₂, ◌∙◌, arith, inl, inr}
 use Rattle.std.specs.Prelude.{Bool, true, false, Option, Some, None}
 use Rattle.lf.specs.Syntax.{constant, variable, metavariable, Term, Spine, lambda, root, nil, app, LfType, pi, atom, Skeleton, lift_renaming, rename, rename_spine}
@@ -185,16 +185,16 @@ kept_inside : (A : LfType) (V : ℕ → Bool) (σ : ℕ → Image) → KeepsVari
 kept_inside (pi B A) V σ h = kept_inside A (under V) (lift σ) (kept_lift V σ h)
 kept_inside (atom a S) V σ h = h
 
-moved_images : (A : LfType) (σ : ℕ → Image) (ρ : ℕ → ℕ) → (τ : ℕ → ℕ) × ((i : ℕ) → lift_type A σ (moved A ρ i) ≡ rename_image τ (σ (ρ i)))
+moved_images : (A : LfType) (σ : ℕ → Image) (ρ : ℕ → ℕ) → (τ : ℕ → ℕ) × ((i : ℕ) → lift_type A σ (past_quantifiers A ρ i) ≡ rename_image τ (σ (ρ i)))
 moved_images (pi B A) σ ρ =
     let (τ, h) = moved_images A (lift σ) (λ i. suc (ρ i)) in
     (λ i. τ (suc i), λ i. h i ∙ rename_image_renamed τ suc (σ (ρ i)))
 moved_images (atom a S) σ ρ = (λ i. i, λ i. sym (rename_image_id (σ (ρ i))))
 
-moved_size : (A : LfType) (σ : ℕ → Image) (H : Spine) (j : ℕ) → place_size j (substitute_spine reduce (lift_type A σ) (rename_spine (moved A (λ i. i)) H)) ≡ place_size j (substitute_spine reduce σ H)
+moved_size : (A : LfType) (σ : ℕ → Image) (H : Spine) (j : ℕ) → place_size j (substitute_spine reduce (lift_type A σ) (rename_spine (past_quantifiers A (λ i. i)) H)) ≡ place_size j (substitute_spine reduce σ H)
 moved_size A σ H j =
     let (τ, h) = moved_images A σ (λ i. i) in
-    let e : substitute_spine reduce (lift_type A σ) (rename_spine (moved A (λ i. i)) H) ≡ rename_spine τ (substitute_spine reduce σ H) = substitute_renamed_spine reduce (lift_type A σ) (moved A (λ i. i)) H ∙ ap (λ f. substitute_spine reduce f H) (fun_ext h) ∙ sym (rename_substituted_spine reduce reduction_is_natural τ σ H) in
+    let e : substitute_spine reduce (lift_type A σ) (rename_spine (past_quantifiers A (λ i. i)) H) ≡ rename_spine τ (substitute_spine reduce σ H) = substitute_renamed_spine reduce (lift_type A σ) (past_quantifiers A (λ i. i)) H ∙ ap (λ f. substitute_spine reduce f H) (fun_ext h) ∙ sym (rename_substituted_spine reduce reduction_is_natural τ σ H) in
     ap (place_size j) e ∙ place_size_renamed τ j (substitute_spine reduce σ H)
 
 -- The lemmas on orders: what the calls of a subgoal and its clause's head have as sizes

@@ -2,7 +2,7 @@
 -- occurrence in an entry, the entries before it as bound variables.
 use Rattle.totality.specs.Order.{KeepsVariables}
 use Rattle.totality.specs.Strict.{strict_type, strict, strict_spine}
-use Rattle.totality.specs.Worlded.{past}
+use Rattle.totality.specs.Worlded.{past_types}
 use Rattle.lf.specs.AtOnce.{in_front}
 use Rattle.totality.specs.Clause.{among}
 use Rattle.std.proofs.Common.{◌≡◌, ℕ, zero, suc, List, [], ◌∷◌, refl, sym, ap, subst, inl, inr}
@@ -50,7 +50,7 @@ pub moved_over : List LfType → Term → Term
 moved_over [] N = N
 moved_over (E ∷ es) N = rename suc (moved_over es N)
 
-over_value : (es : List LfType) (θ : ℕ → Image) (x : ℕ) (a : Skeleton) (N : Term) → θ x ≡ put a N → lift_over es θ (past es x) ≡ put a (moved_over es N)
+over_value : (es : List LfType) (θ : ℕ → Image) (x : ℕ) (a : Skeleton) (N : Term) → θ x ≡ put a N → lift_over es θ (past_types es x) ≡ put a (moved_over es N)
 unfolding moved_over
 over_value [] θ x a N e = e
 over_value (E ∷ es) θ x a N e = ap (rename_image suc) (over_value es θ x a N e)
@@ -66,8 +66,8 @@ over_kept (E ∷ es) θ zero e = (zero, refl)
 over_kept (E ∷ es) θ (suc i) e = let (j, q) = over_kept es θ i e in (suc j, ap (rename_image suc) q)
 
 -- The lemma: at one entry
-pub some_term : (Σ : Signature) (ok : IsSignature Σ) (O es : List LfType) (E : LfType) (Δ : List Skeleton) (θ : ℕ → Image) (V : ℕ → Bool) (x : ℕ) (a : Skeleton) (N : Term) → IsContext Σ (onto es O) → IsType Σ (onto es O) E → SubstitutionBySkeletons (constant_skeletons Σ) (context_skeletons (onto es O)) Δ (lift_over es θ) → θ x ≡ put a N → TermSkeleton (constant_skeletons Σ) Δ (moved_over es N) a → SkeletonAt (context_skeletons (onto es O)) (past es x) a → strict_type (among es) nothing (past es x) E ≡ true → UsesType (under_all es V) (substitute_type reduce (lift_over es θ) E) → Uses V N
-some_term Σ ok O es E Δ θ V x a N c t w q n g e u = over_uses es V N (value_type Σ ok (among es) nothing (under_all es V) (onto es O) Δ (lift_over es θ) (past es x) a (moved_over es N) c w (over_kept es θ) (λ i r. absurd cc) (over_value es θ x a N q) n g E t e u)
+pub some_term : (Σ : Signature) (ok : IsSignature Σ) (O es : List LfType) (E : LfType) (Δ : List Skeleton) (θ : ℕ → Image) (V : ℕ → Bool) (x : ℕ) (a : Skeleton) (N : Term) → IsContext Σ (onto es O) → IsType Σ (onto es O) E → SubstitutionBySkeletons (constant_skeletons Σ) (context_skeletons (onto es O)) Δ (lift_over es θ) → θ x ≡ put a N → TermSkeleton (constant_skeletons Σ) Δ (moved_over es N) a → SkeletonAt (context_skeletons (onto es O)) (past_types es x) a → strict_type (among es) nothing (past_types es x) E ≡ true → UsesType (under_all es V) (substitute_type reduce (lift_over es θ) E) → Uses V N
+some_term Σ ok O es E Δ θ V x a N c t w q n g e u = over_uses es V N (value_type Σ ok (among es) nothing (under_all es V) (onto es O) Δ (lift_over es θ) (past_types es x) a (moved_over es N) c w (over_kept es θ) (λ i r. absurd cc) (over_value es θ x a N q) n g E t e u)
 
 pub moved_none : (N : Term) → moved_over [] N ≡ N
 unfolding moved_over

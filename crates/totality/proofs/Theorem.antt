@@ -64,7 +64,7 @@ none_goal : (m : List Mark) (x : ℕ) (A : LfType) → NoneFree m → occurs_goa
 none_goal m x (pi A B) n e = none_goal m (suc x) B n e
 none_goal m x (atom a S) n e = none_at m x S n e
 
-outside_from : (A : LfType) (V : ℕ → Bool) (i : ℕ) → outside A V i ≡ true → (k : ℕ) × (i ≡ out_index A k) × (V k ≡ true)
+pub outside_from : (A : LfType) (V : ℕ → Bool) (i : ℕ) → outside A V i ≡ true → (k : ℕ) × (i ≡ out_index A k) × (V k ≡ true)
 outside_from (pi B A) V i e = go (outside_from A (hide V) i e)
   where
     go : (k : ℕ) × (i ≡ out_index A k) × (hide V k ≡ true) → (k : ℕ) × (i ≡ out_index A (suc k)) × (V k ≡ true)

@@ -22,9 +22,14 @@ items_context [] = []
 items_context (free_variable A ∷ I) = A ∷ items_context I
 items_context (block_variable B θ ∷ I) = onto (instance B.entries θ) (items_context I)
 
--- A case: its items, and over them the arguments of the family, none at a place that isn't covered.
+-- A case: its items; over them the terms that are given for variables of a clause, and a local context; and under this the arguments
+-- of the family, none at a place that isn't covered. A case of inputs has no given terms and no local context. A case of a subgoal's
+-- outputs has a given term for each variable of the clause that is ground before the subgoal: one place for each quantifier of the
+-- clause, the last in front, and none at any other.
 pub record Case : Type 0 where
   pub items : List Item
+  pub given : List (Option Term)
+  pub local : List LfType
   pub family : ℕ
   pub arguments : List (Option Term)
 
@@ -51,7 +56,8 @@ IsGroundInstance w [] σ = Unit {0}
 IsGroundInstance {Σ} {G = G} w (free_variable A ∷ I) σ = (N : Term) × (τ : ℕ → Image) × IsGroundInstance w I τ × HasType Σ G N (substitute_type reduce τ A) × (σ ≡ in_front (put (skeleton A) N) τ)
 IsGroundInstance w (block_variable B υ ∷ I) σ = (θ : ℕ → Image) × (τ : ℕ → Image) × IsGroundInstance w I τ × InstanceIn w B θ × ((i : ℕ) (A : LfType) → TypeAt B.some i A → as_term (skeleton A) (behind_entries B.entries θ i) ≡ as_term (skeleton A) (after τ υ i)) × (σ ≡ entries_in_front B.entries θ τ)
 
--- a tuple has the arguments of a case, under these values, at the places where there are any
+-- A tuple has the arguments of a case, under these values, at the places where there are any. Where the case has a local context
+-- the values are those under it.
 abbrev pub HasArguments : (ℕ → Image) → List (Option Term) → Spine → Type 0
 HasArguments σ [] nil = Unit {0}
 HasArguments σ [] (app N T) = ⊥
@@ -65,10 +71,10 @@ covered_places [] = []
 covered_places (Some M ∷ Ms) = true ∷ covered_places Ms
 covered_places (None ∷ Ms) = false ∷ covered_places Ms
 
--- Clauses cover a case beside S: in each legal extension over S and each context of W beside S every ground instance is an instance
--- of a clause.
+-- Clauses cover a case of inputs beside S: in each legal extension over S and each context of W beside S every ground instance is an
+-- instance of a clause.
 abbrev pub IsCoveredCase : Signature → List Block → (ℕ → Bool) → Case → Type 0
-IsCoveredCase Σ W S C = (Σ' : Signature) → Extends S Σ Σ' → (G : List LfType) (w : World Σ' W S G) (σ : ℕ → Image) → IsGroundInstance w C.items σ → (T : Spine) → HasArguments σ C.arguments T → CoveredBy w (covered_places C.arguments) C.family T
+IsCoveredCase Σ W S C = (C.given ≡ []) × (C.local ≡ []) × ((Σ' : Signature) → Extends S Σ Σ' → (G : List LfType) (w : World Σ' W S G) (σ : ℕ → Image) → IsGroundInstance w C.items σ → (T : Spine) → HasArguments σ C.arguments T → CoveredBy w (covered_places C.arguments) C.family T)
 
 -- ρ takes the chosen places before to variables; so it does past a place that isn't chosen. What it gives that place has no meaning:
 -- the types of the chosen places must not mention it.
@@ -100,4 +106,4 @@ goal_arguments (false ∷ m) (kind_pi A K) = None ∷ goal_arguments m K
 
 -- the goal for the family a of this kind, where the types of the chosen places mention chosen places only
 abbrev pub input_goal : ℕ → List Bool → Kind → Case
-input_goal a m K = record { items = goal_items m K (λ i. i) []; family = a; arguments = goal_arguments m K }
+input_goal a m K = record { items = goal_items m K (λ i. i) []; given = []; local = []; family = a; arguments = goal_arguments m K }

@@ -4,29 +4,11 @@
 -- the first, and so in the order of this list. A quantifier whose variable occurs in the rest is a variable of the clause, any
 -- other a subgoal. The subgoal at index i is the type at index i; its local context is that under its own quantifiers.
 use Rattle.std.specs.Prelude.{◌≡◌, ℕ, zero, suc, List, [], ◌∷◌, Bool, true, false, Some}
-use Rattle.lf.specs.Syntax.{constant, variable, metavariable, Term, Spine, lambda, root, nil, app, LfType, pi, atom}
+use Rattle.lf.specs.Syntax.{LfType, pi, atom}
 use Rattle.lf.specs.Typing.{Signature, TypeAt}
-use Rattle.lf.specs.Variables.{binders, onto, everything, nothing, hide, same_number}
+use Rattle.lf.specs.Variables.{binders, onto, everything, nothing, hide}
 use Rattle.lf.specs.Subordination.{Block, Member}
-use Rattle.totality.specs.Tests.{either}
-
--- the variable occurs
-abbrev mutual
-  pub occurs : ℕ → Term → Bool
-  occurs i (lambda M) = occurs (suc i) M
-  occurs i (root (constant c) S) = occurs_spine i S
-  occurs i (root (metavariable m) S) = occurs_spine i S
-  occurs i (root (variable j) S) = either (same_number i j) (occurs_spine i S)
-
-  -- in an argument
-  pub occurs_spine : ℕ → Spine → Bool
-  occurs_spine i nil = false
-  occurs_spine i (app M S) = either (occurs i M) (occurs_spine i S)
-
--- in a type
-abbrev pub occurs_type : ℕ → LfType → Bool
-occurs_type i (pi A B) = either (occurs_type i A) (occurs_type (suc i) B)
-occurs_type i (atom a S) = occurs_spine i S
+use Rattle.unification.specs.Search.{occurs_type}
 
 -- the set V, with the newest variable in it where b says so
 abbrev pub with_newest : Bool → (ℕ → Bool) → ℕ → Bool

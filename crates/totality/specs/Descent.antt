@@ -13,13 +13,13 @@ inside (pi A B) V = inside B (under V)
 inside (atom a S) V = V
 
 -- the numbers of variables, moved under the quantifiers of a type
-abbrev pub moved : LfType → (ℕ → ℕ) → ℕ → ℕ
-moved (pi A B) ρ = moved B (λ i. suc (ρ i))
-moved (atom a S) ρ = ρ
+abbrev pub past_quantifiers : LfType → (ℕ → ℕ) → ℕ → ℕ
+past_quantifiers (pi A B) ρ = past_quantifiers B (λ i. suc (ρ i))
+past_quantifiers (atom a S) ρ = ρ
 
 -- the arguments of the clause's head, under the quantifiers of the subgoal
 abbrev pub moved_head : Clause → LfType → Spine
-moved_head c A = rename_spine (moved A (λ i. i)) (target_arguments c.type)
+moved_head c A = rename_spine (past_quantifiers A (λ i. i)) (target_arguments c.type)
 
 -- place i of the subgoal and place j of the head hold the same argument
 abbrev pub SameArgument : Clause → LfType → ℕ → ℕ → Type 0

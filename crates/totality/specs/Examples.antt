@@ -1,14 +1,18 @@
 -- Worked declarations: addition of natural numbers, and copying of lambda terms under a binder.
-use Rattle.std.specs.Prelude.{ℕ, zero, suc, List, [], ◌∷◌, Bool, true, Option, Some, None}
+use Rattle.std.specs.Prelude.{◌≡◌, ℕ, zero, suc, List, [], ◌∷◌, Bool, true, Option, Some, None}
 use Rattle.lf.specs.Syntax.{constant, variable, Term, lambda, root, nil, app, LfType, Kind, pi, atom, kind_pi, star}
 use Rattle.lf.specs.Typing.{Signature, HasType}
 use Rattle.lf.specs.Variables.{same_number, everything}
 use Rattle.lf.specs.Worlds.{World}
 use Rattle.lf.specs.Subordination.{Block}
 use Rattle.totality.specs.Clause.{Clause, constant_clause}
-use Rattle.totality.specs.Marks.{Mark, input, output}
+use Rattle.totality.specs.Marks.{Mark, input, output, input_places}
 use Rattle.totality.specs.Order.{Order, place}
-use Rattle.totality.specs.Case.{Case, block_variable, IsCoveredCase}
+use Rattle.totality.specs.Case.{Case, free_variable, block_variable, IsCoveredCase, input_goal}
+use Rattle.totality.specs.Ground.{ground_first}
+use Rattle.totality.specs.OutputCase.{of_constant}
+use Rattle.totality.specs.OutputGoal.{output_goal, HasOutputGoal}
+use Rattle.totality.specs.Split.{IsSplit, EndsCovered}
 use Rattle.lf.specs.Substitution.{keep}
 use Rattle.totality.specs.Group.{Checked, IsRight, GroupChecked}
 
@@ -99,6 +103,27 @@ AdditionLasts = IsRight Addition addition_record
 abbrev pub NumbersHaveSums : Type 0
 NumbersHaveSums = (M N : Term) → HasType Addition [] M nat → HasType Addition [] N nat → (P : Term) × (D : Term) × HasType Addition [] D (on_three 1 M N P)
 
+-- The goal of input coverage: plus X Y _. It is split at X into plus z Y _ and plus (s X) Y _, which are instances of the clauses.
+abbrev pub plus_input_goal : Case
+plus_input_goal = input_goal 1 (input_places (addition_marks 1)) plus_kind
+
+abbrev pub plus_zero_case : Case
+plus_zero_case = record { items = free_variable nat ∷ []; given = []; local = []; family = 1; arguments = Some z ∷ Some (var 0) ∷ None ∷ [] }
+
+abbrev pub plus_successor_case : Case
+plus_successor_case = record { items = free_variable nat ∷ free_variable nat ∷ []; given = []; local = []; family = 1; arguments = Some (successor (var 1)) ∷ Some (var 0) ∷ None ∷ [] }
+
+-- and so the goal is covered
+abbrev pub PlusIsCoveredBySplits : Type 0
+PlusIsCoveredBySplits = IsSplit Addition [] (first_below_second 1) plus_input_goal (plus_zero_case ∷ plus_successor_case ∷ []) × EndsCovered Addition [] (first_below_second 1) plus_input_goal × IsCoveredCase Addition [] (first_below_second 1) plus_input_goal
+
+-- The goal of output coverage of the subgoal of plus-s, where X and Y are ground: the case of a new variable for Z.
+abbrev pub plus_output_case : Case
+plus_output_case = record { items = free_variable nat ∷ free_variable nat ∷ free_variable nat ∷ []; given = None ∷ None ∷ Some (var 1) ∷ Some (var 2) ∷ []; local = []; family = 1; arguments = None ∷ None ∷ Some (var 0) ∷ [] }
+
+abbrev pub PlusOutputGoal : Type 0
+PlusOutputGoal = output_goal first_below_second addition_marks {W = []} (of_constant plus_s.type) (ground_first addition_marks plus_s) (on_three 1 (var 3) (var 2) (var 1)) plus_kind ≡ plus_output_case
+
 -- More declarations after these: b : type and mk : nat -> b, the family 2 and the constant 4.
 abbrev pub later_types : ℕ → Option LfType
 later_types zero = addition_types zero
@@ -177,7 +202,7 @@ Copying = record { types = copying_types; kinds = copying_kinds }
 
 -- block {x:exp} {u:cp x x}
 abbrev pub copy_block : Block
-copy_block = record { label = 0; some = []; entries = cp (var 0) (var 0) ∷ exp ∷ [] }
+copy_block = record { label = 108 ∷ []; some = []; entries = cp (var 0) (var 0) ∷ exp ∷ [] }
 
 -- cp +E -F
 abbrev pub copying_marks : ℕ → List Mark
@@ -196,9 +221,22 @@ CopyingLasts = IsRight Copying copying_record
 abbrev pub TermsHaveCopies : Type 0
 TermsHaveCopies = (G : List LfType) → World Copying (copy_block ∷ []) everything G → (M : Term) → HasType Copying G M exp → (N : Term) × (D : Term) × HasType Copying G D (cp M N)
 
+-- The goal of output coverage of the subgoal of cp-lam, {x:exp} cp x x -> cp (E x) _, where E is ground. Its output is raised over x, whose
+-- family is below its own, and not over the hypothesis: a new variable F : exp -> exp, at F x.
+abbrev pub copy_output_case : Case
+copy_output_case = record { items = free_variable function ∷ free_variable function ∷ []; given = None ∷ None ∷ Some (lambda (applied_to 2 0)) ∷ []; local = cp (var 0) (var 0) ∷ exp ∷ []; family = 1; arguments = None ∷ Some (applied_to 2 1) ∷ [] }
+
+-- the subgoal of cp-lam, under its other quantifiers
+abbrev pub copy_subgoal : LfType
+copy_subgoal = pi exp (pi (cp (var 0) (var 0)) (cp (applied_to 4 1) (applied_to 3 1)))
+
+-- this is its goal, and the output's type can be raised so
+abbrev pub CopyOutputGoal : Type 0
+CopyOutputGoal = (output_goal first_below_second copying_marks {W = copy_block ∷ []} (of_constant cp_lam.type) (ground_first copying_marks cp_lam) copy_subgoal cp_kind ≡ copy_output_case) × HasOutputGoal first_below_second copying_marks {W = copy_block ∷ []} (of_constant cp_lam.type) (ground_first copying_marks cp_lam) copy_subgoal cp_kind
+
 -- The case cp x _ for a block variable {x:exp} {u:cp x x}, and that the block's entry covers it.
 abbrev pub block_case : Case
-block_case = record { items = block_variable copy_block keep ∷ []; family = 1; arguments = Some (var 1) ∷ None ∷ [] }
+block_case = record { items = block_variable copy_block keep ∷ []; given = []; local = []; family = 1; arguments = Some (var 1) ∷ None ∷ [] }
 
 abbrev pub BlockCaseIsCovered : Type 0
 BlockCaseIsCovered = IsCoveredCase Copying (copy_block ∷ []) (first_below_second 1) block_case

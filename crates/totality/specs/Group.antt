@@ -1,9 +1,9 @@
 -- The record of a checked group, and what is checked of a group.
 use Rattle.std.specs.Prelude.{◌≡◌, ℕ, List, Bool, true, ◌⊎◌}
 use Rattle.lf.specs.Syntax.{LfType}
-use Rattle.lf.specs.Typing.{Signature, IsContext}
-use Rattle.lf.specs.Variables.{target, onto, Within}
-use Rattle.lf.specs.Subordination.{Block, Member, IsDeclared, SelfContained}
+use Rattle.lf.specs.Typing.{Signature}
+use Rattle.lf.specs.Variables.{target, Within}
+use Rattle.lf.specs.Subordination.{Block, Member, IsDeclared, AreTypedBlocks, SelfContained}
 use Rattle.totality.specs.Tests.{is_in}
 use Rattle.totality.specs.Clause.{Clause, IsClause, IsSubgoal}
 use Rattle.totality.specs.Marks.{Mark, input_places}
@@ -59,7 +59,7 @@ IsCallee R totals f b = HoldsBelow R totals f b × (Member b R.families ⊎ ((Q 
 -- same marks and worlds there.
 pub record GroupChecked (Σ : Signature) (R : Checked) (order : ℕ → Order) (totals : List Checked) : Type 0 where
   pub marked : (f : ℕ) → Member f R.families → HasTotalMarks Σ f (R.marks f)
-  pub blocks_typed : (B : Block) → Member B R.worlds → IsContext Σ (onto B.entries B.some)
+  pub blocks_typed : AreTypedBlocks Σ R.worlds
   pub same_before : (Q : Checked) → Member Q totals → (f : ℕ) → Member f R.families → Member f Q.families → (Q.marks f ≡ R.marks f) × (Q.worlds ≡ R.worlds)
   pub itself_below : (f : ℕ) → Member f R.families → R.below f f ≡ true
   pub self_contained : (f : ℕ) → Member f R.families → SelfContained Σ R.worlds (R.below f)

@@ -1,5 +1,5 @@
 -- The laws of total families that the functions of this crate carry.
-use Rattle.std.specs.Prelude.{◌≡◌, ℕ, List, [], ◌∷◌, length, Bool, true, ◌⊎◌, ◌<◌, ◌+◌, Some}
+use Rattle.std.specs.Prelude.{◌≡◌, ℕ, List, [], ◌∷◌, length, Bool, true, ◌⊎◌, ◌<◌, ◌+◌, ◌↔◌, Some}
 use Rattle.lf.specs.Syntax.{Head, constant, variable, Term, Spine, root, LfType, Kind, atom, Skeleton}
 use Rattle.lf.specs.Substitution.{Image, keep, put, substitute, substitute_spine, substitute_type, reduce}
 use Rattle.lf.specs.SkeletonTyping.{SkeletonAt, SubstitutionBySkeletons}
@@ -9,15 +9,19 @@ use Rattle.lf.specs.Variables.{target, target_arguments, binders, onto, UsesType
 use Rattle.lf.specs.Subordination.{Block, Member, IsDeclared, AreTypedBlocks, IsBelowTest}
 use Rattle.lf.specs.Worlds.{World}
 use Rattle.lf.specs.Extension.{Extends}
-use Rattle.totality.specs.Clause.{Clause, scope, outside, IsSubgoal}
+use Rattle.totality.specs.Clause.{Clause, scope, outside, IsSubgoal, constant_clause}
 use Rattle.totality.specs.Marks.{Mark, AllInputs, input_places, AreSound, NoneFree, MentionChosenOnly, SamePlaces, UsesPlaces}
 use Rattle.totality.specs.Strict.{strict_at}
 use Rattle.totality.specs.Ground.{ground_first, ground_after, UsesGoal}
+use Rattle.totality.specs.Modes.{IsModed, WellModedFrom}
 use Rattle.totality.specs.Worlded.{IsSequence, BlocksServe}
 use Rattle.totality.specs.Order.{Order, Smaller, size, KeepsVariables}
 use Rattle.totality.specs.Descent.{LeadsTo, CallsLead, IsEqualCallTest}
-use Rattle.totality.specs.Cover.{InstanceIn, place_of, CoveredInputs, CoveredOutputs}
-use Rattle.totality.specs.Case.{input_goal, IsCoveredCase}
+use Rattle.totality.specs.Cover.{InstanceIn, place_of, AgreesOutside, AreTerms, CoveredInputs, CoveredOutputs, OutputsCovered}
+use Rattle.totality.specs.Case.{Case, input_goal, IsCoveredCase}
+use Rattle.totality.specs.Split.{HasNoBlockVariable, EndsCovered}
+use Rattle.totality.specs.OutputCase.{Origin, of_constant, IsGivenFor, IsCoveredOutputCase, HoldsOutputs}
+use Rattle.totality.specs.OutputGoal.{output_goal, HasOutputGoal}
 use Rattle.totality.specs.Raised.{RaisedPlaces, PlacesBelow, CoveredRaisedOutputs}
 use Rattle.totality.specs.Total.{HasTotalMarks, Total, Lasting}
 use Rattle.totality.specs.Group.{IsSubordination, Checked, IsRight, GroupChecked}
@@ -79,7 +83,7 @@ HeadsAreKnown = (Σ Σ' : Signature) (W : List Block) (S : ℕ → Bool) → Ext
 
 -- the local context of a well-worlded subgoal, under values of what is ground before it, extends a context of worlds to one
 abbrev pub SubgoalContextIsWorld : Type 0
-SubgoalContextIsWorld = (Σ : Signature) → IsSignature Σ → (W : List Block) → ((B : Block) → Member B W → IsContext Σ (onto B.entries B.some)) → (m : List Bool) (S : ℕ → Bool) (c : Clause) (U : ℕ → Bool) (A : LfType) → IsContext Σ (scope c) → IsSequence Σ W (scope c) (binders [] A) → UsesGoal U m A → (Σ' : Signature) → Extends S Σ Σ' → (G : List LfType) → World Σ' W S G → (σ : ℕ → Image) → Values Σ' U (scope c) G σ → World Σ' W S (binders G (substitute_type reduce σ A))
+SubgoalContextIsWorld = (Σ : Signature) → IsSignature Σ → (W : List Block) → AreTypedBlocks Σ W → (m : List Bool) (S : ℕ → Bool) (c : Clause) (U : ℕ → Bool) (A : LfType) → IsContext Σ (scope c) → IsSequence Σ W (scope c) (binders [] A) → UsesGoal U m A → (Σ' : Signature) → Extends S Σ Σ' → (G : List LfType) → World Σ' W S G → (σ : ℕ → Image) → Values Σ' U (scope c) G σ → World Σ' W S (binders G (substitute_type reduce σ A))
 
 -- a context of the caller's worlds is one of the callee's, beside fewer families
 abbrev pub CallerServesCallee : Type 0
@@ -102,6 +106,12 @@ RankForbidsCycles = (calls : ℕ → ℕ → Bool) (rank : ℕ → ℕ) → ((a 
 -- where equal calls are decided, so are the ways that they lead
 abbrev pub WaysAreDecided : Type 0
 WaysAreDecided = (Σ : Signature) (W : List Block) (order : ℕ → Order) (group : List ℕ) (calls : ℕ → ℕ → Bool) → IsEqualCallTest Σ W order group calls → (a b : ℕ) → Dec (LeadsTo Σ W order group a b)
+
+-- Modes.
+
+-- a clause is well-moded exactly where what is asked of it holds and its local hypotheses are well-moded
+abbrev pub WellModedUnfolds : Type 0
+WellModedUnfolds = (Σ : Signature) (m : ℕ → List Mark) (moded V : ℕ → Bool) (c : Clause) → WellModedFrom Σ m moded V c ↔ IsModed (WellModedFrom Σ m moded) Σ m moded V c
 
 -- Strict occurrences and ground sets.
 
@@ -139,4 +149,17 @@ TypedTuplesAreRaised = (Σ : Signature) → IsSignature Σ → (W : List Block) 
 
 -- so the outputs of a subgoal are covered where the raised tuples are
 abbrev pub RaisedOutputsCover : Type 0
-RaisedOutputsCover = (Σ : Signature) → IsSignature Σ → (W : List Block) (below : ℕ → ℕ → Bool) → IsSubordination Σ W below → (m : ℕ → List Mark) (f : ℕ) → ((B : Block) → Member B W → IsContext Σ (onto B.entries B.some)) → (c : Clause) (U : ℕ → Bool) (i : ℕ) (A : LfType) → IsContext Σ (scope c) → IsSubgoal c i A → IsSequence Σ W (scope c) (binders [] A) → UsesGoal U (input_places (m (target A))) A → ((K : Kind) → Σ.kinds (target A) ≡ Some K → PlacesBelow Σ below f K) → CoveredRaisedOutputs Σ below m W (below f) c U A → CoveredOutputs Σ m W (below f) c U A
+RaisedOutputsCover = (Σ : Signature) → IsSignature Σ → (W : List Block) (below : ℕ → ℕ → Bool) → IsSubordination Σ W below → (m : ℕ → List Mark) (f : ℕ) → AreTypedBlocks Σ W → (c : Clause) (U : ℕ → Bool) (i : ℕ) (A : LfType) → IsContext Σ (scope c) → IsSubgoal c i A → IsSequence Σ W (scope c) (binders [] A) → UsesGoal U (input_places (m (target A))) A → ((K : Kind) → Σ.kinds (target A) ≡ Some K → PlacesBelow Σ below f K) → CoveredRaisedOutputs Σ below m W (below f) c U A → CoveredOutputs Σ m W (below f) c U A
+
+-- Output goals as cases. What a covered case of a subgoal's outputs holds is covered.
+abbrev pub HeldOutputsAreCovered : Type 0
+HeldOutputsAreCovered = (Σ : Signature) → IsSignature Σ → (W : List Block) (m : ℕ → List Mark) (S : ℕ → Bool) (c : Clause) (o : Origin W c) (U : ℕ → Bool) (i : ℕ) (A : LfType) → IsContext Σ (scope c) → IsSubgoal c i A → NoneFree (m (target A)) → UsesGoal U (input_places (m (target A))) A → (C : Case) → IsGivenFor c U C.given → IsCoveredOutputCase Σ m W S c o U A C → (Σ' : Signature) → Extends S Σ Σ' → (G : List LfType) (w : World Σ' W S G) (θ σ : ℕ → Image) → Values Σ' U (scope c) G σ → AgreesOutside c σ θ → AreTerms c U σ → (T : Spine) → SamePlaces (input_places (m (target A))) (target_arguments (substitute_type reduce σ A)) T → HoldsOutputs o w C θ σ T → OutputsCovered Σ' m c U A G σ T
+
+-- the goal of a constant's subgoal holds all its outputs: where the goal is covered, the outputs are
+abbrev pub OutputGoalCovers : Type 0
+OutputGoalCovers = (Σ : Signature) → IsSignature Σ → (W : List Block) → AreTypedBlocks Σ W → (below : ℕ → ℕ → Bool) → IsSubordination Σ W below → (m : ℕ → List Mark) (f k : ℕ) (V : LfType) → Σ.types k ≡ Some V → (U : ℕ → Bool) (i : ℕ) (A : LfType) → IsSubgoal (constant_clause V) i A → IsSequence Σ W (scope (constant_clause V)) (binders [] A) → NoneFree (m (target A)) → UsesGoal U (input_places (m (target A))) A → (K : Kind) → Σ.kinds (target A) ≡ Some K → PlacesBelow Σ below f K → HasOutputGoal below m {W = W} (of_constant V) U A K → IsCoveredOutputCase Σ m W (below f) (constant_clause V) (of_constant V) U A (output_goal below m {W = W} (of_constant V) U A K) → CoveredOutputs Σ m W (below f) (constant_clause V) U A
+
+-- A run of splits that ends well covers its goal, though each split looks only at tuples in which other block variables stand for
+-- other instances: the goal has no block variables.
+abbrev pub SplitsCover : Type 0
+SplitsCover = (Σ : Signature) (W : List Block) (S : ℕ → Bool) (C : Case) → C.given ≡ [] → C.local ≡ [] → HasNoBlockVariable C.items → EndsCovered Σ W S C → IsCoveredCase Σ W S C

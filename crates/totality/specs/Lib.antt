@@ -10,8 +10,14 @@ pub mod Descent
 pub mod Cover
 pub mod Case
 pub mod Raised
+pub mod OutputCase
+pub mod OutputGoal
+pub mod Split
+pub mod Missing
 pub mod Total
 pub mod Group
 pub mod Examples
+pub mod ExamplesGroups
+pub mod ExamplesMissing
 pub mod Refusals
 pub mod Laws

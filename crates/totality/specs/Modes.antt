@@ -4,7 +4,8 @@ use Rattle.lf.specs.Syntax.{Spine, nil, app, LfType, pi, atom}
 use Rattle.lf.specs.Typing.{Signature}
 use Rattle.lf.specs.Variables.{target, target_arguments, under, everything}
 use Rattle.totality.specs.Tests.{either, choose}
-use Rattle.totality.specs.Clause.{Clause, scope, variables, outside, occurs, IsSubgoal}
+use Rattle.totality.specs.Clause.{Clause, scope, variables, outside, IsSubgoal}
+use Rattle.unification.specs.Search.{occurs}
 use Rattle.totality.specs.Marks.{Mark, input_places, output_places, free_places, HasSoundMarks, UsesPlaces}
 use Rattle.totality.specs.Ground.{UsesGoal, SubgoalsFrom}
 
@@ -38,13 +39,22 @@ abbrev pub EachHypothesis : ((ℕ → Bool) → Clause → Type 0) → (ℕ → 
 EachHypothesis P moded C F U (pi A B) = choose (moded (target A)) (P U (record { outer = C; fixed = F; type = A })) (Unit {0}) × EachHypothesis P moded (A ∷ C) (under F) (under U) B
 EachHypothesis P moded C F U (atom a S) = Unit {0}
 
--- The clause is well-moded, with hypotheses nested n deep at most looked at: the marks of its family and of each called one are
--- sound; what a subgoal needs, the variables in its hypotheses' types and its input places, is ground before it; its hypotheses
--- are well-moded; and in the end all is ground.
+-- What is asked of a clause, where `hypothesis` is what is asked of a local hypothesis: the marks of its family and of each called one
+-- are sound; what a subgoal needs, the variables in its hypotheses' types and its input places, is ground before it; its hypotheses
+-- are right; and in the end all is ground.
+abbrev pub IsModed : ((ℕ → Bool) → Clause → Type 0) → Signature → (ℕ → List Mark) → (ℕ → Bool) → (ℕ → Bool) → Clause → Type 0
+IsModed hypothesis Σ m moded V c = HasSoundMarks Σ (target c.type) (m (target c.type)) × SubgoalsFrom V m c (λ U A. HasSoundMarks Σ (target A) (m (target A)) × UsesGoal U (input_places (m (target A))) A × EachHypothesis hypothesis moded (scope c) (outside c.type c.fixed) U A) (λ U. AllGround m c U)
+
+-- The same of the clause, of its hypotheses, of theirs and so on, n times. Nothing is asked at 0.
 abbrev pub WellModedTo : ℕ → Signature → (ℕ → List Mark) → (ℕ → Bool) → (ℕ → Bool) → Clause → Type 0
 WellModedTo zero Σ m moded V c = Unit {0}
-WellModedTo (suc n) Σ m moded V c = HasSoundMarks Σ (target c.type) (m (target c.type)) × SubgoalsFrom V m c (λ U A. HasSoundMarks Σ (target A) (m (target A)) × UsesGoal U (input_places (m (target A))) A × EachHypothesis (WellModedTo n Σ m moded) moded (scope c) (outside c.type c.fixed) U A) (λ U. AllGround m c U)
+WellModedTo (suc n) Σ m moded V c = IsModed (WellModedTo n Σ m moded) Σ m moded V c
 
--- A constant or block entry is well-moded: all that stands outside is ground, and hypotheses of every nesting are looked at.
+-- The clause is well-moded, where of what stands outside the variables of V are ground: it is so to every depth. So a clause is well-moded
+-- exactly where this is asked of it and its hypotheses are well-moded, as the law `WellModedUnfolds` says.
+abbrev pub WellModedFrom : Signature → (ℕ → List Mark) → (ℕ → Bool) → (ℕ → Bool) → Clause → Type 0
+WellModedFrom Σ m moded V c = (n : ℕ) → WellModedTo n Σ m moded V c
+
+-- a constant or block entry: all that stands outside is ground
 abbrev pub WellModed : Signature → (ℕ → List Mark) → (ℕ → Bool) → Clause → Type 0
-WellModed Σ m moded c = (n : ℕ) → WellModedTo n Σ m moded everything c
+WellModed Σ m moded c = WellModedFrom Σ m moded everything c

@@ -92,7 +92,7 @@ u_type = pi (at_index (var 3)) (pi (on_two 11 (var 4) (var 0)) (on_two 10 (var 5
 
 -- the whole block
 abbrev pub p_block : Block
-p_block = record { label = 0; some = f_type ∷ []; entries = u_type ∷ p_entries }
+p_block = record { label = 108 ∷ []; some = f_type ∷ []; entries = u_type ∷ p_entries }
 
 -- p + + and q + -
 abbrev pub p_marks : ℕ → List Mark
@@ -114,7 +114,7 @@ r_type = pi (at_index (var 1)) (pi (on_three 12 (var 2) (var 0) (var 0)) (on_thr
 
 -- the whole block
 abbrev pub r_block : Block
-r_block = record { label = 1; some = f_type ∷ []; entries = r_type ∷ r_entries }
+r_block = record { label = 108 ∷ []; some = f_type ∷ []; entries = r_type ∷ r_entries }
 
 -- the order that names the third place
 abbrev pub third_place : ℕ → Order

@@ -15,13 +15,13 @@ IsTerm (keep j) = ⊥
 IsTerm (put a N) = Unit {0}
 
 -- variable x, seen past a list of types
-abbrev pub past : List LfType → ℕ → ℕ
-past [] x = x
-past (E ∷ es) x = suc (past es x)
+abbrev pub past_types : List LfType → ℕ → ℕ
+past_types [] x = x
+past_types (E ∷ es) x = suc (past_types es x)
 
 -- each `some` variable has a strict occurrence in an entry's type, where the entries before it count as bound variables
 abbrev pub IsStrictBlock : Block → Type 0
-IsStrictBlock B = (x : ℕ) (A : LfType) → TypeAt B.some x A → (later : List LfType) × (E : LfType) × (es : List LfType) × (onto later (E ∷ es) ≡ B.entries) × (strict_type (among es) nothing (past es x) E ≡ true)
+IsStrictBlock B = (x : ℕ) (A : LfType) → TypeAt B.some x A → (later : List LfType) × (E : LfType) × (es : List LfType) × (onto later (E ∷ es) ≡ B.entries) × (strict_type (among es) nothing (past_types es x) E ≡ true)
 
 -- A sequence of instances of strict blocks of W over the context C. The `some` terms are typed in what precedes.
 pub data IsSequence (Σ : Signature) (W : List Block) (C : List LfType) : List LfType → Type 0 where

@@ -1,8 +1,10 @@
 //! The laws of total families of LF. They have no code: each function carries one law as its contract.
 #![tactic(auto)]
 
-ghost use Rattle.totality.specs.Laws.{CheckedGroupIsRight, LastingIsTotal, LastingGoesOn, LastingOverMore, RecordStaysRight, CheckedStaysChecked, BelowIsSubordination, KindPlacesAreBelow, VariableIsEntry, CallsHaveRank, RankForbidsCycles, WaysAreDecided, StrictOccurrencesDetermine, GroundFirstIsClosed, GroundAfterIsClosed, TypedTuplesAreRaised, RaisedOutputsCover, HeadsAreKnown, InputGoalCovers, InputsMentionInputs, NoOutputsAreCovered, SubgoalContextIsWorld, CallerServesCallee, SmallerHasSmallerInstances};
-ghost use Rattle.totality.specs.Examples.{AdditionLasts, AdditionStaysChecked, NumbersHaveSums, CopyingLasts, TermsHaveCopies, BlockCaseIsCovered};
+ghost use Rattle.totality.specs.Laws.{CheckedGroupIsRight, LastingIsTotal, LastingGoesOn, LastingOverMore, RecordStaysRight, CheckedStaysChecked, BelowIsSubordination, KindPlacesAreBelow, VariableIsEntry, CallsHaveRank, RankForbidsCycles, WaysAreDecided, WellModedUnfolds, StrictOccurrencesDetermine, GroundFirstIsClosed, GroundAfterIsClosed, TypedTuplesAreRaised, RaisedOutputsCover, HeadsAreKnown, InputGoalCovers, InputsMentionInputs, NoOutputsAreCovered, HeldOutputsAreCovered, OutputGoalCovers, SplitsCover, SubgoalContextIsWorld, CallerServesCallee, SmallerHasSmallerInstances};
+ghost use Rattle.totality.specs.Examples.{AdditionLasts, AdditionStaysChecked, NumbersHaveSums, CopyingLasts, TermsHaveCopies, BlockCaseIsCovered, PlusIsCoveredBySplits, PlusOutputGoal, CopyOutputGoal};
+ghost use Rattle.totality.specs.ExamplesGroups.{MutualGroupLasts, CallerOfRecordLasts, StrictBlockServes};
+ghost use Rattle.totality.specs.ExamplesMissing.{ZeroIsMissing, GoalIsNotMissing, LinearClauses};
 ghost use Rattle.totality.specs.Refusals.{FreePlaceIsExempt, UnsoundMarksAreRefused, MarksMustFit, LoopIsRefused, UngroundIsRefused, MissingWorldIsRefused, CycleIsRefused, SomeVariableCoversNothing, SomeVariableIsNoParameter};
 
 /// The totality theorem: the record of a checked group is right, each of its families lasts.
@@ -80,6 +82,11 @@ pub fn ways_are_decided()
     ensures { WaysAreDecided }
 {}
 
+/// A clause is well-moded exactly where what is asked of it holds and its hypotheses are well-moded.
+pub fn well_moded_unfolds()
+    ensures { WellModedUnfolds }
+{}
+
 /// Equal instances give a variable with a strict occurrence the same value.
 pub fn strict_occurrences_determine()
     ensures { StrictOccurrencesDetermine }
@@ -103,6 +110,21 @@ pub fn typed_tuples_are_raised()
 /// The outputs of a subgoal are covered where the raised tuples are.
 pub fn raised_outputs_cover()
     ensures { RaisedOutputsCover }
+{}
+
+/// A case of a subgoal's outputs that the clause covers gives values for each tuple that it holds.
+pub fn held_outputs_are_covered()
+    ensures { HeldOutputsAreCovered }
+{}
+
+/// The outputs of a constant's subgoal are covered where the goal of output coverage is.
+pub fn output_goal_covers()
+    ensures { OutputGoalCovers }
+{}
+
+/// A run of splits that ends well covers its goal.
+pub fn splits_cover()
+    ensures { SplitsCover }
 {}
 
 /// Splitting: the head of a term of a family is a constant, a local variable or an entry of an instance.
@@ -153,6 +175,51 @@ pub fn terms_have_copies()
 /// A block's entry covers the case of a block variable.
 pub fn block_case_is_covered()
     ensures { BlockCaseIsCovered }
+{}
+
+/// The inputs of addition are covered by a split into zero and successor.
+pub fn plus_is_covered_by_splits()
+    ensures { PlusIsCoveredBySplits }
+{}
+
+/// The goal of output coverage of the subgoal of addition.
+pub fn plus_output_goal()
+    ensures { PlusOutputGoal }
+{}
+
+/// That of copying under a binder: the output is raised over the bound variable alone.
+pub fn copy_output_goal()
+    ensures { CopyOutputGoal }
+{}
+
+/// A mutual group lasts, with an equal call that is on no cycle.
+pub fn mutual_group_lasts()
+    ensures { MutualGroupLasts }
+{}
+
+/// A group lasts that calls a family of an earlier record.
+pub fn caller_of_record_lasts()
+    ensures { CallerOfRecordLasts }
+{}
+
+/// A block with a strict `some` variable serves a subgoal, and one whose `some` variable stands in no entry serves none.
+pub fn strict_block_serves()
+    ensures { StrictBlockServes }
+{}
+
+/// Without a clause for zero the case of zero is missing.
+pub fn zero_is_missing()
+    ensures { ZeroIsMissing }
+{}
+
+/// The goal itself is not missing, and nor is a case that shares an instance with a clause.
+pub fn goal_is_not_missing()
+    ensures { GoalIsNotMissing }
+{}
+
+/// A clause that is linear, and one that is not.
+pub fn linear_clauses()
+    ensures { LinearClauses }
 {}
 
 /// A loop does not descend.

@@ -1,5 +1,6 @@
-pub mod Lists
-pub mod Steps
+pub mod Environments
+pub mod Arguments
+pub mod Calls
 pub mod Expanded
 pub mod FromTyping
 pub mod Known

@@ -1,38 +1,45 @@
--- The images that a list of values of the program stands for.
-use Rattle.std.specs.Prelude.{ℕ, List, [], ◌∷◌}
-use Rattle.lf.specs.Syntax.{Term, Spine, lambda, nil, app, Skeleton, base, arrow, root}
-use Rattle.lf.specs.Substitution as lf
-use Rattle.lf.specs.AtOnce.{shift_by, images_then_shift, lift_by}
-use Rattle.tw_terms.specs.View.{term_of, skeleton_of}
-use Rattle.tw_hered.specs.declared.images.Image.{Image}
-use Rattle.tw_hered.specs.declared.walk.Substitution.{Substitution}
-use Rattle.tw_hered.specs.declared.walk.Value.{Value}
+-- The environments that values of the program stand for.
+use Rattle.lf.specs.Syntax as lf
+use Rattle.closures.specs.Environments as pure
+use Rattle.closures.specs.Environments.{stays, closure, value_in, spine_value_in}
+use Rattle.closures.specs.Typing.{ClosureFits, SpineClosureFits}
+use Rattle.tw_terms.specs.View.{head_of, term_of, spine_of, skeleton_of}
+use Rattle.tw_hered.specs.declared.environment.Environment.{Environment, fold-Environment}
+use Rattle.tw_hered.specs.declared.environment.Environment.TheOpen.{Environment-F}
+use Rattle.tw_hered.specs.declared.environment.Found.{Found}
+use Rattle.tw_hered.specs.declared.head.Exposed.{Exposed}
+use Rattle.tw_hered.specs.declared.head.Step.{Step}
 
--- a term that carries its skeleton
-abbrev pub image_of : Image → lf.Image
-image_of x = lf.put (skeleton_of x.skeleton.now) (term_of x.term.now)
+-- one level, with each part already seen as its environment
+abbrev pub environment_step : Environment-F pure.Environment → pure.Environment
+environment_step Environment-F.Outside = pure.outside
+environment_step (Environment-F.Under n e) = pure.under n e.now
+environment_step (Environment-F.Moved n e) = pure.moved n e.now
+environment_step (Environment-F.Extended a N c e) = pure.extended (skeleton_of a.now) (term_of N.now) c.now e.now
 
--- the first of these stands behind the others, and all of them before xs
-abbrev pub images_before : List Image → List lf.Image → List lf.Image
-images_before [] xs = xs
-images_before (y ∷ ys) xs = images_before ys (image_of y ∷ xs)
+unfoldable pub environment_of : Environment → pure.Environment
+environment_of = fold-Environment pure.Environment environment_step
 
--- the last one is the image of variable 0
-unfoldable pub images_of : List Image → List lf.Image
-images_of ys = images_before ys []
+-- what a lookup found
+abbrev pub found_of : Found → pure.Found
+found_of (Found.Variable i) = stays i
+found_of (Found.Closure x) = closure (skeleton_of x.skeleton.now) (term_of x.term.now) (environment_of x.scope.now) x.binders
 
--- the skeleton has an arrow, and the term a lambda, for each argument
-abbrev pub TakesAll : Skeleton → Term → Spine → Type 0
-TakesAll a N nil = Unit {0}
-TakesAll (arrow a b) (lambda N) (app M S) = TakesAll b N S
-TakesAll (arrow a b) (root h T) (app M S) = ⊥
-TakesAll (base c) N (app M S) = ⊥
+-- the canonical form of a term whose head is found
+abbrev pub value_of_exposed : Exposed → lf.Term
+value_of_exposed (Exposed.Lam M e) = value_in (environment_of e.now) (lf.lambda (term_of M.now))
+value_of_exposed (Exposed.Root h S e) = lf.root (head_of h) (spine_value_in (environment_of e.now) (spine_of S.now))
 
--- what a walk does to variables: the `lifts` newest stay, the others get the images, and each one past these is moved
-abbrev pub substitution_of : Substitution → ℕ → lf.Image
-substitution_of s = lift_by s.lifts (images_then_shift (images_of s.images.now) s.shift)
+-- its parts have skeletons
+abbrev pub ExposedFits : Exposed → Type 0
+ExposedFits (Exposed.Lam M e) = ClosureFits (environment_of e.now) (lf.lambda (term_of M.now))
+ExposedFits (Exposed.Root h S e) = SpineClosureFits (environment_of e.now) (spine_of S.now)
 
--- the value of a variable under n binders
-abbrev pub value_of : ℕ → Value → lf.Image
-value_of n (Value.Variable j) = lf.keep j
-value_of n (Value.Put x) = lf.rename_image (shift_by n) (image_of x)
+-- the same after one step
+abbrev pub value_of_step : Step → lf.Term
+value_of_step (Step.Exposed x) = value_of_exposed x
+value_of_step (Step.Entered x) = value_in (environment_of x.environment.now) (term_of x.body.now)
+
+abbrev pub StepFits : Step → Type 0
+StepFits (Step.Exposed x) = ExposedFits x
+StepFits (Step.Entered x) = ClosureFits (environment_of x.environment.now) (term_of x.body.now)

@@ -2,15 +2,17 @@
 ghost use Rattle.std.specs.Prelude.{◌≡◌, ◌≤◌, ◌<◌, IfOk, IsErrOf};
 ghost use Rattle.lf.specs.Syntax.{rename_head};
 ghost use Rattle.lf.specs.AtOnce.{shift_by};
-ghost use Rattle.lf.specs.Depth.{depth, depth_limit};
-ghost use Rattle.lf.specs.Eta.{eta_long, arity as arity_of, lambdas};
-ghost use Rattle.tw_terms.specs.View.{head_of, term_of, skeleton_of};
+ghost use Rattle.lf.specs.Depth.{depth, spine_depth, depth_limit};
+ghost use Rattle.lf.specs.Eta.{eta_long, eta_arguments, arity as arity_of, lambdas as under_lambdas_of};
+ghost use Rattle.tw_terms.specs.View.{head_of, term_of, spine_of, skeleton_of};
 
 use crate::fault::HeredFault;
-use crate::hereditary::within_limit;
-use crate::walk::FRAMES;
+use crate::normal::push;
 use std::alloc::{AllocError, Global};
 use tw_terms::{Head, Skeleton, Spine, Term};
+
+/// The greatest depth of a result.
+const DEPTH_LIMIT: u64 = 4_096;
 
 /// The eta-long form of a variable or constant of the skeleton `skel`.
 ///
@@ -20,31 +22,57 @@ pub fn eta(alloc: Global, head: Head, skel: &Skeleton) -> Result<Term, HeredFaul
     ensures shallow { IfOk result (λ m. depth (term_of m) ≤ depth_limit) }
     ensures too_deep { IsErrOf result HeredFault.TooDeep → depth_limit < depth (eta_long (skeleton_of skel.now) (head_of head)) }
 {
-    within_limit(expand_head(alloc, head, skel, FRAMES)?)
+    expand_head(alloc, head, skel, DEPTH_LIMIT)
 }
 
-/// The eta-long form, where `frames` bounds its depth.
+/// The eta-long form. Answers `TooDeep` where it is deeper than `levels`.
+#[cycle(expand)]
 fn expand_head(
     alloc: Global,
     head: Head,
     skeleton: &Skeleton,
-    frames: u64,
-) -> Result<Term, AllocError>
-    ensures { IfOk result (λ m. term_of m ≡ eta_long (skeleton_of skeleton.now) (head_of head)) }
+    levels: u64,
+) -> Result<Term, HeredFault>
+    ensures ok { IfOk result (λ m. term_of m ≡ eta_long (skeleton_of skeleton.now) (head_of head)) }
+    ensures shallow { IfOk result (λ m. depth (term_of m) ≤ levels) }
+    ensures too_deep { IsErrOf result HeredFault.TooDeep → levels < depth (eta_long (skeleton_of skeleton.now) (head_of head)) }
 {
-    let arity = arity(skeleton)?;
-    let inside = frames.checked_sub(arity).ok_or(AllocError)?;
-    let left = inside.checked_sub(1).ok_or(AllocError)?;
-    let head = moved(head, arity)?;
+    let lambdas = arity(skeleton)?;
+    if levels <= lambdas {
+        return Err(HeredFault::TooDeep);
+    }
+    let head = moved(head, lambdas)?;
+    match expand_arguments(alloc, skeleton, lambdas, levels - lambdas - 1) {
+        Ok(spine) => Ok(under_lambdas(alloc, lambdas, Term::Root(head, spine))?),
+        Err(fault) => Err(fault),
+    }
+}
+
+/// The eta-long forms of the variables that the leading lambdas bind, which are `count`.
+#[cycle(expand)]
+fn expand_arguments(
+    alloc: Global,
+    skeleton: &Skeleton,
+    count: u64,
+    levels: u64,
+) -> Result<Spine, HeredFault>
+    requires { count ≡ arity_of (skeleton_of skeleton.now) }
+    ensures ok { IfOk result (λ s. spine_of s ≡ eta_arguments (skeleton_of skeleton.now)) }
+    ensures shallow { IfOk result (λ s. spine_depth (spine_of s) ≤ levels) }
+    ensures too_deep { IsErrOf result HeredFault.TooDeep → levels < spine_depth (eta_arguments (skeleton_of skeleton.now)) }
+{
     let mut args = Vec::new(alloc);
     let mut rest = skeleton;
-    let mut newest = arity;
+    let mut newest = count;
     while let Skeleton::Arrow(domain, range) = rest {
         newest -= 1;
-        args.push(expand_head(alloc, Head::Var(newest), domain, left)?)?;
+        match expand_head(alloc, Head::Var(newest), domain, levels) {
+            Ok(arg) => push(&mut args, arg)?,
+            Err(fault) => return Err(fault),
+        }
         rest = range;
     }
-    under_lambdas(alloc, arity, Term::Root(head, Spine { args }))
+    Ok(Spine { args })
 }
 
 /// The head under so many more binders. Fails where no context in memory is so long.
@@ -72,7 +100,7 @@ fn arity(skeleton: &Skeleton) -> Result<u64, AllocError>
 
 /// The body under so many lambdas.
 fn under_lambdas(alloc: Global, count: u64, body: Term) -> Result<Term, AllocError>
-    ensures { IfOk result (λ m. term_of m ≡ lambdas count (term_of body)) }
+    ensures { IfOk result (λ m. term_of m ≡ under_lambdas_of count (term_of body)) }
 {
     let mut term = body;
     for _ in 0..count {

@@ -1,19 +1,27 @@
 //! Substitution for one variable, and the application of a term to all its arguments.
-ghost use Rattle.std.specs.Prelude.{◌≡◌, ◌≤◌, ◌<◌, IfOk, IsErrOf};
+ghost use Rattle.std.specs.Prelude.{◌≡◌, ◌≤◌, IfOk, IsErrOf};
 ghost use Rattle.lf.specs.Substitution.{single, substitute as put_in, substitute_type, reduce};
 ghost use Rattle.lf.specs.Depth.{depth, type_depth, depth_limit};
 ghost use Rattle.lf.specs.Deep.{DeepSubstitution, DeepTypeSubstitution, DeepReduction};
 ghost use Rattle.tw_terms.specs.View.{term_of, spine_of, type_of, skeleton_of};
+ghost use Rattle.closures.specs.Environments.{outside, under, extended};
 ghost use Rattle.tw_hered.specs.Fits.{put_at, TermFits, TypeFits, Applies};
+ghost use Rattle.tw_hered.specs.View.{environment_of};
 
+use crate::environment::{Closure, Environment, placed};
 use crate::fault::HeredFault;
-use crate::images::Image;
-use crate::walk::{FRAMES, Substitution, apply_image, walk_term, walk_type};
+use crate::head::enter;
+use crate::normal::{normal_term, normal_type};
+use bumpalo::Bump;
 use std::alloc::{AllocError, Global};
 use tw_terms::{Skeleton, Spine, Term, Ty};
 
 /// The greatest depth of a result.
-const DEPTH_LIMIT: u32 = 4096;
+const DEPTH_LIMIT: u64 = 4_096;
+
+/// The greatest depth of what `instantiate` gives: past it, the machine's stack counts as used up.
+/// A level of a walk takes some 690 bytes of the stack, so that all take 6 of the usual 8 MiB.
+const STACK_LEVELS: u64 = 8_500;
 
 /// Hereditary substitution of `arg`, a term of the skeleton `skel`, for the variable `index` of `body`.
 ///
@@ -31,16 +39,9 @@ pub fn substitute(
     ensures shallow { IfOk result (λ m. depth (term_of m) ≤ depth_limit) }
     ensures too_deep { IsErrOf result HeredFault.TooDeep → DeepSubstitution depth_limit (put_at index (skeleton_of skel.now) (term_of arg.now)) (term_of body.now) }
 {
-    let images = [Image {
-        skeleton: skel,
-        term: arg,
-    }];
-    let substitution = Substitution {
-        lifts: index,
-        images: &images,
-        shift: 0,
-    };
-    within_limit(walk_term(alloc, body, substitution, FRAMES)?)
+    let arena = Bump::new(alloc);
+    let environment = environment_for(&arena, index, arg, skel)?;
+    normal_term(alloc, &arena, body, environment, DEPTH_LIMIT)
 }
 
 /// The same in a type.
@@ -56,20 +57,9 @@ pub fn substitute_ty(
     ensures shallow { IfOk result (λ a. type_depth (type_of a) ≤ depth_limit) }
     ensures too_deep { IsErrOf result HeredFault.TooDeep → DeepTypeSubstitution depth_limit (put_at index (skeleton_of skel.now) (term_of arg.now)) (type_of body.now) }
 {
-    let images = [Image {
-        skeleton: skel,
-        term: arg,
-    }];
-    let substitution = Substitution {
-        lifts: index,
-        images: &images,
-        shift: 0,
-    };
-    let ty = walk_type(alloc, body, substitution, FRAMES)?;
-    if ty.depth() > DEPTH_LIMIT {
-        return Err(HeredFault::TooDeep);
-    }
-    Ok(ty)
+    let arena = Bump::new(alloc);
+    let environment = environment_for(&arena, index, arg, skel)?;
+    normal_type(alloc, &arena, body, environment, DEPTH_LIMIT)
 }
 
 /// The type with `arg` put in for its newest variable, as deep as it comes. Fails only for want of memory.
@@ -77,16 +67,12 @@ pub fn instantiate(alloc: Global, body: &Ty, arg: &Term, skel: &Skeleton) -> Res
     requires { TypeFits (single (skeleton_of skel.now) (term_of arg.now)) (type_of body.now) }
     ensures { IfOk result (λ a. type_of a ≡ substitute_type reduce (single (skeleton_of skel.now) (term_of arg.now)) (type_of body.now)) }
 {
-    let images = [Image {
-        skeleton: skel,
-        term: arg,
-    }];
-    let substitution = Substitution {
-        lifts: 0,
-        images: &images,
-        shift: 0,
-    };
-    walk_type(alloc, body, substitution, FRAMES)
+    let arena = Bump::new(alloc);
+    let environment = environment_for(&arena, 0, arg, skel)?;
+    match normal_type(alloc, &arena, body, environment, STACK_LEVELS) {
+        Ok(ty) => Ok(ty),
+        Err(_) => Err(AllocError),
+    }
 }
 
 /// The canonical form of `term`, of the skeleton `skel`, applied to all the arguments that it takes.
@@ -103,21 +89,40 @@ pub fn apply_spine(
     ensures shallow { IfOk result (λ m. depth (term_of m) ≤ depth_limit) }
     ensures too_deep { IsErrOf result HeredFault.TooDeep → DeepReduction depth_limit (skeleton_of skel.now) (term_of term.now) (spine_of spine.now) }
 {
-    let image = Image {
+    let arena = Bump::new(alloc);
+    let outside = placed(&arena, Environment::Outside)?;
+    let closure = Closure {
         skeleton: skel,
         term,
+        scope: outside,
+        binders: 0,
     };
-    within_limit(apply_image(alloc, image, spine, 0, FRAMES)?)
+    let entered = enter(&arena, closure, &spine.args, outside)?;
+    normal_term(
+        alloc,
+        &arena,
+        entered.body,
+        entered.environment,
+        DEPTH_LIMIT,
+    )
 }
 
-/// The term, unless it is deeper than 4,096.
-pub fn within_limit(term: Term) -> Result<Term, HeredFault>
-    ensures same { IfOk result (λ m. m ≡ term) }
-    ensures shallow { IfOk result (λ m. depth (term_of m) ≤ depth_limit) }
-    ensures too_deep { IsErrOf result HeredFault.TooDeep → depth_limit < depth (term_of term) }
+/// The environment that puts `arg` in for the variable `index`.
+fn environment_for<'a>(
+    arena: &'a Bump,
+    index: u64,
+    arg: &'a Term,
+    skel: &'a Skeleton,
+) -> Result<&'a Environment<'a>, AllocError>
+    ensures { IfOk result (λ e. environment_of e.now ≡ under index (extended (skeleton_of skel.now) (term_of arg.now) outside outside)) }
 {
-    if term.depth() > DEPTH_LIMIT {
-        return Err(HeredFault::TooDeep);
-    }
-    Ok(term)
+    let outside = placed(arena, Environment::Outside)?;
+    let extended = Environment::Extended {
+        skeleton: skel,
+        term: arg,
+        scope: outside,
+        rest: outside,
+    };
+    let image = placed(arena, extended)?;
+    placed(arena, Environment::Under(index, image))
 }

@@ -83,13 +83,18 @@ fn term(alloc: Global, text: &[u8]) -> Result<Term, AllocError> {
     Ok(term)
 }
 
+// a head so many times on the term
+fn nest(alloc: Global, count: u64, head: Head, top: &[u8]) -> Result<Term, AllocError> {
+    let mut nest = term(alloc, top)?;
+    for _ in 0..count {
+        nest = one(alloc, head, nest)?;
+    }
+    Ok(nest)
+}
+
 // `s` so many times on the term
 fn tower(alloc: Global, count: u64, top: &[u8]) -> Result<Term, AllocError> {
-    let mut tower = term(alloc, top)?;
-    for _ in 0..count {
-        tower = one(alloc, Head::Const(ConstId(4)), tower)?;
-    }
-    Ok(tower)
+    nest(alloc, count, Head::Const(ConstId(4)), top)
 }
 
 // the arguments of a variable on them
@@ -368,12 +373,13 @@ fn reduces_deep_terms(rt: HostRuntime) -> Result<(), Fail> {
     let successor = term(alloc, b".s0")?;
 
     // f (f (.. z)), 4,095 times, with [y] s y for f
-    let mut body = term(alloc, b"z")?;
-    for _ in 0..4095u64 {
-        body = one(alloc, Head::Var(0), body)?;
-    }
+    let body = nest(alloc, 4095, Head::Var(0), b"z")?;
     let found = put_in_term(alloc, around, &body, n, &successor, nn)?;
     assert!(rt; found.same(&tower(alloc, 4095, b"z")?));
+    // 1,000 times, with [y] s (s y)
+    let body = nest(alloc, 1000, Head::Var(0), b"z")?;
+    let found = put_in_term(alloc, around, &body, n, &term(alloc, b".ss0")?, nn)?;
+    assert!(rt; found.same(&tower(alloc, 2000, b"z")?));
 
     // ([y] s y) on depth 4,096
     let mut args = Vec::new(alloc);
@@ -424,7 +430,7 @@ fn expands_deep_skeletons(rt: HostRuntime) -> Result<(), Fail> {
 }
 
 #[test]
-fn nests_many_frames(rt: HostRuntime) -> Result<(), Fail> {
+fn instantiates_past_the_limit(rt: HostRuntime) -> Result<(), Fail> {
     let alloc = rt.alloc();
     let k = make_skeletons(alloc)?;
     let (n, nn) = (&k.nat, &k.nat_to_nat);
@@ -440,5 +446,47 @@ fn nests_many_frames(rt: HostRuntime) -> Result<(), Fail> {
     let body = Ty::Atom(ConstId(VEC), Spine { args });
     let found = put_in_newest(alloc, around, &body, &z, n)?;
     assert_eq!(rt; found.depth(), 8492);
+    Ok(())
+}
+
+// No term is deeper than 4,003, but the arguments that are dropped nest 12,000 levels in one another.
+#[test]
+fn drops_nested_arguments(rt: HostRuntime) -> Result<(), Fail> {
+    let alloc = rt.alloc();
+    let k = make_skeletons(alloc)?;
+    let (n, nn) = (&k.nat, &k.nat_to_nat);
+    let around = Around {
+        constants: &[n, n, n, n, nn],
+        families: &[],
+        outer: &[],
+        bound: &[],
+    };
+    // the skeleton of f: (nat -> nat) -> ((nat -> nat) -> nat) -> nat
+    let taken = arrow(alloc, base(NAT), base(NAT))?;
+    let first = arrow(alloc, taken, base(NAT))?;
+    let rest = arrow(alloc, first, base(NAT))?;
+    let of_f = arrow(alloc, arrow(alloc, base(NAT), base(NAT))?, rest)?;
+    let of_k = arrow(alloc, base(NAT), base(NAT))?;
+    let skel = arrow(alloc, of_k, arrow(alloc, of_f, base(NAT))?)?;
+
+    // [k] [f] k (k (.. (f ([x] z) ([m] m (m (.. z))))))
+    let many = nest(alloc, 4000, Head::Var(0), b"z")?;
+    let many = Term::Lam(Box::new(alloc, many)?);
+    let mut body = two(alloc, Head::Var(0), term(alloc, b".z")?, many)?;
+    for _ in 0..4000u64 {
+        body = one(alloc, Head::Var(1), body)?;
+    }
+    let body = Term::Lam(Box::new(alloc, body)?);
+    let function = Term::Lam(Box::new(alloc, body)?);
+
+    // [x] z for k, and [k] [h] k (k (.. (h ([x] z)))) for f
+    let image = nest(alloc, 4000, Head::Var(1), b"(0.z")?;
+    let image = Term::Lam(Box::new(alloc, image)?);
+    let image = Term::Lam(Box::new(alloc, image)?);
+    let mut args = Vec::new(alloc);
+    args.push(term(alloc, b".z")?)?;
+    args.push(image)?;
+    let found = apply_typed(alloc, around, &function, &Spine { args }, &skel, NAT)?;
+    assert!(rt; found.same(&term(alloc, b"z")?));
     Ok(())
 }

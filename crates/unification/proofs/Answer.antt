@@ -7,7 +7,7 @@ use Rattle.lf.specs.Typing.{HasType, IsContext, IsSignature, IsType, Signature}
 use Rattle.unification.specs.Filling.{fill, fill_type}
 use Rattle.unification.specs.PartialInstance.{IsFilling, PartialInstance, ValueBySkeletons, IsTypedStore}
 use Rattle.unification.specs.OpenTyping.{DeclarationsAreTyped, ValueHasType, skeletons_of}
-use Rattle.unification.specs.Dependency.{Item, IsListed, IsDependencyOrder, free_context, values}
+use Rattle.unification.specs.Dependency.{ListedMetavariable, IsListed, IsDependencyOrder, free_context, values}
 use Rattle.unification.specs.Patterns.{eta_variable}
 use Rattle.unification.specs.Solving.{BindingsAreListed}
 use Rattle.unification.specs.Skeletons.{total_skeletons, skeleton_or_default}
@@ -28,10 +28,10 @@ module _ (Σ : Signature) (ok : IsSignature Σ) (Ψ : ℕ → Option LfType) (bs
   μ = skeletons_of Ψ
 
   -- what is listed without a value
-  abbrev Free : List Item → ℕ → Type 0
+  abbrev Free : List ListedMetavariable → ℕ → Type 0
   Free is m = (A : LfType) × (Ψ m ≡ Some A) × Member (record { of = m; of_type = A; value = None }) is
 
-  module _ (is : List Item) (order : IsDependencyOrder Σ Ψ U is) (all : (m : ℕ) (A : LfType) → Ψ m ≡ Some A → IsListed is m) (covered : BindingsAreListed is bs) (declarations_typed : DeclarationsAreTyped Σ [] Ψ U) (bindings_typed : BindingsAreTyped Σ [] Ψ U (Free is) bs) (each : (m : ℕ) → IsListed is m → AllOf (Free is) bs m) where
+  module _ (is : List ListedMetavariable) (order : IsDependencyOrder Σ Ψ U is) (all : (m : ℕ) (A : LfType) → Ψ m ≡ Some A → IsListed is m) (covered : BindingsAreListed is bs) (declarations_typed : DeclarationsAreTyped Σ [] Ψ U) (bindings_typed : BindingsAreTyped Σ [] Ψ U (Free is) bs) (each : (m : ℕ) → IsListed is m → AllOf (Free is) bs m) where
     abbrev F : List LfType
     F = free_context μ is
 
@@ -41,12 +41,12 @@ module _ (Σ : Signature) (ok : IsSignature Σ) (Ψ : ℕ → Option LfType) (bs
     w : Stage Σ μ ok Ψ U is
     w = stage Σ μ ok Ψ U is order
 
-    fact : (js : List Item) → Facts Σ μ ok Ψ U F β js → (it : Item) → Member it js → Fact Σ μ ok Ψ U F β it.of it.of_type it.value
+    fact : (js : List ListedMetavariable) → Facts Σ μ ok Ψ U F β js → (it : ListedMetavariable) → Member it js → Fact Σ μ ok Ψ U F β it.of it.of_type it.value
     fact [] f it i = absurd i
     fact (j ∷ js) (f, fs) it (inl e) = subst (λ k. Fact Σ μ ok Ψ U F β k.of k.of_type k.value) (sym e) f
     fact (j ∷ js) (f, fs) it (inr i) = fact js fs it i
 
-    valued : (js : List Item) → Facts Σ μ ok Ψ U F β js → (m : ℕ) → IsListed js m → (V : Term) × (β m ≡ Some V)
+    valued : (js : List ListedMetavariable) → Facts Σ μ ok Ψ U F β js → (m : ℕ) → IsListed js m → (V : Term) × (β m ≡ Some V)
     valued [] f m l = absurd l
     valued (j ∷ js) (f, fs) m (inr l) = valued js fs m l
     valued (j ∷ js) (f, fs) m (inl e) = go j.value f
@@ -110,7 +110,7 @@ module _ (Σ : Signature) (ok : IsSignature Σ) (Ψ : ℕ → Option LfType) (bs
     answer = (record { context = context; outer = λ i A g. absurd g; typed = typed }, (respects bs covered, tt))
 
 -- THE theorem on a leaf: a solved store that is typed up to its own fillings, with an order of its metavariables
-pub answer_of : (Σ : Signature) (ok : IsSignature Σ) (s : Store) → s.equations ≡ [] → (is : List Item) → IsDependencyOrder Σ s.metavariables (IsFilling Σ [] s) is → ((m : ℕ) (A : LfType) → s.metavariables m ≡ Some A → IsListed is m) → BindingsAreListed is s.bindings →
+pub answer_of : (Σ : Signature) (ok : IsSignature Σ) (s : Store) → s.equations ≡ [] → (is : List ListedMetavariable) → IsDependencyOrder Σ s.metavariables (IsFilling Σ [] s) is → ((m : ℕ) (A : LfType) → s.metavariables m ≡ Some A → IsListed is m) → BindingsAreListed is s.bindings →
     IsTypedStore Σ [] (λ m. (A : LfType) × (s.metavariables m ≡ Some A) × Member (record { of = m; of_type = A; value = None }) is) s →
     ((m : ℕ) → IsListed is m → AllOf (λ m. (A : LfType) × (s.metavariables m ≡ Some A) × Member (record { of = m; of_type = A; value = None }) is) s.bindings m) →
     Solution Σ [] s (free_context (skeletons_of s.metavariables) is) (values (skeletons_of s.metavariables) is)

@@ -7,7 +7,7 @@ use Rattle.lf.specs.Syntax.{Skeleton, Term, LfType, skeleton}
 use Rattle.lf.specs.Typing.{IsSignature, Signature}
 use Rattle.lf.specs.Variables.{same_number}
 use Rattle.lf.proofs.Checker.{number_is, number_itself}
-use Rattle.unification.specs.Dependency.{IsDependencyOrder, IsListed, Item, ValueIsOrdered}
+use Rattle.unification.specs.Dependency.{IsDependencyOrder, IsListed, ListedMetavariable, ValueIsOrdered}
 use Rattle.unification.specs.Offering.{MetavariablesInLocals}
 use Rattle.unification.specs.OpenTyping.{Declares, MetavariablesInType, OpenHasType, OpenIsContext, OpenIsType, set_at, skeletons_of}
 use Rattle.unification.specs.PartialInstance.{EquationsAreTyped, IsFilling, LocalBySkeletonsUpTo, PartialInstance, TypeBySkeletonsUpTo, ValueBySkeletons, ValueIsPlain}
@@ -143,7 +143,7 @@ module _ (Σ : Signature) (ok : IsSignature Σ) (s : Store) (n : ℕ) (scoped : 
           go (inr q) = in_weaker_type (Declares Ψ) (Declares Ψ') still_declared B (scoped.types m B (sym (set_other n (Some P) Ψ m q) ∙ e))
 
   module _ (w : IsWellFormed Σ s) (P_typed : OpenIsType Σ [] s.metavariables (IsFilling Σ [] s) [] P) (g : ℕ) (g_listed : IsListed w.order g) (P_behind : TypeBehind g P w.order) where
-    abbrev new_item : Item
+    abbrev new_item : ListedMetavariable
     new_item = record { of = n; of_type = P; value = None }
 
     pub typed_new : OpenIsType Σ [] Ψ' U' [] P
@@ -179,7 +179,7 @@ module _ (Σ : Signature) (ok : IsSignature Σ) (s : Store) (n : ℕ) (scoped : 
       equations_grow es k vs,
     )
 
-    pub order_grows : (is : List Item) → IsDependencyOrder Σ Ψ U is → IsDependencyOrder Σ Ψ' U' is
+    pub order_grows : (is : List ListedMetavariable) → IsDependencyOrder Σ Ψ U is → IsDependencyOrder Σ Ψ' U' is
     order_grows [] o = tt
     order_grows (it ∷ is) (o, e, out, i, t, c, v) = (order_grows is o, declare_grows it.of it.of_type e, out, i, declare_type [] it.of_type tt (scoped.types it.of it.of_type e) t, c, value it.value v)
       where
@@ -212,26 +212,26 @@ module _ (Σ : Signature) (ok : IsSignature Σ) (s : Store) (n : ℕ) (scoped : 
         listed m B e (inr q) = insert_listed g new_item w.order m (w.all_listed m B (sym (set_other n (Some P) Ψ m q) ∙ e))
 
 -- What stands behind g.
-abbrev pub IsBehind : ℕ → List Item → ℕ → Type 0
+abbrev pub IsBehind : ℕ → List ListedMetavariable → ℕ → Type 0
 IsBehind g [] k = ⊥
 IsBehind g (it ∷ is) k = ((g ≡ it.of) × IsListed is k) ⊎ IsBehind g is k
 
-pub behind_listed : (g : ℕ) (is : List Item) (k : ℕ) → IsBehind g is k → IsListed is k
+pub behind_listed : (g : ℕ) (is : List ListedMetavariable) (k : ℕ) → IsBehind g is k → IsListed is k
 behind_listed g [] k b = absurd b
 behind_listed g (it ∷ is) k (inl p) = inr p.1
 behind_listed g (it ∷ is) k (inr b) = inr (behind_listed g is k b)
 
-pub behind_needs : (g : ℕ) (is : List Item) (k : ℕ) → IsBehind g is k → IsListed is g
+pub behind_needs : (g : ℕ) (is : List ListedMetavariable) (k : ℕ) → IsBehind g is k → IsListed is g
 behind_needs g [] k b = absurd b
 behind_needs g (it ∷ is) k (inl p) = inl p.0
 behind_needs g (it ∷ is) k (inr b) = inr (behind_needs g is k b)
 
 module _ (Σ : Signature) (Ψ : ℕ → Option LfType) (U : (ℕ → Option Term) → Type 0) (g : ℕ) where
-  nothing_behind : (X : LfType) (is : List Item) → (IsListed is g → ⊥) → TypeBehind g X is
+  nothing_behind : (X : LfType) (is : List ListedMetavariable) → (IsListed is g → ⊥) → TypeBehind g X is
   nothing_behind X [] h = tt
   nothing_behind X (it ∷ is) h = ((λ e. absurd (h (inl e))), nothing_behind X is (λ l. h (inr l)))
 
-  pub type_behind : (X : LfType) (is : List Item) → IsDependencyOrder Σ Ψ U is → MetavariablesInType (IsBehind g is) X → TypeBehind g X is
+  pub type_behind : (X : LfType) (is : List ListedMetavariable) → IsDependencyOrder Σ Ψ U is → MetavariablesInType (IsBehind g is) X → TypeBehind g X is
   type_behind X [] o i = tt
   type_behind X (it ∷ is) o i = go (decide g it.of) (type_behind X is o.0)
     where
@@ -248,7 +248,7 @@ module _ (Σ : Signature) (Ψ : ℕ → Option LfType) (U : (ℕ → Option Term
       go (inr h) r = ((λ q. absurd (h q)), r (in_weaker_type (IsBehind g (it ∷ is)) (IsBehind g is) (later h) X i))
 
 -- after an insertion behind g
-pub behind_insert : (g : ℕ) (new : Item) (is : List Item) (k : ℕ) → IsBehind g is k → IsBehind g (insert g new is) k
+pub behind_insert : (g : ℕ) (new : ListedMetavariable) (is : List ListedMetavariable) (k : ℕ) → IsBehind g is k → IsBehind g (insert g new is) k
 behind_insert g new [] k b = b
 behind_insert g new (it ∷ is) k b = go (same_number g it.of) b (behind_insert g new is k)
   where
@@ -258,7 +258,7 @@ behind_insert g new (it ∷ is) k b = go (same_number g it.of) b (behind_insert 
     go false (inl p) h = inl (p.0, insert_listed g new is k p.1)
     go false (inr b) h = inr (h b)
 
-pub new_behind : (g : ℕ) (new : Item) (is : List Item) → IsListed is g → IsBehind g (insert g new is) new.of
+pub new_behind : (g : ℕ) (new : ListedMetavariable) (is : List ListedMetavariable) → IsListed is g → IsBehind g (insert g new is) new.of
 new_behind g new [] l = absurd l
 new_behind g new (it ∷ is) l = go (same_number g it.of) refl l (new_behind g new is)
   where

@@ -4,14 +4,14 @@ use Rattle.lf.specs.Substitution.{reduce, single}
 use Rattle.lf.specs.Syntax.{Spine, LfType, skeleton}
 use Rattle.lf.specs.Typing.{Signature}
 use Rattle.lf.proofs.TypeLaws.{skeleton_substituted}
-use Rattle.unification.specs.Offering.{Offered, atom_offered, quantifier_offered, raised}
+use Rattle.unification.specs.Offering.{AppliesToNew, applied_to_all, applied_to_next, raised}
 use Rattle.unification.specs.Patterns.{skeleton_target}
 use Rattle.unification.specs.Search.{Node, Pending, SearchStep, TryIsDue, child, is_due, no_child, no_head, other_target, take_goal, take_leaf}
 
 -- the head that is offered has the goal's family as its target
-offered_target : {D : List LfType} {Ψ : ℕ → Option LfType} {n : ℕ} {A : LfType} {Ψ' : ℕ → Option LfType} {n' : ℕ} {S : Spine} {a : ℕ} {T : Spine} → Offered D Ψ n A Ψ' n' S a T → skeleton_target (skeleton A) ≡ a
-offered_target atom_offered = refl
-offered_target {D = D} {n = n} (quantifier_offered {B = B} {C = C} o) = ap skeleton_target (sym (skeleton_substituted reduce (single (skeleton B) (raised D B n)) C)) ∙ offered_target o
+offered_target : {D : List LfType} {Ψ : ℕ → Option LfType} {n : ℕ} {A : LfType} {Ψ' : ℕ → Option LfType} {n' : ℕ} {S : Spine} {a : ℕ} {T : Spine} → AppliesToNew D Ψ n A Ψ' n' S a T → skeleton_target (skeleton A) ≡ a
+offered_target applied_to_all = refl
+offered_target {D = D} {n = n} (applied_to_next {B = B} {C = C} o) = ap skeleton_target (sym (skeleton_substituted reduce (single (skeleton B) (raised D B n)) C)) ∙ offered_target o
 
 module _ (Σ : Signature) (cs : List ℕ) where
   pub due_is_tried : {agenda agenda' : List Pending} {ls : List Node} {k : ℕ} → SearchStep Σ cs agenda ls k agenda' → TryIsDue Σ agenda → k ≡ 1

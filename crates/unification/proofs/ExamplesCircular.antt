@@ -4,7 +4,7 @@ use Rattle.std.proofs.Common.{◌≡◌, ℕ, zero, suc, List, [], ◌∷◌, Op
 use Rattle.lf.specs.Syntax.{Skeleton, Spine, Term, LfType, app, arrow, atom, base, constant, lambda, metavariable, nil, pi, rename, rename_spine, root, variable, weaken}
 use Rattle.lf.specs.Typing.{TypeAt, SpineType, HasType, IsSignature, Signature}
 use Rattle.lf.specs.Subordination.{Member}
-use Rattle.unification.specs.Dependency.{IsDependencyOrder, IsListed, Item, ValueIsOrdered}
+use Rattle.unification.specs.Dependency.{IsDependencyOrder, IsListed, ListedMetavariable, ValueIsOrdered}
 use Rattle.unification.specs.PartialInstance.{IsFilling}
 use Rattle.unification.specs.Solving.{IsWellFormed}
 use Rattle.unification.proofs.Generic.{ordered_at}
@@ -131,7 +131,7 @@ module _ (Σ : Signature) (ok : IsSignature Σ) (nat vec : ℕ) where
   abbrev Ψ : ℕ → Option LfType
   Ψ = types Σ nat vec
 
-  no_order : (U : (ℕ → Option Term) → Type 0) (is : List Item) → IsDependencyOrder Σ Ψ U is → (A : LfType) → Member (record { of = 0; of_type = A; value = Some (k_w Σ nat vec) }) is → ⊥
+  no_order : (U : (ℕ → Option Term) → Type 0) (is : List ListedMetavariable) → IsDependencyOrder Σ Ψ U is → (A : LfType) → Member (record { of = 0; of_type = A; value = Some (k_w Σ nat vec) }) is → ⊥
   no_order U [] o A i = i
   no_order U (it ∷ is) o A (inr i) = no_order U is o.0 A i
   no_order U (it ∷ is) o A (inl e) =

@@ -12,7 +12,7 @@ use Rattle.lf.specs.Skeletons.{context_skeletons, family_skeletons}
 use Rattle.lf.specs.Syntax.{LfType, Term, app, atom, base, constant, metavariable, nil, pi, root, star}
 use Rattle.lf.specs.Typing.{Signature, IsSignature}
 use Rattle.unification.specs.OpenTyping.{Declares, MetavariablesInType, set_at, skeletons_of, OpenIsType}
-use Rattle.unification.specs.Offering.{atom_offered, quantifier_offered}
+use Rattle.unification.specs.Offering.{applied_to_all, applied_to_next}
 use Rattle.unification.specs.Query.{Query, Searches, StopsAtAnswer, at_last, none_asked, start}
 use Rattle.unification.specs.Reach.{TypeMentions}
 use Rattle.unification.specs.Search.{IsChild, IsInfinite, IsOutOfBudget, IsNode, Node, Offer, Pending, SearchStep, at_heads, at_node, declared_constants, begin_search, child, is_due, no_head, search_on, take_goal, take_leaf}
@@ -89,7 +89,7 @@ found_ok = record {
 }
 
 offer : Offer Σ (start query) 0 [] 0 nil (constant 1) unit found.store 1
-offer = record { typed = refl; kind = star; kind_of = refl; spine = nil; indices = nil; offered = atom_offered; bindings = refl; equations = refl }
+offer = record { typed = refl; kind = star; kind_of = refl; spine = nil; indices = nil; offered = applied_to_all; bindings = refl; equations = refl }
 
 -- the query is well formed: its one metavariable is free
 start_form : IsWellFormed Σ (start query).store
@@ -195,7 +195,7 @@ node_is n = record {
 }
 
 offer_at : (n : ℕ) → Offer Σ₂ (node_at n) n [] 0 nil (constant 1) (pi unit unit) (node_at (suc n)).store (suc (suc n))
-offer_at n = record { typed = refl; kind = star; kind_of = refl; spine = app (hole_term (suc n)) nil; indices = nil; offered = quantifier_offered atom_offered; bindings = refl; equations = refl }
+offer_at n = record { typed = refl; kind = star; kind_of = refl; spine = app (hole_term (suc n)) nil; indices = nil; offered = applied_to_next applied_to_all; bindings = refl; equations = refl }
 
 low_at : (m : ℕ) (A : LfType) → holes_to 0 m ≡ Some A → m ≡ 0
 low_at zero A e = refl

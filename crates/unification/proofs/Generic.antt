@@ -8,7 +8,7 @@ use Rattle.lf.specs.Typing.{TypeAt, IsSignature, Signature, instantiate_kind, in
 use Rattle.lf.specs.Variables.{onto}
 use Rattle.unification.specs.Filling.{fill, fill_type, moved, rename_value}
 use Rattle.unification.specs.OpenTyping.{MetavariablesIn, MetavariablesInType, OpenSpineFitsKind, OpenSpineType, OpenHasType, OpenIsType, skeletons_of, set_at}
-use Rattle.unification.specs.Dependency.{Item, IsListed, IsDependencyOrder, ValueIsOrdered, free_context, values}
+use Rattle.unification.specs.Dependency.{ListedMetavariable, IsListed, IsDependencyOrder, ValueIsOrdered, free_context, values}
 use Rattle.unification.specs.Patterns.{local_skeletons}
 use Rattle.unification.specs.Patterns.{eta_variable}
 use Rattle.unification.specs.Skeletons.{TotalSkeletons, as_head_skeletons, total_skeletons, skeleton_or_default}
@@ -66,11 +66,11 @@ module _ (Σ : Signature) (μ' : ℕ → Skeleton) (ok : IsSignature Σ) (Ψ : �
   Fact F β m A (Some N) = β m ≡ Some (fill μ β N)
   Fact F β m A None = (x : ℕ) × (β m ≡ Some (eta_variable (skeleton A) x)) × TypeAt F x (fill_type μ β A)
 
-  abbrev pub Facts : List LfType → (ℕ → Option Term) → List Item → Type 0
+  abbrev pub Facts : List LfType → (ℕ → Option Term) → List ListedMetavariable → Type 0
   Facts F β [] = Unit {0}
   Facts F β (it ∷ is) = Fact F β it.of it.of_type it.value × Facts F β is
 
-  pub record Stage (is : List Item) : Type 0 where
+  pub record Stage (is : List ListedMetavariable) : Type 0 where
     pub by_skeletons : SkeletonsFill κ (context_skeletons (free_context μ is)) (values μ is)
     pub context : SkeletonContext Σ μ ok (free_context μ is)
     pub none : (m : ℕ) → (IsListed is m → ⊥) → values μ is m ≡ None
@@ -95,23 +95,23 @@ module _ (Σ : Signature) (μ' : ℕ → Skeleton) (ok : IsSignature Σ) (Ψ : �
     move_fact m A (Some N) v i c h e = let (j, d) = h N refl in sym (other m v) ∙ ap (rename_value ρ) e ∙ ap Some (move_term N j d)
     move_fact m A None v i c h (x, e, g) = (ρ x, sym (other m v) ∙ ap (rename_value ρ) e ∙ ap Some (rename_eta_expand ρ (skeleton A) (variable x) nil), subst (TypeAt F' (ρ x)) (move_type A i c) (w x (fill_type μ β A) g))
 
-  pub ordered_at : (is : List Item) → IsDependencyOrder Σ Ψ U is → (m : ℕ) → IsListed is m → (A : LfType) × (Ψ m ≡ Some A) × MetavariablesInType (IsListed is) A × OpenIsType Σ [] Ψ U [] A × ((ρ : ℕ → ℕ) → rename_type ρ A ≡ A)
+  pub ordered_at : (is : List ListedMetavariable) → IsDependencyOrder Σ Ψ U is → (m : ℕ) → IsListed is m → (A : LfType) × (Ψ m ≡ Some A) × MetavariablesInType (IsListed is) A × OpenIsType Σ [] Ψ U [] A × ((ρ : ℕ → ℕ) → rename_type ρ A ≡ A)
   ordered_at [] o m l = absurd l
   ordered_at (it ∷ is) o m (inl e) = (it.of_type, ap Ψ e ∙ o.1, in_weaker_type (IsListed is) (IsListed (it ∷ is)) (λ k v. inr v) it.of_type o.3, o.4, o.5)
   ordered_at (it ∷ is) o m (inr l) = let (A, d, i, t, c) = ordered_at is o.0 m l in (A, d, in_weaker_type (IsListed is) (IsListed (it ∷ is)) (λ k v. inr v) A i, t, c)
 
-  value_ok : (V₀ : ℕ → Type 0) (is : List Item) (A : LfType) (x : Option Term) → ((m : ℕ) → IsListed is m → V₀ m) → ValueIsOrdered Σ Ψ U is A x → (N : Term) → x ≡ Some N → MetavariablesIn V₀ N × ((ρ : ℕ → ℕ) → rename ρ N ≡ N)
+  value_ok : (V₀ : ℕ → Type 0) (is : List ListedMetavariable) (A : LfType) (x : Option Term) → ((m : ℕ) → IsListed is m → V₀ m) → ValueIsOrdered Σ Ψ U is A x → (N : Term) → x ≡ Some N → MetavariablesIn V₀ N × ((ρ : ℕ → ℕ) → rename ρ N ≡ N)
   value_ok V₀ is A None s v N e = cc
   value_ok V₀ is A (Some M) s (i, t, c) N e = let q : M ≡ N = cc in subst (λ Z. MetavariablesIn V₀ Z × ((ρ : ℕ → ℕ) → rename ρ Z ≡ Z)) q (in_weaker (IsListed is) V₀ s M i, c)
 
-  move_facts : (F F' : List LfType) (β : ℕ → Option Term) (ρ : ℕ → ℕ) (w : (i : ℕ) (A : LfType) → TypeAt F i A → TypeAt F' (ρ i) (rename_type ρ A)) (n : ℕ) (V : Term) (V₀ : ℕ → Type 0) (out : V₀ n → ⊥) (is : List Item) → ((m : ℕ) → IsListed is m → V₀ m) → IsDependencyOrder Σ Ψ U is → Facts F β is → Facts F' (set_at n (Some V) (moved ρ β)) is
+  move_facts : (F F' : List LfType) (β : ℕ → Option Term) (ρ : ℕ → ℕ) (w : (i : ℕ) (A : LfType) → TypeAt F i A → TypeAt F' (ρ i) (rename_type ρ A)) (n : ℕ) (V : Term) (V₀ : ℕ → Type 0) (out : V₀ n → ⊥) (is : List ListedMetavariable) → ((m : ℕ) → IsListed is m → V₀ m) → IsDependencyOrder Σ Ψ U is → Facts F β is → Facts F' (set_at n (Some V) (moved ρ β)) is
   move_facts F F' β ρ w n V V₀ out [] s o f = tt
   move_facts F F' β ρ w n V V₀ out (it ∷ is) s o (f, fs) = (
     move_fact F F' β ρ w n V V₀ out it.of it.of_type it.value (s it.of (inl refl)) (in_weaker_type (IsListed is) V₀ (λ m l. s m (inr l)) it.of_type o.3) o.5 (value_ok V₀ is it.of_type it.value (λ m l. s m (inr l)) o.6) f,
     move_facts F F' β ρ w n V V₀ out is (λ m l. s m (inr l)) o.0 fs,
   )
 
-  step_free : (is : List Item) (n : ℕ) (A : LfType) → IsDependencyOrder Σ Ψ U is → Stage is → Ψ n ≡ Some A → (IsListed is n → ⊥) → MetavariablesInType (IsListed is) A → OpenIsType Σ [] Ψ U [] A → ((ρ : ℕ → ℕ) → rename_type ρ A ≡ A) → Stage (record { of = n; of_type = A; value = None } ∷ is)
+  step_free : (is : List ListedMetavariable) (n : ℕ) (A : LfType) → IsDependencyOrder Σ Ψ U is → Stage is → Ψ n ≡ Some A → (IsListed is n → ⊥) → MetavariablesInType (IsListed is) A → OpenIsType Σ [] Ψ U [] A → ((ρ : ℕ → ℕ) → rename_type ρ A ≡ A) → Stage (record { of = n; of_type = A; value = None } ∷ is)
   step_free is n A o w d out i t c = record {
     by_skeletons = λ m. by_skeletons' m (decide m n);
     context = skeleton_context_push Σ μ ok F (fill_type μ β A) w.context (TypeBySkeletons-fill κ (family_skeletons Σ) (context_skeletons F) β A w.by_skeletons (open_skeletons_type [] (context_skeletons F) A t));
@@ -146,7 +146,7 @@ module _ (Σ : Signature) (μ' : ℕ → Skeleton) (ok : IsSignature Σ) (Ψ : �
           let s : B' ≡ B = (let z : Some B' ≡ Some B = sym d' ∙ q in cc) in
           (m, B, inr l, q, e ∙ ap weaken (r ∙ ap (fill_type (skeletons_of Ψ) (values (skeletons_of Ψ) is)) (sym s)) ∙ move_type F F' β suc up_at n (eta_variable (skeleton A) zero) (IsListed is) out B' i' c' ∙ ap (fill_type (skeletons_of Ψ) (set_at n (Some (eta_variable (skeleton A) zero)) (moved suc (values (skeletons_of Ψ) is)))) s)
 
-  step_bound : (is : List Item) (n : ℕ) (A : LfType) (N : Term) → IsDependencyOrder Σ Ψ U is → Stage is → Ψ n ≡ Some A → (IsListed is n → ⊥) → MetavariablesIn (IsListed is) N → OpenHasType Σ [] Ψ U [] N A → ((ρ : ℕ → ℕ) → rename ρ N ≡ N) → Stage (record { of = n; of_type = A; value = Some N } ∷ is)
+  step_bound : (is : List ListedMetavariable) (n : ℕ) (A : LfType) (N : Term) → IsDependencyOrder Σ Ψ U is → Stage is → Ψ n ≡ Some A → (IsListed is n → ⊥) → MetavariablesIn (IsListed is) N → OpenHasType Σ [] Ψ U [] N A → ((ρ : ℕ → ℕ) → rename ρ N ≡ N) → Stage (record { of = n; of_type = A; value = Some N } ∷ is)
   step_bound is n A N o w d out i t c = record {
     by_skeletons = λ m. by_skeletons' m (decide m n);
     context = w.context;
@@ -179,7 +179,7 @@ module _ (Σ : Signature) (μ' : ℕ → Skeleton) (ok : IsSignature Σ) (Ψ : �
           (subst (TermSkeleton (as_head_skeletons κ) (context_skeletons (free_context (skeletons_of Ψ) is)) (fill (skeletons_of Ψ) (values (skeletons_of Ψ) is) N)) (sym (ap skeleton_or_default d)) (TermSkeleton-fill κ (context_skeletons (free_context (skeletons_of Ψ) is)) (values (skeletons_of Ψ) is) N (skeleton A) w.by_skeletons (open_skeletons [] (context_skeletons (free_context (skeletons_of Ψ) is)) N A t))))
       by_skeletons' m (inr h) = subst (λ y. ValueHasSkeleton κ (context_skeletons (free_context (skeletons_of Ψ) is)) y (skeletons_of Ψ m)) (sym (set_other n (Some (fill (skeletons_of Ψ) (values (skeletons_of Ψ) is) N)) (values (skeletons_of Ψ) is) m h)) (w.by_skeletons m)
 
-  pub stage : (is : List Item) → IsDependencyOrder Σ Ψ U is → Stage is
+  pub stage : (is : List ListedMetavariable) → IsDependencyOrder Σ Ψ U is → Stage is
   stage [] o = record { by_skeletons = λ m. tt; context = λ i A g. absurd g; none = λ m h. refl; facts = tt; entries = λ i X g. absurd g }
   stage (it ∷ is) o = go it.value o.6 (stage is o.0)
     where

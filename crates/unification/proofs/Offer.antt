@@ -8,7 +8,7 @@ use Rattle.lf.specs.Variables.{onto}
 use Rattle.unification.specs.Filling.{fill, fill_spine, fill_type, moved, rename_value}
 use Rattle.unification.specs.OpenTyping.{Declares, IsInstance, MetavariablesInType, ValueHasType, fill_locals, skeletons_of, set_at, under_locals}
 use Rattle.unification.specs.Patterns.{local_skeletons}
-use Rattle.unification.specs.Offering.{MetavariablesInLocals, Offered, atom_offered, lambda_over, quantifier_offered, pi_over, raised}
+use Rattle.unification.specs.Offering.{MetavariablesInLocals, AppliesToNew, applied_to_all, lambda_over, applied_to_next, pi_over, raised}
 use Rattle.unification.specs.Skeletons.{TotalSkeletons, as_head_skeletons, total_skeletons, skeleton_or_default}
 use Rattle.unification.specs.Unifiers.{ExtendsFilling}
 use Rattle.lf.proofs.SkeletonTypes.{single_type_by_skeletons}
@@ -240,9 +240,9 @@ module _ (Σ : Signature) (ok : IsSignature Σ) (G F : List LfType) where
           (under_agree (Declares (set_at n (Some (pi_over D B)) Ψ)) D (set_at n (Some (lambda_over D M)) β) o.value o.same) (in_raised (Declares (set_at n (Some (pi_over D B)) Ψ)) D B n (pi_over D B, set_here n (Some (pi_over D B)) Ψ))
 
   -- THE theorem on a head offered: each typed spine is met
-  pub offered_met : {D : List LfType} {Ψ : ℕ → Option LfType} {n : ℕ} {A : LfType} {Ψ' : ℕ → Option LfType} {n' : ℕ} {S : Spine} {a : ℕ} {T : Spine} → Offered D Ψ n A Ψ' n' S a T →
+  pub offered_met : {D : List LfType} {Ψ : ℕ → Option LfType} {n : ℕ} {A : LfType} {Ψ' : ℕ → Option LfType} {n' : ℕ} {S : Spine} {a : ℕ} {T : Spine} → AppliesToNew D Ψ n A Ψ' n' S a T →
       (β : ℕ → Option Term) → Ready D A Ψ n β → (S₀ : Spine) (c : ℕ) (T₀ : Spine) → SpineType Σ (onto (fill_locals (skeletons_of Ψ) β D) F) S₀ (fill_type (skeletons_of Ψ) (under_locals D β) A) (atom c T₀) → Outcome D Ψ β Ψ' S a T S₀ c T₀
-  offered_met (atom_offered {Ψ = Ψ} {a = a} {T = T}) β w nil c T₀ s = record {
+  offered_met (applied_to_all {Ψ = Ψ} {a = a} {T = T}) β w nil c T₀ s = record {
     value = β;
     inst = w.inst;
     same = λ m d. refl;
@@ -251,11 +251,11 @@ module _ (Σ : Signature) (ok : IsSignature Σ) (G F : List LfType) where
     family = cc;
     indices = cc;
   }
-  offered_met atom_offered β w (app M S₀) c T₀ s = absurd s
-  offered_met (quantifier_offered o) β w nil c T₀ s = absurd (no_pi s)
+  offered_met applied_to_all β w (app M S₀) c T₀ s = absurd s
+  offered_met (applied_to_next o) β w nil c T₀ s = absurd (no_pi s)
     where
       no_pi : {X Y : LfType} {c : ℕ} {T : Spine} → pi X Y ≡ atom c T → ⊥
       no_pi e = cc
-  offered_met {D = D} (quantifier_offered {Ψ = Ψ} {Ψ' = Ψ'} {n = n} {a = a} {B = B} {C = C} {S = S} {T = T} o) β w (app M S₀) c T₀ (m, s) =
+  offered_met {D = D} (applied_to_next {Ψ = Ψ} {Ψ' = Ψ'} {n = n} {a = a} {B = B} {C = C} {S = S} {T = T} o) β w (app M S₀) c T₀ (m, s) =
       step D B C Ψ n β w M m Ψ' S a T S₀ c T₀
       (offered_met o (set_at n (Some (lambda_over D M)) β) (ready' D B C Ψ n β w M m) S₀ c T₀ (next_spine D B C Ψ n β w M m S₀ (atom c T₀) s))

@@ -9,7 +9,7 @@ use Rattle.lf.specs.Variables.{onto}
 use Rattle.lf.proofs.Closed.{closed_type_renamed}
 use Rattle.lf.proofs.Substitution.{family_kind}
 use Rattle.lf.proofs.ToSkeletons.{kind_skeleton_substituted}
-use Rattle.unification.specs.Dependency.{IsDependencyOrder, IsListed, Item}
+use Rattle.unification.specs.Dependency.{IsDependencyOrder, IsListed, ListedMetavariable}
 use Rattle.unification.specs.Filling.{fill_spine, fill_type}
 use Rattle.unification.specs.Lists.{followed}
 use Rattle.unification.specs.Offering.{MetavariablesInLocals, lambda_over, pi_over, spine_equations}
@@ -95,11 +95,11 @@ module _ (μ : ℕ → Skeleton) (β : ℕ → Option Term) (κ : TotalSkeletons
 
 -- what a term mentions stands behind g
 module _ (Σ : Signature) (Ψ : ℕ → Option LfType) (U : (ℕ → Option Term) → Type 0) (g : ℕ) where
-  none_of : (N : Term) (is : List Item) → (IsListed is g → ⊥) → Behind g N is
+  none_of : (N : Term) (is : List ListedMetavariable) → (IsListed is g → ⊥) → Behind g N is
   none_of N [] h = tt
   none_of N (it ∷ is) h = ((λ e. absurd (h (inl e))), none_of N is (λ l. h (inr l)))
 
-  term_behind : (N : Term) (is : List Item) → IsDependencyOrder Σ Ψ U is → MetavariablesIn (IsBehind g is) N → Behind g N is
+  term_behind : (N : Term) (is : List ListedMetavariable) → IsDependencyOrder Σ Ψ U is → MetavariablesIn (IsBehind g is) N → Behind g N is
   term_behind N [] o i = tt
   term_behind N (it ∷ is) o i = go (decide g it.of) (term_behind N is o.0)
     where
@@ -116,7 +116,7 @@ module _ (Σ : Signature) (Ψ : ℕ → Option LfType) (U : (ℕ → Option Term
       go (inr h) r = ((λ q. absurd (h q)), r (in_weaker (IsBehind g (it ∷ is)) (IsBehind g is) (later h) N i))
 
   -- what the type of g mentions stands behind g
-  own_type_behind : (P : LfType) → Ψ g ≡ Some P → (is : List Item) → IsDependencyOrder Σ Ψ U is → IsListed is g → MetavariablesInType (IsBehind g is) P
+  own_type_behind : (P : LfType) → Ψ g ≡ Some P → (is : List ListedMetavariable) → IsDependencyOrder Σ Ψ U is → IsListed is g → MetavariablesInType (IsBehind g is) P
   own_type_behind P d [] o l = absurd l
   own_type_behind P d (it ∷ is) o (inl e) =
       let q : it.of_type ≡ P = (let p : Some it.of_type ≡ Some P = sym o.1 ∙ ap Ψ (sym e) ∙ d in cc) in

@@ -2,8 +2,8 @@
 use Rattle.std.proofs.Common.{◌≡◌, ℕ, suc, List, [], ◌∷◌, Option, Some, None, refl, sym, ◌∙◌, subst, arith}
 use Rattle.lf.specs.Syntax.{Spine, Term, LfType, app, atom, lambda, metavariable, nil, pi, skeleton}
 use Rattle.lf.specs.Typing.{IsSignature, Signature, instantiate_type}
-use Rattle.unification.specs.Dependency.{IsListed, Item}
-use Rattle.unification.specs.Offering.{MetavariablesInLocals, Offered, atom_offered, lambda_over, pi_over, quantifier_offered, raised}
+use Rattle.unification.specs.Dependency.{IsListed, ListedMetavariable}
+use Rattle.unification.specs.Offering.{MetavariablesInLocals, AppliesToNew, applied_to_all, lambda_over, pi_over, applied_to_next, raised}
 use Rattle.unification.specs.OpenTyping.{Declares, MetavariablesInSpine, MetavariablesInType, OpenHasType, OpenIsContext, OpenIsType, OpenSpineType, set_at, skeletons_of}
 use Rattle.unification.specs.PartialInstance.{IsFilling, PartialInstance}
 use Rattle.unification.specs.Scope.{IsScoped}
@@ -88,7 +88,7 @@ module _ (Σ : Signature) (ok : IsSignature Σ) (bs : List Binding) (es : List E
     abbrev w₁ : IsWellFormed Σ (stored Ψ₁)
     w₁ = declare_form Σ ok (stored Ψ) n h.scoped (pi_over D B) P_in w P_typed g h.listed (type_behind Σ Ψ (FillingOf Ψ) g (pi_over D B) w.order w.is_order (in_pi_over (IsBehind g w.order) D B h.locals_behind h.type_is_behind.0))
 
-    abbrev new : Item
+    abbrev new : ListedMetavariable
     new = record { of = n; of_type = pi_over D B; value = None }
 
     still : (k : ℕ) → IsBehind g w.order k → IsBehind g (insert g new w.order) k
@@ -145,8 +145,8 @@ module _ (Σ : Signature) (ok : IsSignature Σ) (bs : List Binding) (es : List E
         }
 
   -- THE theorem on what is offered
-  pub offered_form : {Ψ : ℕ → Option LfType} {n : ℕ} {A : LfType} {Ψ' : ℕ → Option LfType} {n' : ℕ} {S : Spine} {a : ℕ} {T : Spine} → Offered D Ψ n A Ψ' n' S a T → (w : IsWellFormed Σ (stored Ψ)) → HeadIs Ψ n A w → Outcome Ψ Ψ' n' A S a T w
-  offered_form atom_offered w h = record {
+  pub offered_form : {Ψ : ℕ → Option LfType} {n : ℕ} {A : LfType} {Ψ' : ℕ → Option LfType} {n' : ℕ} {S : Spine} {a : ℕ} {T : Spine} → AppliesToNew D Ψ n A Ψ' n' S a T → (w : IsWellFormed Σ (stored Ψ)) → HeadIs Ψ n A w → Outcome Ψ Ψ' n' A S a T w
+  offered_form applied_to_all w h = record {
     form = w;
     head = h;
     spine = (refl, λ β u. refl);
@@ -157,5 +157,5 @@ module _ (Σ : Signature) (ok : IsSignature Σ) (bs : List Binding) (es : List E
     grow_type = λ E B l i t. t;
     grow_behind = λ k b. b;
   }
-  offered_form (quantifier_offered {Ψ = Ψ} {Ψ' = Ψ'} {n = n} {n' = n'} {a = a} {B = B} {C = C} {S = S} {T = T} o) w h =
+  offered_form (applied_to_next {Ψ = Ψ} {Ψ' = Ψ'} {n = n} {n' = n'} {a = a} {B = B} {C = C} {S = S} {T = T} o) w h =
       next_outcome Ψ Ψ' n n' a B C S T w h (offered_form o (w₁ Ψ Ψ' n n' a B C S T w h) (next_head Ψ Ψ' n n' a B C S T w h))

@@ -2,7 +2,7 @@
 use Rattle.std.proofs.Common.{◌≡◌, ℕ, zero, suc, List, [], ◌∷◌, Option, Some, None, ◌⊎◌, inl, inr, sym, ap, ◌∙◌, subst}
 use Rattle.lf.specs.Syntax.{Skeleton, Spine, Term, LfType, app, atom, constant, lambda, metavariable, nil, pi, rename, root, skeleton, variable}
 use Rattle.lf.specs.Typing.{Signature, TypeAt}
-use Rattle.unification.specs.Dependency.{IsDependencyOrder, IsListed, Item, ValueIsOrdered, free_context, values}
+use Rattle.unification.specs.Dependency.{IsDependencyOrder, IsListed, ListedMetavariable, ValueIsOrdered, free_context, values}
 use Rattle.unification.specs.Filling.{fill, fill_metavariable, fill_spine, fill_type, moved, rename_value}
 use Rattle.unification.specs.OpenTyping.{MetavariablesIn, MetavariablesInSpine, MetavariablesInType, set_at}
 use Rattle.unification.specs.PartialInstance.{ValueIsPlain}
@@ -39,7 +39,7 @@ plain_moved : (y : Option Term) → ValueIsPlain y → ValueIsPlain (rename_valu
 plain_moved None p = tt
 plain_moved (Some N) p = in_rename (λ k. ⊥) suc N p
 
-pub record Plain (μ : ℕ → Skeleton) (is : List Item) : Type 0 where
+pub record Plain (μ : ℕ → Skeleton) (is : List ListedMetavariable) : Type 0 where
   pub all : (m : ℕ) → ValueIsPlain (values μ is m)
   pub listed : HasPlain (IsListed is) (values μ is)
   pub context : (i : ℕ) (X : LfType) → TypeAt (free_context μ is) i X → MetavariablesInType (λ k. ⊥) X
@@ -62,7 +62,7 @@ module _ (Σ : Signature) (Ψ : ℕ → Option LfType) (U : (ℕ → Option Term
         go (inr e) (inl q) = absurd (e q)
         go (inr e) (inr w) = let (N, f, i) = h m w in (N, set_other n (Some V) β m e ∙ f, i)
 
-  pub plain : (is : List Item) → IsDependencyOrder Σ Ψ U is → Plain μ is
+  pub plain : (is : List ListedMetavariable) → IsDependencyOrder Σ Ψ U is → Plain μ is
   plain [] o = record { all = λ m. tt; listed = λ m l. absurd l; context = λ i X g. absurd g }
   plain (it ∷ is) o = go it.value o.6 (plain is o.0)
     where

@@ -11,7 +11,7 @@ use Rattle.lf.specs.Variables.{onto, same_number}
 use Rattle.lf.proofs.Decidability.{variable_type_unique}
 use Rattle.lf.proofs.TypeLaws.{renamings_compose_type}
 use Rattle.lf.proofs.Checker.{number_is, number_itself}
-use Rattle.unification.specs.Dependency.{IsDependencyOrder, IsListed, Item, ValueIsOrdered}
+use Rattle.unification.specs.Dependency.{IsDependencyOrder, IsListed, ListedMetavariable, ValueIsOrdered}
 use Rattle.unification.specs.Filling.{fill_type}
 use Rattle.unification.specs.Offering.{MetavariablesInLocals, pi_over}
 use Rattle.unification.specs.OpenTyping.{DeclarationsAreTyped, Declares, MetavariablesIn, MetavariablesInType, OpenHasType, OpenIsContext, OpenIsType, OpenSpineFitsKind, TypesAgree, set_at, skeletons_of, under_locals}
@@ -293,7 +293,7 @@ module _ (Σ : Signature) (ok : IsSignature Σ) (s : Store) (n d n' : ℕ) (p : 
           go (inr h) = inl (h, u)
 
   -- the order of dependency
-  order_grows : (is : List Item) → IsDependencyOrder Σ Ψ U is → IsDependencyOrder Σ Ψ' U' is
+  order_grows : (is : List ListedMetavariable) → IsDependencyOrder Σ Ψ U is → IsDependencyOrder Σ Ψ' U' is
   order_grows [] o = tt
   order_grows (it ∷ is) (o, e, out, i, t, c, v) = (order_grows is o, grows it.of it.of_type e, out, i, type_grows [] it.of_type tt (scoped.types it.of it.of_type e) t, c, value it.value v)
     where
@@ -302,7 +302,7 @@ module _ (Σ : Signature) (ok : IsSignature Σ) (s : Store) (n d n' : ℕ) (p : 
       value (Some N) (j, u, k) = (j, term_grows [] N it.of_type tt (scoped.types it.of it.of_type e) u, k)
 
 -- where items stand after the insertion
-pub member_insert : (n : ℕ) (new : Item) (is : List Item) (it : Item) → Member it is → Member it (insert n new is)
+pub member_insert : (n : ℕ) (new : ListedMetavariable) (is : List ListedMetavariable) (it : ListedMetavariable) → Member it is → Member it (insert n new is)
 member_insert n new [] it i = i
 member_insert n new (x ∷ is) it i = go (same_number n x.of) i (member_insert n new is it)
   where
@@ -312,7 +312,7 @@ member_insert n new (x ∷ is) it i = go (same_number n x.of) i (member_insert n
     go false (inl e) h = inl e
     go false (inr j) h = inr (h j)
 
-pub insert_new : (n : ℕ) (new : Item) (is : List Item) → IsListed is n → IsListed (insert n new is) new.of
+pub insert_new : (n : ℕ) (new : ListedMetavariable) (is : List ListedMetavariable) → IsListed is n → IsListed (insert n new is) new.of
 insert_new n new [] l = absurd l
 insert_new n new (x ∷ is) l = go (same_number n x.of) refl l (insert_new n new is)
   where
@@ -321,7 +321,7 @@ insert_new n new (x ∷ is) l = go (same_number n x.of) refl l (insert_new n new
     go false q (inl e) h = (let p : true ≡ false = sym (number_itself n) ∙ ap (same_number n) e ∙ q in cc)
     go false q (inr l) h = inr (h l)
 
-pub values_insert : (bs : List Binding) (n n' : ℕ) (X : LfType) (is : List Item) → ValuesAreBindings bs is → ValuesAreBindings bs (insert n (record { of = n'; of_type = X; value = None }) is)
+pub values_insert : (bs : List Binding) (n n' : ℕ) (X : LfType) (is : List ListedMetavariable) → ValuesAreBindings bs is → ValuesAreBindings bs (insert n (record { of = n'; of_type = X; value = None }) is)
 values_insert bs n n' X [] v = tt
 values_insert bs n n' X (x ∷ is) (u, v) = go (same_number n x.of) (values_insert bs n n' X is v)
   where
@@ -345,7 +345,7 @@ module _ (Σ : Signature) (ok : IsSignature Σ) (s : Store) (n d n' : ℕ) (p : 
   abbrev V₀ : Term
   V₀ = V Σ ok s n d n' p scoped w.typed
 
-  abbrev new_item : Item
+  abbrev new_item : ListedMetavariable
   new_item = record { of = n'; of_type = pi_over p.kept_local (atom p.family p.kept_indices); value = None }
 
   abbrev U₁ : (ℕ → Option Term) → Type 0
@@ -363,18 +363,18 @@ module _ (Σ : Signature) (ok : IsSignature Σ) (s : Store) (n d n' : ℕ) (p : 
   mentions_new : (W : ℕ → Type 0) → W n' → MetavariablesIn W V₀
   mentions_new W v = in_lambdas W (skeleton A₀) (root (metavariable n') (pattern (skeleton X₀) p.kept)) (v, in_pattern W (skeleton X₀) p.kept)
 
-  type_behind : (is : List Item) → IsDependencyOrder Σ Ψ₀ (IsFilling Σ [] s) is → TypeBehind n X₀ is
+  type_behind : (is : List ListedMetavariable) → IsDependencyOrder Σ Ψ₀ (IsFilling Σ [] s) is → TypeBehind n X₀ is
   type_behind [] o = tt
   type_behind (it ∷ is) o = (
     (λ e. in_pruned (IsListed is) Ψ₀ n d p (subst (MetavariablesInType (IsListed is)) (let q : Some it.of_type ≡ Some A₀ = sym o.1 ∙ ap Ψ₀ (sym e) ∙ p.declared in let r : it.of_type ≡ A₀ = cc in r) o.3)),
     type_behind is o.0,
   )
 
-  none_behind : (is : List Item) → (IsListed is n → ⊥) → Behind n V₀ is
+  none_behind : (is : List ListedMetavariable) → (IsListed is n → ⊥) → Behind n V₀ is
   none_behind [] h = tt
   none_behind (it ∷ is) h = ((λ e. absurd (h (inl e))), none_behind is (λ l. h (inr l)))
 
-  value_behind : (is : List Item) → IsDependencyOrder Σ Ψ₀ (IsFilling Σ [] s) is → Behind n V₀ (insert n new_item is)
+  value_behind : (is : List ListedMetavariable) → IsDependencyOrder Σ Ψ₀ (IsFilling Σ [] s) is → Behind n V₀ (insert n new_item is)
   value_behind [] o = tt
   value_behind (it ∷ is) o = go (same_number n it.of) refl (value_behind is o.0)
     where

@@ -4,7 +4,7 @@ use Rattle.std.specs.Prelude.{Bool, true, false}
 use Rattle.lf.specs.Syntax.{Spine, Term, LfType, app, atom, constant, lambda, metavariable, nil, pi, rename, root, variable}
 use Rattle.lf.specs.Typing.{Signature}
 use Rattle.unification.specs.OpenTyping.{MetavariablesIn, MetavariablesInSpine, MetavariablesInType, OpenHasType}
-use Rattle.unification.specs.Dependency.{Item, IsListed, IsDependencyOrder}
+use Rattle.unification.specs.Dependency.{ListedMetavariable, IsListed, IsDependencyOrder}
 use Rattle.unification.specs.Outside.{Avoids, CanBind, Holds, ValuesIn}
 use Rattle.lf.specs.Subordination.{Member}
 use Rattle.unification.specs.Lists.{followed}
@@ -35,7 +35,7 @@ module _ (Σ : Signature) (Ψ : ℕ → Option LfType) (U : (ℕ → Option Term
   to : (k : ℕ) → Holds (r k) → Rattle.unification.proofs.Partition.is_true (r k)
   to k = truth_same (r k)
 
-  pub closed_of : (is : List Item) → IsDependencyOrder Σ Ψ U is → ValuesAreBindings bs is → Closed r is
+  pub closed_of : (is : List ListedMetavariable) → IsDependencyOrder Σ Ψ U is → ValuesAreBindings bs is → Closed r is
   closed_of [] o b = tt
   closed_of (it ∷ is) o (b, rest) = (
     (λ t. (in_weaker_type (λ j. Holds (r j)) (λ j. Rattle.unification.proofs.Partition.is_true (r j)) to it.of_type (types it.of it.of_type (same_truth (r it.of) t) o.1), value it.value refl t)),
@@ -47,19 +47,19 @@ module _ (Σ : Signature) (Ψ : ℕ → Option LfType) (U : (ℕ → Option Term
       value (Some N) e t = in_weaker (λ j. Holds (r j)) (λ j. Rattle.unification.proofs.Partition.is_true (r j)) (λ k. truth_same (r k)) N (value_at (λ j. Holds (r j)) bs (record { of = it.of; value = N }) vals (b N e) (same_truth (r it.of) t))
 
   -- m, which is not reached, stands before all that N mentions
-  behind_rest : (m : ℕ) (N : Term) (ys : List Item) → ((k : ℕ) → IsListed ys k → m ≡ k → ⊥) → MetavariablesIn (IsListed ys) N → (xs : List Item) → Behind m N (followed xs ys)
+  behind_rest : (m : ℕ) (N : Term) (ys : List ListedMetavariable) → ((k : ℕ) → IsListed ys k → m ≡ k → ⊥) → MetavariablesIn (IsListed ys) N → (xs : List ListedMetavariable) → Behind m N (followed xs ys)
   behind_rest m N ys n i [] = front ys n
     where
-      front : (zs : List Item) → ((k : ℕ) → IsListed zs k → m ≡ k → ⊥) → Behind m N zs
+      front : (zs : List ListedMetavariable) → ((k : ℕ) → IsListed zs k → m ≡ k → ⊥) → Behind m N zs
       front [] n = tt
       front (z ∷ zs) n = ((λ e. absurd (n z.of (inl refl) e)), front zs (λ k l. n k (inr l)))
   behind_rest m N ys n i (x ∷ xs) = ((λ e. in_weaker (IsListed ys) (IsListed (followed xs ys)) (λ k l. after xs k l) N i), behind_rest m N ys n i xs)
     where
-      after : (zs : List Item) (k : ℕ) → IsListed ys k → IsListed (followed zs ys) k
+      after : (zs : List ListedMetavariable) (k : ℕ) → IsListed ys k → IsListed (followed zs ys) k
       after [] k l = l
       after (z ∷ zs) k l = inr (after zs k l)
 
-chosen_true : (r : ℕ → Bool) (is : List Item) (k : ℕ) → IsListed (chosen true r is) k → Holds (r k)
+chosen_true : (r : ℕ → Bool) (is : List ListedMetavariable) (k : ℕ) → IsListed (chosen true r is) k → Holds (r k)
 chosen_true r [] k l = absurd l
 chosen_true r (it ∷ is) k l = go (r it.of) refl l (chosen_true r is k)
   where
@@ -69,7 +69,7 @@ chosen_true r (it ∷ is) k l = go (r it.of) refl l (chosen_true r is k)
     go false e l h = h l
 
 -- THE theorem: the order after m is bound to N
-pub can_bind_ordered : (Σ : Signature) (Ψ : ℕ → Option LfType) (U : (ℕ → Option Term) → Type 0) (bs : List Binding) (r : ℕ → Bool) (m : ℕ) (A : LfType) (N : Term) → Avoids Ψ bs m (λ k. Holds (r k)) → MetavariablesIn (λ k. Holds (r k)) N → Ψ m ≡ Some A → OpenHasType Σ [] Ψ U [] N A → ((ρ : ℕ → ℕ) → rename ρ N ≡ N) → (is : List Item) → IsDependencyOrder Σ Ψ U is → ValuesAreBindings bs is → MetavariablesIn (IsListed is) N →
+pub can_bind_ordered : (Σ : Signature) (Ψ : ℕ → Option LfType) (U : (ℕ → Option Term) → Type 0) (bs : List Binding) (r : ℕ → Bool) (m : ℕ) (A : LfType) (N : Term) → Avoids Ψ bs m (λ k. Holds (r k)) → MetavariablesIn (λ k. Holds (r k)) N → Ψ m ≡ Some A → OpenHasType Σ [] Ψ U [] N A → ((ρ : ℕ → ℕ) → rename ρ N ≡ N) → (is : List ListedMetavariable) → IsDependencyOrder Σ Ψ U is → ValuesAreBindings bs is → MetavariablesIn (IsListed is) N →
     IsDependencyOrder Σ Ψ U (bound m N (followed (chosen false r is) (chosen true r is)))
 can_bind_ordered Σ Ψ U bs r m A N (types, vals, out) w d t c is o b l =
     bound_ordered Σ Ψ U m A N d t c (followed (chosen false r is) (chosen true r is))

@@ -3,7 +3,7 @@ use Rattle.std.proofs.Common.{◌≡◌, ℕ, List, [], ◌∷◌, Option, Some,
 use Rattle.lf.specs.Subordination.{Member}
 use Rattle.lf.specs.Syntax.{Term, LfType}
 use Rattle.lf.specs.Typing.{IsContext, IsSignature, Signature}
-use Rattle.unification.specs.Dependency.{IsDependencyOrder, IsListed, Item, ValueIsOrdered, free_context, values}
+use Rattle.unification.specs.Dependency.{IsDependencyOrder, IsListed, ListedMetavariable, ValueIsOrdered, free_context, values}
 use Rattle.unification.specs.OpenTyping.{MetavariablesIn, skeletons_of}
 use Rattle.unification.specs.PartialInstance.{IsFilling, IsTypedStore, PartialInstance}
 use Rattle.unification.specs.Search.{IsChild}
@@ -17,7 +17,7 @@ use Rattle.unification.proofs.Scope.{in_weaker}
 use Rattle.unification.proofs.Typed.{AllOf, values_typed}
 
 -- what is listed without a value
-abbrev pub IsFree : (ℕ → Option LfType) → List Item → ℕ → Type 0
+abbrev pub IsFree : (ℕ → Option LfType) → List ListedMetavariable → ℕ → Type 0
 IsFree Ψ is m = (A : LfType) × (Ψ m ≡ Some A) × Member (record { of = m; of_type = A; value = None }) is
 
 unbound_is : (bs : List Binding) (V : ℕ → Type 0) (m : ℕ) → V m → AllOf V bs m
@@ -31,13 +31,13 @@ bound_is (c ∷ bs) V b (inr i) = bound_is bs (λ k. V k ⊎ (k ≡ c.of)) b i
 
 module _ (Σ : Signature) (Ψ : ℕ → Option LfType) (U : (ℕ → Option Term) → Type 0) (bs : List Binding) where
   -- each listed metavariable is free or bound
-  free_or_bound : (all js : List Item) → ((it : Item) → Member it js → Member it all) → IsDependencyOrder Σ Ψ U js → ValuesAreBindings bs js → (m : ℕ) → IsListed js m → AllOf (IsFree Ψ all) bs m
+  free_or_bound : (all js : List ListedMetavariable) → ((it : ListedMetavariable) → Member it js → Member it all) → IsDependencyOrder Σ Ψ U js → ValuesAreBindings bs js → (m : ℕ) → IsListed js m → AllOf (IsFree Ψ all) bs m
   free_or_bound all [] f o v m l = absurd l
   free_or_bound all (it ∷ js) f o (v, vs) m (inr l) = free_or_bound all js (λ x i. f x (inr i)) o.0 vs m l
   free_or_bound all (it ∷ js) f o (v, vs) m (inl e) = subst (AllOf (IsFree Ψ all) bs) (sym e) (go it.value refl)
     where
       go : (x : Option Term) → it.value ≡ x → AllOf (IsFree Ψ all) bs it.of
-      go None q = unbound_is bs (IsFree Ψ all) it.of (it.of_type, o.1, f (record { of = it.of; of_type = it.of_type; value = None }) (inl (ap (λ x. let y : Item = record { of = it.of; of_type = it.of_type; value = x } in y) (sym q))))
+      go None q = unbound_is bs (IsFree Ψ all) it.of (it.of_type, o.1, f (record { of = it.of; of_type = it.of_type; value = None }) (inl (ap (λ x. let y : ListedMetavariable = record { of = it.of; of_type = it.of_type; value = x } in y) (sym q))))
       go (Some N) q = bound_is bs (IsFree Ψ all) (record { of = it.of; value = N }) (v N q)
 
 unbound_not : (bs : List Binding) (m : ℕ) → Unbound bs m → (b : Binding) → Member b bs → m ≡ b.of → ⊥
@@ -47,17 +47,17 @@ unbound_not (c ∷ bs) m (n, u) b (inr i) e = unbound_not bs m u b i e
 
 module _ (Σ : Signature) (Ψ : ℕ → Option LfType) (U : (ℕ → Option Term) → Type 0) where
   -- what is listed and not bound is free
-  unbound_free : (bs : List Binding) (all js : List Item) → ((it : Item) → Member it js → Member it all) → IsDependencyOrder Σ Ψ U js → ValuesAreBindings bs js → (m : ℕ) → Unbound bs m → IsListed js m → IsFree Ψ all m
+  unbound_free : (bs : List Binding) (all js : List ListedMetavariable) → ((it : ListedMetavariable) → Member it js → Member it all) → IsDependencyOrder Σ Ψ U js → ValuesAreBindings bs js → (m : ℕ) → Unbound bs m → IsListed js m → IsFree Ψ all m
   unbound_free bs all [] f o v m u l = absurd l
   unbound_free bs all (it ∷ js) f o (v, vs) m u (inr l) = unbound_free bs all js (λ x i. f x (inr i)) o.0 vs m u l
   unbound_free bs all (it ∷ js) f o (v, vs) m u (inl e) = go it.value refl
     where
       go : (x : Option Term) → it.value ≡ x → IsFree Ψ all m
-      go None q = subst (IsFree Ψ all) (sym e) (it.of_type, o.1, f (record { of = it.of; of_type = it.of_type; value = None }) (inl (ap (λ x. let y : Item = record { of = it.of; of_type = it.of_type; value = x } in y) (sym q))))
+      go None q = subst (IsFree Ψ all) (sym e) (it.of_type, o.1, f (record { of = it.of; of_type = it.of_type; value = None }) (inl (ap (λ x. let y : ListedMetavariable = record { of = it.of; of_type = it.of_type; value = x } in y) (sym q))))
       go (Some N) q = absurd (unbound_not bs m u (record { of = it.of; value = N }) (v N q) e)
 
   -- a listed value mentions what is listed
-  value_listed : (is : List Item) → IsDependencyOrder Σ Ψ U is → (n : ℕ) (A : LfType) (N : Term) → Member (record { of = n; of_type = A; value = Some N }) is → MetavariablesIn (IsListed is) N
+  value_listed : (is : List ListedMetavariable) → IsDependencyOrder Σ Ψ U is → (n : ℕ) (A : LfType) (N : Term) → Member (record { of = n; of_type = A; value = Some N }) is → MetavariablesIn (IsListed is) N
   value_listed [] o n A N i = absurd i
   value_listed (it ∷ is) o n A N (inr i) = in_weaker (IsListed is) (IsListed (it ∷ is)) (λ k l. inr l) N (value_listed is o.0 n A N i)
   value_listed (it ∷ is) o n A N (inl e) =
@@ -65,7 +65,7 @@ module _ (Σ : Signature) (Ψ : ℕ → Option LfType) (U : (ℕ → Option Term
       in_weaker (IsListed is) (IsListed (it ∷ is)) (λ k l. inr l) N v.0
 
   -- so the values of bindings mention free metavariables and older bindings only
-  free_bindings : (is : List Item) → IsDependencyOrder Σ Ψ U is → (V W : ℕ → Type 0) → ((k : ℕ) → V k → IsListed is k → W k) → (bs : List Binding) → BindingsAreListed is bs → BindingsAreTyped Σ [] Ψ U V bs → BindingsAreTyped Σ [] Ψ U W bs
+  free_bindings : (is : List ListedMetavariable) → IsDependencyOrder Σ Ψ U is → (V W : ℕ → Type 0) → ((k : ℕ) → V k → IsListed is k → W k) → (bs : List Binding) → BindingsAreListed is bs → BindingsAreTyped Σ [] Ψ U V bs → BindingsAreTyped Σ [] Ψ U W bs
   free_bindings is o V W f [] l w = w
   free_bindings is o V W f (b ∷ bs) (l, ls) (i, x, w) = (
     in_weaker (λ k. V k × IsListed is k) W (λ k p. f k p.0 p.1) b.value (in_both V (IsListed is) b.value i (value_listed is o b.of l.0 b.value l.1)),

@@ -4,7 +4,7 @@ use Rattle.lf.specs.Syntax.{Head, Spine, Term, LfType, atom, nil, root, variable
 use Rattle.lf.specs.Typing.{TypeAt, HasType, Signature}
 use Rattle.unification.specs.Filling.{fill_type}
 use Rattle.unification.specs.OpenTyping.{Declares, IsInstance, MetavariablesInType, ValueHasType, skeletons_of}
-use Rattle.unification.specs.Offering.{Offered, atom_offered, lambda_over, quantifier_offered, pi_over, spine_equations}
+use Rattle.unification.specs.Offering.{AppliesToNew, applied_to_all, lambda_over, applied_to_next, pi_over, spine_equations}
 use Rattle.unification.specs.Skeletons.{skeleton_or_default}
 use Rattle.lf.specs.Subordination.{Member}
 use Rattle.unification.specs.Search.{IsNode, Node, Offer, Pending, SearchRun, SearchStep, at_heads, at_node, begin_search, child, no_child, no_head, other_target, search_on, take_goal, take_leaf}
@@ -49,9 +49,9 @@ restrict_instance Σ G F Ψ Ψ' β' grows types outer w = record {
 abbrev Grows : (ℕ → Option LfType) → (ℕ → Option LfType) → Type 0
 Grows Ψ Ψ' = (m : ℕ) (A : LfType) → Ψ m ≡ Some A → Ψ' m ≡ Some A
 
-offered_grows : {D : List LfType} {Ψ : ℕ → Option LfType} {n : ℕ} {A : LfType} {Ψ' : ℕ → Option LfType} {n' : ℕ} {S : Spine} {a : ℕ} {T : Spine} → Offered D Ψ n A Ψ' n' S a T → ((m : ℕ) → n ≤ m → Ψ m ≡ None) → Grows Ψ Ψ'
-offered_grows atom_offered f m A e = e
-offered_grows {D = D} (quantifier_offered {Ψ = Ψ} {n = n} {B = B} o) f m A e =
+offered_grows : {D : List LfType} {Ψ : ℕ → Option LfType} {n : ℕ} {A : LfType} {Ψ' : ℕ → Option LfType} {n' : ℕ} {S : Spine} {a : ℕ} {T : Spine} → AppliesToNew D Ψ n A Ψ' n' S a T → ((m : ℕ) → n ≤ m → Ψ m ≡ None) → Grows Ψ Ψ'
+offered_grows applied_to_all f m A e = e
+offered_grows {D = D} (applied_to_next {Ψ = Ψ} {n = n} {B = B} o) f m A e =
     let new : Ψ n ≡ None = f n (omega arith) in
     offered_grows o (λ k h. set_other n (Some (Rattle.unification.specs.Offering.pi_over D B)) Ψ k (λ q. omega arith) ∙ f k (omega arith)) m A (sym (same_type Ψ n new (Rattle.unification.specs.Offering.pi_over D B) (root (variable 0) nil) (λ k. None) m (A, e)) ∙ e)
 

@@ -6,7 +6,7 @@ use Rattle.lf.specs.Syntax.{Spine, Term, LfType, app, atom, constant, lambda, me
 use Rattle.lf.specs.Typing.{IsSignature, Signature, TypeAt, instantiate_type}
 use Rattle.lf.specs.Variables.{onto, same_number}
 use Rattle.lf.proofs.Checker.{number_is, number_itself}
-use Rattle.unification.specs.Dependency.{IsDependencyOrder, IsListed, Item, ValueIsOrdered}
+use Rattle.unification.specs.Dependency.{IsDependencyOrder, IsListed, ListedMetavariable, ValueIsOrdered}
 use Rattle.unification.specs.Lists.{followed}
 use Rattle.unification.specs.Offering.{argument_equations}
 use Rattle.unification.specs.OpenTyping.{Declares, MetavariablesIn, MetavariablesInSpine, OpenHasType, OpenSpineType, skeletons_of}
@@ -123,7 +123,7 @@ module _ (Σ : Signature) (ok : IsSignature Σ) where
   step_keeps_typing w (prune_both m xs d p c u n g x) k = absurd (k tt)
 
 -- an order, up to fewer fillings
-pub order_weaker : (Σ : Signature) (Ψ : ℕ → Option LfType) (U U' : (ℕ → Option Term) → Type 0) → ((β : ℕ → Option Term) → U' β → U β) → (is : List Item) → IsDependencyOrder Σ Ψ U is → IsDependencyOrder Σ Ψ U' is
+pub order_weaker : (Σ : Signature) (Ψ : ℕ → Option LfType) (U U' : (ℕ → Option Term) → Type 0) → ((β : ℕ → Option Term) → U' β → U β) → (is : List ListedMetavariable) → IsDependencyOrder Σ Ψ U is → IsDependencyOrder Σ Ψ U' is
 order_weaker Σ Ψ U U' f [] o = tt
 order_weaker Σ Ψ U U' f (it ∷ is) (o, d, n, i, t, c, v) = (order_weaker Σ Ψ U U' f is o, d, n, i, OpenIsType-weaker Σ [] Ψ U U' f [] it.of_type t, c, value it.value v)
   where
@@ -179,14 +179,14 @@ module _ (Σ : Signature) (Ψ : ℕ → Option LfType) (U : (ℕ → Option Term
     spine_mentions_declared D (app M S) (atom a T) C s = absurd s
 
 -- where an item stands after the partition and the binding
-listed_parts : (r : ℕ → Bool) (is : List Item) (k : ℕ) → IsListed is k → IsListed (followed (chosen false r is) (chosen true r is)) k
+listed_parts : (r : ℕ → Bool) (is : List ListedMetavariable) (k : ℕ) → IsListed is k → IsListed (followed (chosen false r is) (chosen true r is)) k
 listed_parts r is k l = go (r k) refl
   where
     go : (b : Bool) → r k ≡ b → IsListed (followed (chosen false r is) (chosen true r is)) k
     go true q = behind r (chosen false r is) (chosen true r is) k (in_chosen r is k l (subst is_true (sym q) tt))
     go false q = before r (chosen false r is) (chosen true r is) k (in_rest r is k l q)
 
-member_chosen : (b : Bool) (r : ℕ → Bool) (is : List Item) (it : Item) → Member it is → r it.of ≡ b → Member it (chosen b r is)
+member_chosen : (b : Bool) (r : ℕ → Bool) (is : List ListedMetavariable) (it : ListedMetavariable) → Member it is → r it.of ≡ b → Member it (chosen b r is)
 member_chosen b r [] it i e = i
 member_chosen b r (x ∷ is) it (inl q) e = go b (r x.of) (ap (λ y. r y.of) (sym q) ∙ e)
   where
@@ -203,23 +203,23 @@ member_chosen b r (x ∷ is) it (inr i) e = go b (r x.of) (member_chosen b r is 
     go true false h = h
     go false true h = h
 
-member_left : (it : Item) (xs ys : List Item) → Member it xs → Member it (followed xs ys)
+member_left : (it : ListedMetavariable) (xs ys : List ListedMetavariable) → Member it xs → Member it (followed xs ys)
 member_left it [] ys i = absurd i
 member_left it (x ∷ xs) ys (inl e) = inl e
 member_left it (x ∷ xs) ys (inr i) = inr (member_left it xs ys i)
 
-member_right : (it : Item) (xs ys : List Item) → Member it ys → Member it (followed xs ys)
+member_right : (it : ListedMetavariable) (xs ys : List ListedMetavariable) → Member it ys → Member it (followed xs ys)
 member_right it [] ys i = i
 member_right it (x ∷ xs) ys i = inr (member_right it xs ys i)
 
-member_parts : (r : ℕ → Bool) (is : List Item) (it : Item) → Member it is → Member it (followed (chosen false r is) (chosen true r is))
+member_parts : (r : ℕ → Bool) (is : List ListedMetavariable) (it : ListedMetavariable) → Member it is → Member it (followed (chosen false r is) (chosen true r is))
 member_parts r is it i = go (r it.of) refl
   where
     go : (b : Bool) → r it.of ≡ b → Member it (followed (chosen false r is) (chosen true r is))
     go true q = member_right it (chosen false r is) (chosen true r is) (member_chosen true r is it i q)
     go false q = member_left it (chosen false r is) (chosen true r is) (member_chosen false r is it i q)
 
-pub member_bound : (m : ℕ) (N : Term) (is : List Item) (it : Item) → Member it is → (m ≡ it.of → ⊥) → Member it (bound m N is)
+pub member_bound : (m : ℕ) (N : Term) (is : List ListedMetavariable) (it : ListedMetavariable) → Member it is → (m ≡ it.of → ⊥) → Member it (bound m N is)
 member_bound m N [] it i n = i
 member_bound m N (x ∷ is) it (inr i) n = inr (member_bound m N is it i n)
 member_bound m N (x ∷ is) it (inl e) n = inl (e ∙ kept (same_number m x.of) refl)
@@ -228,22 +228,22 @@ member_bound m N (x ∷ is) it (inl e) n = inl (e ∙ kept (same_number m x.of) 
     kept true q = absurd (n (number_is m x.of q ∙ ap (λ y. y.of) (sym e)))
     kept false q = refl
 
-pub bound_here : (m : ℕ) (N : Term) (is : List Item) → IsListed is m → (A : LfType) × Member (record { of = m; of_type = A; value = Some N }) (bound m N is)
+pub bound_here : (m : ℕ) (N : Term) (is : List ListedMetavariable) → IsListed is m → (A : LfType) × Member (record { of = m; of_type = A; value = Some N }) (bound m N is)
 bound_here m N [] l = absurd l
 bound_here m N (x ∷ is) (inr l) = let (A, i) = bound_here m N is l in (A, inr i)
 bound_here m N (x ∷ is) (inl e) = (x.of_type, inl (go (same_number m x.of) refl))
   where
     go : (b : Bool) → same_number m x.of ≡ b → record { of = m; of_type = x.of_type; value = Some N } ≡ put_at b x N
-    go true q = ap (λ k. let y : Item = record { of = k; of_type = x.of_type; value = Some N } in y) e
+    go true q = ap (λ k. let y : ListedMetavariable = record { of = k; of_type = x.of_type; value = Some N } in y) e
     go false q = (let p : true ≡ false = sym (number_itself m) ∙ ap (same_number m) e ∙ q in cc)
 
 -- the values are the bindings
 module _ (bs : List Binding) where
-  values_followed : (xs ys : List Item) → ValuesAreBindings bs xs → ValuesAreBindings bs ys → ValuesAreBindings bs (followed xs ys)
+  values_followed : (xs ys : List ListedMetavariable) → ValuesAreBindings bs xs → ValuesAreBindings bs ys → ValuesAreBindings bs (followed xs ys)
   values_followed [] ys v w = w
   values_followed (x ∷ xs) ys (u, v) w = (u, values_followed xs ys v w)
 
-  values_chosen : (b : Bool) (r : ℕ → Bool) (is : List Item) → ValuesAreBindings bs is → ValuesAreBindings bs (chosen b r is)
+  values_chosen : (b : Bool) (r : ℕ → Bool) (is : List ListedMetavariable) → ValuesAreBindings bs is → ValuesAreBindings bs (chosen b r is)
   values_chosen b r [] v = v
   values_chosen b r (x ∷ is) (u, v) = go b (r x.of) (values_chosen b r is v)
     where
@@ -253,7 +253,7 @@ module _ (bs : List Binding) where
       go true false h = h
       go false true h = h
 
-  pub values_of_bound : (m : ℕ) (N : Term) (is : List Item) → ValuesAreBindings bs is → ValuesAreBindings (record { of = m; value = N } ∷ bs) (bound m N is)
+  pub values_of_bound : (m : ℕ) (N : Term) (is : List ListedMetavariable) → ValuesAreBindings bs is → ValuesAreBindings (record { of = m; value = N } ∷ bs) (bound m N is)
   values_of_bound m N [] v = tt
   values_of_bound m N (x ∷ is) (u, v) = (go (same_number m x.of) refl, values_of_bound m N is v)
     where
@@ -261,7 +261,7 @@ module _ (bs : List Binding) where
       go true q P e = (let p : N ≡ P = cc in inl (ap (λ k. let y : Binding = record { of = k; value = P } in y) (sym (number_is m x.of q)) ∙ ap (λ z. let y : Binding = record { of = m; value = z } in y) (sym p)))
       go false q P e = inr (u P e)
 
-pub bindings_moved : (r : ℕ → Bool) (m : ℕ) (N : Term) (is : List Item) (bs : List Binding) → Unbound bs m → BindingsAreListed is bs → BindingsAreListed (bound m N (followed (chosen false r is) (chosen true r is))) bs
+pub bindings_moved : (r : ℕ → Bool) (m : ℕ) (N : Term) (is : List ListedMetavariable) (bs : List Binding) → Unbound bs m → BindingsAreListed is bs → BindingsAreListed (bound m N (followed (chosen false r is) (chosen true r is))) bs
 bindings_moved r m N is [] u l = tt
 bindings_moved r m N is (b ∷ bs) (n, u) ((A, i), l) = (
   (A, member_bound m N (followed (chosen false r is) (chosen true r is)) (record { of = b.of; of_type = A; value = Some b.value }) (member_parts r is (record { of = b.of; of_type = A; value = Some b.value }) i) n),
@@ -293,7 +293,7 @@ module _ (Σ : Signature) (ok : IsSignature Σ) where
       U' : (ℕ → Option Term) → Type 0
       U' = IsFilling Σ [] (record { metavariables = Ψ; bindings = record { of = m; value = lambdas_of (skeletons_of Ψ m) b.inverted.inversion } ∷ bs; equations = es })
 
-      parts : List Item
+      parts : List ListedMetavariable
       parts = followed (chosen false b.reached w.order) (chosen true b.reached w.order)
 
       typed : OpenHasType Σ [] Ψ (IsFilling Σ [] (record { metavariables = Ψ; bindings = record { of = m; value = lambdas_of (skeletons_of Ψ m) b.inverted.inversion } ∷ bs; equations = es })) [] (lambdas_of (skeletons_of Ψ m) b.inverted.inversion) A

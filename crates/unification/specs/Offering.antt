@@ -28,11 +28,11 @@ raised D B n = eta_expand (skeleton B) (metavariable n) (local_arguments D)
 
 -- A head of type A is applied to new metavariables, numbered from n, one for each quantifier. Ψ' and n' are what is declared then,
 -- S the spine, and `a . T` the type that is left.
-pub data Offered (D : List LfType) : (ℕ → Option LfType) → ℕ → LfType → (ℕ → Option LfType) → ℕ → Spine → ℕ → Spine → Type 0 where
-  atom_offered : {Ψ : ℕ → Option LfType} {n a : ℕ} {T : Spine} → Offered D Ψ n (atom a T) Ψ n nil a T
-  quantifier_offered : {Ψ Ψ' : ℕ → Option LfType} {n n' a : ℕ} {B C : LfType} {S T : Spine} →
-      Offered D (set_at n (Some (pi_over D B)) Ψ) (suc n) (instantiate_type B (raised D B n) C) Ψ' n' S a T →
-      Offered D Ψ n (pi B C) Ψ' n' (app (raised D B n) S) a T
+pub data AppliesToNew (D : List LfType) : (ℕ → Option LfType) → ℕ → LfType → (ℕ → Option LfType) → ℕ → Spine → ℕ → Spine → Type 0 where
+  applied_to_all : {Ψ : ℕ → Option LfType} {n a : ℕ} {T : Spine} → AppliesToNew D Ψ n (atom a T) Ψ n nil a T
+  applied_to_next : {Ψ Ψ' : ℕ → Option LfType} {n n' a : ℕ} {B C : LfType} {S T : Spine} →
+      AppliesToNew D (set_at n (Some (pi_over D B)) Ψ) (suc n) (instantiate_type B (raised D B n) C) Ψ' n' S a T →
+      AppliesToNew D Ψ n (pi B C) Ψ' n' (app (raised D B n) S) a T
 
 -- each type of the local context has its metavariables in V
 abbrev pub MetavariablesInLocals : (ℕ → Type 0) → List LfType → Type 0

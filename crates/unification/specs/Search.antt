@@ -8,7 +8,7 @@ use Rattle.lf.specs.Syntax.{Head, Kind, Spine, Term, LfType, app, atom, constant
 use Rattle.lf.specs.Typing.{TypeAt, Signature}
 use Rattle.lf.specs.Variables.{onto, same_number}
 use Rattle.unification.specs.Lists.{followed}
-use Rattle.unification.specs.Offering.{Offered, lambda_over, pi_over, spine_equations}
+use Rattle.unification.specs.Offering.{AppliesToNew, lambda_over, pi_over, spine_equations}
 use Rattle.unification.specs.OpenTyping.{skeletons_of}
 use Rattle.unification.specs.Patterns.{skeleton_target}
 use Rattle.unification.specs.Scope.{IsScoped}
@@ -106,7 +106,7 @@ pub record Offer (Σ : Signature) (node : Node) (g : ℕ) (D : List LfType) (a :
   pub kind_of : Σ.kinds a ≡ Some kind
   pub spine : Spine
   pub indices : Spine
-  pub offered : Offered D node.store.metavariables node.next A s.metavariables next spine a indices
+  pub offered : AppliesToNew D node.store.metavariables node.next A s.metavariables next spine a indices
   pub bindings : s.bindings ≡ record { of = g; value = lambda_over D (root h spine) } ∷ node.store.bindings
   pub equations : s.equations ≡ followed node.store.equations (spine_equations D kind T indices)
 

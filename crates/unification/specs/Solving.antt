@@ -3,7 +3,7 @@ use Rattle.std.specs.Prelude.{◌≡◌, ℕ, List, [], ◌∷◌, Option, Some}
 use Rattle.lf.specs.Subordination.{Member}
 use Rattle.lf.specs.Syntax.{Term, LfType}
 use Rattle.lf.specs.Typing.{Signature}
-use Rattle.unification.specs.Dependency.{IsDependencyOrder, IsListed, Item}
+use Rattle.unification.specs.Dependency.{IsDependencyOrder, IsListed, ListedMetavariable}
 use Rattle.unification.specs.OpenTyping.{Declares, MetavariablesIn}
 use Rattle.unification.specs.Outside.{Outside}
 use Rattle.unification.specs.PartialInstance.{IsFilling, IsTypedStore}
@@ -13,19 +13,19 @@ use Rattle.unification.specs.Steps.{Run}
 use Rattle.unification.specs.Unifiers.{Binding, Equation, KeepsUnifiers, Solution, Store}
 
 -- each binding is the value of a listed metavariable
-abbrev pub BindingsAreListed : List Item → List Binding → Type 0
+abbrev pub BindingsAreListed : List ListedMetavariable → List Binding → Type 0
 BindingsAreListed is [] = Unit {0}
 BindingsAreListed is (b ∷ bs) = ((A : LfType) × Member (record { of = b.of; of_type = A; value = Some b.value }) is) × BindingsAreListed is bs
 
 -- each value of the list is a binding
-abbrev pub ValuesAreBindings : List Binding → List Item → Type 0
+abbrev pub ValuesAreBindings : List Binding → List ListedMetavariable → Type 0
 ValuesAreBindings bs [] = Unit {0}
 ValuesAreBindings bs (it ∷ is) = ((N : Term) → it.value ≡ Some N → Member (record { of = it.of; value = N }) bs) × ValuesAreBindings bs is
 
 -- A well-formed store: it is typed up to its own fillings, and its metavariables have an order of dependency, in which types and values
 -- mention only what stands before. Without such an order no context could hold those that stay free.
 pub record IsWellFormed (Σ : Signature) (s : Store) : Type 0 where
-  pub order : List Item
+  pub order : List ListedMetavariable
   pub is_order : IsDependencyOrder Σ s.metavariables (IsFilling Σ [] s) order
   pub all_listed : (m : ℕ) (A : LfType) → s.metavariables m ≡ Some A → IsListed order m
   pub bindings_listed : BindingsAreListed order s.bindings

@@ -1,17 +1,21 @@
-use Rattle.std.proofs.Common.{◌≡◌, ◌<◌, ◌∙◌, subst, arith}
-use Rattle.lf.specs.Substitution.{reduce}
-use Rattle.lf.specs.Depth.{depth, depth_limit}
-use Rattle.tw_terms.specs.View.{term_of, spine_of, skeleton_of}
-use Rattle.tw_hered.proofs.Lists.{walks}
-use Rattle.tw_hered.proofs.Steps.{result_here, deep_reduction}
+use Rattle.std.proofs.Common.{◌≡◌, IfOk, ◌∙◌, subst, arith}
+use Rattle.lf.specs.Depth.{depth_limit}
+use Rattle.closures.specs.Environments.{outside, value_in}
+use Rattle.tw_terms.specs.View.{term_of, spine_of, args_of, skeleton_of}
+use Rattle.tw_hered.specs.View.{environment_of}
+use Rattle.tw_hered.proofs.Environments.{environments}
+use Rattle.tw_hered.proofs.Calls.{applied_value, deep_applied_in}
 use Rattle.tw_hered.proofs.hereditary.apply_spine.Goals as goal
 
 pub returns-clause-ok : goal.returns-clause-ok
 returns-clause-ok c =
-    let q : term_of c.in_ok-apply_image.field-0 ≡ reduce (skeleton_of c.args.skel.now) (term_of c.args.term.now) (spine_of c.args.spine.now) = c.in_ok-apply_image.ensures ∙ result_here (skeleton_of c.args.skel.now) (term_of c.args.term.now) (spine_of c.args.spine.now) in
-    grind (arith, walks, q)
+    let o : environment_of c.in_ok-outside.outside.now ≡ outside = grind (arith, environments) in
+    let s : spine_of c.args.spine.now ≡ args_of c.deref.result.now = grind (arith, environments) in
+    let v = c.in_ok-entered.ensures.value ∙ applied_value (skeleton_of c.args.skel.now) (term_of c.args.term.now) (environment_of c.in_ok-outside.outside.now) (spine_of c.args.spine.now) (args_of c.deref.result.now) o s in
+    subst (λ X. IfOk c.normal_term.result (λ m. term_of m ≡ X)) v c.normal_term.ensures.ok
 
 pub returns-clause-too_deep : goal.returns-clause-too_deep
 returns-clause-too_deep c =
-    let q : term_of c.in_ok-apply_image.field-0 ≡ reduce (skeleton_of c.args.skel.now) (term_of c.args.term.now) (spine_of c.args.spine.now) = c.in_ok-apply_image.ensures ∙ result_here (skeleton_of c.args.skel.now) (term_of c.args.term.now) (spine_of c.args.spine.now) in
-    λ d. deep_reduction depth_limit (skeleton_of c.args.skel.now) (term_of c.args.term.now) (spine_of c.args.spine.now) c.requires (subst (λ X. depth_limit < depth X) q (c.within_limit.ensures.too_deep d))
+    let o : environment_of c.in_ok-outside.outside.now ≡ outside = grind (arith, environments) in
+    let s : spine_of c.args.spine.now ≡ args_of c.deref.result.now = grind (arith, environments) in
+    λ f. deep_applied_in (skeleton_of c.args.skel.now) (term_of c.args.term.now) (environment_of c.in_ok-outside.outside.now) (spine_of c.args.spine.now) (args_of c.deref.result.now) o s depth_limit (value_in (environment_of c.in_ok-entered.entered.environment.now) (term_of c.in_ok-entered.entered.body.now)) c.in_ok-entered.ensures.value c.requires (c.normal_term.ensures.too_deep f)

@@ -1,0 +1,5 @@
+use Rattle.totality.proofs.ExamplesCases.{plus_output_goal}
+use Rattle.totality.proofs.plus_output_goal.Goals as goal
+
+pub returns : goal.returns
+returns c = plus_output_goal

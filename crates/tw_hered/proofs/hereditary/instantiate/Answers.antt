@@ -1,0 +1,11 @@
+use Rattle.std.proofs.Common.{◌∙◌}
+use Rattle.tw_terms.specs.View.{term_of, type_of, skeleton_of}
+use Rattle.tw_hered.specs.View.{environment_of}
+use Rattle.tw_hered.proofs.Calls.{newest_type_fits, newest_type_value}
+use Rattle.tw_hered.proofs.hereditary.instantiate.Goals as goal
+
+pub normal_type-requires : goal.normal_type-requires
+normal_type-requires c = newest_type_fits (skeleton_of c.args.skel.now) (term_of c.args.arg.now) (environment_of c.in_ok-environment.environment.now) (type_of c.args.body.now) c.in_ok-environment.ensures c.requires
+
+pub returns-in-Ok : goal.returns-in-Ok
+returns-in-Ok c = c.in-Ok.ensures.ok ∙ newest_type_value (skeleton_of c.args.skel.now) (term_of c.args.arg.now) (environment_of c.in_ok-environment.environment.now) (type_of c.args.body.now) c.in_ok-environment.ensures

@@ -1,4 +1,0 @@
-use Rattle.tw_hered.proofs.walk.+walk_type.Given as goal
-
-abbrev pub decreases-walk_type : goal.decreases-walk_type
-decreases-walk_type l = l.frames

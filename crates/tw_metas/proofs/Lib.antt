@@ -1,0 +1,5 @@
+pub mod Lists
+pub mod States
+pub mod Room
+pub mod Stories
+pub mod Marks

@@ -1,0 +1,5 @@
+pub mod State
+pub mod View
+pub mod Undoing
+pub mod Codes
+pub mod Laws

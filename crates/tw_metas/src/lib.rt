@@ -1,0 +1,14 @@
+//! The store of metavariables: their types and values, the equations that are postponed, and the way back to an earlier mark.
+#![tactic(auto)]
+
+mod contents;
+mod equation;
+mod laws;
+mod store;
+
+pub use equation::Equation;
+pub use laws::mark_is_kept;
+pub use store::{Mark, Store};
+
+#[cfg(test)]
+mod tests;
