@@ -51,7 +51,7 @@ own_inside (pi A B) X V h i e = own_inside B (A ∷ X) (hide V) newer i e
     newer (suc j) e = h j e
 own_inside (atom a S) X V h i e = h i e
 
-own_among : (B : LfType) (X : List LfType) (V : ℕ → Bool) → ((j : ℕ) → V j ≡ false → among X j ≡ true) → (i : ℕ) → outside B V i ≡ false → among (binders X B) i ≡ true
+pub own_among : (B : LfType) (X : List LfType) (V : ℕ → Bool) → ((j : ℕ) → V j ≡ false → among X j ≡ true) → (i : ℕ) → outside B V i ≡ false → among (binders X B) i ≡ true
 own_among (pi A B) X V h i e = own_among B (A ∷ X) (hide V) newer i e
   where
     newer : (j : ℕ) → hide V j ≡ false → among (A ∷ X) j ≡ true
@@ -133,7 +133,7 @@ same_places U σ τ (b ∷ m) (app M S) nil h u p = absurd p
 same_places U σ τ (true ∷ m) (app M S) (app N T) h (u, v) (e, p) = (sym (agree_on reduce U σ τ M h u) ∙ e, same_places U σ τ m S T h v p)
 same_places U σ τ (false ∷ m) (app M S) (app N T) h u p = same_places U σ τ m S T h u p
 
-same_inputs : (U : ℕ → Bool) (σ τ : ℕ → Image) (m : List Bool) (A : LfType) (T : Spine) → SameOn U σ τ → UsesGoal U m A → SamePlaces m (target_arguments (substitute_type reduce σ A)) T → SamePlaces m (target_arguments (substitute_type reduce τ A)) T
+pub same_inputs : (U : ℕ → Bool) (σ τ : ℕ → Image) (m : List Bool) (A : LfType) (T : Spine) → SameOn U σ τ → UsesGoal U m A → SamePlaces m (target_arguments (substitute_type reduce σ A)) T → SamePlaces m (target_arguments (substitute_type reduce τ A)) T
 same_inputs U σ τ m (pi B A) T h (u, v) p = same_inputs (under U) (lift σ) (lift τ) m A T (SameOn-under U σ τ h) v p
 same_inputs U σ τ m (atom a S) T h u p = same_places U σ τ m S T h u p
 

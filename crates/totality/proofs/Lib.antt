@@ -30,6 +30,7 @@ pub mod ExampleLemmas
 pub mod Addition
 pub mod Copying
 pub mod Raised
+pub mod LongValues
 pub mod RaisedOutputs
 pub mod Ways
 pub mod Subordinate
@@ -40,8 +41,13 @@ pub mod OutputItems
 pub mod KeptItems
 pub mod GoalHolds
 pub mod OutputGoals
+pub mod EntryGoals
 pub mod Unfolds
 pub mod Split
+pub mod OutputSplit
 pub mod ExamplesCases
 pub mod ExamplesGroups
 pub mod ExamplesMissing
+pub mod ExamplesReached
+pub mod ExamplesFull
+pub mod ExamplesOutputs

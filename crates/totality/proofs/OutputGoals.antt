@@ -26,7 +26,7 @@ some_same : {K L : Kind} → Some K ≡ Some L → K ≡ L
 some_same e = cc
 
 -- nothing stands outside a constant
-nothing_outside : (W : List Block) (V : LfType) (U : ℕ → Bool) {Σ : Signature} {S : ℕ → Bool} {G : List LfType} (w : World Σ W S G) (θ σ : ℕ → Image) → HoldsOutside {W = W} (of_constant V) U w θ σ
+pub nothing_outside : (W : List Block) (V : LfType) (U : ℕ → Bool) {Σ : Signature} {S : ℕ → Bool} {G : List LfType} (w : World Σ W S G) (θ σ : ℕ → Image) → HoldsOutside {W = W} (of_constant V) U w θ σ
 nothing_outside W V U w θ σ = record {
   values = behind (binders [] V) σ;
   is_ground = tt;

@@ -28,7 +28,7 @@ use mathlib.Core.Path.{fun_ext}
 pub rename_identity : (M : Term) → rename (λ i. i) M ≡ M
 rename_identity M = sym (substitution_as_renaming reduce (λ i. i) M) ∙ substitute_identity reduce M
 
-rename_identity_type : (A : LfType) → rename_type (λ i. i) A ≡ A
+pub rename_identity_type : (A : LfType) → rename_type (λ i. i) A ≡ A
 rename_identity_type A = sym (substitution_as_renaming_type reduce (λ i. i) A) ∙ substitute_identity_type reduce A
 
 -- without the newest variable

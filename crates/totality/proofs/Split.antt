@@ -22,10 +22,16 @@ module _ (Σ : Signature) (W : List Block) (S : ℕ → Bool) where
     one_covered C (D ∷ Ds) (next_case g l f p e a) Σ' x G w T (inl h) = subst (λ b. CoveredBy w (covered_places C.arguments) b T) f (subst (λ m. CoveredBy w m D.family T) p (held_covered D e Σ' x G w T h))
     one_covered C (D ∷ Ds) (next_case g l f p e a) Σ' x G w T (inr h) = one_covered C Ds a Σ' x G w T h
 
-  distinct_without : {Σ' : Signature} {G : List LfType} (w : World Σ' W S G) (I : List Item) (σ : ℕ → Image) (g : IsGroundInstance w I σ) → HasNoBlockVariable I → IsDistinct w I σ g
+  pub distinct_without : {Σ' : Signature} {G : List LfType} (w : World Σ' W S G) (I : List Item) (σ : ℕ → Image) (g : IsGroundInstance w I σ) → HasNoBlockVariable I → IsDistinct w I σ g
   distinct_without w [] σ g h = tt
   distinct_without w (free_variable A ∷ I) σ (N, τ, g, t, e) h = distinct_without w I τ g h
   distinct_without w (block_variable B υ ∷ I) σ g h = absurd h
+
+  -- without block variables none stands for an instance
+  pub stands_nowhere : {Σ' : Signature} {G : List LfType} (w : World Σ' W S G) (I : List Item) (σ : ℕ → Image) (g : IsGroundInstance w I σ) (B : Block) (θ : ℕ → Image) → HasNoBlockVariable I → Rattle.totality.specs.Split.StandsFor w I σ g B θ → ⊥
+  stands_nowhere w [] σ g B θ h s = s
+  stands_nowhere w (free_variable A ∷ I) σ (N, τ, g, t, e) B θ h s = stands_nowhere w I τ g B θ h s
+  stands_nowhere w (block_variable C υ ∷ I) σ g B θ h s = absurd h
 
   pub split_covers : (C : Case) → C.given ≡ [] → C.local ≡ [] → HasNoBlockVariable C.items → EndsCovered Σ W S C → IsCoveredCase Σ W S C
   split_covers C g l n e = (g, l, λ Σ' x G w σ i T h. held_covered C e Σ' x G w T (record { values = σ; is_ground = i; is_distinct = distinct_without w C.items σ i n; has_arguments = h }))

@@ -9,7 +9,7 @@ use Rattle.lf.specs.Variables.{target, target_arguments, binders, onto, UsesType
 use Rattle.lf.specs.Subordination.{Block, Member, IsDeclared, AreTypedBlocks, IsBelowTest}
 use Rattle.lf.specs.Worlds.{World}
 use Rattle.lf.specs.Extension.{Extends}
-use Rattle.totality.specs.Clause.{Clause, scope, outside, IsSubgoal, constant_clause}
+use Rattle.totality.specs.Clause.{Clause, scope, outside, IsSubgoal, IsClause, constant_clause}
 use Rattle.totality.specs.Marks.{Mark, AllInputs, input_places, AreSound, NoneFree, MentionChosenOnly, SamePlaces, UsesPlaces}
 use Rattle.totality.specs.Strict.{strict_at}
 use Rattle.totality.specs.Ground.{ground_first, ground_after, UsesGoal}
@@ -20,7 +20,8 @@ use Rattle.totality.specs.Descent.{LeadsTo, CallsLead, IsEqualCallTest}
 use Rattle.totality.specs.Cover.{InstanceIn, place_of, AgreesOutside, AreTerms, CoveredInputs, CoveredOutputs, OutputsCovered}
 use Rattle.totality.specs.Case.{Case, input_goal, IsCoveredCase}
 use Rattle.totality.specs.Split.{HasNoBlockVariable, EndsCovered}
-use Rattle.totality.specs.OutputCase.{Origin, of_constant, IsGivenFor, IsCoveredOutputCase, HoldsOutputs}
+use Rattle.totality.specs.OutputCase.{Origin, of_constant, origin, IsGivenFor, IsCoveredOutputCase, HoldsOutputs}
+use Rattle.totality.specs.OutputSplit.{OutputsEndCovered, HasOneBlockVariable}
 use Rattle.totality.specs.OutputGoal.{output_goal, HasOutputGoal}
 use Rattle.totality.specs.Raised.{RaisedPlaces, PlacesBelow, CoveredRaisedOutputs}
 use Rattle.totality.specs.Total.{HasTotalMarks, Total, Lasting}
@@ -159,7 +160,17 @@ HeldOutputsAreCovered = (Σ : Signature) → IsSignature Σ → (W : List Block)
 abbrev pub OutputGoalCovers : Type 0
 OutputGoalCovers = (Σ : Signature) → IsSignature Σ → (W : List Block) → AreTypedBlocks Σ W → (below : ℕ → ℕ → Bool) → IsSubordination Σ W below → (m : ℕ → List Mark) (f k : ℕ) (V : LfType) → Σ.types k ≡ Some V → (U : ℕ → Bool) (i : ℕ) (A : LfType) → IsSubgoal (constant_clause V) i A → IsSequence Σ W (scope (constant_clause V)) (binders [] A) → NoneFree (m (target A)) → UsesGoal U (input_places (m (target A))) A → (K : Kind) → Σ.kinds (target A) ≡ Some K → PlacesBelow Σ below f K → HasOutputGoal below m {W = W} (of_constant V) U A K → IsCoveredOutputCase Σ m W (below f) (constant_clause V) (of_constant V) U A (output_goal below m {W = W} (of_constant V) U A K) → CoveredOutputs Σ m W (below f) (constant_clause V) U A
 
+-- The same of any clause, a block entry too. A clause may come in more than one way: from a constant and an entry of one type, or from
+-- entries of two blocks. It has a goal for each, and all are to be covered: where nothing else is covered than the goal of one entry,
+-- nothing is said of a context without an instance of its block, in which the other way may offer the clause.
+abbrev pub ClauseGoalsCover : Type 0
+ClauseGoalsCover = (Σ : Signature) → IsSignature Σ → (W : List Block) → AreTypedBlocks Σ W → (below : ℕ → ℕ → Bool) → IsSubordination Σ W below → (m : ℕ → List Mark) (f : ℕ) (c : Clause) → IsClause Σ W c → below f (target c.type) ≡ true → (U : ℕ → Bool) (i : ℕ) (A : LfType) → IsSubgoal c i A → IsSequence Σ W (scope c) (binders [] A) → NoneFree (m (target A)) → UsesGoal U (input_places (m (target A))) A → (K : Kind) → Σ.kinds (target A) ≡ Some K → PlacesBelow Σ below f K → ((d : IsClause Σ W c) → HasOutputGoal below m (origin d) U A K × IsCoveredOutputCase Σ m W (below f) c (origin d) U A (output_goal below m (origin d) U A K)) → CoveredOutputs Σ m W (below f) c U A
+
 -- A run of splits that ends well covers its goal, though each split looks only at tuples in which other block variables stand for
 -- other instances: the goal has no block variables.
 abbrev pub SplitsCover : Type 0
 SplitsCover = (Σ : Signature) (W : List Block) (S : ℕ → Bool) (C : Case) → C.given ≡ [] → C.local ≡ [] → HasNoBlockVariable C.items → EndsCovered Σ W S C → IsCoveredCase Σ W S C
+
+-- So does a run on outputs: the goal has one block variable at most, that of the entry itself.
+abbrev pub OutputSplitsCover : Type 0
+OutputSplitsCover = (Σ : Signature) (m : ℕ → List Mark) (W : List Block) (S : ℕ → Bool) (c : Clause) (o : Origin W c) (U : ℕ → Bool) (A : LfType) (C : Case) → HasOneBlockVariable C.items → OutputsEndCovered Σ m W S c o U A C → IsCoveredOutputCase Σ m W S c o U A C

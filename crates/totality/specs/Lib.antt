@@ -14,10 +14,17 @@ pub mod OutputCase
 pub mod OutputGoal
 pub mod Split
 pub mod Missing
+pub mod Candidates
+pub mod Full
+pub mod Reached
+pub mod MissingOutputs
+pub mod ReachedOutputs
+pub mod OutputSplit
 pub mod Total
 pub mod Group
 pub mod Examples
 pub mod ExamplesGroups
 pub mod ExamplesMissing
+pub mod ExamplesReached
 pub mod Refusals
 pub mod Laws

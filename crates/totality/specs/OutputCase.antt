@@ -8,7 +8,7 @@ use Rattle.lf.specs.Subordination.{Block, Member}
 use Rattle.lf.specs.Worlds.{World, lift_over}
 use Rattle.lf.specs.Extension.{Extends}
 use Rattle.totality.specs.Tests.{choose}
-use Rattle.totality.specs.Clause.{Clause, scope, outside, constant_clause, entry_clause}
+use Rattle.totality.specs.Clause.{Clause, scope, outside, IsClause, from_constant, from_entry, constant_clause, entry_clause}
 use Rattle.totality.specs.Marks.{Mark, output_places, SamePlaces}
 use Rattle.totality.specs.Ground.{ground_after}
 use Rattle.totality.specs.Cover.{before, AgreesOutside, AreTerms}
@@ -18,6 +18,11 @@ use Rattle.totality.specs.Case.{Item, free_variable, block_variable, Case, IsGro
 pub data Origin (W : List Block) : Clause → Type 0 where
   of_constant : (U : LfType) → Origin W (constant_clause U)
   of_entry : (B : Block) (later : List LfType) (E : LfType) (es : List LfType) → Member B W → onto later (E ∷ es) ≡ B.entries → Origin W (entry_clause B es E)
+
+-- the way in which a clause of a signature and W comes
+abbrev pub origin : {Σ : Signature} {W : List Block} {c : Clause} → IsClause Σ W c → Origin W c
+origin (from_constant k U e) = of_constant U
+origin (from_entry B later E es i e) = of_entry B later E es i e
 
 -- one of the items is a block variable
 abbrev pub has_block_variable : List Item → Bool

@@ -1,10 +1,11 @@
 //! The laws of total families of LF. They have no code: each function carries one law as its contract.
 #![tactic(auto)]
 
-ghost use Rattle.totality.specs.Laws.{CheckedGroupIsRight, LastingIsTotal, LastingGoesOn, LastingOverMore, RecordStaysRight, CheckedStaysChecked, BelowIsSubordination, KindPlacesAreBelow, VariableIsEntry, CallsHaveRank, RankForbidsCycles, WaysAreDecided, WellModedUnfolds, StrictOccurrencesDetermine, GroundFirstIsClosed, GroundAfterIsClosed, TypedTuplesAreRaised, RaisedOutputsCover, HeadsAreKnown, InputGoalCovers, InputsMentionInputs, NoOutputsAreCovered, HeldOutputsAreCovered, OutputGoalCovers, SplitsCover, SubgoalContextIsWorld, CallerServesCallee, SmallerHasSmallerInstances};
+ghost use Rattle.totality.specs.Laws.{CheckedGroupIsRight, LastingIsTotal, LastingGoesOn, LastingOverMore, RecordStaysRight, CheckedStaysChecked, BelowIsSubordination, KindPlacesAreBelow, VariableIsEntry, CallsHaveRank, RankForbidsCycles, WaysAreDecided, WellModedUnfolds, StrictOccurrencesDetermine, GroundFirstIsClosed, GroundAfterIsClosed, TypedTuplesAreRaised, RaisedOutputsCover, HeadsAreKnown, InputGoalCovers, InputsMentionInputs, NoOutputsAreCovered, HeldOutputsAreCovered, OutputGoalCovers, ClauseGoalsCover, SplitsCover, OutputSplitsCover, SubgoalContextIsWorld, CallerServesCallee, SmallerHasSmallerInstances};
 ghost use Rattle.totality.specs.Examples.{AdditionLasts, AdditionStaysChecked, NumbersHaveSums, CopyingLasts, TermsHaveCopies, BlockCaseIsCovered, PlusIsCoveredBySplits, PlusOutputGoal, CopyOutputGoal};
 ghost use Rattle.totality.specs.ExamplesGroups.{MutualGroupLasts, CallerOfRecordLasts, StrictBlockServes};
 ghost use Rattle.totality.specs.ExamplesMissing.{ZeroIsMissing, GoalIsNotMissing, LinearClauses};
+ghost use Rattle.totality.specs.ExamplesReached.{CandidatesStand, ZeroIsReached, EqualityIsUnsplit, NarrowZeroIsMissing, NarrowZeroIsReached, EntryIsLinear, FullClauses, NoOutputGoal, SomeVariableHasNoGoal, EntryOutputGoal, MoreCandidatesStand};
 ghost use Rattle.totality.specs.Refusals.{FreePlaceIsExempt, UnsoundMarksAreRefused, MarksMustFit, LoopIsRefused, UngroundIsRefused, MissingWorldIsRefused, CycleIsRefused, SomeVariableCoversNothing, SomeVariableIsNoParameter};
 
 /// The totality theorem: the record of a checked group is right, each of its families lasts.
@@ -122,9 +123,19 @@ pub fn output_goal_covers()
     ensures { OutputGoalCovers }
 {}
 
+/// The same of any clause, a block entry too, where the goal of each way in which it comes is covered.
+pub fn clause_goals_cover()
+    ensures { ClauseGoalsCover }
+{}
+
 /// A run of splits that ends well covers its goal.
 pub fn splits_cover()
     ensures { SplitsCover }
+{}
+
+/// A run of splits of outputs that ends well covers its goal.
+pub fn output_splits_cover()
+    ensures { OutputSplitsCover }
 {}
 
 /// Splitting: the head of a term of a family is a constant, a local variable or an entry of an instance.
@@ -220,6 +231,61 @@ pub fn goal_is_not_missing()
 /// A clause that is linear, and one that is not.
 pub fn linear_clauses()
     ensures { LinearClauses }
+{}
+
+/// The candidates of a clause in a case: where it has a rigid head, and nowhere else.
+pub fn candidates_stand()
+    ensures { CandidatesStand }
+{}
+
+/// Candidates by block entries, and of outputs under a local context.
+pub fn more_candidates_stand()
+    ensures { MoreCandidatesStand }
+{}
+
+/// Without a clause for zero the strategy reaches the case of zero.
+pub fn zero_is_reached()
+    ensures { ZeroIsReached }
+{}
+
+/// The strategy can't split the case of two equal variables.
+pub fn equality_is_unsplit()
+    ensures { EqualityIsUnsplit }
+{}
+
+/// An output that a subgoal doesn't ask for is missing.
+pub fn narrow_zero_is_missing()
+    ensures { NarrowZeroIsMissing }
+{}
+
+/// The strategy reaches it.
+pub fn narrow_zero_is_reached()
+    ensures { NarrowZeroIsReached }
+{}
+
+/// A block's entry that is linear.
+pub fn entry_is_linear()
+    ensures { EntryIsLinear }
+{}
+
+/// A clause that is full, and one that is not.
+pub fn full_clauses()
+    ensures { FullClauses }
+{}
+
+/// A subgoal has no output goal by a relation that its output's type goes against.
+pub fn no_output_goal()
+    ensures { NoOutputGoal }
+{}
+
+/// A `some` variable may keep a subgoal from having one.
+pub fn some_variable_has_no_goal()
+    ensures { SomeVariableHasNoGoal }
+{}
+
+/// The goal of output coverage of a block's entry.
+pub fn entry_output_goal()
+    ensures { EntryOutputGoal }
 {}
 
 /// A loop does not descend.

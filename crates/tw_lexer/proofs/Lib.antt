@@ -1,6 +1,9 @@
 pub mod Cuts
+pub mod Pieces
 pub mod Positions
+pub mod Finds
 pub mod Firsts
 pub mod Lists
 pub mod TokensUnique
 pub mod TokensExist
+pub mod Agreement

@@ -1,28 +1,20 @@
 -- Places behind bytes.
-use Rattle.std.proofs.Common.{◌≡◌, ◌≢◌, ◌≤◌, ◌<◌, ℕ, suc, ◌+◌, ◌-◌, List, [], ◌∷◌, ◌++◌, length, take, drop, Bool, true, false, eqb, cond, refl, sym, ap, ◌∙◌, arith}
-use Rattle.std.proofs.Math.Seq.{take-add}
+use Rattle.std.proofs.Common.{◌≡◌, ◌≢◌, ◌≤◌, ◌<◌, ℕ, suc, ◌+◌, ◌-◌, List, [], ◌∷◌, ◌++◌, length, get_or, take, drop, Bool, true, false, eqb, cond, refl, sym, ap, ◌∙◌, arith, Some, None}
+use Rattle.std.specs.declared.option.Option.{Option}
+use Rattle.std.proofs.Math.Seq.{take-add, take-append_seam}
 use Rattle.std.proofs.lemmas.Bool.{eqb-true, false≢true}
 use Rattle.std.proofs.lemmas.List.{length-take-le}
-use Rattle.tw_lexer.specs.Bytes.{class_of, is_plain}
-use Rattle.tw_lexer.specs.Places.{place_of, place_after, start, step}
-use Rattle.tw_lexer.specs.Tokens.{run_length}
+use Rattle.std.proofs.lemmas.Str.{inside_one}
+use Rattle.std.proofs.Common.{append-nil}
+use Rattle.std.specs.Char.{encode_utf8}
+use Rattle.tw_lexer.specs.Characters.{first_piece, pieces_from, char_at, size_at}
+use Rattle.tw_lexer.specs.Places.{place_of, place_after, place_behind, start, step}
 use Rattle.tw_lexer.specs.declared.place.Place.{Place}
-use Rattle.tw_lexer.specs.declared.class.Class.{Class}
-use Rattle.tw_lexer.specs.declared.class.Class.TheVariants.{WhiteSpace}
+use Rattle.tw_lexer.proofs.Pieces.{Spells, char-spells}
 
 -- the place so many columns on
 abbrev pub columns_on : Place → ℕ → Place
 columns_on p n = record { line = p.line; column = p.column + n }
-
-pub add-one-left : (n : ℕ) → 1 + n ≡ suc n
-add-one-left n = omega arith
-
--- a run of plain bytes, a byte at a time
-pub run-more : (b : ℕ) (bs : List ℕ) → is_plain b ≡ true → run_length (b ∷ bs) ≡ suc (run_length bs)
-run-more b bs e = ap (λ (v : Bool). cond v (1 + run_length bs) 0) e ∙ add-one-left (run_length bs)
-
-pub run-none : (b : ℕ) (bs : List ℕ) → is_plain b ≡ false → run_length (b ∷ bs) ≡ 0
-run-none b bs e = ap (λ (v : Bool). cond v (1 + run_length bs) 0) e
 
 pub place_after-append : (p : Place) (xs ys : List ℕ) → place_after p (xs ++ ys) ≡ place_after (place_after p xs) ys
 place_after-append p [] ys = refl
@@ -58,55 +50,72 @@ place_of-bound text i h =
     let g = place_after-Grown start (take i text) (omega arith) (omega arith) in
     record { sum = omega (arith, length-take-le i text h); line = g.line; column = g.column }
 
--- a byte of an identifier is no line feed
-pub plain-no_feed : (b : ℕ) → is_plain b ≡ true → eqb b 10 ≡ false
-plain-no_feed b h = by-test (eqb b 10) refl
-  where
-    by-test : (v : Bool) → eqb b 10 ≡ v → eqb b 10 ≡ false
-    by-test false e = e
-    by-test true e = absurd (false≢true (ap is_plain (sym (eqb-true b 10 e)) ∙ h))
-
--- nor is any byte that is no white space
-pub other-no_feed : (b : ℕ) (c : Class) → class_of b ≡ c → (c ≢ WhiteSpace) → eqb b 10 ≡ false
-other-no_feed b c h n = by-test (eqb b 10) refl
-  where
-    by-test : (v : Bool) → eqb b 10 ≡ v → eqb b 10 ≡ false
-    by-test false e = e
-    by-test true e = absurd (n (sym h ∙ ap class_of (eqb-true b 10 e)))
-
 -- a byte that is no line feed is a column
-pub step-column : (p : Place) (b : ℕ) → eqb b 10 ≡ false → step p b ≡ columns_on p 1
-step-column p b h = rw h refl
+step-column : (p : Place) (b : ℕ) → b ≢ 10 → step p b ≡ columns_on p 1
+step-column p b h = by-test (eqb b 10) refl
+  where
+    by-test : (v : Bool) → eqb b 10 ≡ v → step p b ≡ columns_on p 1
+    by-test false e = rw e refl
+    by-test true e = absurd (h (eqb-true b 10 e))
 
 pub columns_on-add : (p : Place) (m n k : ℕ) → m + n ≡ k → columns_on (columns_on p m) n ≡ columns_on p k
 columns_on-add p m n k e = ap (λ (c : ℕ). record { line = p.line; column = c }) (omega arith)
 
-columns_on-zero : (p : Place) → p ≡ columns_on p 0
+pub columns_on-zero : (p : Place) → p ≡ columns_on p 0
 columns_on-zero p = ap (λ (c : ℕ). record { line = p.line; column = c }) (omega arith)
 
-run-step : (p : Place) (b : ℕ) (bs : List ℕ) → ((q : Place) → place_after q (take (run_length bs) bs) ≡ columns_on q (run_length bs)) → (v : Bool) → is_plain b ≡ v → place_after p (take (run_length (b ∷ bs)) (b ∷ bs)) ≡ columns_on p (run_length (b ∷ bs))
-run-step p b bs behind true e =
-    ap (λ (n : ℕ). place_after p (take n (b ∷ bs))) (run-more b bs e)
-    ∙ ap (λ (q : Place). place_after q (take (run_length bs) bs)) (step-column p b (plain-no_feed b e))
-    ∙ behind (columns_on p 1)
-    ∙ columns_on-add p 1 (run_length bs) (run_length (b ∷ bs)) (add-one-left (run_length bs) ∙ sym (run-more b bs e))
-run-step p b bs behind false e =
-    ap (λ (n : ℕ). place_after p (take n (b ∷ bs))) (run-none b bs e)
-    ∙ columns_on-zero p
-    ∙ ap (columns_on p) (sym (run-none b bs e))
+-- bytes that are no line feed are columns
+place_after-columns : (p : Place) (xs : List ℕ) → ((k : ℕ) → k < length xs → get_or xs k 0 ≢ 10) → place_after p xs ≡ columns_on p (length xs)
+place_after-columns p [] h = columns_on-zero p
+place_after-columns p (x ∷ xs) h =
+    ap (λ (q : Place). place_after q xs) (step-column p x (h 0 (omega arith)))
+    ∙ place_after-columns (columns_on p 1) xs (λ k l. h (suc k) (omega arith))
+    ∙ columns_on-add p 1 (length xs) (length (x ∷ xs)) (omega arith)
 
--- behind a run of plain bytes
-pub place_after-run : (p : Place) (bs : List ℕ) → place_after p (take (run_length bs) bs) ≡ columns_on p (run_length bs)
-place_after-run p [] = columns_on-zero p
-place_after-run p (b ∷ bs) = run-step p b bs (λ q. place_after-run q bs) (is_plain b) refl
+-- a character that is no line feed has no byte that is one
+no_feed_inside : (c : ℕ) → c ≢ 10 → (k : ℕ) → k < length (encode_utf8 c) → get_or (encode_utf8 c) k 0 ≢ 10
+no_feed_inside c n k h e =
+    let same : c ≡ get_or (encode_utf8 c) k 0 = inside_one c [] (encode_utf8 c) k (sym (append-nil (encode_utf8 c))) h (omega (arith, e)) in
+    n (same ∙ e)
 
--- a place before the end of a short text has room for one more line or column
-pub place-room : (text : List ℕ) (i : ℕ) (at : Place) → at ≡ place_of text i → i < length text → length text < 4294967295 → (at.line + 1 < 4294967296) × (at.column + 1 < 4294967296)
-place-room text i at e h short =
+-- the bytes of a character that stands somewhere
+pub bytes-at : (text : List ℕ) (i c : ℕ) → char_at text i ≡ Some c → take (size_at text i) (drop i text) ≡ encode_utf8 c
+bytes-at text i c e =
+    let s = char-spells text i c e in
+    ap (take (size_at text i)) s.bytes
+    ∙ ap (λ (n : ℕ). take n (encode_utf8 c ++ drop (size_at text i) (drop i text))) (sym s.width)
+    ∙ take-append_seam (encode_utf8 c) (drop (size_at text i) (drop i text))
+
+-- the place behind a character that is no line feed
+pub place-column : (text : List ℕ) (i c : ℕ) → char_at text i ≡ Some c → c ≢ 10 → place_of text (i + size_at text i) ≡ columns_on (place_of text i) (size_at text i)
+place-column text i c e n =
+    let s = char-spells text i c e in
+    place_of-add text i (size_at text i)
+    ∙ ap (place_after (place_of text i)) (bytes-at text i c e)
+    ∙ place_after-columns (place_of text i) (encode_utf8 c) (no_feed_inside c n)
+    ∙ ap (columns_on (place_of text i)) s.width
+
+place-feed : (text : List ℕ) (i : ℕ) → char_at text i ≡ Some 10 → place_of text (i + size_at text i) ≡ record { line = (place_of text i).line + 1; column = 1 }
+unfolding encode_utf8
+place-feed text i e = place_of-add text i (size_at text i) ∙ ap (place_after (place_of text i)) (bytes-at text i 10 e)
+
+-- the place behind a character
+pub place-behind : (text : List ℕ) (i c : ℕ) → char_at text i ≡ Some c → place_of text (i + size_at text i) ≡ place_behind (place_of text i) c (size_at text i)
+place-behind text i c e = by-test (eqb c 10) refl
+  where
+    by-test : (v : Bool) → eqb c 10 ≡ v → place_of text (i + size_at text i) ≡ place_behind (place_of text i) c (size_at text i)
+    by-test false h = rw h (place-column text i c e (λ q. let k : eqb 10 10 ≡ false = ap (λ (x : ℕ). eqb x 10) (sym q) ∙ h in cc))
+    by-test true h = rw h (place-feed text i (e ∙ ap (λ (x : ℕ). Some x) (eqb-true c 10 h)))
+
+pub place-next : (text : List ℕ) (i c size : ℕ) (at : Place) → char_at text i ≡ Some c → size ≡ size_at text i → at ≡ place_of text i → place_behind at c size ≡ place_of text (i + size)
+place-next text i c size at e q p = rw (p, q) (sym (place-behind text i c e))
+
+-- a place before the end of a short text has room for one more line
+pub line-room : (text : List ℕ) (i : ℕ) (at : Place) → at ≡ place_of text i → i < length text → length text < 4294967295 → at.line + 1 < 4294967296
+line-room text i at e h short =
     let g = place_of-bound text i (omega arith) in
     let l = ap (λ (p : Place). p.line) e in
-    let c = ap (λ (p : Place). p.column) e in
-    (omega (arith, g.sum, g.line, g.column), omega (arith, g.sum, g.line, g.column))
+    omega (arith, g.sum, g.line, g.column)
 
 -- and a part of one has room for its columns
 pub columns-room : (text : List ℕ) (i j : ℕ) (at : Place) → at ≡ place_of text i → i ≤ j → j ≤ length text → length text < 4294967295 → at.column + (j - i) < 4294967296

@@ -1,5 +1,9 @@
 pub mod Bytes
 pub mod Places
+pub mod Characters
+pub mod Classes
+pub mod Comments
 pub mod Tokens
+pub mod Spots
 pub mod Cut
 pub mod Laws

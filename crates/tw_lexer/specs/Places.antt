@@ -18,3 +18,7 @@ start = record { line = 1; column = 1 }
 -- the place of the byte with this number, counted from 0
 abbrev pub place_of : List ℕ → ℕ → Place
 place_of text i = place_after start (take i text)
+
+-- the place behind a character of so many bytes
+abbrev pub place_behind : Place → ℕ → ℕ → Place
+place_behind p c size = if c == 10 then record { line = p.line + 1; column = 1 } else record { line = p.line; column = p.column + size }

@@ -1,21 +1,31 @@
 //! Reading tokens.
-ghost use Rattle.std.specs.Prelude.{◌≡◌, ◌≤◌, ◌<◌, ◌^◌, ◌+◌, ◌-◌, length, drop, IfOk, All};
-ghost use Rattle.tw_lexer.specs.Places.{place_of, step};
-ghost use Rattle.tw_lexer.specs.Tokens.{ends, first_token, IsWithin, Lexes, keyword, run_length};
+ghost use Rattle.std.specs.Prelude.{◌≡◌, ◌≤◌, ◌<◌, ◌^◌, ◌+◌, ◌-◌, ◌==◌, ◌&&◌, length, IfOk, All};
+ghost use Rattle.tw_lexer.specs.Characters.{pieces_from};
+ghost use Rattle.tw_lexer.specs.Classes.{run_length};
+ghost use Rattle.tw_lexer.specs.Places.{place_of};
+ghost use Rattle.tw_lexer.specs.Tokens.{ends, first_token, is_counted, IsWithin, Lexes};
 ghost use Rattle.tw_lexer.specs.declared.lexer.LexFault.TheVariants.{NoMemory};
 
+use crate::character::{Spot, piece_at, step};
 use crate::class::{Class, class_of, is_plain};
+use crate::comment::{Sign, sign_at, skip_comment, skip_line};
 use crate::place::Place;
 use crate::token::{Token, TokenKind, Tokens};
 use std::alloc::{AllocFailed, Global};
 use thiserror::Error;
 
-/// Why a text has no tokens.
+/// The most tokens of a declaration, the end of the text not counted.
+const TOKENS_MOST: usize = 65_536;
+
+/// Why a declaration has no tokens: the first fault of its text.
 #[derive(Clone, Copy, Debug, Drop, Error, PartialEq, Eq)]
 pub enum LexFault {
-    /// No token begins here.
+    /// No token begins here, or here begins a comment that is never closed.
     #[error("no token at line {} and column {}", .0.line, .0.column)]
     Bad(Place),
+    /// The token that stands here is one too many.
+    #[error("too many tokens at line {} and column {}", .0.line, .0.column)]
+    TooMany(Place),
     /// Memory is wanting.
     #[error("memory is wanting")]
     NoMemory,
@@ -29,52 +39,32 @@ impl<T: Drop> From<AllocFailed<T>> for LexFault {
     }
 }
 
-// How many bytes of identifiers stand first.
-fn run_length(bytes: &[u8]) -> usize
-    ensures length { result ≡ run_length bytes.now }
-    ensures within { result ≤ length bytes.now }
+// The byte behind the plain characters that stand here.
+fn run_end(text: &[u8], from: usize) -> usize
+    requires { from ≤ length text.now }
+    ensures end { result ≡ from + run_length (pieces_from text.now from) }
+    ensures within { result ≤ length text.now }
 {
-    let mut count = 0;
-    while count < bytes.len() && is_plain(bytes[count]) {
-        count += 1;
+    let mut upto = from;
+    while upto < text.len() {
+        let (found, size) = piece_at(text, upto);
+        if !is_plain(found) {
+            break;
+        }
+        upto += size;
     }
-    count
+    upto
 }
 
-// The place behind a byte.
-fn step(at: Place, byte: u8) -> Place
-    requires lines { at.line + 1 < 2 ^ 32 }
-    requires columns { at.column + 1 < 2 ^ 32 }
-    ensures { result ≡ step at byte }
+// A token from here up to another byte.
+fn token(kind: TokenKind, spot: Spot, upto: usize) -> Token
+    ensures { result ≡ record { kind = kind; from = spot.byte; upto = upto; at = spot.place } }
 {
-    if byte == b'\n' {
-        Place {
-            line: at.line + 1,
-            column: 1,
-        }
-    } else {
-        Place {
-            line: at.line,
-            column: at.column + 1,
-        }
-    }
-}
-
-// The keyword whose `%` stands here.
-fn keyword(text: &[u8], from: usize, at: Place) -> Result<Token, Place>
-    requires within { from < length text.now }
-    requires place { at ≡ place_of text.now from }
-    ensures token { result ≡ keyword text.now from (run_length (drop (from + 1) text.now)) }
-    ensures within { IfOk result (λ t. IsWithin (length text.now) t) }
-{
-    match run_length(&text[from + 1..]) {
-        0 => Err(at),
-        count => Ok(Token {
-            kind: TokenKind::Keyword,
-            from,
-            upto: from + 1 + count,
-            at,
-        }),
+    Token {
+        kind,
+        from: spot.byte,
+        upto,
+        at: spot.place,
     }
 }
 
@@ -86,39 +76,42 @@ pub fn next_token(text: &[u8], from: usize, at: Place) -> Result<Token, Place>
     ensures token { result ≡ first_token text.now from }
     ensures within { IfOk result (λ t. IsWithin (length text.now) t) }
 {
-    let mut from = from;
-    let mut at = at;
-    while from < text.len() {
-        match class_of(text[from]) {
-            Class::WhiteSpace => {
-                at = step(at, text[from]);
-                from += 1;
-            }
-            Class::Mark(kind) => return Ok(Token {
-                kind,
-                from,
-                upto: from + 1,
-                at,
-            }),
-            Class::Percent => return keyword(text, from, at),
+    let mut spot = Spot {
+        byte: from,
+        place: at,
+    };
+    while spot.byte < text.len() {
+        let (found, behind) = match step(text, spot) {
+            Some(next) => next,
+            None => return Err(spot.place),
+        };
+        match class_of(found) {
+            Class::WhiteSpace => spot = behind,
+            Class::Mark(kind) => return Ok(token(kind, spot, behind.byte)),
+            Class::Percent => match sign_at(text, behind.byte) {
+                Sign::LineComment => match skip_line(text, behind) {
+                    Ok(outside) => spot = outside,
+                    Err(place) => return Err(place),
+                },
+                Sign::Comment => match skip_comment(text, spot.place, behind) {
+                    Ok(outside) => spot = outside,
+                    Err(place) => return Err(place),
+                },
+                Sign::Stop => return Ok(token(TokenKind::End, spot, spot.byte)),
+                Sign::Word => {
+                    let upto = run_end(text, behind.byte);
+                    return Ok(token(TokenKind::Keyword, spot, upto));
+                }
+                Sign::Nothing => return Err(spot.place),
+            },
             Class::Plain => {
-                let upto = from + run_length(&text[from..]);
-                return Ok(Token {
-                    kind: TokenKind::Ident,
-                    from,
-                    upto,
-                    at,
-                });
+                let upto = run_end(text, behind.byte);
+                return Ok(token(TokenKind::Ident, spot, upto));
             }
-            Class::Bad => return Err(at),
+            Class::Bad => return Err(spot.place),
         }
     }
-    Ok(Token {
-        kind: TokenKind::End,
-        from,
-        upto: from,
-        at,
-    })
+    Ok(token(TokenKind::End, spot, spot.byte))
 }
 
 // The place behind a token, which holds no line feed.
@@ -140,6 +133,13 @@ fn ends(kind: TokenKind) -> bool
     matches!(kind, TokenKind::Dot | TokenKind::End)
 }
 
+// Whether a token is one too many behind so many.
+fn is_too_many(before: usize, token: Token) -> bool
+    ensures { result ≡ (before == 65536) && is_counted token }
+{
+    before == TOKENS_MOST && !matches!(token.kind, TokenKind::End)
+}
+
 /// The tokens from a byte on, through the first dot or the end of the text.
 pub fn lex(alloc: Global, text: &[u8], from: usize, at: Place) -> Result<Tokens, LexFault>
     requires short { length text.now < 2 ^ 32 - 1 }
@@ -156,6 +156,9 @@ pub fn lex(alloc: Global, text: &[u8], from: usize, at: Place) -> Result<Tokens,
             Ok(token) => token,
             Err(place) => return Err(LexFault::Bad(place)),
         };
+        if is_too_many(list.len(), token) {
+            return Err(LexFault::TooMany(token.at));
+        }
         list.push(token)?;
         from = token.upto;
         at = behind(token);

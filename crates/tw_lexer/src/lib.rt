@@ -1,7 +1,9 @@
 //! The bytes of a text as tokens.
 #![tactic(auto)]
 
+mod character;
 mod class;
+mod comment;
 mod cut;
 mod laws;
 mod lexer;
@@ -11,8 +13,9 @@ mod token;
 pub use class::{Class, class_of, is_white_space};
 pub use cut::{Cut, cut_piece, is_done};
 pub use laws::{
-    done_stays, fault_excludes_tokens, fault_is_unique, pieces_are_the_whole, text_is_read,
-    tokens_are_unique,
+    characters_are_utf8, cut_is_the_dot, done_stays, fault_excludes_tokens, fault_is_unique,
+    pieces_are_the_whole, text_is_read, tokens_are_unique, too_many_excludes_fault,
+    too_many_excludes_tokens, too_many_is_unique,
 };
 pub use lexer::{LexFault, lex, next_token};
 pub use place::Place;

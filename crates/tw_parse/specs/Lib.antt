@@ -1,8 +1,17 @@
 pub mod Syntax
 pub mod View
 pub mod Words
+pub mod Keywords
+pub mod Signs
 pub mod Grammar
+pub mod Outlines
+pub mod Readings
 pub mod Piles
+pub mod Spots
+pub mod Failing
+pub mod Telling
+pub mod Parts
 pub mod Sources
 pub mod Nesting
 pub mod Faults
+pub mod Laws

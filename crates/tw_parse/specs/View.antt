@@ -2,7 +2,7 @@
 use Rattle.std.specs.Prelude.{Option, None, Some, Box}
 use Rattle.std.specs.Option.{option_map}
 use Rattle.tw_parse.specs.declared.decl.ExtDecl.{ExtDecl}
-use Rattle.tw_parse.specs.declared.decl.ExtDecl.TheVariants.{Declare, Define}
+use Rattle.tw_parse.specs.declared.decl.ExtDecl.TheVariants.{Declare, Define, NamePref, Fixity}
 use Rattle.std.specs.Global.{Global}
 use Rattle.tw_parse.specs.Syntax as syntax
 use Rattle.tw_parse.specs.declared.term.ExtTerm.{ExtTerm, fold-ExtTerm}
@@ -27,6 +27,13 @@ term_step (ExtTerm-F.Ascribe M A) = syntax.ascription M.value A.value
 unfoldable pub term_of : ExtTerm → syntax.Term
 term_of = fold-ExtTerm syntax.Term term_step
 
+-- the domain that the type in a box is
+abbrev pub boxed_domain : Option (Box ExtTerm Global) → syntax.Domain
+boxed_domain None = syntax.untyped
+boxed_domain (Some A) = syntax.typed (term_of A.value)
+
 abbrev pub declaration_of : ExtDecl → syntax.Declaration
 declaration_of (Declare name at A) = syntax.declare name at (term_of A)
 declaration_of (Define name A M abbreviated) = syntax.define name (option_map term_of A) (term_of M) abbreviated
+declaration_of (NamePref a upper lower) = syntax.prefer a upper lower
+declaration_of (Fixity fix names) = syntax.give fix names.items

@@ -3,6 +3,8 @@
 
 mod decl;
 mod fault;
+mod keywords;
+mod laws;
 mod lookahead;
 mod nesting;
 #[tactic(auto, using(crate::proofs::Views::views))]
@@ -12,12 +14,14 @@ mod parts;
 mod pile;
 #[tactic(auto, using(crate::proofs::Views::views))]
 mod sequences;
+mod sign;
 mod source;
 mod term;
 mod words;
 
-pub use decl::ExtDecl;
+pub use decl::{ExtDecl, ExtName};
 pub use fault::SyntaxFault;
+pub use laws::readings_are_decided;
 pub use parse::parse_decl;
 pub use term::ExtTerm;
 

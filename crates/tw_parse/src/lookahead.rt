@@ -1,14 +1,19 @@
 //! What stands at a place among the tokens.
-ghost use Rattle.std.specs.Prelude.{◌≡◌, ◌≢◌, ◌<◌, length, IfOk, IfErr, OnOk, is_some};
+ghost use Rattle.std.specs.Prelude.{◌≡◌, ◌≢◌, ◌<◌, length, IfOk, IfErr, OnOk, IsSome};
 ghost use Rattle.std.specs.FinMap.{get};
+ghost use Rattle.tw_parse.specs.Faults.{first_sign, leaf_of};
+ghost use Rattle.tw_parse.specs.View.{term_of};
+ghost use Rattle.std.specs.Option.{option_map};
 ghost use Rattle.tw_parse.specs.Words.{first_word, first_bytes, first_place};
 ghost use Rattle.tw_parse.specs.Sources.{lexemes_from};
 ghost use Rattle.tw_parse.specs.declared.fault.SyntaxFault.TheVariants.{Syntax};
 ghost use Rattle.tw_parse.specs.declared.words.Word.TheVariants.{End};
 
 use crate::fault::SyntaxFault;
+use crate::sign::Sign;
 use crate::source::Source;
-use crate::words::{Word, word_of};
+use crate::term::ExtTerm;
+use crate::words::{Word, separator_of, word_of};
 use std::alloc::{AllocError, Global};
 use tw_fixity::Name;
 use tw_lexer::Place;
@@ -49,8 +54,8 @@ impl Source<'_> {
         }
     }
 
-    // Its bytes.
-    fn bytes(&self, number: usize) -> &[u8]
+    /// Its bytes.
+    pub fn bytes(&self, number: usize) -> &[u8]
         ensures { result.now ≡ first_bytes (lexemes_from self.now number) }
     {
         match self.tokens.get(number) {
@@ -66,10 +71,41 @@ impl Source<'_> {
         Name::from_bytes(alloc, self.bytes(number))
     }
 
-    /// Whether the operators have a row for that name.
-    pub fn is_operator(&self, number: usize) -> bool
-        ensures { result ≡ is_some (get self.now.fixities.now (first_bytes (lexemes_from self.now number))) }
+    /// The sign that it is, if it is one.
+    pub fn sign(&self, alloc: Global, number: usize) -> Result<Option<Sign>, AllocError>
+        ensures sign { IfOk result (λ sign. sign ≡ first_sign self.now number) }
+        ensures within { IfOk result (λ sign. IsSome sign → number < length self.now.tokens.now) }
     {
-        self.fixities.get_bytes(self.bytes(number)).is_some()
+        let word = self.word(number);
+        if let Some(by) = separator_of(word) {
+            return Ok(Some(Sign::Separator(by)));
+        }
+        if word != Word::Name {
+            return Ok(None);
+        }
+        match self.fixities.get_bytes(self.bytes(number)) {
+            None => Ok(None),
+            Some(fix) => {
+                let name = self.name(alloc, number)?;
+                Ok(Some(Sign::Operator(name, self.place(number), fix)))
+            }
+        }
+    }
+
+    /// The atom that it is by itself, if it is no sign.
+    pub fn leaf(&self, alloc: Global, number: usize) -> Result<Option<ExtTerm>, AllocError>
+        requires { first_sign self.now number ≡ None }
+        ensures leaf { IfOk result (λ leaf. option_map term_of leaf ≡ leaf_of (lexemes_from self.now number)) }
+        ensures within { IfOk result (λ leaf. IsSome leaf → number < length self.now.tokens.now) }
+    {
+        match self.word(number) {
+            Word::Name => {
+                let name = self.name(alloc, number)?;
+                Ok(Some(ExtTerm::Ident(name, self.place(number))))
+            }
+            Word::Underscore => Ok(Some(ExtTerm::Hole(self.place(number)))),
+            Word::Star => Ok(Some(ExtTerm::Star)),
+            _ => Ok(None),
+        }
     }
 }

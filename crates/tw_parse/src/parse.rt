@@ -1,113 +1,279 @@
 //! Reading declarations.
-ghost use Rattle.std.specs.Prelude.{◌≡◌, ℕ, [], length, All, IfOk, IfErr, OnOk};
+ghost use Rattle.std.specs.Prelude.{◌≡◌, ◌≢◌, ℕ, ◌+◌, ◌≤◌, length, All, IfOk, IfErr, OnOk, MatchOption, Some, None, true, false};
 ghost use Rattle.tw_lexer.specs.Tokens.{IsWithin, ThroughDot};
-ghost use Rattle.tw_parse.specs.Faults.{DotEnds, Ends, IsOfReading, IsRead, FaultStands};
-ghost use Rattle.tw_parse.specs.Grammar.{ReadsTo, Declares};
-ghost use Rattle.tw_parse.specs.Piles.{IfTerm};
+ghost use Rattle.tw_parse.specs.Faults.{DotEnds, IsRead, IsKnown, FaultStands, FaultOf, DeclaresAll, EndsAs, NamesBetween, RowUpTo, FormIs, FormFits, defined, declared};
+ghost use Rattle.tw_parse.specs.Failing.{StopsAt, LastIsDue};
+ghost use Rattle.tw_parse.specs.Outlines.{Head};
+ghost use Rattle.tw_parse.specs.declared.words.Word.TheVariants.{Keyword};
+ghost use Rattle.tw_parse.specs.Readings.{Declares};
 ghost use Rattle.tw_parse.specs.Sources.{lexemes_from};
-ghost use Rattle.tw_parse.specs.View.{term_of, declaration_of};
-ghost use Rattle.tw_parse.specs.Words.{lexemes, first_word};
-ghost use Rattle.tw_parse.specs.declared.words.Word.TheVariants.{Name, Underscore};
-ghost use Rattle.tw_parse.specs.declared.parts.Part.TheVariants as parts;
+ghost use Rattle.tw_parse.specs.View.{declaration_of};
+ghost use Rattle.tw_parse.specs.Words.{lexemes, first_word, first_bytes, first_place};
 
-use crate::decl::ExtDecl;
+use crate::decl::{ExtDecl, ExtName};
 use crate::fault::SyntaxFault;
+use crate::keywords::{assoc_of, form_of, is_identifier, is_upper, precedence_of};
 use crate::nesting::too_deep;
 use crate::parts::Part;
 use crate::sequences::sequence;
 use crate::source::Source;
 use crate::term::ExtTerm;
-use crate::words::Word;
-use std::alloc::Global;
-use tw_fixity::FixTable;
+use crate::words::{Form, Word};
+use std::alloc::{AllocError, Global};
+use tw_fixity::{Fix, FixTable, Name};
 use tw_lexer::{Place, Tokens};
 
-// The term of a sequence that begins here.
-fn settled(part: Part, first: Place) -> Result<ExtTerm, SyntaxFault>
-    ensures term { IfOk result (λ t. part ≡ parts.Term t) }
-    ensures fault { IfErr result IsOfReading }
+// The fault of a wrong token that stands in no term.
+fn wrong(source: &Source<'_>, number: usize) -> SyntaxFault
+    requires { first_word (lexemes_from source.now 0) ≢ Keyword → StopsAt source.now.fixities.now source.now.end (lexemes_from source.now 0) (first_place source.now.end (lexemes_from source.now number)) }
+    ensures { FaultOf source.now result }
+{
+    if source.word(0) == Word::Keyword {
+        SyntaxFault::BadDecl(source.place(0))
+    } else {
+        SyntaxFault::Syntax(source.place(number))
+    }
+}
+
+// What is defined, where these parts tell of its type and its term.
+fn define(
+    name: Option<Name>,
+    ty: Option<Part>,
+    part: Part,
+    abbreviated: bool,
+) -> Result<ExtDecl, SyntaxFault>
+    ensures { result ≡ defined name ty part abbreviated }
+{
+    let ty = match ty {
+        None => None,
+        Some(Part::AtFault(place)) => return Err(SyntaxFault::Fixity(place)),
+        Some(Part::Term(ty)) => Some(ty),
+    };
+    match part {
+        Part::Term(term) => Ok(ExtDecl::Define(name, ty, term, abbreviated)),
+        Part::AtFault(place) => Err(SyntaxFault::Fixity(place)),
+    }
+}
+
+// What is declared, where this part tells of its type.
+fn declare(name: Name, at: Place, part: Part) -> Result<ExtDecl, SyntaxFault>
+    ensures { result ≡ declared name at part }
 {
     match part {
-        Part::Term(term) => Ok(term),
+        Part::Term(ty) => Ok(ExtDecl::Declare(name, at, ty)),
         Part::AtFault(place) => Err(SyntaxFault::Fixity(place)),
-        Part::Operator => Err(SyntaxFault::Fixity(first)),
     }
 }
 
 // Reads the last sequence of a declaration, and its dot.
 fn last_sequence(alloc: Global, source: &Source<'_>, from: usize) -> Result<Part, SyntaxFault>
-    requires { DotEnds source.now }
-    ensures reads { IfOk result (λ part. IfTerm part (λ t. Ends source.now.fixities.now (lexemes_from source.now from) (term_of t))) }
-    ensures fault { IfErr result IsOfReading }
+    requires dot { DotEnds source.now }
+    requires due { LastIsDue source.now from }
+    ensures reads { IfOk result (EndsAs source.now from) }
+    ensures fault { IfErr result (FaultOf source.now) }
 {
     let (part, end) = sequence(alloc, source, from)?;
-    source.expect(end, Word::Dot)?;
+    if source.word(end) != Word::Dot {
+        return Err(wrong(source, end));
+    }
     Ok(part)
 }
 
-// Reads a declaration with a name.
-fn named(alloc: Global, source: &Source<'_>) -> Result<ExtDecl, SyntaxFault>
+// Reads what stands behind the name that is declared, which has this number.
+fn behind_name(
+    alloc: Global,
+    source: &Source<'_>,
+    at: usize,
+    name: Option<Name>,
+    abbreviated: bool,
+) -> Result<ExtDecl, SyntaxFault>
     requires dot { DotEnds source.now }
-    requires name { first_word (lexemes_from source.now 0) ≡ Name }
-    ensures reads { IfOk result (λ d. Declares source.now.fixities.now (lexemes_from source.now 0) (declaration_of d)) }
-    ensures fault { IfErr result IsOfReading }
+    requires head { Head (lexemes_from source.now 0) name abbreviated (lexemes_from source.now (at + 1)) }
+    requires first { abbreviated ≡ false → at ≡ 0 }
+    requires early { at ≤ 1 }
+    ensures reads { IfOk result (λ d. DeclaresAll source.now (declaration_of d)) }
+    ensures fault { IfErr result (FaultOf source.now) }
 {
-    let name = source.name(alloc, 0)?;
-    let at = source.place(0);
-    let first = source.place(2);
-    if source.word(1) == Word::Equals {
-        let part = last_sequence(alloc, source, 2)?;
-        let term = settled(part, first)?;
-        return Ok(ExtDecl::Define(Some(name), None, term, false));
+    let sign = source.word(at + 1);
+    if sign == Word::Equals {
+        let part = last_sequence(alloc, source, at + 2)?;
+        let short = define(name, None, part, abbreviated);
+        return short;
     }
-    source.expect(1, Word::Colon)?;
-    let (ty, end) = sequence(alloc, source, 2)?;
-    if source.word(end) == Word::Equals {
+    if sign != Word::Colon {
+        return Err(wrong(source, at + 1));
+    }
+    let (ty, end) = sequence(alloc, source, at + 2)?;
+    let next = source.word(end);
+    if next == Word::Equals {
         let part = last_sequence(alloc, source, end + 1)?;
-        let ty = settled(ty, first)?;
-        let term = settled(part, source.place(end + 1))?;
-        return Ok(ExtDecl::Define(Some(name), Some(ty), term, false));
+        let long = define(name, Some(ty), part, abbreviated);
+        return long;
     }
-    source.expect(end, Word::Dot)?;
-    let ty = settled(ty, first)?;
-    Ok(ExtDecl::Declare(name, at, ty))
+    let Some(name) = name else {
+        return Err(wrong(source, end));
+    };
+    if abbreviated {
+        return Err(wrong(source, end));
+    }
+    if next != Word::Dot {
+        return Err(wrong(source, end));
+    }
+    let place = source.place(at);
+    declare(name, place, ty)
 }
 
-// Reads a declaration with `_` for its name.
-fn nameless(alloc: Global, source: &Source<'_>) -> Result<ExtDecl, SyntaxFault>
+// The token with this number as a name that is looked up.
+fn ext_name(alloc: Global, source: &Source<'_>, number: usize) -> Result<ExtName, AllocError>
+    ensures { IfOk result (λ x. (x.name ≡ first_bytes (lexemes_from source.now number)) × (x.at ≡ first_place source.now.end (lexemes_from source.now number))) }
+{
+    let name = source.name(alloc, number)?;
+    Ok(ExtName {
+        name,
+        at: source.place(number),
+    })
+}
+
+// Reads `%abbrev` with what is defined.
+fn abbreviation(alloc: Global, source: &Source<'_>) -> Result<ExtDecl, SyntaxFault>
     requires dot { DotEnds source.now }
-    requires name { first_word (lexemes_from source.now 0) ≡ Underscore }
-    ensures reads { IfOk result (λ d. Declares source.now.fixities.now (lexemes_from source.now 0) (declaration_of d)) }
-    ensures fault { IfErr result IsOfReading }
+    requires form { FormIs source.now Form.Abbreviation }
+    ensures reads { IfOk result (λ d. DeclaresAll source.now (declaration_of d)) }
+    ensures fault { IfErr result (FaultOf source.now) }
 {
-    let first = source.place(2);
-    if source.word(1) == Word::Equals {
-        let part = last_sequence(alloc, source, 2)?;
-        let term = settled(part, first)?;
-        return Ok(ExtDecl::Define(None, None, term, false));
+    if source.word(1) != Word::Name {
+        return Err(wrong(source, 1));
     }
-    source.expect(1, Word::Colon)?;
-    let (ty, end) = sequence(alloc, source, 2)?;
-    source.expect(end, Word::Equals)?;
-    let part = last_sequence(alloc, source, end + 1)?;
-    let ty = settled(ty, first)?;
-    let term = settled(part, source.place(end + 1))?;
-    Ok(ExtDecl::Define(None, Some(ty), term, false))
+    let name = source.name(alloc, 1)?;
+    behind_name(alloc, source, 1, Some(name), true)
 }
 
-fn declaration(alloc: Global, source: &Source<'_>) -> Result<ExtDecl, SyntaxFault>
-    requires { DotEnds source.now }
-    ensures reads { IfOk result (λ d. Declares source.now.fixities.now (lexemes_from source.now 0) (declaration_of d)) }
-    ensures fault { IfErr result IsOfReading }
+// Reads `%name` with its names.
+fn preference(alloc: Global, source: &Source<'_>) -> Result<ExtDecl, SyntaxFault>
+    requires dot { DotEnds source.now }
+    requires form { FormIs source.now Form.Preference }
+    ensures reads { IfOk result (λ d. DeclaresAll source.now (declaration_of d)) }
+    ensures fault { IfErr result (FaultOf source.now) }
 {
-    match source.word(0) {
-        Word::Name => named(alloc, source),
-        Word::Underscore => nameless(alloc, source),
-        _ => Err(SyntaxFault::Syntax(source.place(0))),
+    if !is_identifier(source.word(1))
+        || source.word(2) != Word::Name
+        || !is_upper(source.bytes(2))
+    {
+        return Err(wrong(source, 0));
+    }
+    let family = ext_name(alloc, source, 1)?;
+    let upper = source.name(alloc, 2)?;
+    if source.word(3) == Word::Dot {
+        return Ok(ExtDecl::NamePref(family, upper, None));
+    }
+    if source.word(3) != Word::Name || is_upper(source.bytes(3)) || source.word(4) != Word::Dot {
+        return Err(wrong(source, 0));
+    }
+    let lower = source.name(alloc, 3)?;
+    Ok(ExtDecl::NamePref(family, upper, Some(lower)))
+}
+
+// The row that stands behind the keyword, and the number of the token behind it.
+fn row(source: &Source<'_>, form: Form) -> Option<(Fix, usize)>
+    ensures { MatchOption result (Unit {0}) (λ r. RowUpTo source.now form r.0 r.1) }
+{
+    match form {
+        Form::Infix => {
+            let assoc = assoc_of(source.bytes(1))?;
+            let precedence = precedence_of(source.bytes(2))?;
+            Some((Fix::Infix(assoc, precedence), 3))
+        }
+        Form::Prefix => {
+            let precedence = precedence_of(source.bytes(1))?;
+            Some((Fix::Prefix(precedence), 2))
+        }
+        Form::Postfix => {
+            let precedence = precedence_of(source.bytes(1))?;
+            Some((Fix::Postfix(precedence), 2))
+        }
+        Form::Abbreviation | Form::Preference => None,
     }
 }
 
-/// Reads a declaration from the tokens that `lex` gave for this text. No keyword has a form yet, and no sequence with an operator is read: it is refused as `Fixity` at its first token.
+// The identifiers from this token on, and the number of the token behind them.
+fn names(
+    alloc: Global,
+    source: &Source<'_>,
+    from: usize,
+) -> Result<(Vec<ExtName>, usize), AllocError>
+    ensures { IfOk result (λ r. NamesBetween source.now from r.1 r.0.items) }
+{
+    let mut names = Vec::new(alloc);
+    let mut upto = from;
+    'names: while is_identifier(source.word(upto)) {
+        let name = ext_name(alloc, source, upto)?;
+        names.push(name)?;
+        upto += 1;
+    }
+    Ok((names, upto))
+}
+
+// Reads a row of operators.
+fn fixity(alloc: Global, source: &Source<'_>, form: Form) -> Result<ExtDecl, SyntaxFault>
+    requires dot { DotEnds source.now }
+    requires form { FormIs source.now form }
+    ensures reads { IfOk result (λ d. DeclaresAll source.now (declaration_of d)) }
+    ensures fault { IfErr result (FaultOf source.now) }
+{
+    let Some((fix, from)) = row(source, form) else {
+        return Err(wrong(source, 0));
+    };
+    let (names, end) = names(alloc, source, from)?;
+    if names.is_empty() || source.word(end) != Word::Dot {
+        return Err(wrong(source, 0));
+    }
+    Ok(ExtDecl::Fixity(fix, names))
+}
+
+fn declaration(
+    alloc: Global,
+    source: &Source<'_>,
+    form: Option<Form>,
+) -> Result<ExtDecl, SyntaxFault>
+    requires dot { DotEnds source.now }
+    requires form { FormFits source.now form }
+    ensures reads { IfOk result (λ d. DeclaresAll source.now (declaration_of d)) }
+    ensures fault { IfErr result (FaultOf source.now) }
+{
+    match form {
+        Some(Form::Abbreviation) => abbreviation(alloc, source),
+        Some(Form::Preference) => preference(alloc, source),
+        Some(form) => fixity(alloc, source, form),
+        None => match source.word(0) {
+            Word::Name => {
+                let name = source.name(alloc, 0)?;
+                behind_name(alloc, source, 0, Some(name), false)
+            }
+            Word::Underscore => behind_name(alloc, source, 0, None, false),
+            _ => Err(SyntaxFault::Syntax(source.place(0))),
+        },
+    }
+}
+
+// The form that the first token asks for, if it is a keyword; a fault where it is one that is not known.
+fn known_form(alloc: Global, source: &Source<'_>) -> Result<Option<Form>, SyntaxFault>
+    ensures form { IfOk result (FormFits source.now) }
+    ensures known { OnOk result (IsKnown (lexemes_from source.now 0)) }
+    ensures fault { IfErr result (FaultStands source.now.fixities.now source.now.end (lexemes_from source.now 0)) }
+{
+    if source.word(0) != Word::Keyword {
+        return Ok(None);
+    }
+    match form_of(source.bytes(0)) {
+        Some(form) => Ok(Some(form)),
+        None => {
+            let name = source.name(alloc, 0)?;
+            Err(SyntaxFault::Unsupported(name, source.place(0)))
+        }
+    }
+}
+
+/// Reads a declaration from the tokens that `lex` gave for this text: the one reading that the operators of the table give it, or the cause why there is none.
 pub fn parse_decl(
     alloc: Global,
     tokens: &Tokens,
@@ -117,9 +283,9 @@ pub fn parse_decl(
     requires within { All (IsWithin (length text.now)) tokens.now.list.items }
     requires through_dot { (from : ℕ) × ThroughDot text.now from tokens.now.list.items tokens.now.upto }
     ensures reading { IfOk result (λ d. Declares fixities.now (lexemes text.now tokens.now.list.items) (declaration_of d)) }
-    // No keyword stands first, and no bracket opens past the limit of nesting.
+    // No unknown keyword stands first, and no bracket opens past the limit of nesting.
     ensures first_causes { OnOk result (IsRead (lexemes text.now tokens.now.list.items)) }
-    ensures fault { IfErr result (FaultStands tokens.now.at (lexemes text.now tokens.now.list.items)) }
+    ensures fault { IfErr result (FaultStands fixities.now tokens.now.at (lexemes text.now tokens.now.list.items)) }
 {
     let source = Source {
         text,
@@ -127,12 +293,9 @@ pub fn parse_decl(
         end: tokens.at,
         fixities,
     };
-    if source.word(0) == Word::Keyword {
-        let name = source.name(alloc, 0)?;
-        return Err(SyntaxFault::Unsupported(name, source.place(0)));
-    }
+    let form = known_form(alloc, &source)?;
     if let Some(place) = too_deep(alloc, &source)? {
         return Err(SyntaxFault::Nesting(place));
     }
-    declaration(alloc, &source)
+    declaration(alloc, &source, form)
 }

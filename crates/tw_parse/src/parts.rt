@@ -1,17 +1,8 @@
 //! What parts of a sequence are read as.
 use crate::term::ExtTerm;
+use crate::words::Binder;
+use tw_fixity::Name;
 use tw_lexer::Place;
-
-/// The level of a term's outermost form, the loosest first.
-#[derive(Clone, Copy, Debug, PartialEq, Eq)]
-pub enum Level {
-    Ascription,
-    Backward,
-    Forward,
-    /// An operator, with its precedence.
-    Operator(u16),
-    Application,
-}
 
 /// What a part of a sequence is read as.
 #[derive(Debug, Drop)]
@@ -19,6 +10,13 @@ pub enum Part {
     Term(ExtTerm),
     /// A sequence in it has not one reading; the first such one begins here.
     AtFault(Place),
-    /// An operator.
-    Operator,
+}
+
+/// A binder without its body: its kind, its name, the place of its bracket, and its type, if it is written.
+#[derive(Debug, Drop)]
+pub struct Head {
+    pub binder: Binder,
+    pub name: Name,
+    pub at: Place,
+    pub domain: Option<Part>,
 }

@@ -13,6 +13,7 @@ fn read(alloc: Global, fixities: &FixTable, text: &str) -> Result<ExtDecl, Synta
     match lex(alloc, bytes, 0, Place { line: 1, column: 1 }) {
         Ok(tokens) => parse_decl(alloc, &tokens, bytes, fixities),
         Err(LexFault::Bad(at)) => Err(SyntaxFault::BadDecl(at)),
+        Err(LexFault::TooMany(at)) => Err(SyntaxFault::BadDecl(at)),
         Err(LexFault::NoMemory) => Err(SyntaxFault::NoMemory),
     }
 }
@@ -100,6 +101,28 @@ fn told(alloc: Global, decl: &Result<ExtDecl, SyntaxFault>) -> Result<String, Al
                 line.push_str(" abbreviated")?;
             }
         }
+        Ok(ExtDecl::NamePref(family, upper, lower)) => {
+            line.push_str("prefer ")?;
+            show_name(&mut line, &family.name)?;
+            write!(line, "{} ", family.at.column)?;
+            show_name(&mut line, upper)?;
+            if let Some(lower) = lower {
+                line.push_str(" ")?;
+                show_name(&mut line, lower)?;
+            }
+        }
+        Ok(ExtDecl::Fixity(fix, names)) => {
+            match fix {
+                Fix::Infix(assoc, precedence) => write!(line, "infix {assoc:?} {precedence}")?,
+                Fix::Prefix(precedence) => write!(line, "prefix {precedence}")?,
+                Fix::Postfix(precedence) => write!(line, "postfix {precedence}")?,
+            }
+            for name in names {
+                line.push_str(" ")?;
+                show_name(&mut line, &name.name)?;
+                write!(line, "{}", name.at.column)?;
+            }
+        }
         Err(SyntaxFault::Unsupported(name, at)) => {
             line.push_str("unsupported ")?;
             show_name(&mut line, name)?;
@@ -183,13 +206,165 @@ fn faults_are_told(rt: HostRuntime) -> Result<(), Fail> {
     Ok(())
 }
 
-#[test]
-fn operators_are_not_read_yet(rt: HostRuntime) -> Result<(), Fail> {
-    let alloc = rt.alloc();
+// `+` and `=` of the usual kinds at 10, `*` and `#` at 20, `^` right at 10, `-` and `~` prefix at 10 and 15, `!` and `?` postfix at 10 and 20, `=>` right at 10.
+fn operators(alloc: Global) -> Result<FixTable, AllocError> {
     let mut table = FixTable::new(alloc);
-    table.set(Name::from_text(alloc, "=>")?, Fix::Infix(Assoc::Right, 10))?;
-    let line = told(alloc, &read(alloc, &table, "c : p (a => b)."))?;
-    assert_eq!(rt; line.as_str(), "fixity 1:8");
+    let rows = [
+        ("+", Fix::Infix(Assoc::Left, 10)),
+        ("==", Fix::Infix(Assoc::Neither, 10)),
+        ("^", Fix::Infix(Assoc::Right, 10)),
+        ("*", Fix::Infix(Assoc::Left, 20)),
+        ("#", Fix::Infix(Assoc::Right, 20)),
+        ("=>", Fix::Infix(Assoc::Right, 10)),
+        ("-", Fix::Prefix(10)),
+        ("~", Fix::Prefix(15)),
+        ("!", Fix::Postfix(10)),
+        ("?", Fix::Postfix(20)),
+    ];
+    for (name, fix) in rows {
+        table.set(Name::from_text(alloc, name)?, fix)?;
+    }
+    Ok(table)
+}
+
+#[test]
+fn operators_are_read(rt: HostRuntime) -> Result<(), Fail> {
+    let alloc = rt.alloc();
+    let table = operators(alloc)?;
+    let rows = [
+        // both associations, and none
+        ("c : a + b + d.", "c1 : ((+11 ((+7 a5) b9)) d13)"),
+        ("c : a ^ b ^ d.", "c1 : ((^7 a5) ((^11 b9) d13))"),
+        ("c : a == b.", "c1 : ((==7 a5) b10)"),
+        ("c : a == b == d.", "fixity 1:5"),
+        // a tighter operator on each side
+        ("c : a + b * d.", "c1 : ((+7 a5) ((*11 b9) d13))"),
+        ("c : a * b + d.", "c1 : ((+11 ((*7 a5) b9)) d13)"),
+        ("c : a # b ^ d.", "c1 : ((^11 ((#7 a5) b9)) d13)"),
+        // one precedence, and two kinds: `a + b ^ d` has no reading, `a ^ b + d` has two
+        ("c : a + b ^ d.", "fixity 1:5"),
+        ("c : a ^ b + d.", "fixity 1:5"),
+        ("c : a + b == d.", "fixity 1:5"),
+        ("c : a == b + d.", "c1 : ((+12 ((==7 a5) b10)) d14)"),
+        ("c : a == b ^ d.", "fixity 1:5"),
+        ("c : a ^ b == d.", "c1 : ((^7 a5) ((==11 b9) d14))"),
+        ("c : a * b # d.", "fixity 1:5"),
+        // prefix operators
+        ("c : - a.", "c1 : (-5 a7)"),
+        ("c : - - a.", "c1 : (-5 (-7 a9))"),
+        ("c : ~ - a.", "fixity 1:5"),
+        ("c : - ~ a.", "c1 : (-5 (~7 a9))"),
+        ("c : - a * b.", "c1 : (-5 ((*9 a7) b11))"),
+        ("c : ~ a + b.", "c1 : ((+9 (~5 a7)) b11)"),
+        ("c : - a + b.", "fixity 1:5"),
+        ("c : - a ^ b.", "c1 : (-5 ((^9 a7) b11))"),
+        ("c : - a == b.", "c1 : (-5 ((==9 a7) b12))"),
+        ("c : a + - b.", "fixity 1:5"),
+        ("c : a + ~ b.", "c1 : ((+7 a5) (~9 b11))"),
+        ("c : a ^ - b.", "c1 : ((^7 a5) (-9 b11))"),
+        ("c : a * ~ b + d.", "fixity 1:5"),
+        ("c : - f a.", "c1 : (-5 (f7 a9))"),
+        ("c : f - a.", "fixity 1:5"),
+        // postfix operators
+        ("c : a !.", "c1 : (!7 a5)"),
+        ("c : a ! !.", "c1 : (!9 (!7 a5))"),
+        ("c : a ! ?.", "fixity 1:5"),
+        ("c : a ? !.", "c1 : (!9 (?7 a5))"),
+        ("c : a + b !.", "c1 : (!11 ((+7 a5) b9))"),
+        ("c : a ^ b !.", "fixity 1:5"),
+        ("c : a + b ?.", "c1 : ((+7 a5) (?11 b9))"),
+        ("c : a ! + b.", "c1 : ((+9 (!7 a5)) b11)"),
+        ("c : a ! ^ b.", "fixity 1:5"),
+        ("c : f a !.", "c1 : (!9 (f5 a7))"),
+        ("c : a ! b.", "fixity 1:5"),
+        ("c : - a !.", "fixity 1:5"),
+        ("c : ~ a !.", "c1 : (!9 (~5 a7))"),
+        ("c : - a ?.", "c1 : (-5 (?9 a7))"),
+        // separators below all operators
+        (
+            "c : a + b -> d ^ e.",
+            "c1 : (((+7 a5) b9) > ((^16 d14) e18))",
+        ),
+        ("c : a <- - b.", "c1 : ((-10 b12) > a5)"),
+        ("c : a + b : d.", "c1 : (((+7 a5) b9) : d13)"),
+        ("c : - a -> b.", "c1 : ((-5 a7) > b12)"),
+        ("c : a + b -> d <- e.", "fixity 1:5"),
+        // an operator alone, in parentheses, and bound
+        ("c : +.", "fixity 1:5"),
+        ("c : (+).", "fixity 1:6"),
+        ("c : f (+) a.", "fixity 1:8"),
+        ("c : a +.", "fixity 1:5"),
+        ("c : + a.", "fixity 1:5"),
+        ("c : {+:a} b + d.", "c1 : {5+:a8}((+13 b11) d15)"),
+        ("c : {+:a} +.", "fixity 1:11"),
+        ("c : a + {x} b + x.", "c1 : ((+7 a5) {9x}((+15 b13) x17))"),
+        ("+ : a.", "+1 : a5"),
+        // the outer sequence first
+        (
+            "e : pf (p => p => p).",
+            "e1 : (pf5 ((=>11 p9) ((=>16 p14) p19)))",
+        ),
+        ("e : pf (p => p =>).", "fixity 1:9"),
+        ("e : => pf (p => p =>).", "fixity 1:5"),
+        ("e : pf (p =>) (=> p).", "fixity 1:9"),
+        ("d : a + = b.", "fixity 1:5"),
+        ("d : a = b +.", "fixity 1:9"),
+    ];
+    for (text, want) in rows {
+        let line = told(alloc, &read(alloc, &table, text))?;
+        assert_eq!(rt; line.as_str(), want, "{text}");
+    }
+    Ok(())
+}
+
+#[test]
+fn keywords_are_read(rt: HostRuntime) -> Result<(), Fail> {
+    let alloc = rt.alloc();
+    let table = operators(alloc)?;
+    let rows = [
+        ("%infix left 10 a b.", "infix Left 10 a16 b18"),
+        ("%infix none 0 a.", "infix Neither 0 a15"),
+        ("%infix right 9999 -> type.", "infix Right 9999 ->19 type22"),
+        ("%infix right 0010 =>.", "infix Right 10 =>19"),
+        ("%prefix 3 a.", "prefix 3 a11"),
+        ("%postfix 3 a b.", "postfix 3 a12 b14"),
+        ("%infix none 10000 a.", "bad 1:1"),
+        ("%infix none 18446744073709551617 a.", "bad 1:1"),
+        ("%infix 10 a.", "bad 1:1"),
+        ("%infix middle 10 a.", "bad 1:1"),
+        ("%infix left 1x a.", "bad 1:1"),
+        ("%infix left 10.", "bad 1:1"),
+        ("%infix left 10 a : b.", "bad 1:1"),
+        ("%infix left 10 a", "bad 1:1"),
+        ("%prefix left 10 a.", "bad 1:1"),
+        ("%postfix.", "bad 1:1"),
+        ("%name a X.", "prefer a7 X"),
+        ("%name a X x.", "prefer a7 X x"),
+        ("%name -> _X +.", "prefer ->7 _X +"),
+        ("%name a x.", "bad 1:1"),
+        ("%name a X Y.", "bad 1:1"),
+        ("%name a _.", "bad 1:1"),
+        ("%name a X type.", "bad 1:1"),
+        ("%name a X x y.", "bad 1:1"),
+        ("%name a.", "bad 1:1"),
+        ("%name (a) X.", "bad 1:1"),
+        ("%abbrev d = a + b.", "d = ((+15 a13) b17) abbreviated"),
+        ("%abbrev d : a = b.", "d : a13 = b17 abbreviated"),
+        ("%abbrev d : a.", "bad 1:1"),
+        ("%abbrev d : a).", "bad 1:1"),
+        ("%abbrev _ = a.", "bad 1:1"),
+        ("%abbrev d a.", "bad 1:1"),
+        ("%abbrev d = .", "syntax 1:13"),
+        ("%abbrev d = {x:a) b.", "syntax 1:17"),
+        ("%abbrev d : (a. = b.", "syntax 1:15"),
+        ("%abbrev d : a + = b.", "fixity 1:13"),
+        ("%abbrev d : a = b c", "bad 1:1"),
+        ("%solve d : a.", "unsupported %solve 1:1"),
+    ];
+    for (text, want) in rows {
+        let line = told(alloc, &read(alloc, &table, text))?;
+        assert_eq!(rt; line.as_str(), want, "{text}");
+    }
     Ok(())
 }
 

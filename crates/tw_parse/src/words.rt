@@ -25,6 +25,18 @@ pub enum Word {
     End,
 }
 
+/// What a known keyword begins.
+#[derive(Clone, Copy, Debug, PartialEq, Eq)]
+pub enum Form {
+    /// `%abbrev`
+    Abbreviation,
+    /// `%name`
+    Preference,
+    Infix,
+    Prefix,
+    Postfix,
+}
+
 /// What parts two sides of a sequence: `->`, `<-` and `:`.
 #[derive(Clone, Copy, Debug, PartialEq, Eq)]
 pub enum Separator {

@@ -22,3 +22,7 @@ holds_refl (Some files) = refl
 pub holds_trans : (a b c : Option Held) → HoldsOn a b → HoldsOn b c → HoldsOn a c
 holds_trans None b c h k = tt
 holds_trans (Some files) b c h k = subst (λ (x : Option Held). HoldsOn x c) h k
+
+-- a write after writes that didn't fail
+pub writes_on : {T E : Type 0} (a b c : ℕ) (result : Result T E) → b ≡ a → CountsWrites b c result → CountsWrites a c result
+writes_on a b c result e h = subst (λ n. CountsWrites n c result) e h

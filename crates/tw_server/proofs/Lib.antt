@@ -1,9 +1,9 @@
 pub mod Pieces
 pub mod Seen
 pub mod Counted
+pub mod Showing
+pub mod Loads
 pub mod Sound
+pub mod Readings
 pub mod Turned
 pub mod Served
-pub mod Readings
-pub mod Declared
-pub mod Kept

@@ -31,3 +31,6 @@ reply_second a b c xs ys (Err e) p q = (xs ++ q.0, q.1, ap (λ (l : List ℕ). x
 -- something lies behind a place in a list
 pub drop_some : (n : ℕ) (xs : List ℕ) → n < length xs → drop n xs ≢ []
 drop_some n xs h e = omega (arith, length-drop n xs, ap length e)
+
+pub append_three : (a b c d : List ℕ) → a ++ (b ++ (c ++ d)) ≡ ((a ++ b) ++ c) ++ d
+append_three a b c d = sym (append_assoc (a ++ b) c d ∙ append_assoc a b (c ++ d))

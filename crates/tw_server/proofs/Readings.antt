@@ -7,12 +7,14 @@ use Rattle.tw_lexer.specs.Cut.{cut_after, is_done}
 use Rattle.tw_lexer.specs.declared.cut.Cut.TheVariants.{Plain}
 use Rattle.tw_lexer.proofs.Cuts.{is_done-append}
 use Rattle.tw_server.specs.Lines.{ending, IsLine, IsText, IsOpen, HasNoFeed, is_over}
-use Rattle.tw_server.specs.Words.{said_of}
-use Rattle.tw_server.specs.View.{State}
-use Rattle.tw_server.specs.declared.command.Said.{Said}
-use Rattle.tw_server.specs.declared.command.Said.TheVariants.{TooLong, Blank, ReadDecl, Quit, Unknown}
+use Rattle.tw_server.specs.Words.{Said, meant, said_of}
+use Rattle.tw_server.specs.State.{State}
+use Rattle.tw_command.specs.Meaning.{read_declaration}
+use Rattle.tw_words.specs.Words.{AreBad}
+use Rattle.tw_words.proofs.Uniqueness.{bad_words_say_nothing}
+use Rattle.tw_ports.specs.Files.{Held}
 use Rattle.tw_server.specs.Machine.{Behind, Takes, Step}
-use Rattle.tw_server.specs.Outcome.{Serves, Outcome, Ran, AreGoodWords}
+use Rattle.tw_server.specs.Outcome.{Serves, Outcome, Ran, AreGoodWords, with_words}
 use Rattle.tw_ports.specs.Ports.{count_after}
 use Rattle.tw_server.specs.Counts.{StatusCounts}
 use Rattle.tw_server.specs.Laws.{FaultlessIsDone, OneReading, ShortIsNotLong}
@@ -28,34 +30,37 @@ taken_within : (input : List ℕ) (left : Option (List ℕ)) (taken : List ℕ) 
 taken_within input None taken h = absurd h
 taken_within input (Some rest) taken h = omega (arith, ap length h, length-append taken rest)
 
-not_long : (words : List (List ℕ)) (left : Option (List ℕ)) (v w : State) (taken gained : List ℕ) → length taken ≤ 2 ^ 40 → Outcome words left InputLong v taken gained w → ⊥
-not_long words left v w taken gained l o =
-    let r : Ran left InputLong v taken gained w = o.1 in
+not_long : (held : Option Held) (words : List (List ℕ)) (left : Option (List ℕ)) (v w : State) (taken gained : List ℕ) → length taken ≤ 2 ^ 40 → Outcome held words left InputLong v taken gained w → ⊥
+not_long held words left v w taken gained l o =
+    let r : Ran held o.1 left InputLong (with_words o.0 v) taken gained w = o.3 in
     let k = longer taken _ r.ahead r.read r.ends.2 r.ends.1 in omega arith
 
 pub short_is_not_long : ShortIsNotLong
-short_is_not_long words input left' written written' v w status l s e =
-    let o = subst (λ (st : Status). Outcome words left' st v s.taken s.gained w) e s.outcome in
+short_is_not_long held words input left' written written' v w status l s e =
+    let o = subst (λ (st : Status). Outcome held words left' st v s.taken s.gained w) e s.outcome in
     let k = taken_within input left' s.taken s.consumed in
-    not_long words left' v w s.taken s.gained (omega arith) o
+    not_long held words left' v w s.taken s.gained (omega arith) o
 
 -- a count that is raised has changed, below its last value
 raised : (n : ℕ) → n < 2 ^ 64 - 1 → n ≡ count_after true n → ⊥
 raised n h e = omega (arith, e)
 
-done_or_none : (words : List (List ℕ)) (left : Option (List ℕ)) (status : Status) (v w : State) (taken gained : List ℕ) (r k : ℕ) → AreGoodWords words → length taken ≤ 2 ^ 40 → r < 2 ^ 64 - 1 → k < 2 ^ 64 - 1 → StatusCounts r r k k status
-    → Outcome words left status v taken gained w → (status ≡ Done) ⊎ (status ≡ NoMemory)
-done_or_none words left Done v w taken gained r k good l p q c o = inl refl
-done_or_none words left BadWords v w taken gained r k good l p q c o = absurd (o.0 good)
-done_or_none words left ReadFault v w taken gained r k good l p q c o = absurd (raised r p c.0)
-done_or_none words left WriteFault v w taken gained r k good l p q c o = absurd (raised k q c.1)
-done_or_none words left NoMemory v w taken gained r k good l p q c o = inr refl
-done_or_none words left InputLong v w taken gained r k good l p q c o = absurd (not_long words left v w taken gained l o)
+not_good : (words : List (List ℕ)) → AreBad words → AreGoodWords words → ⊥
+not_good words bad good = bad_words_say_nothing words good.0 good.1 bad good.2
+
+done_or_none : (held : Option Held) (words : List (List ℕ)) (left : Option (List ℕ)) (status : Status) (v w : State) (taken gained : List ℕ) (r k : ℕ) → AreGoodWords words → length taken ≤ 2 ^ 40 → r < 2 ^ 64 - 1 → k < 2 ^ 64 - 1 → StatusCounts r r k k status
+    → Outcome held words left status v taken gained w → (status ≡ Done) ⊎ (status ≡ NoMemory)
+done_or_none held words left Done v w taken gained r k good l p q c o = inl refl
+done_or_none held words left BadWords v w taken gained r k good l p q c o = absurd (not_good words o.0 good)
+done_or_none held words left ReadFault v w taken gained r k good l p q c o = absurd (raised r p c.0)
+done_or_none held words left WriteFault v w taken gained r k good l p q c o = absurd (raised k q c.1)
+done_or_none held words left NoMemory v w taken gained r k good l p q c o = inr refl
+done_or_none held words left InputLong v w taken gained r k good l p q c o = absurd (not_long held words left v w taken gained l o)
 
 pub faultless_is_done : FaultlessIsDone
-faultless_is_done words input left' written written' v w status r k good l p q c s =
+faultless_is_done held words input left' written written' v w status r k good l p q c s =
     let t = taken_within input left' s.taken s.consumed in
-    done_or_none words left' status v w s.taken s.gained r k good (omega arith) p q c s.outcome
+    done_or_none held words left' status v w s.taken s.gained r k good (omega arith) p q c s.outcome
 
 same_line : (a b x y : List ℕ) → HasNoFeed a → HasNoFeed b → a ++ 10 ∷ x ≡ b ++ 10 ∷ y → (a ≡ b) × (x ≡ y)
 same_line [] [] x y p q e = (refl, cc)
@@ -128,11 +133,11 @@ same_text a b x y p q e =
 
 whole_line : (ended : Bool) (said : Said) (text : List ℕ) → Behind said ended true text → ended ≡ true
 whole_line true said text h = refl
-whole_line false ReadDecl text h = let e = h.0 in cc
+whole_line false (meant read_declaration) text h = let e = h.0 in cc
 whole_line false said text h = sym h.1
 
 same_rest : (said : Said) (text text' x y : List ℕ) → Behind said true true text → Behind said true true text' → text ++ x ≡ text' ++ y → text ≡ text'
-same_rest ReadDecl text text' x y h k e = same_text text text' x y h k e
+same_rest (meant read_declaration) text text' x y h k e = same_text text text' x y h k e
 same_rest said text text' x y h k e = h.0 ∙ sym k.0
 
 -- the bytes of a command: its line's body, a line feed and what is behind
@@ -144,7 +149,7 @@ spelled {text = text} {said = said} t =
     )
 
 pub one_reading : OneReading
-one_reading v v' w w' took took' more more' reply reply' s t e =
+one_reading held held' v v' w w' took took' more more' reply reply' s t e =
     let p = spelled s.takes in
     let q = spelled t.takes in
     let whole : s.takes.body ++ 10 ∷ (s.text ++ more) ≡ t.takes.body ++ 10 ∷ (t.text ++ more') =

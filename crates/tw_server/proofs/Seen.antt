@@ -7,10 +7,10 @@ use Rattle.std.specs.List.{AllByRecursion}
 use Rattle.std.specs.Io.KnownBytes.{Consumes, prepend_known}
 use Rattle.std.proofs.KnownBytes.{Consumes-nil, Consumes-trans}
 use borrow.Author.Tests.{ltb-true, ltb-false}
-use Rattle.tw_lexer.specs.Cut.{cut_after, is_done}
+use Rattle.tw_lexer.specs.Cut.{cut_after, is_done, open_count}
 use Rattle.tw_lexer.specs.declared.cut.Cut.{Cut}
 use Rattle.tw_lexer.specs.declared.cut.Cut.TheVariants.{Plain, Done}
-use Rattle.tw_lexer.proofs.Cuts.{cut_after-append}
+use Rattle.tw_lexer.proofs.Cuts.{cut_after-append, cut_after-open, feed_not_done}
 use Rattle.tw_server.specs.Lines.{HasNoFeed, IsOpen, is_over}
 use Rattle.tw_server.specs.Feed.{Pending, Sees, GivesByte, Stopped}
 use Rattle.tw_server.specs.declared.feed.Stop.{Stop}
@@ -50,11 +50,6 @@ kept_test xs body b new false e s p = subst (λ k. IsKept k (body ++ b ∷ [])) 
 pub kept_more : (kept new : Option (List ℕ)) (body : List ℕ) (b : ℕ) → IsKept kept body → IsPushed kept b new → IsKept new (body ++ b ∷ [])
 kept_more None new body b h p = subst (λ k. IsKept k (body ++ b ∷ [])) (sym p) (let e = length-append body (b ∷ []) in omega arith)
 kept_more (Some xs) new body b h p = kept_test xs body b new (nat_lt (length xs) 65536) refl h.0 p
-
--- a line feed doesn't end a text
-pub feed_not_done : (s : Cut) → is_done s ≡ false → is_done (cut_after s (10 ∷ [])) ≡ false
-feed_not_done Plain h = refl
-feed_not_done Done h = cc
 
 -- a byte that is no line feed goes on with the line
 pub open_more : (text body : List ℕ) (b : ℕ) → IsOpen text body → b ≢ 10 → IsOpen (text ++ b ∷ []) (body ++ b ∷ [])
@@ -107,3 +102,7 @@ text_more {cut = cut} x i s gather o (inr more) = record {
   gathered = gather i.text i.gathered;
   sees = Sees-trans i.sees s;
 }
+
+-- fewer comments are open in a text than bytes were looked at
+pub text_open : {a b : Pending} {la lb : Option (List ℕ)} {lost : Lost} {kept : List ℕ} {cut : Cut} → TextSoFar a la b lb lost kept cut → open_count cut ≤ b.seen
+text_open i = let o = cut_after-open Plain i.text in omega (arith, ap open_count i.stands, i.sees.counted)

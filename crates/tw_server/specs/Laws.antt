@@ -1,7 +1,9 @@
 -- Laws of runs.
 use Rattle.std.specs.Prelude.{◌≡◌, ◌≢◌, ◌⊎◌, ℕ, ◌^◌, ◌-◌, ◌<◌, ◌≤◌, List, ◌++◌, length, Bool, true, Some}
 use Rattle.std.specs.declared.option.Option.{Option}
-use Rattle.tw_server.specs.View.{State, IsSound}
+use Rattle.tw_decl.specs.View.{IsSound}
+use Rattle.tw_server.specs.State.{State}
+use Rattle.tw_ports.specs.Files.{Held}
 use Rattle.tw_server.specs.Counts.{StatusCounts}
 use Rattle.tw_server.specs.Machine.{Step}
 use Rattle.tw_server.specs.Outcome.{Serves, AreGoodWords}
@@ -10,20 +12,20 @@ use Rattle.tw_server.specs.declared.status.Status.TheVariants.{Done, NoMemory, I
 
 -- an input of no more than 2 ^ 40 bytes is never too long
 abbrev pub ShortIsNotLong : Type 0
-ShortIsNotLong = (words : List (List ℕ)) (input : List ℕ) (left' written written' : Option (List ℕ)) (v w : State) (status : Status)
-    → length input ≤ 2 ^ 40 → Serves words (Some input) left' written written' v status w → status ≢ InputLong
+ShortIsNotLong = (held : Option Held) (words : List (List ℕ)) (input : List ℕ) (left' written written' : Option (List ℕ)) (v w : State) (status : Status)
+    → length input ≤ 2 ^ 40 → Serves held words (Some input) left' written written' v status w → status ≢ InputLong
 
 -- with good words, unchanged counts of faults below their last value and no more than 2 ^ 40 bytes, a run is done, or memory is wanting before it
 abbrev pub FaultlessIsDone : Type 0
-FaultlessIsDone = (words : List (List ℕ)) (input : List ℕ) (left' written written' : Option (List ℕ)) (v w : State) (status : Status) (read_faults write_faults : ℕ)
+FaultlessIsDone = (held : Option Held) (words : List (List ℕ)) (input : List ℕ) (left' written written' : Option (List ℕ)) (v w : State) (status : Status) (read_faults write_faults : ℕ)
     → AreGoodWords words → length input ≤ 2 ^ 40 → read_faults < 2 ^ 64 - 1 → write_faults < 2 ^ 64 - 1 → StatusCounts read_faults read_faults write_faults write_faults status
-    → Serves words (Some input) left' written written' v status w → (status ≡ Done) ⊎ (status ≡ NoMemory)
+    → Serves held words (Some input) left' written written' v status w → (status ≡ Done) ⊎ (status ≡ NoMemory)
 
 -- two commands on whole lines at the front of one input take the same bytes
 abbrev pub OneReading : Type 0
-OneReading = (v v' w w' : State) (took took' more more' reply reply' : List ℕ)
-    → Step true v took reply w → Step true v' took' reply' w' → took ++ more ≡ took' ++ more' → took ≡ took'
+OneReading = (held held' : Option Held) (v v' w w' : State) (took took' more more' reply reply' : List ℕ)
+    → Step held true v took reply w → Step held' true v' took' reply' w' → took ++ more ≡ took' ++ more' → took ≡ took'
 
 -- a step keeps the signature canonical
 abbrev pub StepKeepsSound : Type 0
-StepKeepsSound = (whole : Bool) (v w : State) (took reply : List ℕ) → Step whole v took reply w → IsSound v.view → IsSound w.view
+StepKeepsSound = (held : Option Held) (whole : Bool) (v w : State) (took reply : List ℕ) → Step held whole v took reply w → IsSound v.view → IsSound w.view

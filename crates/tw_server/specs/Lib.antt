@@ -1,11 +1,8 @@
 pub mod Lines
 pub mod Words
-pub mod SessionView
-pub mod View
-pub mod ViewCode
-pub mod Declaration
-pub mod Refusing
+pub mod State
 pub mod Replies
+pub mod Loading
 pub mod Machine
 pub mod Outcome
 pub mod Laws
@@ -14,4 +11,6 @@ pub mod Counts
 pub mod Feed
 pub mod Gather
 pub mod Written
+pub mod Saying
+pub mod Loaded
 pub mod Turns

@@ -1,12 +1,17 @@
 -- The machine of commands: what a command may reply, and the state after it, by the lines that are read for it.
 use Rattle.std.specs.Prelude.{◌≡◌, ◌⊎◌, ℕ, ◌^◌, ◌≤◌, ◌<◌, List, [], ◌∷◌, ◌++◌, length, Bool, true, false, codes}
 use Rattle.tw_server.specs.Lines.{IsLine, IsText}
-use Rattle.tw_server.specs.Words.{said_of}
-use Rattle.tw_server.specs.Replies.{accepted, refused}
-use Rattle.tw_server.specs.View.{View, State}
-use Rattle.tw_server.specs.Declaration.{Accepts, Refuses}
-use Rattle.tw_server.specs.declared.command.Said.{Said}
-use Rattle.tw_server.specs.declared.command.Said.TheVariants.{TooLong, Blank, ReadDecl, Quit, Unknown}
+use Rattle.tw_command.specs.Meaning.{Meaning, blank, unknown, bad_parameter, read_declaration, load_file, show_entry, show_signature, reset, set, get, version, quit}
+use Rattle.tw_command.specs.declared.command.Setting.{Setting}
+use Rattle.tw_command.specs.declared.command.Setting.TheVariants as settings
+use Rattle.tw_ports.specs.Files.{Held}
+use Rattle.std.specs.declared.option.Option.{Option}
+use Rattle.tw_server.specs.Words.{Said, too_long, meant, said_of}
+use Rattle.tw_server.specs.Replies.{accepted, refused, version_line, value_of}
+use Rattle.tw_server.specs.Loading.{WantsMemory, LoadsFile, ShowsEntry, ShowsSignature}
+use Rattle.tw_decl.specs.View.{View, reset_view, with_chatter, with_implicit, with_steps}
+use Rattle.tw_server.specs.State.{State}
+use Rattle.tw_decl.specs.Declaration.{Accepts, Refuses}
 
 -- The text behind a command's line, where the line ended with its line feed or not. There is none where the input ends with that line.
 abbrev pub TextAfter : Bool → Bool → List ℕ → Type 0
@@ -15,7 +20,7 @@ TextAfter false whole text = (whole ≡ false) × (text ≡ [])
 
 -- what is read behind the line of a command
 abbrev pub Behind : Said → Bool → Bool → List ℕ → Type 0
-Behind ReadDecl ended whole text = TextAfter ended whole text
+Behind (meant read_declaration) ended whole text = TextAfter ended whole text
 Behind said ended whole text = (text ≡ []) × (whole ≡ ended)
 
 -- The bytes that are read for a command: its line, and what is behind it. The last line ends with its line feed, or with the end of the input.
@@ -27,11 +32,6 @@ pub record Takes (whole : Bool) (took : List ℕ) (said : Said) (text : List ℕ
   pub first : IsLine ended line body
   pub says : said ≡ said_of body
   pub behind : Behind said ended whole text
-
--- Want of memory may be the reply in place of another, and changes nothing.
-pub record WantsMemory (v : View) (reply : List ℕ) (w : View) : Type 0 where
-  pub says : reply ≡ codes "E0 Memory\n" ++ refused
-  pub same : w ≡ v
 
 -- A text may have 16,777,216 bytes, its last line feed with them.
 pub record IsTextLong (v : View) (text reply : List ℕ) (w : View) : Type 0 where
@@ -58,25 +58,44 @@ pub record IsRefused (v : View) (text reply : List ℕ) (w : View) : Type 0 wher
 abbrev pub RepliesTo : View → List ℕ → List ℕ → View → Type 0
 RepliesTo v text reply w = WantsMemory v reply w ⊎ IsTextLong v text reply w ⊎ IsMade v text reply w ⊎ IsRefused v text reply w
 
--- What a command of one line answers, and the view after it. None of them wants memory. `quit` has no reply: it ends the run.
-abbrev pub AnswersLine : View → Said → List ℕ → View → Type 0
-AnswersLine v TooLong reply w = (reply ≡ codes "C5 LongLine\n" ++ refused) × (w ≡ v)
-AnswersLine v Blank reply w = (reply ≡ []) × (w ≡ v)
-AnswersLine v Unknown reply w = (reply ≡ codes "C1 UnknownCommand\n" ++ refused) × (w ≡ v)
-AnswersLine v ReadDecl reply w = ⊥
-AnswersLine v Quit reply w = ⊥
+-- a parameter is set, and the others stay
+abbrev pub with_setting : View → Setting → View
+with_setting v (settings.Chatter n) = with_chatter v n
+with_setting v (settings.Implicit b) = with_implicit v b
+with_setting v (settings.Steps n) = with_steps v n
 
--- what a command answers; no command reads files yet, so their count of faults stays
-abbrev pub Answers : State → Said → List ℕ → List ℕ → State → Type 0
-Answers v ReadDecl text reply w = RepliesTo v.view text reply w.view × (w.faults ≡ v.faults)
-Answers v said text reply w = AnswersLine v.view said reply w.view × (w.faults ≡ v.faults)
+-- What a command of one line answers, and the view after it. Only the commands that show declarations want memory. `quit` has no reply: it ends the run.
+abbrev pub AnswersMeaning : View → Meaning → List ℕ → View → Type 0
+AnswersMeaning v blank reply w = (reply ≡ []) × (w ≡ v)
+AnswersMeaning v unknown reply w = (reply ≡ codes "C1 UnknownCommand\n" ++ refused) × (w ≡ v)
+AnswersMeaning v bad_parameter reply w = (reply ≡ codes "C6 BadParameter\n" ++ refused) × (w ≡ v)
+AnswersMeaning v read_declaration reply w = ⊥
+AnswersMeaning v (load_file name) reply w = ⊥
+AnswersMeaning v (show_entry name) reply w = ShowsEntry v name reply w
+AnswersMeaning v show_signature reply w = ShowsSignature v reply w
+AnswersMeaning v reset reply w = (reply ≡ accepted) × (w ≡ reset_view v)
+AnswersMeaning v (set setting) reply w = (reply ≡ accepted) × (w ≡ with_setting v setting)
+AnswersMeaning v (get parameter) reply w = (reply ≡ (value_of v parameter ++ codes "\n") ++ accepted) × (w ≡ v)
+AnswersMeaning v version reply w = (reply ≡ version_line ++ accepted) × (w ≡ v)
+AnswersMeaning v quit reply w = ⊥
 
--- one step: from v, the command on these bytes may give this reply and lead to w
-pub record Step (whole : Bool) (v : State) (took reply : List ℕ) (w : State) : Type 0 where
+-- a file is loaded, or memory is wanting before the files are asked
+abbrev pub Loads : Option Held → List ℕ → State → List ℕ → State → Type 0
+Loads held name v reply w = (WantsMemory v.view reply w.view × (w.faults ≡ v.faults)) ⊎ LoadsFile held name v reply w
+
+-- what a command answers
+abbrev pub Answers : Option Held → State → Said → List ℕ → List ℕ → State → Type 0
+Answers held v too_long text reply w = (reply ≡ codes "C5 LongLine\n" ++ refused) × (w.view ≡ v.view) × (w.faults ≡ v.faults)
+Answers held v (meant read_declaration) text reply w = RepliesTo v.view text reply w.view × (w.faults ≡ v.faults)
+Answers held v (meant (load_file name)) text reply w = Loads held name v reply w
+Answers held v (meant meaning) text reply w = AnswersMeaning v.view meaning reply w.view × (w.faults ≡ v.faults)
+
+-- One step: from v, the command on these bytes may give this reply and lead to w. `held` is what the files held at first, where they told it.
+pub record Step (held : Option Held) (whole : Bool) (v : State) (took reply : List ℕ) (w : State) : Type 0 where
   pub said : Said
   pub text : List ℕ
   pub takes : Takes whole took said text
-  pub answers : Answers v said text reply w
+  pub answers : Answers held v said text reply w
 
 -- a step that was made
 pub record Turn : Type 0 where
@@ -85,6 +104,13 @@ pub record Turn : Type 0 where
   pub after : State
 
 -- a run: each step on whole lines, from where the last one led
-abbrev pub Run : State → List Turn → State → Type 0
-Run v [] w = w ≡ v
-Run v (t ∷ ts) w = Step true v t.took t.reply t.after × Run t.after ts w
+abbrev pub Run : Option Held → State → List Turn → State → Type 0
+Run held v [] w = w ≡ v
+Run held v (t ∷ ts) w = Step held true v t.took t.reply t.after × Run held t.after ts w
+
+-- the files of the program's words are loaded one behind the other, as by a command for each, with no bytes of the input; a refused one keeps none from being loaded
+abbrev pub Opening : Option Held → List (List ℕ) → State → List Turn → State → Type 0
+Opening held [] v [] w = w ≡ v
+Opening held [] v (t ∷ ts) w = ⊥
+Opening held (name ∷ names) v [] w = ⊥
+Opening held (name ∷ names) v (t ∷ ts) w = (t.took ≡ []) × Loads held name v t.reply t.after × Opening held names t.after ts w

@@ -1,22 +1,29 @@
 -- What a call of the server comes to.
-use Rattle.std.specs.Prelude.{◌≡◌, ◌≢◌, ◌⊎◌, ℕ, ◌^◌, ◌≤◌, List, [], ◌∷◌, ◌++◌, length, Bool, true, false}
+use Rattle.std.specs.Prelude.{◌≡◌, ◌≢◌, ◌⊎◌, ℕ, ◌^◌, ◌≤◌, List, [], ◌∷◌, ◌++◌, length, Bool, true, false, None, Some}
 use Rattle.std.specs.List.{flat_map, AllByRecursion}
 use Rattle.std.specs.Io.KnownBytes.{Consumes, IsAtEnd}
 use Rattle.std.specs.declared.option.Option.{Option}
 use Rattle.tw_ports.specs.Ports.{Gains}
 use Rattle.tw_server.specs.Lines.{IsLine, IsOpen, HasNoFeed}
-use Rattle.tw_server.specs.Words.{said_of}
+use Rattle.tw_command.specs.Meaning.{read_declaration, quit}
+use Rattle.tw_ports.specs.Files.{Held}
+use Rattle.tw_words.specs.Words.{AreWords, AreBad}
+use Rattle.tw_server.specs.Words.{meant, said_of}
 use Rattle.tw_server.specs.Replies.{banner, usage}
-use Rattle.tw_server.specs.View.{State, IsSound}
-use Rattle.tw_server.specs.Machine.{Step, Turn, Run}
+use Rattle.tw_decl.specs.View.{View, IsSound, with_steps}
+use Rattle.tw_server.specs.State.{State, state_at}
+use Rattle.tw_server.specs.Machine.{Step, Turn, Run, Loads, Opening}
 use Rattle.tw_server.specs.declared.status.Status.{Status}
 use Rattle.tw_server.specs.declared.status.Status.TheVariants.{Done, BadWords, ReadFault, WriteFault, NoMemory, InputLong}
-use Rattle.tw_server.specs.declared.command.Said.TheVariants.{ReadDecl, Quit}
 
--- the words of the program are good: there are none
+-- the words of the program are good: they say how many steps a search may make, if they say it, and which files are to be loaded
 abbrev pub AreGoodWords : List (List ℕ) → Type 0
-AreGoodWords [] = Unit {0}
-AreGoodWords (word ∷ words) = ⊥
+AreGoodWords words = (steps : Option ℕ) × (files : List (List ℕ)) × AreWords words steps files
+
+-- the state with the steps that the words say
+abbrev pub with_words : Option ℕ → State → State
+with_words None v = v
+with_words (Some n) v = state_at (with_steps v.view n) v.faults
 
 -- the first bytes of all, and not all of them
 abbrev pub IsCut : List ℕ → List ℕ → Type 0
@@ -31,13 +38,13 @@ pub record IsQuit (left : Option (List ℕ)) (ahead bytes : List ℕ) : Type 0 w
   pub whole : Bool
   pub body : List ℕ
   pub line : IsLine whole bytes body
-  pub says : said_of body ≡ Quit
+  pub says : said_of body ≡ meant quit
   pub at_end : whole ≡ false → HasEnded left ahead
 
 -- no command is whole in these bytes: a line without its line feed, or the begin of a declaration
 abbrev pub IsUnfinished : List ℕ → Type 0
 IsUnfinished bytes = HasNoFeed bytes
-    ⊎ ((line body text rest : List ℕ) × (bytes ≡ line ++ text) × IsLine true line body × (said_of body ≡ ReadDecl) × IsOpen text rest)
+    ⊎ ((line body text rest : List ℕ) × (bytes ≡ line ++ text) × IsLine true line body × (said_of body ≡ meant read_declaration) × IsOpen text rest)
 
 -- what came of the bytes after the last whole command, where they break off: nothing
 pub record BreaksOff (v : State) (tail last : List ℕ) (w : State) : Type 0 where
@@ -45,69 +52,93 @@ pub record BreaksOff (v : State) (tail last : List ℕ) (w : State) : Type 0 whe
   pub silent : last ≡ []
   pub same : w ≡ v
 
--- The step was made, and its reply written in part. A body that takes a declaration back where its report can't be written passes, as a step that wanted memory.
-pub record IsCutShort (left : Option (List ℕ)) (v : State) (tail last : List ℕ) (w : State) (ahead : List ℕ) : Type 0 where
+-- The step was made, and its reply written in part. Where the lines of a file are being written, it is a step that wanted memory behind the declarations that were made: what was written is the first part of its reply. A body that takes a declaration back where its report can't be written passes too, as a step that wanted memory.
+pub record IsCutShort (held : Option Held) (left : Option (List ℕ)) (v : State) (tail last : List ℕ) (w : State) (ahead : List ℕ) : Type 0 where
   pub whole : Bool
   pub reply : List ℕ
-  pub step : Step whole v tail reply w
+  pub step : Step held whole v tail reply w
   pub cut : IsCut last reply
   pub at_end : whole ≡ false → HasEnded left ahead
 
 -- How a run ends, after its last whole step. The tail is what was looked at then, last what was written for it; ahead was read from the source and not looked at; so many bytes were looked at in all.
-abbrev pub Ends : Option (List ℕ) → Status → State → List ℕ → List ℕ → State → List ℕ → ℕ → Type 0
+abbrev pub Ends : Option Held → Option (List ℕ) → Status → State → List ℕ → List ℕ → State → List ℕ → ℕ → Type 0
 -- `quit`, or the end of the input, with the command that it cuts short
-Ends left Done v tail last w ahead looked =
-    (IsQuit left ahead tail × (last ≡ []) × (w ≡ v)) ⊎ (Step false v tail last w × HasEnded left ahead)
+Ends held left Done v tail last w ahead looked =
+    (IsQuit left ahead tail × (last ≡ []) × (w ≡ v)) ⊎ (Step held false v tail last w × HasEnded left ahead)
 -- all that was read is whole steps and less than one more
-Ends left ReadFault v tail last w ahead looked = BreaksOff v tail last w × (ahead ≡ [])
-Ends left InputLong v tail last w ahead looked = BreaksOff v tail last w × (ahead ≢ []) × (looked ≡ 2 ^ 40)
-Ends left WriteFault v tail last w ahead looked = IsCutShort left v tail last w ahead
-Ends left NoMemory v tail last w ahead looked = ⊥
-Ends left BadWords v tail last w ahead looked = ⊥
+Ends held left ReadFault v tail last w ahead looked = BreaksOff v tail last w × (ahead ≡ [])
+Ends held left InputLong v tail last w ahead looked = BreaksOff v tail last w × (ahead ≢ []) × (looked ≡ 2 ^ 40)
+Ends held left WriteFault v tail last w ahead looked = IsCutShort held left v tail last w ahead
+Ends held left NoMemory v tail last w ahead looked = ⊥
+Ends held left BadWords v tail last w ahead looked = ⊥
 
--- a run of the session from v to w: it took these bytes from the source, and gained is its transcript
-pub record Ran (left : Option (List ℕ)) (status : Status) (v : State) (taken gained : List ℕ) (w : State) : Type 0 where
+-- A run of the session from v to w: it took these bytes from the source, and gained is its transcript. The files of the words come first.
+pub record Ran (held : Option Held) (files : List (List ℕ)) (left : Option (List ℕ)) (status : Status) (v : State) (taken gained : List ℕ) (w : State) : Type 0 where
+  pub opened : List Turn
+  pub begun : State
   pub turns : List Turn
   pub mid : State
   pub tail : List ℕ
   pub last : List ℕ
   pub ahead : List ℕ
-  pub run : Run v turns mid
-  pub ends : Ends left status mid tail last w ahead (length (flat_map (λ t. t.took) turns ++ tail))
+  pub opening : Opening held files v opened begun
+  pub run : Run held begun turns mid
+  pub ends : Ends held left status mid tail last w ahead (length (flat_map (λ t. t.took) turns ++ tail))
   pub read : taken ≡ (flat_map (λ t. t.took) turns ++ tail) ++ ahead
-  pub wrote : gained ≡ (banner ++ flat_map (λ t. t.reply) turns) ++ last
+  pub wrote : gained ≡ ((banner ++ flat_map (λ t. t.reply) opened) ++ flat_map (λ t. t.reply) turns) ++ last
   pub within : length (flat_map (λ t. t.took) turns ++ tail) ≤ 2 ^ 40
-  -- the signature is canonical LF after each command
+  -- the signature is canonical LF after each file and each command
+  pub sound_opened : AllByRecursion (λ t. IsSound t.after.view) opened
   pub sound : AllByRecursion (λ t. IsSound t.after.view) turns
 
--- a status that comes of a run
-abbrev pub RanTo : List (List ℕ) → Option (List ℕ) → Status → State → List ℕ → List ℕ → State → Type 0
-RanTo words left status v taken gained w = AreGoodWords words × Ran left status v taken gained w
+-- A write failed while the files of the words were loaded: of the reply for one of them the first part was written, and nothing was read.
+pub record IsCutOpening (held : Option Held) (files : List (List ℕ)) (v : State) (taken gained : List ℕ) (w : State) : Type 0 where
+  pub front : List (List ℕ)
+  pub name : List ℕ
+  pub rest : List (List ℕ)
+  pub opened : List Turn
+  pub begun : State
+  pub reply : List ℕ
+  pub last : List ℕ
+  pub among : files ≡ front ++ name ∷ rest
+  pub opening : Opening held front v opened begun
+  pub loads : Loads held name begun reply w
+  pub cut : IsCut last reply
+  pub wrote : gained ≡ (banner ++ flat_map (λ t. t.reply) opened) ++ last
+  pub nothing_read : taken ≡ []
 
 -- nothing was read, and nothing of the session changed
 pub record IsUntouched (v : State) (taken : List ℕ) (w : State) : Type 0 where
   pub nothing_read : taken ≡ []
   pub same : w ≡ v
 
+-- What a call with good words comes to behind the banner, by its status. The words are said once: the steps, and the files.
+abbrev pub RanTo : Option Held → List (List ℕ) → Option (List ℕ) → Status → State → List ℕ → List ℕ → State → Type 0
+RanTo held words left status v taken gained w = (steps : Option ℕ) × (files : List (List ℕ)) × AreWords words steps files × Ran held files left status (with_words steps v) taken gained w
+
+abbrev pub CutOpening : Option Held → List (List ℕ) → State → List ℕ → List ℕ → State → Type 0
+CutOpening held words v taken gained w = (steps : Option ℕ) × (files : List (List ℕ)) × AreWords words steps files × IsCutOpening held files (with_words steps v) taken gained w
+
 -- what the call comes to, by its status
-abbrev pub Outcome : List (List ℕ) → Option (List ℕ) → Status → State → List ℕ → List ℕ → State → Type 0
-Outcome words left BadWords v taken gained w = (AreGoodWords words → ⊥) × (gained ≡ usage) × IsUntouched v taken w
-Outcome words left NoMemory v taken gained w = (gained ≡ []) × IsUntouched v taken w
-Outcome words left WriteFault v taken gained w =
-    ((AreGoodWords words → ⊥) × IsCut gained usage × IsUntouched v taken w)
+abbrev pub Outcome : Option Held → List (List ℕ) → Option (List ℕ) → Status → State → List ℕ → List ℕ → State → Type 0
+Outcome held words left BadWords v taken gained w = AreBad words × (gained ≡ usage) × IsUntouched v taken w
+Outcome held words left NoMemory v taken gained w = (gained ≡ []) × IsUntouched v taken w
+Outcome held words left WriteFault v taken gained w =
+    (AreBad words × IsCut gained usage × IsUntouched v taken w)
     ⊎ (AreGoodWords words × IsCut gained banner × IsUntouched v taken w)
-    ⊎ RanTo words left WriteFault v taken gained w
-Outcome words left Done v taken gained w = RanTo words left Done v taken gained w
-Outcome words left ReadFault v taken gained w = RanTo words left ReadFault v taken gained w
-Outcome words left InputLong v taken gained w = RanTo words left InputLong v taken gained w
+    ⊎ CutOpening held words v taken gained w
+    ⊎ RanTo held words left WriteFault v taken gained w
+Outcome held words left Done v taken gained w = RanTo held words left Done v taken gained w
+Outcome held words left ReadFault v taken gained w = RanTo held words left ReadFault v taken gained w
+Outcome held words left InputLong v taken gained w = RanTo held words left InputLong v taken gained w
 
 -- THE TRANSCRIPT THEOREM. The call took these bytes from the source and gave these to the sink, where they tell; they are those of one run
--- of the session, whose signature is canonical LF on entry, after each command and on return.
-pub record Serves (words : List (List ℕ)) (left left' written written' : Option (List ℕ)) (v : State) (status : Status) (w : State) : Type 0 where
+-- of the session over the files, whose signature is canonical LF on entry, after each file and each command, and on return.
+pub record Serves (held : Option Held) (words : List (List ℕ)) (left left' written written' : Option (List ℕ)) (v : State) (status : Status) (w : State) : Type 0 where
   pub taken : List ℕ
   pub gained : List ℕ
   pub consumed : Consumes left left' taken
   pub gains : Gains written written' gained
-  pub outcome : Outcome words left' status v taken gained w
+  pub outcome : Outcome held words left' status v taken gained w
   pub sound_before : IsSound v.view
   pub sound_after : IsSound w.view

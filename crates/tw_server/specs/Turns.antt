@@ -5,14 +5,17 @@ use Rattle.std.specs.declared.option.Option.{Option}
 use Rattle.std.specs.declared.result.Result.{Result}
 use Rattle.tw_ports.specs.Ports.{Gains}
 use Rattle.tw_server.specs.Lines.{IsLine, IsText}
-use Rattle.tw_server.specs.Words.{said_of}
+use Rattle.tw_command.specs.Meaning.{quit}
+use Rattle.tw_ports.specs.Files.{Held}
+use Rattle.std.specs.Io.KnownBytes.{Consumes}
+use Rattle.tw_server.specs.Words.{meant, said_of}
 use Rattle.tw_server.specs.Replies.{banner}
-use Rattle.tw_server.specs.View.{View, State}
+use Rattle.tw_decl.specs.View.{View}
+use Rattle.tw_server.specs.State.{State}
 use Rattle.tw_server.specs.Feed.{Pending, Sees}
 use Rattle.tw_server.specs.Written.{GainsReply}
-use Rattle.tw_server.specs.Machine.{Step, Turn, Run, RepliesTo}
+use Rattle.tw_server.specs.Machine.{Step, Turn, Run, RepliesTo, Loads, Opening}
 use Rattle.tw_server.specs.Outcome.{Ends, IsCut, HasEnded}
-use Rattle.tw_server.specs.declared.command.Said.TheVariants as saids
 use Rattle.tw_server.specs.declared.status.Status.{Status}
 use Rattle.tw_server.specs.declared.status.Status.TheVariants.{Done, BadWords, ReadFault, WriteFault, NoMemory, InputLong}
 
@@ -49,17 +52,56 @@ pub record Moves (old : Pending) (left : Option (List ℕ)) (new : Pending) (lef
   pub outcome : P took last
 
 -- one turn of the loop: a step, or the end of the run
-abbrev pub TurnOf : Option (List ℕ) → Pending → Result (Unit {0}) Status → State → List ℕ → List ℕ → State → Type 0
-TurnOf left feed (Ok done) v took reply w = Step true v took reply w × (0 < length took)
-TurnOf left feed (Err status) v took last w = Ends left status v took last w feed.held feed.seen
+abbrev pub TurnOf : Option Held → Option (List ℕ) → Pending → Result (Unit {0}) Status → State → List ℕ → List ℕ → State → Type 0
+TurnOf held left feed (Ok done) v took reply w = Step held true v took reply w × (0 < length took)
+TurnOf held left feed (Err status) v took last w = Ends held left status v took last w feed.held feed.seen
 
 -- the command on the line that the end of the input cuts short
-abbrev pub LastTurn : {E : Type 0} → Option (List ℕ) → Option (List ℕ) → State → List ℕ → List ℕ → State → Result (Unit {0}) E → Type 0
-LastTurn old new v bytes body w result = (reply : List ℕ) × GainsReply old new reply result × (Step false v bytes reply w ⊎ ((said_of body ≡ saids.Quit) × (reply ≡ []) × (w ≡ v)))
+abbrev pub LastTurn : {E : Type 0} → Option Held → Option (List ℕ) → Option (List ℕ) → State → List ℕ → List ℕ → State → Result (Unit {0}) E → Type 0
+LastTurn held old new v bytes body w result = (reply : List ℕ) × GainsReply old new reply result × (Step held false v bytes reply w ⊎ ((said_of body ≡ meant quit) × (reply ≡ []) × (w ≡ v)))
 
--- a run so far, between two turns
-pub record RanSoFar (left left' written written' : Option (List ℕ)) (v : State) (feed : Pending) (now : State) : Type 0 where
+-- the commands so far, between two turns
+pub record RanSoFar (held : Option Held) (left left' written written' : Option (List ℕ)) (v : State) (feed : Pending) (now : State) : Type 0 where
   pub turns : List Turn
-  pub run : Run v turns now
+  pub run : Run held v turns now
   pub sees : Sees (record { held = []; seen = 0 }) left feed left' (flat_map (λ t. t.took) turns)
-  pub gains : Gains written written' (banner ++ flat_map (λ t. t.reply) turns)
+  pub gains : Gains written written' (flat_map (λ t. t.reply) turns)
+
+-- the commands up to the end of the run
+pub record Commanded (held : Option Held) (left left' written written' : Option (List ℕ)) (v : State) (status : Status) (w : State) : Type 0 where
+  pub turns : List Turn
+  pub mid : State
+  pub tail : List ℕ
+  pub last : List ℕ
+  pub ahead : List ℕ
+  pub run : Run held v turns mid
+  pub ends : Ends held left' status mid tail last w ahead (length (flat_map (λ t. t.took) turns ++ tail))
+  pub consumed : Consumes left left' ((flat_map (λ t. t.took) turns ++ tail) ++ ahead)
+  pub gains : Gains written written' (flat_map (λ t. t.reply) turns ++ last)
+  pub within : length (flat_map (λ t. t.took) turns ++ tail) ≤ 2 ^ 40
+
+-- files that were loaded, with their replies
+pub record OpenedSoFar (held : Option Held) (names : List (List ℕ)) (v : State) (old new : Option (List ℕ)) (w : State) : Type 0 where
+  pub turns : List Turn
+  pub opening : Opening held names v turns w
+  pub gains : Gains old new (flat_map (λ t. t.reply) turns)
+
+-- the reply for one of the files was written in part
+pub record IsCutAt (held : Option Held) (names : List (List ℕ)) (v : State) (old new : Option (List ℕ)) (w : State) : Type 0 where
+  pub front : List (List ℕ)
+  pub name : List ℕ
+  pub rest : List (List ℕ)
+  pub turns : List Turn
+  pub begun : State
+  pub reply : List ℕ
+  pub last : List ℕ
+  pub among : names ≡ front ++ name ∷ rest
+  pub opening : Opening held front v turns begun
+  pub loads : Loads held name begun reply w
+  pub cut : IsCut last reply
+  pub gains : Gains old new (flat_map (λ t. t.reply) turns ++ last)
+
+-- all files were loaded, or a write failed
+abbrev pub AreOpened : {E : Type 0} → Option Held → List (List ℕ) → State → Option (List ℕ) → Option (List ℕ) → State → Result (Unit {0}) E → Type 0
+AreOpened held names v old new w (Ok done) = OpenedSoFar held names v old new w
+AreOpened held names v old new w (Err e) = IsCutAt held names v old new w

@@ -1,78 +1,59 @@
-//! The command lines.
-ghost use Rattle.std.specs.Prelude.{◌≡◌, ◌<◌, ◌≤◌, ◌++◌, [], ◌∷◌, false, length, take, drop, slice_index, MatchOption};
-ghost use Rattle.tw_lexer.specs.Bytes.{is_white_space};
-ghost use Rattle.tw_server.specs.Words.{word_of, words_of, said_by};
+//! What a command line says.
+ghost use Rattle.std.specs.Prelude.{◌≡◌, List, ℕ};
+ghost use Rattle.tw_server.specs.Gather.{IsKept};
+ghost use Rattle.tw_server.specs.Words.{said_of};
+ghost use Rattle.tw_server.specs.Saying.{HasText, Says, is_quit, takes_text};
 
-use tw_lexer::is_white_space;
+use crate::line::Line;
+use std::alloc::Global;
+use tw_command::{Command, CommandFault, read_command};
 
 /// What a command line says.
-#[derive(Clone, Copy, Debug, PartialEq, Eq)]
+#[derive(Drop)]
 pub enum Said {
     /// The line is longer than a command line may be.
     TooLong,
     /// The line has no words.
     Blank,
-    /// A declaration's text follows.
-    ReadDecl,
-    /// The run ends.
-    Quit,
     /// The words are no command.
     Unknown,
+    /// No parameter has this name, or may have this value.
+    BadParameter,
+    /// Memory is wanting for the name that the command has.
+    NoMemory,
+    /// A command.
+    Command(Command),
 }
 
-// The bytes from the first one that is no white space.
-fn skip_white_space(bytes: &[u8]) -> &[u8]
-    ensures words { words_of result.now ≡ words_of bytes.now }
-    ensures first { 0 < length result.now → is_white_space (slice_index result.now 0) ≡ false }
-{
-    for (i, byte) in bytes.iter().enumerate() {
-        if !is_white_space(*byte) {
-            return &bytes[i..];
-        }
+impl Said {
+    /// Whether the run ends.
+    pub fn is_quit(&self) -> bool
+        ensures { result ≡ is_quit self.now }
+    {
+        matches!(self, Said::Command(Command::Quit))
     }
-    &[]
-}
 
-// How many bytes stand before the first white space.
-fn word_length(bytes: &[u8]) -> usize
-    ensures within { result ≤ length bytes.now }
-    ensures words { words_of bytes.now ≡ word_of (take result bytes.now) ++ words_of (drop result bytes.now) }
-    ensures some { 0 < length bytes.now → is_white_space (slice_index bytes.now 0) ≡ false → 0 < result }
-{
-    for (i, byte) in bytes.iter().enumerate() {
-        if is_white_space(*byte) {
-            return i;
-        }
+    /// Whether a declaration's text follows.
+    pub fn takes_text(&self) -> bool
+        ensures { result ≡ takes_text self.now }
+    {
+        matches!(self, Said::Command(Command::ReadDecl))
     }
-    bytes.len()
 }
 
-// The first word, and what follows it.
-fn next_word(bytes: &[u8]) -> Option<(&[u8], &[u8])>
-    ensures { MatchOption result (words_of bytes.now ≡ []) (λ found. words_of bytes.now ≡ found.0.now ∷ words_of found.1.now) }
+/// What a line says.
+pub fn say(alloc: Global, line: &Line) -> Said
+    ensures says { (body : List ℕ) → IsKept line.now body → Says (said_of body) result }
+    ensures text { HasText result }
 {
-    let rest = skip_white_space(bytes);
-    if rest.is_empty() {
-        return None;
-    }
-    let count = word_length(rest);
-    Some((&rest[..count], &rest[count..]))
-}
-
-/// What a line that isn't too long says.
-pub fn words_say(body: &[u8]) -> Said
-    ensures { result ≡ said_by (words_of body.now) }
-{
-    let Some((word, rest)) = next_word(body) else {
-        return Said::Blank;
-    };
-    if next_word(rest).is_some() {
-        Said::Unknown
-    } else if word == b"readDecl".as_slice() {
-        Said::ReadDecl
-    } else if word == b"quit".as_slice() {
-        Said::Quit
-    } else {
-        Said::Unknown
+    match line.body() {
+        None => Said::TooLong,
+        Some(body) => match read_command(alloc, body) {
+            Ok(None) => Said::Blank,
+            Ok(Some(command)) => Said::Command(command),
+            Err(CommandFault::Unknown) => Said::Unknown,
+            Err(CommandFault::BadParameter) => Said::BadParameter,
+            Err(CommandFault::NoMemory) => Said::NoMemory,
+        },
     }
 }

@@ -1,22 +1,24 @@
 //! The command loop: from the bytes of a source to the replies of a session.
 #![tactic(auto)]
 
+mod answer;
 mod command;
+mod declaration;
 mod feed;
 mod laws;
 mod line;
+mod load;
 mod reply;
 mod server;
-mod session;
+mod show;
 mod status;
 mod text;
 mod write;
 
-pub use command::Said;
 pub use laws::{faultless_is_done, one_reading, short_is_not_long, step_keeps_sound};
 pub use server::serve;
-pub use session::{Refusal, Session, show_refusal};
 pub use status::{Status, exit_code};
+pub use tw_decl::{Refusal, Session, show_refusal};
 
 #[cfg(test)]
 mod tests;

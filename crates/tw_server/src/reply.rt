@@ -7,10 +7,10 @@ use crate::write::{Unwritten, write_all, write_both};
 use tw_ports::Sink;
 
 /// The last line of a reply to an accepted command.
-const OK: &[u8] = b"%% OK %%\n";
+pub const OK: &[u8] = b"%% OK %%\n";
 
 /// The last line of a refusal.
-const ABORT: &[u8] = b"%% ABORT %%\n";
+pub const ABORT: &[u8] = b"%% ABORT %%\n";
 
 const NO_MEMORY: &[u8] = b"E0 Memory\n%% ABORT %%\n";
 
@@ -19,6 +19,13 @@ const UNKNOWN_COMMAND: &[u8] = b"C1 UnknownCommand\n%% ABORT %%\n";
 const TEXT_LONG: &[u8] = b"C4 TextLong\n%% ABORT %%\n";
 
 const LONG_LINE: &[u8] = b"C5 LongLine\n%% ABORT %%\n";
+
+const BAD_PARAMETER: &[u8] = b"C6 BadParameter\n%% ABORT %%\n";
+
+const VERSION: &[u8] = b"Twelf 1.4 LF profile\n%% OK %%\n";
+
+/// The line of want of memory.
+pub const MEMORY: &[u8] = b"E0 Memory\n";
 
 /// What a command answers.
 #[derive(Drop)]
@@ -33,10 +40,16 @@ pub enum Reply {
     NoMemory,
     /// The line is no command.
     UnknownCommand,
+    /// No parameter has the name, or may have the value.
+    BadParameter,
     /// The declaration's text is too long.
     TextLong,
     /// The command line is too long.
     LongLine,
+    /// What was asked for is done, and there is nothing to tell.
+    Done,
+    /// The version.
+    Version,
 }
 
 /// Writes a reply. It takes no memory.
@@ -52,5 +65,8 @@ pub fn write_reply<K: Sink>(sink: &mut K, reply: &Reply) -> Result<(), Unwritten
         Reply::UnknownCommand => write_all(sink, UNKNOWN_COMMAND),
         Reply::TextLong => write_all(sink, TEXT_LONG),
         Reply::LongLine => write_all(sink, LONG_LINE),
+        Reply::BadParameter => write_all(sink, BAD_PARAMETER),
+        Reply::Done => write_all(sink, OK),
+        Reply::Version => write_all(sink, VERSION),
     }
 }

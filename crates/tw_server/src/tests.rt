@@ -5,7 +5,7 @@ use super::*;
 use std::alloc::Global;
 use std::process::Abort;
 use std::test::Fail;
-use tw_ports::{MemSink, MemSource, SureFiles, SureSink, SureSource};
+use tw_ports::{MemFiles, MemSink, MemSource, SureFiles, SureSink, SureSource};
 
 const HEAD: &str = "Twelf 1.4 LF profile\n%% OK %%\n";
 
@@ -79,6 +79,24 @@ fn commands(rt: HostRuntime) -> Result<(), Fail> {
         ("quit\nfoo\n", ""),
         (" \t quit \r\nfoo\n", ""),
         ("\x0bquit\x0c", ""),
+        ("OS.exit\nfoo\n", ""),
+        ("version\n", "Twelf 1.4 LF profile\n%% OK %%\n"),
+        ("get steps\n", "1000000\n%% OK %%\n"),
+        ("get Print.implicit", "false\n%% OK %%\n"),
+        ("get colour\n", "C6 BadParameter\n%% ABORT %%\n"),
+        ("set Print.implicit yes\n", "C6 BadParameter\n%% ABORT %%\n"),
+        ("set steps\n", "C1 UnknownCommand\n%% ABORT %%\n"),
+        (
+            "set steps 5\nset Print.implicit true\nget steps\nget chatter\nget Print.implicit\n",
+            "%% OK %%\n%% OK %%\n5\n%% OK %%\n3\n%% OK %%\ntrue\n%% OK %%\n",
+        ),
+        (
+            "set chatter 0\nreset\nget chatter\n",
+            "%% OK %%\n%% OK %%\n0\n%% OK %%\n",
+        ),
+        ("Print.sgn\n", "%% OK %%\n"),
+        ("decl nat\n", "C7 UnknownName nat\n%% ABORT %%\n"),
+        ("loadFile no.elf\n", "C2 NoFile no.elf\n%% ABORT %%\n"),
         (
             "foo\n\nfoo",
             "C1 UnknownCommand\n%% ABORT %%\nC1 UnknownCommand\n%% ABORT %%\n",
@@ -101,6 +119,18 @@ fn declarations(rt: HostRuntime) -> Result<(), Fail> {
             "readDecl\n1:type. \t\nreadDecl\n1 : type.\n",
             "1 : type.\n%% OK %%\n1 : type.\n%% OK %%\n",
         ),
+        (
+            "readDecl\nnat : type.\nreadDecl\nz : nat.\ndecl nat\nPrint.sgn\n",
+            "nat : type.\n%% OK %%\nz : nat.\n%% OK %%\nnat : type.\n%% OK %%\nnat : type.\nz : nat.\n%% OK %%\n",
+        ),
+        (
+            "set chatter 2\nreadDecl\nnat : type.\ndecl nat\n",
+            "%% OK %%\n%% OK %%\nnat : type.\n%% OK %%\n",
+        ),
+        (
+            "readDecl\nnat : type.\nreset\nreadDecl\nz : nat.\n",
+            "nat : type.\n%% OK %%\n%% OK %%\nstdin:1:5 E4 Unknown nat\n%% ABORT %%\n",
+        ),
     ] {
         check_row(&rt, rt.alloc(), input, wanted)?;
     }
@@ -114,27 +144,26 @@ fn refused_declarations(rt: HostRuntime) -> Result<(), Fail> {
         // no text, or none with a token
         ("", "stdin:1:1 E2 Syntax"),
         (" \n\t\n", "stdin:3:1 E2 Syntax"),
-        // not of the form
-        (".\n", "stdin:1:1 E21 Unsupported ."),
-        ("z : nat.\n", "stdin:1:1 E21 Unsupported z"),
-        ("c : .\n", "stdin:1:1 E21 Unsupported c"),
-        ("\n  c : type\n", "stdin:2:3 E21 Unsupported c"),
+        (" % a comment\n %.\n", "stdin:2:2 E2 Syntax"),
+        // no reading
+        (".\n", "stdin:1:1 E2 Syntax"),
+        ("c : .\n", "stdin:1:5 E2 Syntax"),
+        ("\n  c : type\n", "stdin:3:1 E2 Syntax"),
+        ("-> : type.\n", "stdin:1:1 E2 Syntax"),
+        ("type : type.\n", "stdin:1:1 E2 Syntax"),
+        ("(c) : type.\n", "stdin:1:1 E2 Syntax"),
+        ("c : nat. d : nat.\n", "stdin:1:10 E2 Syntax"),
+        ("c : nat. d \"\n", "stdin:1:10 E2 Syntax"),
+        ("c : nat -> nat <- nat.\n", "stdin:1:5 E3 Fixity"),
         ("%theorem t : true.\n", "stdin:1:1 E21 Unsupported %theorem"),
-        ("-> : type.\n", "stdin:1:1 E21 Unsupported ->"),
-        ("<- : type.\n", "stdin:1:1 E21 Unsupported <-"),
-        ("_ : type.\n", "stdin:1:1 E21 Unsupported _"),
-        ("= : type.\n", "stdin:1:1 E21 Unsupported ="),
-        ("type : type.\n", "stdin:1:1 E21 Unsupported type"),
-        ("(c) : type.\n", "stdin:1:1 E21 Unsupported ("),
-        ("c : types.\n", "stdin:1:1 E21 Unsupported c"),
-        ("c : type. d : type.\n", "stdin:1:1 E21 Unsupported c"),
-        ("c : type. d \"\n", "stdin:1:1 E21 Unsupported c"),
+        // read, and no declaration
+        ("c : a->b.\n", "stdin:1:5 E4 Unknown a->b"),
+        ("e : nat nat.\n", "stdin:1:1 E21 Unsupported e"),
+        ("c : {x} nat.\n", "stdin:1:1 E21 Unsupported c"),
         // no token
         ("c \"\n : type.\n", "stdin:1:3 E1 Lex"),
         ("c : type. \"\n", "stdin:1:11 E1 Lex"),
-        ("c :\n\u{e9} type.\n", "stdin:2:1 E1 Lex"),
-        ("c : %.\n", "stdin:1:5 E1 Lex"),
-        ("% a comment.\n", "stdin:1:1 E1 Lex"),
+        ("%{ open\n", "stdin:1:1 E1 Lex"),
         ("c\x00 : type.\n", "stdin:1:2 E1 Lex"),
     ] {
         let input = format!(in alloc; "readDecl\nnat : type.\nreadDecl\n{text}")?;
@@ -150,9 +179,53 @@ fn a_refusal_is_no_end(rt: HostRuntime) -> Result<(), Fail> {
     check_row(
         &rt,
         rt.alloc(),
-        "readDecl\nz : nat.\nreadDecl\nnat : type.\n",
-        "stdin:1:1 E21 Unsupported z\n%% ABORT %%\nnat : type.\n%% OK %%\n",
+        "readDecl\nz : nat.\nreadDecl\nnat : type.\nreadDecl\nz : nat.\n",
+        "stdin:1:5 E4 Unknown nat\n%% ABORT %%\nnat : type.\n%% OK %%\nz : nat.\n%% OK %%\n",
     )
+}
+
+// A text of many equal parts, between a front and a back.
+fn repeated(
+    alloc: Global,
+    front: &str,
+    part: &str,
+    count: usize,
+    back: &str,
+) -> Result<String, Fail> {
+    let mut text = String::from_str(alloc, front)?;
+    for _ in 0..count {
+        text.push_str(part)?;
+    }
+    text.push_str(back)?;
+    Ok(text)
+}
+
+// The reply to a declaration over one family.
+fn check_declared(rt: &impl Abort, alloc: Global, text: &str, wanted: &str) -> Result<(), Fail> {
+    let input = format!(in alloc; "readDecl\nb : type.\nreadDecl\n{text}\n")?;
+    let wanted = format!(in alloc; "{HEAD}b : type.\n%% OK %%\n{wanted}\n")?;
+    let (status, told) = served(alloc, input.as_bytes(), 4096, &[], &[])?;
+    assert_eq!(rt; status, Status::Done);
+    assert_eq!(rt; told.as_str(), wanted.as_str());
+    Ok(())
+}
+
+// Long types and many brackets, at the limits and past them.
+#[test]
+fn long_and_nested(rt: HostRuntime) -> Result<(), Fail> {
+    let alloc = rt.alloc();
+    let arrows = repeated(alloc, "c : ", "b -> ", 4_095, "b.")?;
+    let made = format!(in alloc; "{arrows}\n%% OK %%")?;
+    check_declared(&rt, alloc, &arrows, &made)?;
+    let arrows = repeated(alloc, "c : ", "b -> ", 4_096, "b.")?;
+    check_declared(&rt, alloc, &arrows, "stdin:1:1 E10 TooDeep\n%% ABORT %%")?;
+    let open = repeated(alloc, "c : ", "(", 1_000, "b")?;
+    let nested = repeated(alloc, &open, ")", 1_000, ".")?;
+    check_declared(&rt, alloc, &nested, "c : b.\n%% OK %%")?;
+    let open = repeated(alloc, "c : ", "(", 1_001, "b")?;
+    let nested = repeated(alloc, &open, ")", 1_001, ".")?;
+    check_declared(&rt, alloc, &nested, "stdin:1:1005 E9 Nesting\n%% ABORT %%")?;
+    Ok(())
 }
 
 #[test]
@@ -234,13 +307,100 @@ fn long_texts(rt: HostRuntime) -> Result<(), Fail> {
     let (status, told) = served(alloc, &long_text(alloc, 16_777_216)?, 65_536, &[], &[])?;
     assert_eq!(rt; status, Status::Done);
     let wanted = format!(in alloc;
-        "{HEAD}stdin:1:16777215 E21 Unsupported .\n{ABORT}C1 UnknownCommand\n{ABORT}"
+        "{HEAD}stdin:1:16777215 E2 Syntax\n{ABORT}C1 UnknownCommand\n{ABORT}"
     )?;
     assert_eq!(rt; told.as_str(), wanted.as_str());
     let (status, told) = served(alloc, &long_text(alloc, 16_777_217)?, 65_536, &[], &[])?;
     assert_eq!(rt; status, Status::Done);
     let wanted = format!(in alloc; "{HEAD}C4 TextLong\n{ABORT}C1 UnknownCommand\n{ABORT}")?;
     assert_eq!(rt; told.as_str(), wanted.as_str());
+    Ok(())
+}
+
+const NAT: &[u8] = b"nat : type.\nz : nat.\n";
+
+const NAT_LOADED: &str =
+    "[Opening file nat.elf]\nnat : type.\nz : nat.\n[Closing file nat.elf]\n%% OK %%\n";
+
+const BAD: &[u8] = b"nat : type.\nz : nta.\ns : nat -> nat.\n";
+
+const BAD_LOADED: &str =
+    "[Opening file bad.elf]\nnat : type.\nbad.elf:2:5 E4 Unknown nta\n[Closing file bad.elf]\n%% ABORT %%\n";
+
+// Serves the input over two files, where these calls of the files and of the sink fail.
+fn served_files(
+    alloc: Global,
+    words: &[String],
+    input: &[u8],
+    file_fails: &[u64],
+    write_fails: &[u64],
+) -> Result<(Status, String), Fail> {
+    let mut session = Session::new(alloc)?;
+    let mut source = MemSource::new(input.to_vec(alloc)?, 64, Vec::new(alloc));
+    let mut sink = MemSink::new(alloc, write_fails.to_vec(alloc)?);
+    let held = vec![in alloc;
+        (String::from_str(alloc, "nat.elf")?, NAT.to_vec(alloc)?),
+        (String::from_str(alloc, "bad.elf")?, BAD.to_vec(alloc)?),
+    ]?;
+    let mut files = MemFiles::new(held, file_fails.to_vec(alloc)?);
+    let status = serve(
+        alloc,
+        words,
+        &mut session,
+        &mut source,
+        &mut sink,
+        &mut files,
+    );
+    Ok((status, String::from_utf8_lossy(alloc, sink.bytes())?))
+}
+
+#[test]
+fn loaded_files(rt: HostRuntime) -> Result<(), Fail> {
+    let alloc = rt.alloc();
+    // a call that fails, and then the same call that doesn't
+    let input = b"loadFile nat.elf\nPrint.sgn\nloadFile nat.elf\n";
+    let (status, told) = served_files(alloc, &[], input, &[1], &[])?;
+    assert_eq!(rt; status, Status::Done);
+    let wanted = format!(in alloc; "{HEAD}C3 FileFault nat.elf\n{ABORT}%% OK %%\n{NAT_LOADED}")?;
+    assert_eq!(rt; told.as_str(), wanted.as_str());
+    // what was made before a refusal stays
+    let (status, told) = served_files(
+        alloc,
+        &[],
+        b"loadFile bad.elf\ndecl nat\ndecl s\n",
+        &[],
+        &[],
+    )?;
+    assert_eq!(rt; status, Status::Done);
+    let wanted = format!(in alloc;
+        "{HEAD}{BAD_LOADED}nat : type.\n%% OK %%\nC7 UnknownName s\n{ABORT}"
+    )?;
+    assert_eq!(rt; told.as_str(), wanted.as_str());
+    // the lines of a file are written as its declarations are made
+    let (status, told) = served_files(alloc, &[], b"loadFile nat.elf\n", &[], &[4])?;
+    assert_eq!(rt; status, Status::WriteFault);
+    let wanted = format!(in alloc; "{HEAD}[Opening file nat.elf]\nnat : type.\n")?;
+    assert_eq!(rt; told.as_str(), wanted.as_str());
+    Ok(())
+}
+
+#[test]
+fn files_of_the_words(rt: HostRuntime) -> Result<(), Fail> {
+    let alloc = rt.alloc();
+    let words = vec![in alloc;
+        String::from_str(alloc, "--steps")?,
+        String::from_str(alloc, "5")?,
+        String::from_str(alloc, "bad.elf")?,
+        String::from_str(alloc, "nat.elf")?,
+    ]?;
+    let (status, told) = served_files(alloc, &words, b"get steps\n", &[], &[])?;
+    assert_eq!(rt; status, Status::Done);
+    let wanted = format!(in alloc; "{HEAD}{BAD_LOADED}{NAT_LOADED}5\n%% OK %%\n")?;
+    assert_eq!(rt; told.as_str(), wanted.as_str());
+    // nothing is read where the reply to a file can't be written
+    let (status, told) = served_files(alloc, &words, b"get steps\n", &[], &[2])?;
+    assert_eq!(rt; status, Status::WriteFault);
+    assert_eq!(rt; told.as_str(), HEAD);
     Ok(())
 }
 
@@ -256,17 +416,6 @@ fn a_session_serves_again(rt: HostRuntime) -> Result<(), Fail> {
         let status = serve(alloc, &[], &mut session, &mut source, &mut sink, &mut files);
         assert_eq!(rt; status, Status::Done);
     }
-    Ok(())
-}
-
-// The lines of refusals, as they are shown.
-#[test]
-fn shown_refusals(rt: HostRuntime) -> Result<(), Fail> {
-    let alloc = rt.alloc();
-    assert_eq!(rt;
-        show_refusal(alloc, &Refusal::Memory, "stdin")?.as_slice(),
-        b"E0 Memory\n".as_slice()
-    );
     Ok(())
 }
 

@@ -1,11 +1,11 @@
-//! The program: a session over standard input and output.
+//! The program: a session over standard input and output, and the files of the disk.
 #![tactic(auto)]
 
 use std::alloc::AllocError;
 use std::env;
 use std::io::ErrorKind;
 use std::process::ExitCode;
-use tw_ports::{ReaderSource, SureFiles, WriterSink};
+use tw_ports::{DiskFiles, ReaderSource, WriterSink};
 use tw_server::{Session, Status, exit_code, serve};
 
 /// A word that no command line of the program has. It stands for words that are no text.
@@ -35,7 +35,7 @@ fn main(rt: HostRuntime) -> ExitCode {
     };
     let mut source = ReaderSource::new(rt.stdin());
     let mut sink = WriterSink::new(rt.stdout());
-    let mut files = SureFiles::new(Vec::new(alloc));
+    let mut files = DiskFiles::new(rt);
     let status = serve(
         alloc,
         &words,

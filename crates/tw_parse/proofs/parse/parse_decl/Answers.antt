@@ -1,26 +1,27 @@
-use Rattle.std.proofs.Common.{◌≡◌, ◌≢◌, ℕ, ◌+◌, List, [], drop, sym, subst, rules, OnOk, None, Ok, Err}
-use Rattle.std.specs.declared.result.Result.{Result}
-use Rattle.tw_parse.specs.Faults.{IsRead}
+use Rattle.std.proofs.Common.{◌≡◌, ℕ, ◌+◌, List, [], None, IfErr, drop, sym, subst, rules}
+use Rattle.tw_parse.specs.Faults.{IsKnown, IsRead, GrammarFault}
 use Rattle.tw_parse.specs.Nesting.{first_too_deep}
+use Rattle.tw_parse.proofs.Stopping.{stands}
 use Rattle.tw_lexer.specs.declared.token.Token.{Token}
 use Rattle.tw_parse.specs.Words.{lexemes, first_word}
-use Rattle.tw_parse.specs.declared.words.Word.TheVariants.{Dot, Keyword}
+use Rattle.tw_parse.specs.declared.words.Word.TheVariants.{Dot}
 use Rattle.tw_parse.proofs.Dots.{nothing_behind}
 use Rattle.tw_parse.proofs.parse.parse_decl.Goals as goal
 
-pub declaration-requires : goal.declaration-requires
-declaration-requires c =
+pub declaration-requires-clause-dot : goal.declaration-requires-clause-dot
+declaration-requires-clause-dot c =
     let text : List ℕ = c.args.text.now in
     let P : List Token → Type 0 = λ tokens. (i : ℕ) → first_word (drop i (lexemes text tokens)) ≡ Dot → drop (i + 1) (lexemes text tokens) ≡ [] in
     subst P (sym c.deref.ensures.value) (nothing_behind text c.args.tokens.now.list.items c.requires.through_dot.0 c.args.tokens.now.upto c.requires.through_dot.1)
 
--- what holds anyway holds where the call succeeds
-on_ok : {T E : Type 0} (r : Result T E) (P : Type 0) → P → OnOk r P
-on_ok (Ok x) P p = p
-on_ok (Err e) P p = tt
-
-pub returns-clause-first_causes : goal.returns-clause-first_causes
-returns-clause-first_causes c =
-    let first : first_word (lexemes c.args.text.now c.args.tokens.now.list.items) ≢ Keyword = search rules in
-    let shallow : first_too_deep [] 0 (lexemes c.args.text.now c.args.tokens.now.list.items) ≡ None = search rules in
-    on_ok c.declaration.result (IsRead (lexemes c.args.text.now c.args.tokens.now.list.items)) (first, shallow)
+pub returns-clause-fault : goal.returns-clause-fault
+returns-clause-fault c =
+    let text : List ℕ = c.args.text.now in
+    let table = c.args.fixities.now in
+    let end = c.args.tokens.now.at in
+    let tokens = lexemes text c.args.tokens.now.list.items in
+    let P : List Token → Type 0 = λ ts. IfErr c.declaration.result (GrammarFault table end (lexemes text ts)) in
+    let Q : List Token → Type 0 = λ ts. IsKnown (lexemes text ts) in
+    let known : IsKnown tokens = subst Q c.deref.ensures.value c.in_ok-form.ensures.known in
+    let shallow : first_too_deep [] 0 tokens ≡ None = search rules in
+    stands table end tokens c.declaration.result (known, shallow) (subst P c.deref.ensures.value c.declaration.ensures.fault)

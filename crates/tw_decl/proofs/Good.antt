@@ -1,0 +1,139 @@
+-- An explicit, well typed declaration has no cause of a refusal.
+use Rattle.std.proofs.Common.{◌≡◌, ℕ, List, [], Bool, true, false, refl, sym, ap, ◌∙◌, subst, inl, inr, Ok, Err}
+use Rattle.lf.specs.Entries.{Entry}
+use Rattle.tw_lexer.specs.Places.{place_of}
+use Rattle.tw_lexer.specs.Tokens.{first_token}
+use Rattle.tw_lexer.specs.declared.place.Place.{Place}
+use Rattle.tw_lexer.specs.declared.token.Token.{Token}
+use Rattle.tw_lexer.specs.declared.token.TokenKind.TheVariants.{End}
+use Rattle.tw_lexer.proofs.TokensUnique.{tokens_unique, fault_excludes, too_many_excludes}
+use Rattle.tw_parse.specs.Faults.{FaultStands}
+use Rattle.tw_parse.specs.Syntax.{Declaration, declare, define, prefer, give}
+use Rattle.tw_parse.specs.Words.{Lexeme, lexemes, first_place, first_bytes}
+use Rattle.tw_parse.specs.declared.fault.SyntaxFault.{SyntaxFault}
+use Rattle.tw_parse.specs.declared.fault.SyntaxFault.TheVariants as faults
+use Rattle.tw_explicit.specs.Answer as explicit
+use Rattle.tw_explicit.specs.Unknown.{unknown_in, IsFirst, IsOneOf}
+use Rattle.tw_explicit.specs.declared.unknown.Mention.{Mention}
+use Rattle.tw_explicit.specs.declared.fault.ExplicitFault.{ExplicitFault}
+use Rattle.tw_explicit.specs.declared.fault.ExplicitFault.TheVariants as completions
+use Rattle.tw_decl.specs.View.{View}
+use Rattle.tw_decl.specs.Declaration.{IsWritten, IsWrittenAlone, IsFaultBehind, IsUnknown, IsBad, CompletionFails, HasObstacle, IsNotMade, IsFirstCause, IsFollowed, IsLastCause, IsCauseAlone, HasCause}
+use Rattle.tw_decl.specs.Laws.{IsReadOnce, IsWellTyped, IsGood, GoodIsAccepted}
+use Rattle.tw_decl.proofs.Faultless.{is_declare, read_faultless}
+use Rattle.tw_decl.specs.declared.refusal.Refusal.{Refusal}
+use Rattle.tw_decl.specs.declared.refusal.Refusal.TheVariants.{Memory, Lex, TooMany, Unsupported, Nesting, Syntax, Fixity, BadDecl, Unknown, Mismatch, TooDeep}
+
+-- a declaration's tokens are unique, and so is what follows them
+pub record SameText (upto m : ℕ) (words us : List Lexeme) (end last : Place) : Type 0 where
+  pub reach : m ≡ upto
+  pub words_same : us ≡ words
+  pub end_same : last ≡ end
+
+same_text : (text : List ℕ) (from upto m : ℕ) (words us : List Lexeme) (end last : Place) → IsWritten text from upto words end → IsWritten text from m us last → SameText upto m words us end last
+same_text text from upto m words us end last h k =
+    let same = tokens_unique text from k.tokens h.tokens m upto k.through h.through in
+    let reach = same.1 in
+    record { reach = reach; words_same = k.spelled ∙ ap (lexemes text) same.0 ∙ sym h.spelled; end_same = k.behind ∙ ap (place_of text) reach ∙ sym h.behind }
+
+-- what follows is a token, so it is no fault
+no_fault_behind : (text : List ℕ) (words : List Lexeme) (end place : Place) (next : Token) → IsWrittenAlone text words end next → IsFaultBehind text place → ⊥
+no_fault_behind text words end place next h k =
+    let same = same_text text 0 h.upto k.upto words k.words end k.end h.written k.written in
+    let e = sym (ap (first_token text) same.reach ∙ h.follower) ∙ k.fault in
+    cc
+
+same_next : (text : List ℕ) (words us : List Lexeme) (end last : Place) (next other : Token) → IsWrittenAlone text words end next → IsWrittenAlone text us last other → other ≡ next
+same_next text words us end last next other h k =
+    let same = same_text text 0 h.upto k.upto words us end last h.written k.written in
+    let e = sym (ap (first_token text) same.reach ∙ h.follower) ∙ k.follower in
+    cc
+
+-- what is explicit is declared with a type
+explicit_declares : (es : List Entry) (d : Declaration) → explicit.IsExplicit es d → is_declare d ≡ true
+explicit_declares es (declare c at U) h = refl
+explicit_declares es (define c A M b) h = h.1
+explicit_declares es (prefer a x y) h = h.1
+explicit_declares es (give fix names) h = h.1
+
+faultless : (v : View) (words : List Lexeme) (end : Place) (d : Declaration) → IsReadOnce v words end d → IsWellTyped v d → (fault : SyntaxFault) → FaultStands v.fixities end words fault → fault ≡ faults.NoMemory
+faultless v words end d r t fault h = read_faultless v.fixities end words d r.reads.begins r.reads.reads (explicit_declares v.signature d t.form) r.clear fault h
+
+not_first : (v : View) (words : List Lexeme) (end : Place) (d : Declaration) (refusal : Refusal) → IsReadOnce v words end d → IsWellTyped v d → IsFirstCause v end words refusal → refusal ≡ Memory
+not_first v words end d Memory r t h = refl
+not_first v words end d (Unsupported place name) r t h = let e : faults.Unsupported name place ≡ faults.NoMemory = faultless v words end d r t (faults.Unsupported name place) h in cc
+not_first v words end d (Nesting place) r t h = let e : faults.Nesting place ≡ faults.NoMemory = faultless v words end d r t (faults.Nesting place) h in cc
+not_first v words end d (Syntax place) r t h = let e : faults.Syntax place ≡ faults.NoMemory = faultless v words end d r t (faults.Syntax place) h in cc
+not_first v words end d refusal r t h = absurd h
+
+-- its completion has no fault
+no_unknown : (es : List Entry) (d : Declaration) (m : Mention) → explicit.IsExplicit es d → IsFirst m (unknown_in es d) → ⊥
+no_unknown es d m form h = let none : IsOneOf m [] = subst (IsOneOf m) form.0 h.stands in none
+
+no_fault : (v : View) (d : Declaration) (fault : ExplicitFault) → IsWellTyped v d → explicit.HasCause v.signature d fault → fault ≡ completions.NoMemory
+no_fault v d (completions.Unknown name place) t h = absurd (no_unknown v.signature d (record { name = name; at = place }) t.form h)
+no_fault v d completions.Unsupported t h = let e = sym t.form.1 ∙ h.1 in cc
+no_fault v d completions.Mismatch t h = absurd (h.1 t.entry t.completes)
+no_fault v d completions.TooDeep t h = absurd (t.shallow h.1)
+no_fault v d completions.NoMemory t h = refl
+
+-- a definition or declaration that is completed has no obstacle; operators and preferred names aren't completed
+plain_obstacle : (v : View) (d : Declaration) (first : Place) (shown : List ℕ) (refusal : Refusal) → IsWellTyped v d
+    → (IsBad v d → ⊥) → ((name : List ℕ) (place : Place) → IsUnknown v d name place → explicit.HasCause v.signature d (completions.Unknown name place))
+    → ((fault : ExplicitFault) → CompletionFails v d fault → explicit.HasCause v.signature d fault) → HasObstacle v d first shown refusal → refusal ≡ Memory
+plain_obstacle v d first shown Memory t good named fails h = refl
+plain_obstacle v d first shown (BadDecl place) t good named fails h = absurd (good h.0)
+plain_obstacle v d first shown (Unknown place name) t good named fails h = let e : completions.Unknown name place ≡ completions.NoMemory = no_fault v d (completions.Unknown name place) t (named name place h) in cc
+plain_obstacle v d first shown (Unsupported place name) t good named fails h = let e : completions.Unsupported ≡ completions.NoMemory = no_fault v d completions.Unsupported t (fails completions.Unsupported h.0) in cc
+plain_obstacle v d first shown (Mismatch place) t good named fails h = let e : completions.Mismatch ≡ completions.NoMemory = no_fault v d completions.Mismatch t (fails completions.Mismatch h.0) in cc
+plain_obstacle v d first shown (TooDeep place) t good named fails h = let e : completions.TooDeep ≡ completions.NoMemory = no_fault v d completions.TooDeep t (fails completions.TooDeep h.0) in cc
+plain_obstacle v d first shown refusal t good named fails h = absurd h
+
+no_obstacle : (v : View) (d : Declaration) (first : Place) (shown : List ℕ) (refusal : Refusal) → IsWellTyped v d → HasObstacle v d first shown refusal → refusal ≡ Memory
+no_obstacle v (declare c at U) first shown refusal t h = plain_obstacle v (declare c at U) first shown refusal t (λ b. b) (λ name place u. u) (λ fault f. f) h
+no_obstacle v (define c A M b) first shown refusal t h = plain_obstacle v (define c A M b) first shown refusal t (λ b. b) (λ name place u. u) (λ fault f. f) h
+no_obstacle v (prefer a x y) first shown refusal t h = absurd t.completes
+no_obstacle v (give fix names) first shown refusal t h = absurd t.completes
+
+not_made : (v : View) (words : List Lexeme) (end : Place) (d : Declaration) (refusal : Refusal) → IsReadOnce v words end d → IsWellTyped v d → IsNotMade v end words refusal → refusal ≡ Memory
+not_made v words end d refusal r t h =
+    let same = r.only h.declaration h.reads.reads in
+    no_obstacle v d (first_place end words) (first_bytes words) refusal t (subst (λ (x : Declaration). HasObstacle v x (first_place end words) (first_bytes words) refusal) same h.obstacle)
+
+not_last : (v : View) (words : List Lexeme) (end : Place) (d : Declaration) (refusal : Refusal) → IsReadOnce v words end d → IsWellTyped v d → IsLastCause v end words refusal → refusal ≡ Memory
+not_last v words end d Memory r t h = refl
+not_last v words end d (Fixity place) r t h = let e : faults.Fixity place ≡ faults.NoMemory = faultless v words end d r t (faults.Fixity place) h in cc
+not_last v words end d (BadDecl place) r t (inl h) = let e : faults.BadDecl place ≡ faults.NoMemory = faultless v words end d r t (faults.BadDecl place) h in cc
+not_last v words end d (BadDecl place) r t (inr h) = not_made v words end d (BadDecl place) r t h
+not_last v words end d refusal r t h = not_made v words end d refusal r t h
+
+not_followed : (v : View) (words : List Lexeme) (end : Place) (next : Token) (refusal : Refusal) → next.kind ≡ End → IsFollowed v end words next refusal → refusal ≡ Memory
+not_followed v words end next (Syntax place) alone h = absurd (h.0 alone)
+not_followed v words end next refusal alone h = absurd h
+
+no_cause_alone : (v : View) (words : List Lexeme) (end : Place) (next : Token) (d : Declaration) (refusal : Refusal) → next.kind ≡ End → IsReadOnce v words end d → IsWellTyped v d
+    → IsCauseAlone v end words next refusal → refusal ≡ Memory
+no_cause_alone v words end next d refusal alone r t (inl h) = not_first v words end d refusal r t h
+no_cause_alone v words end next d refusal alone r t (inr (inl h)) = not_followed v words end next refusal alone h
+no_cause_alone v words end next d refusal alone r t (inr (inr h)) = not_last v words end d refusal r t h.1
+
+-- the words, their end and what follows them are those of the good text
+abbrev HasCauseIn : View → List ℕ → Refusal → Type 0
+HasCauseIn v text refusal = (words : List Lexeme) × (end : Place) × (next : Token) × IsWrittenAlone text words end next × IsCauseAlone v end words next refusal
+
+no_cause_in : (v : View) (text : List ℕ) (refusal : Refusal) → IsGood v text → HasCauseIn v text refusal → refusal ≡ Memory
+no_cause_in v text refusal g (us, last, other, written, h) =
+    let same = same_text text 0 g.written.upto written.upto g.words us g.end last g.written.written written.written in
+    let next = same_next text g.words us g.end last g.next other g.written written in
+    let moved : IsCauseAlone v g.end g.words g.next refusal =
+    subst (λ (t : Token). IsCauseAlone v g.end g.words t refusal) next
+    (subst (λ (ws : List Lexeme). IsCauseAlone v g.end ws other refusal) same.words_same
+    (subst (λ (p : Place). IsCauseAlone v p us other refusal) same.end_same h)) in
+    no_cause_alone v g.words g.end g.next g.declaration refusal g.alone g.reads g.typed moved
+
+pub good_accepted : GoodIsAccepted
+good_accepted v text Memory g h = refl
+good_accepted v text (Lex place) g (inl h) = absurd (fault_excludes text 0 g.written.written.tokens g.written.upto place g.written.written.through h)
+good_accepted v text (Lex place) g (inr h) = absurd (no_fault_behind text g.words g.end place g.next g.written h)
+good_accepted v text (TooMany place) g h = absurd (too_many_excludes text 0 g.written.written.tokens g.written.upto place g.written.written.through g.written.written.few h)
+good_accepted v text refusal g h = no_cause_in v text refusal g h

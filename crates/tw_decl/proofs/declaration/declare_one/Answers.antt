@@ -1,0 +1,48 @@
+use Rattle.std.proofs.Common.{sym, inr}
+use Rattle.tw_parse.specs.Words.{lexemes}
+use Rattle.tw_decl.proofs.Causes.{is_written, cause_alone}
+use Rattle.tw_decl.proofs.declaration.declare_one.Goals as goal
+
+pub returns-in-Err-next_token-clause-cause : goal.returns-in-Err-next_token-clause-cause
+returns-in-Err-next_token-clause-cause c = inr (record {
+  upto = c.in-Ok.tokens.upto;
+  words = lexemes c.args.text.now c.in-Ok.tokens.list.items;
+  end = c.in-Ok.tokens.at;
+  written = is_written c.args.text.now 0 c.in-Ok.tokens c.in-Ok.ensures.tokens;
+  fault = sym c.in-Err-next_token.ensures.token;
+})
+
+pub returns-in-Err-alone-clause-cause : goal.returns-in-Err-alone-clause-cause
+returns-in-Err-alone-clause-cause c =
+    let words = lexemes c.args.text.now c.in-Ok.tokens.list.items in
+    cause_alone c.args.session.now c.args.text.now words c.in-Ok.tokens.at c.in-Ok-next_token.next c.in-Err-alone.refusal
+    (record { upto = c.in-Ok.tokens.upto; written = is_written c.args.text.now 0 c.in-Ok.tokens c.in-Ok.ensures.tokens; follower = sym c.in-Ok-next_token.ensures.token })
+    (c.in-Err-alone.ensures c.args.session.now c.in-Ok.tokens.at words c.parsed.ensures)
+
+pub make-requires-clause-reads : goal.make-requires-clause-reads
+make-requires-clause-reads c =
+    let words = lexemes c.args.text.now c.in-Ok.tokens.list.items in
+    let read = c.in-Ok-alone.ensures c.args.session.now c.in-Ok.tokens.at words c.parsed.ensures in
+    rw c.deref.ensures.value (read.0)
+
+pub returns-in-Ok-make-clause-ok : goal.returns-in-Ok-make-clause-ok
+returns-in-Ok-make-clause-ok c =
+    let words = lexemes c.args.text.now c.in-Ok.tokens.list.items in
+    let read = c.in-Ok-alone.ensures c.args.session.now c.in-Ok.tokens.at words c.parsed.ensures in
+    record {
+      words = words;
+      end = c.in-Ok.tokens.at;
+      next = c.in-Ok-next_token.next;
+      written = record { upto = c.in-Ok.tokens.upto; written = is_written c.args.text.now 0 c.in-Ok.tokens c.in-Ok.ensures.tokens; follower = sym c.in-Ok-next_token.ensures.token };
+      alone = read.1;
+      makes = rw c.deref.ensures.value at c.in-Ok-make.ensures.ok;
+    }
+
+pub returns-clause-cause : goal.returns-clause-cause
+returns-clause-cause c =
+    let words = lexemes c.args.text.now c.in-Ok.tokens.list.items in
+    let read = c.in-Ok-alone.ensures c.args.session.now c.in-Ok.tokens.at words c.parsed.ensures in
+    let cause = rw c.deref.ensures.value at c.in-Err-make.ensures.cause in
+    cause_alone c.args.session.now c.args.text.now words c.in-Ok.tokens.at c.in-Ok-next_token.next c.in-Err-make.refusal
+    (record { upto = c.in-Ok.tokens.upto; written = is_written c.args.text.now 0 c.in-Ok.tokens c.in-Ok.ensures.tokens; follower = sym c.in-Ok-next_token.ensures.token })
+    (inr (inr (read.1, cause c.in-Ok.tokens.at)))

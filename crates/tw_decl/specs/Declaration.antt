@@ -1,0 +1,210 @@
+-- A declaration's text: when it is made, with its report and the view after it, and when it is refused.
+use Rattle.std.specs.Prelude.{◌≡◌, ◌≢◌, ◌⊎◌, ℕ, List, [], ◌∷◌, ◌++◌, true, false, codes, Option, None, Some, IsSome, Ok, Err}
+use Rattle.std.specs.FinMap as map
+use Rattle.lf.specs.Entries.{Entry, entry, signature_of, IsCanonicalEntry}
+use Rattle.tw_fixity.specs.declared.table.Fix.{Fix}
+use Rattle.tw_lexer.specs.Places.{place_of}
+use Rattle.tw_lexer.specs.Tokens.{first_token, ThroughDot, IsFew, HasFault, HasTooMany}
+use Rattle.tw_lexer.specs.declared.place.Place.{Place}
+use Rattle.tw_lexer.specs.declared.token.Token.{Token}
+use Rattle.tw_lexer.specs.declared.token.TokenKind.TheVariants.{End}
+use Rattle.tw_parse.specs.Faults.{IsRead, FaultStands}
+use Rattle.tw_parse.specs.Readings.{Declares}
+use Rattle.tw_parse.specs.Syntax.{Declaration, prefer, give}
+use Rattle.tw_parse.specs.declared.decl.ExtName.{ExtName}
+use Rattle.tw_parse.specs.Words.{Lexeme, lexemes, first_bytes, first_place}
+use Rattle.tw_parse.specs.declared.fault.SyntaxFault.TheVariants as faults
+use Rattle.tw_explicit.specs.Answer as explicit
+use Rattle.tw_explicit.specs.Completion.{Completes}
+use Rattle.tw_explicit.specs.declared.fault.ExplicitFault.{ExplicitFault}
+use Rattle.tw_explicit.specs.declared.fault.ExplicitFault.TheVariants as completions
+use Rattle.tw_print.specs.Shown.{declaration_line, scene_after}
+use Rattle.tw_decl.specs.View.{View, scene_of, told, with_entry}
+use Rattle.tw_signature.specs.Names.{number_of}
+use Rattle.tw_decl.specs.Operators.{newest, operand_count, all_take, first_undeclared, with_rows, fixity_line}
+use Rattle.tw_decl.specs.Preferences.{is_family, preference_line}
+use Rattle.tw_decl.specs.Refusals.{refusal_line}
+use Rattle.tw_decl.specs.declared.declaration.Next.{Next}
+use Rattle.tw_decl.specs.declared.declaration.Next.TheVariants as nexts
+use Rattle.tw_decl.specs.declared.refusal.Refusal.{Refusal}
+use Rattle.tw_decl.specs.declared.refusal.Refusal.TheVariants as refusals
+
+-- The tokens of the declaration that begins at a byte of the text, no more than the limit, as the grammar reads them; the byte that they
+-- reach, and its place.
+pub record IsWritten (text : List ℕ) (from upto : ℕ) (words : List Lexeme) (end : Place) : Type 0 where
+  pub tokens : List Token
+  pub through : ThroughDot text from tokens upto
+  pub few : IsFew tokens
+  pub spelled : words ≡ lexemes text tokens
+  pub behind : end ≡ place_of text upto
+
+-- the words are this declaration: no cause that is told before the grammar stands, and they have this reading
+pub record IsReadAs (v : View) (words : List Lexeme) (d : Declaration) : Type 0 where
+  pub begins : IsRead words
+  pub reads : Declares v.fixities words d
+
+-- the line of an entry as it is shown once it is kept
+unfoldable pub entry_line : View → Entry → List ℕ
+entry_line v e = declaration_line (scene_after (scene_of v) e) e ++ codes "\n"
+
+-- what is told of an entry that is kept
+abbrev pub entry_report : View → Entry → List ℕ
+entry_report v e = told v (entry_line v e)
+
+-- a declared constant, family or definition: its completion may stand over the signature and is kept, and the report shows it
+pub record Completed (v : View) (d : Declaration) (report : List ℕ) (w : View) : Type 0 where
+  pub form : explicit.IsExplicit v.signature d
+  pub entry : Entry
+  pub completes : Completes v.signature d entry
+  pub stands : IsCanonicalEntry (signature_of v.signature) entry
+  pub says : report ≡ entry_report v entry
+  pub keeps : w ≡ with_entry v entry
+
+-- operators: each name is declared, and takes as many arguments as the operator has operands; it gets the row
+pub record GivesRows (v : View) (fix : Fix) (names : List ExtName) (report : List ℕ) (w : View) : Type 0 where
+  pub declared : first_undeclared v.signature names ≡ None
+  pub all_fit : all_take v.signature (operand_count fix) names ≡ true
+  pub says : report ≡ told v (fixity_line fix names)
+  pub keeps : w ≡ record v { fixities = with_rows v.fixities fix names }
+
+-- preferred names of a declared family: an earlier row of it goes
+pub record Prefers (v : View) (a : ExtName) (x : List ℕ) (y : Option (List ℕ)) (report : List ℕ) (w : View) : Type 0 where
+  pub family : ℕ
+  pub named : number_of v.signature a.name ≡ Some family
+  pub is_one : is_family (entry v.signature family) ≡ true
+  pub says : report ≡ told v (preference_line a.name x y)
+  pub keeps : w ≡ record v { names = map.insert v.names family (x, y) }
+
+-- what a declaration does
+abbrev pub Does : View → Declaration → List ℕ → View → Type 0
+Does v (give fix names) report w = GivesRows v fix names report w
+Does v (prefer a x y) report w = Prefers v a x y report w
+Does v d report w = Completed v d report w
+
+-- a declaration that is made
+pub record Makes (v : View) (words : List Lexeme) (report : List ℕ) (w : View) : Type 0 where
+  pub declaration : Declaration
+  pub reads : IsReadAs v words declaration
+  pub does : Does v declaration report w
+
+-- the causes that are told before what follows the declaration is looked at; want of memory has none
+abbrev pub IsFirstCause : View → Place → List Lexeme → Refusal → Type 0
+IsFirstCause v end words refusals.Memory = Unit {0}
+IsFirstCause v end words (refusals.Unsupported place name) = FaultStands v.fixities end words (faults.Unsupported name place)
+IsFirstCause v end words (refusals.Nesting place) = FaultStands v.fixities end words (faults.Nesting place)
+IsFirstCause v end words (refusals.Syntax place) = FaultStands v.fixities end words (faults.Syntax place)
+IsFirstCause v end words _ = ⊥
+
+-- the fault of a completion, where there has to be one
+abbrev pub CompletionFails : View → Declaration → ExplicitFault → Type 0
+CompletionFails v (give fix names) fault = ⊥
+CompletionFails v (prefer a x y) fault = ⊥
+CompletionFails v d fault = explicit.HasCause v.signature d fault
+
+-- the first name that names nothing: of those that get a row, the family, or in a term
+abbrev pub IsUnknown : View → Declaration → List ℕ → Place → Type 0
+IsUnknown v (give fix names) name place = first_undeclared v.signature names ≡ Some (record { name = name; at = place })
+IsUnknown v (prefer a x y) name place = (number_of v.signature a.name ≡ None) × (name ≡ a.name) × (place ≡ a.at)
+IsUnknown v d name place = explicit.HasCause v.signature d (completions.Unknown name place)
+
+-- the names are declared, and are not of the sort that the keyword asks for
+abbrev pub IsBad : View → Declaration → Type 0
+IsBad v (give fix names) = (first_undeclared v.signature names ≡ None) × (all_take v.signature (operand_count fix) names ≡ false)
+IsBad v (prefer a x y) = IsSome (number_of v.signature a.name) × (is_family (newest v.signature a.name) ≡ false)
+IsBad v d = ⊥
+
+-- why a declaration that is read isn't made, where its first token stands at this place and has these bytes
+abbrev pub HasObstacle : View → Declaration → Place → List ℕ → Refusal → Type 0
+HasObstacle v d first shown refusals.Memory = Unit {0}
+HasObstacle v d first shown (refusals.BadDecl place) = IsBad v d × (place ≡ first)
+HasObstacle v d first shown (refusals.Unknown place name) = IsUnknown v d name place
+HasObstacle v d first shown (refusals.Unsupported place name) = CompletionFails v d completions.Unsupported × (place ≡ first) × (name ≡ shown)
+HasObstacle v d first shown (refusals.Mismatch place) = CompletionFails v d completions.Mismatch × (place ≡ first)
+HasObstacle v d first shown (refusals.TooDeep place) = CompletionFails v d completions.TooDeep × (place ≡ first)
+HasObstacle v d first shown _ = ⊥
+
+-- the words are a declaration that isn't made
+pub record IsNotMade (v : View) (end : Place) (words : List Lexeme) (refusal : Refusal) : Type 0 where
+  pub declaration : Declaration
+  pub reads : IsReadAs v words declaration
+  pub obstacle : HasObstacle v declaration (first_place end words) (first_bytes words) refusal
+
+-- the causes behind them
+abbrev pub IsLastCause : View → Place → List Lexeme → Refusal → Type 0
+IsLastCause v end words refusals.Memory = Unit {0}
+IsLastCause v end words (refusals.Fixity place) = FaultStands v.fixities end words (faults.Fixity place)
+IsLastCause v end words (refusals.BadDecl place) = FaultStands v.fixities end words (faults.BadDecl place) ⊎ IsNotMade v end words (refusals.BadDecl place)
+IsLastCause v end words refusal = IsNotMade v end words refusal
+
+-- no cause through `Syntax` stands: the words are a declaration, or have a fault that is told later, of their operators or of the arguments of a keyword
+abbrev pub IsPastSyntax : View → Place → List Lexeme → Type 0
+IsPastSyntax v end words = ((d : Declaration) × IsReadAs v words d) ⊎ ((place : Place) × FaultStands v.fixities end words (faults.Fixity place)) ⊎ ((place : Place) × FaultStands v.fixities end words (faults.BadDecl place))
+
+-- A declaration that has to be alone in its text: a token that follows it is refused where it stands, behind the first causes and before the last ones.
+abbrev pub IsFollowed : View → Place → List Lexeme → Token → Refusal → Type 0
+IsFollowed v end words next (refusals.Syntax place) = (next.kind ≢ End) × (place ≡ next.at) × IsPastSyntax v end words
+IsFollowed v end words next _ = ⊥
+
+-- the cause of a refusal of these words, whatever follows them, or where this token does
+abbrev pub IsCause : View → Place → List Lexeme → Refusal → Type 0
+IsCause v end words refusal = IsFirstCause v end words refusal ⊎ IsLastCause v end words refusal
+
+abbrev pub IsCauseAlone : View → Place → List Lexeme → Token → Refusal → Type 0
+IsCauseAlone v end words next refusal = IsFirstCause v end words refusal ⊎ IsFollowed v end words next refusal ⊎ ((next.kind ≡ End) × IsLastCause v end words refusal)
+
+-- the declaration that begins at this byte of a text, and the first token behind its dot
+pub record IsWrittenAlone (text : List ℕ) (words : List Lexeme) (end : Place) (next : Token) : Type 0 where
+  pub upto : ℕ
+  pub written : IsWritten text 0 upto words end
+  pub follower : first_token text upto ≡ Ok next
+
+-- The declaration that begins at this byte of a text is accepted: its report, the byte behind its dot, and the view after it.
+pub record AcceptsFrom (v : View) (text : List ℕ) (from : ℕ) (report : List ℕ) (upto : ℕ) (w : View) : Type 0 where
+  pub words : List Lexeme
+  pub end : Place
+  pub written : IsWritten text from upto words end
+  pub makes : Makes v words report w
+
+-- a text that is one declaration is accepted, with nothing but comments and white space behind the dot
+pub record Accepts (v : View) (text report : List ℕ) (w : View) : Type 0 where
+  pub words : List Lexeme
+  pub end : Place
+  pub next : Token
+  pub written : IsWrittenAlone text words end next
+  pub alone : next.kind ≡ End
+  pub makes : Makes v words report w
+
+-- no declaration begins at this byte: only comments and white space are left, or the end of the text is marked
+abbrev pub HasNoMore : List ℕ → ℕ → Type 0
+HasNoMore text from = (only : Token) × (first_token text from ≡ Ok only) × (only.kind ≡ End)
+
+-- what comes next in a text of declarations: none, or one that is made
+abbrev pub Comes : View → List ℕ → ℕ → Next → View → Type 0
+Comes v text from nexts.End w = HasNoMore text from × (w ≡ v)
+Comes v text from (nexts.Done report upto at) w = AcceptsFrom v text from report.text.items upto w × (at ≡ place_of text upto)
+
+-- The cause of a refusal of the declaration that begins at this byte; want of memory has none.
+abbrev pub HasCauseFrom : View → List ℕ → ℕ → Refusal → Type 0
+HasCauseFrom v text from refusals.Memory = Unit {0}
+HasCauseFrom v text from (refusals.Lex place) = HasFault text from place
+HasCauseFrom v text from (refusals.TooMany place) = HasTooMany text from place
+HasCauseFrom v text from refusal = (HasNoMore text from → ⊥) × ((upto : ℕ) × (words : List Lexeme) × (end : Place) × IsWritten text from upto words end × IsCause v end words refusal)
+
+-- what follows the declaration begins with a fault
+pub record IsFaultBehind (text : List ℕ) (place : Place) : Type 0 where
+  pub upto : ℕ
+  pub words : List Lexeme
+  pub end : Place
+  pub written : IsWritten text 0 upto words end
+  pub fault : first_token text upto ≡ Err place
+
+-- the cause of a refusal of a text that has to be one declaration
+abbrev pub HasCause : View → List ℕ → Refusal → Type 0
+HasCause v text refusals.Memory = Unit {0}
+HasCause v text (refusals.Lex place) = HasFault text 0 place ⊎ IsFaultBehind text place
+HasCause v text (refusals.TooMany place) = HasTooMany text 0 place
+HasCause v text refusal = (words : List Lexeme) × (end : Place) × (next : Token) × IsWrittenAlone text words end next × IsCauseAlone v end words next refusal
+
+-- a refused text, and the line that says why
+abbrev pub Refuses : View → List ℕ → List ℕ → List ℕ → Type 0
+Refuses v origin text line = (refusal : Refusal) × HasCause v text refusal × (line ≡ refusal_line origin refusal)

@@ -1,0 +1,9 @@
+pub mod View
+pub mod ViewCode
+pub mod Refusals
+pub mod Operators
+pub mod Preferences
+pub mod Declaration
+pub mod Steps
+pub mod Undoing
+pub mod Laws

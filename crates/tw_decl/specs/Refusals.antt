@@ -1,0 +1,23 @@
+-- The lines that refusals show.
+use Rattle.std.specs.Prelude.{ℕ, List, ◌++◌, codes, decimal}
+use Rattle.tw_lexer.specs.declared.place.Place.{Place}
+use Rattle.tw_decl.specs.declared.refusal.Refusal.{Refusal}
+use Rattle.tw_decl.specs.declared.refusal.Refusal.TheVariants.{Memory, Lex, TooMany, Unsupported, Nesting, Syntax, Fixity, BadDecl, Unknown, Mismatch, TooDeep}
+
+-- where a text came from, and a place in it
+abbrev pub show_place : List ℕ → Place → List ℕ
+show_place origin place = origin ++ codes ":" ++ decimal place.line ++ codes ":" ++ decimal place.column
+
+-- the line of a refusal: its place, its number and name, and what it shows
+abbrev pub refusal_line : List ℕ → Refusal → List ℕ
+refusal_line origin Memory = codes "E0 Memory\n"
+refusal_line origin (Lex place) = show_place origin place ++ codes " E1 Lex\n"
+refusal_line origin (TooMany place) = show_place origin place ++ codes " E8 TooMany\n"
+refusal_line origin (Unsupported place shown) = show_place origin place ++ codes " E21 Unsupported " ++ shown ++ codes "\n"
+refusal_line origin (Nesting place) = show_place origin place ++ codes " E9 Nesting\n"
+refusal_line origin (Syntax place) = show_place origin place ++ codes " E2 Syntax\n"
+refusal_line origin (Fixity place) = show_place origin place ++ codes " E3 Fixity\n"
+refusal_line origin (BadDecl place) = show_place origin place ++ codes " E22 BadDecl\n"
+refusal_line origin (Unknown place name) = show_place origin place ++ codes " E4 Unknown " ++ name ++ codes "\n"
+refusal_line origin (Mismatch place) = show_place origin place ++ codes " E5 Mismatch\n"
+refusal_line origin (TooDeep place) = show_place origin place ++ codes " E10 TooDeep\n"

@@ -1,0 +1,52 @@
+-- What a session knows.
+use Rattle.std.specs.Prelude.{ℕ, List, [], ◌∷◌, Bool, false, nat_le, if◌then◌else◌}
+use Rattle.std.specs.FinMap.{FinMap, empty, remove}
+use Rattle.std.specs.Ordering.{nat_cmp}
+use Rattle.lf.specs.Entries.{Entry, IsCanonicalSignature}
+use Rattle.tw_parse.specs.Outlines.{Table}
+use Rattle.tw_print.specs.Names.{Preferences, Scene}
+use Rattle.tw_decl.specs.declared.parameters.Parameters.{Parameters}
+
+-- the entries kept, the newest first; the rows of the operators; for families the names that their variables are shown by; and what the user has set
+pub record View : Type 0 where
+  pub signature : List Entry
+  pub fixities : Table
+  pub names : FinMap nat_cmp Preferences
+  pub parameters : Parameters
+
+-- what is set at first
+abbrev pub first_parameters : Parameters
+first_parameters = record { chatter = 3; implicit = false; steps = 1000000 }
+
+abbrev pub empty_view : View
+empty_view = record { signature = []; fixities = empty; names = empty; parameters = first_parameters }
+
+-- nothing is declared any more; what the user has set stays
+abbrev pub reset_view : View → View
+reset_view v = record { signature = []; fixities = empty; names = empty; parameters = v.parameters }
+
+-- one parameter is set
+abbrev pub with_chatter : View → ℕ → View
+with_chatter v n = record v { parameters = record { chatter = n; implicit = v.parameters.implicit; steps = v.parameters.steps } }
+
+abbrev pub with_implicit : View → Bool → View
+with_implicit v b = record v { parameters = record { chatter = v.parameters.chatter; implicit = b; steps = v.parameters.steps } }
+
+abbrev pub with_steps : View → ℕ → View
+with_steps v n = record v { parameters = record { chatter = v.parameters.chatter; implicit = v.parameters.implicit; steps = n } }
+
+-- what is told of an accepted declaration: nothing where the chatter is below 3
+abbrev pub told : View → List ℕ → List ℕ
+told v lines = if nat_le 3 v.parameters.chatter then lines else []
+
+-- a new entry hides the older ones of its name, and the name is no operator any more
+abbrev pub with_entry : View → Entry → View
+with_entry v e = record v { signature = e ∷ v.signature; fixities = remove v.fixities e.name }
+
+-- what texts depend on
+abbrev pub scene_of : View → Scene
+scene_of v = record { entries = v.signature; rows = v.fixities; names = v.names; implicit = v.parameters.implicit }
+
+-- the signature is canonical LF
+abbrev pub IsSound : View → Type 0
+IsSound v = IsCanonicalSignature v.signature

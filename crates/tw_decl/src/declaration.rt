@@ -1,0 +1,410 @@
+//! One declaration.
+ghost use Rattle.std.specs.Prelude.{◌≡◌, ◌≢◌, ◌≤◌, ◌<◌, ◌-◌, ◌^◌, [], List, ℕ, length, slice_range, Ok, All, IfOk, IfErr, OnErr, MatchResult};
+ghost use Rattle.tw_lexer.specs.Places.{place_of};
+ghost use Rattle.tw_lexer.specs.Tokens.{IsWithin, Lexes, ThroughDot};
+ghost use Rattle.tw_lexer.specs.declared.place.Place.{Place};
+ghost use Rattle.tw_parse.specs.Syntax.{Declaration, prefer, give};
+ghost use Rattle.tw_parse.specs.View.{declaration_of};
+ghost use Rattle.tw_parse.specs.Words.{Lexeme, lexemes};
+ghost use Rattle.tw_signature.specs.View.{entry_of};
+ghost use Rattle.lf.specs.Entries.{signature_of, IsCanonicalEntry};
+ghost use Rattle.tw_decl.specs.View.{View, told};
+ghost use Rattle.tw_decl.specs.Declaration.{Accepts, HasCause, HasCauseFrom, Comes, Completed, Does, entry_line, entry_report, GivesRows, HasObstacle, IsCauseAlone, IsLastCause, IsReadAs, Makes, Prefers};
+ghost use Rattle.tw_decl.specs.Steps.{IsNotCompleted, IsParsed, IsRefusedFor, NamesUnknown, IsTokenCause, is_first, is_over, refusal_of, refused_alone};
+
+use crate::operators::{all_take, first_undeclared, fixity_line, operand_count};
+use crate::preferences::{is_family, preference, preference_line};
+use crate::refusal::Refusal;
+use crate::session::Session;
+use std::alloc::{AllocError, Global};
+use tw_explicit::{ExplicitFault, complete};
+use tw_fixity::{Fix, Name};
+use tw_lexer::{LexFault, Place, Token, TokenKind, Tokens, lex, next_token};
+use tw_parse::{ExtDecl, ExtName, SyntaxFault, parse_decl};
+use tw_print::{ShowEnv, show_entry};
+use tw_signature::Entry;
+
+/// From how much chatter on accepted declarations are reported.
+const REPORTS_FROM: u8 = 3;
+
+/// What an accepted declaration says.
+#[derive(Debug, Drop)]
+pub struct Report {
+    /// Whole lines; none where the chatter is below 3.
+    pub text: Vec<u8>,
+}
+
+/// What comes next in a text of declarations.
+#[derive(Debug, Drop)]
+pub enum Next {
+    /// No declaration is left.
+    End,
+    /// A declaration is made. It reaches up to this byte, whose place is `at`.
+    Done {
+        report: Report,
+        upto: usize,
+        at: Place,
+    },
+}
+
+// The tokens of the declaration that begins here.
+fn tokens_of(alloc: Global, text: &[u8], from: usize, at: Place) -> Result<Tokens, Refusal>
+    requires short { length text.now < 2 ^ 32 - 1 }
+    requires within { from ≤ length text.now }
+    requires place { at ≡ place_of text.now from }
+    ensures tokens { IfOk result (λ tokens. Lexes text.now from (Ok tokens)) }
+    ensures within { IfOk result (λ tokens. All (IsWithin (length text.now)) tokens.list.items × (tokens.upto ≤ length text.now)) }
+    ensures cause { IfErr result (IsTokenCause text.now from) }
+{
+    match lex(alloc, text, from, at) {
+        Ok(tokens) => Ok(tokens),
+        Err(LexFault::Bad(place)) => Err(Refusal::Lex(place)),
+        Err(LexFault::TooMany(place)) => Err(Refusal::TooMany(place)),
+        Err(LexFault::NoMemory) => Err(Refusal::Memory),
+    }
+}
+
+// Whether only the end of the text is left.
+fn is_over(tokens: &[Token]) -> bool
+    ensures { result ≡ is_over tokens.now }
+{
+    match tokens {
+        [first, ..] => first.kind == TokenKind::End,
+        [] => true,
+    }
+}
+
+// What the grammar makes of the tokens.
+fn parsed(
+    alloc: Global,
+    session: &Session,
+    text: &[u8],
+    tokens: &Tokens,
+) -> Result<ExtDecl, SyntaxFault>
+    requires within { All (IsWithin (length text.now)) tokens.now.list.items }
+    requires through_dot { (from : ℕ) × ThroughDot text.now from tokens.now.list.items tokens.now.upto }
+    ensures { IsParsed session.now tokens.now.at (lexemes text.now tokens.now.list.items) result }
+{
+    match parse_decl(alloc, tokens, text, session.fixities()) {
+        Ok(declaration) => Ok(declaration),
+        Err(fault) => Err(fault),
+    }
+}
+
+// A fault of the grammar as a refusal.
+fn refusal_of(fault: SyntaxFault) -> Refusal
+    ensures { result ≡ refusal_of fault }
+{
+    match fault {
+        SyntaxFault::Unsupported(name, place) => Refusal::Unsupported(place, name),
+        SyntaxFault::Nesting(place) => Refusal::Nesting(place),
+        SyntaxFault::Syntax(place) => Refusal::Syntax(place),
+        SyntaxFault::Fixity(place) => Refusal::Fixity(place),
+        SyntaxFault::BadDecl(place) => Refusal::BadDecl(place),
+        SyntaxFault::NoMemory => Refusal::Memory,
+    }
+}
+
+// Whether a fault of the grammar is told before what follows the declaration is looked at.
+fn is_first(fault: &SyntaxFault) -> bool
+    ensures { result ≡ is_first fault.now }
+{
+    !matches!(fault, SyntaxFault::Fixity(_) | SyntaxFault::BadDecl(_))
+}
+
+// The refusal of a declaration with a fault of the grammar, where this token follows it.
+fn refused_alone(fault: SyntaxFault, next: &Token) -> Refusal
+    ensures { result ≡ refused_alone fault next.now }
+{
+    if is_first(&fault) || next.kind == TokenKind::End {
+        refusal_of(fault)
+    } else {
+        Refusal::Syntax(next.at)
+    }
+}
+
+// What is read, where the declaration has to be alone and this token follows it.
+fn alone(parsed: Result<ExtDecl, SyntaxFault>, next: &Token) -> Result<ExtDecl, Refusal>
+    ensures { (v : View) (end : Place) (words : List Lexeme) → IsParsed v end words parsed
+        → MatchResult result (λ d. IsReadAs v words (declaration_of d) × (next.now.kind ≡ TokenKind.End)) (IsCauseAlone v end words next.now) }
+{
+    match parsed {
+        Err(fault) => Err(refused_alone(fault, next)),
+        Ok(_) if next.kind != TokenKind::End => Err(Refusal::Syntax(next.at)),
+        Ok(declaration) => Ok(declaration),
+    }
+}
+
+// A name that isn't declared.
+fn unknown(alloc: Global, name: &ExtName) -> Refusal
+    ensures { NamesUnknown name.now result }
+{
+    match name.name.copy(alloc) {
+        Ok(shown) => Refusal::Unknown(name.at, shown),
+        Err(_) => Refusal::Memory,
+    }
+}
+
+// The refusal of a declaration whose completion has a fault, by its first token.
+fn incomplete(alloc: Global, text: &[u8], first: &Token, fault: ExplicitFault) -> Refusal
+    requires { IsWithin (length text.now) first.now }
+    ensures { IsRefusedFor text.now first.now fault result }
+{
+    match fault {
+        ExplicitFault::Unknown(name, place) => Refusal::Unknown(place, name),
+        ExplicitFault::Unsupported => {
+            match Name::from_bytes(alloc, &text[first.from..first.upto]) {
+                Ok(shown) => Refusal::Unsupported(first.at, shown),
+                Err(_) => Refusal::Memory,
+            }
+        }
+        ExplicitFault::Mismatch => Refusal::Mismatch(first.at),
+        ExplicitFault::TooDeep => Refusal::TooDeep(first.at),
+        ExplicitFault::NoMemory => Refusal::Memory,
+    }
+}
+
+// The line of an entry that is kept.
+fn line_of(alloc: Global, session: &Session, entry: &Entry) -> Result<Vec<u8>, AllocError>
+    requires { IsCanonicalEntry (signature_of session.now.signature) (entry_of entry.now) }
+    ensures { IfOk result (λ line. line.items ≡ entry_line session.now (entry_of entry.now)) }
+{
+    let env = ShowEnv {
+        sig: session.signature(),
+        fixities: session.fixities(),
+        names: session.names(),
+        implicit: session.parameters().implicit,
+    };
+    let mut text = show_entry(alloc, &env, entry)?;
+    text.push(b'\n')?;
+    Ok(text)
+}
+
+// What is reported of an entry that is kept.
+fn report_of(alloc: Global, session: &Session, entry: &Entry) -> Result<Report, AllocError>
+    requires { IsCanonicalEntry (signature_of session.now.signature) (entry_of entry.now) }
+    ensures { IfOk result (λ report. report.text.items ≡ entry_report session.now (entry_of entry.now)) }
+{
+    if session.parameters().chatter < REPORTS_FROM {
+        return Ok(Report {
+            text: Vec::new(alloc),
+        });
+    }
+    let text = line_of(alloc, session, entry)?;
+    Ok(Report { text })
+}
+
+// What is reported of a line.
+fn told(alloc: Global, session: &Session, line: Vec<u8>) -> Report
+    ensures { result.text.items ≡ told session.now line.items }
+{
+    if session.parameters().chatter < REPORTS_FROM {
+        return Report {
+            text: Vec::new(alloc),
+        };
+    }
+    Report { text: line }
+}
+
+// Completes a declaration, and keeps what it declares. After a refusal nothing has changed.
+fn complete_and_keep(
+    alloc: Global,
+    session: &mut Session,
+    text: &[u8],
+    first: &Token,
+    declaration: &ExtDecl,
+) -> Result<Report, Refusal>
+    requires { IsWithin (length text.now) first.now }
+    ensures ok { IfOk result (λ report. Completed session.old (declaration_of declaration.now) report.text.items session.new) }
+    ensures err { OnErr result (session.new ≡ session.old) }
+    ensures cause { IfErr result (IsNotCompleted session.old text.now first.now (declaration_of declaration.now)) }
+{
+    let entry = match complete(alloc, session.signature(), declaration) {
+        Ok(entry) => entry,
+        Err(fault) => return Err(incomplete(alloc, text, first, fault)),
+    };
+    let report = match report_of(alloc, session, &entry) {
+        Ok(report) => report,
+        Err(_) => return Err(Refusal::Memory),
+    };
+    match session.keep(alloc, entry) {
+        Ok(()) => Ok(report),
+        Err(_) => Err(Refusal::Memory),
+    }
+}
+
+// Gives names the row of an operator. After a refusal nothing has changed.
+fn give(
+    alloc: Global,
+    session: &mut Session,
+    fix: Fix,
+    names: &[ExtName],
+    first: Place,
+) -> Result<Report, Refusal>
+    ensures ok { IfOk result (λ report. GivesRows session.old fix names.now report.text.items session.new) }
+    ensures err { OnErr result (session.new ≡ session.old) }
+    ensures cause { IfErr result (HasObstacle session.old (give fix names.now) first []) }
+{
+    if let Some(name) = first_undeclared(session.signature(), names) {
+        return Err(unknown(alloc, name));
+    }
+    if !all_take(session.signature(), operand_count(fix), names) {
+        return Err(Refusal::BadDecl(first));
+    }
+    let report = match fixity_line(alloc, fix, names) {
+        Ok(line) => told(alloc, session, line),
+        Err(_) => return Err(Refusal::Memory),
+    };
+    match session.give_rows(alloc, fix, names) {
+        Ok(()) => Ok(report),
+        Err(_) => Err(Refusal::Memory),
+    }
+}
+
+// Gives a family its preferred names. After a refusal nothing has changed.
+fn prefer(
+    alloc: Global,
+    session: &mut Session,
+    family: &ExtName,
+    upper: &Name,
+    lower: &Option<Name>,
+    first: Place,
+) -> Result<Report, Refusal>
+    ensures ok { IfOk result (λ report. Prefers session.old family.now upper.now lower.now report.text.items session.new) }
+    ensures err { OnErr result (session.new ≡ session.old) }
+    ensures cause { IfErr result (HasObstacle session.old (prefer family.now upper.now lower.now) first []) }
+{
+    let Some(id) = session.signature().lookup(&family.name) else {
+        return Err(unknown(alloc, family));
+    };
+    if !is_family(session.signature(), id) {
+        return Err(Refusal::BadDecl(first));
+    }
+    let report = match preference_line(alloc, &family.name, upper, lower) {
+        Ok(line) => told(alloc, session, line),
+        Err(_) => return Err(Refusal::Memory),
+    };
+    let row = match preference(alloc, upper, lower) {
+        Ok(row) => row,
+        Err(_) => return Err(Refusal::Memory),
+    };
+    match session.prefer(id, row) {
+        Ok(()) => Ok(report),
+        Err(_) => Err(Refusal::Memory),
+    }
+}
+
+// Does what is declared. After a refusal nothing has changed.
+fn do_declared(
+    alloc: Global,
+    session: &mut Session,
+    text: &[u8],
+    first: &Token,
+    declaration: &ExtDecl,
+) -> Result<Report, Refusal>
+    requires { IsWithin (length text.now) first.now }
+    ensures ok { IfOk result (λ report. Does session.old (declaration_of declaration.now) report.text.items session.new) }
+    ensures err { OnErr result (session.new ≡ session.old) }
+    ensures cause { IfErr result (HasObstacle session.old (declaration_of declaration.now) first.now.at (slice_range text.now first.now.from first.now.upto)) }
+{
+    match declaration {
+        ExtDecl::Fixity(fix, names) => give(alloc, session, *fix, names, first.at),
+        ExtDecl::NamePref(family, upper, lower) => {
+            prefer(alloc, session, family, upper, lower, first.at)
+        }
+        ExtDecl::Declare(_, _, _) => {
+            match complete_and_keep(alloc, session, text, first, declaration) {
+                Ok(report) => Ok(report),
+                Err(refusal) => Err(refusal),
+            }
+        }
+        ExtDecl::Define(_, _, _, _) => {
+            match complete_and_keep(alloc, session, text, first, declaration) {
+                Ok(report) => Ok(report),
+                Err(refusal) => Err(refusal),
+            }
+        }
+    }
+}
+
+// Makes the declaration that these tokens are. After a refusal nothing has changed.
+fn make(
+    alloc: Global,
+    session: &mut Session,
+    text: &[u8],
+    tokens: &[Token],
+    declaration: &ExtDecl,
+) -> Result<Report, Refusal>
+    requires some { tokens.now ≢ [] }
+    requires within { All (IsWithin (length text.now)) tokens.now }
+    requires reads { IsReadAs session.old (lexemes text.now tokens.now) (declaration_of declaration.now) }
+    ensures ok { IfOk result (λ report. Makes session.old (lexemes text.now tokens.now) report.text.items session.new) }
+    ensures err { OnErr result (session.new ≡ session.old) }
+    ensures cause { IfErr result (λ refusal. (end : Place) → IsLastCause session.old end (lexemes text.now tokens.now) refusal) }
+{
+    match do_declared(alloc, session, text, &tokens[0], declaration) {
+        Ok(report) => Ok(report),
+        Err(refusal) => Err(refusal),
+    }
+}
+
+/// Makes the declaration that begins at this byte, whose place is given. After a refusal nothing has changed.
+pub fn declare(
+    alloc: Global,
+    session: &mut Session,
+    text: &[u8],
+    from: usize,
+    at: Place,
+) -> Result<Next, Refusal>
+    requires short { length text.now < 2 ^ 32 - 1 }
+    requires within { from ≤ length text.now }
+    requires place { at ≡ place_of text.now from }
+    ensures ok { IfOk result (λ next. Comes session.old text.now from next session.new) }
+    ensures err { OnErr result (session.new ≡ session.old) }
+    ensures cause { IfErr result (λ refusal. HasCauseFrom session.old text.now from refusal) }
+{
+    let tokens = match tokens_of(alloc, text, from, at) {
+        Ok(tokens) => tokens,
+        Err(refusal) => return Err(refusal),
+    };
+    if is_over(&tokens.list) {
+        return Ok(Next::End);
+    }
+    let declaration = match parsed(alloc, session, text, &tokens) {
+        Ok(declaration) => declaration,
+        Err(fault) => return Err(refusal_of(fault)),
+    };
+    match make(alloc, session, text, &tokens.list, &declaration) {
+        Ok(report) => Ok(Next::Done {
+            report,
+            upto: tokens.upto,
+            at: tokens.at,
+        }),
+        Err(refusal) => Err(refusal),
+    }
+}
+
+/// Makes the declaration that is the text, and reports it. No token may follow it. After a refusal nothing has changed.
+pub fn declare_one(alloc: Global, session: &mut Session, text: &[u8]) -> Result<Report, Refusal>
+    requires { length text.now < 2 ^ 32 - 1 }
+    ensures ok { IfOk result (λ report. Accepts session.old text.now report.text.items session.new) }
+    ensures err { OnErr result (session.new ≡ session.old) }
+    ensures cause { IfErr result (λ refusal. HasCause session.old text.now refusal) }
+{
+    let tokens = match tokens_of(alloc, text, 0, Place { line: 1, column: 1 }) {
+        Ok(tokens) => tokens,
+        Err(refusal) => return Err(refusal),
+    };
+    let next = match next_token(text, tokens.upto, tokens.at) {
+        Ok(next) => next,
+        Err(place) => return Err(Refusal::Lex(place)),
+    };
+    let declaration = match alone(parsed(alloc, session, text, &tokens), &next) {
+        Ok(declaration) => declaration,
+        Err(refusal) => return Err(refusal),
+    };
+    match make(alloc, session, text, &tokens.list, &declaration) {
+        Ok(report) => Ok(report),
+        Err(refusal) => Err(refusal),
+    }
+}

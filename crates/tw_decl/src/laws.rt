@@ -1,0 +1,17 @@
+//! Laws of declarations. They have no code.
+ghost use Rattle.tw_decl.specs.Laws.{AcceptingKeepsSound, AcceptingFromKeepsSound, GoodIsAccepted};
+
+/// A text that is accepted keeps the signature canonical.
+pub fn accepting_keeps_sound()
+    ensures { AcceptingKeepsSound }
+{}
+
+/// A declaration that is accepted in a text of several keeps the signature canonical.
+pub fn accepting_from_keeps_sound()
+    ensures { AcceptingFromKeepsSound }
+{}
+
+/// A text that is one explicit, well typed declaration within the limits is refused for want of memory alone.
+pub fn good_is_accepted()
+    ensures { GoodIsAccepted }
+{}

@@ -1,0 +1,19 @@
+//! The session, and one declaration: read, completed, kept and reported.
+#![tactic(auto)]
+
+mod declaration;
+mod laws;
+mod operators;
+mod parameters;
+mod preferences;
+mod refusal;
+mod session;
+
+pub use declaration::{Next, Report, declare, declare_one};
+pub use laws::{accepting_from_keeps_sound, accepting_keeps_sound, good_is_accepted};
+pub use parameters::Parameters;
+pub use refusal::{Refusal, show_refusal};
+pub use session::Session;
+
+#[cfg(test)]
+mod tests;

@@ -1,0 +1,104 @@
+//! Why declarations are refused.
+ghost use Rattle.std.specs.Prelude.{◌≡◌, ◌++◌, codes, IfOk};
+ghost use Rattle.tw_decl.specs.Refusals.{refusal_line, show_place};
+ghost use Rattle.tw_decl.specs.declared.refusal.Refusal.TheVariants.{Memory};
+
+use std::alloc::{AllocError, AllocFailed, Global};
+use tw_fixity::Name;
+use tw_lexer::Place;
+
+/// Why a declaration is refused, and where. Of several causes the first in this order is told, but that a form that is not known
+/// yet and doesn't begin with a keyword is told behind `Unknown`.
+#[derive(Debug, Drop)]
+pub enum Refusal {
+    /// Memory is wanting.
+    Memory,
+    /// No token stands here.
+    Lex(Place),
+    /// The declaration has more than 65,536 tokens, and this is the first one too many.
+    TooMany(Place),
+    /// The declaration is of no form that is known; the place is that of its first token, whose text is shown.
+    Unsupported(Place, Name),
+    /// This bracket is nested too deep.
+    Nesting(Place),
+    /// No declaration begins with the tokens through this one, or it stands behind a declaration that should be alone.
+    Syntax(Place),
+    /// The sequence that begins here has no reading, or more than one.
+    Fixity(Place),
+    /// The arguments of a keyword break its rules.
+    BadDecl(Place),
+    /// This name is neither bound nor declared.
+    Unknown(Place, Name),
+    /// The declaration has no completion that is typed.
+    Mismatch(Place),
+    /// A term deeper than 4,096 is met.
+    TooDeep(Place),
+}
+
+impl From<AllocError> for Refusal {
+    ghost from_gives = { λ _ e. e ≡ Memory };
+
+    fn from(_: AllocError) -> Self {
+        Refusal::Memory
+    }
+}
+
+impl<T: Drop> From<AllocFailed<T>> for Refusal {
+    ghost from_gives = { λ _ e. e ≡ Memory };
+
+    fn from(_: AllocFailed<T>) -> Self {
+        Refusal::Memory
+    }
+}
+
+/// The line of a refusal. The origin is the name of the file that the text came from, or `stdin`. Fails only for want of memory.
+pub fn show_refusal(alloc: Global, refusal: &Refusal, origin: &str) -> Result<Vec<u8>, AllocError>
+    ensures { IfOk result (λ line. line.items ≡ refusal_line origin.now refusal.now) }
+{
+    match refusal {
+        Refusal::Memory => b"E0 Memory\n".to_vec(alloc),
+        Refusal::Lex(place) => place_line(alloc, origin, place, b" E1 Lex\n"),
+        Refusal::TooMany(place) => place_line(alloc, origin, place, b" E8 TooMany\n"),
+        Refusal::Unsupported(place, shown) => {
+            name_line(alloc, origin, place, b" E21 Unsupported ", shown)
+        }
+        Refusal::Nesting(place) => place_line(alloc, origin, place, b" E9 Nesting\n"),
+        Refusal::Syntax(place) => place_line(alloc, origin, place, b" E2 Syntax\n"),
+        Refusal::Fixity(place) => place_line(alloc, origin, place, b" E3 Fixity\n"),
+        Refusal::BadDecl(place) => place_line(alloc, origin, place, b" E22 BadDecl\n"),
+        Refusal::Unknown(place, name) => { name_line(alloc, origin, place, b" E4 Unknown ", name) }
+        Refusal::Mismatch(place) => place_line(alloc, origin, place, b" E5 Mismatch\n"),
+        Refusal::TooDeep(place) => place_line(alloc, origin, place, b" E10 TooDeep\n"),
+    }
+}
+
+// A line that begins with a place.
+fn place_line(
+    alloc: Global,
+    origin: &str,
+    place: &Place,
+    rest: &[u8],
+) -> Result<Vec<u8>, AllocError>
+    ensures { IfOk result (λ line. line.items ≡ show_place origin.now place.now ++ rest.now) }
+{
+    let shown = format!(in alloc; "{origin}:{}:{}", place.line, place.column)?;
+    let mut line = shown.into_bytes();
+    line.extend_from_slice(rest)?;
+    Ok(line)
+}
+
+// A line that ends with a name.
+fn name_line(
+    alloc: Global,
+    origin: &str,
+    place: &Place,
+    words: &[u8],
+    name: &Name,
+) -> Result<Vec<u8>, AllocError>
+    ensures { IfOk result (λ line. line.items ≡ show_place origin.now place.now ++ words.now ++ name.now ++ codes "\n") }
+{
+    let mut line = place_line(alloc, origin, place, words)?;
+    line.extend_from_slice(name.as_bytes())?;
+    line.push(b'\n')?;
+    Ok(line)
+}

@@ -1,0 +1,11 @@
+pub mod Views
+pub mod Scopes
+pub mod Unknowns
+pub mod Spines
+pub mod Gives
+pub mod KindTypes
+pub mod Arguments
+pub mod Forms
+pub mod Order
+pub mod Walks
+pub mod Bodies

@@ -1,0 +1,12 @@
+pub mod Scope
+pub mod Unknown
+pub mod Form
+pub mod Completion
+pub mod Meaning
+pub mod Answer
+pub mod Earliest
+pub mod Shapes
+pub mod Applied
+pub mod Arguments
+pub mod Domains
+pub mod Parts

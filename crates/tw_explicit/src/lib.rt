@@ -1,0 +1,32 @@
+//! Explicit declarations: from what is written to an entry of canonical LF.
+#![tactic(auto)]
+
+#[tactic(auto, using(crate::proofs::Views::written))]
+mod agreement;
+#[tactic(auto, using(crate::proofs::Views::written))]
+mod completion;
+mod fault;
+#[tactic(auto, using(crate::proofs::Forms::forms))]
+mod form;
+mod frames;
+#[tactic(auto, using(tw_terms::proofs::Args::types_and_skeletons))]
+mod heads;
+#[tactic(auto, using(crate::proofs::Views::written))]
+mod meaning;
+#[tactic(auto, using(crate::proofs::Views::written))]
+mod nesting;
+#[tactic(auto, using(crate::proofs::Views::written))]
+mod parts;
+mod scope;
+#[tactic(auto, using(crate::proofs::Views::written))]
+mod shapes;
+#[tactic(auto, using(crate::proofs::Unknowns::unknowns))]
+mod unknown;
+#[tactic(auto, using(tw_kernel::proofs::Weakened::weakened))]
+mod weaken;
+
+pub use completion::complete;
+pub use fault::ExplicitFault;
+
+#[cfg(test)]
+mod tests;

@@ -1,0 +1,25 @@
+-- Laws of readings.
+use Rattle.std.specs.Prelude.{◌≡◌, ℕ, List, [], ◌∷◌, Option, Some, map, ◌⊎◌}
+use Rattle.tw_fixity.specs.declared.table.Fix.{Fix}
+use Rattle.tw_parse.specs.Syntax.{Term}
+use Rattle.tw_parse.specs.Grammar.{Item, atom, sign, ReadsOnce}
+use Rattle.tw_parse.specs.Readings.{sign_in}
+use Rattle.tw_parse.specs.declared.sign.Sign.{Sign}
+use Rattle.tw_parse.specs.declared.sign.Sign.TheVariants.{Separator, Operator}
+
+-- the sign, if it is an operator, has this row
+abbrev pub HasRow : (List ℕ → Option Fix) → Sign → Type 0
+HasRow rows (Separator by) = Unit {0}
+HasRow rows (Operator x at fix) = rows x ≡ Some fix
+
+-- each operator in the items has its row, so that a name has one row
+abbrev pub HaveRows : (List ℕ → Option Fix) → List Item → Type 0
+HaveRows rows [] = Unit {0}
+HaveRows rows (atom M ∷ is) = HaveRows rows is
+HaveRows rows (sign s ∷ is) = HasRow rows s × HaveRows rows is
+
+-- either each sequence with these signs has one reading, whatever its atoms are, or none has
+abbrev pub ReadingsAreDecided : Type 0
+ReadingsAreDecided = (rows : List ℕ → Option Fix) (items : List Item) → HaveRows rows items
+    → ((others : List Item) → map sign_in others ≡ map sign_in items → (M : Term) × ReadsOnce others M)
+    ⊎ ((others : List Item) → map sign_in others ≡ map sign_in items → (M : Term) → ReadsOnce others M → ⊥)

@@ -1,0 +1,13 @@
+pub mod Maps
+pub mod Scenes
+pub mod Writing
+pub mod Typed
+pub mod Counts
+pub mod FirstFree
+pub mod Printing
+pub mod Collecting
+pub mod Places
+pub mod Applications
+pub mod Marking
+pub mod Declared
+pub mod Contexts

@@ -1,0 +1,13 @@
+pub mod Pieces
+pub mod Names
+pub mod Variables
+pub mod Arguments
+pub mod Shown
+pub mod View
+pub mod ShowEnv
+pub mod SceneView
+pub mod Showable
+pub mod Page
+pub mod Marks
+pub mod Places
+pub mod ArgumentView

@@ -1,0 +1,162 @@
+//! The arguments of heads, with the types by which lambdas are shown.
+ghost use Rattle.std.specs.Prelude.{◌≡◌, IfOk, map, option_map};
+ghost use Rattle.lf.specs.Entries.{signature_of, entry as entry_numbered, type_of as type_of_entry, kind_of as kind_of_entry};
+ghost use Rattle.tw_terms.specs.View.{head_of, term_of, args_of, type_of, kind_of};
+ghost use Rattle.tw_print.specs.Arguments as spec;
+ghost use Rattle.tw_print.specs.ArgumentView.{argument_of, any_lambda, lambda_test};
+ghost use Rattle.tw_print.specs.SceneView.{scene_in};
+ghost use Rattle.tw_print.specs.Showable.{Takes};
+
+use crate::scene::Scene;
+use crate::weaken::weaken;
+use std::alloc::{AllocError, Global};
+use tw_hered::instantiate;
+use tw_signature::Body;
+use tw_terms::{ConstId, Context, Head, Kind, Spine, Term, Ty, skeleton};
+
+/// An argument, with its type where it is a lambda.
+#[derive(Drop)]
+pub struct Argument<'a> {
+    pub term: &'a Term,
+    pub ty: Option<Ty>,
+}
+
+/// The arguments of a spine at the type of its head. They have no types unless one of them is a lambda.
+pub fn typed_arguments<'a>(
+    alloc: Global,
+    scene: &Scene,
+    context: &Context,
+    args: &'a [Term],
+    head: Ty,
+) -> Result<Vec<Argument<'a>>, AllocError>
+    requires { Takes (signature_of (scene_in scene.now).entries) context.now (args_of args.now) (type_of head) }
+    ensures { IfOk result (λ xs. map argument_of xs.items ≡ spec.arguments (type_of head) (args_of args.now)) }
+{
+    let mut arguments = Vec::with_capacity(alloc, args.len())?;
+    let mut left = head;
+    for term in args {
+        match left {
+            Ty::Pi(domain, range) => {
+                arguments.push(typed_argument(alloc, term, &domain)?)?;
+                let shape = skeleton(alloc, &domain)?;
+                left = instantiate(alloc, &range, term, &shape)?;
+            }
+            Ty::Atom(_, _) => unreachable!(),
+        }
+    }
+    Ok(arguments)
+}
+
+/// An argument of this type.
+fn typed_argument<'a>(alloc: Global, term: &'a Term, ty: &Ty) -> Result<Argument<'a>, AllocError>
+    ensures { IfOk result (λ a. argument_of a ≡ spec.with_type (term_of term.now) (type_of ty.now)) }
+{
+    match term {
+        Term::Lam(_) => Ok(Argument {
+            term,
+            ty: Some(ty.copy(alloc)?),
+        }),
+        Term::Root(_, _) => Ok(Argument { term, ty: None }),
+    }
+}
+
+/// The arguments of a spine without lambdas.
+pub fn bare_arguments<'a>(alloc: Global, args: &'a [Term]) -> Result<Vec<Argument<'a>>, AllocError>
+    ensures { IfOk result (λ xs. map argument_of xs.items ≡ spec.bare_arguments (args_of args.now)) }
+{
+    let mut arguments = Vec::with_capacity(alloc, args.len())?;
+    for term in args {
+        arguments.push(Argument { term, ty: None })?;
+    }
+    Ok(arguments)
+}
+
+/// Whether one of the arguments is a lambda.
+pub fn has_lambda(args: &[Term]) -> bool
+    ensures { result ≡ any_lambda (args_of args.now) }
+{
+    for term in args {
+        if is_lambda(term) {
+            return true;
+        }
+    }
+    false
+}
+
+fn is_lambda(term: &Term) -> bool
+    ensures { result ≡ lambda_test (term_of term.now) }
+{
+    match term {
+        Term::Lam(_) => true,
+        Term::Root(_, _) => false,
+    }
+}
+
+/// The type of a head, moved into the context. Fails where no context in memory is so long, too.
+pub fn head_type(
+    alloc: Global,
+    scene: &Scene,
+    context: &Context,
+    head: Head,
+) -> Result<Ty, AllocError>
+    ensures { IfOk result (λ a. type_of a ≡ spec.head_type (scene_in scene.now) context.now (head_of head)) }
+{
+    match head {
+        Head::Const(id) => match constant_type(scene, id) {
+            Some(ty) => ty.copy(alloc),
+            None => Err(AllocError),
+        },
+        Head::Var(variable) => match context.get(variable) {
+            Some(ty) => weaken(alloc, ty, variable.checked_add(1).ok_or(AllocError)?),
+            None => Err(AllocError),
+        },
+    }
+}
+
+/// The type of a declared constant.
+fn constant_type<'a>(scene: &Scene<'a>, id: ConstId) -> Option<&'a Ty>
+    ensures { option_map (λ a. type_of a.now) result ≡ type_of_entry (entry_numbered (scene_in scene.now).entries id.0) }
+{
+    match &scene.entry(id)?.body {
+        Body::Constant(ty) => Some(ty),
+        Body::Family(_) | Body::Defined { .. } => None,
+    }
+}
+
+/// The kind of a declared family.
+fn family_kind<'a>(scene: &Scene<'a>, id: ConstId) -> Option<&'a Kind>
+    ensures { option_map (λ k. kind_of k.now) result ≡ kind_of_entry (entry_numbered (scene_in scene.now).entries id.0) }
+{
+    match &scene.entry(id)?.body {
+        Body::Family(kind) => Some(kind),
+        Body::Constant(_) | Body::Defined { .. } => None,
+    }
+}
+
+/// A type that has the quantifiers of a family's kind.
+pub fn family_type(alloc: Global, scene: &Scene, family: ConstId) -> Result<Ty, AllocError>
+    ensures { IfOk result (λ a. type_of a ≡ spec.family_type (scene_in scene.now) family.0) }
+{
+    match family_kind(scene, family) {
+        Some(kind) => kind_as_type(alloc, kind, ConstId(scene.len()?)),
+        None => Err(AllocError),
+    }
+}
+
+fn kind_as_type(alloc: Global, kind: &Kind, target: ConstId) -> Result<Ty, AllocError>
+    ensures { IfOk result (λ a. type_of a ≡ spec.kind_as_type target.0 (kind_of kind.now)) }
+{
+    match kind {
+        Kind::Pi(domain, rest) => {
+            let domain = Box::new(alloc, domain.copy(alloc)?)?;
+            let range = kind_as_type(alloc, rest, target)?;
+            Ok(Ty::Pi(domain, Box::new(alloc, range)?))
+        }
+        Kind::Star => Ok(Ty::Atom(
+            target,
+            Spine {
+                args: Vec::new(alloc),
+            },
+        )),
+    }
+}

@@ -1,0 +1,30 @@
+//! The printed text of terms, types and declarations.
+#![tactic(auto)]
+
+#[tactic(auto, using(tw_terms::proofs::Args::types))]
+mod arguments;
+mod context;
+#[tactic(auto, using(tw_terms::proofs::Args::types))]
+mod declaration;
+mod fresh;
+#[tactic(auto, using(crate::proofs::Counts::counts))]
+mod heads;
+#[tactic(auto, using(tw_terms::proofs::Args::types))]
+mod marks;
+mod names;
+mod page;
+#[tactic(auto, using(tw_terms::proofs::Args::types))]
+mod print;
+#[tactic(auto, using(tw_terms::proofs::Args::types))]
+mod scene;
+mod scope;
+mod show;
+#[tactic(auto, using(tw_kernel::proofs::Weakened::weakened))]
+mod weaken;
+
+pub use names::{Names, Preference};
+pub use show::{ShowEnv, show_decl, show_entry, show_term, show_type};
+
+#[cfg(test)]
+#[tactic(auto, using(tw_terms::proofs::Args::types))]
+mod tests;

@@ -1,0 +1,122 @@
+//! The texts of terms, types and declarations.
+ghost use Rattle.std.specs.Prelude.{◌≡◌, ◌<◌, IfOk, length};
+ghost use Rattle.lf.specs.Entries.{signature_of, BodyIsTyped, IsCanonicalEntry, IsCanonicalSignature};
+ghost use Rattle.lf.specs.Typing.{HasType, IsType, IsContext};
+ghost use Rattle.tw_terms.specs.View.{term_of, type_of};
+ghost use Rattle.tw_signature.specs.View.{entry_of};
+ghost use Rattle.tw_print.specs.Shown.{line_of, declaration_line, scene_after, type_text, term_text};
+ghost use Rattle.tw_print.specs.SceneView.{scene_in, with_newest};
+ghost use Rattle.tw_print.specs.ShowEnv.{scene_of};
+
+use crate::context::page_in;
+use crate::declaration::{nesting_limit, print_declaration};
+use crate::names::Names;
+use crate::page::Page;
+use crate::print::{print_term, print_type};
+use crate::scene::Scene;
+use std::alloc::{AllocError, Global};
+use tw_fixity::FixTable;
+use tw_signature::{Entry, Signature};
+use tw_terms::{ConstId, Context, Term, Ty};
+
+/// What a text depends on beside the value that is shown.
+#[derive(Clone, Copy)]
+pub struct ShowEnv<'a> {
+    pub sig: &'a Signature,
+    pub fixities: &'a FixTable,
+    pub names: &'a Names,
+    /// Whether implicit arguments are shown; operators are then shown as plain heads.
+    pub implicit: bool,
+}
+
+impl<'a> ShowEnv<'a> {
+    /// The scene, where this entry is about to be added.
+    fn scene(self, newest: Option<&'a Entry>) -> Scene<'a>
+        ensures { scene_in result ≡ with_newest (scene_of self.entry) newest.entry }
+    {
+        Scene {
+            signature: self.sig,
+            fixities: self.fixities,
+            names: self.names,
+            implicit: self.implicit,
+            newest,
+        }
+    }
+}
+
+/// The text of a term at its type. Fails only for want of memory.
+pub fn show_term(
+    alloc: Global,
+    env: &ShowEnv,
+    context: &Context,
+    term: &Term,
+    ty: &Ty,
+) -> Result<Vec<u8>, AllocError>
+    requires context { IsContext (signature_of env.now.sig.now) context.now }
+    requires ty { IsType (signature_of env.now.sig.now) context.now (type_of ty.now) }
+    requires term { HasType (signature_of env.now.sig.now) context.now (term_of term.now) (type_of ty.now) }
+    ensures { IfOk result (λ t. t.items ≡ term_text (scene_of env.now) context.now (term_of term.now) (type_of ty.now)) }
+{
+    env.sig.is_canonical();
+    let scene = env.scene(None);
+    let mut page = page_in(alloc, &scene, context)?;
+    print_term(alloc, &scene, &mut page, term, Some(ty), nesting_limit())?;
+    Ok(page.out)
+}
+
+/// The text of a type. Fails only for want of memory.
+pub fn show_type(
+    alloc: Global,
+    env: &ShowEnv,
+    context: &Context,
+    ty: &Ty,
+) -> Result<Vec<u8>, AllocError>
+    requires context { IsContext (signature_of env.now.sig.now) context.now }
+    requires ty { IsType (signature_of env.now.sig.now) context.now (type_of ty.now) }
+    ensures { IfOk result (λ t. t.items ≡ type_text (scene_of env.now) context.now (type_of ty.now)) }
+{
+    env.sig.is_canonical();
+    let scene = env.scene(None);
+    let mut page = page_in(alloc, &scene, context)?;
+    print_type(alloc, &scene, &mut page, ty, nesting_limit())?;
+    Ok(page.out)
+}
+
+/// The line of a declared entry, without a line feed. Fails only for want of memory.
+pub fn show_decl(alloc: Global, env: &ShowEnv, id: ConstId) -> Result<Vec<u8>, AllocError>
+    requires { id.0 < length env.now.sig.now }
+    ensures { IfOk result (λ t. t.items ≡ line_of (scene_of env.now) id.0) }
+{
+    env.sig.is_canonical();
+    let scene = env.scene(None);
+    match env.sig.entry(id) {
+        Some(entry) => line(alloc, &scene, entry),
+        None => unreachable!(),
+    }
+}
+
+/// The line of an entry that is about to be added, as `show_decl` gives it once the entry is added and the row of its name has left
+/// the table of operators. What is named `_` isn't added, and its line is that over the signature as it is. Fails only for want of memory.
+pub fn show_entry(alloc: Global, env: &ShowEnv, entry: &Entry) -> Result<Vec<u8>, AllocError>
+    requires { IsCanonicalEntry (signature_of env.now.sig.now) (entry_of entry.now) }
+    ensures { IfOk result (λ t. t.items ≡ declaration_line (scene_after (scene_of env.now) (entry_of entry.now)) (entry_of entry.now)) }
+{
+    env.sig.is_canonical();
+    if entry.name.as_bytes() == b"_".as_slice() {
+        let scene = env.scene(None);
+        return line(alloc, &scene, entry);
+    }
+    let scene = env.scene(Some(entry));
+    line(alloc, &scene, entry)
+}
+
+/// The line of an entry in a scene.
+fn line(alloc: Global, scene: &Scene, entry: &Entry) -> Result<Vec<u8>, AllocError>
+    requires canonical { IsCanonicalSignature (scene_in scene.now).entries }
+    requires typed { BodyIsTyped (signature_of (scene_in scene.now).entries) (entry_of entry.now).body }
+    ensures { IfOk result (λ t. t.items ≡ declaration_line (scene_in scene.now) (entry_of entry.now)) }
+{
+    let mut page = Page::new(alloc);
+    print_declaration(alloc, scene, &mut page, entry)?;
+    Ok(page.out)
+}

@@ -1,0 +1,49 @@
+-- What the calls that load files and show declarations come to. The proofs of the loop need these; the transcript theorem doesn't speak of them.
+use Rattle.std.specs.Prelude.{◌≡◌, ◌⊎◌, ℕ, ◌≤◌, ◌+◌, List, [], ◌++◌, length}
+use Rattle.std.specs.declared.option.Option.{Option}
+use Rattle.std.specs.declared.result.Result.{Result}
+use Rattle.tw_decl.specs.Refusals.{refusal_line}
+use Rattle.tw_decl.specs.View.{View}
+use Rattle.tw_decl.specs.declared.refusal.Refusal.{Refusal}
+use Rattle.tw_lexer.specs.Places.{place_of}
+use Rattle.tw_lexer.specs.declared.place.Place.{Place}
+use Rattle.tw_ports.specs.Files.{Held}
+use Rattle.tw_ports.specs.Ports.{Gains}
+use Rattle.tw_server.specs.Loading.{WantsMemory, Declares, Opens, LoadsFile, ShowsEntry, ShowsSignature}
+use Rattle.tw_server.specs.Machine.{Answers}
+use Rattle.tw_server.specs.Replies.{refused, no_memory, opening}
+use Rattle.tw_server.specs.Saying.{Says}
+use Rattle.tw_server.specs.State.{State}
+use Rattle.tw_server.specs.Words as words
+use Rattle.tw_server.specs.Written.{GainsReply}
+
+-- a refusal's line was written, or that memory is wanting for it, with the end of a file
+abbrev pub IsRefusedWith : {E : Type 0} → Refusal → List ℕ → List ℕ → Option (List ℕ) → Option (List ℕ) → Result (Unit {0}) E → Type 0
+IsRefusedWith refusal name closing old new result = (shown : List ℕ) × ((shown ≡ refusal_line name refusal) ⊎ (shown ≡ no_memory)) × GainsReply old new (shown ++ (closing ++ refused)) result
+
+-- a file was opened, and some reply to it written
+abbrev pub IsOpened : {E : Type 0} → View → List ℕ → List ℕ → Option (List ℕ) → Option (List ℕ) → View → Result (Unit {0}) E → Type 0
+IsOpened v name text old new w result = (reply : List ℕ) × (WantsMemory v reply w ⊎ Opens v name text reply w) × GainsReply old new reply result
+
+-- a file was loaded, and some reply to it written
+abbrev pub IsLoaded : {E : Type 0} → Option Held → List ℕ → State → Option (List ℕ) → Option (List ℕ) → State → Result (Unit {0}) E → Type 0
+IsLoaded held name v old new w result = (reply : List ℕ) × LoadsFile held name v reply w × GainsReply old new reply result
+
+-- a declaration was shown, or all of them
+abbrev pub IsShown : {E : Type 0} → View → List ℕ → Option (List ℕ) → Option (List ℕ) → Result (Unit {0}) E → Type 0
+IsShown v name old new result = (reply : List ℕ) × ShowsEntry v name reply v × GainsReply old new reply result
+
+abbrev pub AreShown : {E : Type 0} → View → Option (List ℕ) → Option (List ℕ) → Result (Unit {0}) E → Type 0
+AreShown v old new result = (reply : List ℕ) × ShowsSignature v reply v × GainsReply old new reply result
+
+-- the declarations of a file so far, each of which was reported
+pub record LoadedSoFar (v : View) (name text : List ℕ) (old new : Option (List ℕ)) (w : View) (from : ℕ) (at : Place) : Type 0 where
+  pub lines : List ℕ
+  pub makes : Declares text v 0 lines w from
+  pub gains : Gains old new (opening name ++ lines)
+  pub within : from ≤ length text
+  pub place : at ≡ place_of text from
+
+-- a command of one line was carried out, and some reply to it written
+abbrev pub IsAnswered : {E : Type 0} → Option Held → State → words.Said → Option (List ℕ) → Option (List ℕ) → State → Result (Unit {0}) E → Type 0
+IsAnswered held v said old new w result = (reply : List ℕ) × Answers held v said [] reply w × GainsReply old new reply result
