@@ -23,6 +23,9 @@ use std::alloc::{AllocError, Global};
 use tw_fixity::{Fix, FixTable, Name};
 use tw_lexer::{Place, Tokens};
 
+/// The most operators of a declaration. Each may nest what is read by one level, and dropping that nests as many calls; past this memory counts as used up.
+const MOST_OPERATORS: usize = 16_384;
+
 // The fault of a wrong token that stands in no term.
 fn wrong(source: &Source<'_>, number: usize) -> SyntaxFault
     requires { first_word (lexemes_from source.now 0) ≢ Keyword → StopsAt source.now.fixities.now source.now.end (lexemes_from source.now 0) (first_place source.now.end (lexemes_from source.now number)) }
@@ -273,6 +276,32 @@ fn known_form(alloc: Global, source: &Source<'_>) -> Result<Option<Form>, Syntax
     }
 }
 
+// Whether the tokens have more operators than a declaration may have.
+fn has_many_operators(source: &Source<'_>) -> bool {
+    let mut count = 0;
+    for number in 0..source.tokens.len() {
+        if source.fixities.get_bytes(source.bytes(number)).is_some() {
+            if count >= MOST_OPERATORS {
+                return true;
+            }
+            count += 1;
+        }
+    }
+    false
+}
+
+// The form that the first token asks for, where the tokens have no more operators than they may.
+fn allowed_form(alloc: Global, source: &Source<'_>) -> Result<Option<Form>, SyntaxFault>
+    ensures form { IfOk result (FormFits source.now) }
+    ensures known { OnOk result (IsKnown (lexemes_from source.now 0)) }
+    ensures fault { IfErr result (FaultStands source.now.fixities.now source.now.end (lexemes_from source.now 0)) }
+{
+    if has_many_operators(source) {
+        return Err(SyntaxFault::NoMemory);
+    }
+    known_form(alloc, source)
+}
+
 /// Reads a declaration from the tokens that `lex` gave for this text: the one reading that the operators of the table give it, or the cause why there is none.
 pub fn parse_decl(
     alloc: Global,
@@ -293,7 +322,7 @@ pub fn parse_decl(
         end: tokens.at,
         fixities,
     };
-    let form = known_form(alloc, &source)?;
+    let form = allowed_form(alloc, &source)?;
     if let Some(place) = too_deep(alloc, &source)? {
         return Err(SyntaxFault::Nesting(place));
     }
