@@ -8,33 +8,20 @@ declaration of many tokens. Each is run at sizes that grow fourfold; where the r
 input does. The time and the memory of an empty input are taken off.
 """
 import os
-import resource
-import subprocess
 import sys
-import tempfile
-import time
+
+from running import spent
 
 HERE = os.path.dirname(os.path.abspath(__file__))
-PROGRAM = sys.argv[1] if len(sys.argv) > 1 else os.path.join(HERE, "..", "twelf")
+PROGRAM = os.path.abspath(sys.argv[1]) if len(sys.argv) > 1 else os.path.join(HERE, "..", "twelf")
 
 
-def spent(given, declarations):
-    with tempfile.TemporaryFile() as source, tempfile.TemporaryFile() as sink:
-        source.write(given)
-        source.seek(0)
-        begun = time.perf_counter()
-        child = os.fork()
-        if child == 0:
-            os.dup2(source.fileno(), 0)
-            os.dup2(sink.fileno(), 1)
-            os.execv(PROGRAM, [PROGRAM])
-        _, status, used = os.wait4(child, 0)
-        seconds = time.perf_counter() - begun
-        sink.seek(0)
-        accepted = sink.read().count(b"%% OK %%\n") - 1
-    if status != 0 or accepted != declarations:
-        sys.exit(f"status {status}, {accepted} of {declarations} accepted")
-    return seconds, used.ru_maxrss / 1024
+def measured(given, declarations):
+    seconds, memory, told = spent(PROGRAM, [], given)
+    accepted = told.count(b"%% OK %%\n") - 1
+    if accepted != declarations:
+        sys.exit(f"{accepted} of {declarations} accepted")
+    return seconds, memory
 
 
 def read(declarations):
@@ -65,15 +52,15 @@ def table(title, rows):
     print(f"{'size':>8} {'bytes':>9} {'seconds':>9} {'declarations/s':>15} {'MiB':>7} {'ratio of times':>15}")
     last = None
     for size, given, count in rows:
-        seconds, memory = min(spent(given, count) for _ in range(3))
+        seconds, memory = min(measured(given, count) for _ in range(3))
         seconds = max(seconds - EMPTY[0], 1e-6)
         ratio = f"{seconds / last:15.2f}" if last else ""
         print(f"{size:>8} {len(given):>9} {seconds:9.4f} {count / seconds:15,.0f} {max(memory - EMPTY[1], 0):7.1f} {ratio}")
         last = seconds
 
 
-spent(b"", 0)  # builds the program where it isn't built yet
-EMPTY = spent(b"", 0)
+measured(b"", 0)  # builds the program where it isn't built yet
+EMPTY = measured(b"", 0)
 print(f"an empty input: {EMPTY[0]:.4f} seconds, {EMPTY[1]:.1f} MiB")
 SIZES = (1000, 4000, 16000)
 table("a chain of families", [(n, chain(n), n) for n in SIZES])

@@ -9,7 +9,8 @@ The file has COUNT declarations: four of vectors, and constants over them. It is
 import os
 import sys
 import tempfile
-import time
+
+from running import spent
 
 HERE = os.path.dirname(os.path.abspath(__file__))
 PROGRAM = os.path.abspath(sys.argv[1]) if len(sys.argv) > 1 else os.path.join(HERE, "..", "twelf")
@@ -18,34 +19,14 @@ COUNT = int(sys.argv[2]) if len(sys.argv) > 2 else 10000
 VECTORS = ["nat : type.", "z : nat.", "s : nat -> nat.", "vec : nat -> type."]
 
 
-def spent(words, given, folder):
-    with tempfile.TemporaryFile() as source, tempfile.TemporaryFile() as sink:
-        source.write(given)
-        source.seek(0)
-        begun = time.perf_counter()
-        child = os.fork()
-        if child == 0:
-            os.chdir(folder)
-            os.dup2(source.fileno(), 0)
-            os.dup2(sink.fileno(), 1)
-            os.execv(PROGRAM, [PROGRAM] + words)
-        _, status, used = os.wait4(child, 0)
-        seconds = time.perf_counter() - begun
-        sink.seek(0)
-        told = sink.read()
-    if status != 0:
-        sys.exit(f"status {status}")
-    return seconds, used.ru_maxrss / 1024, told
-
-
 def main():
     lines = VECTORS + [f"v{i} : {{n:nat}} vec n -> vec (s n) -> vec (s (s n))." for i in range(COUNT - len(VECTORS))]
     with tempfile.TemporaryDirectory() as folder:
         with open(os.path.join(folder, "wide.elf"), "w") as file:
             file.write("\n".join(lines) + "\n")
-        nothing, base, _ = spent([], b"", folder)
-        loading, held, told = spent(["wide.elf"], b"", folder)
-        both, shown, _ = spent(["wide.elf"], b"Print.sgn\n", folder)
+        nothing, base, _ = spent(PROGRAM, [], b"", folder)
+        loading, held, told = spent(PROGRAM, ["wide.elf"], b"", folder)
+        both, shown, _ = spent(PROGRAM, ["wide.elf"], b"Print.sgn\n", folder)
     reports = told.count(b"\n") - 5
     if reports != COUNT:
         sys.exit(f"{reports} of {COUNT} declarations were reported:\n{told[-300:].decode()}")

@@ -1,0 +1,26 @@
+"""Runs the program once on a given input, and says how long that took, how much memory, and what was written."""
+import os
+import sys
+import tempfile
+import time
+
+
+def spent(program, words, given, folder="."):
+    """The seconds, the peak of memory in MiB and the bytes written by one run in this folder; the exit code must be 0."""
+    with tempfile.TemporaryFile() as source, tempfile.TemporaryFile() as sink:
+        source.write(given)
+        source.seek(0)
+        begun = time.perf_counter()
+        child = os.fork()
+        if child == 0:
+            os.chdir(folder)
+            os.dup2(source.fileno(), 0)
+            os.dup2(sink.fileno(), 1)
+            os.execv(program, [program] + words)
+        _, status, used = os.wait4(child, 0)
+        seconds = time.perf_counter() - begun
+        sink.seek(0)
+        told = sink.read()
+    if status != 0:
+        sys.exit(f"status {status}")
+    return seconds, used.ru_maxrss / 1024, told
