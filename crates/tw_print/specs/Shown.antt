@@ -123,9 +123,13 @@ module _ (p : Parts) (s : Scene) where
   type_layout G ns (pi A B) = let x = quantifier_name s ns (occurs_in_type 0 B) (lower_base s A) in quantifier p s G ns x A ++ p.type (A ∷ G) (x ∷ ns) B
   type_layout G ns (atom a S) = atom_pieces p s G ns a S
 
--- What nests no deeper than the levels; deeper parts would be left out.
+-- What nests deeper than the levels has no text: 256 is no byte, so no bytes are equal to this.
+abbrev pub no_text : List Piece
+no_text = token (256 ∷ []) ∷ []
+
+-- What nests no deeper than the levels.
 abbrev pub parts : Scene → ℕ → Parts
-parts s zero = record { term = λ G ns M t. []; type = λ G ns A. [] }
+parts s zero = record { term = λ G ns M t. no_text; type = λ G ns A. no_text }
 parts s (suc n) = record { term = term_layout (parts s n) s; type = type_layout (parts s n) s }
 
 -- How deep the parts of a shown text nest, at most. Twice the depth of an entry, for lambdas whose types are as deep.
@@ -153,12 +157,12 @@ module _ (s : Scene) (implicit : ℕ) (hints : List (Option (List ℕ))) where
   leading_name ns occurring k A = quantifier_name s ns occurring (leading_base s implicit hints k A)
 
   abbrev pub leading_type : ℕ → ℕ → List LfType → Scope → LfType → List Piece
-  leading_type zero k G ns A = []
+  leading_type zero k G ns A = no_text
   leading_type (suc n) k G ns (pi A B) = let x = leading_name ns (occurs_in_type 0 B) k A in quantifier (parts s n) s G ns x A ++ leading_type n (suc k) (A ∷ G) (x ∷ ns) B
   leading_type (suc n) k G ns (atom a S) = atom_pieces (parts s n) s G ns a S
 
   abbrev pub leading_kind : ℕ → ℕ → List LfType → Scope → Kind → List Piece
-  leading_kind zero k G ns K = []
+  leading_kind zero k G ns K = no_text
   leading_kind (suc n) k G ns (kind_pi A K) = let x = leading_name ns (occurs_in_kind 0 K) k A in quantifier (parts s n) s G ns x A ++ leading_kind n (suc k) (A ∷ G) (x ∷ ns) K
   leading_kind (suc n) k G ns star = token (codes "type") ∷ []
 
