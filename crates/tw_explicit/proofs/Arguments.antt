@@ -6,7 +6,8 @@ use Rattle.lf.specs.Typing.{HeadHasType, instantiate_type, instantiate_kind, Spi
 use Rattle.tw_explicit.specs.Arguments.{ArgumentsGive, as_type}
 use Rattle.tw_explicit.specs.Completion.{then, SpineGives, FamilyGives}
 use Rattle.tw_explicit.specs.Meaning.{both, Applied, alone, applied_to, meant_term, meant_applied}
-use Rattle.tw_explicit.specs.Scope.{Names, named}
+use Rattle.tw_scope.specs.Names.{Names}
+use Rattle.tw_explicit.specs.Scope.{named}
 use Rattle.tw_parse.specs.Syntax.{Term, identifier, application}
 use Rattle.tw_explicit.proofs.Gives.{term_typed}
 use Rattle.tw_explicit.proofs.KindTypes.{instantiated}

@@ -9,7 +9,8 @@ use Rattle.tw_kernel.proofs.Roots.{deep_type, deep_kind}
 use Rattle.tw_explicit.specs.Answer.{ends_in_type}
 use Rattle.tw_explicit.specs.Completion.{TypeGives, KindGives, BodyGiven, hints}
 use Rattle.tw_explicit.specs.Meaning.{meant_type, meant_kind, ReachesDeep}
-use Rattle.tw_explicit.specs.Scope.{Names, binder_name}
+use Rattle.tw_scope.specs.Names.{Names}
+use Rattle.tw_explicit.specs.Scope.{binder_name}
 use Rattle.tw_parse.specs.Syntax.{Term, identifier, star, arrow, pi, application}
 use Rattle.tw_explicit.proofs.Gives.{type_meant, kind_meant, type_typed, kind_typed}
 

@@ -5,7 +5,7 @@ use Rattle.tw_parse.specs.Syntax.{Term, application}
 use Rattle.tw_parse.specs.View.{term_of}
 use Rattle.tw_parse.specs.declared.term.ExtTerm.{ExtTerm}
 use Rattle.tw_explicit.specs.Form.{Shape, shape_behind, shape_left, is_term_form}
-use Rattle.tw_explicit.specs.Scope.{Names}
+use Rattle.tw_scope.specs.Names.{Names}
 use Rattle.tw_explicit.proofs.Views.{written}
 
 abbrev pub written_terms : List (Bor ExtTerm) → List Term

@@ -5,7 +5,8 @@ use Rattle.lf.specs.Syntax.{Head, constant, Term as LfTerm, Spine, lambda as lf_
 use Rattle.lf.specs.Typing.{HeadHasType, HasType, SpineType, SpineFitsKind, IsType, IsKind}
 use Rattle.tw_explicit.specs.Completion.{then, TermGives, SpineGives, FamilyGives, TypeGives, DomainGives, KindGives}
 use Rattle.tw_explicit.specs.Meaning.{both, alone, applied_to, as_root, atom_of, meant_term, meant_applied, meant_type, meant_domain, meant_kind}
-use Rattle.tw_explicit.specs.Scope.{Names, binder_name}
+use Rattle.tw_scope.specs.Names.{Names}
+use Rattle.tw_explicit.specs.Scope.{binder_name}
 use Rattle.tw_parse.specs.Syntax.{Term, Domain, identifier, star, arrow, pi, lambda, application, untyped, typed}
 use Rattle.tw_explicit.proofs.Spines.{spine_push}
 

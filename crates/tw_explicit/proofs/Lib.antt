@@ -1,5 +1,4 @@
 pub mod Views
-pub mod Scopes
 pub mod Unknowns
 pub mod Spines
 pub mod Gives

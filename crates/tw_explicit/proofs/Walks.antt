@@ -13,7 +13,8 @@ use Rattle.tw_explicit.specs.Arguments.{ArgumentsGive, as_type}
 use Rattle.tw_explicit.specs.Completion.{then, TermGives, SpineGives, FamilyGives, TypeGives, KindGives}
 use Rattle.tw_explicit.specs.Meaning.{both, Applied, as_root, atom_of, meant_term, meant_applied, meant_type, meant_kind}
 use Rattle.tw_explicit.specs.Parts.{IsBinder, IsNoBinder, IsLambda, IsNoLambda, IsApplication, IsNoApplication}
-use Rattle.tw_explicit.specs.Scope.{Names, binder_name, named}
+use Rattle.tw_scope.specs.Names.{Names}
+use Rattle.tw_explicit.specs.Scope.{binder_name, named}
 use Rattle.tw_parse.specs.Syntax.{Term, identifier, star, arrow, pi, lambda, application, untyped, typed}
 use Rattle.tw_explicit.proofs.Arguments.{alone_is, application_meant, arguments_typed, spine_from_arguments, arguments_from_spine, arguments_from_family, family_from_arguments}
 use Rattle.tw_explicit.proofs.KindTypes.{first_of_declared, kind_is_type, spine_of_kind, as_type_is_atom}

@@ -3,7 +3,7 @@ use Rattle.std.specs.Prelude.{◌≡◌, zero, List}
 use Rattle.lf.specs.Entries.{Entry}
 use Rattle.lf.specs.Syntax.{Spine, nil, LfType, pi as lf_pi, atom, Kind, kind_pi, star as lf_star}
 use Rattle.tw_explicit.specs.Completion.{TermGives, TakesArgument}
-use Rattle.tw_explicit.specs.Scope.{Names}
+use Rattle.tw_scope.specs.Names.{Names}
 use Rattle.tw_parse.specs.Syntax.{Term, identifier, application}
 
 -- from the type A on they give a spine, and this type is left

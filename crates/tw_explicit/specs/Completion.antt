@@ -4,7 +4,8 @@ use Rattle.std.specs.Prelude.{◌≡◌, ℕ, zero, List, [], ◌∷◌, Option,
 use Rattle.lf.specs.Entries.{Entry, Body, declare_family, declare_constant, declare_definition, signature_of}
 use Rattle.lf.specs.Syntax.{Head, constant, Term as LfTerm, Spine, lambda as lf_lambda, root, nil, app, LfType, pi as lf_pi, atom, Kind, kind_pi, star as lf_star}
 use Rattle.lf.specs.Typing.{HeadHasType, instantiate_type, instantiate_kind}
-use Rattle.tw_explicit.specs.Scope.{Names, binder_name, named}
+use Rattle.tw_scope.specs.Names.{Names}
+use Rattle.tw_explicit.specs.Scope.{binder_name, named}
 use Rattle.tw_parse.specs.Syntax.{Term, Domain, identifier, star, arrow, pi, lambda, application, untyped, typed, Declaration, declare, define, prefer, give}
 
 -- one argument more, behind the others

@@ -2,7 +2,8 @@
 use Rattle.std.specs.Prelude.{zero, List, [], ◌∷◌, Bool, true, false, ◌&&◌, Option, None, Some, slice_get, if◌then◌else◌}
 use Rattle.lf.specs.Entries.{Entry, Body, declare_family, declare_constant, declare_definition, entry}
 use Rattle.lf.specs.Syntax.{Head, constant, variable, metavariable, Skeleton, base, arrow as shape_arrow, LfType, pi as lf_pi, atom, Kind, kind_pi, star as lf_star}
-use Rattle.tw_explicit.specs.Scope.{Names, binder_name, named}
+use Rattle.tw_scope.specs.Names.{Names}
+use Rattle.tw_explicit.specs.Scope.{binder_name, named}
 use Rattle.tw_parse.specs.Syntax.{Term, Domain, identifier, hole, star, arrow, pi, lambda, application, ascription, untyped, typed, Declaration, declare, define, prefer, give}
 
 -- The shape of a type is its skeleton with all families taken alike.

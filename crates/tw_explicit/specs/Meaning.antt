@@ -6,7 +6,8 @@ use Rattle.lf.specs.Depth.{depth_limit}
 use Rattle.lf.specs.Entries.{Entry, signature_of}
 use Rattle.lf.specs.Syntax.{Head, constant, variable, metavariable, Term as LfTerm, Spine, lambda as lf_lambda, root, nil, LfType, pi as lf_pi, atom, Kind, kind_pi, star as lf_star}
 use Rattle.tw_explicit.specs.Completion.{then}
-use Rattle.tw_explicit.specs.Scope.{Names, binder_name, named}
+use Rattle.tw_scope.specs.Names.{Names}
+use Rattle.tw_explicit.specs.Scope.{binder_name, named}
 use Rattle.tw_parse.specs.Syntax.{Term, Domain, identifier, hole, star, arrow, pi, lambda, application, ascription, untyped, typed, Declaration, declare, define, prefer, give}
 
 -- two values, if there are both

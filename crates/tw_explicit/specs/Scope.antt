@@ -4,21 +4,12 @@ use Rattle.std.specs.Option.{option_map}
 use Rattle.std.specs.Str.{bytes_eq}
 use Rattle.lf.specs.Entries.{Entry}
 use Rattle.lf.specs.Syntax.{Head, constant, variable}
+use Rattle.tw_scope.specs.Names.{Names, variable_of}
 use Rattle.tw_signature.specs.Names.{number_of}
-
--- the names of the variables in scope, the innermost first; a variable may have none
-abbrev pub Names : Type 0
-Names = List (Option (List ℕ))
 
 -- the name that a binder gives to its variable; `_` gives none
 abbrev pub binder_name : List ℕ → Option (List ℕ)
 binder_name x = if bytes_eq x (codes "_") then None else Some x
-
--- the innermost variable of a name
-abbrev pub variable_of : Names → List ℕ → Option ℕ
-variable_of [] x = None
-variable_of (None ∷ N) x = option_map suc (variable_of N x)
-variable_of (Some y ∷ N) x = if bytes_eq y x then Some zero else option_map suc (variable_of N x)
 
 -- a variable before a constant
 abbrev pub head_named : Option ℕ → Option ℕ → Option Head

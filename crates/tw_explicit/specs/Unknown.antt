@@ -2,7 +2,8 @@
 use Rattle.std.specs.Prelude.{◌≡◌, ℕ, List, [], ◌∷◌, ◌++◌, Bool, true, false, ◌==◌, ◌&&◌, ◌||◌, Option, None, Some, nat_lt, nat_le, if◌then◌else◌, ◌⊎◌}
 use Rattle.lf.specs.Entries.{Entry}
 use Rattle.lf.specs.Syntax.{Head}
-use Rattle.tw_explicit.specs.Scope.{Names, binder_name, named}
+use Rattle.tw_scope.specs.Names.{Names}
+use Rattle.tw_explicit.specs.Scope.{binder_name, named}
 use Rattle.tw_explicit.specs.declared.unknown.Mention.{Mention}
 use Rattle.tw_lexer.specs.declared.place.Place.{Place}
 use Rattle.tw_parse.specs.Syntax.{Term, Domain, identifier, hole, star, arrow, pi, lambda, application, ascription, untyped, typed, Declaration, declare, define, prefer, give}

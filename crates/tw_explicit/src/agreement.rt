@@ -13,10 +13,10 @@ use crate::frames::nested;
 use crate::heads::{as_type, family_kind, head_type};
 use crate::meaning::meant_type;
 use crate::parts::{Binder, application, lambda, last_argument, quantifier};
-use crate::scope::Scope;
 use std::alloc::{AllocError, Global};
 use tw_hered::instantiate;
 use tw_parse::ExtTerm;
+use tw_scope::Scope;
 use tw_signature::Signature;
 use tw_terms::{Context, Kind, Term, Ty, skeleton};
 

@@ -15,12 +15,13 @@ use crate::form::is_type_form;
 use crate::frames::FRAMES;
 use crate::meaning::{meant_kind, meant_type};
 use crate::nesting::deepest;
-use crate::scope::{Scope, binder_name};
+use crate::scope::binder_name;
 use crate::unknown::{Mention, first_unknown};
 use std::alloc::{AllocError, Global};
 use tw_fixity::Name;
 use tw_kernel::{Verdict, check_kind, check_type};
 use tw_parse::{ExtDecl, ExtTerm};
+use tw_scope::Scope;
 use tw_signature::{Body, Entry, Signature};
 use tw_terms::Context;
 

@@ -8,11 +8,12 @@ ghost use Rattle.tw_explicit.specs.Shapes.{AsksForNone, shape_of, shapes_of};
 ghost use Rattle.tw_explicit.specs.Scope.{named};
 
 use crate::frames::nested;
-use crate::scope::{Scope, binder_name, named};
+use crate::scope::{binder_name, named};
 use crate::shapes::Shape;
 use std::alloc::{AllocError, Global};
 use tw_fixity::Name;
 use tw_parse::ExtTerm;
+use tw_scope::Scope;
 use tw_signature::{Body, Signature};
 use tw_terms::Head;
 

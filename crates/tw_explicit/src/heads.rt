@@ -6,10 +6,10 @@ ghost use Rattle.lf.specs.Typing.{HeadHasType};
 ghost use Rattle.tw_terms.specs.View.{head_of, type_of, kind_of};
 ghost use Rattle.tw_explicit.specs.Arguments.{as_type};
 
-use crate::weaken::{one_more, weaken};
 use std::alloc::{AllocError, Global};
 use tw_signature::{Body, Signature};
-use tw_terms::{ConstId, Context, Head, Kind, Spine, Ty};
+use tw_terms::numbers::one_more;
+use tw_terms::{ConstId, Context, Head, Kind, Spine, Ty, weaken};
 
 /// The type of a declared constant. A definition has none.
 fn constant_type(signature: &Signature, id: ConstId) -> Option<&Ty>

@@ -22,8 +22,6 @@ mod scope;
 mod shapes;
 #[tactic(auto, using(crate::proofs::Unknowns::unknowns))]
 mod unknown;
-#[tactic(auto, using(tw_kernel::proofs::Weakened::weakened))]
-mod weaken;
 
 pub use completion::complete;
 pub use fault::ExplicitFault;

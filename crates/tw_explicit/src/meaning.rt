@@ -7,9 +7,10 @@ ghost use Rattle.tw_explicit.specs.Meaning.{both, alone, applied_to, as_root, at
 ghost use Rattle.lf.specs.Syntax.{lambda, pi, kind_pi};
 
 use crate::frames::nested;
-use crate::scope::{Scope, binder_name, named};
+use crate::scope::{binder_name, named};
 use std::alloc::{AllocError, Global};
 use tw_parse::ExtTerm;
+use tw_scope::Scope;
 use tw_signature::Signature;
 use tw_terms::{Head, Kind, Spine, Term, Ty};
 

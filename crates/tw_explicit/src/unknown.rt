@@ -7,11 +7,12 @@ ghost use Rattle.tw_explicit.specs.Unknown.{is_uppercase, is_no_later, unless_na
 ghost use Rattle.tw_explicit.specs.Earliest.{earlier, earliest};
 
 use crate::frames::nested;
-use crate::scope::{Scope, binder_name, named};
+use crate::scope::{binder_name, named};
 use std::alloc::{AllocError, Global};
 use tw_fixity::Name;
 use tw_lexer::Place;
 use tw_parse::ExtTerm;
+use tw_scope::Scope;
 use tw_signature::Signature;
 
 /// A name where it stands.

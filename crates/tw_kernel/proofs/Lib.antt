@@ -1,5 +1,4 @@
 pub mod Rules
-pub mod Weakened
 pub mod Variables
 pub mod Spines
 pub mod Roots

@@ -8,10 +8,10 @@ ghost use Rattle.tw_terms.specs.View.{head_of, type_of, kind_of};
 ghost use Rattle.tw_kernel.specs.Outcome.{Blames};
 
 use crate::fault::Fault;
-use crate::weaken::{one_more, weaken};
 use std::alloc::Global;
 use tw_signature::{Body, Signature};
-use tw_terms::{ConstId, Context, Head, Kind, Ty};
+use tw_terms::numbers::one_more;
+use tw_terms::{ConstId, Context, Head, Kind, Ty, weaken};
 
 /// The greatest depth of a term, type or kind.
 pub const DEPTH_LIMIT: u32 = 4096;

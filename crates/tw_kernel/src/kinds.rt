@@ -13,10 +13,10 @@ ghost use Rattle.tw_kernel.specs.Outcome.{Blames, Decides, KindTakesArgument, Ki
 
 use crate::fault::Fault;
 use crate::terms::has_type;
-use crate::weaken::one_more;
 use std::alloc::{AllocError, Global};
 use tw_hered::{HeredFault, substitute_ty};
 use tw_signature::Signature;
+use tw_terms::numbers::one_more;
 use tw_terms::{Context, Kind, Skeleton, Spine, Term, Ty, skeleton};
 
 /// Whether the spine takes the kind to `type`. Where it does, the context is as before.

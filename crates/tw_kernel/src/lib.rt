@@ -9,8 +9,6 @@ mod heads;
 mod kinds;
 mod terms;
 mod types;
-#[tactic(auto, using(crate::proofs::Weakened::weakened))]
-mod weaken;
 
 pub use calls::{Verdict, check_context, check_kind, check_term, check_type};
 

@@ -6,7 +6,6 @@ pub mod Counts
 pub mod FirstFree
 pub mod Printing
 pub mod Collecting
-pub mod Places
 pub mod Applications
 pub mod Marking
 pub mod Declared

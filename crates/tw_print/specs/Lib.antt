@@ -9,5 +9,4 @@ pub mod SceneView
 pub mod Showable
 pub mod Page
 pub mod Marks
-pub mod Places
 pub mod ArgumentView

@@ -6,6 +6,7 @@ use Rattle.std.specs.FinMap as map
 use Rattle.lf.specs.Syntax.{Head, constant, variable, metavariable, LfType}
 use Rattle.lf.specs.Entries.{Entry, entry}
 use Rattle.lf.specs.Variables.{target}
+use Rattle.tw_scope.specs.Names.{Names as Scope, is_in_scope}
 use Rattle.tw_signature.specs.Names.{number_of}
 use Rattle.tw_fixity.specs.Rows.{name_order}
 use Rattle.tw_fixity.specs.declared.table.Fix.{Fix}
@@ -40,10 +41,6 @@ is_plain s c = is_newest (number_of s.entries (name_in (entry s.entries c))) c
 abbrev pub constant_word : Scene → ℕ → List ℕ
 constant_word s c = let name = name_in (entry s.entries c) in if is_plain s c then name else codes "%" ++ name ++ codes "%"
 
--- The names of the variables in scope, the newest first. A variable that isn't shown has none.
-abbrev pub Scope : Type 0
-Scope = List (Option (List ℕ))
-
 -- the name of a variable; `_` where it has none
 abbrev pub word_in : Option (Option (List ℕ)) → List ℕ
 word_in (Some (Some name)) = name
@@ -58,15 +55,6 @@ abbrev pub head_word : Scene → Scope → Head → List ℕ
 head_word s ns (constant c) = constant_word s c
 head_word s ns (variable i) = variable_word ns i
 head_word s ns (metavariable m) = codes "_"
-
-abbrev pub is_name : Option (List ℕ) → List ℕ → Bool
-is_name (Some given) name = bytes_eq given name
-is_name None name = false
-
--- whether a variable in scope has the name
-abbrev pub is_in_scope : Scope → List ℕ → Bool
-is_in_scope [] name = false
-is_in_scope (n ∷ ns) name = is_name n name || is_in_scope ns name
 
 -- A name is taken where a variable in scope has it, a declared constant (family, definition) has it, or the table has a row for it.
 abbrev pub is_taken : Scene → Scope → List ℕ → Bool

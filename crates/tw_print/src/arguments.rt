@@ -8,11 +8,10 @@ ghost use Rattle.tw_print.specs.SceneView.{scene_in};
 ghost use Rattle.tw_print.specs.Showable.{Takes};
 
 use crate::scene::Scene;
-use crate::weaken::weaken;
 use std::alloc::{AllocError, Global};
 use tw_hered::instantiate;
 use tw_signature::Body;
-use tw_terms::{ConstId, Context, Head, Kind, Spine, Term, Ty, skeleton};
+use tw_terms::{ConstId, Context, Head, Kind, Spine, Term, Ty, skeleton, weaken};
 
 /// An argument, with its type where it is a lambda.
 #[derive(Drop)]

@@ -13,10 +13,10 @@ use crate::marks::{first_mark, kind_marks, other_marks, quantifier_marks};
 use crate::page::Page;
 use crate::print::{bind, print_atom, print_term};
 use crate::scene::Scene;
-use crate::weaken::one_less;
 use std::alloc::{AllocError, Global};
 use tw_fixity::Name;
 use tw_signature::{Body, Entry};
+use tw_terms::numbers::one_less;
 use tw_terms::{Kind, Term, Ty};
 
 /// How deep the parts of a text may nest. Past this, memory counts as used up.

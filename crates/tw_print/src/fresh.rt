@@ -4,10 +4,10 @@ ghost use Rattle.tw_print.specs.Names as spec;
 ghost use Rattle.tw_print.specs.SceneView.{scene_in};
 
 use crate::scene::Scene;
-use crate::scope::Scope;
-use crate::weaken::one_more;
 use std::alloc::{AllocError, Global};
 use tw_fixity::Name;
+use tw_scope::Scope;
+use tw_terms::numbers::one_more;
 
 /// The first of the base and the base followed by 1, 2, 3 and so on that isn't taken. Each is looked up in the scope, the signature and the table.
 pub fn fresh_name(

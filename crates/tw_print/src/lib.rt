@@ -17,10 +17,7 @@ mod page;
 mod print;
 #[tactic(auto, using(tw_terms::proofs::Args::types))]
 mod scene;
-mod scope;
 mod show;
-#[tactic(auto, using(tw_kernel::proofs::Weakened::weakened))]
-mod weaken;
 
 pub use names::{Names, Preference};
 pub use show::{ShowEnv, show_decl, show_entry, show_term, show_type};

@@ -4,8 +4,8 @@ ghost use Rattle.tw_terms.specs.View.{head_of, term_of, spine_of, type_of, kind_
 ghost use Rattle.tw_print.specs.Variables.{is_variable, occurs, occurs_in_spine, occurs_in_type, occurs_in_kind};
 ghost use Rattle.tw_print.specs.Marks.{marked, marks_of, kind_marks_of, head_mark};
 
-use crate::weaken::one_more;
 use std::alloc::{AllocError, Global};
+use tw_terms::numbers::one_more;
 use tw_terms::{Head, Kind, Spine, Term, Ty};
 
 /// For each leading quantifier of a type, whether its variable occurs in the rest. One pass through the type.

@@ -4,9 +4,9 @@ ghost use Rattle.tw_terms.specs.View.{type_of};
 ghost use Rattle.tw_print.specs.Page.{Writes, Binds};
 ghost use Rattle.tw_print.specs.Pieces.{token, space};
 
-use crate::scope::Scope;
 use std::alloc::{AllocError, Global};
 use tw_fixity::Name;
+use tw_scope::Scope;
 use tw_terms::{Context, Ty};
 
 /// What is written so far, and the types and names of the variables in scope.

@@ -22,9 +22,9 @@ use crate::heads::{
 use crate::marks::{first_mark, other_marks, quantifier_marks};
 use crate::page::Page;
 use crate::scene::Scene;
-use crate::weaken::one_less;
 use std::alloc::{AllocError, Global};
 use tw_fixity::{Fix, Name};
+use tw_terms::numbers::one_less;
 use tw_terms::{ConstId, Head, Spine, Term, Ty};
 
 /// Writes a term; a lambda by its type. `levels` says how deep parts may nest.

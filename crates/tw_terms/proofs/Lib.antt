@@ -2,3 +2,4 @@ pub mod Views
 pub mod Args
 pub mod OpenViews
 pub mod OpenArgs
+pub mod Weakened

@@ -7,6 +7,7 @@ pub mod canonical;
 pub mod context;
 pub mod copy;
 pub mod depth;
+pub mod numbers;
 #[tactic(auto, using(crate::proofs::OpenArgs::open_types))]
 pub mod open_context;
 #[tactic(auto, using(crate::proofs::OpenArgs::open_spines))]
@@ -14,12 +15,15 @@ pub mod open_terms;
 pub mod same;
 #[tactic(auto, using(crate::proofs::Args::types_and_skeletons))]
 pub mod skeletons;
+#[tactic(auto, using(crate::proofs::Weakened::weakened))]
+pub mod weakening;
 
 pub use canonical::{ConstId, Head, Kind, MetaId, Skeleton, Spine, Term, Ty};
 pub use context::Context;
 pub use open_context::OpenContext;
 pub use open_terms::{Open, OpenHead, OpenSpine, OpenTy};
 pub use skeletons::skeleton;
+pub use weakening::weaken;
 
 #[cfg(test)]
 mod tests;

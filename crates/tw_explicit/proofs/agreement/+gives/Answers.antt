@@ -56,7 +56,7 @@ gives_type-gives_type-requires-in-Pi t c =
     let b = c.in-Some.field-0 in
     let k = ap type_of c.in-Pi.is ∙ type_of-Pi c.in-Pi.expected c.in-Pi.rest in
     let context = pushed c.push-in-Pi.new.self c.gives_type.new.context c.args.context.now (type_of c.in_ok-copy-in-Pi.field-0) A c.in_ok-push-in-Pi-2.ensures.ok (c.in_ok-copy-in-Pi.ensures ∙ ap type_of c.deref-in-Pi.ensures) c.in_ok-gives_type-in-Pi.ensures.context in
-    let scope = pushed c.push.new.self c.gives_type.new.scope c.args.scope.now b.name b.name c.in_ok-push-in-Pi.ensures refl c.in_ok-gives_type-in-Pi.ensures.scope in
+    let scope = pushed c.push.new.self c.gives_type.new.scope c.args.scope.now b.name b.name c.in_ok-push-in-Pi.ensures.ok refl c.in_ok-gives_type-in-Pi.ensures.scope in
     let u = type_under es c.args.scope.now c.args.context.now c.requires.canonical c.requires.context (written_term c.args.written.now) b.name (written_term b.domain.now) (written_term b.body.now) A B (type_of c.deref-in-Pi-2.result.now) c.push-in-Pi.new.self c.push.new.self context scope
     (ap type_of c.deref-in-Pi-2.ensures) (subst (IsType (signature_of es) c.args.context.now) k c.requires.ty) (rw c.in-Some.is at c.in_ok-name-in-Pi.ensures) (c.requires.meant ∙ ap Some k) in
     (grind arith, (c.requires.canonical, (u.0, (u.1, u.2))))

@@ -1,0 +1,19 @@
+mod Occurring
+mod Scopes
+mod Heads
+mod Parts
+mod Meaning
+mod Fresh
+mod Choosing
+pub mod Kept
+mod Counting
+pub mod Legibility
+pub mod Laying
+pub mod Lexing
+pub mod Spacing
+pub mod Fronts
+pub mod Reading
+pub mod Back
+pub mod Unique
+pub mod OneReading
+pub mod Plainness

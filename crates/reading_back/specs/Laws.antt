@@ -1,0 +1,125 @@
+-- Laws of reading back what is printed.
+use Rattle.std.specs.Prelude.{◌≡◌, ℕ, ◌+◌, List, [], ◌++◌, length, drop, Option, Some, false}
+use Rattle.lf.specs.Entries.{Entry, Body, declare_family, declare_constant, declare_definition, signature_of, IsCanonicalSignature, BodyIsTyped}
+use Rattle.lf.specs.Syntax.{Term, LfType}
+use Rattle.lf.specs.Typing.{HasType, IsType}
+use Rattle.tw_explicit.specs.Completion.{TermGives, TypeGives, KindGives, Completes}
+use Rattle.tw_lexer.specs.Tokens.{ThroughDot}
+use Rattle.tw_lexer.specs.declared.place.Place.{Place}
+use Rattle.tw_lexer.specs.declared.token.Token.{Token}
+use Rattle.tw_parse.specs.Outlines.{Table, Outline, Sequence, Shapes}
+use Rattle.tw_parse.specs.Readings.{Declares, FirstFaultOf}
+use Rattle.tw_parse.specs.Syntax as syntax
+use Rattle.tw_parse.specs.Words.{Lexeme, lexemes}
+use Rattle.tw_print.specs.Names.{Scene}
+use Rattle.tw_print.specs.Pieces.{render}
+use Rattle.tw_print.specs.Shown as shown
+use Rattle.tw_print.specs.Shown.{classifier, nesting_limit, declaration_line}
+use Rattle.reading_back.specs.Layout.{pieces, line}
+use Rattle.reading_back.specs.Legible.{IsWhole, IsLegible}
+use Rattle.reading_back.specs.Names.{IsName, HasGoodPreferences, AreGoodHints, HasRoom, HasGoodNames, HasGoodRows, AgreeOn, EachIs, IsPlainByte, HasNoImplicit}
+use Rattle.reading_back.specs.Sketches.{Sketch, classifier_sketch, defined_sketch}
+use Rattle.reading_back.specs.Spelling.{Spells, IsUnhidden}
+use Rattle.reading_back.specs.Tokens.{AreTokens, IsStop}
+
+-- what is printed of a kind or type, and of the term of a definition, is the layout of its sketch
+abbrev pub LayoutIsShown : Type 0
+LayoutIsShown = ((s : Scene) (implicit : ℕ) (hints : List (Option (List ℕ))) (b : Body) → classifier s implicit hints b ≡ pieces (classifier_sketch s implicit hints b))
+    × ((s : Scene) (M : Term) (A : LfType) → (shown.parts s nesting_limit).term [] [] M (Some A) ≡ pieces (defined_sketch s M A))
+
+-- what is written gives the kind or type of this body
+abbrev pub GivesClassifier : List Entry → syntax.Term → Body → Type 0
+GivesClassifier es U (declare_family K) = KindGives es [] [] U K
+GivesClassifier es U (declare_constant A) = TypeGives es [] [] U A
+GivesClassifier es U (declare_definition M A b) = TypeGives es [] [] U A
+
+-- A scene over the signature es, which may have newer entries.
+pub record IsOver (s : Scene) (es : List Entry) : Type 0 where
+  pub newer : List Entry
+  pub entries : s.entries ≡ newer ++ es
+  pub canonical : IsCanonicalSignature es
+  pub preferences : HasGoodPreferences s
+  pub room : HasRoom s
+
+-- The kind or type of an entry, as it is sketched, completes to itself over the signature before the entry, where each constant that is shown is the newest of its name and has no implicit arguments.
+abbrev pub ClassifierIsKept : Type 0
+ClassifierIsKept = (s : Scene) (es : List Entry) (e : Entry) (U : syntax.Term) → IsOver s es → BodyIsTyped (signature_of es) e.body → AreGoodHints e.hints
+    → IsUnhidden s (classifier_sketch s e.implicit e.hints e.body) → Spells (classifier_sketch s e.implicit e.hints e.body) U → GivesClassifier es U e.body
+
+-- and so does the term of a definition
+abbrev pub DefinedIsKept : Type 0
+DefinedIsKept = (s : Scene) (es : List Entry) (M : Term) (A : LfType) (P : syntax.Term) → IsOver s es → IsType (signature_of es) [] A → HasType (signature_of es) [] M A
+    → IsUnhidden s (defined_sketch s M A) → Spells (defined_sketch s M A) P → TermGives es [] [] P A M
+
+-- the tokens of a line, wherever it stands in a text, are those of its pieces
+abbrev pub LineIsLexed : Type 0
+LineIsLexed = (table : Table) (t : Sketch) (name text after : List ℕ) (from : ℕ) → IsName name → IsLegible table t → drop from text ≡ render (line name t) ++ after
+    → (tokens : List Token) × ThroughDot text from tokens (from + length (render (line name t))) × AreTokens (line name t) (lexemes text tokens)
+
+-- behind what stops sequences in both, tokens have one outline and one rest
+abbrev pub OneOutline : Type 0
+OneOutline = (table : Table) (tokens : List Lexeme) (O P : Outline) (behind other : List Lexeme) → Sequence table tokens O behind → Sequence table tokens P other → IsStop behind → IsStop other → (P ≡ O) × (other ≡ behind)
+
+-- tokens that are read as a name with its kind or type are no other declaration, and no sequence in them has no reading or more than one
+abbrev pub DeclaredOnce : Type 0
+DeclaredOnce = (table : Table) (words : List Lexeme) (name : List ℕ) (at : Place) (U : syntax.Term) → Declares table words (syntax.declare name at U)
+    → ((other : syntax.Declaration) → Declares table words other → other ≡ syntax.declare name at U)
+    × ((D : syntax.DeclarationOf Outline) (place : Place) → Shapes table words D → FirstFaultOf D place → ⊥)
+
+-- they are read as a declaration of what the sketch is written as, each sequence in one way
+abbrev pub LineIsRead : Type 0
+LineIsRead = (table : Table) (t : Sketch) (name : List ℕ) (words : List Lexeme) → IsName name → IsLegible table t → AreTokens (line name t) words
+    → (at : Place) × (U : syntax.Term) × Declares table words (syntax.declare name at U) × Spells t U
+
+-- What is printed with implicit arguments hidden, over a scene whose names are names and whose rows fit, and read with this table.
+pub record IsInOrder (s : Scene) (es : List Entry) (table : Table) : Type 0 where
+  pub over : IsOver s es
+  pub hides : s.implicit ≡ false
+  pub names : HasGoodNames s
+  pub rows : HasGoodRows s
+  pub agrees : AgreeOn s es table
+
+-- the sketch of a typed body is legible, where nothing in it nests too deep to be shown
+abbrev pub ClassifierIsLegible : Type 0
+ClassifierIsLegible = (s : Scene) (es : List Entry) (table : Table) (e : Entry) → IsInOrder s es table → BodyIsTyped (signature_of es) e.body → AreGoodHints e.hints
+    → IsUnhidden s (classifier_sketch s e.implicit e.hints e.body) → IsWhole (classifier_sketch s e.implicit e.hints e.body) → IsLegible table (classifier_sketch s e.implicit e.hints e.body)
+
+-- no definition
+abbrev pub IsDeclared : Body → Type 0
+IsDeclared (declare_family K) = Unit {0}
+IsDeclared (declare_constant A) = Unit {0}
+IsDeclared (declare_definition M A b) = ⊥
+
+-- a declared family or constant with good names that is typed over the signature
+pub record IsTypedEntry (es : List Entry) (e : Entry) : Type 0 where
+  pub declared : IsDeclared e.body
+  pub typed : BodyIsTyped (signature_of es) e.body
+  pub name : IsName e.name
+  pub hints : AreGoodHints e.hints
+
+-- Each constant that is shown is the newest of its name and has no implicit arguments, and nothing nests too deep to be shown.
+pub record IsOpenEntry (s : Scene) (e : Entry) : Type 0 where
+  pub unhidden : IsUnhidden s (classifier_sketch s e.implicit e.hints e.body)
+  pub whole : IsWhole (classifier_sketch s e.implicit e.hints e.body)
+
+-- The text from one byte up to another is read as a declaration, and as no other, that completes, over the signature, to an entry of this name and body.
+pub record ReadsAs (es : List Entry) (table : Table) (text : List ℕ) (from upto : ℕ) (name : List ℕ) (body : Body) : Type 0 where
+  pub tokens : List Token
+  pub through : ThroughDot text from tokens upto
+  pub at : Place
+  pub written : syntax.Term
+  pub reads : Declares table (lexemes text tokens) (syntax.declare name at written)
+  pub only : (other : syntax.Declaration) → Declares table (lexemes text tokens) other → other ≡ syntax.declare name at written
+  pub entry : Entry
+  pub completes : Completes es (syntax.declare name at written) entry
+  pub same : entry.body ≡ body
+
+-- the printed line of such an entry, wherever it stands in a text, is read back to the same body over the signature before the entry
+abbrev pub OpenTextReadsBack : Type 0
+OpenTextReadsBack = (s : Scene) (es : List Entry) (table : Table) (e : Entry) (text after : List ℕ) (from : ℕ) → IsInOrder s es table → IsTypedEntry es e → IsOpenEntry s e
+    → drop from text ≡ declaration_line s e ++ after → ReadsAs es table text from (from + length (declaration_line s e)) e.name e.body
+
+-- THE theorem: where no entry has implicit arguments, a printed line of bytes without a percent sign, so that no name in it is shadowed, is read back to the same body.
+abbrev pub TextReadsBack : Type 0
+TextReadsBack = (s : Scene) (es : List Entry) (table : Table) (e : Entry) (text after : List ℕ) (from : ℕ) → IsInOrder s es table → IsTypedEntry es e → HasNoImplicit s
+    → EachIs IsPlainByte (declaration_line s e) → drop from text ≡ declaration_line s e ++ after → ReadsAs es table text from (from + length (declaration_line s e)) e.name e.body

@@ -1,0 +1,9 @@
+//! Names in scope: which variable a name names.
+#![tactic(auto)]
+
+mod scope;
+
+pub use scope::Scope;
+
+#[cfg(test)]
+mod tests;

@@ -1,0 +1,18 @@
+//! Numbers of binders and of levels.
+ghost use Rattle.std.specs.Prelude.{◌≡◌, suc, IfOk};
+
+use std::alloc::AllocError;
+
+/// The next number. Fails at the last one, which is more than any list in memory has.
+pub fn one_more(count: u64) -> Result<u64, AllocError>
+    ensures { IfOk result (λ n. n ≡ suc count) }
+{
+    count.checked_add(1).ok_or(AllocError)
+}
+
+/// One level less. Fails where none is left.
+pub fn one_less(levels: u64) -> Result<u64, AllocError>
+    ensures { IfOk result (λ n. levels ≡ suc n) }
+{
+    levels.checked_sub(1).ok_or(AllocError)
+}
