@@ -1,16 +1,15 @@
-"""Runs the program once on a given input, and says how long that took, how much memory, and what was written."""
+"""Runs the program once on a given input, and says how much of the processor's time that took, how much memory, and what was written."""
 import os
 import sys
 import tempfile
-import time
 
 
 def spent(program, words, given, folder="."):
-    """The seconds, the peak of memory in MiB and the bytes written by one run in this folder; the exit code must be 0."""
+    """The processor's seconds, which other work on the machine changes little, the peak of memory in MiB and the bytes written by one run in
+    this folder; the exit code must be 0."""
     with tempfile.TemporaryFile() as source, tempfile.TemporaryFile() as sink:
         source.write(given)
         source.seek(0)
-        begun = time.perf_counter()
         child = os.fork()
         if child == 0:
             os.chdir(folder)
@@ -18,7 +17,7 @@ def spent(program, words, given, folder="."):
             os.dup2(sink.fileno(), 1)
             os.execv(program, [program] + words)
         _, status, used = os.wait4(child, 0)
-        seconds = time.perf_counter() - begun
+        seconds = used.ru_utime + used.ru_stime
         sink.seek(0)
         told = sink.read()
     if status != 0:

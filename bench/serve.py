@@ -7,24 +7,16 @@ The time of an empty input is taken off each figure. The last column is the rati
 before it, beside the ratio of their sizes: where they agree, the work grows as the input does.
 """
 import os
-import subprocess
 import sys
-import time
+
+from running import spent
 
 HERE = os.path.dirname(os.path.abspath(__file__))
-PROGRAM = sys.argv[1] if len(sys.argv) > 1 else os.path.join(HERE, "..", "twelf")
+PROGRAM = os.path.abspath(sys.argv[1]) if len(sys.argv) > 1 else os.path.join(HERE, "..", "twelf")
 
 
 def seconds(given):
-    best = None
-    for _ in range(3):
-        begun = time.perf_counter()
-        done = subprocess.run([PROGRAM], input=given, stdout=subprocess.DEVNULL)
-        spent = time.perf_counter() - begun
-        if done.returncode != 0:
-            sys.exit(f"status {done.returncode}")
-        best = spent if best is None else min(best, spent)
-    return best
+    return min(spent(PROGRAM, [], given)[0] for _ in range(3))
 
 
 def table(title, rows):
@@ -32,10 +24,10 @@ def table(title, rows):
     print(f"{'size':>10} {'bytes':>10} {'seconds':>9} {'bytes/s':>13} {'ratio of times':>15} {'of bytes':>9}")
     last = None
     for size, given in rows:
-        spent = max(seconds(given) - EMPTY, 1e-6)
-        ratio = f"{spent / last[0]:15.2f} {len(given) / last[1]:9.2f}" if last else ""
-        print(f"{size:>10} {len(given):>10} {spent:9.4f} {len(given) / spent:13,.0f} {ratio}")
-        last = (spent, len(given))
+        took = max(seconds(given) - EMPTY, 1e-6)
+        ratio = f"{took / last[0]:15.2f} {len(given) / last[1]:9.2f}" if last else ""
+        print(f"{size:>10} {len(given):>10} {took:9.4f} {len(given) / took:13,.0f} {ratio}")
+        last = (took, len(given))
 
 
 seconds(b"")  # builds the program where it isn't built yet

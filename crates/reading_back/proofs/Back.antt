@@ -23,7 +23,7 @@ use Rattle.reading_back.proofs.Kept.{good_name, good_leading, classifier_kept}
 use Rattle.reading_back.proofs.Laying.{same_pieces, classifier_is}
 use Rattle.reading_back.proofs.Legibility.{type_legible, family_kind_legible}
 use Rattle.reading_back.proofs.Lexing.{IsSpaced, Lexed, lexed, colon, word_is_fixed}
-use Rattle.reading_back.proofs.OneReading.{declared_once}
+use Rattle.tw_parse.proofs.OneReading.{one_reading}
 use Rattle.reading_back.proofs.Plainness.{open_classifier}
 use Rattle.reading_back.proofs.Reading.{Splits, split, SequenceOf, sequence_read}
 use Rattle.reading_back.proofs.Spacing.{word_of_name, pieces_flow}
@@ -103,7 +103,7 @@ open_reads_back s es table e text after from o p w h =
       at = r.0;
       written = r.1;
       reads = r.2;
-      only = (declared_once table (lexemes text k.0) e.name r.0 r.1 r.2).0;
+      only = (one_reading table (lexemes text k.0) (syntax.declare e.name r.0 r.1) r.2).0;
       entry = record { name = e.name; body = e.body; implicit = zero; hints = hints r.1 };
       completes = record { name = refl; body = body_given es r.1 e.body p.declared g; implicit = refl; hint_each = refl };
       same = refl;

@@ -14,6 +14,4 @@ pub mod Spacing
 pub mod Fronts
 pub mod Reading
 pub mod Back
-pub mod Unique
-pub mod OneReading
 pub mod Plainness

@@ -7,8 +7,8 @@ use Rattle.tw_explicit.specs.Completion.{TermGives, TypeGives, KindGives, Comple
 use Rattle.tw_lexer.specs.Tokens.{ThroughDot}
 use Rattle.tw_lexer.specs.declared.place.Place.{Place}
 use Rattle.tw_lexer.specs.declared.token.Token.{Token}
-use Rattle.tw_parse.specs.Outlines.{Table, Outline, Sequence, Shapes}
-use Rattle.tw_parse.specs.Readings.{Declares, FirstFaultOf}
+use Rattle.tw_parse.specs.Outlines.{Table}
+use Rattle.tw_parse.specs.Readings.{Declares}
 use Rattle.tw_parse.specs.Syntax as syntax
 use Rattle.tw_parse.specs.Words.{Lexeme, lexemes}
 use Rattle.tw_print.specs.Names.{Scene}
@@ -20,7 +20,7 @@ use Rattle.reading_back.specs.Legible.{IsWhole, IsLegible}
 use Rattle.reading_back.specs.Names.{IsName, HasGoodPreferences, AreGoodHints, HasRoom, HasGoodNames, HasGoodRows, AgreeOn, EachIs, IsPlainByte, HasNoImplicit}
 use Rattle.reading_back.specs.Sketches.{Sketch, classifier_sketch, defined_sketch}
 use Rattle.reading_back.specs.Spelling.{Spells, IsUnhidden}
-use Rattle.reading_back.specs.Tokens.{AreTokens, IsStop}
+use Rattle.reading_back.specs.Tokens.{AreTokens}
 
 -- what is printed of a kind or type, and of the term of a definition, is the layout of its sketch
 abbrev pub LayoutIsShown : Type 0
@@ -55,16 +55,6 @@ DefinedIsKept = (s : Scene) (es : List Entry) (M : Term) (A : LfType) (P : synta
 abbrev pub LineIsLexed : Type 0
 LineIsLexed = (table : Table) (t : Sketch) (name text after : List ℕ) (from : ℕ) → IsName name → IsLegible table t → drop from text ≡ render (line name t) ++ after
     → (tokens : List Token) × ThroughDot text from tokens (from + length (render (line name t))) × AreTokens (line name t) (lexemes text tokens)
-
--- behind what stops sequences in both, tokens have one outline and one rest
-abbrev pub OneOutline : Type 0
-OneOutline = (table : Table) (tokens : List Lexeme) (O P : Outline) (behind other : List Lexeme) → Sequence table tokens O behind → Sequence table tokens P other → IsStop behind → IsStop other → (P ≡ O) × (other ≡ behind)
-
--- tokens that are read as a name with its kind or type are no other declaration, and no sequence in them has no reading or more than one
-abbrev pub DeclaredOnce : Type 0
-DeclaredOnce = (table : Table) (words : List Lexeme) (name : List ℕ) (at : Place) (U : syntax.Term) → Declares table words (syntax.declare name at U)
-    → ((other : syntax.Declaration) → Declares table words other → other ≡ syntax.declare name at U)
-    × ((D : syntax.DeclarationOf Outline) (place : Place) → Shapes table words D → FirstFaultOf D place → ⊥)
 
 -- they are read as a declaration of what the sketch is written as, each sequence in one way
 abbrev pub LineIsRead : Type 0

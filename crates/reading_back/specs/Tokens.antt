@@ -1,7 +1,6 @@
 -- The tokens of a text that is made of pieces.
-use Rattle.std.specs.Prelude.{◌≡◌, ℕ, List, [], ◌∷◌, false, codes, if◌then◌else◌}
+use Rattle.std.specs.Prelude.{◌≡◌, ℕ, List, [], ◌∷◌, codes, if◌then◌else◌}
 use Rattle.std.specs.Str.{bytes_eq}
-use Rattle.tw_parse.specs.Failing.{is_item}
 use Rattle.tw_parse.specs.Words.{Lexeme, fixed_word}
 use Rattle.tw_parse.specs.declared.words.Word.{Word}
 use Rattle.tw_parse.specs.declared.words.Word.TheVariants.{Colon, Dot, LParen, RParen, LBrace, RBrace, LBracket, RBracket}
@@ -29,7 +28,3 @@ BeginWith (token t ∷ ps) xs behind = (x : Lexeme) × (rest : List Lexeme) × (
 -- they are these tokens
 abbrev pub AreTokens : List Piece → List Lexeme → Type 0
 AreTokens ps xs = BeginWith ps xs []
-
--- no sequence goes on with what stands first
-abbrev pub IsStop : List Lexeme → Type 0
-IsStop xs = (x : Lexeme) × (rest : List Lexeme) × (xs ≡ x ∷ rest) × (is_item x.word ≡ false)

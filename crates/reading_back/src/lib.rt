@@ -1,7 +1,7 @@
 //! What is printed reads back. No function here has code: each carries one law as its contract.
 #![tactic(auto)]
 
-ghost use Rattle.reading_back.specs.Laws.{LayoutIsShown, ClassifierIsKept, DefinedIsKept, OneOutline, DeclaredOnce, LineIsLexed, LineIsRead, ClassifierIsLegible, OpenTextReadsBack, TextReadsBack};
+ghost use Rattle.reading_back.specs.Laws.{LayoutIsShown, ClassifierIsKept, DefinedIsKept, LineIsLexed, LineIsRead, ClassifierIsLegible, OpenTextReadsBack, TextReadsBack};
 
 /// The printed text of a kind, a type or a term is the layout of its sketch.
 pub fn layout_is_shown()
@@ -16,16 +16,6 @@ pub fn classifier_is_kept()
 /// What is written for the term of a definition completes to it again.
 pub fn defined_is_kept()
     ensures { DefinedIsKept }
-{}
-
-/// The tokens before what no sequence goes on with have one outline.
-pub fn one_outline()
-    ensures { OneOutline }
-{}
-
-/// What is read as a name with its kind or type is read as nothing else.
-pub fn declared_once()
-    ensures { DeclaredOnce }
 {}
 
 /// The bytes of a line are lexed to its tokens.

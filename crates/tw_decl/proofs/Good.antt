@@ -7,6 +7,7 @@ use Rattle.tw_lexer.specs.declared.place.Place.{Place}
 use Rattle.tw_lexer.specs.declared.token.Token.{Token}
 use Rattle.tw_lexer.specs.declared.token.TokenKind.TheVariants.{End}
 use Rattle.tw_lexer.proofs.TokensUnique.{tokens_unique, fault_excludes, too_many_excludes}
+use Rattle.tw_parse.proofs.OneReading.{one_reading}
 use Rattle.tw_parse.specs.Faults.{FaultStands}
 use Rattle.tw_parse.specs.Syntax.{Declaration, declare, define, prefer, give}
 use Rattle.tw_parse.specs.Words.{Lexeme, lexemes, first_place, first_bytes}
@@ -18,9 +19,9 @@ use Rattle.tw_explicit.specs.declared.unknown.Mention.{Mention}
 use Rattle.tw_explicit.specs.declared.fault.ExplicitFault.{ExplicitFault}
 use Rattle.tw_explicit.specs.declared.fault.ExplicitFault.TheVariants as completions
 use Rattle.tw_decl.specs.View.{View}
-use Rattle.tw_decl.specs.Declaration.{IsWritten, IsWrittenAlone, IsFaultBehind, IsUnknown, IsBad, CompletionFails, HasObstacle, IsNotMade, IsFirstCause, IsFollowed, IsLastCause, IsCauseAlone, HasCause}
-use Rattle.tw_decl.specs.Laws.{IsReadOnce, IsWellTyped, IsGood, GoodIsAccepted}
-use Rattle.tw_decl.proofs.Faultless.{is_declare, read_faultless}
+use Rattle.tw_decl.specs.Declaration.{IsWritten, IsWrittenAlone, IsReadAs, IsFaultBehind, IsUnknown, IsBad, CompletionFails, HasObstacle, IsNotMade, IsFirstCause, IsFollowed, IsLastCause, IsCauseAlone, HasCause}
+use Rattle.tw_decl.specs.Laws.{IsWellTyped, IsGood, GoodIsAccepted}
+use Rattle.tw_decl.proofs.Faultless.{read_faultless}
 use Rattle.tw_decl.specs.declared.refusal.Refusal.{Refusal}
 use Rattle.tw_decl.specs.declared.refusal.Refusal.TheVariants.{Memory, Lex, TooMany, Unsupported, Nesting, Syntax, Fixity, BadDecl, Unknown, Mismatch, TooDeep}
 
@@ -49,22 +50,16 @@ same_next text words us end last next other h k =
     let e = sym (ap (first_token text) same.reach ∙ h.follower) ∙ k.follower in
     cc
 
--- what is explicit is declared with a type
-explicit_declares : (es : List Entry) (d : Declaration) → explicit.IsExplicit es d → is_declare d ≡ true
-explicit_declares es (declare c at U) h = refl
-explicit_declares es (define c A M b) h = h.1
-explicit_declares es (prefer a x y) h = h.1
-explicit_declares es (give fix names) h = h.1
+-- its tokens have no fault
+faultless : (v : View) (words : List Lexeme) (end : Place) (d : Declaration) → IsReadAs v words d → (fault : SyntaxFault) → FaultStands v.fixities end words fault → fault ≡ faults.NoMemory
+faultless v words end d r fault h = read_faultless v.fixities end words d r.begins r.reads fault h
 
-faultless : (v : View) (words : List Lexeme) (end : Place) (d : Declaration) → IsReadOnce v words end d → IsWellTyped v d → (fault : SyntaxFault) → FaultStands v.fixities end words fault → fault ≡ faults.NoMemory
-faultless v words end d r t fault h = read_faultless v.fixities end words d r.reads.begins r.reads.reads (explicit_declares v.signature d t.form) r.clear fault h
-
-not_first : (v : View) (words : List Lexeme) (end : Place) (d : Declaration) (refusal : Refusal) → IsReadOnce v words end d → IsWellTyped v d → IsFirstCause v end words refusal → refusal ≡ Memory
-not_first v words end d Memory r t h = refl
-not_first v words end d (Unsupported place name) r t h = let e : faults.Unsupported name place ≡ faults.NoMemory = faultless v words end d r t (faults.Unsupported name place) h in cc
-not_first v words end d (Nesting place) r t h = let e : faults.Nesting place ≡ faults.NoMemory = faultless v words end d r t (faults.Nesting place) h in cc
-not_first v words end d (Syntax place) r t h = let e : faults.Syntax place ≡ faults.NoMemory = faultless v words end d r t (faults.Syntax place) h in cc
-not_first v words end d refusal r t h = absurd h
+not_first : (v : View) (words : List Lexeme) (end : Place) (d : Declaration) (refusal : Refusal) → IsReadAs v words d → IsFirstCause v end words refusal → refusal ≡ Memory
+not_first v words end d Memory r h = refl
+not_first v words end d (Unsupported place name) r h = let e : faults.Unsupported name place ≡ faults.NoMemory = faultless v words end d r (faults.Unsupported name place) h in cc
+not_first v words end d (Nesting place) r h = let e : faults.Nesting place ≡ faults.NoMemory = faultless v words end d r (faults.Nesting place) h in cc
+not_first v words end d (Syntax place) r h = let e : faults.Syntax place ≡ faults.NoMemory = faultless v words end d r (faults.Syntax place) h in cc
+not_first v words end d refusal r h = absurd h
 
 -- its completion has no fault
 no_unknown : (es : List Entry) (d : Declaration) (m : Mention) → explicit.IsExplicit es d → IsFirst m (unknown_in es d) → ⊥
@@ -95,15 +90,16 @@ no_obstacle v (define c A M b) first shown refusal t h = plain_obstacle v (defin
 no_obstacle v (prefer a x y) first shown refusal t h = absurd t.completes
 no_obstacle v (give fix names) first shown refusal t h = absurd t.completes
 
-not_made : (v : View) (words : List Lexeme) (end : Place) (d : Declaration) (refusal : Refusal) → IsReadOnce v words end d → IsWellTyped v d → IsNotMade v end words refusal → refusal ≡ Memory
+not_made : (v : View) (words : List Lexeme) (end : Place) (d : Declaration) (refusal : Refusal) → IsReadAs v words d → IsWellTyped v d → IsNotMade v end words refusal → refusal ≡ Memory
 not_made v words end d refusal r t h =
-    let same = r.only h.declaration h.reads.reads in
+    let once = one_reading v.fixities words d r.reads in
+    let same = once.0 h.declaration h.reads.reads in
     no_obstacle v d (first_place end words) (first_bytes words) refusal t (subst (λ (x : Declaration). HasObstacle v x (first_place end words) (first_bytes words) refusal) same h.obstacle)
 
-not_last : (v : View) (words : List Lexeme) (end : Place) (d : Declaration) (refusal : Refusal) → IsReadOnce v words end d → IsWellTyped v d → IsLastCause v end words refusal → refusal ≡ Memory
+not_last : (v : View) (words : List Lexeme) (end : Place) (d : Declaration) (refusal : Refusal) → IsReadAs v words d → IsWellTyped v d → IsLastCause v end words refusal → refusal ≡ Memory
 not_last v words end d Memory r t h = refl
-not_last v words end d (Fixity place) r t h = let e : faults.Fixity place ≡ faults.NoMemory = faultless v words end d r t (faults.Fixity place) h in cc
-not_last v words end d (BadDecl place) r t (inl h) = let e : faults.BadDecl place ≡ faults.NoMemory = faultless v words end d r t (faults.BadDecl place) h in cc
+not_last v words end d (Fixity place) r t h = let e : faults.Fixity place ≡ faults.NoMemory = faultless v words end d r (faults.Fixity place) h in cc
+not_last v words end d (BadDecl place) r t (inl h) = let e : faults.BadDecl place ≡ faults.NoMemory = faultless v words end d r (faults.BadDecl place) h in cc
 not_last v words end d (BadDecl place) r t (inr h) = not_made v words end d (BadDecl place) r t h
 not_last v words end d refusal r t h = not_made v words end d refusal r t h
 
@@ -111,9 +107,9 @@ not_followed : (v : View) (words : List Lexeme) (end : Place) (next : Token) (re
 not_followed v words end next (Syntax place) alone h = absurd (h.0 alone)
 not_followed v words end next refusal alone h = absurd h
 
-no_cause_alone : (v : View) (words : List Lexeme) (end : Place) (next : Token) (d : Declaration) (refusal : Refusal) → next.kind ≡ End → IsReadOnce v words end d → IsWellTyped v d
+no_cause_alone : (v : View) (words : List Lexeme) (end : Place) (next : Token) (d : Declaration) (refusal : Refusal) → next.kind ≡ End → IsReadAs v words d → IsWellTyped v d
     → IsCauseAlone v end words next refusal → refusal ≡ Memory
-no_cause_alone v words end next d refusal alone r t (inl h) = not_first v words end d refusal r t h
+no_cause_alone v words end next d refusal alone r t (inl h) = not_first v words end d refusal r h
 no_cause_alone v words end next d refusal alone r t (inr (inl h)) = not_followed v words end next refusal alone h
 no_cause_alone v words end next d refusal alone r t (inr (inr h)) = not_last v words end d refusal r t h.1
 

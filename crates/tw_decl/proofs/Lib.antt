@@ -5,3 +5,4 @@ pub mod Faultless
 pub mod Good
 pub mod Undone
 pub mod Arguments
+pub mod GoodText

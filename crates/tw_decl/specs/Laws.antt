@@ -4,11 +4,8 @@ use Rattle.lf.specs.Entries.{Entry}
 use Rattle.tw_lexer.specs.declared.place.Place.{Place}
 use Rattle.tw_lexer.specs.declared.token.Token.{Token}
 use Rattle.tw_lexer.specs.declared.token.TokenKind.TheVariants.{End}
-use Rattle.tw_parse.specs.Faults.{FaultStands}
-use Rattle.tw_parse.specs.Readings.{Declares}
 use Rattle.tw_parse.specs.Syntax.{Declaration}
 use Rattle.tw_parse.specs.Words.{Lexeme}
-use Rattle.tw_parse.specs.declared.fault.SyntaxFault.TheVariants.{Fixity}
 use Rattle.tw_explicit.specs.Answer as explicit
 use Rattle.tw_explicit.specs.Completion.{Completes}
 use Rattle.tw_explicit.specs.Meaning.{DeclarationReachesDeep}
@@ -25,12 +22,6 @@ AcceptingKeepsSound = (v w : View) (text report : List ℕ) → Accepts v text r
 abbrev pub AcceptingFromKeepsSound : Type 0
 AcceptingFromKeepsSound = (v w : View) (text report : List ℕ) (from upto : ℕ) → AcceptsFrom v text from report upto w → IsSound v → IsSound w
 
--- The words are this declaration, and no other; and no sequence in them is without a reading or has more than one.
-pub record IsReadOnce (v : View) (words : List Lexeme) (end : Place) (d : Declaration) : Type 0 where
-  pub reads : IsReadAs v words d
-  pub only : (other : Declaration) → Declares v.fixities words other → other ≡ d
-  pub clear : (place : Place) → FaultStands v.fixities end words (Fixity place) → ⊥
-
 -- An explicit declaration that is well typed: it has a completion, and nothing in its typing is deeper than the limit.
 pub record IsWellTyped (v : View) (d : Declaration) : Type 0 where
   pub form : explicit.IsExplicit v.signature d
@@ -46,7 +37,7 @@ pub record IsGood (v : View) (text : List ℕ) : Type 0 where
   pub written : IsWrittenAlone text words end next
   pub alone : next.kind ≡ End
   pub declaration : Declaration
-  pub reads : IsReadOnce v words end declaration
+  pub reads : IsReadAs v words declaration
   pub typed : IsWellTyped v declaration
 
 -- such a text is refused for want of memory alone

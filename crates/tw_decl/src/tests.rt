@@ -148,6 +148,7 @@ fn refused_texts(rt: HostRuntime) -> Result<(), Fail> {
         ("c : nat. d : nat.", "stdin:1:10 E2 Syntax"),
         ("c : nat. \"", "stdin:1:10 E1 Lex"),
         ("%theorem t : true. d", "stdin:1:1 E21 Unsupported %theorem"),
+        ("%abbrev d = q.", "stdin:1:1 E21 Unsupported %abbrev"),
         ("c : a->b.", "stdin:1:5 E4 Unknown a->b"),
         ("c : a -> b <- d.", "stdin:1:5 E3 Fixity"),
         ("c : a -> b <- d. d", "stdin:1:18 E2 Syntax"),

@@ -1,5 +1,5 @@
 -- Whether items are read hangs on their signs alone.
-use Rattle.std.proofs.Common.{◌≡◌, List, [], ◌∷◌, ◌++◌, map, Bool, true, false, ◌&&◌, Option, None, Some, if◌then◌else◌, refl, sym, ap, ◌∙◌}
+use Rattle.std.proofs.Common.{◌≡◌, List, [], ◌∷◌, map, Bool, true, false, ◌&&◌, Option, None, Some, if◌then◌else◌, refl, sym, ap, ◌∙◌}
 use Rattle.std.specs.Option.{option_map}
 use Rattle.tw_parse.specs.Grammar.{Item, atom, sign}
 use Rattle.tw_parse.specs.Piles.{Waiting, Settled, State, waits, yields, takes, closed, settle, settle_all, with_atom, with_sign, behind_side, step, run, outcome, reading, is_application, is_absent, newest_takes}

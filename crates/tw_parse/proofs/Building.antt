@@ -1,17 +1,17 @@
 -- A sequence is read node by node, and its items are put on the pile.
-use Rattle.std.proofs.Common.{◌≡◌, ℕ, zero, suc, ◌+◌, List, [], ◌∷◌, ◌++◌, map, Bool, true, false, Option, None, Some, drop, refl, sym, ap, subst, ◌∙◌, ◌⊎◌, inl, inr, add-one, arith}
+use Rattle.std.proofs.Common.{◌≡◌, ℕ, zero, suc, ◌+◌, List, [], ◌∷◌, ◌++◌, map, true, false, Option, None, Some, drop, refl, sym, ap, subst, ◌∙◌, ◌⊎◌, inl, inr, add-one, arith}
 use Rattle.std.proofs.lemmas.List.{map-append}
 use Rattle.std.specs.FinMap.{get}
 use Rattle.tw_fixity.specs.declared.table.Fix.{Fix}
 use Rattle.tw_lexer.specs.declared.place.Place.{Place}
 use Rattle.tw_parse.specs.Faults.{sign_first, leaf_by, leaf_of}
-use Rattle.tw_parse.specs.Grammar.{Item, atom, sign, ReadsOnce, bound}
+use Rattle.tw_parse.specs.Grammar.{Item, atom, sign}
 use Rattle.tw_parse.specs.Laws.{HasRow, HaveRows}
-use Rattle.tw_parse.specs.Outlines.{Table, operator_with, operator_of, sign_of, Outline, outline, Nodes, none, more, Node, leaf, mark, group, binding, typed_binding, Begins, a_sign, a_name, a_hole, a_type, a_group, Row, empty, one_more, Sequence, plain, with_binder, Binds, without_type, with_type}
-use Rattle.tw_parse.specs.Parts.{Takes, BoundBy, BoundOver, Bound, Leads}
+use Rattle.tw_parse.specs.Outlines.{Table, operator_with, operator_of, Outline, outline, Nodes, none, more, Node, leaf, mark, group, binding, typed_binding, Begins, a_sign, a_name, a_hole, a_type, a_group, Row, empty, one_more, Sequence, plain, with_binder, Binds, without_type, with_type}
+use Rattle.tw_parse.specs.Parts.{BoundBy, BoundOver, Bound}
 use Rattle.tw_parse.specs.Telling.{Tells, TellsNode}
 use Rattle.tw_parse.specs.Piles.{Settled, State, step, run, outcome, reading, state_of, term_for, first_fault, Concludes}
-use Rattle.tw_parse.specs.Readings.{Means, means, Lists, no_items, one_item, IsItem, a_leaf, a_mark, a_group as group_item, a_binding, a_typed_binding, sign_in, mark_in, marks, HasOne, IsAtFault, AreClear, FirstFault, here, inside, FaultAmong, earlier, last, FaultWithin, in_group, in_body, in_domain, in_typed_body}
+use Rattle.tw_parse.specs.Readings.{Means, means, Lists, no_items, one_item, IsItem, a_leaf, a_mark, a_group as group_item, a_binding, a_typed_binding, sign_in, mark_in, marks, here, inside, FaultAmong, earlier, last, FaultWithin, in_group, in_body, in_domain, in_typed_body}
 use Rattle.tw_parse.specs.Syntax as syntax
 use Rattle.tw_parse.specs.View.{term_of}
 use Rattle.tw_parse.specs.Words.{Lexeme, first_word, first_bytes, first_place, separator_of, binder_of, closer_of, is_bindable}
@@ -67,7 +67,7 @@ nothing table xs from pile state inner =
     let P : Option Place → Type 0 = λ o. Inner none [] o in
     (none, empty, ([], refl, state, subst P (sym inner) no_items), refl)
 
-item_mark : (n : Node) (i : Item) → IsItem n i → sign_in i ≡ mark_in n
+pub item_mark : (n : Node) (i : Item) → IsItem n i → sign_in i ≡ mark_in n
 item_mark n i a_leaf = refl
 item_mark n i a_mark = refl
 item_mark n i (group_item m) = refl
@@ -80,7 +80,7 @@ faulty_mark n place (in_body f) = refl
 faulty_mark n place (in_domain f) = refl
 faulty_mark n place (in_typed_body c f) = refl
 
-signs_grow : (row : Nodes) (n : Node) (items : List Item) (i : Item) → map sign_in items ≡ marks row → sign_in i ≡ mark_in n → map sign_in (items ++ i ∷ []) ≡ marks (more row n)
+pub signs_grow : (row : Nodes) (n : Node) (items : List Item) (i : Item) → map sign_in items ≡ marks row → sign_in i ≡ mark_in n → map sign_in (items ++ i ∷ []) ≡ marks (more row n)
 signs_grow row n items i e f = map-append sign_in items (i ∷ []) ∙ ap (λ ms. ms ++ sign_in i ∷ []) e ∙ ap (λ m. marks row ++ m ∷ []) f
 
 run_append : (st : State) (xs ys : List Item) → run st (xs ++ ys) ≡ run (run st xs) ys

@@ -1,5 +1,5 @@
 -- Two readings that differ in which of two signs is inside are different terms.
-use Rattle.std.proofs.Common.{◌≡◌, ℕ, List, Option, None, Some, true, false, refl, sym, ap, ◌∙◌}
+use Rattle.std.proofs.Common.{◌≡◌, ℕ, List, Option, None, Some, true, refl, sym, ap, ◌∙◌}
 use Rattle.tw_fixity.specs.declared.table.Fix.{Fix}
 use Rattle.tw_fixity.specs.declared.table.Fix.TheVariants.{Infix, Prefix, Postfix}
 use Rattle.tw_fixity.specs.declared.table.Assoc.TheVariants.{Neither, Left, Right}
@@ -7,7 +7,7 @@ use Rattle.tw_lexer.specs.declared.place.Place.{Place}
 use Rattle.tw_parse.specs.Grammar.{joined, applied}
 use Rattle.tw_parse.specs.Laws.{HasRow}
 use Rattle.tw_parse.specs.Piles.{waits, yields, made}
-use Rattle.tw_parse.specs.Signs.{is_from, fits, level_of, left_of, right_of}
+use Rattle.tw_parse.specs.Signs.{is_from, level_of, left_of, right_of}
 use Rattle.tw_parse.specs.Syntax.{Term, identifier, hole, star, arrow, pi, lambda, application, ascription}
 use Rattle.tw_parse.specs.declared.sign.Sign.{Sign}
 use Rattle.tw_parse.specs.declared.sign.Sign.TheVariants.{Separator, Operator}

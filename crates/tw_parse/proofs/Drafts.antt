@@ -1,20 +1,19 @@
 -- The declaration that tokens are.
-use Rattle.std.proofs.Common.{◌≡◌, ℕ, ◌+◌, List, [], ◌∷◌, ◌++◌, map, Bool, true, false, Option, None, Some, Ok, Err, IfOk, IfErr, drop, refl, sym, ap, subst, ◌∙◌, ⊎_elim, append_assoc, add-one}
+use Rattle.std.proofs.Common.{◌≡◌, ℕ, ◌+◌, List, [], ◌∷◌, ◌++◌, map, Bool, true, false, Option, None, Some, IfOk, IfErr, drop, refl, sym, ap, subst, ◌∙◌, ⊎_elim, append_assoc, add-one}
 use Rattle.std.specs.declared.result.Result.{Result}
 use Rattle.tw_fixity.specs.declared.table.Fix.{Fix}
 use Rattle.tw_lexer.specs.declared.place.Place.{Place}
 use Rattle.tw_parse.specs.Faults.{Ends, GrammarFault, defined, declared}
-use Rattle.tw_parse.specs.Keywords.{form_of, fix_by, fix_of, is_upper, is_identifier}
+use Rattle.tw_parse.specs.Keywords.{form_of, fix_by, is_upper, is_identifier}
 use Rattle.tw_parse.specs.Outlines.{Table, Outline, Sequence, Head, a_definition, a_check, an_abbreviation, Names, no_names, a_further_name, named, bytes_in, Shapes, declares, defines, defines_typed, prefers, prefers_both, gives}
-use Rattle.tw_parse.specs.Readings.{Means, MeansAll, declared as declared_means, defined as defined_means, defined_typed, preferred, given, Declares, FirstFault, FirstFaultOf, of_declared, of_defined, of_type, of_term}
-use Rattle.tw_parse.specs.Syntax.{DeclarationOf, Declaration, declare, define, prefer, give}
+use Rattle.tw_parse.specs.Readings.{declared as declared_means, defined as defined_means, defined_typed, preferred, given, Declares, of_declared, of_defined, of_type, of_term}
+use Rattle.tw_parse.specs.Syntax.{declare, define, prefer, give}
 use Rattle.tw_parse.specs.Telling.{Tells}
 use Rattle.tw_parse.specs.View.{term_of, declaration_of}
 use Rattle.tw_parse.specs.Words.{Lexeme, first_word, first_bytes, first_place}
 use Rattle.tw_parse.specs.declared.decl.ExtDecl.{ExtDecl}
 use Rattle.tw_parse.specs.declared.decl.ExtName.{ExtName}
 use Rattle.tw_parse.specs.declared.fault.SyntaxFault.{SyntaxFault}
-use Rattle.tw_parse.specs.declared.fault.SyntaxFault.TheVariants.{Unsupported, Nesting, Syntax, Fixity, BadDecl, NoMemory}
 use Rattle.tw_parse.specs.declared.parts.Part.{Part}
 use Rattle.tw_parse.specs.declared.parts.Part.TheVariants as parts
 use Rattle.tw_parse.specs.declared.words.Form.{Form}

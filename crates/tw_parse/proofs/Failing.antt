@@ -1,10 +1,9 @@
 -- A sequence stops at the first token that can't go on.
-use Rattle.std.proofs.Common.{◌≡◌, ◌≢◌, ℕ, ◌+◌, List, [], ◌∷◌, ◌++◌, Bool, true, false, Option, None, Some, drop, refl, sym, ap, subst, ◌∙◌, append_assoc, append-nil, arith}
-use Rattle.std.specs.FinMap.{get}
+use Rattle.std.proofs.Common.{◌≡◌, ◌≢◌, ℕ, ◌+◌, List, [], ◌∷◌, ◌++◌, Bool, true, false, Option, None, Some, drop, refl, sym, ap, subst, ◌∙◌, append_assoc, arith}
 use Rattle.tw_lexer.specs.declared.place.Place.{Place}
-use Rattle.tw_parse.specs.Failing.{ended, is_item, CanGo, CanBind, Dies, StopsIn, StopsInHead, HeadPort, SequenceFault, HeadFault}
+use Rattle.tw_parse.specs.Failing.{ended, is_item, Dies, StopsIn, StopsInHead, HeadPort, SequenceFault, HeadFault}
 use Rattle.tw_parse.specs.Faults.{sign_first, leaf_by, leaf_of}
-use Rattle.tw_parse.specs.Outlines.{Table, operator_with, operator_of, sign_of, Outline, outline, Nodes, none, more, Node, leaf, mark, group, binding, typed_binding, Begins, a_hole, a_group, Row, empty, one_more, Sequence, plain, with_binder, Binds, without_type, with_type}
+use Rattle.tw_parse.specs.Outlines.{Table, operator_of, Outline, outline, Nodes, none, more, Node, leaf, group, binding, typed_binding, Begins, a_hole, a_group, Row, empty, one_more, Sequence, Binds, without_type, with_type}
 use Rattle.tw_parse.specs.Spots.{Frame, paren, domain, Spot, inside, opened, named, close, go, go_named, next, steps, IsWithin}
 use Rattle.tw_parse.specs.Syntax as syntax
 use Rattle.tw_parse.specs.Sources.{lexemes_from}
@@ -18,8 +17,8 @@ use Rattle.tw_parse.specs.declared.words.Binder.{Binder}
 use Rattle.tw_parse.specs.declared.words.Binder.TheVariants.{Pi, Lambda}
 use Rattle.tw_parse.specs.declared.words.Word.{Word}
 use Rattle.tw_parse.specs.declared.words.Word.TheVariants.{Name, Forward, Backward, Underscore, Star, Equals, Keyword, Colon, Dot, LParen, RParen, LBrace, RBrace, LBracket, RBracket, End}
-use Rattle.tw_parse.proofs.Building.{First, begins_first, binds_first, row_first, a_plain, a_binder, Token, a_token, Read, opener_stands, bindable_stands, closer_stands}
-use Rattle.tw_parse.proofs.Ports.{on, RowPort, has, SequencePort, port_row, port_sequence, opener_goes, bindable_goes, closer_goes, colon_goes, domain_goes}
+use Rattle.tw_parse.proofs.Building.{First, begins_first, binds_first, row_first, a_plain, a_binder, Token, a_token, opener_stands, bindable_stands, closer_stands}
+use Rattle.tw_parse.proofs.Ports.{on, has, port_row, port_sequence, opener_goes, bindable_goes, closer_goes, colon_goes, domain_goes}
 
 -- the first of the tokens or the end
 pub at_end : (end : Place) (ts : List Lexeme) → (y : Lexeme) × (more : List Lexeme) × (ended end ts ≡ y ∷ more) × (first_place end ts ≡ y.at) × (y.word ≡ first_word ts)

@@ -1,12 +1,11 @@
 -- The atom that a token is by itself.
-use Rattle.std.proofs.Common.{◌≡◌, ℕ, List, [], ◌∷◌, Some, None, refl, sym, ap, ◌∙◌}
+use Rattle.std.proofs.Common.{◌≡◌, ℕ, List, [], ◌∷◌, Some, refl, ap, ◌∙◌}
 use Rattle.tw_lexer.specs.declared.place.Place.{Place}
 use Rattle.tw_parse.specs.Faults.{leaf_by, leaf_of}
-use Rattle.tw_parse.specs.Syntax as syntax
 use Rattle.tw_parse.specs.View.{term_of}
 use Rattle.tw_parse.specs.Words.{Lexeme, first_word, first_bytes, first_place}
 use Rattle.tw_parse.specs.declared.words.Word.TheVariants.{Name, Underscore, Star as StarWord}
-use Rattle.tw_parse.specs.declared.term.ExtTerm.{ExtTerm, Ident, Hole, Star}
+use Rattle.tw_parse.specs.declared.term.ExtTerm.{Ident, Hole, Star}
 use Rattle.tw_parse.proofs.Views.{term_of-Ident, term_of-Hole, term_of-Star}
 
 leaf_is : (end : Place) (xs : List Lexeme) → leaf_by (first_word xs) (first_bytes xs) (first_place end xs) ≡ leaf_of xs

@@ -1,4 +1,5 @@
 pub mod Views
+pub mod Weights
 pub mod Lexemes
 pub mod Levels
 pub mod Dots
@@ -18,3 +19,7 @@ pub mod Drafts
 pub mod Ports
 pub mod Failing
 pub mod Stopping
+pub mod Misfits
+pub mod OneOutline
+pub mod OneDeclaration
+pub mod OneReading

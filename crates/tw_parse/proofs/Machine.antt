@@ -1,9 +1,9 @@
 -- How the stack of waiting signs runs.
-use Rattle.std.proofs.Common.{◌≡◌, List, [], ◌∷◌, ◌++◌, Bool, true, false, ◌&&◌, Option, None, Some, if◌then◌else◌, refl, sym, ap, subst, ◌∙◌, ◌⊎◌, inl, inr, ⊎_elim}
+use Rattle.std.proofs.Common.{◌≡◌, List, [], ◌∷◌, ◌++◌, Bool, true, false, ◌&&◌, Option, None, Some, if◌then◌else◌, refl, ap, ◌∙◌, ◌⊎◌, ⊎_elim}
 use Rattle.std.proofs.lemmas.Bool.{cases_Bool}
 use Rattle.tw_parse.specs.Grammar.{Item}
-use Rattle.tw_parse.specs.Piles.{Waiting, Settled, State, waits, yields, takes, closed, settle, settle_all, step, run, behind_side}
-use Rattle.tw_parse.specs.Signs.{is_from, fits, level_of, left_of, right_of}
+use Rattle.tw_parse.specs.Piles.{Waiting, Settled, State, waits, yields, takes, closed, settle, settle_all, step, run}
+use Rattle.tw_parse.specs.Signs.{is_from, fits, level_of, left_of}
 use Rattle.tw_parse.specs.declared.sign.Sign.{Sign}
 use Rattle.tw_parse.specs.declared.sign.Level.{Level}
 use Rattle.tw_parse.proofs.Order.{fits_up, both}

@@ -1,16 +1,16 @@
 -- A sequence that the stack of waiting signs reads has this reading alone, and one that it doesn't read has none, or another one beside each.
-use Rattle.std.proofs.Common.{◌≡◌, ℕ, List, [], ◌∷◌, ◌++◌, map, Bool, true, false, Option, None, Some, refl, sym, ap, subst, ◌∙◌, ◌⊎◌, inl, inr, ⊎_elim, append-nil}
+use Rattle.std.proofs.Common.{◌≡◌, ℕ, List, [], ◌∷◌, map, true, false, Option, None, Some, refl, sym, ap, subst, ◌∙◌, ◌⊎◌, inl, inr, ⊎_elim, append-nil}
 use Rattle.tw_fixity.specs.declared.table.Fix.{Fix}
 use Rattle.tw_parse.specs.Grammar.{Item, atom, sign, Reads, ReadsOnce}
 use Rattle.tw_parse.specs.Laws.{HasRow, HaveRows}
-use Rattle.tw_parse.specs.Piles.{Settled, State, settle_all, run, outcome, reading}
+use Rattle.tw_parse.specs.Piles.{Settled, settle_all, run, outcome, reading}
 use Rattle.tw_parse.specs.Readings.{sign_in}
 use Rattle.tw_parse.specs.Signs.{outer_level}
 use Rattle.tw_parse.specs.Syntax.{Term}
 use Rattle.tw_parse.specs.declared.sign.Sign.{Sign}
 use Rattle.tw_parse.proofs.Alike.{is_read, reading_alike}
 use Rattle.tw_parse.proofs.Sound.{reading_is}
-use Rattle.tw_parse.proofs.Tracks.{Tracked, Finds, track}
+use Rattle.tw_parse.proofs.Tracks.{Tracked, track}
 use Rattle.tw_parse.proofs.Turning.{Another}
 
 -- each reading is what the stack finds, or there is another and the stack finds none

@@ -1,8 +1,8 @@
 -- The order of levels, and what fits on the side of a sign.
-use Rattle.std.proofs.Common.{◌≡◌, ℕ, Bool, true, false, not, ◌&&◌, Option, None, Some, nat_le, refl, sym, ap, ◌∙◌, ◌⊎◌, ⊎_elim, arith}
+use Rattle.std.proofs.Common.{◌≡◌, ℕ, Bool, true, false, not, ◌&&◌, nat_le, refl, ⊎_elim, arith}
 use Rattle.std.proofs.lemmas.Bool.{cases_Bool}
 use Rattle.std.proofs.lemmas.Bool.Decides.{nat_tests}
-use Rattle.tw_parse.specs.Signs.{is_from, is_above, fits, level_of, outer_level}
+use Rattle.tw_parse.specs.Signs.{is_from, is_above, fits, level_of}
 use Rattle.tw_parse.specs.declared.sign.Sign.{Sign}
 use Rattle.tw_parse.specs.declared.sign.Sign.TheVariants.{Separator, Operator}
 use Rattle.tw_parse.specs.declared.sign.Level.{Level}

@@ -1,12 +1,11 @@
 -- What a sequence takes of the tokens: it takes the same whatever stands behind it.
 use Rattle.std.proofs.Common.{◌≡◌, ℕ, List, [], ◌∷◌, ◌++◌, Bool, true, false, Option, None, Some, refl, sym, ap, subst, ◌∙◌, append_assoc}
-use Rattle.std.specs.FinMap.{get}
 use Rattle.tw_lexer.specs.declared.place.Place.{Place}
-use Rattle.tw_parse.specs.Outlines.{Table, operator_of, sign_of, Outline, outline, Nodes, none, more, Node, leaf, mark, group, binding, typed_binding, Begins, a_sign, a_name, a_hole, a_type, a_group, Row, empty, one_more, Sequence, plain, with_binder, Binds, without_type, with_type}
+use Rattle.tw_parse.specs.Outlines.{Table, operator_of, Outline, outline, Nodes, none, more, Node, group, binding, typed_binding, Begins, a_sign, a_name, a_hole, a_type, a_group, Row, empty, one_more, Sequence, plain, with_binder, Binds, without_type, with_type}
 use Rattle.tw_parse.specs.Spots.{Frame, paren, domain, Spot, inside, opened, named, go, go_named, next, steps}
 use Rattle.tw_parse.specs.Words.{Lexeme, separator_of, binder_of, closer_of, is_bindable}
 use Rattle.tw_parse.specs.declared.sign.Sign.{Sign}
-use Rattle.tw_parse.specs.declared.sign.Sign.TheVariants.{Separator, Operator}
+use Rattle.tw_parse.specs.declared.sign.Sign.TheVariants.{Separator}
 use Rattle.tw_parse.specs.declared.words.Binder.{Binder}
 use Rattle.tw_parse.specs.declared.words.Binder.TheVariants.{Pi, Lambda}
 use Rattle.tw_parse.specs.declared.words.Word.{Word}

@@ -1,6 +1,6 @@
 -- What the stack of waiting signs gives is a reading.
 use Rattle.std.proofs.Common.{◌≡◌, List, [], ◌∷◌, ◌++◌, Bool, true, false, ◌&&◌, Option, None, Some, if◌then◌else◌, refl, sym, ap, subst, ◌∙◌, append_assoc, append-nil}
-use Rattle.tw_parse.specs.Grammar.{Item, atom, sign, joined, applied, Reads, alone, apply, between, before, behind}
+use Rattle.tw_parse.specs.Grammar.{Item, atom, sign, applied, Reads, alone, apply, between, before, behind}
 use Rattle.tw_parse.specs.Piles.{Waiting, Settled, State, waits, yields, made, takes, closed, settle, settle_all, with_atom, with_sign, behind_side, step, run, outcome, reading, is_application, is_absent, newest_takes}
 use Rattle.tw_parse.specs.Signs.{is_from, fits, level_of, left_of, right_of, outer_level}
 use Rattle.tw_parse.specs.Syntax.{Term, application}

@@ -1,5 +1,5 @@
 -- The stack of waiting signs that a vector stands for.
-use Rattle.std.proofs.Common.{◌≡◌, ℕ, List, [], ◌∷◌, ◌++◌, map, reverse, length, Bool, true, false, ◌&&◌, Option, None, Some, if◌then◌else◌, refl, sym, ap, ◌∙◌, arith}
+use Rattle.std.proofs.Common.{◌≡◌, List, [], ◌∷◌, ◌++◌, map, reverse, length, true, false, ◌&&◌, None, Some, refl, ap, ◌∙◌, arith}
 use Rattle.std.proofs.lemmas.List.{reverse-append, map-append}
 use Rattle.tw_parse.specs.Piles.{Waiting, Settled, waits, yields, takes, closed, settle, settle_all, waiting_of, stack_of}
 use Rattle.tw_parse.specs.declared.pile.Pending.{Pending}

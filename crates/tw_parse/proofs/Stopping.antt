@@ -1,11 +1,11 @@
 -- A declaration stops at the first token that can't go on.
-use Rattle.std.proofs.Common.{◌≡◌, ◌≢◌, ℕ, ◌+◌, List, [], ◌∷◌, ◌++◌, map, Bool, true, false, Option, None, Some, Ok, Err, IfErr, drop, refl, sym, ap, subst, ◌∙◌, append_assoc, append-nil}
+use Rattle.std.proofs.Common.{◌≡◌, ◌≢◌, ℕ, ◌+◌, List, [], ◌∷◌, ◌++◌, map, Bool, true, false, Option, None, Some, Ok, Err, IfErr, drop, refl, sym, ap, subst, ◌∙◌, append_assoc}
 use Rattle.tw_fixity.specs.declared.table.Fix.{Fix}
 use Rattle.tw_lexer.specs.declared.place.Place.{Place}
-use Rattle.tw_parse.specs.Failing.{ended, is_item, CanBegin, StopsAt, CanGo, Dies, StopsIn, IsDue, SequenceFault}
-use Rattle.tw_parse.specs.Keywords.{form_of, fix_by, fix_of}
+use Rattle.tw_parse.specs.Failing.{is_item, CanBegin, StopsAt, StopsIn, IsDue, SequenceFault}
+use Rattle.tw_parse.specs.Keywords.{form_of, fix_by}
 use Rattle.tw_parse.specs.Outlines.{Table, Outline, Sequence, Head, a_definition, a_check, an_abbreviation, bytes_in, Shapes, declares, defines, defines_typed, prefers, prefers_both, gives}
-use Rattle.tw_parse.specs.Spots.{Frame, Spot, inside, opened, named, close, go, next, steps, IsWithin, Ending, either, by_equals, by_dot, State, start, free, abbreviation, behind, reading, done, begin, begin_keyword, name_next, behind_next, end_next, leave, lead, next_state, runs}
+use Rattle.tw_parse.specs.Spots.{Frame, Spot, inside, opened, named, go, next, steps, IsWithin, Ending, either, by_equals, by_dot, State, start, free, behind, reading, done, begin, begin_keyword, name_next, behind_next, end_next, leave, lead, next_state, runs}
 use Rattle.std.specs.declared.result.Result.{Result}
 use Rattle.tw_parse.specs.Faults.{IsRead, GrammarFault, FaultStands, FaultOf}
 use Rattle.tw_parse.specs.Sources.{lexemes_from}
@@ -13,15 +13,15 @@ use Rattle.tw_parse.specs.declared.decl.ExtDecl.{ExtDecl}
 use Rattle.tw_parse.specs.declared.fault.SyntaxFault.{SyntaxFault}
 use Rattle.tw_parse.specs.declared.fault.SyntaxFault.TheVariants.{Unsupported, Nesting, Syntax, Fixity, BadDecl, NoMemory}
 use Rattle.tw_parse.specs.declared.source.Source.{Source}
-use Rattle.tw_parse.specs.Syntax.{DeclarationOf, declare, define}
+use Rattle.tw_parse.specs.Syntax.{DeclarationOf, define}
 use Rattle.tw_parse.specs.Words.{Lexeme, first_word, first_place}
 use Rattle.tw_parse.specs.declared.words.Form.{Form}
 use Rattle.tw_parse.specs.declared.words.Form.TheVariants as forms
 use Rattle.tw_parse.specs.declared.words.Word.{Word}
 use Rattle.tw_parse.specs.declared.words.Word.TheVariants.{Name, Forward, Backward, Underscore, Star, Equals, Keyword, Colon, Dot, LParen, RParen, LBrace, RBrace, LBracket, RBracket, End}
 use Rattle.tw_parse.proofs.Building.{Token, a_token}
-use Rattle.tw_parse.proofs.Failing.{a_word, at_end, ended_behind, hole_sequence, unbegun}
-use Rattle.tw_parse.proofs.Ports.{SequencePort, port_sequence}
+use Rattle.tw_parse.proofs.Failing.{a_word, at_end, ended_behind, hole_sequence}
+use Rattle.tw_parse.proofs.Ports.{port_sequence}
 
 runs_none : (xs : List Lexeme) → runs None xs ≡ None
 runs_none [] = refl

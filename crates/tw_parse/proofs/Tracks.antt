@@ -4,7 +4,7 @@ use Rattle.std.proofs.lemmas.Bool.{cases_Bool}
 use Rattle.tw_fixity.specs.declared.table.Fix.{Fix}
 use Rattle.tw_parse.specs.Grammar.{Item, atom, sign, joined, applied, Reads, alone, apply, between, before, behind}
 use Rattle.tw_parse.specs.Laws.{HasRow, HaveRows}
-use Rattle.tw_parse.specs.Piles.{Waiting, Settled, State, waits, yields, made, takes, closed, settle, settle_all, step, run, behind_side, with_sign, newest_takes, is_absent}
+use Rattle.tw_parse.specs.Piles.{Waiting, Settled, State, made, settle, settle_all, step, run, behind_side, with_sign, newest_takes}
 use Rattle.tw_parse.specs.Signs.{is_from, fits, level_of, left_of, right_of, outer_level}
 use Rattle.tw_parse.specs.Syntax.{Term, application}
 use Rattle.tw_parse.specs.declared.sign.Level.TheVariants as levels
@@ -14,7 +14,7 @@ use Rattle.tw_parse.specs.declared.sign.Side.{Side}
 use Rattle.tw_parse.specs.declared.sign.Side.TheVariants.{Absent, Above, From}
 use Rattle.tw_parse.proofs.Different.{LeftIs, applied_alike, joined_left, made_alike}
 use Rattle.tw_parse.proofs.Machine.{run_append, run_none, fails_on, goes_on, AllFrom, NoneTakes, SomeTakes, settle_all_append, settle_all_one, settle_stop, settle_through, settle_meets, settle_below}
-use Rattle.tw_parse.proofs.Order.{from_refl, from_trans, fits_from, fits_up, both, is_false, above_not, not_above_itself, clean_left, takes_down, takes_not_below, no_application}
+use Rattle.tw_parse.proofs.Order.{from_refl, from_trans, fits_from, fits_up, above_not, not_above_itself, clean_left, takes_down, takes_not_below, no_application}
 use Rattle.tw_parse.proofs.Turning.{Another, rows_before, rows_behind, rows_moved, could_yield, Builds, turn_right, IsOpen, BuildsBehind, RightIs, ended, turn_left}
 
 -- the items are read from this state on, and then waiting signs stand above the stack which give the term

@@ -1,16 +1,15 @@
 -- A reading in which two signs both could be the inner one, turned round.
-use Rattle.std.proofs.Common.{◌≡◌, ℕ, List, [], ◌∷◌, ◌++◌, Bool, true, false, Option, None, Some, refl, sym, ap, subst, ◌∙◌, append_assoc}
+use Rattle.std.proofs.Common.{◌≡◌, ℕ, List, [], ◌∷◌, ◌++◌, Bool, true, false, Option, None, Some, sym, ap, subst, ◌∙◌, append_assoc}
 use Rattle.tw_fixity.specs.declared.table.Fix.{Fix}
 use Rattle.tw_parse.specs.Grammar.{Item, atom, sign, joined, applied, Reads, alone, apply, between, before, behind}
 use Rattle.tw_parse.specs.Laws.{HasRow, HaveRows}
-use Rattle.tw_parse.specs.Piles.{Waiting, waits, yields, made}
+use Rattle.tw_parse.specs.Piles.{waits, yields, made}
 use Rattle.tw_parse.specs.Signs.{is_from, fits, level_of, left_of, right_of, outer_level}
 use Rattle.tw_parse.specs.Syntax.{Term}
 use Rattle.tw_parse.specs.declared.sign.Sign.{Sign}
-use Rattle.tw_parse.specs.declared.sign.Side.{Side}
-use Rattle.tw_parse.specs.declared.sign.Side.TheVariants.{Absent, Above, From}
-use Rattle.tw_parse.proofs.Order.{from_trans, fits_from, fits_up}
-use Rattle.tw_parse.proofs.Different.{IsOperator, are_operators, LeftIs, between_differ, behind_differ}
+use Rattle.tw_parse.specs.declared.sign.Side.TheVariants.{Absent, From}
+use Rattle.tw_parse.proofs.Order.{fits_from, fits_up}
+use Rattle.tw_parse.proofs.Different.{are_operators, LeftIs, between_differ, behind_differ}
 
 -- another reading of the same items, of no lower level
 pub record Another (f : Option Sign) (items : List Item) (M : Term) : Type 0 where

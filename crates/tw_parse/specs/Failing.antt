@@ -1,9 +1,9 @@
 -- Where reading stops for want of a token that goes on.
-use Rattle.std.specs.Prelude.{◌≡◌, ◌≢◌, ℕ, List, [], ◌∷◌, ◌++◌, Bool, true, false, Option, None, Some}
+use Rattle.std.specs.Prelude.{◌≡◌, ℕ, List, [], ◌∷◌, ◌++◌, Bool, true, false, None, Some}
 use Rattle.tw_lexer.specs.declared.place.Place.{Place}
 use Rattle.tw_parse.specs.Outlines.{Table, Outline, Node, Sequence, Binds, Shapes}
 use Rattle.tw_parse.specs.Sources.{lexemes_from}
-use Rattle.tw_parse.specs.Spots.{Frame, Spot, inside, next, steps, IsWithin, Ending, by_dot, State, start, reading, runs}
+use Rattle.tw_parse.specs.Spots.{Frame, Spot, inside, next, steps, IsWithin, Ending, by_dot, start, reading, runs}
 use Rattle.tw_parse.specs.Syntax.{DeclarationOf}
 use Rattle.tw_parse.specs.Words.{Lexeme}
 use Rattle.tw_parse.specs.declared.fault.SyntaxFault.{SyntaxFault}

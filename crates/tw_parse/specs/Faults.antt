@@ -1,12 +1,12 @@
 -- Why tokens are no declaration.
-use Rattle.std.specs.Prelude.{◌≡◌, ◌≢◌, ℕ, ◌+◌, List, [], ◌∷◌, ◌++◌, map, Bool, Option, Some, None, IsSome, Ok, Err}
+use Rattle.std.specs.Prelude.{◌≡◌, ◌≢◌, ℕ, ◌+◌, List, [], ◌∷◌, ◌++◌, map, Bool, true, false, Option, Some, None, Ok, Err}
 use Rattle.std.specs.declared.result.Result.{Result}
 use Rattle.tw_parse.specs.declared.decl.ExtDecl.{ExtDecl}
 use Rattle.tw_parse.specs.declared.decl.ExtDecl.TheVariants.{Declare, Define}
 use Rattle.tw_parse.specs.declared.parts.Part.TheVariants as parts
 use Rattle.tw_lexer.specs.declared.place.Place.{Place}
 use Rattle.tw_fixity.specs.declared.table.Fix.{Fix}
-use Rattle.tw_parse.specs.Keywords.{form_of, fix_by}
+use Rattle.tw_parse.specs.Keywords.{form_of, is_built, fix_by}
 use Rattle.tw_parse.specs.Nesting.{first_too_deep}
 use Rattle.tw_parse.specs.Outlines.{Table, Outline, Sequence, Shapes, Names, bytes_in, sign_of}
 use Rattle.tw_parse.specs.Readings.{FirstFaultOf, Declares}
@@ -52,25 +52,29 @@ leaf_of (x ∷ xs) = leaf_by x.word x.bytes x.at
 abbrev pub Ends : Table → List Lexeme → Outline → Type 0
 Ends table tokens O = (dot : Lexeme) × (dot.word ≡ Dot) × Sequence table tokens O (dot ∷ [])
 
--- no unknown keyword stands first
+-- no keyword stands first but one whose declarations are read
 abbrev pub IsKnown : List Lexeme → Type 0
-IsKnown tokens = first_word tokens ≡ Keyword → IsSome (form_of (first_bytes tokens))
+IsKnown tokens = first_word tokens ≡ Keyword → is_built (form_of (first_bytes tokens)) ≡ true
 
 -- no cause that is told before the grammar stands
 abbrev pub IsRead : List Lexeme → Type 0
 IsRead tokens = IsKnown tokens × (first_too_deep [] 0 tokens ≡ None)
 
--- a fault of tokens that are read: no declaration begins with the tokens through this one, which is the first such; some sequence has not one reading, and the first such one begins here; or the tokens behind a known keyword are none of its declarations
+-- the tokens are no declaration
+abbrev pub HasNoShape : Table → List Lexeme → Type 0
+HasNoShape table tokens = (D : DeclarationOf Outline) → Shapes table tokens D → ⊥
+
+-- a fault of tokens that are read: no declaration begins with the tokens through this one, which is the first such; some sequence has not one reading, and the first such one begins here; or a keyword stands first, and the tokens are no declaration
 abbrev pub GrammarFault : Table → Place → List Lexeme → SyntaxFault → Type 0
 GrammarFault table end tokens (Syntax place) = StopsAt table end tokens place
 GrammarFault table end tokens (Fixity place) = (D : DeclarationOf Outline) × Shapes table tokens D × FirstFaultOf D place
-GrammarFault table end tokens (BadDecl place) = (first_word tokens ≡ Keyword) × (place ≡ first_place end tokens)
+GrammarFault table end tokens (BadDecl place) = (first_word tokens ≡ Keyword) × (place ≡ first_place end tokens) × HasNoShape table tokens
 GrammarFault table end tokens NoMemory = Unit {0}
 GrammarFault table end tokens _ = ⊥
 
 -- what a fault says of the tokens, where this is the place behind them
 abbrev pub FaultStands : Table → Place → List Lexeme → SyntaxFault → Type 0
-FaultStands table end tokens (Unsupported name place) = (first_word tokens ≡ Keyword) × (form_of (first_bytes tokens) ≡ None) × (name ≡ first_bytes tokens) × (place ≡ first_place end tokens)
+FaultStands table end tokens (Unsupported name place) = (first_word tokens ≡ Keyword) × (is_built (form_of (first_bytes tokens)) ≡ false) × (name ≡ first_bytes tokens) × (place ≡ first_place end tokens)
 FaultStands table end tokens (Nesting place) = IsKnown tokens × (first_too_deep [] 0 tokens ≡ Some place)
 FaultStands table end tokens (Syntax place) = IsRead tokens × GrammarFault table end tokens (Syntax place)
 FaultStands table end tokens (Fixity place) = IsRead tokens × GrammarFault table end tokens (Fixity place)
@@ -96,6 +100,10 @@ NamesBetween source from upto names = (taken : List Lexeme) × (lexemes_from sou
 -- the words behind a keyword of this form, up to this number, are a row
 abbrev pub RowUpTo : Source → Form → Fix → ℕ → Type 0
 RowUpTo source form fix upto = (words : List Lexeme) × (lexemes_from source 1 ≡ words ++ lexemes_from source upto) × (fix_by (Some form) (map bytes_in words) ≡ Some fix)
+
+-- no words behind the first token are a row of this form
+abbrev pub HasNoRow : Source → Form → Type 0
+HasNoRow source form = (words rest : List Lexeme) → lexemes_from source 1 ≡ words ++ rest → fix_by (Some form) (map bytes_in words) ≡ None
 
 -- a keyword of this form stands first
 abbrev pub FormIs : Source → Form → Type 0

@@ -1,5 +1,5 @@
 -- The keywords that are known, and what stands behind them.
-use Rattle.std.specs.Prelude.{ℕ, List, [], ◌∷◌, Bool, true, false, not, ◌&&◌, ◌||◌, ◌+◌, ◌-◌, ◌*◌, Option, None, Some, nat_lt, nat_le, codes, ◌==◌, if◌then◌else◌}
+use Rattle.std.specs.Prelude.{ℕ, List, [], ◌∷◌, Bool, true, false, ◌&&◌, ◌||◌, ◌+◌, ◌-◌, ◌*◌, Option, None, Some, nat_lt, nat_le, codes, ◌==◌, if◌then◌else◌}
 use Rattle.std.specs.Str.{bytes_eq}
 use Rattle.tw_fixity.specs.declared.table.Assoc.{Assoc}
 use Rattle.tw_fixity.specs.declared.table.Assoc.TheVariants.{Neither, Left, Right}
@@ -19,6 +19,12 @@ form_of bytes =
     if bytes_eq bytes (codes "%prefix") then Some Prefix else
     if bytes_eq bytes (codes "%postfix") then Some Postfix else
     None
+
+-- whether declarations with a keyword of this form are read; nothing is defined yet, so abbreviations are refused
+abbrev pub is_built : Option Form → Bool
+is_built None = false
+is_built (Some Abbreviation) = false
+is_built (Some form) = true
 
 abbrev pub assoc_of : List ℕ → Option Assoc
 assoc_of bytes =

@@ -1,9 +1,12 @@
--- Laws of readings.
+-- Laws of outlines and readings.
 use Rattle.std.specs.Prelude.{◌≡◌, ℕ, List, [], ◌∷◌, Option, Some, map, ◌⊎◌}
 use Rattle.tw_fixity.specs.declared.table.Fix.{Fix}
-use Rattle.tw_parse.specs.Syntax.{Term}
+use Rattle.tw_lexer.specs.declared.place.Place.{Place}
+use Rattle.tw_parse.specs.Outlines.{Table, Outline, Shapes}
+use Rattle.tw_parse.specs.Syntax.{Term, DeclarationOf, Declaration}
+use Rattle.tw_parse.specs.Words.{Lexeme}
 use Rattle.tw_parse.specs.Grammar.{Item, atom, sign, ReadsOnce}
-use Rattle.tw_parse.specs.Readings.{sign_in}
+use Rattle.tw_parse.specs.Readings.{sign_in, Declares, FirstFaultOf}
 use Rattle.tw_parse.specs.declared.sign.Sign.{Sign}
 use Rattle.tw_parse.specs.declared.sign.Sign.TheVariants.{Separator, Operator}
 
@@ -23,3 +26,12 @@ abbrev pub ReadingsAreDecided : Type 0
 ReadingsAreDecided = (rows : List ℕ → Option Fix) (items : List Item) → HaveRows rows items
     → ((others : List Item) → map sign_in others ≡ map sign_in items → (M : Term) × ReadsOnce others M)
     ⊎ ((others : List Item) → map sign_in others ≡ map sign_in items → (M : Term) → ReadsOnce others M → ⊥)
+
+-- tokens are one declaration at most, with one outline
+abbrev pub OutlinesAreUnique : Type 0
+OutlinesAreUnique = (table : Table) (tokens : List Lexeme) (D E : DeclarationOf Outline) → Shapes table tokens D → Shapes table tokens E → D ≡ E
+
+-- tokens that are read are no other declaration, and no sequence in them is at fault
+abbrev pub ReadingIsUnique : Type 0
+ReadingIsUnique = (table : Table) (tokens : List Lexeme) (d : Declaration) → Declares table tokens d
+    → ((e : Declaration) → Declares table tokens e → e ≡ d) × ((D : DeclarationOf Outline) (place : Place) → Shapes table tokens D → FirstFaultOf D place → ⊥)

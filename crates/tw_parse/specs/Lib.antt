@@ -1,5 +1,6 @@
 pub mod Syntax
 pub mod View
+pub mod Dropping
 pub mod Words
 pub mod Keywords
 pub mod Signs

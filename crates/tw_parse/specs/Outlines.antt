@@ -1,5 +1,5 @@
 -- The grammar of sequences and declarations, with operators not looked at: what tokens are before their sequences are read.
-use Rattle.std.specs.Prelude.{◌≡◌, ◌≢◌, ℕ, List, [], ◌∷◌, ◌++◌, Bool, true, false, Option, None, Some, codes, map}
+use Rattle.std.specs.Prelude.{◌≡◌, ℕ, List, [], ◌∷◌, ◌++◌, Bool, true, false, Option, None, Some, map}
 use Rattle.std.specs.FinMap.{FinMap, get}
 use Rattle.tw_fixity.specs.Rows.{name_order}
 use Rattle.tw_fixity.specs.declared.table.Fix.{Fix}

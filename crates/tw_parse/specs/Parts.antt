@@ -1,9 +1,9 @@
 -- What the parts of a sequence say of their outlines.
 use Rattle.std.specs.Prelude.{◌≡◌, ℕ, ◌+◌, List, Bool, true, false, Option, None, Some}
 use Rattle.tw_lexer.specs.declared.place.Place.{Place}
-use Rattle.tw_parse.specs.Grammar.{Item, atom, bound}
+use Rattle.tw_parse.specs.Grammar.{Item, bound}
 use Rattle.tw_parse.specs.Outlines.{Outline, Node, Begins, Sequence, Binds}
-use Rattle.tw_parse.specs.Readings.{Means, IsItem, FirstFault, FaultWithin}
+use Rattle.tw_parse.specs.Readings.{IsItem}
 use Rattle.tw_parse.specs.Faults.{first_sign, leaf_of}
 use Rattle.tw_parse.specs.Piles.{state_of, step}
 use Rattle.tw_parse.specs.Sources.{lexemes_from}

@@ -3,7 +3,7 @@ use Rattle.std.specs.Prelude.{◌≡◌, ℕ, List, [], ◌∷◌, ◌++◌, Boo
 use Rattle.tw_fixity.specs.declared.table.Fix.{Fix}
 use Rattle.tw_lexer.specs.declared.place.Place.{Place}
 use Rattle.tw_parse.specs.Grammar.{Item, atom, sign, ReadsOnce, bound}
-use Rattle.tw_parse.specs.Outlines.{Table, Outline, outline, Nodes, none, more, Node, leaf, mark, group, binding, typed_binding, Sequence, Shapes}
+use Rattle.tw_parse.specs.Outlines.{Table, Outline, outline, Nodes, none, more, Node, leaf, mark, group, binding, typed_binding, Shapes}
 use Rattle.tw_parse.specs.Syntax.{Term, untyped, typed, DeclarationOf, Declaration, declare, define, prefer, give}
 use Rattle.tw_parse.specs.Words.{Lexeme}
 use Rattle.tw_parse.specs.declared.words.Binder.{Binder}

@@ -1,7 +1,7 @@
 -- Where a reader stands among the tokens of a declaration, and how far it can go.
-use Rattle.std.specs.Prelude.{◌≡◌, List, [], ◌∷◌, ◌++◌, Bool, true, false, Option, None, Some, if◌then◌else◌}
+use Rattle.std.specs.Prelude.{List, [], ◌∷◌, Bool, true, false, Option, None, Some, if◌then◌else◌}
 use Rattle.tw_parse.specs.Keywords.{form_of}
-use Rattle.tw_parse.specs.Words.{Lexeme, closer_of, is_bindable}
+use Rattle.tw_parse.specs.Words.{Lexeme, is_bindable}
 use Rattle.tw_parse.specs.declared.words.Binder.{Binder}
 use Rattle.tw_parse.specs.declared.words.Binder.TheVariants.{Pi, Lambda}
 use Rattle.tw_parse.specs.declared.words.Form.{Form}

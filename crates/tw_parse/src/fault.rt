@@ -10,8 +10,8 @@ use tw_lexer::Place;
 /// Why tokens are no declaration, and where. Of several causes the first in this order is told.
 #[derive(Debug, Drop, Error)]
 pub enum SyntaxFault {
-    /// A keyword that is not known stands first.
-    #[error("a keyword at line {} and column {} is not known", .1.line, .1.column)]
+    /// A keyword stands first whose declarations are not read.
+    #[error("a keyword at line {} and column {} is not supported", .1.line, .1.column)]
     Unsupported(Name, Place),
     /// This bracket is nested too deep.
     #[error("nested too deep at line {} and column {}", .0.line, .0.column)]

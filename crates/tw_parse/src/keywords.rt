@@ -1,6 +1,6 @@
 //! The keywords that are known, and what stands behind them.
 ghost use Rattle.std.specs.Prelude.{◌≡◌};
-ghost use Rattle.tw_parse.specs.Keywords.{form_of, assoc_of, is_digit, precedence_of, is_upper, is_identifier};
+ghost use Rattle.tw_parse.specs.Keywords.{form_of, is_built, assoc_of, is_digit, precedence_of, is_upper, is_identifier};
 
 use crate::words::{Form, Word};
 use tw_fixity::Assoc;
@@ -25,6 +25,13 @@ pub fn form_of(bytes: &[u8]) -> Option<Form>
     } else {
         None
     }
+}
+
+/// Whether declarations with a keyword of this form are read. Nothing is defined yet, so abbreviations are refused.
+pub fn is_built(form: Option<Form>) -> bool
+    ensures { result ≡ is_built form }
+{
+    !matches!(form, None | Some(Form::Abbreviation))
 }
 
 /// The side to which an infix operator associates, by its word.

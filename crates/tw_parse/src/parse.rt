@@ -1,8 +1,9 @@
 //! Reading declarations.
 ghost use Rattle.std.specs.Prelude.{◌≡◌, ◌≢◌, ℕ, ◌+◌, ◌≤◌, length, All, IfOk, IfErr, OnOk, MatchOption, Some, None, true, false};
 ghost use Rattle.tw_lexer.specs.Tokens.{IsWithin, ThroughDot};
-ghost use Rattle.tw_parse.specs.Faults.{DotEnds, IsRead, IsKnown, FaultStands, FaultOf, DeclaresAll, EndsAs, NamesBetween, RowUpTo, FormIs, FormFits, defined, declared};
+ghost use Rattle.tw_parse.specs.Faults.{DotEnds, IsRead, IsKnown, FaultStands, FaultOf, DeclaresAll, EndsAs, NamesBetween, RowUpTo, HasNoRow, HasNoShape, FormIs, FormFits, defined, declared};
 ghost use Rattle.tw_parse.specs.Failing.{StopsAt, LastIsDue};
+ghost use Rattle.tw_parse.specs.Keywords.{is_identifier};
 ghost use Rattle.tw_parse.specs.Outlines.{Head};
 ghost use Rattle.tw_parse.specs.declared.words.Word.TheVariants.{Keyword};
 ghost use Rattle.tw_parse.specs.Readings.{Declares};
@@ -12,7 +13,7 @@ ghost use Rattle.tw_parse.specs.Words.{lexemes, first_word, first_bytes, first_p
 
 use crate::decl::{ExtDecl, ExtName};
 use crate::fault::SyntaxFault;
-use crate::keywords::{assoc_of, form_of, is_identifier, is_upper, precedence_of};
+use crate::keywords::{assoc_of, form_of, is_built, is_identifier, is_upper, precedence_of};
 use crate::nesting::too_deep;
 use crate::parts::Part;
 use crate::sequences::sequence;
@@ -23,19 +24,27 @@ use std::alloc::{AllocError, Global};
 use tw_fixity::{Fix, FixTable, Name};
 use tw_lexer::{Place, Tokens};
 
-/// The most operators of a declaration. Each may nest what is read by one level, and dropping that nests as many calls; past this memory counts as used up.
-const MOST_OPERATORS: usize = 16_384;
-
 // The fault of a wrong token that stands in no term.
 fn wrong(source: &Source<'_>, number: usize) -> SyntaxFault
-    requires { first_word (lexemes_from source.now 0) ≢ Keyword → StopsAt source.now.fixities.now source.now.end (lexemes_from source.now 0) (first_place source.now.end (lexemes_from source.now number)) }
-    ensures { FaultOf source.now result }
+    requires { StopsAt source.now.fixities.now source.now.end (lexemes_from source.now 0) (first_place source.now.end (lexemes_from source.now number)) }
+    ensures stands { FaultOf source.now result }
+    ensures told { result ≢ SyntaxFault.NoMemory }
 {
     if source.word(0) == Word::Keyword {
         SyntaxFault::BadDecl(source.place(0))
     } else {
         SyntaxFault::Syntax(source.place(number))
     }
+}
+
+// The fault of a keyword whose rules the tokens behind it break.
+fn misfit(source: &Source<'_>) -> SyntaxFault
+    requires keyword { first_word (lexemes_from source.now 0) ≡ Keyword }
+    requires shape { HasNoShape source.now.fixities.now (lexemes_from source.now 0) }
+    ensures stands { FaultOf source.now result }
+    ensures told { result ≢ SyntaxFault.NoMemory }
+{
+    SyntaxFault::BadDecl(source.place(0))
 }
 
 // What is defined, where these parts tell of its type and its term.
@@ -145,7 +154,7 @@ fn abbreviation(alloc: Global, source: &Source<'_>) -> Result<ExtDecl, SyntaxFau
     ensures fault { IfErr result (FaultOf source.now) }
 {
     if source.word(1) != Word::Name {
-        return Err(wrong(source, 1));
+        return Err(misfit(source));
     }
     let name = source.name(alloc, 1)?;
     behind_name(alloc, source, 1, Some(name), true)
@@ -162,7 +171,7 @@ fn preference(alloc: Global, source: &Source<'_>) -> Result<ExtDecl, SyntaxFault
         || source.word(2) != Word::Name
         || !is_upper(source.bytes(2))
     {
-        return Err(wrong(source, 0));
+        return Err(misfit(source));
     }
     let family = ext_name(alloc, source, 1)?;
     let upper = source.name(alloc, 2)?;
@@ -170,7 +179,7 @@ fn preference(alloc: Global, source: &Source<'_>) -> Result<ExtDecl, SyntaxFault
         return Ok(ExtDecl::NamePref(family, upper, None));
     }
     if source.word(3) != Word::Name || is_upper(source.bytes(3)) || source.word(4) != Word::Dot {
-        return Err(wrong(source, 0));
+        return Err(misfit(source));
     }
     let lower = source.name(alloc, 3)?;
     Ok(ExtDecl::NamePref(family, upper, Some(lower)))
@@ -178,7 +187,7 @@ fn preference(alloc: Global, source: &Source<'_>) -> Result<ExtDecl, SyntaxFault
 
 // The row that stands behind the keyword, and the number of the token behind it.
 fn row(source: &Source<'_>, form: Form) -> Option<(Fix, usize)>
-    ensures { MatchOption result (Unit {0}) (λ r. RowUpTo source.now form r.0 r.1) }
+    ensures { MatchOption result (HasNoRow source.now form) (λ r. RowUpTo source.now form r.0 r.1) }
 {
     match form {
         Form::Infix => {
@@ -204,7 +213,8 @@ fn names(
     source: &Source<'_>,
     from: usize,
 ) -> Result<(Vec<ExtName>, usize), AllocError>
-    ensures { IfOk result (λ r. NamesBetween source.now from r.1 r.0.items) }
+    ensures between { IfOk result (λ r. NamesBetween source.now from r.1 r.0.items) }
+    ensures all { IfOk result (λ r. is_identifier (first_word (lexemes_from source.now r.1)) ≡ false) }
 {
     let mut names = Vec::new(alloc);
     let mut upto = from;
@@ -220,15 +230,17 @@ fn names(
 fn fixity(alloc: Global, source: &Source<'_>, form: Form) -> Result<ExtDecl, SyntaxFault>
     requires dot { DotEnds source.now }
     requires form { FormIs source.now form }
+    requires no_abbreviation { form ≢ Form.Abbreviation }
+    requires no_preference { form ≢ Form.Preference }
     ensures reads { IfOk result (λ d. DeclaresAll source.now (declaration_of d)) }
     ensures fault { IfErr result (FaultOf source.now) }
 {
     let Some((fix, from)) = row(source, form) else {
-        return Err(wrong(source, 0));
+        return Err(misfit(source));
     };
     let (names, end) = names(alloc, source, from)?;
     if names.is_empty() || source.word(end) != Word::Dot {
-        return Err(wrong(source, 0));
+        return Err(misfit(source));
     }
     Ok(ExtDecl::Fixity(fix, names))
 }
@@ -258,7 +270,7 @@ fn declaration(
     }
 }
 
-// The form that the first token asks for, if it is a keyword; a fault where it is one that is not known.
+// The form that the first token asks for, if it is a keyword; a fault where its declarations are not read.
 fn known_form(alloc: Global, source: &Source<'_>) -> Result<Option<Form>, SyntaxFault>
     ensures form { IfOk result (FormFits source.now) }
     ensures known { OnOk result (IsKnown (lexemes_from source.now 0)) }
@@ -267,39 +279,12 @@ fn known_form(alloc: Global, source: &Source<'_>) -> Result<Option<Form>, Syntax
     if source.word(0) != Word::Keyword {
         return Ok(None);
     }
-    match form_of(source.bytes(0)) {
-        Some(form) => Ok(Some(form)),
-        None => {
-            let name = source.name(alloc, 0)?;
-            Err(SyntaxFault::Unsupported(name, source.place(0)))
-        }
+    let form = form_of(source.bytes(0));
+    if !is_built(form) {
+        let name = source.name(alloc, 0)?;
+        return Err(SyntaxFault::Unsupported(name, source.place(0)));
     }
-}
-
-// Whether the tokens have more operators than a declaration may have.
-fn has_many_operators(source: &Source<'_>) -> bool {
-    let mut count = 0;
-    for number in 0..source.tokens.len() {
-        if source.fixities.get_bytes(source.bytes(number)).is_some() {
-            if count >= MOST_OPERATORS {
-                return true;
-            }
-            count += 1;
-        }
-    }
-    false
-}
-
-// The form that the first token asks for, where the tokens have no more operators than they may.
-fn allowed_form(alloc: Global, source: &Source<'_>) -> Result<Option<Form>, SyntaxFault>
-    ensures form { IfOk result (FormFits source.now) }
-    ensures known { OnOk result (IsKnown (lexemes_from source.now 0)) }
-    ensures fault { IfErr result (FaultStands source.now.fixities.now source.now.end (lexemes_from source.now 0)) }
-{
-    if has_many_operators(source) {
-        return Err(SyntaxFault::NoMemory);
-    }
-    known_form(alloc, source)
+    Ok(form)
 }
 
 /// Reads a declaration from the tokens that `lex` gave for this text: the one reading that the operators of the table give it, or the cause why there is none.
@@ -312,7 +297,7 @@ pub fn parse_decl(
     requires within { All (IsWithin (length text.now)) tokens.now.list.items }
     requires through_dot { (from : ℕ) × ThroughDot text.now from tokens.now.list.items tokens.now.upto }
     ensures reading { IfOk result (λ d. Declares fixities.now (lexemes text.now tokens.now.list.items) (declaration_of d)) }
-    // No unknown keyword stands first, and no bracket opens past the limit of nesting.
+    // No keyword stands first whose declarations are not read, and no bracket opens past the limit of nesting.
     ensures first_causes { OnOk result (IsRead (lexemes text.now tokens.now.list.items)) }
     ensures fault { IfErr result (FaultStands fixities.now tokens.now.at (lexemes text.now tokens.now.list.items)) }
 {
@@ -322,7 +307,7 @@ pub fn parse_decl(
         end: tokens.at,
         fixities,
     };
-    let form = allowed_form(alloc, &source)?;
+    let form = known_form(alloc, &source)?;
     if let Some(place) = too_deep(alloc, &source)? {
         return Err(SyntaxFault::Nesting(place));
     }

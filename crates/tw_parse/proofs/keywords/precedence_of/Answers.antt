@@ -1,5 +1,5 @@
-use Rattle.std.proofs.Common.{◌≡◌, ℕ, ◌+◌, ◌-◌, ◌*◌, ◌<◌, ◌≤◌, length, drop, get_or, sym, ap, refl, ◌∙◌, arith}
-use Rattle.tw_parse.specs.Keywords.{number_from, below_limit}
+use Rattle.std.proofs.Common.{ℕ, ◌+◌, ◌-◌, ◌*◌, ◌<◌, ◌≤◌, length, drop, get_or, sym, ap, refl, ◌∙◌, arith}
+use Rattle.tw_parse.specs.Keywords.{below_limit}
 use Rattle.tw_parse.proofs.Numbers.{of_digits, at_digit, too_large}
 use Rattle.tw_parse.proofs.keywords.precedence_of.Goals as goal
 

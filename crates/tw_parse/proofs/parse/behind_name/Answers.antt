@@ -1,11 +1,11 @@
-use Rattle.std.proofs.Common.{◌≡◌, ◌+◌, List, Some, None, true, false, refl, sym, ap, ◌∙◌, drop, rules, arith}
+use Rattle.std.proofs.Common.{◌≡◌, ◌+◌, List, Some, None, true, false, refl, ap, ◌∙◌, drop, rules, arith}
 use Rattle.tw_parse.specs.Sources.{lexemes_from}
 use Rattle.tw_parse.specs.Words.{Lexeme, lexemes, first_word, first_place}
 use Rattle.tw_parse.specs.declared.words.Word.TheVariants.{Equals, Colon, Dot}
 use Rattle.tw_parse.proofs.Drafts.{a_short, a_long, a_declaration}
 use Rattle.std.proofs.lemmas.Result.{err_from_is_err_and}
 use Rattle.tw_parse.specs.Faults.{FaultOf}
-use Rattle.tw_parse.specs.Spots.{by_dot, end_next}
+use Rattle.tw_parse.specs.Spots.{end_next}
 use Rattle.tw_parse.proofs.Stopping.{exits, due_stops, stops_behind, stops_at_sign, due_equals, due_colon, due_type, no_equals, no_end}
 use Rattle.tw_parse.proofs.parse.behind_name.Goals as goal
 
@@ -101,7 +101,7 @@ last_sequence-requires-then-eq-2-clause-due c =
     due_type source.fixities.now source.end xs (lexemes_from source 0) (c.args.at + 1) (c.args.at + 2) end (end + 1) c.args.name c.args.abbreviated read.0 (omega arith) refl c.requires.head colons read.1 equals
 
 pub wrong-requires : goal.wrong-requires
-wrong-requires c = λ _.
+wrong-requires c =
     let source = c.args.source.now in
     let xs : List Lexeme = lexemes source.text.now source.tokens.now in
     let no_eq : first_word (lexemes_from source (c.args.at + 1)) ≡ Equals → ⊥ = search rules in
@@ -119,7 +119,7 @@ returns-in_err-ty-clause-fault c =
     exits c.from_residual-in_err-ty.result p.0 f (FaultOf source) p.1 p.2 (due_stops source (c.args.at + 2) due.ending f due.due c.in_err-ty.ensures.fault)
 
 pub wrong-requires-in_default : goal.wrong-requires-in_default
-wrong-requires-in_default c = λ _.
+wrong-requires-in_default c =
     let source = c.args.source.now in
     let xs : List Lexeme = lexemes source.text.now source.tokens.now in
     let colons : first_word (lexemes_from source (c.args.at + 1)) ≡ Colon = search rules in
@@ -133,7 +133,7 @@ wrong-requires-in_default c = λ _.
     (ap (λ e. end_next e w) (due.nameless nameless) ∙ no_equals w no_eq) refl
 
 pub wrong-requires-then-abbreviated : goal.wrong-requires-then-abbreviated
-wrong-requires-then-abbreviated c = λ _.
+wrong-requires-then-abbreviated c =
     let source = c.args.source.now in
     let xs : List Lexeme = lexemes source.text.now source.tokens.now in
     let colons : first_word (lexemes_from source (c.args.at + 1)) ≡ Colon = search rules in
@@ -147,7 +147,7 @@ wrong-requires-then-abbreviated c = λ _.
     (ap (λ e. end_next e w) (due.only short) ∙ no_equals w no_eq) refl
 
 pub wrong-requires-then-ne-2 : goal.wrong-requires-then-ne-2
-wrong-requires-then-ne-2 c = λ _.
+wrong-requires-then-ne-2 c =
     let source = c.args.source.now in
     let xs : List Lexeme = lexemes source.text.now source.tokens.now in
     let colons : first_word (lexemes_from source (c.args.at + 1)) ≡ Colon = search rules in

@@ -3,7 +3,6 @@ use Rattle.tw_parse.specs.Sources.{lexemes_from}
 use Rattle.tw_parse.specs.Words.{Lexeme, lexemes, first_word}
 use Rattle.tw_parse.specs.declared.words.Word.TheVariants.{Name, Underscore}
 use Rattle.tw_parse.proofs.Drafts.{a_name_head, a_check_head}
-use Rattle.tw_parse.specs.Words.{first_place}
 use Rattle.tw_parse.specs.declared.words.Word.TheVariants.{Keyword}
 use Rattle.tw_parse.proofs.Stopping.{stops_at_start}
 use Rattle.tw_parse.proofs.parse.declaration.Goals as goal

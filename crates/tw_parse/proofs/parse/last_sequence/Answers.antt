@@ -27,7 +27,7 @@ returns-in_err-part-clause-fault c =
     exits c.from_residual.result p.0 f (FaultOf source) p.1 p.2 (due_stops source c.args.from by_dot f c.requires.due c.in_err-part.ensures.fault)
 
 pub wrong-requires : goal.wrong-requires
-wrong-requires c = λ _.
+wrong-requires c =
     let source = c.args.source.now in
     let end = c.in_ok-part.end in
     let read = c.in_ok-part.ensures.reads in

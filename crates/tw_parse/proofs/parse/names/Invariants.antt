@@ -1,4 +1,4 @@
-use Rattle.std.proofs.Common.{◌-◌, ◌≤◌, length}
+use Rattle.std.proofs.Common.{◌-◌, length}
 use Rattle.tw_parse.specs.Faults.{NamesBetween}
 use Rattle.tw_parse.proofs.parse.names.Given as goal
 

@@ -1,5 +1,5 @@
 use Rattle.std.proofs.Common.{◌≡◌, ℕ, ◌+◌, List, [], None, IfErr, drop, sym, subst, rules}
-use Rattle.tw_parse.specs.Faults.{IsKnown, IsRead, GrammarFault}
+use Rattle.tw_parse.specs.Faults.{IsKnown, GrammarFault}
 use Rattle.tw_parse.specs.Nesting.{first_too_deep}
 use Rattle.tw_parse.proofs.Stopping.{stands}
 use Rattle.tw_lexer.specs.declared.token.Token.{Token}

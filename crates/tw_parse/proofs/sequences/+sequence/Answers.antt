@@ -1,4 +1,4 @@
-use Rattle.std.proofs.Common.{ℕ, ◌+◌, ◌≡◌, ◌<◌, List, Bool, Some, None, true, false, refl, sym, ap, subst, ◌∙◌, length, arith, rules}
+use Rattle.std.proofs.Common.{ℕ, ◌+◌, ◌≡◌, List, Bool, Some, None, true, false, refl, sym, ap, subst, ◌∙◌, arith, rules}
 use Rattle.tw_parse.specs.declared.pile.Pile.{Pile}
 use Rattle.tw_parse.specs.declared.source.Source.{Source}
 use Rattle.tw_parse.specs.Parts.{Takes}
@@ -12,7 +12,6 @@ use Rattle.tw_parse.specs.Failing.{is_item, SequenceFault, HeadFault}
 use Rattle.tw_parse.proofs.Failing.{stops_first, stops_at_paren, stops_at_name, stops_at_colon, stops_at_closer, port_alone, port_typed, not_an_item, domain_stops, group_stops, head_stops, body_stops, is_syntax}
 use Rattle.tw_parse.proofs.Stopping.{exits}
 use Rattle.tw_parse.specs.Words.{first_place}
-use Rattle.tw_parse.specs.declared.words.Word.TheVariants.{RParen}
 use Rattle.tw_parse.proofs.sequences.+sequence.Goals as goal
 
 pub head-returns-then-eq-clause-reads : goal.head-returns-then-eq-clause-reads

@@ -1,11 +1,11 @@
-use Rattle.std.proofs.Common.{◌≡◌, ◌+◌, List, Some, None, sym, ap, refl, ◌∙◌, rules}
+use Rattle.std.proofs.Common.{◌≡◌, List, Some, None, refl, ◌∙◌, rules}
 use Rattle.tw_parse.specs.Faults.{first_sign, leaf_of}
 use Rattle.tw_parse.specs.Grammar.{atom, sign}
 use Rattle.tw_parse.specs.Sources.{lexemes_from}
 use Rattle.tw_parse.specs.View.{term_of}
 use Rattle.tw_parse.specs.Words.{Lexeme, lexemes}
 use Rattle.tw_parse.specs.declared.parts.Part.TheVariants.{Term}
-use Rattle.tw_parse.proofs.Building.{ByItself, by_sign, by_leaf, kept_fault}
+use Rattle.tw_parse.proofs.Building.{by_sign, by_leaf, kept_fault}
 use Rattle.tw_parse.proofs.sequences.put_token.Goals as goal
 
 pub returns-in-Some-clause-takes : goal.returns-in-Some-clause-takes

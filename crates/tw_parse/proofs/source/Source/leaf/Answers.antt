@@ -1,4 +1,3 @@
-use Rattle.std.proofs.Common.{sym, drop}
 use Rattle.tw_parse.specs.Sources.{lexemes_from}
 use Rattle.tw_parse.proofs.Leaves.{name_leaf, hole_leaf, star_leaf}
 use Rattle.tw_parse.proofs.source.Source.leaf.Goals as goal

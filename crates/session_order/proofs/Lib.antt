@@ -1,0 +1,7 @@
+pub mod Identifiers
+pub mod Binders
+pub mod Keeping
+pub mod Reading
+pub mod Steps
+pub mod Explicit
+pub mod Accepting

@@ -1,0 +1,49 @@
+-- A session whose printed lines read back.
+use Rattle.std.specs.Prelude.{◌≡◌, ℕ, ◌+◌, ◌<◌, List, [], ◌∷◌, ◌++◌, length, drop, false, None, Some}
+use Rattle.lf.specs.Entries.{Entry, entry}
+use Rattle.tw_lexer.specs.Tokens.{ThroughDot}
+use Rattle.tw_lexer.specs.declared.token.Token.{Token}
+use Rattle.tw_parse.specs.Nesting.{first_too_deep}
+use Rattle.tw_parse.specs.Outlines.{Table}
+use Rattle.tw_parse.specs.Words.{lexemes}
+use Rattle.tw_print.specs.Names.{Scene}
+use Rattle.tw_print.specs.Shown.{declaration_line}
+use Rattle.reading_back.specs.Laws.{IsDeclared, ReadsAs}
+use Rattle.reading_back.specs.Names.{EachIs, IsPlainByte, HasRoom, HasGoodNames, AreGoodHints, HasGoodPreferences, HasGoodRows, HasNoImplicit}
+use Rattle.tw_decl.specs.View.{View, scene_of, with_entry, IsSound}
+use Rattle.tw_decl.specs.Declaration.{Accepts}
+
+-- The signature is canonical; the names of entries, their hints and the preferred names are identifiers without a fixed meaning; the newest entry
+-- of an operator takes as many arguments as it has operands; and no entry has implicit arguments.
+pub record IsViewInOrder (v : View) : Type 0 where
+  pub sound : IsSound v
+  pub names : HasGoodNames (scene_of v)
+  pub hints : (c : ℕ) (e : Entry) → entry v.signature c ≡ Some e → AreGoodHints e.hints
+  pub preferences : HasGoodPreferences (scene_of v)
+  pub rows : HasGoodRows (scene_of v)
+  pub no_implicit : HasNoImplicit (scene_of v)
+
+-- The line of an entry, wherever it stands in a text, is read with the table as one declaration, and completes over the signature to the same body.
+abbrev pub LineReadsBack : Scene → List Entry → Table → Entry → Type 0
+LineReadsBack s es table e = (text after : List ℕ) (from : ℕ) → drop from text ≡ declaration_line s e ++ after → ReadsAs es table text from (from + length (declaration_line s e)) e.name e.body
+
+-- The line of each declared family or constant of the session, if no percent sign is in it, reads back over the entries before it.
+abbrev pub EachReadsBack : View → Type 0
+EachReadsBack v = (newer older : List Entry) (e : Entry) → v.signature ≡ newer ++ e ∷ older → IsDeclared e.body → EachIs IsPlainByte (declaration_line (scene_of v) e) → LineReadsBack (scene_of v) older v.fixities e
+
+-- This holds where implicit arguments aren't shown. No memory holds too many entries.
+abbrev pub ReadsItselfBack : View → Type 0
+ReadsItselfBack v = v.parameters.implicit ≡ false → HasRoom (scene_of v) → EachReadsBack v
+
+-- A text within the limits of a declaration: it has so few bytes that it can't have too many tokens, and no bracket is nested too deep.
+pub record IsWithinLimits (text : List ℕ) : Type 0 where
+  pub few : length text < 65536
+  pub shallow : (tokens : List Token) (upto : ℕ) → ThroughDot text 0 tokens upto → first_too_deep [] 0 (lexemes text tokens) ≡ None
+
+-- the text alone is accepted, and declares an entry of the same name and body
+pub record AcceptsAgain (v : View) (text : List ℕ) (e : Entry) : Type 0 where
+  pub report : List ℕ
+  pub entry : Entry
+  pub accepts : Accepts v text report (with_entry v entry)
+  pub name : entry.name ≡ e.name
+  pub body : entry.body ≡ e.body

@@ -1,0 +1,13 @@
+pub mod Options
+pub mod Walking
+pub mod Filling
+pub mod Tables
+pub mod Unrenaming
+pub mod Escaping
+pub mod Recognizing
+pub mod Dropping
+pub mod Occurring
+pub mod Meanings
+pub mod Without
+pub mod Pruning
+pub mod LosingMeanings

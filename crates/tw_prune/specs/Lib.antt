@@ -1,0 +1,9 @@
+pub mod Standing
+pub mod Recognition
+pub mod Meaning
+pub mod Occurrence
+pub mod Losing
+pub mod Walks
+pub mod Kept
+pub mod Tables
+pub mod View

@@ -1,0 +1,15 @@
+pub mod Filled
+pub mod PutTotal
+pub mod Frames
+pub mod Walks
+pub mod Calls
+pub mod CaseLemmas
+pub mod ChainLemmas
+pub mod ForCallers
+pub mod FromTyping
+pub mod Kept
+pub mod PlainTerms
+pub mod Environments
+pub mod Arguments
+pub mod Openings
+pub mod Shifts

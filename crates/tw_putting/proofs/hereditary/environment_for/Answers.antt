@@ -1,0 +1,14 @@
+use Rattle.std.proofs.Common.{◌≡◌, arith}
+use Rattle.std.proofs.lemmas.Grind.{common_steps}
+use Rattle.lf.specs.Syntax.{skeleton}
+use Rattle.closures.specs.Environments.{outside, extended}
+use Rattle.tw_terms.specs.OpenView.{open_term_of, open_type_of}
+use Rattle.tw_putting.specs.View.{environment_of}
+use Rattle.tw_putting.proofs.Environments.{environments, environment_of-Under}
+use Rattle.tw_putting.proofs.hereditary.environment_for.Goals as goal
+
+pub returns : goal.returns
+returns c =
+    let o : environment_of c.in_ok-outside.outside.now ≡ outside = grind (arith, environments) in
+    let i : environment_of c.in_ok-image.image.now ≡ extended (skeleton (open_type_of c.args.ty.now)) (open_term_of c.args.arg.now) outside outside = grind (arith, environments, o) in
+    grind (arith, common_steps, environment_of-Under, i)

@@ -1,0 +1,19 @@
+use Rattle.std.proofs.Common.{◌≡◌, ◌*◌, ◌+◌, ◌≤◌, map, take}
+use Rattle.lf.specs.Depth.{spine_depth}
+use Rattle.tw_terms.specs.OpenView.{open_term_of, open_args_of}
+use Rattle.tw_putting.specs.Values.{put_value}
+use Rattle.tw_putting.specs.View.{environment_of}
+use Rattle.tw_putting.proofs.normal.+normal.Given as goal
+
+abbrev pub decreases-normal_term : goal.decreases-normal_term
+decreases-normal_term l = 2 * l.levels
+
+abbrev pub decreases-normal_spine : goal.decreases-normal_spine
+decreases-normal_spine l = 2 * l.levels + 1
+
+-- the arguments so far
+abbrev pub invariant-normal_spine-loop-arg : goal.invariant-normal_spine-loop-arg
+invariant-normal_spine-loop-arg l = record {
+  values : map open_term_of l.args.items ≡ map (λ t. put_value l.store.now l.binders (environment_of l.environment) (open_term_of t)) (take l.arg-index l.arg-items);
+  shallow : spine_depth (open_args_of l.args.items) ≤ l.levels;
+}

@@ -1,0 +1,7 @@
+pub mod Cases
+pub mod Stores
+pub mod Laws
+pub mod Fits
+pub mod Values
+pub mod Frames
+pub mod View
