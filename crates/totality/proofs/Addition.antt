@@ -75,7 +75,7 @@ module _ (Σ : Signature) (k0 : Σ.kinds 0 ≡ Some star) (k1 : Σ.kinds 1 ≡ S
   kinds_ok (suc zero) K e = subst (IsKind Σ []) (some_kind e) (nat_ok [], (nat_ok (nat ∷ []), (nat_ok (nat ∷ nat ∷ []), tt)))
   kinds_ok (suc (suc n)) K e = absurd cc
 
-addition_ok : IsSignature Addition
+pub addition_ok : IsSignature Addition
 addition_ok = record { types_ok = types_ok Addition refl refl refl refl; kinds_ok = kinds_ok Addition refl refl refl refl }
 
 -- families below plus
@@ -308,7 +308,7 @@ clauses_of P a b c (from_constant k U e) (inr m) = absurd m
 clauses_of P a b c (from_entry B later E es i q) g = absurd i
 
 -- the families below the second are self-contained
-self_contained : SelfContained Addition [] (first_below_second 1)
+pub self_contained : SelfContained Addition [] (first_below_second 1)
 self_contained = record {
   declared = declared;
   kinds_in = kinds_in;

@@ -126,7 +126,7 @@ kinds_ok zero K e = subst (IsKind Copying []) (some_kind e) tt
 kinds_ok (suc zero) K e = subst (IsKind Copying []) (some_kind e) (exp_ok [], (exp_ok (exp ∷ []), tt))
 kinds_ok (suc (suc n)) K e = absurd cc
 
-copying_ok : IsSignature Copying
+pub copying_ok : IsSignature Copying
 copying_ok = record { types_ok = types_ok; kinds_ok = kinds_ok }
 
 block_ok : IsContext Copying (onto copy_block.entries copy_block.some)

@@ -10,7 +10,7 @@ use Rattle.lf.proofs.Eta.{reduce_nil}
 use Rattle.totality.specs.Marks.{input_places}
 use Rattle.totality.specs.Cover.{CoveredBy}
 use Rattle.totality.specs.Case.{Case, IsCoveredCase}
-use Rattle.totality.specs.Split.{HoldsInputs, OneHolds, IsSplit, EndsCovered, instance_of_clause, by_split, no_case, next_case}
+use Rattle.totality.specs.Split.{HoldsInputs, OneHolds, IsSplit, IsInstanceCase, EndsCovered, instance_of_clause, by_split, no_case, next_case}
 use Rattle.totality.specs.Examples.{Addition, addition_marks, first_below_second, nat, successor, plus_input_goal, plus_zero_case, plus_successor_case, PlusIsCoveredBySplits, PlusOutputGoal, CopyOutputGoal}
 use Rattle.totality.proofs.Addition.{S, NatForm, nat_form, inputs_case}
 use Rattle.totality.proofs.Split.{split_covers}
@@ -69,8 +69,15 @@ module _ (Σ : Signature) (x : Extends S Addition Σ) {G : _} (w : World Σ [] S
 plus_split : IsSplit Addition [] (first_below_second 1) plus_input_goal (plus_zero_case ∷ plus_successor_case ∷ [])
 plus_split Σ x G w T h = split Σ x w T h
 
+-- each of the two cases is an instance of a clause
+pub plus_zero_covered : IsInstanceCase Addition [] (first_below_second 1) plus_zero_case
+plus_zero_covered Σ x G w T h = zero_case Σ x w T h
+
+pub plus_successor_covered : IsInstanceCase Addition [] (first_below_second 1) plus_successor_case
+plus_successor_covered Σ x G w T h = successor_case Σ x w T h
+
 plus_ends : EndsCovered Addition [] (first_below_second 1) plus_input_goal
-plus_ends = by_split (plus_zero_case ∷ plus_successor_case ∷ []) plus_split (next_case refl refl refl refl (instance_of_clause (λ Σ x G w T h. zero_case Σ x w T h)) (next_case refl refl refl refl (instance_of_clause (λ Σ x G w T h. successor_case Σ x w T h)) no_case))
+plus_ends = by_split (plus_zero_case ∷ plus_successor_case ∷ []) plus_split (next_case refl refl refl refl (instance_of_clause plus_zero_covered) (next_case refl refl refl refl (instance_of_clause plus_successor_covered) no_case))
 
 pub plus_by_splits : PlusIsCoveredBySplits
 plus_by_splits = (plus_split, plus_ends, split_covers Addition [] (first_below_second 1) plus_input_goal refl refl tt plus_ends)

@@ -2,9 +2,10 @@
 use Rattle.std.proofs.Common.{◌≡◌, ℕ, zero, suc, List, [], ◌∷◌, refl, sym, ap, ◌∙◌, subst, inl}
 use Rattle.std.specs.Prelude.{Bool, true, false, Some}
 use Rattle.lf.specs.Syntax.{Spine, nil, app, LfType, Term, pi, base, skeleton, weaken}
-use Rattle.lf.specs.Substitution.{Image, keep, put, substitute, substitute_type, reduce, after}
+use Rattle.lf.specs.Substitution.{Image, keep, put, apply_image, substitute, substitute_type, reduce, after}
 use Rattle.lf.specs.AtOnce.{in_front}
-use Rattle.lf.specs.Typing.{TypeAt, ImageHasType}
+use Rattle.lf.specs.Typing.{Signature, TypeAt, ImageHasType}
+use Rattle.lf.proofs.Eta.{reduce_nil}
 use Rattle.lf.specs.Variables.{target, target_arguments, Values, everything}
 use Rattle.totality.specs.Clause.{scope}
 use Rattle.totality.specs.Marks.{SamePlaces, output_places}
@@ -16,7 +17,7 @@ use Rattle.totality.specs.ExamplesMissing.{Unfinished}
 use Rattle.totality.specs.ExamplesReached.{plus_narrow, narrow_goal, NarrowZeroIsReached}
 use Rattle.totality.specs.Missing.{AreTypedItems, IsTypedInstance}
 use Rattle.totality.specs.MissingOutputs.{CommonOutputs}
-use Rattle.totality.specs.Reached.{split_by, constant_head, Unifies}
+use Rattle.totality.specs.Reached.{split_by, constant_head, Unifies, LeavesAll}
 use Rattle.totality.specs.ReachedOutputs.{output_goal_is_reached, output_split_is_reached}
 
 some_term : {M N : Term} → Some M ≡ Some N → M ≡ N
@@ -79,17 +80,21 @@ narrow_shared = record {
 }
 
 -- the case has a variable where the outputs have a successor
-narrow_not_instance : (T : Spine) (σ τ : ℕ → Image) → σ ≡ keep → HasArguments σ plus_output_case.arguments T → SamePlaces (output_places (addition_marks 1)) T (target_arguments (substitute_type reduce τ narrow_goal)) → ⊥
+narrow_not_instance : (T : Spine) (σ τ : ℕ → Image) → substitute reduce σ (var 0) ≡ var 0 → HasArguments σ plus_output_case.arguments T → SamePlaces (output_places (addition_marks 1)) T (target_arguments (substitute_type reduce τ narrow_goal)) → ⊥
 narrow_not_instance nil σ τ k a b = a
 narrow_not_instance (app M nil) σ τ k a b = a
 narrow_not_instance (app M (app N nil)) σ τ k a b = a
-narrow_not_instance (app M (app N (app P T))) σ τ k (e, a) (f, b) = let q : var 0 ≡ successor _ = sym (e ∙ ap (λ s. substitute reduce s (var 0)) k) ∙ f in absurd cc
+narrow_not_instance (app M (app N (app P T))) σ τ k (e, a) (f, b) = let q : var 0 ≡ successor _ = sym (e ∙ k) ∙ f in absurd cc
+
+-- the newest variable has a term of nat
+newest_still : {Σ : Signature} (J I : List Item) (σ : ℕ → Image) → IsTypedInstance Σ J (free_variable nat ∷ I) σ → LeavesAll (free_variable nat ∷ I) σ → substitute reduce σ (var 0) ≡ var 0
+newest_still J I σ (N, τ, g, n, e) v = let q : σ 0 ≡ put (base 0) N = ap (λ f. f 0) e in ap (λ y. apply_image reduce y nil) q ∙ reduce_nil (base 0) N ∙ sym (ap (as_term (base 0)) q) ∙ v 0 nat refl
 
 abbrev split_values : ℕ → Image
 split_values = in_front (put (base 0) z) (in_front (put (base 0) (var 0)) (in_front (put (base 0) (var 1)) keep))
 
 pub narrow_reached : NarrowZeroIsReached
-narrow_reached = output_split_is_reached 0 [] output_goal_is_reached (λ h. let (s, i, v) = h in narrow_not_instance s.tuple s.case_values s.clause_values v s.of_case s.of_clause) (inl narrow_shared) refl (split_by nat refl (constant_head 0 nat refl refl) (record {
+narrow_reached = output_split_is_reached 0 [] output_goal_is_reached (λ h. let (s, i, v) = h in narrow_not_instance s.tuple s.case_values s.clause_values (newest_still s.items (free_variable nat ∷ free_variable nat ∷ []) s.case_values s.is_instance v) s.of_case s.of_clause) (inl narrow_shared) refl (split_by nat refl (constant_head 0 nat refl refl) (record {
   values = in_front (put (base 0) z) (in_front (put (base 0) (var 0)) (in_front (put (base 0) (var 1)) keep));
   unifier = record {
     typed_items = ((tt, (_, refl, tt)), (_, refl, tt));

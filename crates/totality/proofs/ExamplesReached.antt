@@ -2,9 +2,10 @@
 use Rattle.std.proofs.Common.{◌≡◌, ℕ, zero, suc, List, [], ◌∷◌, refl, sym, ap, ◌∙◌, subst, arith, inl, inr}
 use Rattle.std.specs.Prelude.{true, false, ◌⊎◌}
 use Rattle.lf.specs.Syntax.{Spine, nil, app, LfType, Term, pi, base}
-use Rattle.lf.specs.Substitution.{Image, keep, put, substitute_spine, substitute, reduce, after}
+use Rattle.lf.specs.Substitution.{Image, keep, put, apply_image, substitute_spine, substitute, reduce, after}
 use Rattle.lf.specs.AtOnce.{in_front}
-use Rattle.lf.specs.Typing.{TypeAt}
+use Rattle.lf.specs.Typing.{Signature, TypeAt}
+use Rattle.lf.proofs.Eta.{reduce_nil}
 use Rattle.lf.specs.Variables.{target, target_arguments, everything}
 use Rattle.lf.specs.Subordination.{Member}
 use Rattle.totality.specs.Clause.{Clause, IsClause, from_constant, variables, outside}
@@ -12,7 +13,7 @@ use Rattle.totality.specs.Marks.{SamePlaces, input_places, output_places}
 use Rattle.totality.specs.Case.{Item, free_variable, HasArguments, covered_places, as_term}
 use Rattle.totality.specs.Examples.{addition_marks, nat, z, successor, var, plus_s, plus_input_goal, plus_zero_case, first_below_second}
 use Rattle.totality.specs.Missing.{CommonInstance, AreTypedItems, IsTypedInstance}
-use Rattle.totality.specs.Reached.{ListedClause, IsInstanceOf, of_first, goal_is_reached, split_is_reached, split_by, constant_head, Unifies}
+use Rattle.totality.specs.Reached.{ListedClause, IsInstanceOf, LeavesAll, of_first, goal_is_reached, split_is_reached, split_by, constant_head, Unifies}
 use Rattle.totality.specs.ExamplesMissing.{Unfinished, eq_r}
 use Rattle.totality.specs.ExamplesReached.{CandidatesStand, unfinished_clauses, ZeroIsReached, NoOutputGoal, Equality, equality_clauses, eq_goal, EqualityIsUnsplit, NarrowZeroIsMissing, plus_narrow, narrow_goal, narrow_zero, EntryIsLinear, cp_constant, FullClauses}
 use Rattle.totality.proofs.Addition.{s_images, s_values, s_terms, s_first}
@@ -47,16 +48,24 @@ shared = record {
   of_clause = (refl, (refl, tt));
 }
 
+-- a value that leaves its variable as it is
+still : (σ : ℕ → Image) (i : ℕ) (N M : Term) → σ i ≡ put (base 0) N → as_term (base 0) (σ i) ≡ M → substitute reduce σ (var i) ≡ M
+still σ i N M e s = ap (λ y. apply_image reduce y nil) e ∙ reduce_nil (base 0) N ∙ sym (ap (as_term (base 0)) e) ∙ s
+
 -- but it is no instance of it
-not_instance : (T : Spine) (σ τ : ℕ → Image) → σ ≡ keep → HasArguments σ plus_input_goal.arguments T → SamePlaces (covered_places plus_input_goal.arguments) T (substitute_spine reduce τ (target_arguments plus_s.type)) → ⊥
+pub not_instance : (T : Spine) (σ τ : ℕ → Image) → substitute reduce σ (var 1) ≡ var 1 → HasArguments σ plus_input_goal.arguments T → SamePlaces (covered_places plus_input_goal.arguments) T (substitute_spine reduce τ (target_arguments plus_s.type)) → ⊥
 not_instance nil σ τ k a b = a
-not_instance (app M T) σ τ k (e, a) (f, b) = let q : var 1 ≡ successor _ = sym (e ∙ ap (λ s. substitute reduce s (var 1)) k) ∙ f in absurd cc
+not_instance (app M T) σ τ k (e, a) (f, b) = let q : var 1 ≡ successor _ = sym (e ∙ k) ∙ f in absurd cc
+
+-- X and Y have terms of nat
+pub both_still : {Σ : Signature} (J : List Item) (σ : ℕ → Image) → IsTypedInstance Σ J (free_variable nat ∷ free_variable nat ∷ []) σ → LeavesAll (free_variable nat ∷ free_variable nat ∷ []) σ → (substitute reduce σ (var 0) ≡ var 0) × (substitute reduce σ (var 1) ≡ var 1)
+both_still J σ (N, τ, (M, ρ, t, m, d), n, e) v = (still σ 0 N (var 0) (ap (λ f. f 0) e) (v 0 nat refl), still σ 1 M (var 1) (ap (λ f. f 1) e ∙ ap (λ f. f 0) d) (v 1 nat (nat, refl, refl)))
 
 none : (k : ListedClause Unfinished []) → Member k unfinished_clauses → IsInstanceOf plus_input_goal k → ⊥
 none k (inl e) (s, i, v) = by k e s v
   where
-    by : (k : ListedClause Unfinished []) → k ≡ record { clause = plus_s; comes = from_constant 3 plus_s.type refl } → (s : CommonInstance Unfinished [] plus_input_goal k.clause k.comes) → s.case_values ≡ keep → ⊥
-    by k e s v = not_instance s.tuple s.case_values s.clause_values v s.of_case (subst (λ c. SamePlaces (covered_places plus_input_goal.arguments) s.tuple (substitute_spine reduce s.clause_values (target_arguments c.type))) (ap (λ l. l.clause) e) s.of_clause)
+    by : (k : ListedClause Unfinished []) → k ≡ record { clause = plus_s; comes = from_constant 3 plus_s.type refl } → (s : CommonInstance Unfinished [] plus_input_goal k.clause k.comes) → LeavesAll plus_input_goal.items s.case_values → ⊥
+    by k e s v = not_instance s.tuple s.case_values s.clause_values (both_still s.items s.case_values s.is_instance v).1 s.of_case (subst (λ c. SamePlaces (covered_places plus_input_goal.arguments) s.tuple (substitute_spine reduce s.clause_values (target_arguments c.type))) (ap (λ l. l.clause) e) s.of_clause)
 none k (inr e) h = absurd e
 
 zero_values : ℕ → Image
@@ -119,10 +128,10 @@ eq_shared = record {
   of_clause = (refl, (refl, tt));
 }
 
-eq_not_instance : (T : Spine) (σ τ : ℕ → Image) → σ ≡ keep → HasArguments σ eq_goal.arguments T → SamePlaces (covered_places eq_goal.arguments) T (substitute_spine reduce τ (target_arguments eq_r.type)) → ⊥
-eq_not_instance nil σ τ k a b = a
-eq_not_instance (app M nil) σ τ k (e, a) b = a
-eq_not_instance (app M (app N T)) σ τ k (e, (e', a)) (f, (f', b)) = let q : var 1 ≡ var 0 = sym (e ∙ ap (λ s. substitute reduce s (var 1)) k) ∙ f ∙ sym f' ∙ e' ∙ ap (λ s. substitute reduce s (var 0)) k in absurd cc
+eq_not_instance : (T : Spine) (σ τ : ℕ → Image) → substitute reduce σ (var 0) ≡ var 0 → substitute reduce σ (var 1) ≡ var 1 → HasArguments σ eq_goal.arguments T → SamePlaces (covered_places eq_goal.arguments) T (substitute_spine reduce τ (target_arguments eq_r.type)) → ⊥
+eq_not_instance nil σ τ k l a b = a
+eq_not_instance (app M nil) σ τ k l (e, a) b = a
+eq_not_instance (app M (app N T)) σ τ k l (e, (e', a)) (f, (f', b)) = let q : var 1 ≡ var 0 = sym (e ∙ l) ∙ f ∙ sym f' ∙ e' ∙ k in absurd cc
 
 pub equality_unsplit : EqualityIsUnsplit
 equality_unsplit = record {
@@ -136,8 +145,8 @@ equality_unsplit = record {
     none_of : (k : ListedClause Equality []) → Member k equality_clauses → IsInstanceOf eq_goal k → ⊥
     none_of k (inl e) (s, i, v) = by k e s v
       where
-        by : (k : ListedClause Equality []) → k ≡ record { clause = eq_r; comes = from_constant 2 eq_r.type refl } → (s : CommonInstance Equality [] eq_goal k.clause k.comes) → s.case_values ≡ keep → ⊥
-        by k e s v = eq_not_instance s.tuple s.case_values s.clause_values v s.of_case (subst (λ c. SamePlaces (covered_places eq_goal.arguments) s.tuple (substitute_spine reduce s.clause_values (target_arguments c.type))) (ap (λ l. l.clause) e) s.of_clause)
+        by : (k : ListedClause Equality []) → k ≡ record { clause = eq_r; comes = from_constant 2 eq_r.type refl } → (s : CommonInstance Equality [] eq_goal k.clause k.comes) → LeavesAll eq_goal.items s.case_values → ⊥
+        by k e s v = let (p, q) = both_still s.items s.case_values s.is_instance v in eq_not_instance s.tuple s.case_values s.clause_values p q s.of_case (subst (λ c. SamePlaces (covered_places eq_goal.arguments) s.tuple (substitute_spine reduce s.clause_values (target_arguments c.type))) (ap (λ l. l.clause) e) s.of_clause)
     none_of k (inr e) h = absurd e
 
     nowhere : (k : ListedClause Equality []) → Member k equality_clauses → (Rattle.totality.specs.Candidates.head_candidates eq_goal k.clause ≡ []) ⊎ (CommonInstance Equality [] eq_goal k.clause k.comes → ⊥)

@@ -192,7 +192,7 @@ goal_holds Σ ok W below m S c o U n A ct (nv, at) none needs K e low Σ' x G w 
     record {
       values = ψ;
       is_ground = gψ;
-      stands = stands_on o w (outside_items o) (output_items below L (output_places ms) H K I) b.values ψ b.is_ground gψ θ (λ B z f. fj B z (fi B z f)) b.stands;
+      stands = stands_on o w (outside_items o) (output_items below L (output_places ms) H K I) b.values ψ b.is_ground gψ θ (λ B z f. fj.0 B z (fi B z f)) b.stands;
       given = kept_given κ G c.outer D U (λ i. ρ i + n0) σ ψ (λ i X g a u.
           let (N, q, nt) = own_value Σ' G (σ i) (substitute_type reduce σ X) (own i a u) (typed i X g u) in
           let q' : σ i ≡ put (skeleton X) N = q ∙ ap (λ s. put s N) (skeleton_substituted reduce σ X) in

@@ -47,7 +47,9 @@ pub mod Split
 pub mod OutputSplit
 pub mod ExamplesCases
 pub mod ExamplesGroups
+pub mod ExamplesBlocks
 pub mod ExamplesMissing
 pub mod ExamplesReached
+pub mod ExamplesSplits
 pub mod ExamplesFull
 pub mod ExamplesOutputs

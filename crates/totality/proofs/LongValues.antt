@@ -44,7 +44,7 @@ past_same (A ∷ X) O σ τ zero e = e
 past_same (A ∷ X) O σ τ (suc i) e = past_same X O (λ j. σ (suc j)) (λ j. τ (suc j)) i e
 
 module _ (κ : HeadSkeletons) where
-  term_has_skeleton : (Δ : List Skeleton) (a : Skeleton) (x : Image) → ImageSkeleton κ Δ x a → TermSkeleton κ Δ (as_term a x) a
+  pub term_has_skeleton : (Δ : List Skeleton) (a : Skeleton) (x : Image) → ImageSkeleton κ Δ x a → TermSkeleton κ Δ (as_term a x) a
   term_has_skeleton Δ a (keep j) h = eta_expand_has_skeleton κ a a Δ (variable j) nil h refl
   term_has_skeleton Δ a (put b N) (e, n) = subst (TermSkeleton κ Δ N) e n
 
@@ -60,7 +60,7 @@ module _ (κ : HeadSkeletons) where
   long_fits (A ∷ X) O Δ σ s (suc i) t g = long_fits X O Δ (λ j. σ (suc j)) (λ j. s (suc j)) i t g
 
   -- a value put in for an eta-long variable is the value as a term
-  value_of_long : (Δ : List Skeleton) (a : Skeleton) (σ : ℕ → Image) (i : ℕ) (x : Image) → σ i ≡ x → ImageSkeleton κ Δ x a → substitute reduce σ (eta_long a (variable i)) ≡ as_term a x
+  pub value_of_long : (Δ : List Skeleton) (a : Skeleton) (σ : ℕ → Image) (i : ℕ) (x : Image) → σ i ≡ x → ImageSkeleton κ Δ x a → substitute reduce σ (eta_long a (variable i)) ≡ as_term a x
   value_of_long Δ a σ i (keep j) e h = substitute_eta_expand σ a (variable i) (variable j) nil e
   value_of_long Δ a σ i (put b N) e (q, n) = (eta_both κ a).1 Δ σ i b N nil e n q ∙ reduce_nil b N
 

@@ -24,6 +24,7 @@ use Rattle.totality.specs.Marks.{Mark, input, output, free, input_places, output
 use Rattle.totality.specs.Case.{Item, free_variable, IsGroundInstance, HasArguments, items_context, chosen_count}
 use Rattle.totality.specs.Raised.{raise_type, low_locals, RaisedPlaces}
 use Rattle.totality.specs.OutputCase.{FirstInstance}
+use Rattle.totality.specs.Split.{IsDistinct}
 use Rattle.totality.specs.OutputGoal.{renumber, over_item, raised_variable, output_items, output_arguments, CanBeRaised, OutputsCanBeRaised}
 use Rattle.totality.proofs.Raised.{spine_add_last, newest_has_skeleton}
 use mathlib.Core.Path.{fun_ext}
@@ -211,11 +212,11 @@ module _ (Σ : Signature) (below : ℕ → ℕ → Bool) where
       next : (n k : ℕ) → suc (n + k) ≡ n + suc k
       next n k = omega arith
 
-  variable_fits : (T : ℕ → Bool) (D X : List LfType) (B : LfType) (n : ℕ) → SkeletonAt (context_skeletons X) n (skeleton (raise_type T D B)) → TermSkeleton κ (under_locals D X) (raised_variable T D B n) (skeleton B)
+  pub variable_fits : (T : ℕ → Bool) (D X : List LfType) (B : LfType) (n : ℕ) → SkeletonAt (context_skeletons X) n (skeleton (raise_type T D B)) → TermSkeleton κ (under_locals D X) (raised_variable T D B n) (skeleton B)
   variable_fits T D X B n g = eta_expand_has_skeleton κ (skeleton B) (skeleton (raise_type T D B)) (under_locals D X) (variable (n + length D)) (low_locals T D) (far_at D X n (skeleton (raise_type T D B)) g) (locals_fit T D X B)
 
   -- values by skeletons, under a local context
-  lifted : (D X G : List LfType) (τ : ℕ → Image) → SubstitutionBySkeletons κ (context_skeletons X) (context_skeletons G) τ → SubstitutionBySkeletons κ (under_locals D X) (under_locals (instance D τ) G) (lift_over D τ)
+  pub lifted : (D X G : List LfType) (τ : ℕ → Image) → SubstitutionBySkeletons κ (context_skeletons X) (context_skeletons G) τ → SubstitutionBySkeletons κ (under_locals D X) (under_locals (instance D τ) G) (lift_over D τ)
   lifted [] X G τ s = s
   lifted (A ∷ D) X G τ s = subst (λ a. SubstitutionBySkeletons κ (skeleton A ∷ under_locals D X) (a ∷ under_locals (instance D τ) G) (lift (lift_over D τ))) (sym (skeleton_substituted reduce (lift_over D τ) A)) (lift_by_skeletons κ (skeleton A) (under_locals D X) (under_locals (instance D τ) G) (lift_over D τ) (lifted D X G τ s))
 
@@ -247,10 +248,14 @@ pub in_front_fits : (κ : HeadSkeletons) (Γ Δ : List Skeleton) (a : Skeleton) 
 in_front_fits κ Γ Δ a N τ n s zero t e = (e, n)
 in_front_fits κ Γ Δ a N τ n s (suc i) t g = s i t g
 
+-- The items J go on from I: the first block variable stands for the same instance, and different ones for different instances.
+abbrev pub Follows : {Σ : Signature} {W : List Block} {S : ℕ → Bool} {G : List LfType} (w : World Σ W S G) (I : List Item) (τ : ℕ → Image) → IsGroundInstance w I τ → (J : List Item) (φ : ℕ → Image) → IsGroundInstance w J φ → Type 0
+Follows w I τ g J φ h = ((B : Block) (ψ : ℕ → Image) → FirstInstance w I τ g B ψ → FirstInstance w J φ h B ψ) × (IsDistinct w I τ g → IsDistinct w J φ h)
+
 module _ (Σ : Signature) (below : ℕ → ℕ → Bool) {W : List Block} {S : ℕ → Bool} {G : List LfType} (w : World Σ W S G) where
   -- the values found for the output variables, which keep the earlier ones, with the outputs T that they give
   abbrev pub Found : List LfType → List Bool → Spine → Kind → (I : List Item) (τ : ℕ → Image) → IsGroundInstance w I τ → Spine → Type 0
-  Found D m S K I τ g T = (φ : ℕ → Image) × (gφ : IsGroundInstance w (output_items below D m S K I) φ) × ((B : Block) (ψ : ℕ → Image) → FirstInstance w I τ g B ψ → FirstInstance w (output_items below D m S K I) φ gφ B ψ) × HasArguments (lift_over D φ) (output_arguments below D m K) T × ((k : ℕ) → φ (k + chosen_count m K) ≡ τ k)
+  Found D m S K I τ g T = (φ : ℕ → Image) × (gφ : IsGroundInstance w (output_items below D m S K I) φ) × Follows w I τ g (output_items below D m S K I) φ gφ × HasArguments (lift_over D φ) (output_arguments below D m K) T × ((k : ℕ) → φ (k + chosen_count m K) ≡ τ k)
 
   abbrev φκ : ℕ → Option Skeleton
   φκ = family_skeletons Σ
@@ -260,7 +265,7 @@ module _ (Σ : Signature) (below : ℕ → ℕ → Bool) {W : List Block} {S : �
   input_put_in D I τ A M K s m k = substitute_single_kind φκ (constant_skeletons Σ) (context_skeletons (onto D (items_context I))) (context_skeletons (onto (instance D τ) G)) (lift_over D τ) (skeleton A) M K (lifted Σ below D (items_context I) G τ s) m k ∙ ap (λ a. substitute_kind reduce (single a (substitute reduce (lift_over D τ) M)) (substitute_kind reduce (lift (lift_over D τ)) K)) (sym (skeleton_substituted reduce (lift_over D τ) A))
 
   pub found : (D : List LfType) (m : List Mark) (S : Spine) (K : Kind) (a : ℕ) (I : List Item) (τ : ℕ → Image) (T : Spine) → NoneFree m → (g : IsGroundInstance w I τ) → SubstitutionBySkeletons (constant_skeletons Σ) (context_skeletons (items_context I)) (context_skeletons G) τ → KindBySkeletons φκ (constant_skeletons Σ) (context_skeletons (onto D (items_context I))) K → InputsFit (constant_skeletons Σ) (context_skeletons (onto D (items_context I))) m S (kind_skeleton a K) → OutputsCanBeRaised below D (output_places m) S K → SamePlaces (input_places m) (substitute_spine reduce (lift_over D τ) S) T → SpineFitsKind Σ (onto (instance D τ) G) T (substitute_kind reduce (lift_over D τ) K) → RaisedPlaces Σ below G (instance D τ) (output_places m) T (substitute_kind reduce (lift_over D τ) K) → Found D (output_places m) S K I τ g T
-  found D [] nil K a I τ nil n g s kb fit r p t h = (τ, g, (λ B ψ z. z), tt, λ k. ap τ (none k))
+  found D [] nil K a I τ nil n g s kb fit r p t h = (τ, g, ((λ B ψ z. z), (λ z. z)), tt, λ k. ap τ (none k))
     where
       none : (k : ℕ) → k + 0 ≡ k
       none k = omega arith

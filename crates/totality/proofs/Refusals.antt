@@ -1,19 +1,21 @@
 -- The worked declarations that are refused.
 use Rattle.totality.specs.Modes.{InFreePlace, occurs_at}
-use Rattle.std.proofs.Common.{◌≡◌, ℕ, zero, suc, List, [], ◌∷◌, refl, sym, ap, ◌∙◌, subst, inl, inr}
+use Rattle.std.proofs.Common.{◌≡◌, ℕ, zero, suc, List, [], ◌∷◌, refl, sym, ap, ◌∙◌, subst, inl, inr, true≢false}
 use Rattle.std.specs.Prelude.{Bool, true, false, ◌⊎◌, Some}
-use Rattle.lf.specs.Syntax.{variable, Term, Spine, root, nil, app, LfType, Kind, pi, atom, kind_pi, star}
-use Rattle.lf.specs.Typing.{Signature, instantiate_type}
+use Rattle.lf.specs.Syntax.{constant, metavariable, variable, Term, Spine, lambda, root, nil, app, LfType, Kind, pi, atom, kind_pi, star}
+use Rattle.lf.specs.Typing.{Signature, HasType, instantiate_type}
+use Rattle.lf.specs.Worlds.{World, no_variables, single_variable, whole_instance}
+use Rattle.totality.specs.Total.{Total}
 use Rattle.lf.specs.Variables.{nothing, binders}
 use Rattle.totality.specs.Clause.{Clause, scope, entry_clause, from_constant, outside, variables}
-use Rattle.totality.specs.Marks.{input_places, UsesPlaces, AreSound, free, free_places, input}
+use Rattle.totality.specs.Marks.{input_places, UsesPlaces, AreSound, free, free_places, input, HasSoundMarks, TypedPlaces}
 use Rattle.lf.specs.Variables.{nothing, target_arguments, everything}
 use Rattle.totality.specs.Ground.{ground_by, ground_first}
 use Rattle.totality.specs.Worlded.{IsSequence, no_instance, next_instance}
 use Rattle.totality.specs.Order.{Smaller, SmallerOrEqual, InArguments, under_constant, under_parameter, under_lambda, equal, smaller, first_argument, later_argument}
 use Rattle.totality.specs.Descent.{EqualCall, no_call, after_call}
 use Rattle.totality.specs.Examples.{var, successor, first_place, cp_lam, cp, exp, applied_to, nat}
-use Rattle.totality.specs.Refusals.{LoopIsRefused, UngroundIsRefused, MissingWorldIsRefused, CycleIsRefused, SomeVariableCoversNothing, SomeVariableIsNoParameter, o_e, p_block, p_entries, u_type, p_marks, FreePlaceIsExempt, MarksMustFit, UnsoundMarksAreRefused, g_a}
+use Rattle.totality.specs.Refusals.{LoopIsRefused, UngroundIsRefused, MissingWorldIsRefused, CycleIsRefused, SomeVariableCoversNothing, SomeVariableIsNoParameter, o_e, p_block, p_entries, u_type, p_marks, FreePlaceIsExempt, MarksMustFit, UnsoundMarksAreRefused, g_a, Empty, EmptyIsNotTotal}
 
 some_term : {M N : Term} → Some M ≡ Some N → M ≡ N
 some_term e = cc
@@ -95,3 +97,35 @@ free_exempt Σ e moded (suc n) = ((kind_pi nat star, e, tt), (tt, own))
     own : (x : ℕ) → variables g_a x ≡ true → outside g_a.type everything x ≡ false → (ground_first (λ a. free ∷ []) g_a x ≡ true) ⊎ (occurs_at (free_places (free ∷ [])) x (target_arguments g_a.type) ≡ true) ⊎ InFreePlace (λ a. free ∷ []) g_a x
     own zero v o = inr (inl refl)
     own (suc x) v o = absurd cc
+
+-- nothing is typed in the context without variables
+empty_term : (M : Term) (a : ℕ) (T : Spine) → HasType Empty [] M (atom a T) → ⊥
+empty_term (lambda M) a T m = m
+empty_term (root (constant c) S) a T (A, e, r) = absurd cc
+empty_term (root (metavariable c) S) a T (A, e, r) = e
+empty_term (root (variable i) S) a T (A, g, r) = g
+
+-- a context without blocks, beside every family, has no variables
+no_context : {G : List LfType} → World Empty [] everything G → G ≡ []
+no_context no_variables = refl
+no_context (single_variable w t n) = absurd (true≢false n)
+no_context (whole_instance B m e o) = absurd m
+
+pub empty_not_total : EmptyIsNotTotal
+empty_not_total = (none, ((marks, tt), λ G w K S e t. absurd (by (no_context w) K S e t)))
+  where
+    none : Total Empty 0 [] [] → ⊥
+    none t = let (T, M, s, f, m) = t.1 [] no_variables star nil refl tt in empty_term M 0 T m
+
+    marks : HasSoundMarks Empty 1 (input ∷ [])
+    marks = (kind_pi (atom 0 nil) star, refl, (tt, tt))
+
+    some_kind : {A B : Kind} → Some A ≡ Some B → A ≡ B
+    some_kind e = cc
+
+    no_input : (S : Spine) → TypedPlaces Empty (true ∷ []) [] S (kind_pi (atom 0 nil) star) → ⊥
+    no_input nil t = t
+    no_input (app M S) (m, r) = empty_term M 0 nil m
+
+    by : {G : List LfType} → G ≡ [] → (K : Kind) (S : Spine) → Empty.kinds 1 ≡ Some K → TypedPlaces Empty (true ∷ []) G S K → ⊥
+    by g K S e t = no_input S (subst (λ X. TypedPlaces Empty (true ∷ []) [] S X) (sym (some_kind e)) (subst (λ D. TypedPlaces Empty (true ∷ []) D S K) g t))

@@ -24,7 +24,9 @@ pub mod Total
 pub mod Group
 pub mod Examples
 pub mod ExamplesGroups
+pub mod ExamplesBlocks
 pub mod ExamplesMissing
 pub mod ExamplesReached
+pub mod ExamplesSplits
 pub mod Refusals
 pub mod Laws

@@ -103,9 +103,13 @@ pub record ListedClause (Σ : Signature) (W : List Block) : Type 0 where
   pub clause : Clause
   pub comes : IsClause Σ W clause
 
+-- values that leave each variable of the items as it is
+abbrev pub LeavesAll : List Item → (ℕ → Image) → Type 0
+LeavesAll I σ = (i : ℕ) (A : LfType) → TypeAt (items_context I) i A → as_term (skeleton A) (σ i) ≡ as_term (skeleton A) (keep i)
+
 -- The case is an instance of the clause: what it shares with it is the case itself.
 abbrev pub IsInstanceOf : {Σ : Signature} {W : List Block} → Case → ListedClause Σ W → Type 0
-IsInstanceOf {Σ} {W} C k = (s : CommonInstance Σ W C k.clause k.comes) × (s.items ≡ C.items) × (s.case_values ≡ keep)
+IsInstanceOf {Σ} {W} C k = (s : CommonInstance Σ W C k.clause k.comes) × (s.items ≡ C.items) × LeavesAll C.items s.case_values
 
 -- Of the clauses of the family, in their order. `Open` has those of which unification with the case decides nothing, since it leaves an
 -- equation outside the pattern fragment or is too deep.

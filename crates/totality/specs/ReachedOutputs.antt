@@ -1,7 +1,6 @@
 -- The cases of a subgoal's outputs that the strategy of coverage reaches, and those at which it stops.
 use Rattle.std.specs.Prelude.{◌≡◌, ℕ, List, [], ◌∷◌, Bool, ◌⊎◌}
 use Rattle.lf.specs.Syntax.{LfType}
-use Rattle.lf.specs.Substitution.{keep}
 use Rattle.lf.specs.Typing.{Signature}
 use Rattle.lf.specs.Subordination.{Block}
 use Rattle.totality.specs.Clause.{Clause}
@@ -9,7 +8,7 @@ use Rattle.totality.specs.Marks.{Mark}
 use Rattle.totality.specs.Case.{Case}
 use Rattle.totality.specs.OutputCase.{Origin}
 use Rattle.totality.specs.Candidates.{subgoal_candidates}
-use Rattle.totality.specs.Reached.{IsSplitCase}
+use Rattle.totality.specs.Reached.{IsSplitCase, LeavesAll}
 use Rattle.totality.specs.MissingOutputs.{CommonOutputs}
 
 -- `Open` says of a case that unification with the outputs of the subgoal A decides nothing: it leaves an equation outside the pattern
@@ -17,7 +16,7 @@ use Rattle.totality.specs.MissingOutputs.{CommonOutputs}
 module _ (Σ : Signature) (W : List Block) (below : ℕ → ℕ → Bool) (m : ℕ → List Mark) (c : Clause) (o : Origin W c) (A : LfType) (Open : Case → Type 0) where
   -- the case is an instance of the outputs: what it shares with them is the case itself
   abbrev pub IsInstanceOfOutputs : Case → Type 0
-  IsInstanceOfOutputs C = (s : CommonOutputs Σ W m c o A C) × (s.items ≡ C.items) × (s.case_values ≡ keep)
+  IsInstanceOfOutputs C = (s : CommonOutputs Σ W m c o A C) × (s.items ≡ C.items) × LeavesAll C.items s.case_values
 
   -- the outputs meet the case: they share a typed instance, or it is open whether they do
   abbrev pub OutputsMeet : Case → Type 0

@@ -1,9 +1,9 @@
 -- Worked declarations that the definitions refuse.
-use Rattle.std.specs.Prelude.{◌≡◌, ℕ, suc, List, [], ◌∷◌, Bool, Some}
+use Rattle.std.specs.Prelude.{◌≡◌, ℕ, suc, List, [], ◌∷◌, Bool, cond, Some, None}
 use Rattle.lf.specs.Syntax.{variable, Term, Spine, root, nil, app, LfType, pi, atom, kind_pi, star}
 use Rattle.lf.specs.Typing.{Signature}
 use Rattle.lf.specs.Subordination.{Block, Member}
-use Rattle.lf.specs.Variables.{nothing}
+use Rattle.lf.specs.Variables.{nothing, same_number}
 use Rattle.lf.specs.Worlds.{World}
 use Rattle.totality.specs.Total.{Total}
 use Rattle.totality.specs.Clause.{Clause, constant_clause, entry_clause}
@@ -66,6 +66,14 @@ o_e = constant_clause (pi nat (pi (atom 6 (app (var 0) nil)) (atom 7 (app (var 1
 -- the call of e-o is the same as its head, and o-e leads back
 abbrev pub CycleIsRefused : Type 0
 CycleIsRefused = (Σ : Signature) (W : List Block) (group : List ℕ) (k : ℕ) → Σ.types k ≡ Some o_e.type → Member 6 group → Member 7 group → CallDescends Σ W first_place group e_o (atom 7 (app (var 1) nil)) → ⊥
+
+-- A family without inhabitants: e : type with no constant, e = 0. It has no inputs, so in every context something must inhabit it. The family
+-- k : e -> type, whose one input nothing inhabits, is total with no clause: each of its inputs has an inhabitant.
+abbrev pub Empty : Signature
+Empty = record { types = λ c. None; kinds = λ a. cond (same_number 0 a) (Some star) (cond (same_number 1 a) (Some (kind_pi (atom 0 nil) star)) None) }
+
+abbrev pub EmptyIsNotTotal : Type 0
+EmptyIsNotTotal = (Total Empty 0 [] [] → ⊥) × Total Empty 1 (input ∷ []) []
 
 -- `some` variables. Families: i = 8, t : i -> type = 9, p, q and r, whose first arguments are an index k.
 

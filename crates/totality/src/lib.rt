@@ -4,9 +4,11 @@
 ghost use Rattle.totality.specs.Laws.{CheckedGroupIsRight, LastingIsTotal, LastingGoesOn, LastingOverMore, RecordStaysRight, CheckedStaysChecked, BelowIsSubordination, KindPlacesAreBelow, VariableIsEntry, CallsHaveRank, RankForbidsCycles, WaysAreDecided, WellModedUnfolds, StrictOccurrencesDetermine, GroundFirstIsClosed, GroundAfterIsClosed, TypedTuplesAreRaised, RaisedOutputsCover, HeadsAreKnown, InputGoalCovers, InputsMentionInputs, NoOutputsAreCovered, HeldOutputsAreCovered, OutputGoalCovers, ClauseGoalsCover, SplitsCover, OutputSplitsCover, SubgoalContextIsWorld, CallerServesCallee, SmallerHasSmallerInstances};
 ghost use Rattle.totality.specs.Examples.{AdditionLasts, AdditionStaysChecked, NumbersHaveSums, CopyingLasts, TermsHaveCopies, BlockCaseIsCovered, PlusIsCoveredBySplits, PlusOutputGoal, CopyOutputGoal};
 ghost use Rattle.totality.specs.ExamplesGroups.{MutualGroupLasts, CallerOfRecordLasts, StrictBlockServes};
+ghost use Rattle.totality.specs.ExamplesBlocks.{StrictBlockLasts, NumbersHaveDerivations};
+ghost use Rattle.totality.specs.ExamplesSplits.{NoCaseStands, ClausesStand, InstancesStand, EntryInstanceStands, OutputsStand, LinearClausesStand};
 ghost use Rattle.totality.specs.ExamplesMissing.{ZeroIsMissing, GoalIsNotMissing, LinearClauses};
 ghost use Rattle.totality.specs.ExamplesReached.{CandidatesStand, ZeroIsReached, EqualityIsUnsplit, NarrowZeroIsMissing, NarrowZeroIsReached, EntryIsLinear, FullClauses, NoOutputGoal, SomeVariableHasNoGoal, EntryOutputGoal, MoreCandidatesStand};
-ghost use Rattle.totality.specs.Refusals.{FreePlaceIsExempt, UnsoundMarksAreRefused, MarksMustFit, LoopIsRefused, UngroundIsRefused, MissingWorldIsRefused, CycleIsRefused, SomeVariableCoversNothing, SomeVariableIsNoParameter};
+ghost use Rattle.totality.specs.Refusals.{FreePlaceIsExempt, UnsoundMarksAreRefused, MarksMustFit, EmptyIsNotTotal, LoopIsRefused, UngroundIsRefused, MissingWorldIsRefused, CycleIsRefused, SomeVariableCoversNothing, SomeVariableIsNoParameter};
 
 /// The totality theorem: the record of a checked group is right, each of its families lasts.
 pub fn checked_group_is_right()
@@ -218,6 +220,16 @@ pub fn strict_block_serves()
     ensures { StrictBlockServes }
 {}
 
+/// A group lasts whose block has a strict `some` variable, and an entry that is one of its clauses.
+pub fn strict_block_lasts()
+    ensures { StrictBlockLasts }
+{}
+
+/// So in each context of the block each number has a derivation.
+pub fn numbers_have_derivations()
+    ensures { NumbersHaveDerivations }
+{}
+
 /// Without a clause for zero the case of zero is missing.
 pub fn zero_is_missing()
     ensures { ZeroIsMissing }
@@ -268,6 +280,36 @@ pub fn entry_is_linear()
     ensures { EntryIsLinear }
 {}
 
+/// A head that gives no case, and one that gives one.
+pub fn no_case_stands()
+    ensures { NoCaseStands }
+{}
+
+/// A list of all clauses of a family, and one in which one is missing.
+pub fn clauses_stand()
+    ensures { ClausesStand }
+{}
+
+/// A case that is an instance of a clause, at which the strategy doesn't stop, and one that is none.
+pub fn instances_stand()
+    ensures { InstancesStand }
+{}
+
+/// The case of a block variable is an instance of its block's entry.
+pub fn entry_instance_stands()
+    ensures { EntryInstanceStands }
+{}
+
+/// A case of outputs that can't be split, and one that can.
+pub fn outputs_stand()
+    ensures { OutputsStand }
+{}
+
+/// Clauses that are linear, of a constant and of an entry, and such that are not.
+pub fn linear_clauses_stand()
+    ensures { LinearClausesStand }
+{}
+
 /// A clause that is full, and one that is not.
 pub fn full_clauses()
     ensures { FullClauses }
@@ -301,6 +343,11 @@ pub fn unground_is_refused()
 /// A family is not total by marks that don't fit its kind.
 pub fn marks_must_fit()
     ensures { MarksMustFit }
+{}
+
+/// A family without inhabitants is not total, but one whose input has none is.
+pub fn empty_is_not_total()
+    ensures { EmptyIsNotTotal }
 {}
 
 /// Marks are not sound where an input mentions an output.

@@ -1,0 +1,66 @@
+-- The laws of splits by heads that the functions of this crate carry.
+use Rattle.std.specs.Prelude.{◌≡◌, ℕ, ◌+◌, List, [], Bool}
+use Rattle.lf.specs.Syntax.{Head, LfType, Kind}
+use Rattle.lf.specs.Substitution.{Image}
+use Rattle.lf.specs.Typing.{Signature, TypeAt, IsSignature}
+use Rattle.lf.specs.Subordination.{Block, Member, IsDeclared, AreTypedBlocks, SelfContained}
+use Rattle.unification.specs.Solving.{Never, Solved, Left}
+use Rattle.unification.specs.Unifiers.{Store}
+use Rattle.totality.specs.Clause.{Clause}
+use Rattle.totality.specs.Marks.{Mark}
+use Rattle.totality.specs.Group.{IsSubordination}
+use Rattle.totality.specs.Case.{Item, Case, items_context, IsCoveredCase}
+use Rattle.totality.specs.Missing.{AreTypedItems}
+use Rattle.totality.specs.Reached.{arguments_count, SplitHead, split_items}
+use Rattle.totality.specs.Split.{IsSplit, HasNoBlockVariable}
+use Rattle.totality.specs.OutputCase.{Origin, IsCoveredOutputCase}
+use Rattle.totality.specs.OutputSplit.{IsOutputSplit, HasOneBlockVariable}
+use Rattle.coverage.specs.Heads.{IsTypedCase, GivesCase, GivesNone, IsHeadSplit}
+use Rattle.coverage.specs.SplitStore.{split_store, solved_case, AllFamiliesIn}
+use Rattle.coverage.specs.ReadOff.{IsReadOff, read_off_case, LosesEntry}
+use Rattle.coverage.specs.UnifiedSplit.{IsUnifiedSplit}
+use Rattle.coverage.specs.HeadRun.{EndsByHeads, OutputsEndByHeads}
+use Rattle.coverage.specs.Open.{IsUndecided}
+
+-- The heads of a split give all its cases: what a case of inputs holds, in each legal extension over the families below f and in each context
+-- of W beside them, one of the cases of a split by heads holds.
+abbrev pub HeadSplitIsSplit : Type 0
+HeadSplitIsSplit = (Σ : Signature) → IsSignature Σ → (W : List Block) → AreTypedBlocks Σ W → (below : ℕ → ℕ → Bool) → IsSubordination Σ W below → (f : ℕ) → IsDeclared Σ f → (C : Case) → IsTypedCase Σ W C → C.local ≡ [] → (x : ℕ) (Cs : List Case) → IsHeadSplit Σ W (below f) below C x Cs → ((D : Case) → Member D Cs → D.local ≡ []) → IsSplit Σ W (below f) C Cs
+
+-- the same of a case of a subgoal's outputs
+abbrev pub HeadSplitIsOutputSplit : Type 0
+HeadSplitIsOutputSplit = (Σ : Signature) → IsSignature Σ → (W : List Block) → AreTypedBlocks Σ W → (below : ℕ → ℕ → Bool) → IsSubordination Σ W below → (f : ℕ) → IsDeclared Σ f → (C : Case) → IsTypedCase Σ W C → (x : ℕ) (Cs : List Case) → IsHeadSplit Σ W (below f) below C x Cs → (c : Clause) (o : Origin W c) → IsOutputSplit Σ (below f) o C Cs
+
+-- A run of splits by heads that ends well covers its goal.
+abbrev pub HeadSplitsCover : Type 0
+HeadSplitsCover = (Σ : Signature) → IsSignature Σ → (W : List Block) → AreTypedBlocks Σ W → (below : ℕ → ℕ → Bool) → IsSubordination Σ W below → (f : ℕ) → IsDeclared Σ f → (C : Case) → C.given ≡ [] → C.local ≡ [] → HasNoBlockVariable C.items → EndsByHeads Σ W (below f) below C → IsCoveredCase Σ W (below f) C
+
+-- so does a run on a subgoal's outputs
+abbrev pub HeadSplitsCoverOutputs : Type 0
+HeadSplitsCoverOutputs = (Σ : Signature) → IsSignature Σ → (m : ℕ → List Mark) (W : List Block) → AreTypedBlocks Σ W → (below : ℕ → ℕ → Bool) → IsSubordination Σ W below → (f : ℕ) → IsDeclared Σ f → (c : Clause) (o : Origin W c) (U : ℕ → Bool) (A : LfType) (C : Case) → HasOneBlockVariable C.items → OutputsEndByHeads Σ m W (below f) below c o U A C → IsCoveredOutputCase Σ m W (below f) c o U A C
+
+-- Unification in a split, over a self-contained set S that holds every family of the items. What is never solved gives no case, whatever
+-- items there are: in each legal extension over S and each context of W beside S nothing makes the variable that head.
+abbrev pub NeverGivesNone : Type 0
+NeverGivesNone = (Σ : Signature) → IsSignature Σ → (W : List Block) → AreTypedBlocks Σ W → (below : ℕ → ℕ → Bool) (S : ℕ → Bool) → SelfContained Σ W S → (C : Case) → IsTypedCase Σ W C → (x : ℕ) (X : LfType) → TypeAt (items_context C.items) x X → (J : List Item) (n : ℕ) (h : Head) (A : LfType) → SplitHead Σ W C.items X J n h A → AreTypedItems Σ W (split_items below X J n A) → AllFamiliesIn S (items_context (split_items below X J n A)) → (K : Kind) → Never Σ [] (split_store below x X J n h A K) → GivesNone Σ W S below x X J n h A
+
+-- What is solved gives a case that has each such instance, where none of the items is a block variable: the one that is read off the solved store.
+abbrev pub SolvedGivesCase : Type 0
+SolvedGivesCase = (Σ : Signature) → IsSignature Σ → (W : List Block) → AreTypedBlocks Σ W → (below : ℕ → ℕ → Bool) (S : ℕ → Bool) → SelfContained Σ W S → (C : Case) → IsTypedCase Σ W C → (x : ℕ) (X : LfType) → TypeAt (items_context C.items) x X → (J : List Item) (n : ℕ) (h : Head) (A : LfType) → SplitHead Σ W C.items X J n h A → HasNoBlockVariable J → AreTypedItems Σ W (split_items below X J n A) → AllFamiliesIn S (items_context (split_items below X J n A)) → (K : Kind) (after : Store) (s : Solved Σ (split_store below x X J n h A K) after) → GivesCase Σ W S below C x X J n h A (solved_case C (n + arguments_count A) after s.well_formed.order)
+
+-- Where some of the items are block variables, a case that is read off the solved store has each such instance: its block variables are those
+-- of the items, and its free variables are metavariables that stay free.
+abbrev pub ReadOffGivesCase : Type 0
+ReadOffGivesCase = (Σ : Signature) → IsSignature Σ → (W : List Block) → AreTypedBlocks Σ W → (below : ℕ → ℕ → Bool) (S : ℕ → Bool) → SelfContained Σ W S → (C : Case) → IsTypedCase Σ W C → (x : ℕ) (X : LfType) → TypeAt (items_context C.items) x X → (J : List Item) (n : ℕ) (h : Head) (A : LfType) → SplitHead Σ W C.items X J n h A → AreTypedItems Σ W (split_items below X J n A) → AllFamiliesIn S (items_context (split_items below X J n A)) → (K : Kind) (after : Store) (s : Solved Σ (split_store below x X J n h A K) after) (D : List Item) (values : ℕ → Image) → IsReadOff Σ W (split_items below X J n A) after s.well_formed.order D values → GivesCase Σ W S below C x X J n h A (read_off_case C (n + arguments_count A) D values)
+
+-- Where an entry would be a constant by the answer, or the same as another entry, the head gives no case.
+abbrev pub LosesGivesNone : Type 0
+LosesGivesNone = (Σ : Signature) → IsSignature Σ → (W : List Block) → AreTypedBlocks Σ W → (below : ℕ → ℕ → Bool) (S : ℕ → Bool) → SelfContained Σ W S → (C : Case) → IsTypedCase Σ W C → (x : ℕ) (X : LfType) → TypeAt (items_context C.items) x X → (J : List Item) (n : ℕ) (h : Head) (A : LfType) → SplitHead Σ W C.items X J n h A → AreTypedItems Σ W (split_items below X J n A) → AllFamiliesIn S (items_context (split_items below X J n A)) → (K : Kind) (after : Store) (s : Solved Σ (split_store below x X J n h A K) after) → LosesEntry (split_items below X J n A) after s.well_formed.order → GivesNone Σ W S below x X J n h A
+
+-- So a split on which unification answers at each head is a split by heads.
+abbrev pub UnifiedSplitIsHeadSplit : Type 0
+UnifiedSplitIsHeadSplit = (Σ : Signature) → IsSignature Σ → (W : List Block) → AreTypedBlocks Σ W → (below : ℕ → ℕ → Bool) (S : ℕ → Bool) → SelfContained Σ W S → (C : Case) → IsTypedCase Σ W C → (x : ℕ) (Cs : List Case) → IsUnifiedSplit Σ W S below C x Cs → IsHeadSplit Σ W S below C x Cs
+
+-- Where solving answers that equations are left, unification decides nothing.
+abbrev pub LeftIsUndecided : Type 0
+LeftIsUndecided = (Σ : Signature) (before after : Store) → Left Σ before after → IsUndecided Σ [] before

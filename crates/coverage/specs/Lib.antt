@@ -1,0 +1,10 @@
+pub mod Heads
+pub mod HeadRun
+pub mod SplitStore
+pub mod ReadOff
+pub mod UnifiedSplit
+pub mod RigidStore
+pub mod Open
+pub mod Strategy
+pub mod Examples
+pub mod Laws

@@ -1,0 +1,100 @@
+//! The laws of splits of coverage. They have no code: each function carries one law as its contract.
+#![tactic(auto)]
+
+ghost use Rattle.coverage.specs.Laws.{HeadSplitIsSplit, HeadSplitIsOutputSplit, HeadSplitsCover, HeadSplitsCoverOutputs, NeverGivesNone, SolvedGivesCase, ReadOffGivesCase, LosesGivesNone, UnifiedSplitIsHeadSplit, LeftIsUndecided};
+ghost use Rattle.coverage.specs.Examples.{PlusIsSplitByHeads, PlusIsSplitByUnification, PlusIsCoveredByHeads, SuccessorGivesNone, BlockCaseIsReadOff, LostEntries, HeadsAreAll, AppliedIsOpen, UnaskedIsNotOpen};
+
+/// The heads of a split give all its cases.
+pub fn head_split_is_split()
+    ensures { HeadSplitIsSplit }
+{}
+
+/// The same of a case of a subgoal's outputs.
+pub fn head_split_is_output_split()
+    ensures { HeadSplitIsOutputSplit }
+{}
+
+/// A run of splits by heads that ends well covers its goal.
+pub fn head_splits_cover()
+    ensures { HeadSplitsCover }
+{}
+
+/// So does a run on a subgoal's outputs.
+pub fn head_splits_cover_outputs()
+    ensures { HeadSplitsCoverOutputs }
+{}
+
+/// What unification never solves gives no case.
+pub fn never_gives_none()
+    ensures { NeverGivesNone }
+{}
+
+/// What it solves gives the case that is read off the solved store.
+pub fn solved_gives_case()
+    ensures { SolvedGivesCase }
+{}
+
+/// Where some of the items are block variables, so does a case that is read off with them.
+pub fn read_off_gives_case()
+    ensures { ReadOffGivesCase }
+{}
+
+/// Where an entry would be a constant by the answer, or another entry, there is no case.
+pub fn loses_gives_none()
+    ensures { LosesGivesNone }
+{}
+
+/// A split on which unification answers at each head is a split by heads.
+pub fn unified_split_is_head_split()
+    ensures { UnifiedSplitIsHeadSplit }
+{}
+
+/// Where solving answers that equations are left, unification decides nothing.
+pub fn left_is_undecided()
+    ensures { LeftIsUndecided }
+{}
+
+/// The inputs of addition are split by the heads zero and successor.
+pub fn plus_is_split_by_heads()
+    ensures { PlusIsSplitByHeads }
+{}
+
+/// So unification answers at both.
+pub fn plus_is_split_by_unification()
+    ensures { PlusIsSplitByUnification }
+{}
+
+/// The case of a block variable is read off a solved store.
+pub fn block_case_is_read_off()
+    ensures { BlockCaseIsReadOff }
+{}
+
+/// An answer that loses no entry, and one that does.
+pub fn lost_entries()
+    ensures { LostEntries }
+{}
+
+/// A head on which unification never solves, and which gives no case.
+pub fn successor_gives_none()
+    ensures { SuccessorGivesNone }
+{}
+
+/// The inputs of addition are covered by a run of splits by heads.
+pub fn plus_is_covered_by_heads()
+    ensures { PlusIsCoveredByHeads }
+{}
+
+/// A list of cases that forgets a head is no split.
+pub fn heads_are_all()
+    ensures { HeadsAreAll }
+{}
+
+/// A case of which unification with a clause leaves an equation is open.
+pub fn applied_is_open()
+    ensures { AppliedIsOpen }
+{}
+
+/// A case that gives unification no equation is not.
+pub fn unasked_is_not_open()
+    ensures { UnaskedIsNotOpen }
+{}
