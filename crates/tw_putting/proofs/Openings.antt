@@ -1,4 +1,4 @@
--- The rulesets for functions from closed syntax to open.
+-- The ruleset for functions between closed syntax and open.
 use Rattle.tw_terms.proofs.Args.{types_and_skeletons}
 use Rattle.tw_terms.proofs.OpenArgs.{open_types}
 

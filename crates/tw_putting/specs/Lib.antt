@@ -5,3 +5,4 @@ pub mod Fits
 pub mod Values
 pub mod Frames
 pub mod View
+pub mod Closed

@@ -8,6 +8,8 @@
 //! The machine's stack is memory too: `instantiate` gives results of depth up to 8,500, and past these it wants memory.
 #![tactic(auto)]
 
+#[tactic(auto, using(crate::proofs::Openings::openings))]
+mod closing;
 #[tactic(auto, using(crate::proofs::Environments::environments))]
 mod environment;
 #[tactic(auto, using(crate::proofs::Environments::environments))]
@@ -28,6 +30,7 @@ mod put;
 #[tactic(auto, using(crate::proofs::Shifts::shifts))]
 mod shifting;
 
+pub use closing::{closed_spine, closed_term, closed_type};
 pub use hereditary::{apply, instantiate, substitute, substitute_type};
 pub use laws::{
     all_in_stays, binding_keeps_skeletons, declaring_keeps_skeletons, deep_results_are_deep,

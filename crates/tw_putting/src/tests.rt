@@ -4,9 +4,12 @@ use crate::cases::{
     put_first, put_spine, put_type, substituted, substituted_type,
 };
 use crate::parts::{lambda, pi};
-use crate::{HeredFault, open_skeleton, open_type, shift, shift_type};
+use crate::{
+    HeredFault, closed_spine, closed_term, closed_type, open_skeleton, open_type, shift, shift_type,
+};
+use std::alloc::{AllocError, Global};
 use std::test::Fail;
-use tw_terms::{ConstId, Head, MetaId, OpenHead, OpenTy, Skeleton, Spine, Term, Ty};
+use tw_terms::{ConstId, Head, MetaId, Open, OpenHead, OpenTy, Skeleton, Spine, Term, Ty};
 
 const SUCC: OpenHead = OpenHead::Const(ConstId(4));
 
@@ -49,6 +52,48 @@ fn opens_types(rt: HostRuntime) -> Result<(), Fail> {
     );
     assert!(rt; open.same(&expected));
     assert!(rt; open_skeleton(alloc, &open)?.same(&Skeleton::Base(ConstId(1))));
+    Ok(())
+}
+
+/// The closed spine of one argument.
+fn one_closed(alloc: Global, arg: Term) -> Result<Spine, AllocError> {
+    let mut args = Vec::new(alloc);
+    args.push(arg)?;
+    Ok(Spine { args })
+}
+
+#[test]
+fn closes_what_has_no_metavariable(rt: HostRuntime) -> Result<(), Fail> {
+    let alloc = rt.alloc();
+    // s (s z), also under a lambda and as the index of a type
+    let zero = alone(alloc, OpenHead::Const(ConstId(3)));
+    let two = one(alloc, on(alloc, SUCC, on(alloc, SUCC, zero)?)?)?;
+    let args = Vec::new(alloc);
+    let zero = Term::Root(Head::Const(ConstId(3)), Spine { args });
+    let successor = Head::Const(ConstId(4));
+    let first = Term::Root(successor, one_closed(alloc, zero)?);
+    let second = Term::Root(successor, one_closed(alloc, first)?);
+    let expected = one_closed(alloc, second)?;
+    match closed_spine(alloc, &two)? {
+        Some(closed) => assert!(rt; closed.same(&expected)),
+        None => assert!(rt; false),
+    }
+    let under = lambda(alloc, Open::Root(SUCC, two.copy(alloc)?))?;
+    let body = Box::new(alloc, Term::Root(successor, expected.copy(alloc)?))?;
+    match closed_term(alloc, &under)? {
+        Some(closed) => assert!(rt; closed.same(&Term::Lam(body))),
+        None => assert!(rt; false),
+    }
+    match closed_type(alloc, &OpenTy::Atom(ConstId(1), two))? {
+        Some(closed) => assert!(rt; closed.same(&Ty::Atom(ConstId(1), expected))),
+        None => assert!(rt; false),
+    }
+    // [x] s (s ?7)
+    let hole = alone(alloc, OpenHead::Meta(MetaId(7)));
+    let open = lambda(alloc, on(alloc, SUCC, on(alloc, SUCC, hole)?)?)?;
+    assert!(rt; closed_term(alloc, &open)?.is_none());
+    let indexed = OpenTy::Atom(ConstId(1), one(alloc, open)?);
+    assert!(rt; closed_type(alloc, &pi(alloc, nat(alloc), indexed)?)?.is_none());
     Ok(())
 }
 
