@@ -1,0 +1,10 @@
+use Rattle.std.proofs.Common.{rules}
+use Rattle.tw_terms.specs.OpenView.{open_type_of}
+use Rattle.tw_unify.proofs.Moving.{lost_or_kept}
+use Rattle.tw_unify.proofs.Views.{type_told}
+use Rattle.tw_unify.proofs.moves.lost.Goals as goal
+
+pub returns-in-Some : goal.returns-in-Some
+returns-in-Some c =
+    let s = c.args.store.now.now in
+    lost_or_kept s c.args.loss.meta.0 c.args.loss.place (open_type_of c.in-Some.ty.now) c.prune_type.result (type_told s c.args.loss.meta.0 c.in-Some.field-0-0.now (open_type_of c.in-Some.ty.now) (search rules)) c.prune_type.ensures.pruned c.prune_type.ensures.blocked

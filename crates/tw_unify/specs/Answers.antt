@@ -1,0 +1,27 @@
+-- What solving answers.
+use Rattle.std.specs.Prelude.{◌≡◌, List, []}
+use Rattle.lf.specs.Typing.{Signature}
+use Rattle.unification.specs.Solving as solving
+use Rattle.unification.specs.Unifiers.{Equation, Store}
+use Rattle.tw_metas.specs.State.{State}
+use Rattle.tw_unify.specs.Ready.{IsReady}
+use Rattle.tw_unify.specs.declared.solving.Unified.{Unified}
+use Rattle.tw_unify.specs.declared.solving.Unified.TheVariants.{Solved, Never, Left}
+
+-- of the store before, with the given equations, and the store after
+abbrev pub Answers : Unified → Signature → Store → Store → Type 0
+Answers Solved Σ before after = solving.Solved Σ before after
+Answers Never Σ before after = solving.Never Σ [] before
+Answers Left Σ before after = solving.Left Σ before after
+
+-- where there may be a typed unifier, the store can be solved again
+abbrev pub StaysReady : Unified → Signature → State → Type 0
+StaysReady Solved Σ s = IsReady Σ [] s
+StaysReady Never Σ s = Unit {0}
+StaysReady Left Σ s = IsReady Σ [] s
+
+-- nothing is left, or something
+abbrev pub RestIs : Unified → List Equation → Type 0
+RestIs Solved es = es ≡ []
+RestIs Never es = ⊥
+RestIs Left es = es ≡ [] → ⊥

@@ -1,0 +1,13 @@
+pub mod View
+pub mod Ready
+pub mod Reaching
+pub mod Moving
+pub mod Faults
+pub mod Outcomes
+pub mod Rigid
+pub mod Flexible
+pub mod Sides
+pub mod Answers
+pub mod Showing
+pub mod Named
+pub mod Samples

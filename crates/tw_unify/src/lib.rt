@@ -1,0 +1,48 @@
+//! Higher-order pattern unification with postponed equations.
+//!
+//! **What is proved.** Contracts see the store as the theory's (crate `unification`): its metavariables, its bindings with the newest in front, and as
+//! equations those at work, the next one first, before those that are postponed (`whole` in `specs/View.antt`). Each part of the work ensures that it is a run of permitted
+//! steps (`Run`) from the whole store before it to the one after it; so `solve` is one run, and the theory gives `Solved`, `Left` and `Never`. A change of
+//! order is a run too, since any equation may be taken first. A fault `TooDeep` is explained by a run to something deep. Nothing is taken back, so a mark from before leads back.
+//!
+//! **How it goes.** An equation from the stack has the bindings put into both sides (`step`). Lambdas are opened and equal constants or variables give the equations of their
+//! arguments, with types that are instantiated (`rigid`, `heads`). Where a metavariable is a head (`flexible`), each side in turn may be one on a pattern that allows a move
+//! against the other (`moves`): it is bound, a metavariable loses an argument, or there is no typed unifier. The occurs check goes through types and
+//! values (`reach`). Where neither side allows a move the equation is postponed. When the stack is empty, the postponed equations are gone over, and the first one that
+//! allows a step under the bindings of then is woken (`postponed`); when none does, all are outside the pattern fragment and the call answers.
+//!
+//! An equation that is left is shown by `left_equation`: the bindings are put in, and the metavariables numbered by their places in an order that grows (`left`, `numbering`).
+//!
+//! **What is plain in this stage.** All postponed equations are gone over each time the stack is empty, and the bindings are put into an equation's sides at each step down.
+//! Typed sides are never mixed (a lambda and a root), and their heads have types; where a test finds otherwise, memory counts as used up.
+#![tactic(auto)]
+
+mod fault;
+#[tactic(auto, using(tw_terms::proofs::OpenArgs::open_types))]
+mod flexible;
+#[tactic(auto, using(tw_terms::proofs::OpenArgs::open_types))]
+mod heads;
+#[tactic(auto, using(tw_terms::proofs::OpenArgs::open_types))]
+mod left;
+#[tactic(auto, using(tw_terms::proofs::OpenArgs::open_types))]
+mod moves;
+#[tactic(auto, using(tw_terms::proofs::OpenArgs::open_types))]
+mod numbering;
+mod postponed;
+#[tactic(auto, using(tw_terms::proofs::OpenArgs::open_types))]
+mod reach;
+#[tactic(auto, using(tw_terms::proofs::OpenArgs::open_types))]
+mod rigid;
+#[tactic(auto, using(tw_terms::proofs::OpenArgs::open_types))]
+mod sides;
+mod solving;
+mod step;
+mod work;
+
+pub use fault::UnifyFault;
+pub use left::{LeftEquation, left_equation};
+pub use solving::{Unified, solve};
+
+#[cfg(test)]
+#[tactic(auto, using(tw_terms::proofs::OpenArgs::open_types))]
+mod tests;

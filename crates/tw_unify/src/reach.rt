@@ -1,0 +1,151 @@
+//! The occurs check, which goes through types and values.
+ghost use Rattle.std.specs.Prelude.{◌≡◌, OnOk, IfOk, MatchBool, ◌<◌, vec_len};
+ghost use Rattle.unification.specs.OpenTyping.{MetavariablesIn, MetavariablesInSpine, MetavariablesInType};
+ghost use Rattle.unification.specs.Reach.{Mentions, SpineMentions, TypeMentions, IsReached};
+ghost use Rattle.tw_terms.specs.OpenView.{open_term_of, open_spine_of, open_type_of};
+ghost use Rattle.tw_putting.specs.Stores.{types_of, bindings_of};
+ghost use Rattle.tw_unify.specs.View.{IsConsistent};
+ghost use Rattle.tw_unify.specs.Reaching.{marking_of, SameMarks, IsMarked, Spreads, StandsInType, StandsInValue, TypeIsMet, ValueIsMet, IsAvoided};
+
+use std::alloc::{AllocError, Global};
+use tw_metas::Store;
+use tw_terms::{MetaId, Open, OpenHead, OpenSpine, OpenTy};
+
+/// The metavariables that were met, by number, and those of them whose types and values are still to be walked.
+#[derive(Drop)]
+pub struct Walk {
+    pub marks: Vec<bool>,
+    pub due: Vec<u64>,
+}
+
+/// Whether the metavariable stands in the term or, step by step, in the type or the value of a metavariable that is reached from it.
+/// Fails only for want of memory.
+pub fn is_reached(
+    alloc: Global,
+    store: &Store,
+    term: &Open,
+    meta: MetaId,
+) -> Result<bool, AllocError>
+    requires { IsConsistent store.now.now }
+    ensures { IfOk result (λ b. MatchBool b (IsReached (types_of store.now.now) (bindings_of store.now.now) (open_term_of term.now) meta.0) (IsAvoided (types_of store.now.now) (bindings_of store.now.now) (open_term_of term.now) meta.0)) }
+{
+    let mut walk = Walk {
+        marks: Vec::new(alloc),
+        due: Vec::new(alloc),
+    };
+    walk.term(term)?;
+    for _ in 0..u64::MAX {
+        match walk.due.pop() {
+            None => return Ok(walk.is_marked(meta)),
+            Some(next) => {
+                walk.type_of(store, MetaId(next))?;
+                walk.value_of(store, MetaId(next))?;
+            }
+        }
+    }
+    Err(AllocError)
+}
+
+impl Walk {
+    /// Whether the metavariable was met.
+    fn is_marked(&self, meta: MetaId) -> bool
+        ensures { MatchBool result (IsMarked (marking_of self.now) meta.0) (IsMarked (marking_of self.now) meta.0 → ⊥) }
+    {
+        match self.marks.get(meta.0 as usize) {
+            Some(mark) => *mark,
+            None => false,
+        }
+    }
+
+    /// Goes through the type of a metavariable.
+    fn type_of(&mut self, store: &Store, meta: MetaId) -> Result<(), AllocError>
+        ensures spread { OnOk result (Spreads (StandsInType (types_of store.now.now) meta.0) (marking_of self.old) (marking_of self.new)) }
+        ensures met { OnOk result (TypeIsMet (types_of store.now.now) meta.0 (marking_of self.new)) }
+    {
+        match store.about(meta) {
+            Some((_, ty)) => self.ty(ty),
+            None => Ok(()),
+        }
+    }
+
+    /// Goes through the value of a metavariable.
+    fn value_of(&mut self, store: &Store, meta: MetaId) -> Result<(), AllocError>
+        requires { IsConsistent store.now.now }
+        ensures spread { OnOk result (Spreads (StandsInValue (bindings_of store.now.now) meta.0) (marking_of self.old) (marking_of self.new)) }
+        ensures met { OnOk result (ValueIsMet (bindings_of store.now.now) meta.0 (marking_of self.new)) }
+    {
+        match store.value(meta) {
+            Some(value) => self.term(value),
+            None => Ok(()),
+        }
+    }
+
+    /// Meets a metavariable.
+    fn meet(&mut self, meta: MetaId) -> Result<(), AllocError>
+        ensures spread { OnOk result (Spreads (λ k. k ≡ meta.0) (marking_of self.old) (marking_of self.new)) }
+        ensures met { OnOk result (IsMarked (marking_of self.new) meta.0) }
+    {
+        let place = meta.0 as usize;
+        self.make_room(place)?;
+        if self.marks[place] {
+            return Ok(());
+        }
+        self.marks[place] = true;
+        self.due.push(meta.0)?;
+        Ok(())
+    }
+
+    /// Makes a place for the mark of this number.
+    fn make_room(&mut self, place: usize) -> Result<(), AllocError>
+        ensures room { OnOk result (place < vec_len self.new.marks) }
+        ensures same { OnOk result (SameMarks self.old.marks.items self.new.marks.items) }
+        ensures due { OnOk result (self.new.due ≡ self.old.due) }
+    {
+        while self.marks.len() <= place {
+            self.marks.push(false)?;
+        }
+        Ok(())
+    }
+
+    /// Goes through a term.
+    #[cycle(walk)]
+    fn term(&mut self, term: &Open) -> Result<(), AllocError>
+        ensures spread { OnOk result (Spreads (λ k. Mentions k (open_term_of term.now)) (marking_of self.old) (marking_of self.new)) }
+        ensures met { OnOk result (MetavariablesIn (IsMarked (marking_of self.new)) (open_term_of term.now)) }
+    {
+        match term {
+            Open::Lam(body) => self.term(body),
+            Open::Root(OpenHead::Meta(meta), spine) => {
+                self.meet(*meta)?;
+                self.spine(spine)
+            }
+            Open::Root(_, spine) => self.spine(spine),
+        }
+    }
+
+    /// Goes through the arguments of a spine.
+    #[cycle(walk)]
+    fn spine(&mut self, spine: &OpenSpine) -> Result<(), AllocError>
+        ensures spread { OnOk result (Spreads (λ k. SpineMentions k (open_spine_of spine.now)) (marking_of self.old) (marking_of self.new)) }
+        ensures met { OnOk result (MetavariablesInSpine (IsMarked (marking_of self.new)) (open_spine_of spine.now)) }
+    {
+        for arg in &spine.args {
+            self.term(arg)?;
+        }
+        Ok(())
+    }
+
+    /// Goes through a type.
+    fn ty(&mut self, ty: &OpenTy) -> Result<(), AllocError>
+        ensures spread { OnOk result (Spreads (λ k. TypeMentions k (open_type_of ty.now)) (marking_of self.old) (marking_of self.new)) }
+        ensures met { OnOk result (MetavariablesInType (IsMarked (marking_of self.new)) (open_type_of ty.now)) }
+    {
+        match ty {
+            OpenTy::Pi(domain, range) => {
+                self.ty(domain)?;
+                self.ty(range)
+            }
+            OpenTy::Atom(_, spine) => self.spine(spine),
+        }
+    }
+}

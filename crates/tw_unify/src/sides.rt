@@ -1,0 +1,76 @@
+//! The sides of an equation, with the bindings put in.
+ghost use Rattle.std.specs.Prelude.{MatchBool, MatchResult};
+ghost use Rattle.unification.specs.Putting.{IsRigidHead};
+ghost use Rattle.tw_terms.specs.OpenView.{open_head_of, open_term_of};
+ghost use Rattle.tw_metas.specs.View.{equation_of};
+ghost use Rattle.tw_unify.specs.Sides.{BlamesDepth, HaveShape, HeadsHaveShape, IsMetavariable, PutsBoth, SidesCanTake};
+
+use crate::fault::UnifyFault;
+use std::alloc::Global;
+use tw_metas::{Equation, Store};
+use tw_putting::put_in;
+use tw_terms::{Open, OpenHead};
+
+/// How the two sides of an equation begin.
+#[derive(Clone, Copy, PartialEq, Eq, Debug)]
+pub enum Shape {
+    /// Both are lambdas.
+    Lambdas,
+    /// Both have the same constant or variable as their head.
+    Alike,
+    /// Their heads are constants or variables, and differ.
+    Apart,
+    /// A metavariable is the head of one of them.
+    Flexible,
+    /// A lambda and no lambda. Typed sides are never so.
+    Mixed,
+}
+
+/// How the sides begin.
+pub fn shape_of(left: &Open, right: &Open) -> Shape
+    ensures { HaveShape (open_term_of left.now) (open_term_of right.now) result }
+{
+    match (left, right) {
+        (Open::Lam(_), Open::Lam(_)) => Shape::Lambdas,
+        (Open::Root(head, _), Open::Root(other, _)) => heads(*head, *other),
+        _ => Shape::Mixed,
+    }
+}
+
+/// The same of two roots.
+fn heads(head: OpenHead, other: OpenHead) -> Shape
+    ensures { HeadsHaveShape (open_head_of head) (open_head_of other) result }
+{
+    if is_meta(head) || is_meta(other) {
+        Shape::Flexible
+    } else if head.same(other) {
+        Shape::Alike
+    } else {
+        Shape::Apart
+    }
+}
+
+/// Whether the head is a metavariable.
+fn is_meta(head: OpenHead) -> bool
+    ensures { MatchBool result (IsMetavariable (open_head_of head)) (IsRigidHead (open_head_of head)) }
+{
+    match head {
+        OpenHead::Meta(_) => true,
+        OpenHead::Const(_) | OpenHead::Var(_) => false,
+    }
+}
+
+/// Both sides with the bindings put in. `TooDeep` only where a side is deep then.
+pub fn put_sides(
+    alloc: Global,
+    store: &Store,
+    equation: &Equation,
+) -> Result<(Open, Open), UnifyFault>
+    requires { SidesCanTake store.now.now (equation_of equation.now) }
+    ensures { MatchResult result (λ p. PutsBoth store.now.now (equation_of equation.now) (open_term_of p.0) (open_term_of p.1)) (λ f. BlamesDepth f store.now.now (equation_of equation.now)) }
+{
+    let binders = equation.context.len() as u64;
+    let left = put_in(alloc, store, binders, &equation.left)?;
+    let right = put_in(alloc, store, binders, &equation.right)?;
+    Ok((left, right))
+}

@@ -1,0 +1,93 @@
+//! Solving: steps of unification until nothing is left, no step is possible, or there is no typed unifier.
+ghost use Rattle.std.specs.Prelude.{◌≡◌, [], ◌∷◌, map, IfOk, MatchOption, MatchResult};
+ghost use Rattle.lf.specs.Entries.{signature_of, IsCanonicalSignature};
+ghost use Rattle.tw_metas.specs.View.{equation_of};
+ghost use Rattle.tw_unify.specs.View.{IsConsistent, whole};
+ghost use Rattle.tw_unify.specs.Ready.{IsLater, IsReady};
+ghost use Rattle.tw_unify.specs.Outcomes.{Explains, stacked};
+ghost use Rattle.tw_unify.specs.Answers.{Answers, RestIs, StaysReady};
+ghost use Rattle.tw_unify.specs.Sides.{AllLeft};
+ghost use Rattle.unification.specs.Steps.{Run};
+
+use crate::fault::UnifyFault;
+use crate::postponed::wake;
+use crate::step::advance;
+use crate::work::Advance;
+use std::alloc::Global;
+use tw_metas::{Equation, Store};
+use tw_signature::Signature;
+
+/// What solving comes to.
+#[derive(Clone, Copy, PartialEq, Eq, Debug)]
+pub enum Unified {
+    /// The bindings are a most general unifier among typed ones, and no equation is left.
+    Solved,
+    /// No typed unifier exists.
+    Never,
+    /// The same as solved, relative to the equations that are postponed; each is outside the pattern fragment.
+    Left,
+}
+
+/// Solves the equations, and those that are postponed in the store.
+///
+/// Answers `TooDeep` only where the equations are deep. After `Never` or a fault the store may hold new bindings; a mark taken before still leads back.
+pub fn solve(
+    alloc: Global,
+    store: &mut Store,
+    signature: &Signature,
+    equations: Vec<Equation>,
+) -> Result<Unified, UnifyFault>
+    requires { IsReady (signature_of signature.now) (map equation_of equations.items) store.old.now }
+    ensures answer { MatchResult result (λ a. Answers a (signature_of signature.now) (whole (map equation_of equations.items) store.old.now) (whole [] store.new.now)) (λ f. Explains f (signature_of signature.now) (whole (map equation_of equations.items) store.old.now)) }
+    ensures ready { IfOk result (λ a. StaysReady a (signature_of signature.now) store.new.now) }
+    ensures consistent { IsConsistent store.new.now }
+    ensures story { IsLater store.old store.new }
+{
+    signature.is_canonical();
+    let mut work = equations;
+    work.reverse();
+    for _ in 0..u64::MAX {
+        let next = next_equation(alloc, store, signature, &mut work)?;
+        match next {
+            None => return Ok(rest(store)),
+            Some(equation) => {
+                let outcome = advance(alloc, store, signature, &mut work, equation)?;
+                match outcome {
+                    Advance::Went => (),
+                    Advance::Refuted => return Ok(Unified::Never),
+                }
+            }
+        }
+    }
+    Err(UnifyFault::NoMemory)
+}
+
+/// The next equation at work, or one that was postponed and at which a step is possible.
+fn next_equation(
+    alloc: Global,
+    store: &mut Store,
+    signature: &Signature,
+    work: &mut Vec<Equation>,
+) -> Result<Option<Equation>, UnifyFault>
+    requires canonical { IsCanonicalSignature signature.now }
+    requires ready { IsReady (signature_of signature.now) (stacked work.old.items) store.old.now }
+    ensures next { MatchResult result (λ r. MatchOption r ((stacked work.old.items ≡ []) × AllLeft store.old.now store.old.now.equations × (store.new ≡ store.old)) (λ e. Run (signature_of signature.now) [] (whole (stacked work.old.items) store.old.now) (whole (equation_of e ∷ stacked work.new.items) store.new.now))) (λ f. Explains f (signature_of signature.now) (whole (stacked work.old.items) store.old.now)) }
+    ensures consistent { IsConsistent store.new.now }
+    ensures story { IsLater store.old store.new }
+{
+    match work.pop() {
+        Some(equation) => Ok(Some(equation)),
+        None => wake(alloc, store, signature),
+    }
+}
+
+/// The answer where no step is possible any more.
+fn rest(store: &Store) -> Unified
+    ensures { RestIs result store.now.now.equations }
+{
+    if store.equations().is_empty() {
+        Unified::Solved
+    } else {
+        Unified::Left
+    }
+}

@@ -1,0 +1,26 @@
+//! The equations at work: a stack, the next one last.
+ghost use Rattle.std.specs.Prelude.{◌≡◌, OnOk, map};
+ghost use Rattle.unification.specs.Lists.{followed};
+ghost use Rattle.tw_metas.specs.View.{equation_of};
+ghost use Rattle.tw_unify.specs.Outcomes.{stacked};
+
+use std::alloc::AllocError;
+use tw_metas::Equation;
+
+/// What came of an equation at work.
+#[derive(Clone, Copy, PartialEq, Eq, Debug)]
+pub enum Advance {
+    /// Steps of unification were made.
+    Went,
+    /// It has no typed unifier.
+    Refuted,
+}
+
+/// Puts the equations on the stack, the first one on top.
+pub fn put_on_top(work: &mut Vec<Equation>, mut equations: Vec<Equation>) -> Result<(), AllocError>
+    ensures { OnOk result (stacked work.new.items ≡ followed (map equation_of equations.items) (stacked work.old.items)) }
+{
+    equations.reverse();
+    work.append(&mut equations)?;
+    Ok(())
+}
