@@ -146,7 +146,7 @@ plus_split = record {
 }
 
 -- the premises
-goal_typed : IsTypedCase Addition [] plus_input_goal
+pub goal_typed : IsTypedCase Addition [] plus_input_goal
 goal_typed = record { items = ((tt, (_, refl, tt)), (_, refl, tt)); given = tt; arguments = ((base 0, (base 0, refl, refl)), ((base 0, (base 0, refl, refl)), tt)) }
 
 same_is : (m n : ℕ) → same_number m n ≡ true → n ≡ m
@@ -176,7 +176,7 @@ nat_contained = record { declared = declared; kinds_in = kinds_in; types_in = ty
     types_in (suc (suc (suc zero))) A e s = absurd (no e refl s)
     types_in (suc (suc (suc (suc n)))) A e s = absurd cc
 
-plus_subordination : IsSubordination Addition [] first_below_second
+pub plus_subordination : IsSubordination Addition [] first_below_second
 plus_subordination = record { itself = below_itself; through = through; self_contained = contained }
   where
     from : {f g : ℕ} → g ≡ f → Within (first_below_second g) (first_below_second f)
@@ -287,7 +287,7 @@ no_equation_no_step Σ G e (bind m xs d u i p b) = cc
 no_equation_no_step Σ G e (prune_inside m xs d p c u n g x) = cc
 no_equation_no_step Σ G e (prune_both m xs d p c u n g x) = cc
 
-stays : (Σ : Signature) (G : List LfType) {s t : Store} → s.equations ≡ [] → Run Σ G s t → t ≡ s
+pub stays : (Σ : Signature) (G : List LfType) {s t : Store} → s.equations ≡ [] → Run Σ G s t → t ≡ s
 stays Σ G e no_step = refl
 stays Σ G e (then_run p r) = absurd (no_equation_no_step Σ G e p)
 

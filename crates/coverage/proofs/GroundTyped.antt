@@ -34,7 +34,7 @@ long_equal [] σ τ h i A g = absurd g
 long_equal (B ∷ O) σ τ h zero A g = ap (put (skeleton B)) (ap (λ a. as_term a (σ zero)) (sym (skeleton_renamed suc B)) ∙ h zero (weaken B) refl ∙ ap (λ a. as_term a (τ zero)) (skeleton_renamed suc B))
 long_equal (B ∷ O) σ τ h (suc i) A (C, g, e) = long_equal O (λ j. σ (suc j)) (λ j. τ (suc j)) (λ j X k. ap (λ a. as_term a (σ (suc j))) (sym (skeleton_renamed suc X)) ∙ h (suc j) (weaken X) (X, k, refl) ∙ ap (λ a. as_term a (τ (suc j))) (skeleton_renamed suc X)) i C g
 
-past_one : (x : Image) (f : ℕ → Image) (y : Image) → substitute_image (in_front x f) (rename_image suc y) ≡ substitute_image f y
+pub past_one : (x : Image) (f : ℕ → Image) (y : Image) → substitute_image (in_front x f) (rename_image suc y) ≡ substitute_image f y
 past_one x f (keep i) = refl
 past_one x f (put a N) = ap (put a) (substitute_renamed reduce (in_front x f) suc N)
 

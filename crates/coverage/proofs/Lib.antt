@@ -26,3 +26,12 @@ pub mod Examples
 pub mod ExamplesUnified
 pub mod ExamplesReadOff
 pub mod Left
+pub mod Carried
+pub mod Standing
+pub mod FirstStands
+pub mod Leaf
+pub mod Leaves
+pub mod OutputLeaves
+pub mod ExamplesLeaves
+pub mod ExamplesOpen
+pub mod ExamplesLeaf

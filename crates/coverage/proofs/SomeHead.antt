@@ -51,6 +51,7 @@ use Rattle.coverage.proofs.ItemsContext.{items_are_context}
 use Rattle.coverage.proofs.NewBlock.{block_typed, moved_at, front_long, block_values, block_on, block_keeps}
 use Rattle.coverage.proofs.Offered.{offered}
 use Rattle.coverage.proofs.SameInstance.{entry_or_new, entry_has_type, front_entry}
+use Rattle.coverage.proofs.Standing.{place_among}
 use mathlib.Core.Path.{fun_ext}
 
 -- the value of a free variable
@@ -77,10 +78,6 @@ head_same Σ G (constant c) A B e f = some_same (sym e ∙ f)
     some_same e = cc
 head_same Σ G (variable i) A B g h = variable_type_unique G i A B g h
 head_same Σ G (metavariable m) A B g h = absurd g
-
-place_among : (later : List LfType) (E : LfType) (es : List LfType) → among (onto later (E ∷ es)) (place_of later) ≡ true
-place_among [] E es = refl
-place_among (D ∷ later) E es = place_among later E es
 
 among_less : (ds : List LfType) (k : ℕ) → among ds k ≡ true → k < length ds
 among_less [] k e = absurd cc

@@ -27,7 +27,7 @@ use Rattle.coverage.proofs.HeadItems.{count_substituted}
 use mathlib.Core.Path.{fun_ext}
 
 -- Substitutions that are the same on a context do the same to what is typed in it by skeletons.
-abbrev SameIn : List Skeleton → (ℕ → Image) → (ℕ → Image) → Type 0
+abbrev pub SameIn : List Skeleton → (ℕ → Image) → (ℕ → Image) → Type 0
 SameIn Γ σ τ = (i : ℕ) (t : Skeleton) → SkeletonAt Γ i t → σ i ≡ τ i
 
 same_lifted : (Γ : List Skeleton) (a : Skeleton) (σ τ : ℕ → Image) → SameIn Γ σ τ → SameIn (a ∷ Γ) (lift σ) (lift τ)
@@ -36,7 +36,7 @@ same_lifted Γ a σ τ h (suc i) t g = ap (rename_image suc) (h i t g)
 
 module _ (κ : HeadSkeletons) where
   mutual
-    same_in : (Γ : List Skeleton) (σ τ : ℕ → Image) → SameIn Γ σ τ → (M : Term) (t : Skeleton) → TermSkeleton κ Γ M t → substitute reduce σ M ≡ substitute reduce τ M
+    pub same_in : (Γ : List Skeleton) (σ τ : ℕ → Image) → SameIn Γ σ τ → (M : Term) (t : Skeleton) → TermSkeleton κ Γ M t → substitute reduce σ M ≡ substitute reduce τ M
     same_in Γ σ τ h (lambda M) (arrow a b) m = ap lambda (same_in (a ∷ Γ) (lift σ) (lift τ) (same_lifted Γ a σ τ h) M b m)
     same_in Γ σ τ h (lambda M) (base c) m = absurd m
     same_in Γ σ τ h (root k S) (arrow a b) m = absurd m

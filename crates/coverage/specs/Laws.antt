@@ -7,20 +7,21 @@ use Rattle.lf.specs.Subordination.{Block, Member, IsDeclared, AreTypedBlocks, Se
 use Rattle.unification.specs.Solving.{Never, Solved, Left}
 use Rattle.unification.specs.Unifiers.{Store}
 use Rattle.totality.specs.Clause.{Clause}
-use Rattle.totality.specs.Marks.{Mark}
+use Rattle.totality.specs.Marks.{Mark, input_places}
 use Rattle.totality.specs.Group.{IsSubordination}
-use Rattle.totality.specs.Case.{Item, Case, items_context, IsCoveredCase}
+use Rattle.totality.specs.Case.{Item, Case, items_context, covered_places, IsCoveredCase}
 use Rattle.totality.specs.Missing.{AreTypedItems}
 use Rattle.totality.specs.Reached.{arguments_count, SplitHead, split_items}
-use Rattle.totality.specs.Split.{IsSplit, HasNoBlockVariable}
+use Rattle.totality.specs.Split.{IsSplit, IsInstanceCase, HasNoBlockVariable}
 use Rattle.totality.specs.OutputCase.{Origin, IsCoveredOutputCase}
-use Rattle.totality.specs.OutputSplit.{IsOutputSplit, HasOneBlockVariable}
+use Rattle.totality.specs.OutputSplit.{IsOutputSplit, IsOutputInstanceCase, HasOneBlockVariable}
 use Rattle.coverage.specs.Heads.{IsTypedCase, GivesCase, GivesNone, IsHeadSplit}
 use Rattle.coverage.specs.SplitStore.{split_store, solved_case, AllFamiliesIn}
 use Rattle.coverage.specs.ReadOff.{IsReadOff, read_off_case, LosesEntry}
 use Rattle.coverage.specs.UnifiedSplit.{IsUnifiedSplit}
 use Rattle.coverage.specs.HeadRun.{EndsByHeads, OutputsEndByHeads}
 use Rattle.coverage.specs.Open.{IsUndecided}
+use Rattle.coverage.specs.Leaf.{HasClosedInputs, IsInstanceLeaf, EndsAtLeaves, IsOutputLeaf, OutputsEndAtLeaves, IsGroundSubgoal}
 
 -- The heads of a split give all its cases: what a case of inputs holds, in each legal extension over the families below f and in each context
 -- of W beside them, one of the cases of a split by heads holds.
@@ -64,3 +65,20 @@ UnifiedSplitIsHeadSplit = (Σ : Signature) → IsSignature Σ → (W : List Bloc
 -- Where solving answers that equations are left, unification decides nothing.
 abbrev pub LeftIsUndecided : Type 0
 LeftIsUndecided = (Σ : Signature) (before after : Store) → Left Σ before after → IsUndecided Σ [] before
+
+-- A leaf of a run by its terms: what a typed case of inputs holds that is an instance of a clause, a constant or a block entry, with strict
+-- inputs, is covered, in each legal extension over S and each context of W beside S.
+abbrev pub LeafIsInstanceCase : Type 0
+LeafIsInstanceCase = (Σ : Signature) → IsSignature Σ → (m : ℕ → List Mark) (W : List Block) → AreTypedBlocks Σ W → (S : ℕ → Bool) (C : Case) → HasClosedInputs Σ m C.family → covered_places C.arguments ≡ input_places (m C.family) → IsInstanceLeaf Σ m W C → IsInstanceCase Σ W S C
+
+-- So a run of splits by unification with such leaves covers its goal.
+abbrev pub LeavesCover : Type 0
+LeavesCover = (Σ : Signature) → IsSignature Σ → (m : ℕ → List Mark) (W : List Block) → AreTypedBlocks Σ W → (below : ℕ → ℕ → Bool) → IsSubordination Σ W below → (f : ℕ) → IsDeclared Σ f → (C : Case) → C.given ≡ [] → C.local ≡ [] → HasNoBlockVariable C.items → HasClosedInputs Σ m C.family → covered_places C.arguments ≡ input_places (m C.family) → EndsAtLeaves Σ m W (below f) below C → IsCoveredCase Σ W (below f) C
+
+-- The same of outputs: what such a leaf holds, for the same given terms and for the same of what stands outside, is an instance of the outputs.
+abbrev pub OutputLeafIsInstanceCase : Type 0
+OutputLeafIsInstanceCase = (Σ : Signature) → IsSignature Σ → (m : ℕ → List Mark) (W : List Block) → AreTypedBlocks Σ W → (S : ℕ → Bool) (c : Clause) (o : Origin W c) (U : ℕ → Bool) (A : LfType) → IsGroundSubgoal Σ m c U A → (C : Case) → IsOutputLeaf Σ m W c o U A C → IsOutputInstanceCase Σ m W S c o U A C
+
+-- and a run with such leaves covers its goal
+abbrev pub OutputLeavesCover : Type 0
+OutputLeavesCover = (Σ : Signature) → IsSignature Σ → (m : ℕ → List Mark) (W : List Block) → AreTypedBlocks Σ W → (below : ℕ → ℕ → Bool) → IsSubordination Σ W below → (f : ℕ) → IsDeclared Σ f → (c : Clause) (o : Origin W c) (U : ℕ → Bool) (A : LfType) → IsGroundSubgoal Σ m c U A → (C : Case) → HasOneBlockVariable C.items → OutputsEndAtLeaves Σ m W (below f) below c o U A C → IsCoveredOutputCase Σ m W (below f) c o U A C

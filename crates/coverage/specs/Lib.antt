@@ -7,4 +7,6 @@ pub mod RigidStore
 pub mod Open
 pub mod Strategy
 pub mod Examples
+pub mod Leaf
+pub mod ExamplesLeaves
 pub mod Laws

@@ -1,8 +1,9 @@
 //! The laws of splits of coverage. They have no code: each function carries one law as its contract.
 #![tactic(auto)]
 
-ghost use Rattle.coverage.specs.Laws.{HeadSplitIsSplit, HeadSplitIsOutputSplit, HeadSplitsCover, HeadSplitsCoverOutputs, NeverGivesNone, SolvedGivesCase, ReadOffGivesCase, LosesGivesNone, UnifiedSplitIsHeadSplit, LeftIsUndecided};
+ghost use Rattle.coverage.specs.Laws.{HeadSplitIsSplit, HeadSplitIsOutputSplit, HeadSplitsCover, HeadSplitsCoverOutputs, NeverGivesNone, SolvedGivesCase, ReadOffGivesCase, LosesGivesNone, UnifiedSplitIsHeadSplit, LeafIsInstanceCase, LeavesCover, OutputLeafIsInstanceCase, OutputLeavesCover, LeftIsUndecided};
 ghost use Rattle.coverage.specs.Examples.{PlusIsSplitByHeads, PlusIsSplitByUnification, PlusIsCoveredByHeads, SuccessorGivesNone, BlockCaseIsReadOff, LostEntries, HeadsAreAll, AppliedIsOpen, UnaskedIsNotOpen};
+ghost use Rattle.coverage.specs.ExamplesLeaves.{PlusEndsAtLeaves, EntryIsLeaf, GoalIsOutputLeaf, IndexIsLeftOutside, NothingIsLeftOutside, OutputsAreOpen};
 
 /// The heads of a split give all its cases.
 pub fn head_split_is_split()
@@ -47,6 +48,26 @@ pub fn loses_gives_none()
 /// A split on which unification answers at each head is a split by heads.
 pub fn unified_split_is_head_split()
     ensures { UnifiedSplitIsHeadSplit }
+{}
+
+/// What a typed case holds that is an instance of a clause is covered.
+pub fn leaf_is_instance_case()
+    ensures { LeafIsInstanceCase }
+{}
+
+/// A run of splits by unification whose leaves are such instances covers its goal.
+pub fn leaves_cover()
+    ensures { LeavesCover }
+{}
+
+/// What a typed case of outputs holds that is an instance of these outputs is such an instance.
+pub fn output_leaf_is_instance_case()
+    ensures { OutputLeafIsInstanceCase }
+{}
+
+/// A run on outputs with such leaves covers its goal.
+pub fn output_leaves_cover()
+    ensures { OutputLeavesCover }
 {}
 
 /// Where solving answers that equations are left, unification decides nothing.
@@ -97,4 +118,34 @@ pub fn applied_is_open()
 /// A case that gives unification no equation is not.
 pub fn unasked_is_not_open()
     ensures { UnaskedIsNotOpen }
+{}
+
+/// The inputs of addition are covered by a run of splits by unification that ends at instances of its clauses.
+pub fn plus_ends_at_leaves()
+    ensures { PlusEndsAtLeaves }
+{}
+
+/// The case of a block variable is an instance of its block's entry.
+pub fn entry_is_leaf()
+    ensures { EntryIsLeaf }
+{}
+
+/// The goal of a subgoal's outputs that are all new is a leaf, and covered.
+pub fn goal_is_output_leaf()
+    ensures { GoalIsOutputLeaf }
+{}
+
+/// A split leaves an equation of indices, and the strategy stops there.
+pub fn index_is_left_outside()
+    ensures { IndexIsLeftOutside }
+{}
+
+/// Where a variable has no head nothing is left.
+pub fn nothing_is_left_outside()
+    ensures { NothingIsLeftOutside }
+{}
+
+/// A case of outputs that is open, and one that is not.
+pub fn outputs_are_open()
+    ensures { OutputsAreOpen }
 {}
