@@ -1,6 +1,6 @@
 use crate::{
     ConstId, Context, Head, Kind, MetaId, Open, OpenContext, OpenHead, OpenSpine, OpenTy, Skeleton,
-    Spine, Term, Ty, skeleton, weaken,
+    Spine, Term, Ty, skeleton,
 };
 use std::alloc::{AllocError, Global};
 use std::process::Abort;
@@ -211,25 +211,6 @@ fn compares_open_terms(rt: HostRuntime) -> Result<(), Fail> {
     assert_eq!(rt; copy.len(), 1);
     assert!(rt; copy.get(0).ok_or("no variable 0")?.same(&ty));
     assert!(rt; context.pop().ok_or("empty")?.same(&ty));
-    Ok(())
-}
-
-// `{x : c1} c2 x y`, moved over three variables: `y` is moved, `x` stays.
-#[test]
-fn moves_what_is_free(rt: HostRuntime) -> Result<(), Fail> {
-    let alloc = rt.alloc();
-    let mut pairs = Vec::new(alloc);
-    for free in [1, 4] {
-        let mut args = Vec::new(alloc);
-        args.push(variable(alloc, 0))?;
-        args.push(variable(alloc, free))?;
-        pairs.push(pi(
-            alloc,
-            family(alloc, 1),
-            Ty::Atom(ConstId(2), Spine { args }),
-        )?)?;
-    }
-    assert!(rt; weaken(alloc, &pairs[0], 3)?.same(&pairs[1]));
     Ok(())
 }
 
