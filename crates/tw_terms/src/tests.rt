@@ -1,6 +1,6 @@
 use crate::{
     ConstId, Context, Head, Kind, MetaId, Open, OpenContext, OpenHead, OpenSpine, OpenTy, Skeleton,
-    Spine, Term, Ty, skeleton,
+    Spine, Term, Ty, skeleton, weaken,
 };
 use std::alloc::{AllocError, Global};
 use std::process::Abort;
@@ -211,6 +211,28 @@ fn compares_open_terms(rt: HostRuntime) -> Result<(), Fail> {
     assert_eq!(rt; copy.len(), 1);
     assert!(rt; copy.get(0).ok_or("no variable 0")?.same(&ty));
     assert!(rt; context.pop().ok_or("empty")?.same(&ty));
+    Ok(())
+}
+
+// `{x : c1} c2 x y`, where `y` is this variable
+fn pair(alloc: Global, free: u64) -> Result<Ty, Fail> {
+    let mut args = Vec::new(alloc);
+    args.push(variable(alloc, 0))?;
+    args.push(variable(alloc, free))?;
+    Ok(pi(
+        alloc,
+        family(alloc, 1),
+        Ty::Atom(ConstId(2), Spine { args }),
+    )?)
+}
+
+// Moved over three variables, `y` is another and `x` stays.
+#[test]
+fn moves_what_is_free(rt: HostRuntime) -> Result<(), Fail> {
+    let alloc = rt.alloc();
+    let ty = pair(alloc, 1)?;
+    let moved = pair(alloc, 4)?;
+    assert!(rt; weaken(alloc, &ty, 3)?.same(&moved));
     Ok(())
 }
 
