@@ -5,12 +5,12 @@ ghost use Rattle.lf.specs.Entries.{signature_of, quantifiers, kind_quantifiers, 
 ghost use Rattle.tw_terms.specs.View.{type_of, kind_of};
 ghost use Rattle.tw_signature.specs.View.{body_of};
 
-use crate::{Names, Preference, ShowEnv, show_decl, show_entry};
+use crate::{Names, Preference, ShowEnv, show_decl, show_entry, show_term, show_type};
 use std::alloc::{AllocError, Global};
 use std::process::Abort;
 use std::test::Fail;
 use tw_fixity::{Assoc, Fix, FixTable, Name};
-use tw_kernel::{Verdict, check_kind, check_term, check_type};
+use tw_kernel::{Verdict, check_context, check_kind, check_term, check_type};
 use tw_signature::{Body, Entry, Signature};
 use tw_terms::{ConstId, Context, Head, Kind, Spine, Term, Ty};
 
@@ -282,6 +282,42 @@ fn plus_next(alloc: Global) -> Result<Ty, AllocError> {
     )?;
     let clause = pi(alloc, nat(alloc)?, pi(alloc, premise, head)?)?;
     pi(alloc, nat(alloc)?, pi(alloc, nat(alloc)?, clause)?)
+}
+
+// In the context of a number and of a sum: the variables are named like any others, the outermost first.
+#[test]
+fn in_a_context(rt: HostRuntime) -> Result<(), Fail> {
+    let alloc = rt.alloc();
+    let world = numbers(&rt, alloc)?;
+    let mut context = Context::new(alloc);
+    context.push(nat(alloc)?)?;
+    context.push(plus(alloc, zero(alloc)?, bound(alloc, 0)?, bound(alloc, 0)?)?)?;
+    let verdict = check_context(alloc, &world.signature, &context)?;
+    assert!(rt; matches!(verdict, Verdict::Typed));
+    // {x2:nat} plus x2 x (s x2) -> nat
+    let sum = plus(
+        alloc,
+        bound(alloc, 0)?,
+        bound(alloc, 2)?,
+        next(alloc, bound(alloc, 0)?)?,
+    )?;
+    let ty = pi(alloc, nat(alloc)?, pi(alloc, sum, nat(alloc)?)?)?;
+    let verdict = check_type(alloc, &world.signature, &context, &ty)?;
+    assert!(rt; matches!(verdict, Verdict::Typed));
+    let term = lam(alloc, lam(alloc, next(alloc, bound(alloc, 3)?)?)?)?;
+    let verdict = check_term(alloc, &world.signature, &context, &term, &ty)?;
+    assert!(rt; matches!(verdict, Verdict::Typed));
+    let env = ShowEnv {
+        sig: &world.signature,
+        fixities: &world.fixities,
+        names: &world.names,
+        implicit: false,
+    };
+    let shown = show_type(alloc, &env, &context, &ty)?;
+    assert!(rt; shown.as_slice() == b"{x2:nat} plus x2 x (s x2) -> nat".as_slice());
+    let shown = show_term(alloc, &env, &context, &term, &ty)?;
+    assert!(rt; shown.as_slice() == b"[x2:nat] [x3:plus x2 x (s x2)] s x".as_slice());
+    Ok(())
 }
 
 #[test]
