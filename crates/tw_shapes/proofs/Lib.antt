@@ -1,0 +1,11 @@
+pub mod Views
+pub mod Variables
+pub mod Walks
+pub mod Fillings
+pub mod Binding
+pub mod Steps
+pub mod Equating
+pub mod Rounds
+pub mod Arrows
+pub mod Undoing
+pub mod Keeping
