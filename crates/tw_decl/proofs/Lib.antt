@@ -6,3 +6,4 @@ pub mod Good
 pub mod Undone
 pub mod Arguments
 pub mod GoodText
+pub mod Ahead

@@ -77,17 +77,6 @@ opened_end {E = E} v u w name text line a b c from at r so none same e g = (
   reply_second a b c (opening name ++ so.lines) ([] ++ (closing name ++ accepted)) r so.gains (subst (λ (l : List ℕ). GainsReply b c ([] ++ (l ++ accepted)) r) e g),
 )
 
--- one declaration more was made, and memory was wanting behind it
-pub opened_lost : {E : Type 0} (v u w : View) (name text report line : List ℕ) (a b c d : Option (List ℕ)) (from upto : ℕ) (at : Place) (r : Result (Unit {0}) E) → LoadedSoFar v name text a b u from at → AcceptsFrom u text from report upto w → Gains b c report
-    → line ≡ closing name → GainsReply c d (no_memory ++ (line ++ refused)) r → IsOpened v name text a d w r
-opened_lost v u w name text report line a b c d from upto at r so accepts gained e g =
-    let lines = so.lines ++ report in
-    let gains : Gains a c (opening name ++ lines) = Gains-same a c _ _ (append_assoc (opening name) so.lines report) (Gains-trans a b c (opening name ++ so.lines) report so.gains gained) in (
-      (opening name ++ lines) ++ (no_memory ++ (closing name ++ refused)),
-      inr (record { lines = lines; upto = upto; shown = no_memory; last = refused; makes = one_more so.makes accepts; ends = inr (Memory, tt, refl, refl); says = refl }),
-      reply_second a c d (opening name ++ lines) (no_memory ++ (closing name ++ refused)) r gains (subst (λ (l : List ℕ). GainsReply c d (no_memory ++ (l ++ refused)) r) e g),
-    )
-
 -- the lines of a file, behind which a refusal is shown
 refused_behind : {E : Type 0} (v u : View) (name text shown : List ℕ) (refusal : Refusal) (a b c : Option (List ℕ)) (from : ℕ) (at : Place) (r : Result (Unit {0}) E) → LoadedSoFar v name text a b u from at → HasCauseFrom u text from refusal → shown ≡ refusal_line name refusal
     → GainsReply b c (shown ++ (closing name ++ refused)) r → IsOpened v name text a c u r

@@ -92,10 +92,6 @@ fn load<K: Sink>(
                 if let Err(error) = write_all(sink, &report.text) {
                     return Err(error);
                 }
-                // A declaration takes some bytes of the text; were it not so, the rest of the file would be left.
-                if upto <= from || upto > text.len() {
-                    return close(sink, MEMORY, &closing, ABORT);
-                }
                 from = upto;
                 at = behind;
             }

@@ -1,7 +1,8 @@
 use Rattle.std.proofs.Common.{◌≡◌, ◌≤◌, ◌∙◌, refl, arith, length}
+use Rattle.tw_decl.proofs.Ahead.{accepted_ahead}
 use Rattle.tw_decl.specs.declared.declaration.Next.TheVariants as nexts
 use Rattle.tw_server.specs.declared.write.Unwritten.{Unwritten}
-use Rattle.tw_server.proofs.Loads.{comes_done, comes_end, not_opened, opened_end, opened_first, opened_lost, opened_more, opened_part, opened_refused, opening_cut}
+use Rattle.tw_server.proofs.Loads.{comes_done, comes_end, not_opened, opened_end, opened_first, opened_more, opened_part, opened_refused, opening_cut}
 use Rattle.tw_server.proofs.load.load.Goals as goal
 
 pub returns-in_default-clause-reply : goal.returns-in_default-clause-reply
@@ -33,21 +34,21 @@ returns-in-Err-write_all-clause-reply g c =
     let h = comes_done c.loop-sink.session c.declare.new.session c.args.text.now c.deref-in-Ok-Done.result.now c.loop-sink.from c.in-Ok-Done.upto c.in-Ok-Done.field-0 c.in-Ok-Done.report c.in-Ok-Done.behind e c.deref-in-Ok-Done.ensures.value c.in-Ok-Done.ensures.ok in
     opened_part {E = Unwritten} c.args.session.now c.loop-sink.session c.declare.new.session c.args.name.now c.args.text.now c.deref-in-Ok-Done.result.now _ _ _ c.loop-sink.from c.in-Ok-Done.upto c.loop-sink.at c.in-Err-write_all.error c.loop-sink.invariant.loaded h.0 c.in-Err-write_all.ensures.bytes
 
-pub returns-then-upto-from-clause-reply : goal.returns-then-upto-from-clause-reply
-returns-then-upto-from-clause-reply g c =
+pub loop-sink-smaller : goal.loop-sink-smaller
+loop-sink-smaller g c =
     let e : c.in-Ok-Done.field-0 ≡ nexts.Done c.in-Ok-Done.report c.in-Ok-Done.upto c.in-Ok-Done.behind = cc in
     let h = comes_done c.loop-sink.session c.declare.new.session c.args.text.now c.deref-in-Ok-Done.result.now c.loop-sink.from c.in-Ok-Done.upto c.in-Ok-Done.field-0 c.in-Ok-Done.report c.in-Ok-Done.behind e c.deref-in-Ok-Done.ensures.value c.in-Ok-Done.ensures.ok in
-    opened_lost c.args.session.now c.loop-sink.session c.declare.new.session c.args.name.now c.args.text.now c.deref-in-Ok-Done.result.now c.deref-then-upto-from.result.now _ _ _ _ c.loop-sink.from c.in-Ok-Done.upto c.loop-sink.at c.close-then-upto-from.result c.loop-sink.invariant.loaded h.0
-    (c.in_default-write_all-2.ensures {u = tt}).bytes (c.deref-then-upto-from.ensures.value ∙ c.in-Ok-around.ensures) c.close-then-upto-from.ensures.bytes
+    let ahead = accepted_ahead c.loop-sink.session c.declare.new.session c.args.text.now c.deref-in-Ok-Done.result.now c.loop-sink.from c.in-Ok-Done.upto c.loop-sink.invariant.loaded.within h.0 in
+    omega (arith, ahead.0, ahead.1)
 
 pub loop-sink-preserved : goal.loop-sink-preserved
 loop-sink-preserved g c =
     let e : c.in-Ok-Done.field-0 ≡ nexts.Done c.in-Ok-Done.report c.in-Ok-Done.upto c.in-Ok-Done.behind = cc in
     let h = comes_done c.loop-sink.session c.declare.new.session c.args.text.now c.deref-in-Ok-Done.result.now c.loop-sink.from c.in-Ok-Done.upto c.in-Ok-Done.field-0 c.in-Ok-Done.report c.in-Ok-Done.behind e c.deref-in-Ok-Done.ensures.value c.in-Ok-Done.ensures.ok in
-    let few : c.in-Ok-Done.upto ≤ length c.args.text.now = (let f = c.if-upto-text.false in omega arith) in
+    let ahead = accepted_ahead c.loop-sink.session c.declare.new.session c.args.text.now c.deref-in-Ok-Done.result.now c.loop-sink.from c.in-Ok-Done.upto c.loop-sink.invariant.loaded.within h.0 in
     record {
       loaded = opened_more c.args.session.now c.loop-sink.session c.declare.new.session c.args.name.now c.args.text.now c.deref-in-Ok-Done.result.now _ _ _ c.loop-sink.from c.in-Ok-Done.upto c.loop-sink.at c.in-Ok-Done.behind c.loop-sink.invariant.loaded h.0
-          (c.in_default-write_all-2.ensures {u = tt}).bytes few h.1;
+          (c.in_default-write_all-2.ensures {u = tt}).bytes ahead.1 h.1;
       counts = (c.in_default-write_all-2.ensures {u = tt}).counts ∙ c.loop-sink.invariant.counts;
     }
 
