@@ -62,6 +62,10 @@ pub local_count : (D : List LfType) → drop (binders D) (local_skeletons D []) 
 local_count [] = refl
 local_count (A ∷ D) = local_count D
 
+pub local_length : (D : List LfType) → length D ≡ binders D
+local_length [] = refl
+local_length (A ∷ D) = ap suc (local_length D)
+
 -- the values of typed bindings have declared skeletons
 values_fit : (Σ : Signature) (Ψ : ℕ → Option LfType) (U : (ℕ → Option Term) → Type 0) (V : ℕ → Type 0) (bs : List Binding) → EachOnce bs → BindingsAreTyped Σ [] Ψ U V bs → BindingsBySkeletons Σ Ψ [] V bs
 values_fit Σ Ψ U V [] o t = tt

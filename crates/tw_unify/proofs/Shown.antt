@@ -28,7 +28,7 @@ use Rattle.tw_unify.specs.View.{AreDistinct, whole}
 use Rattle.tw_unify.specs.declared.fault.UnifyFault.{UnifyFault}
 use Rattle.tw_unify.specs.declared.fault.UnifyFault.TheVariants.{TooDeep, NoMemory}
 use Rattle.tw_unify.proofs.Ordering.{drop_get, grows_for, grows_then, term_stays, type_stays}
-use Rattle.tw_unify.proofs.Readiness.{can_take, local_count, ready_values}
+use Rattle.tw_unify.proofs.Readiness.{can_take, local_count, local_length, ready_values}
 use Rattle.tw_unify.proofs.Skeletons.{term_declared, type_declared}
 
 module _ (s : State) (N : List ℕ → Type 0) (xs ys : List ℕ) (g : Grows N xs ys) where
@@ -254,12 +254,8 @@ name_past ns i n m h e f = ap (λ ds. name_of (map named_of ds) m) (drop_get ns 
 pub unbound_next : (s : State) (ns : List (MetaId × List ℕ)) (i : ℕ) (n : MetaId × List ℕ) → i < length ns → n ≡ get_or ns i n → unbound_of s (map named_of (drop i ns)) ≡ unless_bound (value_of s n.0.0) n.0.0 (unbound_of s (map named_of (drop (suc i) ns)))
 unbound_next s ns i n h e = ap (λ ds. unbound_of s (map named_of ds)) (drop_get ns i n h e)
 
-binders_are : (D : List LfType) → length D ≡ binders D
-binders_are [] = refl
-binders_are (A ∷ D) = ap suc (binders_are D)
-
 pub put_under : (s : State) (D : List LfType) (k : ℕ) (A B : LfType) → k ≡ length D → PutsType s k A B → PutsType s (binders D) A B
-put_under s D k A B e p = subst (λ j. PutsType s j A B) (e ∙ binders_are D) p
+put_under s D k A B e p = subst (λ j. PutsType s j A B) (e ∙ local_length D) p
 
 -- one type of a local context
 place_is : (D : List LfType) (n k : ℕ) → k ≡ length D - suc n → k ≡ binders (drop (suc n) D)

@@ -1,12 +1,12 @@
 -- The work at one equation, as steps of unification.
-use Rattle.std.proofs.Common.{◌≡◌, ℕ, List, [], ◌∷◌, inl, refl, sym, ap, ◌∙◌, subst}
+use Rattle.std.proofs.Common.{◌≡◌, ℕ, List, [], ◌∷◌, inl, inr, refl, sym, ap, ◌∙◌, subst}
 use Rattle.lf.specs.SkeletonTyping.{TermSkeleton}
 use Rattle.lf.specs.Syntax.{Head, LfType, Skeleton, Spine, Term, arrow, atom, base, constant, metavariable, root, skeleton, variable}
 use Rattle.lf.specs.Typing.{Signature}
 use Rattle.unification.specs.Lists.{followed}
 use Rattle.unification.specs.Offering.{argument_equations}
 use Rattle.unification.specs.Patterns.{local_skeletons}
-use Rattle.unification.specs.Putting.{IsRigidHead}
+use Rattle.unification.specs.Putting.{IsRigidHead, binders}
 use Rattle.unification.specs.Steps.{Run, constant_or_variable, constants_differ, equal_heads, no_step, open_lambdas, put_bindings, then_run, turn_sides, variables_differ}
 use Rattle.unification.specs.Unifiers.{Equation, Store}
 use Rattle.unification.proofs.Putting.{put_unbound}
@@ -18,7 +18,7 @@ use Rattle.tw_unify.specs.Moving.{SidesFit}
 use Rattle.tw_unify.specs.Outcomes.{Advances, CanRefute, Explains}
 use Rattle.tw_unify.specs.Ready.{IsReady}
 use Rattle.tw_unify.specs.Rigid.{Decomposes, LeftFits, Opens}
-use Rattle.tw_unify.specs.Sides.{BlamesDepth, EquationFits, PutsBoth, RootsHaveShape, SidesUnbound, with_sides}
+use Rattle.tw_unify.specs.Sides.{BlamesDepth, BlamesSide, EquationFits, PutsBoth, RootsHaveShape, SidesUnbound, with_sides}
 use Rattle.tw_unify.specs.View.{whole}
 use Rattle.tw_unify.specs.declared.fault.UnifyFault.{UnifyFault}
 use Rattle.tw_unify.specs.declared.fault.UnifyFault.TheVariants.{NoMemory, TooDeep}
@@ -105,6 +105,14 @@ advances_after Σ Went s t u p q = both_runs Σ [] p q
 advances_after Σ Refuted s t u p q = record { reached = q.reached; run = both_runs Σ [] p q.run; refuted = q.refuted }
 
 -- a fault of putting the bindings in
+pub blames_left : (f : UnifyFault) (s : State) (e : Equation) → BlamesSide f s (binders e.local) e.left → BlamesDepth f s e
+blames_left TooDeep s e b = inl b
+blames_left NoMemory s e b = tt
+
+pub blames_right : (f : UnifyFault) (s : State) (e : Equation) → BlamesSide f s (binders e.local) e.right → BlamesDepth f s e
+blames_right TooDeep s e b = inr b
+blames_right NoMemory s e b = tt
+
 pub explains_sides : (Σ : Signature) (f : UnifyFault) (s : State) (e : Equation) (es : List Equation) → BlamesDepth f s e → Explains f Σ (whole (e ∷ es) s)
 explains_sides Σ TooDeep s e es b = deep_sides Σ s (e ∷ es) e (inl refl) b
 explains_sides Σ NoMemory s e es b = tt

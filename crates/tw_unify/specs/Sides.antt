@@ -1,11 +1,11 @@
 -- The sides of an equation, with the bindings put in.
-use Rattle.std.specs.Prelude.{◌≡◌, List, [], ◌∷◌, ◌⊎◌}
+use Rattle.std.specs.Prelude.{◌≡◌, ℕ, List, [], ◌∷◌, ◌⊎◌}
 use Rattle.lf.specs.SkeletonTyping.{TermSkeleton}
 use Rattle.lf.specs.Subordination.{Member}
 use Rattle.lf.specs.Syntax.{Head, Spine, Term, constant, metavariable, root, skeleton, variable}
 use Rattle.lf.specs.Typing.{Signature}
 use Rattle.unification.specs.OpenTyping.{MetavariablesIn}
-use Rattle.unification.specs.Outside.{Outside}
+use Rattle.unification.specs.Outside.{IsLambda, Outside}
 use Rattle.unification.specs.Patterns.{local_skeletons}
 use Rattle.unification.specs.Putting.{IsRigidHead, Unbound, binders}
 use Rattle.unification.specs.Unifiers.{Equation}
@@ -34,6 +34,11 @@ SidesCanTake s e = PutFits s (binders e.local) e.left × PutFits s (binders e.lo
 -- M and N are the sides of e with the bindings put in
 abbrev pub PutsBoth : State → Equation → Term → Term → Type 0
 PutsBoth s e M N = Puts s (binders e.local) e.left M × Puts s (binders e.local) e.right N
+
+-- putting them into one side meets something deep
+abbrev pub BlamesSide : UnifyFault → State → ℕ → Term → Type 0
+BlamesSide TooDeep s k M = PutsDeep s k M
+BlamesSide NoMemory s k M = Unit {0}
 
 -- putting them in meets something deep
 abbrev pub BlamesDepth : UnifyFault → State → Equation → Type 0
@@ -65,11 +70,11 @@ pub record RootsHaveShape (M N : Term) (v : Shape) : Type 0 where
 
 -- what is said of two sides
 abbrev pub HaveShape : Term → Term → Shape → Type 0
-HaveShape M N shape.Lambdas = Unit {0}
+HaveShape M N shape.Lambdas = IsLambda M × IsLambda N
 HaveShape M N shape.Alike = RootsHaveShape M N shape.Alike
 HaveShape M N shape.Apart = RootsHaveShape M N shape.Apart
 HaveShape M N shape.Flexible = RootsHaveShape M N shape.Flexible
-HaveShape M N shape.Mixed = Unit {0}
+HaveShape M N shape.Mixed = (IsLambda M × (IsLambda N → ⊥)) ⊎ ((IsLambda M → ⊥) × IsLambda N)
 
 -- the equation of the sides M and N, in the place of e
 abbrev pub with_sides : Equation → Term → Term → Equation

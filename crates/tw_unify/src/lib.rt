@@ -13,7 +13,8 @@
 //!
 //! An equation that is left is shown by `left_equation`: the bindings are put in, and the metavariables numbered by their places in an order that grows (`left`, `numbering`).
 //!
-//! **What is plain in this stage.** All postponed equations are gone over each time the stack is empty, and the bindings are put into an equation's sides at each step down.
+//! **What is plain in this stage.** All postponed equations are gone over each time the stack is empty. At each step down the sides are looked through for bound metavariables, and copied with
+//! the values put in where there are any; at each argument of a constant the type that is left is copied. The occurs check clears a mark for each metavariable up to the greatest number that it meets.
 //! Typed sides are never mixed (a lambda and a root), and their heads have types; where a test finds otherwise, memory counts as used up.
 #![tactic(auto)]
 

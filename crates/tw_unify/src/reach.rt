@@ -101,10 +101,16 @@ impl Walk {
         ensures same { OnOk result (SameMarks self.old.marks.items self.new.marks.items) }
         ensures due { OnOk result (self.new.due ≡ self.old.due) }
     {
-        while self.marks.len() <= place {
-            self.marks.push(false)?;
+        if place < self.marks.len() {
+            return Ok(());
         }
-        Ok(())
+        match place.checked_add(1) {
+            Some(count) => {
+                self.marks.resize(count, false)?;
+                Ok(())
+            }
+            None => Err(AllocError),
+        }
     }
 
     /// Goes through a term.

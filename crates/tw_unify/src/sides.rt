@@ -3,12 +3,14 @@ ghost use Rattle.std.specs.Prelude.{MatchBool, MatchResult};
 ghost use Rattle.unification.specs.Putting.{IsRigidHead};
 ghost use Rattle.tw_terms.specs.OpenView.{open_head_of, open_term_of};
 ghost use Rattle.tw_metas.specs.View.{equation_of};
-ghost use Rattle.tw_unify.specs.Sides.{BlamesDepth, HaveShape, HeadsHaveShape, IsMetavariable, PutsBoth, SidesCanTake};
+ghost use Rattle.tw_putting.specs.Fits.{PutFits};
+ghost use Rattle.tw_putting.specs.Stores.{Puts, ValuesAreBound};
+ghost use Rattle.tw_unify.specs.Sides.{BlamesDepth, BlamesSide, HaveShape, HeadsHaveShape, IsMetavariable, PutsBoth, SidesCanTake};
 
 use crate::fault::UnifyFault;
 use std::alloc::Global;
 use tw_metas::{Equation, Store};
-use tw_putting::put_in;
+use tw_putting::{is_all_in, put_in};
 use tw_terms::{Open, OpenHead};
 
 /// How the two sides of an equation begin.
@@ -73,4 +75,16 @@ pub fn put_sides(
     let left = put_in(alloc, store, binders, &equation.left)?;
     let right = put_in(alloc, store, binders, &equation.right)?;
     Ok((left, right))
+}
+
+/// A side with the bindings put in. It stays as it is where there is nothing to put in. `TooDeep` only where it is deep then.
+pub fn put_side(alloc: Global, store: &Store, binders: u64, side: Open) -> Result<Open, UnifyFault>
+    requires fits { PutFits store.now.now binders (open_term_of side) }
+    requires bound { ValuesAreBound store.now.now }
+    ensures { MatchResult result (λ m. Puts store.now.now binders (open_term_of side) (open_term_of m)) (λ f. BlamesSide f store.now.now binders (open_term_of side)) }
+{
+    if is_all_in(store, &side) {
+        return Ok(side);
+    }
+    Ok(put_in(alloc, store, binders, &side)?)
 }

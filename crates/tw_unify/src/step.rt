@@ -10,7 +10,7 @@ ghost use Rattle.tw_unify.specs.Sides.{SidesUnbound};
 use crate::fault::UnifyFault;
 use crate::flexible::do_flexible;
 use crate::rigid::{decompose, open_lambdas};
-use crate::sides::{Shape, put_sides, shape_of};
+use crate::sides::{Shape, put_side, shape_of};
 use crate::work::Advance;
 use std::alloc::{AllocError, Global};
 use tw_metas::{Equation, Store};
@@ -30,7 +30,9 @@ pub fn advance(
     ensures consistent { IsConsistent store.new.now }
     ensures story { IsLater store.old store.new }
 {
-    let (left, right) = put_sides(alloc, store, &equation)?;
+    let binders = equation.context.len() as u64;
+    let left = put_side(alloc, store, binders, equation.left)?;
+    let right = put_side(alloc, store, binders, equation.right)?;
     let put = Equation {
         context: equation.context,
         left,

@@ -1,0 +1,3 @@
+mod TypedHeads
+mod TypedTerms
+mod NewStores
