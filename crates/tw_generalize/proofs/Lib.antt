@@ -1,0 +1,11 @@
+pub mod Walks
+pub mod Steps
+pub mod Index
+pub mod Places
+pub mod Free
+pub mod Generalized
+pub mod Stores
+pub mod Choosing
+pub mod OrderLaws
+pub mod Noting
+pub mod Reordered

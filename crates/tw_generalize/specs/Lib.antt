@@ -1,0 +1,10 @@
+pub mod Positions
+pub mod Levels
+pub mod Generalizing
+pub mod Free
+pub mod Laws
+pub mod Order
+pub mod OrderView
+pub mod OrderLaws
+pub mod Occurrences
+pub mod Reordered
