@@ -46,10 +46,10 @@ kind_entry (Some e) K h = (e, refl, body e.body h)
     body (declare_definition M B d) h = absurd (cc)
     body (declare_constant B) h = absurd (cc)
 
-types_kept : (f : Entry) (es : List Entry) (c : ℕ) (A : LfType) → (signature_of es).types c ≡ Some A → (signature_of (f ∷ es)).types c ≡ Some A
+pub types_kept : (f : Entry) (es : List Entry) (c : ℕ) (A : LfType) → (signature_of es).types c ≡ Some A → (signature_of (f ∷ es)).types c ≡ Some A
 types_kept f es c A h = let (e, g, b) = type_entry (entry es c) A h in ap type_of (entry_kept f es c e g) ∙ ap type_of_body b
 
-kinds_kept : (f : Entry) (es : List Entry) (c : ℕ) (K : Kind) → (signature_of es).kinds c ≡ Some K → (signature_of (f ∷ es)).kinds c ≡ Some K
+pub kinds_kept : (f : Entry) (es : List Entry) (c : ℕ) (K : Kind) → (signature_of es).kinds c ≡ Some K → (signature_of (f ∷ es)).kinds c ≡ Some K
 kinds_kept f es c K h = let (e, g, b) = kind_entry (entry es c) K h in ap kind_of (entry_kept f es c e g) ∙ ap kind_of_body b
 
 pub canonical_is_signature : (es : List Entry) → IsCanonicalSignature es → IsSignature (signature_of es)

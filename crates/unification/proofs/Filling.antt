@@ -13,7 +13,7 @@ use Rattle.lf.proofs.SkeletonTyping.{substitution_keeps_spine_skeletons, lift_by
 
 -- renaming
 
-moved_up : (ρ : ℕ → ℕ) (x : Option Term) → rename_value (lift_renaming ρ) (rename_value suc x) ≡ rename_value suc (rename_value ρ x)
+pub moved_up : (ρ : ℕ → ℕ) (x : Option Term) → rename_value (lift_renaming ρ) (rename_value suc x) ≡ rename_value suc (rename_value ρ x)
 moved_up ρ None = refl
 moved_up ρ (Some N) = ap Some (renamings_compose (lift_renaming ρ) suc N ∙ sym (renamings_compose suc ρ N))
 

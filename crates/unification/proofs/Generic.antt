@@ -38,7 +38,7 @@ module _ (Σ : Signature) (μ' : ℕ → Skeleton) (ok : IsSignature Σ) (Ψ : �
   at_skeletons (B ∷ D) Γ (suc i) A (C, g, e) = subst (SkeletonAt (local_skeletons D Γ) i) (sym (ap skeleton e ∙ skeleton_renamed suc C)) (at_skeletons D Γ i C g)
 
   mutual
-    open_skeletons : (D : List LfType) (Γ : List Skeleton) (M : Term) (A : LfType) → OpenHasType Σ [] Ψ U D M A → TermSkeleton (as_head_skeletons κ) (local_skeletons D Γ) M (skeleton A)
+    pub open_skeletons : (D : List LfType) (Γ : List Skeleton) (M : Term) (A : LfType) → OpenHasType Σ [] Ψ U D M A → TermSkeleton (as_head_skeletons κ) (local_skeletons D Γ) M (skeleton A)
     open_skeletons D Γ (lambda M) (pi A B) m = open_skeletons (A ∷ D) Γ M B m
     open_skeletons D Γ (lambda M) (atom a T) m = m
     open_skeletons D Γ (root h S) (pi A B) m = m
@@ -46,7 +46,7 @@ module _ (Σ : Signature) (μ' : ℕ → Skeleton) (ok : IsSignature Σ) (Ψ : �
     open_skeletons D Γ (root (variable i) S) (atom a T) (A, g, s) = (skeleton A, at_skeletons D Γ i A g, open_skeletons_spine D Γ S A (atom a T) s)
     open_skeletons D Γ (root (metavariable m) S) (atom a T) (A, (B, g, e), s) = (skeleton A, ap Some (sym (ap skeleton e ∙ skeleton_raise D B ∙ sym (ap skeleton_or_default g))), open_skeletons_spine D Γ S A (atom a T) s)
 
-    open_skeletons_spine : (D : List LfType) (Γ : List Skeleton) (S : Spine) (A C : LfType) → OpenSpineType Σ [] Ψ U D S A C → SpineSkeleton (as_head_skeletons κ) (local_skeletons D Γ) S (skeleton A) (skeleton C)
+    pub open_skeletons_spine : (D : List LfType) (Γ : List Skeleton) (S : Spine) (A C : LfType) → OpenSpineType Σ [] Ψ U D S A C → SpineSkeleton (as_head_skeletons κ) (local_skeletons D Γ) S (skeleton A) (skeleton C)
     open_skeletons_spine D Γ nil A C e = e.0
     open_skeletons_spine D Γ (app M S) (pi A B) C (m, s) = (open_skeletons D Γ M A m, subst (λ t. SpineSkeleton (as_head_skeletons κ) (local_skeletons D Γ) S t (skeleton C)) (skeleton_substituted reduce (single (skeleton A) M) B) (open_skeletons_spine D Γ S (instantiate_type A M B) C s))
     open_skeletons_spine D Γ (app M S) (atom a T) C s = absurd s

@@ -47,6 +47,7 @@ pub mod Within
 pub mod Settle
 pub mod Steps
 pub mod StepTyping
+pub mod SubstitutionUpTo
 pub mod OpenSubstitution
 pub mod Putting
 pub mod PruneTyped

@@ -44,7 +44,7 @@ use Rattle.unification.proofs.Typed.{OpenIsType-weaker, OpenSpineType-weaker}
 -- what is typed in LF is typed up to any U
 module _ (Σ : Signature) (ok : IsSignature Σ) (Ψ : ℕ → Option LfType) (U : (ℕ → Option Term) → Type 0) where
   mutual
-    lf_open : (E : List LfType) (M : Term) (X : LfType) → HasType Σ (onto E []) M X → OpenHasType Σ [] Ψ U E M X
+    pub lf_open : (E : List LfType) (M : Term) (X : LfType) → HasType Σ (onto E []) M X → OpenHasType Σ [] Ψ U E M X
     lf_open E (lambda M) (pi A B) m = lf_open (A ∷ E) M B m
     lf_open E (lambda M) (atom a T) m = m
     lf_open E (root h S) (pi A B) m = m
@@ -63,14 +63,14 @@ module _ (Σ : Signature) (ok : IsSignature Σ) (Ψ : ℕ → Option LfType) (U 
   lf_open_kind E (app M S) (kind_pi A K) (m, s) = (lf_open E M A m, lf_open_kind E S (instantiate_kind A M K) s)
   lf_open_kind E (app M S) star s = s
 
-  lf_open_type : (E : List LfType) (A : LfType) → IsType Σ (onto E []) A → OpenIsType Σ [] Ψ U E A
+  pub lf_open_type : (E : List LfType) (A : LfType) → IsType Σ (onto E []) A → OpenIsType Σ [] Ψ U E A
   lf_open_type E (pi A B) (a, b) = (lf_open_type E A a, lf_open_type (A ∷ E) B b)
   lf_open_type E (atom a S) (K, e, s) = (K, e, lf_open_kind E S K s)
 
-  into_locals : (D : List LfType) → Into Σ ok [] Ψ U [] D (beyond D)
+  pub into_locals : (D : List LfType) → Into Σ ok [] Ψ U [] D (beyond D)
   into_locals D = record { outer = λ i. refl; types = λ i A g. absurd g }
 
-  constant_type_open : (D : List LfType) (c : ℕ) (A : LfType) → Σ.types c ≡ Some A → OpenIsType Σ [] Ψ U D A
+  pub constant_type_open : (D : List LfType) (c : ℕ) (A : LfType) → Σ.types c ≡ Some A → OpenIsType Σ [] Ψ U D A
   constant_type_open D c A e = subst (OpenIsType Σ [] Ψ U D) (closed_type_renamed Σ (beyond D) A (ok.types_ok c A e)) (OpenIsType-rename Σ ok [] Ψ U [] D (beyond D) A (into_locals D) (lf_open_type [] A (ok.types_ok c A e)))
 
 close_body : (Σ : Signature) (Ψ : ℕ → Option LfType) (U : (ℕ → Option Term) → Type 0) (D : List LfType) (M : Term) (B : LfType) → OpenHasType Σ [] Ψ U D M B → OpenHasType Σ [] Ψ U [] (lambda_over D M) (pi_over D B)
@@ -83,7 +83,7 @@ in_lambda_over W (A ∷ D) M i = in_lambda_over W D (lambda M) i
 
 -- equal indices, from their equations
 module _ (μ : ℕ → Skeleton) (β : ℕ → Option Term) (κ : TotalSkeletons) (Γ : List Skeleton) (a : ℕ) where
-  indices_equal : (D : List LfType) (K : Kind) (S T : Spine) → SpineSkeleton (as_head_skeletons κ) Γ S (kind_skeleton a K) (base a) → SpineSkeleton (as_head_skeletons κ) Γ T (kind_skeleton a K) (base a) → SolvesAll μ β (spine_equations D K S T) → fill_spine μ (under_locals D β) S ≡ fill_spine μ (under_locals D β) T
+  pub indices_equal : (D : List LfType) (K : Kind) (S T : Spine) → SpineSkeleton (as_head_skeletons κ) Γ S (kind_skeleton a K) (base a) → SpineSkeleton (as_head_skeletons κ) Γ T (kind_skeleton a K) (base a) → SolvesAll μ β (spine_equations D K S T) → fill_spine μ (under_locals D β) S ≡ fill_spine μ (under_locals D β) T
   indices_equal D (kind_pi A K) (app M S) (app N T) (m, s) (n, t) (e, h) = ap₂ app e (indices_equal D (instantiate_kind A M K) S T
       (subst (λ x. SpineSkeleton (as_head_skeletons κ) Γ S x (base a)) (sym (kind_skeleton_substituted a reduce (single (skeleton A) M) K)) s)
       (subst (λ x. SpineSkeleton (as_head_skeletons κ) Γ T x (base a)) (sym (kind_skeleton_substituted a reduce (single (skeleton A) M) K)) t) h)

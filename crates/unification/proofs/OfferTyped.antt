@@ -23,7 +23,7 @@ use Rattle.unification.proofs.Scope.{in_instance, in_raised, in_weaker_spine, in
 use Rattle.unification.proofs.Steps.{in_pi_over}
 
 -- under the lambdas of D
-open_body : (Σ : Signature) (Ψ : ℕ → Option LfType) (U : (ℕ → Option Term) → Type 0) (D : List LfType) (M : Term) (B : LfType) → OpenHasType Σ [] Ψ U [] (lambda_over D M) (pi_over D B) → OpenHasType Σ [] Ψ U D M B
+pub open_body : (Σ : Signature) (Ψ : ℕ → Option LfType) (U : (ℕ → Option Term) → Type 0) (D : List LfType) (M : Term) (B : LfType) → OpenHasType Σ [] Ψ U [] (lambda_over D M) (pi_over D B) → OpenHasType Σ [] Ψ U D M B
 open_body Σ Ψ U [] M B m = m
 open_body Σ Ψ U (A ∷ D) M B m = open_body Σ Ψ U D (lambda M) (pi A B) m
 

@@ -42,7 +42,7 @@ module _ (Σ : Signature) (ok : IsSignature Σ) (G : List LfType) (Ψ : ℕ → 
     pub outer : (i : ℕ) → ρ (beyond D i) ≡ beyond D' i
     pub types : (i : ℕ) (A : LfType) → TypeAt (onto D G) i A → TypeAt (onto D' G) (ρ i) (rename_type ρ A)
 
-  Into-lift_renaming : (D D' : List LfType) (ρ : ℕ → ℕ) (B : LfType) → Into D D' ρ → Into (B ∷ D) (rename_type ρ B ∷ D') (lift_renaming ρ)
+  pub Into-lift_renaming : (D D' : List LfType) (ρ : ℕ → ℕ) (B : LfType) → Into D D' ρ → Into (B ∷ D) (rename_type ρ B ∷ D') (lift_renaming ρ)
   Into-lift_renaming D D' ρ B w = record { outer = λ i. ap suc (w.outer i); types = go }
     where
       go : (i : ℕ) (A : LfType) → TypeAt (B ∷ onto D G) i A → TypeAt (rename_type ρ B ∷ onto D' G) (lift_renaming ρ i) (rename_type (lift_renaming ρ) A)
@@ -86,12 +86,12 @@ module _ (Σ : Signature) (ok : IsSignature Σ) (G : List LfType) (Ψ : ℕ → 
   context_types (B ∷ D) (l, b) o (suc i) X (C, g, e) = subst (OpenIsType Σ G Ψ U (B ∷ D)) (sym e) (OpenIsType-rename D (B ∷ D) suc C (Into-weak D B) (context_types D l o i C g))
 
   -- a spine that takes A exactly to C
-  abbrev Exact : List LfType → Spine → LfType → LfType → Type 0
+  abbrev pub Exact : List LfType → Spine → LfType → LfType → Type 0
   Exact D nil A C = A ≡ C
   Exact D (app M S) (pi A B) C = OpenHasType Σ G Ψ U D M A × Exact D S (instantiate_type A M B) C
   Exact D (app M S) (atom a T) C = ⊥
 
-  exact_open : (D : List LfType) (S : Spine) (A C : LfType) → Exact D S A C → OpenSpineType Σ G Ψ U D S A C
+  pub exact_open : (D : List LfType) (S : Spine) (A C : LfType) → Exact D S A C → OpenSpineType Σ G Ψ U D S A C
   exact_open D nil A C e = (ap skeleton e, λ β u. ap (fill_type μ (under_locals D β)) e)
   exact_open D (app M S) (pi A B) C (m, s) = (m, exact_open D S (instantiate_type A M B) C s)
   exact_open D (app M S) (atom a T) C s = s

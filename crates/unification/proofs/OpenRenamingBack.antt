@@ -109,7 +109,7 @@ module _ (Σ : Signature) (ok : IsSignature Σ) (G : List LfType) (Ψ : ℕ → 
       pub here : (i : ℕ) (X : LfType) → TypeAt (onto D G) i X → AllSkeletonsUpTo D X
       pub there : (i : ℕ) (Y : LfType) → TypeAt (onto D' G) i Y → AllSkeletonsUpTo D (rename_type ρ Y)
 
-    Known-lift_renaming : (D' D : List LfType) (ρ : ℕ → ℕ) (A B : LfType) → Known D' D ρ → Same D (rename_type ρ A) B → AllSkeletonsUpTo D (rename_type ρ A) → AllSkeletonsUpTo D B → Known (A ∷ D') (B ∷ D) (lift_renaming ρ)
+    pub Known-lift_renaming : (D' D : List LfType) (ρ : ℕ → ℕ) (A B : LfType) → Known D' D ρ → Same D (rename_type ρ A) B → AllSkeletonsUpTo D (rename_type ρ A) → AllSkeletonsUpTo D B → Known (A ∷ D') (B ∷ D) (lift_renaming ρ)
     Known-lift_renaming D' D ρ A B w s a b = record { moves = Moves-lift_renaming D' D ρ A B w.moves s; here = here'; there = there' }
       where
         here' : (i : ℕ) (X : LfType) → TypeAt (B ∷ onto D G) i X → AllSkeletonsUpTo (B ∷ D) X

@@ -30,7 +30,7 @@ fill_instance_kind κ φ Γ β A M K g m k =
     fill_substituted_kind κ φ (skeleton A ∷ Γ) Γ (moved suc β) β (single (skeleton A) M) (single (skeleton A) (fill κ.metavariable_skeleton β M)) K (Filled-single κ (skeleton A) Γ β M g m) k
     ∙ ap (λ t. substitute_kind reduce (single t (fill κ.metavariable_skeleton β M)) (fill_kind κ.metavariable_skeleton (moved suc β) K)) (sym (skeleton_fill κ.metavariable_skeleton β A))
 
-fill_typed_kind : (Σ : Signature) (μ : ℕ → Skeleton) (G : List LfType) (β : ℕ → Option Term) (K : Kind) → IsKind Σ G K → fill_kind μ β K ≡ K
+pub fill_typed_kind : (Σ : Signature) (μ : ℕ → Skeleton) (G : List LfType) (β : ℕ → Option Term) (K : Kind) → IsKind Σ G K → fill_kind μ β K ≡ K
 fill_typed_kind Σ μ G β (kind_pi A K) (a, k) = ap₂ kind_pi (fill_typed_type Σ μ G β A a) (fill_typed_kind Σ μ (A ∷ G) (moved suc β) K k)
 fill_typed_kind Σ μ G β star k = refl
 

@@ -1,0 +1,9 @@
+pub mod Written
+pub mod State
+pub mod Elaboration
+pub mod Skeletons
+pub mod Kinds
+pub mod WrittenSkeletons
+pub mod Completions
+pub mod Laws
+pub mod Examples
