@@ -80,8 +80,9 @@ fn known(
     }
 }
 
+/// The first lowercase name in the type, if there is one, and the term that is neither bound nor declared.
 #[tactic(auto, using(crate::proofs::Unknowns::unknowns))]
-fn first_mention(
+pub fn first_mention(
     alloc: Global,
     signature: &Signature,
     ty: &Option<ExtTerm>,
@@ -123,7 +124,7 @@ fn typed_body(alloc: Global, signature: &Signature, term: &ExtTerm) -> Result<Bo
 }
 
 /// Whether the written type is a kind.
-fn ends_in_type(term: &ExtTerm) -> bool
+pub fn ends_in_type(term: &ExtTerm) -> bool
     ensures { result ≡ ends_in_type (term_of term.now) }
 {
     let mut rest = term;

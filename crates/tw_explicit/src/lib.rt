@@ -23,8 +23,11 @@ mod shapes;
 #[tactic(auto, using(crate::proofs::Unknowns::unknowns))]
 mod unknown;
 
-pub use completion::complete;
+pub use completion::{complete, ends_in_type, first_mention};
 pub use fault::ExplicitFault;
+pub use frames::{FRAMES, nested};
+pub use scope::{binder_name, named};
+pub use unknown::{Mention, is_no_later, is_uppercase};
 
 #[cfg(test)]
 mod tests;

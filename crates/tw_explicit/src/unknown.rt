@@ -118,7 +118,8 @@ fn mentioned(
     }))
 }
 
-fn is_uppercase(name: &Name) -> bool
+/// Whether the name may be that of a free variable.
+pub fn is_uppercase(name: &Name) -> bool
     ensures { result ≡ is_uppercase name.now }
 {
     match name.as_bytes().first() {
@@ -127,7 +128,8 @@ fn is_uppercase(name: &Name) -> bool
     }
 }
 
-fn is_no_later(first: Place, second: Place) -> bool
+/// Whether the first place doesn't come after the second.
+pub fn is_no_later(first: Place, second: Place) -> bool
     ensures { result ≡ is_no_later first second }
 {
     first.line < second.line || (first.line == second.line && first.column <= second.column)

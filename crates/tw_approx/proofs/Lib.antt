@@ -1,0 +1,16 @@
+pub mod Views
+pub mod Assigning
+pub mod Sequences
+pub mod Surroundings
+pub mod Unifying
+pub mod Forms
+pub mod Spines
+pub mod Naming
+pub mod Known
+pub mod Applying
+pub mod Families
+pub mod Answering
+pub mod Places
+pub mod Fitting
+pub mod Defining
+pub mod Rows

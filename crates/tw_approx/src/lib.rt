@@ -1,0 +1,25 @@
+//! Skeletons of declarations: the first pass of reconstruction.
+//!
+//! A skeleton is a type without its indices. What is written tells some skeletons, and equations between them tell more; what isn't written has a variable until then.
+#![tactic(auto)]
+
+#[tactic(auto, using(crate::proofs::Places::places))]
+mod approximation;
+#[tactic(auto, using(crate::proofs::Views::shapes))]
+mod family;
+mod fault;
+#[tactic(auto, using(crate::proofs::Places::places))]
+mod levels;
+#[tactic(auto, using(crate::proofs::Spines::spines))]
+mod skeletons;
+#[tactic(auto, using(crate::proofs::Views::shapes))]
+mod solving;
+mod variables;
+#[tactic(auto, using(crate::proofs::Views::shapes))]
+mod walk;
+
+pub use approximation::{Approx, Row, approximate};
+pub use fault::ApproxFault;
+
+#[cfg(test)]
+mod tests;

@@ -1,0 +1,256 @@
+//! Expected values are worked out by hand.
+use crate::{Approx, ApproxFault, approximate};
+use std::alloc::{AllocError, Global};
+use std::test::Fail;
+use tw_explicit::complete;
+use tw_fixity::{FixTable, Name};
+use tw_lexer::{Place, lex};
+use tw_parse::{ExtDecl, parse_decl};
+use tw_signature::Signature;
+use tw_terms::Skeleton;
+
+fn read(alloc: Global, text: &str) -> Option<ExtDecl> {
+    let bytes = text.as_bytes();
+    if bytes.len() >= 1_000_000 {
+        return None;
+    }
+    let fixities = FixTable::new(alloc);
+    let tokens = lex(alloc, bytes, 0, Place { line: 1, column: 1 }).ok()?;
+    parse_decl(alloc, &tokens, bytes, &fixities).ok()
+}
+
+// declares what is written in full, with so many implicit arguments
+fn declare(
+    alloc: Global,
+    signature: &mut Signature,
+    text: &str,
+    implicit: u32,
+) -> Result<bool, AllocError> {
+    let Some(decl) = read(alloc, text) else {
+        return Ok(false);
+    };
+    let Ok(entry) = complete(alloc, signature, &decl) else {
+        return Ok(false);
+    };
+    let mut entry = entry;
+    if implicit == 1 && entry.hints.len() >= 1 {
+        entry.implicit = 1;
+    }
+    signature.add(entry)?;
+    Ok(true)
+}
+
+fn push_name(line: &mut String, name: &Name) -> Result<(), AllocError> {
+    for byte in name.as_bytes() {
+        line.push(char::from(*byte))?;
+    }
+    Ok(())
+}
+
+// a skeleton in prefix form: `>` is an arrow
+fn push_skeleton(
+    line: &mut String,
+    signature: &Signature,
+    skeleton: &Skeleton,
+) -> Result<(), AllocError> {
+    match skeleton {
+        Skeleton::Base(family) => {
+            if let Some(entry) = signature.entry(*family) {
+                push_name(line, &entry.name)?;
+            }
+        }
+        Skeleton::Arrow(domain, range) => {
+            line.push_str("(")?;
+            push_skeleton(line, signature, domain)?;
+            line.push_str(">")?;
+            push_skeleton(line, signature, range)?;
+            line.push_str(")")?;
+        }
+    }
+    Ok(())
+}
+
+fn push_found(line: &mut String, signature: &Signature, found: &Approx) -> Result<(), AllocError> {
+    line.push_str("found")?;
+    for row in &found.free {
+        line.push_str(" ")?;
+        push_name(line, &row.name)?;
+        line.push_str(":")?;
+        push_skeleton(line, signature, &row.skeleton)?;
+    }
+    for skeleton in &found.omitted {
+        line.push_str(" _:")?;
+        push_skeleton(line, signature, skeleton)?;
+    }
+    Ok(())
+}
+
+fn answer(alloc: Global, signature: &Signature, text: &str) -> Result<String, AllocError> {
+    let Some(decl) = read(alloc, text) else {
+        return String::from_str(alloc, "not read");
+    };
+    let mut line = String::new(alloc);
+    match approximate(alloc, signature, &decl) {
+        Ok(found) => push_found(&mut line, signature, &found)?,
+        Err(ApproxFault::Unknown(name, at)) => {
+            line.push_str("unknown ")?;
+            push_name(&mut line, &name)?;
+            write!(line, " {}:{}", at.line, at.column)?;
+        }
+        Err(ApproxFault::TypeLevel(None)) => line.push_str("type level")?,
+        Err(ApproxFault::TypeLevel(Some(at))) => {
+            write!(line, "type level {}:{}", at.line, at.column)?;
+        }
+        Err(ApproxFault::Clash) => line.push_str("clash")?,
+        Err(ApproxFault::Loose) => line.push_str("loose")?,
+        Err(ApproxFault::NoMemory) => line.push_str("no memory")?,
+    }
+    Ok(line)
+}
+
+fn numbers(alloc: Global) -> Result<Option<Signature>, AllocError> {
+    let mut signature = Signature::new(alloc);
+    let rows = [
+        ("nat : type.", 0),
+        ("z : nat.", 0),
+        ("s : nat -> nat.", 0),
+        ("vec : nat -> type.", 0),
+        ("nil : vec z.", 0),
+        ("cons : {n:nat} nat -> vec n -> vec (s n).", 1),
+        ("len : {n:nat} vec n -> type.", 1),
+        ("lam : (nat -> nat) -> nat.", 0),
+    ];
+    for (text, implicit) in rows {
+        let declared = declare(alloc, &mut signature, text, implicit)?;
+        if !declared {
+            return Ok(None);
+        }
+    }
+    Ok(Some(signature))
+}
+
+#[test]
+fn skeletons_are_found(rt: HostRuntime) -> Result<(), Fail> {
+    let alloc = rt.alloc();
+    let signature = numbers(alloc)?.ok_or("not declared")?;
+    let rows = [
+        ("c : nat -> vec z.", "found"),
+        ("c : vec X -> nat.", "found X:nat"),
+        ("c : nat <- vec X.", "found X:nat"),
+        ("c : {x} vec x -> nat.", "found _:nat"),
+        ("c : {x:_} vec x.", "found _:nat"),
+        ("c : vec _.", "found _:nat"),
+        ("c : vec (X z).", "found X:(nat>nat)"),
+        ("c : vec (lam X).", "found X:(nat>nat)"),
+        ("c : vec (lam [x] X x).", "found X:(nat>nat) _:nat"),
+        (
+            "c : vec (Y X) -> len X -> vec (s (Y nil)).",
+            "found Y:(vec>nat) X:vec",
+        ),
+        ("c : {y} {x} len x -> vec y.", "found _:nat _:vec"),
+        ("c : ({x} vec x) <- len _.", "found _:vec _:nat"),
+        ("c : len (cons z nil).", "found"),
+        ("c : len (cons _ X).", "found X:vec _:nat"),
+        ("c : (vec : nat -> type) z.", "found"),
+        ("c : vec (z : _).", "found _:nat"),
+        ("c : (_ : type) -> nat.", "loose"),
+        ("k : {x} vec x -> type.", "found _:nat"),
+        ("k : type.", "found"),
+        ("d = [x] s x.", "found _:nat"),
+        ("d : nat -> nat = [x] x.", "found _:nat"),
+        ("d : {x:_} vec x = [y] _.", "found _:nat _:nat _:vec"),
+        ("_ = z.", "found"),
+    ];
+    for (text, want) in rows {
+        let line = answer(alloc, &signature, text)?;
+        assert_eq!(rt; line.as_str(), want, "{text}");
+    }
+    Ok(())
+}
+
+#[test]
+fn faults_are_told(rt: HostRuntime) -> Result<(), Fail> {
+    let alloc = rt.alloc();
+    let signature = numbers(alloc)?.ok_or("not declared")?;
+    let rows = [
+        ("c : {x} nat.", "loose"),
+        ("c : _.", "loose"),
+        ("c : _ z.", "loose"),
+        ("c : (_ : nat -> type) z.", "loose"),
+        ("c : vec (X Y).", "loose"),
+        ("d = _.", "loose"),
+        ("d = [x] x.", "loose"),
+        ("c : X.", "clash"),
+        ("c : vec nat.", "clash"),
+        ("c : vec nil.", "clash"),
+        ("c : vec z z.", "clash"),
+        ("c : vec.", "clash"),
+        ("c : z.", "clash"),
+        ("c : nat -> type -> nat.", "clash"),
+        ("c : (type : X).", "clash"),
+        ("c : vec (X X).", "clash"),
+        ("c : vec X -> len X.", "clash"),
+        ("c : len z (cons z nil).", "clash"),
+        ("c : vec (cons z nil).", "clash"),
+        ("c : vec (z : vec z).", "clash"),
+        ("c : vec (lam [x:vec z] z).", "clash"),
+        ("d : nat -> nat = [x:vec z] z.", "clash"),
+        ("d : vec z = z.", "clash"),
+        ("c : foo -> X.", "unknown foo 1:5"),
+        ("d : vec z = [x] bar.", "unknown bar 1:17"),
+        ("d : nat = nat.", "type level"),
+        ("d : type = z.", "type level"),
+        ("d = [x:nat] vec x.", "type level"),
+        ("c : [x:nat] x.", "type level 1:5"),
+        ("c : vec z -> [x:nat] [y] x.", "type level 1:14"),
+        ("c : len (z : [x:nat] nat).", "type level 1:14"),
+        ("d = [x:[y] nat] z.", "type level 1:8"),
+    ];
+    for (text, want) in rows {
+        let line = answer(alloc, &signature, text)?;
+        assert_eq!(rt; line.as_str(), want, "{text}");
+    }
+    Ok(())
+}
+
+fn repeated(
+    alloc: Global,
+    before: &str,
+    part: &str,
+    count: usize,
+    after: &str,
+) -> Result<String, AllocError> {
+    let mut text = String::from_str(alloc, before)?;
+    for _ in 0..count {
+        text.push_str(part)?;
+    }
+    text.push_str(after)?;
+    Ok(text)
+}
+
+// The default stack is enough for what nests as deep as a declaration may, and for rows of any length.
+#[test]
+fn long_rows_take_no_stack(rt: HostRuntime) -> Result<(), Fail> {
+    let alloc = rt.alloc();
+    let signature = numbers(alloc)?.ok_or("not declared")?;
+    let rows = [
+        ("c : ", "nat -> ", 4_000, "nat.", "found"),
+        ("c : ", "nat -> ", 4_000, "type.", "found"),
+        ("d = ", "[x:nat] ", 1_000, "z.", "found"),
+        ("c : ", "nat -> ", 30_000, "nat.", "no memory"),
+        ("c : nat", " <- nat", 30_000, ".", "no memory"),
+        ("d = z", " z", 30_000, ".", "clash"),
+        ("d : nat = X", " z", 4_000, ".", "long"),
+        ("c : vec", " z", 30_000, ".", "clash"),
+    ];
+    for (before, part, count, after, want) in rows {
+        let text = repeated(alloc, before, part, count, after)?;
+        let line = answer(alloc, &signature, text.as_str())?;
+        if want == "long" {
+            assert!(rt; line.as_str().starts_with("found X:(nat>(nat>"));
+        } else {
+            assert_eq!(rt; line.as_str(), want, "{part}");
+        }
+    }
+    Ok(())
+}
