@@ -7,4 +7,5 @@ pub mod Arguments
 pub mod Forms
 pub mod Order
 pub mod Walks
+pub mod Pairs
 pub mod Bodies

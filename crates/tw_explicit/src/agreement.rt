@@ -1,7 +1,7 @@
 //! The types that are written at lambdas, compared with the types that are expected there. What is walked here is typed.
 ghost use Rattle.std.specs.Prelude.{◌≡◌, OnOk, IfOk, IsTrue, ◌↔◌, Some, MatchOption};
 ghost use Rattle.lf.specs.Entries.{signature_of, IsCanonicalSignature};
-ghost use Rattle.lf.specs.Syntax.{Head, LfType};
+ghost use Rattle.lf.specs.Syntax.{Head, LfType, pi as lf_pi, atom, lambda as lf_lambda};
 ghost use Rattle.lf.specs.Typing.{HasType, SpineType, IsType, IsKind, IsContext};
 ghost use Rattle.tw_parse.specs.View.{term_of as written_term};
 ghost use Rattle.tw_terms.specs.View.{term_of, type_of, kind_of, args_of};
@@ -18,7 +18,7 @@ use tw_hered::instantiate;
 use tw_parse::ExtTerm;
 use tw_scope::Scope;
 use tw_signature::Signature;
-use tw_terms::{Context, Kind, Term, Ty, skeleton};
+use tw_terms::{ConstId, Context, Kind, Term, Ty, skeleton};
 
 /// Whether the written kind gives the kind that it means.
 pub fn gives_kind(
@@ -93,25 +93,52 @@ pub fn gives_type(
             let _ = context.pop();
             Ok(gives)
         }
-        Ty::Atom(family, spine) => match family_kind(signature, *family) {
-            Some(kind) => {
-                let function = as_type(alloc, kind)?;
-                match type_left(
-                    alloc,
-                    signature,
-                    scope,
-                    context,
-                    written,
-                    &spine.args,
-                    function,
-                    frames,
-                )? {
-                    Some(_) => Ok(true),
-                    None => Ok(false)
-                }
+        Ty::Atom(family, spine) => gives_atom(
+            alloc,
+            signature,
+            scope,
+            context,
+            written,
+            *family,
+            &spine.args,
+            frames,
+        ),
+    }
+}
+
+/// Whether the written type gives this family on these arguments.
+#[cycle(gives)]
+#[inline(never)]
+fn gives_atom(
+    alloc: Global,
+    signature: &Signature,
+    scope: &mut Scope,
+    context: &mut Context,
+    written: &ExtTerm,
+    family: ConstId,
+    args: &[Term],
+    frames: u32,
+) -> Result<bool, AllocError>
+    requires canonical { IsCanonicalSignature signature.now }
+    requires context { IsContext (signature_of signature.now) context.old }
+    requires ty { IsType (signature_of signature.now) context.old (atom family.0 (args_of args.now)) }
+    requires meant { meant_type signature.now scope.old (written_term written.now) ≡ Some (atom family.0 (args_of args.now)) }
+    ensures gives { IfOk result (λ b. IsTrue b ↔ TypeGives signature.now scope.old context.old (written_term written.now) (atom family.0 (args_of args.now))) }
+    ensures scope { OnOk result (scope.new ≡ scope.old) }
+    ensures context { OnOk result (context.new ≡ context.old) }
+{
+    let frames = nested(frames)?;
+    match family_kind(signature, family) {
+        Some(kind) => {
+            let function = as_type(alloc, kind)?;
+            match type_left(
+                alloc, signature, scope, context, written, args, function, frames,
+            )? {
+                Some(_) => Ok(true),
+                None => Ok(false)
             }
-            None => Ok(false),
-        },
+        }
+        None => Ok(false),
     }
 }
 
@@ -138,20 +165,9 @@ fn gives_term(
 {
     let frames = nested(frames)?;
     match (term, ty) {
-        (Term::Lam(inner), Ty::Pi(expected, range)) => {
-            let Some(Binder { name, domain, body }) = lambda(alloc, written)? else {
-                return Ok(false);
-            };
-            if !gives_this_type(alloc, signature, scope, context, domain, expected, frames)? {
-                return Ok(false);
-            }
-            scope.push(name)?;
-            context.push(expected.copy(alloc)?)?;
-            let gives = gives_term(alloc, signature, scope, context, body, inner, range, frames)?;
-            scope.pop();
-            let _ = context.pop();
-            Ok(gives)
-        }
+        (Term::Lam(inner), Ty::Pi(expected, range)) => gives_lambda(
+            alloc, signature, scope, context, written, inner, expected, range, frames,
+        ),
         (Term::Root(head, spine), Ty::Atom(_, _)) => {
             match head_type(alloc, signature, context, *head)? {
                 Some(function) => {
@@ -174,6 +190,44 @@ fn gives_term(
         }
         (Term::Lam(_), Ty::Atom(_, _)) | (Term::Root(_, _), Ty::Pi(_, _)) => Ok(false),
     }
+}
+
+/// Whether the written lambda gives the lambda with this body, from the expected type to the range.
+#[cycle(gives)]
+#[inline(never)]
+fn gives_lambda(
+    alloc: Global,
+    signature: &Signature,
+    scope: &mut Scope,
+    context: &mut Context,
+    written: &ExtTerm,
+    inner: &Term,
+    expected: &Ty,
+    range: &Ty,
+    frames: u32,
+) -> Result<bool, AllocError>
+    requires canonical { IsCanonicalSignature signature.now }
+    requires context { IsContext (signature_of signature.now) context.old }
+    requires ty { IsType (signature_of signature.now) context.old (lf_pi (type_of expected.now) (type_of range.now)) }
+    requires meant { meant_term signature.now scope.old (written_term written.now) ≡ Some (lf_lambda (term_of inner.now)) }
+    requires typed { HasType (signature_of signature.now) context.old (lf_lambda (term_of inner.now)) (lf_pi (type_of expected.now) (type_of range.now)) }
+    ensures gives { IfOk result (λ b. IsTrue b ↔ TermGives signature.now scope.old context.old (written_term written.now) (lf_pi (type_of expected.now) (type_of range.now)) (lf_lambda (term_of inner.now))) }
+    ensures scope { OnOk result (scope.new ≡ scope.old) }
+    ensures context { OnOk result (context.new ≡ context.old) }
+{
+    let frames = nested(frames)?;
+    let Some(Binder { name, domain, body }) = lambda(alloc, written)? else {
+        return Ok(false);
+    };
+    if !gives_this_type(alloc, signature, scope, context, domain, expected, frames)? {
+        return Ok(false);
+    }
+    scope.push(name)?;
+    context.push(expected.copy(alloc)?)?;
+    let gives = gives_term(alloc, signature, scope, context, body, inner, range, frames)?;
+    scope.pop();
+    let _ = context.pop();
+    Ok(gives)
 }
 
 /// Whether the written type gives this type.
@@ -231,26 +285,29 @@ fn type_left(
     ensures context { OnOk result (context.new ≡ context.old) }
 {
     let frames = nested(frames)?;
-    let Some((inner, argument)) = application(written) else {
-        return Ok(Some(function));
-    };
-    let Some((before, last)) = last_argument(args) else {
-        return Ok(None);
-    };
-    let left = type_left(
-        alloc, signature, scope, context, inner, before, function, frames,
-    )?;
-    match left {
-        Some(Ty::Pi(domain, range)) => {
-            if !gives_term(
-                alloc, signature, scope, context, argument, last, &domain, frames,
-            )? {
-                return Ok(None);
-            }
-            let shape = skeleton(alloc, &domain)?;
-            Ok(Some(instantiate(alloc, &range, last, &shape)?))
-        }
-        Some(Ty::Atom(_, _)) => Ok(None),
-        None => Ok(None),
+    let mut arguments: Vec<(&ExtTerm, &Term)> = Vec::new(alloc);
+    let mut head = written;
+    let mut rest = args;
+    while let Some((inner, argument)) = application(head) {
+        let Some((before, last)) = last_argument(rest) else {
+            return Ok(None);
+        };
+        arguments.push((argument, last))?;
+        head = inner;
+        rest = before;
     }
+    let mut left = function;
+    while let Some((argument, term)) = arguments.pop() {
+        let Ty::Pi(domain, range) = left else {
+            return Ok(None);
+        };
+        if !gives_term(
+            alloc, signature, scope, context, argument, term, &domain, frames,
+        )? {
+            return Ok(None);
+        }
+        let shape = skeleton(alloc, &domain)?;
+        left = instantiate(alloc, &range, term, &shape)?;
+    }
+    Ok(Some(left))
 }

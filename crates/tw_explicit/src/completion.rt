@@ -12,7 +12,7 @@ ghost use Rattle.tw_signature.specs.View.{body_of, entry_of};
 use crate::agreement::{gives_kind, gives_type};
 use crate::fault::ExplicitFault;
 use crate::form::is_type_form;
-use crate::frames::FRAMES;
+use crate::frames::{FRAMES, FRAMES_WITH_TYPES};
 use crate::meaning::{meant_kind, meant_type};
 use crate::nesting::deepest;
 use crate::scope::binder_name;
@@ -106,7 +106,14 @@ fn in_form(alloc: Global, signature: &Signature, term: &ExtTerm) -> Result<bool,
 {
     let mut scope = Scope::new(alloc);
     let mut shapes = Vec::new(alloc);
-    is_type_form(alloc, signature, &mut scope, &mut shapes, term, FRAMES)
+    is_type_form(
+        alloc,
+        signature,
+        &mut scope,
+        &mut shapes,
+        term,
+        FRAMES_WITH_TYPES,
+    )
 }
 
 /// The kind or type that the written one gives.
@@ -167,7 +174,7 @@ fn family(alloc: Global, signature: &Signature, term: &ExtTerm) -> Result<Body, 
         &mut context,
         term,
         &kind,
-        FRAMES,
+        FRAMES_WITH_TYPES,
     )? {
         Ok(Body::Family(kind))
     } else {
@@ -200,7 +207,7 @@ fn constant(alloc: Global, signature: &Signature, term: &ExtTerm) -> Result<Body
         &mut context,
         term,
         &ty,
-        FRAMES,
+        FRAMES_WITH_TYPES,
     )? {
         Ok(Body::Constant(ty))
     } else {

@@ -32,6 +32,7 @@ pub fn family_kind(signature: &Signature, id: ConstId) -> Option<&Kind>
 }
 
 /// The type of a head, if it has one.
+#[inline(never)]
 pub fn head_type(
     alloc: Global,
     signature: &Signature,
@@ -53,6 +54,7 @@ pub fn head_type(
 }
 
 /// A kind as a type: the first family, which takes no argument, stands in the place of `type`.
+#[inline(never)]
 pub fn as_type(alloc: Global, kind: &Kind) -> Result<Ty, AllocError>
     ensures { IfOk result (λ a. type_of a ≡ as_type (kind_of kind.now)) }
 {

@@ -11,7 +11,7 @@ mod form;
 mod frames;
 #[tactic(auto, using(tw_terms::proofs::Args::types_and_skeletons))]
 mod heads;
-#[tactic(auto, using(crate::proofs::Views::written))]
+#[tactic(auto, using(crate::proofs::Forms::meanings))]
 mod meaning;
 #[tactic(auto, using(crate::proofs::Views::written))]
 mod nesting;

@@ -1,5 +1,5 @@
 //! What is written, with its names resolved and its arguments collected.
-ghost use Rattle.std.specs.Prelude.{◌≡◌, OnOk, IfOk, option_map};
+ghost use Rattle.std.specs.Prelude.{◌≡◌, OnOk, IfOk, option_map, ◌∷◌};
 ghost use Rattle.tw_parse.specs.View.{term_of as written_term};
 ghost use Rattle.tw_terms.specs.View.{head_of, term_of, type_of, kind_of};
 ghost use Rattle.tw_explicit.specs.Applied.{applied_of};
@@ -9,6 +9,7 @@ ghost use Rattle.lf.specs.Syntax.{lambda, pi, kind_pi};
 use crate::frames::nested;
 use crate::scope::{binder_name, named};
 use std::alloc::{AllocError, Global};
+use tw_fixity::Name;
 use tw_parse::ExtTerm;
 use tw_scope::Scope;
 use tw_signature::Signature;
@@ -54,6 +55,7 @@ pub fn meant_kind(
 }
 
 /// What a written type means.
+#[cycle(types)]
 pub fn meant_type(
     alloc: Global,
     signature: &Signature,
@@ -67,18 +69,11 @@ pub fn meant_type(
     let frames = nested(frames)?;
     match term {
         ExtTerm::Arrow(domain, range) => {
-            let domain = meant_type(alloc, signature, scope, domain, frames)?;
-            scope.push(None)?;
-            let range = meant_type(alloc, signature, scope, range, frames)?;
-            scope.pop();
-            type_over(alloc, domain, range)
+            meant_pi(alloc, signature, scope, None, domain, range, frames)
         }
         ExtTerm::Pi(name, _, Some(domain), range) => {
-            let domain = meant_type(alloc, signature, scope, domain, frames)?;
-            scope.push(binder_name(alloc, name)?)?;
-            let range = meant_type(alloc, signature, scope, range, frames)?;
-            scope.pop();
-            type_over(alloc, domain, range)
+            let name = binder_name(alloc, name)?;
+            meant_pi(alloc, signature, scope, name, domain, range, frames)
         }
         ExtTerm::Ident(_, _) | ExtTerm::App(_, _) => {
             let applied = meant_applied(alloc, signature, scope, term, frames)?;
@@ -86,6 +81,28 @@ pub fn meant_type(
         }
         _ => Ok(None),
     }
+}
+
+/// What a written type with a binder of this name means.
+#[cycle(types)]
+#[inline(never)]
+fn meant_pi(
+    alloc: Global,
+    signature: &Signature,
+    scope: &mut Scope,
+    name: Option<Name>,
+    domain: &ExtTerm,
+    range: &ExtTerm,
+    frames: u32,
+) -> Result<Option<Ty>, AllocError>
+    ensures meant { IfOk result (λ a. option_map type_of a ≡ both pi (meant_type signature.now scope.old (written_term domain.now)) (meant_type signature.now (name ∷ scope.old) (written_term range.now))) }
+    ensures scope { OnOk result (scope.new ≡ scope.old) }
+{
+    let domain = meant_type(alloc, signature, scope, domain, frames)?;
+    scope.push(name)?;
+    let range = meant_type(alloc, signature, scope, range, frames)?;
+    scope.pop();
+    type_over(alloc, domain, range)
 }
 
 /// What a written term means.
@@ -131,15 +148,21 @@ fn meant_applied(
     ensures scope { OnOk result (scope.new ≡ scope.old) }
 {
     let frames = nested(frames)?;
-    match term {
-        ExtTerm::Ident(name, _) => Ok(alone(alloc, named(signature, scope, name))),
-        ExtTerm::App(function, argument) => {
-            let applied = meant_applied(alloc, signature, scope, function, frames)?;
-            let argument = meant_term(alloc, signature, scope, argument, frames)?;
-            with_argument(applied, argument)
-        }
-        _ => Ok(None),
+    let mut arguments: Vec<&ExtTerm> = Vec::new(alloc);
+    let mut head = term;
+    while let ExtTerm::App(function, argument) = head {
+        arguments.push(argument)?;
+        head = function;
     }
+    let mut applied = match head {
+        ExtTerm::Ident(name, _) => alone(alloc, named(signature, scope, name)),
+        _ => None,
+    };
+    while let Some(argument) = arguments.pop() {
+        let argument = meant_term(alloc, signature, scope, argument, frames)?;
+        applied = with_argument(applied, argument)?;
+    }
+    Ok(applied)
 }
 
 #[inline(never)]

@@ -2,7 +2,7 @@
 use crate::{ExplicitFault, complete};
 use std::alloc::{AllocError, Global};
 use std::test::Fail;
-use tw_fixity::FixTable;
+use tw_fixity::{Assoc, Fix, FixTable, Name};
 use tw_lexer::{Place, lex};
 use tw_parse::{ExtDecl, parse_decl};
 use tw_signature::{Body, Signature};
@@ -12,7 +12,11 @@ fn read(alloc: Global, text: &str) -> Option<ExtDecl> {
     if bytes.len() >= 1_000_000 {
         return None;
     }
-    let fixities = FixTable::new(alloc);
+    let mut fixities = FixTable::new(alloc);
+    let plus = Name::from_text(alloc, "+").ok()?;
+    fixities.set(plus, Fix::Infix(Assoc::Left, 10)).ok()?;
+    let suc = Name::from_text(alloc, "suc").ok()?;
+    fixities.set(suc, Fix::Prefix(20)).ok()?;
     let tokens = lex(alloc, bytes, 0, Place { line: 1, column: 1 }).ok()?;
     parse_decl(alloc, &tokens, bytes, &fixities).ok()
 }
@@ -144,6 +148,38 @@ fn long_rows_take_no_stack(rt: HostRuntime) -> Result<(), Fail> {
         let text = repeated(alloc, before, part, count, after)?;
         let line = answer(alloc, &mut signature, text.as_str())?;
         assert_eq!(rt; line.as_str(), want, "{part}");
+    }
+    Ok(())
+}
+
+// Nested through the first argument, through a wide one, and through an operator above a lambda with a long type.
+#[test]
+fn deep_terms_are_completed(rt: HostRuntime) -> Result<(), Fail> {
+    let alloc = rt.alloc();
+    let mut signature = Signature::new(alloc);
+    let sums = repeated(alloc, "c : p (z", " + z", 4_090, ").")?;
+    let open = repeated(alloc, "d : p (", "(g ", 990, "z")?;
+    let wide = repeated(alloc, &open, " z z z z z z z)", 990, ").")?;
+    let taker = repeated(alloc, "q : ((", "nat -> ", 3_000, "nat) -> nat) -> nat.")?;
+    let open = repeated(alloc, "e : p (", "suc ", 4_080, "(q ([x:")?;
+    let lambda = repeated(alloc, &open, "nat -> ", 3_000, "nat] z))).")?;
+    for (text, want) in [
+        ("nat : type.", "family"),
+        ("z : nat.", "constant"),
+        ("+ : nat -> nat -> nat.", "constant - -"),
+        ("suc : nat -> nat.", "constant -"),
+        (
+            "g : nat -> nat -> nat -> nat -> nat -> nat -> nat -> nat -> nat.",
+            "constant - - - - - - - -",
+        ),
+        ("p : nat -> type.", "family -"),
+        (sums.as_str(), "constant"),
+        (wide.as_str(), "constant"),
+        (taker.as_str(), "constant -"),
+        (lambda.as_str(), "constant"),
+    ] {
+        let line = answer(alloc, &mut signature, text)?;
+        assert_eq!(rt; line.as_str(), want);
     }
     Ok(())
 }

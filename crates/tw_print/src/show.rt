@@ -44,7 +44,7 @@ impl<'a> ShowEnv<'a> {
     }
 }
 
-/// The text of a term at its type. Fails only for want of memory.
+/// The text of a term at its type. Fails only for want of memory: past 8,192 levels it is the machine's stack that is wanting.
 pub fn show_term(
     alloc: Global,
     env: &ShowEnv,
@@ -64,7 +64,7 @@ pub fn show_term(
     Ok(page.out)
 }
 
-/// The text of a type. Fails only for want of memory.
+/// The text of a type. Fails only for want of memory: past 8,192 levels it is the machine's stack that is wanting.
 pub fn show_type(
     alloc: Global,
     env: &ShowEnv,

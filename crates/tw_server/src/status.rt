@@ -11,7 +11,7 @@ pub enum Status {
     BadWords,
     /// A read failed.
     ReadFault,
-    /// A write failed, and the last reply was written in part.
+    /// A write failed, and the last of the banner, the usage line and the replies was written in part.
     WriteFault,
     /// Memory was wanting before the banner.
     NoMemory,
