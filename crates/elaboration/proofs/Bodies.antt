@@ -1,13 +1,15 @@
 -- What is declared of a solved store is typed.
 use Rattle.std.proofs.Common.{◌≤◌, ◌+◌, List, [], ◌∷◌, length, arith}
-use Rattle.lf.specs.Entries.{kind_quantifiers, quantifiers}
+use Rattle.lf.specs.Entries.{Body, declare_constant, declare_definition, declare_family, kind_quantifiers, quantifiers, signature_of}
 use Rattle.lf.specs.Syntax.{Kind, LfType, Term, kind_pi, lambda, pi}
 use Rattle.lf.specs.Typing.{HasType, IsContext, IsKind, IsType, Signature}
 use Rattle.unification.specs.Dependency.{free_context}
 use Rattle.unification.specs.Offering.{lambda_over, pi_over}
 use Rattle.unification.specs.OpenTyping.{skeletons_of}
 use Rattle.elaboration.specs.Kinds.{kind_over}
-use Rattle.elaboration.specs.Laws.{SolvedBodyIsTyped}
+use Rattle.elaboration.specs.Laws.{BodyMayStand, SolvedBodyIsTyped}
+use Rattle.elaboration.specs.Principal.{BodyIsTypedIn, body_over}
+use Rattle.elaboration.specs.PrincipalLaws.{PrincipalMayStand}
 use Rattle.elaboration.proofs.SolvedKinds.{solved_kind_typed}
 use Rattle.elaboration.proofs.SolvedTyped.{solved_term_typed, solved_type_typed}
 
@@ -47,3 +49,12 @@ solved_body Σ ok s after w =
           ((closed_type_over Σ F _ c a, closed_term_over Σ F _ _ (solved_term_typed Σ ok s R A made after w)), at_least F _)),
       (λ K made. let (c, k) = solved_kind_typed Σ ok s K made after w in (closed_kind_over Σ F _ c k, kind_at_least F _)),
     )
+
+-- and so is a principal completion
+pub principal_stands : PrincipalMayStand
+principal_stands es ts w c p = go c.body p.typed
+  where
+    go : (b : Body) → BodyIsTypedIn (signature_of es) c.quantifiers b → BodyMayStand (signature_of es) (length c.quantifiers) (body_over c.quantifiers b)
+    go (declare_family K) k = (closed_kind_over (signature_of es) c.quantifiers K p.completion.context k, kind_at_least c.quantifiers K)
+    go (declare_constant A) a = (closed_type_over (signature_of es) c.quantifiers A p.completion.context a, at_least c.quantifiers A)
+    go (declare_definition N A b) (a, m) = ((closed_type_over (signature_of es) c.quantifiers A p.completion.context a, closed_term_over (signature_of es) c.quantifiers N A m), at_least c.quantifiers A)

@@ -81,29 +81,29 @@ module _ (es : List Entry) (canonical : IsCanonicalSignature es) (F : List LfTyp
     solution : (s' : State) (f : Found es canonical F frees vs s s' [] start.0.filling []) → Solution Σ [] (store_of s') F f.filling
     solution s' f = (f.meets.inst, (tt, f.meets.solved))
 
-    has_values : (s' : State) (f : Found es canonical F frees vs s s' [] start.0.filling []) → HasFreeValues frees vs f.filling
-    has_values s' f i m v p q = (f.meets.free_values i m v p q).2
+    has_values : (s' : State) (f : Found es canonical F frees vs s s' [] start.0.filling []) → HasFreeValues frees vs s'.metavariables f.filling
+    has_values s' f i m v p q = f.meets.free_values i m v p q
 
-    pub type_instance : (s' : State) (V : WrittenType) (A X : LfType) → ElaboratesType es frees [] V s s' A → CompletesType es F vs [] V X → (β : ℕ → Option Term) × Solution Σ [] (store_of s') F β × HasFreeValues frees vs β × (fill_type (skeletons_of s'.metavariables) β A ≡ X)
+    pub type_instance : (s' : State) (V : WrittenType) (A X : LfType) → ElaboratesType es frees [] V s s' A → CompletesType es F vs [] V X → (β : ℕ → Option Term) × Solution Σ [] (store_of s') F β × HasFreeValues frees vs s'.metavariables β × (fill_type (skeletons_of s'.metavariables) β A ≡ X)
     type_instance s' V A X x u = let (f, e) = type_met es canonical F frees vs x start.0.filling [] begun u in (f.filling, solution s' f, has_values s' f, e)
 
     kind_same : (μ : ℕ → Skeleton) (β : ℕ → Option Term) (K : Kind) → fill_kind μ β K ≡ filled_kind μ β K
     kind_same μ β (kind_pi A K) = ap (kind_pi (fill_type μ β A)) (kind_same μ (moved suc β) K)
     kind_same μ β star = refl
 
-    pub kind_instance : (s' : State) (k : WrittenKind) (K X : Kind) → ElaboratesKind es frees [] k s s' K → CompletesKind es F vs [] k X → (β : ℕ → Option Term) × Solution Σ [] (store_of s') F β × HasFreeValues frees vs β × (fill_kind (skeletons_of s'.metavariables) β K ≡ X)
+    pub kind_instance : (s' : State) (k : WrittenKind) (K X : Kind) → ElaboratesKind es frees [] k s s' K → CompletesKind es F vs [] k X → (β : ℕ → Option Term) × Solution Σ [] (store_of s') F β × HasFreeValues frees vs s'.metavariables β × (fill_kind (skeletons_of s'.metavariables) β K ≡ X)
     kind_instance s' k K X x u = let (f, e) = kind_met es canonical F frees vs x start.0.filling [] begun u in (f.filling, solution s' f, has_values s' f, kind_same (skeletons_of s'.metavariables) f.filling K ∙ e)
 
-    pub term_instance : (s' : State) (M : Written) (R T : Term) (A X : LfType) → Infers es frees [] M s s' R A → Completes es F vs [] M T X → (β : ℕ → Option Term) × Solution Σ [] (store_of s') F β × HasFreeValues frees vs β × (fill (skeletons_of s'.metavariables) β R ≡ T) × (fill_type (skeletons_of s'.metavariables) β A ≡ X)
+    pub term_instance : (s' : State) (M : Written) (R T : Term) (A X : LfType) → Infers es frees [] M s s' R A → Completes es F vs [] M T X → (β : ℕ → Option Term) × Solution Σ [] (store_of s') F β × HasFreeValues frees vs s'.metavariables β × (fill (skeletons_of s'.metavariables) β R ≡ T) × (fill_type (skeletons_of s'.metavariables) β A ≡ X)
     term_instance s' M R T A X x u = let (f, e, d) = infers_met es canonical F frees vs x start.0.filling [] begun u in (f.filling, solution s' f, has_values s' f, e, d)
 
-    pub checked_instance : (s' s'' : State) (V : WrittenType) (M : Written) (R T : Term) (A X : LfType) → ElaboratesType es frees [] V s s' A → Checks es frees [] M A s' s'' R → CompletesType es F vs [] V X → Completes es F vs [] M T X → (β : ℕ → Option Term) × Solution Σ [] (store_of s'') F β × HasFreeValues frees vs β × (fill (skeletons_of s''.metavariables) β R ≡ T) × (fill_type (skeletons_of s''.metavariables) β A ≡ X)
+    pub checked_instance : (s' s'' : State) (V : WrittenType) (M : Written) (R T : Term) (A X : LfType) → ElaboratesType es frees [] V s s' A → Checks es frees [] M A s' s'' R → CompletesType es F vs [] V X → Completes es F vs [] M T X → (β : ℕ → Option Term) × Solution Σ [] (store_of s'') F β × HasFreeValues frees vs s''.metavariables β × (fill (skeletons_of s''.metavariables) β R ≡ T) × (fill_type (skeletons_of s''.metavariables) β A ≡ X)
     checked_instance s' s'' V M R T A X x z u w =
         let (f, e) = type_met es canonical F frees vs x start.0.filling [] begun u in
         let a : TypeHasSkeletons Σ s' [] A = (type_skeletons es canonical frees x begun.state tt).1 in
         let (f', d) = checks_met es canonical F frees vs z f.filling [] f.meets a w e in
         let g : Grows s' s'' = checks_adds es frees z f.meets.state.numbered in
-        (f'.filling, (f'.meets.inst, (tt, f'.meets.solved)), (λ i m v p q. (f'.meets.free_values i m v p q).2), d, sym (type_kept Σ ok F frees vs s' s'' g f.meets.state f.filling f'.filling f'.kept [] A a) ∙ e)
+        (f'.filling, (f'.meets.inst, (tt, f'.meets.solved)), f'.meets.free_values, d, sym (type_kept Σ ok F frees vs s' s'' g f.meets.state f.filling f'.filling f'.kept [] A a) ∙ e)
 
 pub completion_instance : CompletionIsInstance
 completion_instance es canonical ts frees s y F c vs t = (

@@ -18,3 +18,8 @@ pub mod Instances
 pub mod Filled
 pub mod Unified
 pub mod OfSolved
+pub mod ReadOff
+pub mod Principal
+pub mod Reordered
+pub mod Determined
+pub mod Placed

@@ -87,10 +87,12 @@ module _ (es : List Entry) (canonical : IsCanonicalSignature es) (z : State) (zs
       let (B, b, q) = stand.only i m e in
       (value_at z.metavariables β m, value_found z.metavariables β frees i m e, (value_typed m B (g m B b)).0, λ C c. ap (fill_type (skeletons_of z.metavariables) β) (sym (ap type_of_number c)))
 
-  has_values : (frees : List ℕ) → FreesFit frees → HasFreeValues frees (values_at z.metavariables β frees) β
-  has_values frees fit i m v p q =
+  has_values : (ts : List Skeleton) (frees : List ℕ) (s : State) → FreesStand es ts frees s.metavariables → ((m : ℕ) (A : LfType) → s.metavariables m ≡ Some A → z.metavariables m ≡ Some A) → FreesFit frees → HasFreeValues frees (values_at z.metavariables β frees) z.metavariables β
+  has_values ts frees s stand g fit i m v p q =
+      let (B, b, o) = stand.only i m p in
       let (y, r, t, k) = fit i m p in
-      t ∙ ap (λ x. Some x.term) (let e : Some y ≡ Some v = sym r ∙ q in let o : y ≡ v = cc in o)
+      let e : y ≡ v = (let x : Some y ≡ Some v = sym r ∙ q in cc) in
+      (B, g m B b, t ∙ ap (λ x. Some x.term) e, k B (g m B b) ∙ ap (λ x. x.of_type) e)
 
 kind_same : (μ : ℕ → Skeleton) (β : ℕ → Option Term) (K : Kind) → filled_kind μ β K ≡ fill_kind μ β K
 kind_same μ β (kind_pi A K) = ap (kind_pi (fill_type μ β A)) (kind_same μ (moved suc β) K)
@@ -113,7 +115,7 @@ instance_completion es canonical ts frees s f F β =
           let t₀ = frees_typed es canonical Ψ U h d f n.numbered (within_before es canonical Ψ U h d s s' g i) (nothing_typed es canonical Ψ U h d) in
           let t = (type_typed es canonical Ψ U h d frees x k.numbered i tt t₀).0 in
           let fit = frees_fit es canonical s' w t F β sol ts frees s stand g.keeps in
-          (values_at Ψ β frees, frees_are_typed es canonical s' w t F β sol f n g.keeps, has_values es canonical s' w t F β sol frees fit, type_filled es canonical s' w t F β sol frees (values_at Ψ β frees) fit x k.numbered i tt t₀)),
+          (values_at Ψ β frees, frees_are_typed es canonical s' w t F β sol f n g.keeps, has_values es canonical s' w t F β sol ts frees s stand g.keeps fit, type_filled es canonical s' w t F β sol frees (values_at Ψ β frees) fit x k.numbered i tt t₀)),
       (λ s' y K x sol.
           let w = (kind_skeletons es canonical frees x k tt).0 in
           let g : Grows s s' = kind_adds es frees x k.numbered in
@@ -125,7 +127,7 @@ instance_completion es canonical ts frees s f F β =
           let t₀ = frees_typed es canonical Ψ U h d f n.numbered (within_before es canonical Ψ U h d s s' g i) (nothing_typed es canonical Ψ U h d) in
           let t = (kind_typed es canonical Ψ U h d frees x k.numbered i tt t₀).0 in
           let fit = frees_fit es canonical s' w t F β sol ts frees s stand g.keeps in
-          (values_at Ψ β frees, frees_are_typed es canonical s' w t F β sol f n g.keeps, has_values es canonical s' w t F β sol frees fit, subst (CompletesKind es F (values_at Ψ β frees) [] y) (kind_same (skeletons_of Ψ) β K) (kind_filled es canonical s' w t F β sol frees (values_at Ψ β frees) fit x k.numbered i tt t₀))),
+          (values_at Ψ β frees, frees_are_typed es canonical s' w t F β sol f n g.keeps, has_values es canonical s' w t F β sol ts frees s stand g.keeps fit, subst (CompletesKind es F (values_at Ψ β frees) [] y) (kind_same (skeletons_of Ψ) β K) (kind_filled es canonical s' w t F β sol frees (values_at Ψ β frees) fit x k.numbered i tt t₀))),
       (λ s' M R A x sol.
           let w = (infers_skeletons es canonical frees x k tt).0 in
           let g : Grows s s' = infers_adds es frees x k.numbered in
@@ -137,7 +139,7 @@ instance_completion es canonical ts frees s f F β =
           let t₀ = frees_typed es canonical Ψ U h d f n.numbered (within_before es canonical Ψ U h d s s' g i) (nothing_typed es canonical Ψ U h d) in
           let t = (infers_typed es canonical Ψ U h d frees x k.numbered i tt t₀).0 in
           let fit = frees_fit es canonical s' w t F β sol ts frees s stand g.keeps in
-          (values_at Ψ β frees, frees_are_typed es canonical s' w t F β sol f n g.keeps, has_values es canonical s' w t F β sol frees fit, infers_filled es canonical s' w t F β sol frees (values_at Ψ β frees) fit x k.numbered i tt t₀)),
+          (values_at Ψ β frees, frees_are_typed es canonical s' w t F β sol f n g.keeps, has_values es canonical s' w t F β sol ts frees s stand g.keeps fit, infers_filled es canonical s' w t F β sol frees (values_at Ψ β frees) fit x k.numbered i tt t₀)),
       (λ s' s'' V M R A x y sol.
           let (w', a) = type_skeletons es canonical frees x k tt in
           let w = (checks_skeletons es canonical frees y w' tt a).0 in
@@ -156,7 +158,7 @@ instance_completion es canonical ts frees s f F β =
           let fit = frees_fit es canonical s'' w t F β sol ts frees s stand keeps in (
             values_at Ψ β frees,
             frees_are_typed es canonical s'' w t F β sol f n keeps,
-            has_values es canonical s'' w t F β sol frees fit,
+            has_values es canonical s'' w t F β sol ts frees s stand keeps fit,
             type_filled es canonical s'' w t F β sol frees (values_at Ψ β frees) fit x k.numbered i' tt t₀,
             checks_filled es canonical s'' w t F β sol frees (values_at Ψ β frees) fit y w'.numbered i tt b t',
           )),

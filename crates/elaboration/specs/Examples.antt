@@ -3,6 +3,7 @@ use Rattle.std.specs.Prelude.{ℕ, List, [], ◌∷◌, Option, None, false}
 use Rattle.lf.specs.Entries.{Body, Entry, declare_constant, declare_definition, declare_family}
 use Rattle.lf.specs.Syntax.{LfType, Term, app, atom, base, constant, kind_pi, lambda, metavariable, nil, pi, root, star, variable}
 use Rattle.elaboration.specs.Elaboration.{ElaboratesKind, ElaboratesType, Infers, NewFrees}
+use Rattle.elaboration.specs.Principal.{Completion, IsCompletion, IsPrincipal, written_constant}
 use Rattle.elaboration.specs.State.{State, nothing_yet, with_equations, with_metavariable}
 use Rattle.elaboration.specs.Written.{Written, WrittenType, applied, arrow, bound, declared, family, family_applied, free, function, hole, kind_arrow, of_skeleton, quantified, written_star}
 use Rattle.unification.specs.Unifiers.{Equation}
@@ -117,3 +118,10 @@ DefinitionIsExpanded = Infers entries [] [] (applied (function (of_skeleton (bas
 -- a kind: vec _ -> type, where the hole is over nothing
 abbrev pub KindIsElaborated : Type 0
 KindIsElaborated = ElaboratesKind entries [] [] (kind_arrow (family_applied (family 4) (hole (base 0))) written_star) nothing_yet (with_metavariable [] nat nothing_yet) (kind_pi (vec (meta 0)) star)
+
+-- c : vec X. With z for X it is completed, and not principally: the completion with a quantifier for X is no instance of it.
+abbrev pub with_number : Completion
+with_number = record { quantifiers = []; frees = record { term = z; of_type = nat } ∷ []; body = declare_constant (vec z) }
+
+abbrev pub NumberIsNotPrincipal : Type 0
+NumberIsNotPrincipal = IsCompletion entries (base 0 ∷ []) (written_constant (family_applied (family 4) (free 0))) with_number × (IsPrincipal entries (base 0 ∷ []) (written_constant (family_applied (family 4) (free 0))) with_number → ⊥)

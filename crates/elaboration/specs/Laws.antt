@@ -133,33 +133,33 @@ ElaborationIsUnique = (es : List Entry) (frees : List ℕ) (D : List LfType) (s 
 
 -- Completions.
 
--- the free variables have these values
-abbrev pub HasFreeValues : List ℕ → List FreeValue → (ℕ → Option Term) → Type 0
-HasFreeValues frees values β = (i m : ℕ) (v : FreeValue) → slice_get frees i ≡ Some m → slice_get values i ≡ Some v → β m ≡ Some v.term
+-- under the filling the free variables have these values, of these types
+abbrev pub HasFreeValues : List ℕ → List FreeValue → (ℕ → Option LfType) → (ℕ → Option Term) → Type 0
+HasFreeValues frees values Ψ β = (i m : ℕ) (v : FreeValue) → slice_get frees i ≡ Some m → slice_get values i ≡ Some v → (A : LfType) × (Ψ m ≡ Some A) × (β m ≡ Some v.term) × (fill_type (skeletons_of Ψ) β A ≡ v.of_type)
 
 -- Each completion of what is written, in any context, is what a typed unifier of the store makes of what was elaborated. So no completion is lost.
 abbrev pub CompletionIsInstance : Type 0
 CompletionIsInstance = (es : List Entry) → IsCanonicalSignature es → (ts : List Skeleton) (frees : List ℕ) (s : State) → NewFrees es ts nothing_yet s frees → (F : List LfType) → IsContext (signature_of es) F → (values : List FreeValue) → FreesAreTyped es F ts values →
     ((s' : State) (U : WrittenType) (A X : LfType) → ElaboratesType es frees [] U s s' A → CompletesType es F values [] U X →
-    (β : ℕ → Option Term) × Solution (signature_of es) [] (store_of s') F β × HasFreeValues frees values β × (fill_type (skeletons_of s'.metavariables) β A ≡ X))
+    (β : ℕ → Option Term) × Solution (signature_of es) [] (store_of s') F β × HasFreeValues frees values s'.metavariables β × (fill_type (skeletons_of s'.metavariables) β A ≡ X))
     × ((s' : State) (k : WrittenKind) (K X : Kind) → ElaboratesKind es frees [] k s s' K → CompletesKind es F values [] k X →
-    (β : ℕ → Option Term) × Solution (signature_of es) [] (store_of s') F β × HasFreeValues frees values β × (fill_kind (skeletons_of s'.metavariables) β K ≡ X))
+    (β : ℕ → Option Term) × Solution (signature_of es) [] (store_of s') F β × HasFreeValues frees values s'.metavariables β × (fill_kind (skeletons_of s'.metavariables) β K ≡ X))
     × ((s' : State) (M : Written) (R T : Term) (A X : LfType) → Infers es frees [] M s s' R A → Completes es F values [] M T X →
-    (β : ℕ → Option Term) × Solution (signature_of es) [] (store_of s') F β × HasFreeValues frees values β × (fill (skeletons_of s'.metavariables) β R ≡ T) × (fill_type (skeletons_of s'.metavariables) β A ≡ X))
+    (β : ℕ → Option Term) × Solution (signature_of es) [] (store_of s') F β × HasFreeValues frees values s'.metavariables β × (fill (skeletons_of s'.metavariables) β R ≡ T) × (fill_type (skeletons_of s'.metavariables) β A ≡ X))
     × ((s' s'' : State) (U : WrittenType) (M : Written) (R T : Term) (A X : LfType) → ElaboratesType es frees [] U s s' A → Checks es frees [] M A s' s'' R → CompletesType es F values [] U X → Completes es F values [] M T X →
-    (β : ℕ → Option Term) × Solution (signature_of es) [] (store_of s'') F β × HasFreeValues frees values β × (fill (skeletons_of s''.metavariables) β R ≡ T) × (fill_type (skeletons_of s''.metavariables) β A ≡ X))
+    (β : ℕ → Option Term) × Solution (signature_of es) [] (store_of s'') F β × HasFreeValues frees values s''.metavariables β × (fill (skeletons_of s''.metavariables) β R ≡ T) × (fill_type (skeletons_of s''.metavariables) β A ≡ X))
 
 -- And each typed unifier makes a completion; its values of the free variables are typed.
 abbrev pub InstanceIsCompletion : Type 0
 InstanceIsCompletion = (es : List Entry) → IsCanonicalSignature es → (ts : List Skeleton) (frees : List ℕ) (s : State) → NewFrees es ts nothing_yet s frees → (F : List LfType) (β : ℕ → Option Term) →
     ((s' : State) (U : WrittenType) (A : LfType) → ElaboratesType es frees [] U s s' A → Solution (signature_of es) [] (store_of s') F β →
-    (values : List FreeValue) × FreesAreTyped es F ts values × HasFreeValues frees values β × CompletesType es F values [] U (fill_type (skeletons_of s'.metavariables) β A))
+    (values : List FreeValue) × FreesAreTyped es F ts values × HasFreeValues frees values s'.metavariables β × CompletesType es F values [] U (fill_type (skeletons_of s'.metavariables) β A))
     × ((s' : State) (k : WrittenKind) (K : Kind) → ElaboratesKind es frees [] k s s' K → Solution (signature_of es) [] (store_of s') F β →
-    (values : List FreeValue) × FreesAreTyped es F ts values × HasFreeValues frees values β × CompletesKind es F values [] k (fill_kind (skeletons_of s'.metavariables) β K))
+    (values : List FreeValue) × FreesAreTyped es F ts values × HasFreeValues frees values s'.metavariables β × CompletesKind es F values [] k (fill_kind (skeletons_of s'.metavariables) β K))
     × ((s' : State) (M : Written) (R : Term) (A : LfType) → Infers es frees [] M s s' R A → Solution (signature_of es) [] (store_of s') F β →
-    (values : List FreeValue) × FreesAreTyped es F ts values × HasFreeValues frees values β × Completes es F values [] M (fill (skeletons_of s'.metavariables) β R) (fill_type (skeletons_of s'.metavariables) β A))
+    (values : List FreeValue) × FreesAreTyped es F ts values × HasFreeValues frees values s'.metavariables β × Completes es F values [] M (fill (skeletons_of s'.metavariables) β R) (fill_type (skeletons_of s'.metavariables) β A))
     × ((s' s'' : State) (U : WrittenType) (M : Written) (R : Term) (A : LfType) → ElaboratesType es frees [] U s s' A → Checks es frees [] M A s' s'' R → Solution (signature_of es) [] (store_of s'') F β →
-    (values : List FreeValue) × FreesAreTyped es F ts values × HasFreeValues frees values β × CompletesType es F values [] U (fill_type (skeletons_of s''.metavariables) β A) × Completes es F values [] M (fill (skeletons_of s''.metavariables) β R) (fill_type (skeletons_of s''.metavariables) β A))
+    (values : List FreeValue) × FreesAreTyped es F ts values × HasFreeValues frees values s''.metavariables β × CompletesType es F values [] U (fill_type (skeletons_of s''.metavariables) β A) × Completes es F values [] M (fill (skeletons_of s''.metavariables) β R) (fill_type (skeletons_of s''.metavariables) β A))
 
 -- What is solved.
 

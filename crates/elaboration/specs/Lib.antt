@@ -7,3 +7,5 @@ pub mod WrittenSkeletons
 pub mod Completions
 pub mod Laws
 pub mod Examples
+pub mod Principal
+pub mod PrincipalLaws

@@ -2,8 +2,9 @@
 //! where types are compared. They have no code: each function carries one law as its contract.
 #![tactic(auto)]
 
-ghost use Rattle.elaboration.specs.Examples.{PlusSuccessorIsElaborated, FullIsElaborated, EquationsAreAll, HoleIsRaised, ShortIsExpanded, DefinitionIsExpanded, KindIsElaborated};
+ghost use Rattle.elaboration.specs.Examples.{NumberIsNotPrincipal, PlusSuccessorIsElaborated, FullIsElaborated, EquationsAreAll, HoleIsRaised, ShortIsExpanded, DefinitionIsExpanded, KindIsElaborated};
 ghost use Rattle.elaboration.specs.Laws.{ElaboratedTypeIsMade, ElaboratedKindIsMade, InferredTermIsMade, CheckedTermIsMade, NothingHasSkeletons, ElaboratedHasSkeletons, StateIsScoped, FreesAreMade, SkeletonIsElaborated, ElaboratedHadSkeleton, ElaborationIsUnique, CompletionIsInstance, InstanceIsCompletion, SolvedTypeIsTyped, SolvedTermIsTyped, SolvedKindIsTyped, SolvedBodyIsTyped, UnifierIsOfSolved};
+ghost use Rattle.elaboration.specs.PrincipalLaws.{PrincipalMayStand, ContextIsReordered, GivenDetermineAll, QuantifiersAreUndetermined, NeverHasNoCompletion, ReadOffIsPrincipal, ReorderedIsPrincipal};
 
 /// What is elaborated has skeletons, in each local context that has them, and so has the state behind.
 pub fn elaborated_has_skeletons()
@@ -48,6 +49,41 @@ pub fn completion_is_instance()
 /// Each typed unifier of the store makes a completion.
 pub fn instance_is_completion()
     ensures { InstanceIsCompletion }
+{}
+
+/// What is read off a solved store is a principal completion.
+pub fn read_off_is_principal()
+    ensures { ReadOffIsPrincipal }
+{}
+
+/// In another order of its quantifiers a principal completion is principal as well.
+pub fn reordered_is_principal()
+    ensures { ReorderedIsPrincipal }
+{}
+
+/// A context in any order in which each variable stands inside of those that its type mentions.
+pub fn context_is_reordered()
+    ensures { ContextIsReordered }
+{}
+
+/// Each quantifier that is read off is what stands for a metavariable that stays free.
+pub fn quantifiers_are_undetermined()
+    ensures { QuantifiersAreUndetermined }
+{}
+
+/// A typed unifier of a solved store is determined by its terms for the metavariables that solving began with.
+pub fn given_determine_all()
+    ensures { GivenDetermineAll }
+{}
+
+/// What is declared of a principal completion is typed.
+pub fn principal_may_stand()
+    ensures { PrincipalMayStand }
+{}
+
+/// Where the store has no typed unifier, what is written has no completion.
+pub fn never_has_no_completion()
+    ensures { NeverHasNoCompletion }
 {}
 
 /// A type that is elaborated from nothing is a type, up to the fillings of the well-formed store that is left.
@@ -128,4 +164,9 @@ pub fn definition_is_expanded()
 /// A kind with a hole.
 pub fn kind_is_elaborated()
     ensures { KindIsElaborated }
+{}
+
+/// A completion that is not principal.
+pub fn number_is_not_principal()
+    ensures { NumberIsNotPrincipal }
 {}
