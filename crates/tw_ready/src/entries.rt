@@ -18,7 +18,7 @@ pub fn add_family(
     name: Name,
     kind: Kind,
 ) -> Result<bool, AllocError>
-    ensures { IfOk result (λ b. MatchBool b ((e : Entered) × (e.body ≡ declare_family (kind_of kind)) × (signature.new ≡ e ∷ signature.old)) (signature.new ≡ signature.old)) }
+    ensures { IfOk result (λ b. MatchBool b ((e : Entered) × (e.name ≡ name) × (e.body ≡ declare_family (kind_of kind)) × (e.implicit ≡ 0) × (signature.new ≡ e ∷ signature.old)) (signature.new ≡ signature.old)) }
 {
     let context = Context::new(alloc);
     match check_kind(alloc, signature, &context, &kind)? {
@@ -45,7 +45,7 @@ pub fn add_constant(
     name: Name,
     ty: Ty,
 ) -> Result<bool, AllocError>
-    ensures { IfOk result (λ b. MatchBool b ((e : Entered) × (e.body ≡ declare_constant (type_of ty)) × (signature.new ≡ e ∷ signature.old)) (signature.new ≡ signature.old)) }
+    ensures { IfOk result (λ b. MatchBool b ((e : Entered) × (e.name ≡ name) × (e.body ≡ declare_constant (type_of ty)) × (e.implicit ≡ 0) × (signature.new ≡ e ∷ signature.old)) (signature.new ≡ signature.old)) }
 {
     let context = Context::new(alloc);
     match check_type(alloc, signature, &context, &ty)? {
