@@ -1,0 +1,11 @@
+pub mod Parts
+pub mod Names
+pub mod Forms
+pub mod Walking
+pub mod Marking
+pub mod Declared
+pub mod Whole
+pub mod Spines
+pub mod Rests
+pub mod Answering
+pub mod WholeBodies

@@ -1,0 +1,17 @@
+//! The laws of resolution. They have no code: each function carries one law as its contract.
+ghost use Rattle.tw_resolve.specs.Resolved.{BodiesAreResolved, FoundAreDeclared, SkeletonsAreResolved};
+
+/// The skeletons that a declaration has in just one way are of declared families.
+pub fn found_are_declared()
+    ensures { FoundAreDeclared }
+{}
+
+/// What has skeletons in just one way is resolved, and what is resolved has these skeletons.
+pub fn skeletons_are_resolved()
+    ensures { SkeletonsAreResolved }
+{}
+
+/// What has skeletons in just one way is resolved as a whole, and what is resolved has skeletons.
+pub fn bodies_are_resolved()
+    ensures { BodiesAreResolved }
+{}

@@ -1,0 +1,18 @@
+//! Names resolved: written terms, types and kinds as elaboration takes them.
+#![tactic(auto)]
+
+#[tactic(auto, using(crate::proofs::Spines::texts))]
+mod bodies;
+pub mod laws;
+#[tactic(auto, using(crate::proofs::Spines::texts))]
+mod resolution;
+#[tactic(auto, using(crate::proofs::Rests::rests))]
+mod resolving;
+mod texts;
+
+pub use bodies::resolve;
+pub use resolving::Resolving;
+pub use texts::{resolve_kind, resolve_term, resolve_type};
+
+#[cfg(test)]
+mod tests;
