@@ -29,7 +29,7 @@ mod unrename;
 
 pub use compare::differences;
 pub use drops::{Loss, losses};
-pub use expand::lambdas_over;
+pub use expand::{arity, eta_variable, lambdas_over, push_newest};
 pub use inversion::{Inverted, invert};
 pub use laws::drops_variable_of_place;
 pub use occurs::occurs_inside;

@@ -33,6 +33,9 @@ impl Model for Shapes {
     ghost invariant = { λ s. IsOrdered (store_of s.bindings) };
 }
 
+/// How many variables a store has at most.
+const VARIABLES: usize = 16_384;
+
 impl Shapes {
     ghost use Rattle.tw_shapes.specs.Shapes.{empty_store, Solves, with_variable, count_of, value_of, IsWithin, IsUnused, HasSolution, Unifies, IsAlways, IsOpen, SameSolutions};
 
@@ -50,7 +53,8 @@ impl Shapes {
         }
     }
 
-    /// One variable more, of which nothing is said. Its number is how many there were. Without memory nothing changes.
+    /// One variable more, of which nothing is said. Its number is how many there were. Without memory nothing changes; past 16,384 variables memory counts as used up,
+    /// so that the shapes of one declaration don't nest deeper than the machine's stack bears.
     pub fn fresh(&mut self) -> Result<ShapeId, AllocError>
         ensures ok { OnOk result (self.new ≡ with_variable self.old) }
         ensures number { IfOk result (λ m. m.0 ≡ count_of self.old) }
@@ -60,6 +64,9 @@ impl Shapes {
         ensures count { count_of self.old ≤ count_of self.new }
         ensures err { OnErr result (self.new ≡ self.old) }
     {
+        if self.bindings.places.len() >= VARIABLES {
+            return Err(AllocError);
+        }
         let number = self.bindings.places.len() as u64;
         self.bindings.places.push(None)?;
         Ok(ShapeId(number))

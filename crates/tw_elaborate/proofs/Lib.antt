@@ -1,0 +1,16 @@
+pub mod Steps
+pub mod Views
+pub mod Expanding
+pub mod Standing
+pub mod Taking
+pub mod KindMoves
+pub mod Scoping
+pub mod Freeing
+pub mod Equating
+pub mod Unbound
+pub mod Bodying
+pub mod Places
+pub mod Naming
+pub mod Following
+pub mod Declaring
+pub mod Answering

@@ -1,0 +1,160 @@
+-- New metavariables, step by step.
+use Rattle.std.proofs.Common.{◌≡◌, ℕ, zero, suc, ◌+◌, ◌-◌, ◌<◌, List, [], ◌∷◌, ◌++◌, length, Option, Some, refl, sym, ap, ap₂, ◌∙◌, subst, length-append, arith}
+use Rattle.std.specs.List.{slice_get}
+use Rattle.std.specs.Option.{option_map}
+use mathlib.Core.Path.{fun_ext}
+use Rattle.lf.specs.Eta.{append}
+use Rattle.lf.specs.Syntax.{Kind, LfType, Spine, Term, app, kind_pi, nil, pi, star}
+use Rattle.lf.specs.Typing.{instantiate_kind, instantiate_type}
+use Rattle.elaboration.specs.Elaboration.{KindTakesNew, TakesAllNew, TakesNew, kind_takes_next, kind_takes_none, takes_all, takes_first, takes_next, takes_none}
+use Rattle.elaboration.specs.State.{State, with_metavariable}
+use Rattle.unification.specs.Offering.{pi_over, raised}
+use Rattle.unification.specs.OpenTyping.{set_at}
+use Rattle.unification.specs.Unifiers.{Equation}
+use Rattle.tw_metas.specs.State.{Declaration, Story, changed, with_declared}
+use Rattle.tw_metas.specs.State as metas
+use Rattle.tw_putting.specs.Stores.{types_of}
+use Rattle.tw_terms.specs.OpenView.{open_args_of, open_term_of}
+use Rattle.tw_terms.specs.declared.open_terms.Open.{Open}
+use Rattle.tw_prune.proofs.Walking.{append-nil, append-push}
+use Rattle.tw_elaborate.specs.Fits.{KindStands, TypeStands}
+use Rattle.tw_elaborate.specs.Fresh.{Keeps, KindTakesOne, OnlyDeclares, TakesOne, declares_nothing, declares_one}
+use Rattle.tw_elaborate.specs.View.{made}
+use Rattle.tw_elaborate.specs.declared.state.Elaboration.{Elaboration}
+use Rattle.tw_elaborate.proofs.Standing.{kind_rest_stands, rest_stands}
+
+-- the store grows
+pub declares_then : {a b c : Story} → OnlyDeclares a b → OnlyDeclares b c → OnlyDeclares a c
+declares_then d declares_nothing = d
+declares_then d (declares_one A e) = declares_one A (declares_then d e)
+
+pub keeps_same : (a : Elaboration) → Keeps a a
+keeps_same a = record { locals = refl; store = declares_nothing }
+
+pub keeps_then : (a b c : Elaboration) → Keeps a b → Keeps b c → Keeps a c
+keeps_then a b c k l = record { locals = l.locals ∙ k.locals; store = declares_then k.store l.store }
+
+one_more_type : (ds : List Declaration) (d : Declaration) (k : ℕ) → option_map (λ (e : Declaration). e.of_type) (slice_get (ds ++ d ∷ []) k) ≡ set_at (length ds) (Some d.of_type) (λ j. option_map (λ (e : Declaration). e.of_type) (slice_get ds j)) k
+one_more_type [] d zero = refl
+one_more_type [] d (suc k) = refl
+one_more_type (x ∷ ds) d zero = refl
+one_more_type (x ∷ ds) d (suc k) = one_more_type ds d k
+
+types_with_declared : (s : metas.State) (G : List LfType) (Y : LfType) → types_of (with_declared s G Y) ≡ set_at (length s.declared) (Some Y) (types_of s)
+types_with_declared s G Y = fun_ext (one_more_type s.declared (record { context = G; of_type = Y }))
+
+-- the state with one metavariable more
+pub made_with : (s t : metas.State) (es : List Equation) (D : List LfType) (G : List LfType) (A P : LfType) → t ≡ with_declared s G P → P ≡ pi_over D A →
+    record { metavariables = types_of t; next = length t.declared; equations = es } ≡ with_metavariable D A (record { metavariables = types_of s; next = length s.declared; equations = es })
+made_with s t es D G A P e p =
+    ap (λ (x : metas.State). record { metavariables = types_of x; next = length x.declared; equations = es }) e
+    ∙ ap₂ (λ (ψ : ℕ → Option LfType) (n : ℕ). record { metavariables = ψ; next = n; equations = es }) (types_with_declared s G P) (length-append s.declared (record { context = G; of_type = P } ∷ []) ∙ omega arith)
+    ∙ ap (λ (X : LfType). record { metavariables = set_at (length s.declared) (Some X) (types_of s); next = suc (length s.declared); equations = es }) p
+
+pub declares_fresh : (a b : Story) (G : List LfType) (P : LfType) → G ≡ [] → b ≡ changed a (with_declared a.now G P) → OnlyDeclares a b
+declares_fresh a b G P g e = subst (OnlyDeclares a) (sym (e ∙ ap (λ D. changed a (with_declared a.now D P)) g)) (declares_one P declares_nothing)
+
+pub declares_same : (a b : Story) → b ≡ a → OnlyDeclares a b
+declares_same a b e = subst (OnlyDeclares a) (sym e) declares_nothing
+
+-- one more argument
+longer : (ts us : List Open) (t : Open) (T : Spine) → us ≡ ts ++ t ∷ [] → append (open_args_of ts) (app (open_term_of t) T) ≡ append (open_args_of us) T
+longer ts us t T u = sym (append-push ts t T) ∙ ap (λ l. append (open_args_of l) T) (sym u)
+
+-- what stands after one
+pub stands_after : (X Y : LfType) (M : Term) (a b : Elaboration) → Keeps a b → TakesOne X M Y a b → TypeStands (made a) a.locals X → TypeStands (made b) b.locals Y
+stands_after X Y M a b k o f =
+    let g : TypeStands (made a) a.locals (pi o.domain o.range) = subst (TypeStands (made a) a.locals) o.is f in
+    let y : Y ≡ instantiate_type o.domain (raised a.locals o.domain (made a).next) o.range = o.left_over ∙ ap (λ N. instantiate_type o.domain N o.range) o.fresh.term in
+    subst (TypeStands (made b) b.locals) (sym y) (subst (λ E. TypeStands (made b) E (instantiate_type o.domain (raised a.locals o.domain (made a).next) o.range)) (sym k.locals)
+    (subst (λ z. TypeStands z a.locals (instantiate_type o.domain (raised a.locals o.domain (made a).next) o.range)) (sym o.fresh.state) (rest_stands (made a) a.locals o.domain o.range g)))
+
+pub kind_stands_after : (K L : Kind) (M : Term) (a b : Elaboration) → Keeps a b → KindTakesOne K M L a b → KindStands (made a) a.locals K → KindStands (made b) b.locals L
+kind_stands_after K L M a b k o f =
+    let g : KindStands (made a) a.locals (kind_pi o.domain o.range) = subst (KindStands (made a) a.locals) o.is f in
+    let y : L ≡ instantiate_kind o.domain (raised a.locals o.domain (made a).next) o.range = o.left_over ∙ ap (λ N. instantiate_kind o.domain N o.range) o.fresh.term in
+    subst (KindStands (made b) b.locals) (sym y) (subst (λ E. KindStands (made b) E (instantiate_kind o.domain (raised a.locals o.domain (made a).next) o.range)) (sym k.locals)
+    (subst (λ z. KindStands z a.locals (instantiate_kind o.domain (raised a.locals o.domain (made a).next) o.range)) (sym o.fresh.state) (kind_rest_stands (made a) a.locals o.domain o.range g)))
+
+-- i of n arguments are taken, and these are the terms
+pub record TakesBefore (n : ℕ) (D : List LfType) (A : LfType) (s : State) (i : ℕ) (B : LfType) (t : State) (ts : List Open) : Type 0 where
+  pub rest : (s' : State) (S : Spine) (C : LfType) → TakesNew (n - i) D B t s' S C → TakesNew n D A s s' (append (open_args_of ts) S) C
+
+pub takes_start : (n : ℕ) (D : List LfType) (A : LfType) (s : State) → TakesBefore n D A s 0 A s []
+takes_start n D A s = record { rest = λ s' S C d. subst (λ k. TakesNew k D A s s' S C) (omega arith) d }
+
+pub takes_step : (n i : ℕ) (D : List LfType) (A X Y : LfType) (s : State) (ts us : List Open) (m : Open) (a b : Elaboration) → i < n → a.locals ≡ D → us ≡ ts ++ m ∷ [] → TakesOne X (open_term_of m) Y a b → TakesBefore n D A s i X (made a) ts → TakesBefore n D A s (i + 1) Y (made b) us
+takes_step n i D A X Y s ts us m a b h l u o f = record { rest = rest }
+  where
+    M : Term
+    M = open_term_of m
+
+    one : (s' : State) (S : Spine) (C : LfType) → TakesNew (n - (i + 1)) D Y (made b) s' S C → TakesNew (n - i) D X (made a) s' (app M S) C
+    one s' S C d =
+        let y : Y ≡ instantiate_type o.domain (raised D o.domain (made a).next) o.range = o.left_over ∙ ap (λ N. instantiate_type o.domain N o.range) o.fresh.term ∙ ap (λ E. instantiate_type o.domain (raised E o.domain (made a).next) o.range) l in
+        let z : made b ≡ with_metavariable D o.domain (made a) = o.fresh.state ∙ ap (λ E. with_metavariable E o.domain (made a)) l in
+        let t : M ≡ raised D o.domain (made a).next = o.fresh.term ∙ ap (λ E. raised E o.domain (made a).next) l in
+        let q : suc (n - (i + 1)) ≡ n - i = omega arith in
+        let e : TakesNew (suc (n - (i + 1))) D (pi o.domain o.range) (made a) s' (app (raised D o.domain (made a).next) S) C = takes_next (subst (λ w. TakesNew (n - (i + 1)) D (instantiate_type o.domain (raised D o.domain (made a).next) o.range) w s' S C) z (subst (λ V. TakesNew (n - (i + 1)) D V (made b) s' S C) y d)) in
+        subst (λ k. TakesNew k D X (made a) s' (app M S) C) q (subst (λ V. TakesNew (suc (n - (i + 1))) D V (made a) s' (app M S) C) (sym o.is) (subst (λ N. TakesNew (suc (n - (i + 1))) D (pi o.domain o.range) (made a) s' (app N S) C) (sym t) e))
+
+    rest : (s' : State) (S : Spine) (C : LfType) → TakesNew (n - (i + 1)) D Y (made b) s' S C → TakesNew n D A s s' (append (open_args_of us) S) C
+    rest s' S C d = subst (λ T. TakesNew n D A s s' T C) (longer ts us m S u) (f.rest s' (app M S) C (one s' S C d))
+
+pub takes_end : (n i : ℕ) (D : List LfType) (A B : LfType) (s t : State) (ts : List Open) (S : Spine) → i ≡ n → S ≡ open_args_of ts → TakesBefore n D A s i B t ts → TakesNew n D A s t S B
+takes_end n i D A B s t ts S e q f = subst (λ T. TakesNew n D A s t T B) (append-nil (open_args_of ts) ∙ sym q) (f.rest t nil B (subst (λ k. TakesNew k D B t t nil B) (omega (arith, e)) takes_none))
+
+-- the same of a kind
+pub record KindTakesBefore (n : ℕ) (D : List LfType) (K : Kind) (s : State) (i : ℕ) (L : Kind) (t : State) (ts : List Open) : Type 0 where
+  pub rest : (s' : State) (S : Spine) (C : Kind) → KindTakesNew (n - i) D L t s' S C → KindTakesNew n D K s s' (append (open_args_of ts) S) C
+
+pub kind_takes_start : (n : ℕ) (D : List LfType) (K : Kind) (s : State) → KindTakesBefore n D K s 0 K s []
+kind_takes_start n D K s = record { rest = λ s' S C d. subst (λ k. KindTakesNew k D K s s' S C) (omega arith) d }
+
+pub kind_takes_step : (n i : ℕ) (D : List LfType) (K X Y : Kind) (s : State) (ts us : List Open) (m : Open) (a b : Elaboration) → i < n → a.locals ≡ D → us ≡ ts ++ m ∷ [] → KindTakesOne X (open_term_of m) Y a b → KindTakesBefore n D K s i X (made a) ts → KindTakesBefore n D K s (i + 1) Y (made b) us
+kind_takes_step n i D K X Y s ts us m a b h l u o f = record { rest = rest }
+  where
+    M : Term
+    M = open_term_of m
+
+    one : (s' : State) (S : Spine) (C : Kind) → KindTakesNew (n - (i + 1)) D Y (made b) s' S C → KindTakesNew (n - i) D X (made a) s' (app M S) C
+    one s' S C d =
+        let y : Y ≡ instantiate_kind o.domain (raised D o.domain (made a).next) o.range = o.left_over ∙ ap (λ N. instantiate_kind o.domain N o.range) o.fresh.term ∙ ap (λ E. instantiate_kind o.domain (raised E o.domain (made a).next) o.range) l in
+        let z : made b ≡ with_metavariable D o.domain (made a) = o.fresh.state ∙ ap (λ E. with_metavariable E o.domain (made a)) l in
+        let t : M ≡ raised D o.domain (made a).next = o.fresh.term ∙ ap (λ E. raised E o.domain (made a).next) l in
+        let q : suc (n - (i + 1)) ≡ n - i = omega arith in
+        let e : KindTakesNew (suc (n - (i + 1))) D (kind_pi o.domain o.range) (made a) s' (app (raised D o.domain (made a).next) S) C = kind_takes_next (subst (λ w. KindTakesNew (n - (i + 1)) D (instantiate_kind o.domain (raised D o.domain (made a).next) o.range) w s' S C) z (subst (λ V. KindTakesNew (n - (i + 1)) D V (made b) s' S C) y d)) in
+        subst (λ k. KindTakesNew k D X (made a) s' (app M S) C) q (subst (λ V. KindTakesNew (suc (n - (i + 1))) D V (made a) s' (app M S) C) (sym o.is) (subst (λ N. KindTakesNew (suc (n - (i + 1))) D (kind_pi o.domain o.range) (made a) s' (app N S) C) (sym t) e))
+
+    rest : (s' : State) (S : Spine) (C : Kind) → KindTakesNew (n - (i + 1)) D Y (made b) s' S C → KindTakesNew n D K s s' (append (open_args_of us) S) C
+    rest s' S C d = subst (λ T. KindTakesNew n D K s s' T C) (longer ts us m S u) (f.rest s' (app M S) C (one s' S C d))
+
+pub kind_takes_end : (n i : ℕ) (D : List LfType) (K L : Kind) (s t : State) (ts : List Open) (S : Spine) → i ≡ n → S ≡ open_args_of ts → KindTakesBefore n D K s i L t ts → KindTakesNew n D K s t S L
+kind_takes_end n i D K L s t ts S e q f = subst (λ T. KindTakesNew n D K s t T L) (append-nil (open_args_of ts) ∙ sym q) (f.rest t nil L (subst (λ k. KindTakesNew k D L t t nil L) (omega (arith, e)) kind_takes_none))
+
+-- all arguments of a kind, those so far
+pub record TakesAllBefore (D : List LfType) (K : Kind) (s : State) (L : Kind) (t : State) (ts : List Open) : Type 0 where
+  pub rest : (s' : State) (S : Spine) → TakesAllNew D L t s' S → TakesAllNew D K s s' (append (open_args_of ts) S)
+
+pub takes_all_start : (D : List LfType) (K : Kind) (s : State) → TakesAllBefore D K s K s []
+takes_all_start D K s = record { rest = λ s' S d. d }
+
+pub takes_all_step : (D : List LfType) (K X Y : Kind) (s : State) (ts us : List Open) (m : Open) (a b : Elaboration) → a.locals ≡ D → us ≡ ts ++ m ∷ [] → KindTakesOne X (open_term_of m) Y a b → TakesAllBefore D K s X (made a) ts → TakesAllBefore D K s Y (made b) us
+takes_all_step D K X Y s ts us m a b l u o f = record { rest = rest }
+  where
+    M : Term
+    M = open_term_of m
+
+    one : (s' : State) (S : Spine) → TakesAllNew D Y (made b) s' S → TakesAllNew D X (made a) s' (app M S)
+    one s' S d =
+        let y : Y ≡ instantiate_kind o.domain (raised D o.domain (made a).next) o.range = o.left_over ∙ ap (λ N. instantiate_kind o.domain N o.range) o.fresh.term ∙ ap (λ E. instantiate_kind o.domain (raised E o.domain (made a).next) o.range) l in
+        let z : made b ≡ with_metavariable D o.domain (made a) = o.fresh.state ∙ ap (λ E. with_metavariable E o.domain (made a)) l in
+        let t : M ≡ raised D o.domain (made a).next = o.fresh.term ∙ ap (λ E. raised E o.domain (made a).next) l in
+        let e : TakesAllNew D (kind_pi o.domain o.range) (made a) s' (app (raised D o.domain (made a).next) S) = takes_first (subst (λ w. TakesAllNew D (instantiate_kind o.domain (raised D o.domain (made a).next) o.range) w s' S) z (subst (λ V. TakesAllNew D V (made b) s' S) y d)) in
+        subst (λ V. TakesAllNew D V (made a) s' (app M S)) (sym o.is) (subst (λ N. TakesAllNew D (kind_pi o.domain o.range) (made a) s' (app N S)) (sym t) e)
+
+    rest : (s' : State) (S : Spine) → TakesAllNew D Y (made b) s' S → TakesAllNew D K s s' (append (open_args_of us) S)
+    rest s' S d = subst (TakesAllNew D K s s') (longer ts us m S u) (f.rest s' (app M S) (one s' S d))
+
+pub takes_all_end : (D : List LfType) (K L : Kind) (s t : State) (ts : List Open) (S : Spine) → L ≡ star → S ≡ open_args_of ts → TakesAllBefore D K s L t ts → TakesAllNew D K s t S
+takes_all_end D K L s t ts S e q f = subst (TakesAllNew D K s t) (append-nil (open_args_of ts) ∙ sym q) (f.rest t nil (subst (λ X. TakesAllNew D X t t nil) (sym e) takes_all))

@@ -1,0 +1,39 @@
+use Rattle.std.proofs.Common.{◌<◌, arith, sym, subst}
+use Rattle.tw_terms.specs.OpenView.{open_term_of}
+use Rattle.tw_terms.proofs.OpenViews.{open_spine_of-roll}
+use Rattle.tw_terms.specs.declared.open_terms.OpenSpine.{roll-OpenSpine}
+use Rattle.tw_terms.specs.OpenView.{open_spine_of}
+use Rattle.tw_elaborate.specs.View.{made, open_kind_of}
+use Rattle.tw_elaborate.proofs.Taking.{KindTakesBefore, keeps_same, keeps_then, kind_stands_after, kind_takes_end, kind_takes_start, kind_takes_step}
+use Rattle.tw_elaborate.proofs.fresh.kind_take_new.Goals as goal
+
+pub loop-init : goal.loop-init
+loop-init c =
+    let D = c.args.state.now.locals in
+    let A = open_kind_of c.args.kind in
+    let s = made c.args.state.now in
+    record {
+      stands = c.requires;
+      keeps = keeps_same c.args.state.now;
+      so_far = subst (KindTakesBefore c.args.count D A s 0 A s) (sym c.new-args.ensures.items) (kind_takes_start c.args.count D A s);
+    }
+
+pub returns-in_err-arg-clause-keeps : goal.returns-in_err-arg-clause-keeps
+returns-in_err-arg-clause-keeps c = keeps_then c.args.state.now c.loop.state c.kind_take_one.new.state c.loop.invariant.keeps c.in_err-arg.ensures.keeps
+
+pub returns-in_err-push-clause-keeps : goal.returns-in_err-push-clause-keeps
+returns-in_err-push-clause-keeps c = keeps_then c.args.state.now c.loop.state c.kind_take_one.new.state c.loop.invariant.keeps c.in_ok-arg.ensures.keeps
+
+pub loop-preserved : goal.loop-preserved
+loop-preserved c =
+    let X = open_kind_of c.loop.rest in
+    let Y = open_kind_of c.in_ok-arg.range in
+    let h : c.loop.counter < c.args.count = omega arith in
+    record {
+      stands = kind_stands_after X Y (open_term_of c.in_ok-arg.arg) c.loop.state c.kind_take_one.new.state c.in_ok-arg.ensures.keeps c.in_ok-arg.ensures.ok c.loop.invariant.stands;
+      keeps = keeps_then c.args.state.now c.loop.state c.kind_take_one.new.state c.loop.invariant.keeps c.in_ok-arg.ensures.keeps;
+      so_far = kind_takes_step c.args.count c.loop.counter c.args.state.now.locals (open_kind_of c.args.kind) X Y (made c.args.state.now) c.loop.args.items c.push.new.self.items c.in_ok-arg.arg c.loop.state c.kind_take_one.new.state h c.loop.invariant.keeps.locals c.in_ok-push.ensures.items c.in_ok-arg.ensures.ok c.loop.invariant.so_far;
+    }
+
+pub returns-clause-ok : goal.returns-clause-ok
+returns-clause-ok c = kind_takes_end c.args.count c.loop.counter c.args.state.now.locals (open_kind_of c.args.kind) (open_kind_of c.loop.rest) (made c.args.state.now) (made c.loop.state) c.loop.args.items (open_spine_of (roll-OpenSpine (record { args = c.loop.args }))) (omega arith) (open_spine_of-roll c.loop.args) c.loop.invariant.so_far

@@ -1,0 +1,25 @@
+use Rattle.std.proofs.Common.{◌≡◌, ap, arith, sym, subst, ◌∙◌}
+use Rattle.lf.specs.Substitution.{single}
+use Rattle.lf.specs.Syntax.{pi, skeleton}
+use Rattle.unification.specs.Offering.{raised}
+use Rattle.tw_hered.specs.Fits.{TypeFits}
+use Rattle.tw_terms.specs.OpenView.{open_term_of, open_type_of}
+use Rattle.tw_elaborate.specs.Fits.{TypeStands}
+use Rattle.tw_elaborate.specs.View.{made}
+use Rattle.tw_elaborate.proofs.Standing.{range_fits}
+use Rattle.tw_elaborate.proofs.Steps.{steps}
+use Rattle.tw_elaborate.proofs.Taking.{keeps_same}
+use Rattle.tw_elaborate.proofs.fresh.take_one.Goals as goal
+
+pub instantiate-requires : goal.instantiate-requires
+instantiate-requires c =
+    let D = c.args.state.now.locals in
+    let s = made c.args.state.now in
+    let A = open_type_of c.deref-in-Pi-2.result.now in
+    let B = open_type_of c.deref-in-Pi.result.now in
+    let x : open_type_of c.args.ty ≡ pi A B = grind (arith, steps) in
+    let n : open_term_of c.in_ok-arg-in-Pi.arg ≡ raised D A s.next = c.in_ok-arg-in-Pi.ensures.ok.term ∙ ap (λ Z. raised D (open_type_of Z) s.next) (c.deref.ensures ∙ sym c.deref-in-Pi-2.ensures) in
+    subst (λ N. TypeFits (single (skeleton A) N) B) (sym n) (range_fits s D A B (subst (TypeStands s D) x c.requires))
+
+pub returns-clause-keeps : goal.returns-clause-keeps
+returns-clause-keeps c = keeps_same c.args.state.now

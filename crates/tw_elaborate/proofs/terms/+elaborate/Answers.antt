@@ -1,0 +1,669 @@
+use Rattle.std.proofs.Common.{◌≡◌, ◌∷◌, IfOk, refl, sym, ap, ap₂, ◌∙◌, subst, arith, rules}
+use Rattle.lf.specs.Entries.{signature_of}
+use Rattle.lf.specs.Substitution.{single}
+use Rattle.lf.specs.Syntax.{kind_pi, lambda, pi, skeleton}
+use Rattle.elaboration.specs.Elaboration.{Checks, ElaboratesDomain, ElaboratesFamily, ElaboratesKind, ElaboratesType, Infers, at_ascribed, at_of_skeleton, at_of_type, at_star, at_type_ascribed, at_type_hole}
+use Rattle.elaboration.specs.Skeletons.{TypeHasSkeletons}
+use Rattle.elaboration.specs.Written.{applied, arrow, ascribed, family_applied, family_ascribed, function, kind_arrow, kind_quantified, of_type, quantified, written_star}
+use Rattle.tw_hered.specs.Fits.{TermFits, TypeFits}
+use Rattle.tw_prune.proofs.Options.{if_ok}
+use Rattle.tw_terms.specs.OpenView.{open_spine_of, open_term_of, open_type_of}
+use Rattle.tw_terms.proofs.OpenViews.{open_term_of-Lam, open_type_of-Atom, open_type_of-Pi}
+use Rattle.tw_written.specs.View.{written_domain_of, written_kind_of, written_of, written_type_of}
+use Rattle.tw_written.proofs.Views.{written_domain_of-OfSkeleton, written_domain_of-OfType, written_kind_of-Arrow, written_kind_of-Quantified, written_kind_of-Star, written_of-Applied, written_of-Ascribed, written_of-Bound, written_of-Declared, written_of-Free, written_of-Function, written_of-Hole, written_type_of-Applied, written_type_of-Arrow, written_type_of-Ascribed, written_type_of-Family, written_type_of-Hole, written_type_of-Quantified}
+use Rattle.tw_elaborate.specs.Comparing.{ChecksDomain}
+use Rattle.tw_elaborate.specs.Deep.{ChecksDeep, DomainDeep, FamilyDeep, InfersDeep, KindDeep, TypeDeep, deep_applied_family, deep_argument, deep_arrow_domain, deep_arrow_range, deep_ascribed, deep_ascribed_family, deep_ascription, deep_body, deep_domain, deep_family, deep_family_kind, deep_function, deep_index, deep_inferred, deep_kind_domain, deep_kind_range, deep_quantified_domain, deep_quantified_kind_domain, deep_quantified_kind_range, deep_quantified_range, deep_type_ascribed, deep_written_domain}
+use Rattle.tw_elaborate.specs.Fits.{KindFits}
+use Rattle.tw_elaborate.specs.View.{made, numbers_of, open_kind_of}
+use Rattle.tw_elaborate.specs.declared.fault.ElaborateFault.TheVariants.{TooDeep}
+use Rattle.tw_elaborate.specs.declared.state.OpenKind.{Star as OpenKind-Star}
+use Rattle.tw_elaborate.proofs.Answering.{annotation_deep, application_deep, application_inferred, arrow_elaborated, body_deep, domain_checked, domain_compared, family_compared, family_elaborated, family_on_argument, fault_of_call, function_checked, function_inferred, inferred_checked, is_inferred, kind_arrow_elaborated, kind_quantified_elaborated, quantified_elaborated}
+use Rattle.tw_elaborate.proofs.Following.{body_fits, domain_under, family_found, family_stands, in_scope, inferred_stands, inferred_term, inferred_type, keeps_under, kind_range_fits, kind_stands, range_fits, type_found, type_stands, under_stands}
+use Rattle.tw_elaborate.proofs.Steps.{steps}
+use Rattle.tw_elaborate.proofs.Taking.{keeps_same, keeps_then}
+use Rattle.tw_elaborate.proofs.Views.{open_kind_of-Pi, open_kind_of-Star}
+use Rattle.tw_elaborate.proofs.terms.+elaborate.Goals as goal
+
+pub infer-returns-in_err-frames-clause-keeps : goal.infer-returns-in_err-frames-clause-keeps
+infer-returns-in_err-frames-clause-keeps t c = keeps_same c.args.state.now
+
+pub infer-returns-in_err-bound-in-Bound-clause-keeps : goal.infer-returns-in_err-bound-in-Bound-clause-keeps
+infer-returns-in_err-bound-in-Bound-clause-keeps t c = keeps_same c.args.state.now
+
+pub infer-returns-in_ok-bound-in-Bound-clause-keeps : goal.infer-returns-in_ok-bound-in-Bound-clause-keeps
+infer-returns-in_ok-bound-in-Bound-clause-keeps t c = keeps_same c.args.state.now
+
+pub infer-returns-in_err-ty-in-Ascribed-clause-too_deep : goal.infer-returns-in_err-ty-in-Ascribed-clause-too_deep
+infer-returns-in_err-ty-in-Ascribed-clause-too_deep t c = λ is.
+    let v = ap written_of c.in-Ascribed.is ∙ written_of-Ascribed c.in-Ascribed.term c.in-Ascribed.ty ∙ ap (ascribed (written_of c.in-Ascribed.term.value)) (ap written_type_of (sym c.deref-in-Ascribed.ensures)) in
+    subst (λ W. InfersDeep c.args.signature.now (numbers_of c.args.frees.now) c.args.state.now.locals W (made c.args.state.now)) (sym v) (deep_ascription (c.in_err-ty-in-Ascribed.ensures.too_deep (fault_of_call c.from_residual-in_err-ty-in-Ascribed.result c.in_err-ty-in-Ascribed.field-0.0 TooDeep (search rules) is)))
+
+pub infer-check-requires : goal.infer-check-requires
+infer-check-requires t c =
+    let l = c.elaborate_type.ensures.keeps.locals in
+    let i = c.in_ok-ty-in-Ascribed.ensures.ok in
+    (omega arith, (c.requires.canonical, (type_stands c.args.signature.now c.requires.canonical (numbers_of c.args.frees.now) c.requires.stands i c.elaborate_type.new.state.locals l, type_found c.args.signature.now c.requires.canonical (numbers_of c.args.frees.now) c.requires.stands i c.elaborate_type.new.state.locals l)))
+
+pub infer-returns-in_err-term-in-Ascribed-clause-too_deep : goal.infer-returns-in_err-term-in-Ascribed-clause-too_deep
+infer-returns-in_err-term-in-Ascribed-clause-too_deep t c = λ is.
+    let v = ap written_of c.in-Ascribed.is ∙ written_of-Ascribed c.in-Ascribed.term c.in-Ascribed.ty ∙ ap₂ ascribed (ap written_of (sym c.deref-in-Ascribed-2.ensures)) (ap written_type_of (sym c.deref-in-Ascribed.ensures)) in
+    let l = c.elaborate_type.ensures.keeps.locals in
+    let i = c.in_ok-ty-in-Ascribed.ensures.ok in
+    subst (λ W. InfersDeep c.args.signature.now (numbers_of c.args.frees.now) c.args.state.now.locals W (made c.args.state.now)) (sym v) (deep_ascribed i (subst (λ F. ChecksDeep c.args.signature.now (numbers_of c.args.frees.now) F (written_of c.deref-in-Ascribed-2.result.now) (open_type_of c.in_ok-ty-in-Ascribed.ty) (made c.elaborate_type.new.state)) l (c.in_err-term-in-Ascribed.ensures.too_deep (fault_of_call c.from_residual-in_err-term-in-Ascribed.result c.in_err-term-in-Ascribed.field-0.0 TooDeep (search rules) is))))
+
+pub infer-returns-in_err-term-in-Ascribed-clause-keeps : goal.infer-returns-in_err-term-in-Ascribed-clause-keeps
+infer-returns-in_err-term-in-Ascribed-clause-keeps t c = keeps_then c.args.state.now c.elaborate_type.new.state c.check.new.state c.elaborate_type.ensures.keeps c.check.ensures.keeps
+
+pub infer-returns-in_ok-term-in-Ascribed-clause-keeps : goal.infer-returns-in_ok-term-in-Ascribed-clause-keeps
+infer-returns-in_ok-term-in-Ascribed-clause-keeps t c = keeps_then c.args.state.now c.elaborate_type.new.state c.check.new.state c.elaborate_type.ensures.keeps c.check.ensures.keeps
+
+pub infer-returns-in_ok-term-in-Ascribed-clause-ok : goal.infer-returns-in_ok-term-in-Ascribed-clause-ok
+infer-returns-in_ok-term-in-Ascribed-clause-ok t c =
+    let v = ap written_of c.in-Ascribed.is ∙ written_of-Ascribed c.in-Ascribed.term c.in-Ascribed.ty ∙ ap₂ ascribed (ap written_of (sym c.deref-in-Ascribed-2.ensures)) (ap written_type_of (sym c.deref-in-Ascribed.ensures)) in
+    let l = c.elaborate_type.ensures.keeps.locals in
+    let i = c.in_ok-ty-in-Ascribed.ensures.ok in
+    subst (λ W. Infers c.args.signature.now (numbers_of c.args.frees.now) c.args.state.now.locals W (made c.args.state.now) (made c.check.new.state) (open_term_of c.in_ok-term-in-Ascribed.term) (open_type_of c.in_ok-ty-in-Ascribed.ty)) (sym v) (at_ascribed i (subst (λ F. Checks c.args.signature.now (numbers_of c.args.frees.now) F (written_of c.deref-in-Ascribed-2.result.now) (open_type_of c.in_ok-ty-in-Ascribed.ty) (made c.elaborate_type.new.state) (made c.check.new.state) (open_term_of c.in_ok-term-in-Ascribed.term)) l c.in_ok-term-in-Ascribed.ensures.ok))
+
+pub infer-returns-in_ok-free-in-Free-clause-ok : goal.infer-returns-in_ok-free-in-Free-clause-ok
+infer-returns-in_ok-free-in-Free-clause-ok t c =
+    let v = ap written_of c.in-Free.is ∙ written_of-Free c.in-Free.variable c.in-Free.at in
+    subst (λ W. Infers c.args.signature.now (numbers_of c.args.frees.now) c.args.state.now.locals W (made c.args.state.now) (made c.free.new.state) (open_term_of c.in_ok-free-in-Free.field-0.0) (open_type_of c.in_ok-free-in-Free.field-0.1)) (sym v) (c.in_ok-free-in-Free.ensures.ok c.args.signature.now)
+
+pub infer-returns-in_ok-bound-in-Bound-clause-ok : goal.infer-returns-in_ok-bound-in-Bound-clause-ok
+infer-returns-in_ok-bound-in-Bound-clause-ok t c =
+    let v = ap written_of c.in-Bound.is ∙ written_of-Bound c.in-Bound.variable in
+    subst (λ W. Infers c.args.signature.now (numbers_of c.args.frees.now) c.args.state.now.locals W (made c.args.state.now) (made c.args.state.now) (open_term_of c.in_ok-bound-in-Bound.field-0.0) (open_type_of c.in_ok-bound-in-Bound.field-0.1)) (sym v) (c.in_ok-bound-in-Bound.ensures c.args.signature.now (numbers_of c.args.frees.now))
+
+pub infer-returns-in-Declared-clause-ok : goal.infer-returns-in-Declared-clause-ok
+infer-returns-in-Declared-clause-ok t c =
+    let v = ap written_of c.in-Declared.is ∙ written_of-Declared c.in-Declared.id c.in-Declared.at in
+    if_ok c.declared.result _ _ (λ p j. subst (λ W. Infers c.args.signature.now (numbers_of c.args.frees.now) c.args.state.now.locals W (made c.args.state.now) (made c.declared.new.state) (open_term_of p.0) (open_type_of p.1)) (sym v) (j (numbers_of c.args.frees.now))) c.declared.ensures.ok
+
+pub infer-returns-in-Declared-clause-too_deep : goal.infer-returns-in-Declared-clause-too_deep
+infer-returns-in-Declared-clause-too_deep t c = λ is.
+    let v = ap written_of c.in-Declared.is ∙ written_of-Declared c.in-Declared.id c.in-Declared.at in
+    subst (λ W. InfersDeep c.args.signature.now (numbers_of c.args.frees.now) c.args.state.now.locals W (made c.args.state.now)) (sym v) (c.declared.ensures.too_deep is (numbers_of c.args.frees.now))
+
+pub infer-returns-in_ok-term_hole-in-Hole-clause-ok : goal.infer-returns-in_ok-term_hole-in-Hole-clause-ok
+infer-returns-in_ok-term_hole-in-Hole-clause-ok t c =
+    let v = ap written_of c.in-Hole.is ∙ written_of-Hole c.in-Hole.skeleton c.in-Hole.at in
+    subst (λ W. Infers c.args.signature.now (numbers_of c.args.frees.now) c.args.state.now.locals W (made c.args.state.now) (made c.term_hole.new.state) (open_term_of c.in_ok-term_hole-in-Hole.field-0.0) (open_type_of c.in_ok-term_hole-in-Hole.field-0.1)) (sym v) (c.in_ok-term_hole-in-Hole.ensures.ok (numbers_of c.args.frees.now))
+
+pub infer-returns-in-Function-clause-ok : goal.infer-returns-in-Function-clause-ok
+infer-returns-in-Function-clause-ok t c =
+    let v = ap written_of c.in-Function.is ∙ written_of-Function c.in-Function.domain c.in-Function.body ∙ ap (function (written_domain_of c.in-Function.domain)) (ap written_of (sym c.deref.ensures)) in
+    subst (λ W. IfOk c.infer_function.result (λ p. Infers c.args.signature.now (numbers_of c.args.frees.now) c.args.state.now.locals W (made c.args.state.now) (made c.infer_function.new.state) (open_term_of p.0) (open_type_of p.1))) (sym v) c.infer_function.ensures.ok
+
+pub infer-returns-in-Function-clause-too_deep : goal.infer-returns-in-Function-clause-too_deep
+infer-returns-in-Function-clause-too_deep t c = λ is.
+    let v = ap written_of c.in-Function.is ∙ written_of-Function c.in-Function.domain c.in-Function.body ∙ ap (function (written_domain_of c.in-Function.domain)) (ap written_of (sym c.deref.ensures)) in
+    subst (λ W. InfersDeep c.args.signature.now (numbers_of c.args.frees.now) c.args.state.now.locals W (made c.args.state.now)) (sym v) (c.infer_function.ensures.too_deep is)
+
+pub infer-returns-in-Applied-clause-ok : goal.infer-returns-in-Applied-clause-ok
+infer-returns-in-Applied-clause-ok t c =
+    let v = ap written_of c.in-Applied.is ∙ written_of-Applied c.in-Applied.function c.in-Applied.arg ∙ ap₂ applied (ap written_of (sym c.deref-in-Applied.ensures)) (ap written_of (sym c.deref-in-Applied-2.ensures)) in
+    subst (λ W. IfOk c.infer_applied.result (λ p. Infers c.args.signature.now (numbers_of c.args.frees.now) c.args.state.now.locals W (made c.args.state.now) (made c.infer_applied.new.state) (open_term_of p.0) (open_type_of p.1))) (sym v) c.infer_applied.ensures.ok
+
+pub infer-returns-in-Applied-clause-too_deep : goal.infer-returns-in-Applied-clause-too_deep
+infer-returns-in-Applied-clause-too_deep t c = λ is.
+    let v = ap written_of c.in-Applied.is ∙ written_of-Applied c.in-Applied.function c.in-Applied.arg ∙ ap₂ applied (ap written_of (sym c.deref-in-Applied.ensures)) (ap written_of (sym c.deref-in-Applied-2.ensures)) in
+    subst (λ W. InfersDeep c.args.signature.now (numbers_of c.args.frees.now) c.args.state.now.locals W (made c.args.state.now)) (sym v) (c.infer_applied.ensures.too_deep is)
+
+pub infer_applied-returns-in_err-function-clause-too_deep : goal.infer_applied-returns-in_err-function-clause-too_deep
+infer_applied-returns-in_err-function-clause-too_deep t c = λ is. deep_function (c.in_err-function.ensures.too_deep (fault_of_call c.from_residual.result c.in_err-function.field-0.0 TooDeep (search rules) is))
+
+pub infer_applied-check-requires : goal.infer_applied-check-requires
+infer_applied-check-requires t c =
+    let l = c.infer.ensures.keeps.locals in
+    let i = c.in_ok-function.ensures.ok in
+    let x = ap open_type_of c.in-Lam-Pi.is-1 ∙ open_type_of-Pi c.in-Lam-Pi.domain c.in-Lam-Pi.range in
+    let m = ap open_term_of c.in-Lam-Pi.is-0 ∙ open_term_of-Lam c.in-Lam-Pi.body in
+    let j : Infers c.args.signature.now (numbers_of c.args.frees.now) c.args.state.now.locals (written_of c.args.function.now) (made c.args.state.now) (made c.infer.new.state) (lambda (open_term_of c.in-Lam-Pi.body.value)) (pi (open_type_of c.in-Lam-Pi.domain.value) (open_type_of c.in-Lam-Pi.range.value)) = subst (λ Z. Infers c.args.signature.now (numbers_of c.args.frees.now) c.args.state.now.locals (written_of c.args.function.now) (made c.args.state.now) (made c.infer.new.state) (lambda (open_term_of c.in-Lam-Pi.body.value)) Z) x (subst (λ R. Infers c.args.signature.now (numbers_of c.args.frees.now) c.args.state.now.locals (written_of c.args.function.now) (made c.args.state.now) (made c.infer.new.state) R (open_type_of c.in_ok-function.ty)) m i) in
+    (omega arith, (c.requires.canonical, (inferred_stands c.args.signature.now c.requires.canonical (numbers_of c.args.frees.now) c.requires.stands j c.infer.new.state.locals l, subst (λ X. TypeHasSkeletons (signature_of c.args.signature.now) (made c.infer.new.state) c.infer.new.state.locals (open_type_of X)) (sym c.deref.ensures) (inferred_type c.args.signature.now c.requires.canonical (numbers_of c.args.frees.now) c.requires.stands j c.infer.new.state.locals l).0)))
+
+pub infer_applied-returns-in_err-arg-in-Lam-Pi-clause-too_deep : goal.infer_applied-returns-in_err-arg-in-Lam-Pi-clause-too_deep
+infer_applied-returns-in_err-arg-in-Lam-Pi-clause-too_deep t c = λ is.
+    let l = c.infer.ensures.keeps.locals in
+    let i = c.in_ok-function.ensures.ok in
+    let x = ap open_type_of c.in-Lam-Pi.is-1 ∙ open_type_of-Pi c.in-Lam-Pi.domain c.in-Lam-Pi.range in
+    let m = ap open_term_of c.in-Lam-Pi.is-0 ∙ open_term_of-Lam c.in-Lam-Pi.body in
+    let j : Infers c.args.signature.now (numbers_of c.args.frees.now) c.args.state.now.locals (written_of c.args.function.now) (made c.args.state.now) (made c.infer.new.state) (lambda (open_term_of c.in-Lam-Pi.body.value)) (pi (open_type_of c.in-Lam-Pi.domain.value) (open_type_of c.in-Lam-Pi.range.value)) = subst (λ Z. Infers c.args.signature.now (numbers_of c.args.frees.now) c.args.state.now.locals (written_of c.args.function.now) (made c.args.state.now) (made c.infer.new.state) (lambda (open_term_of c.in-Lam-Pi.body.value)) Z) x (subst (λ R. Infers c.args.signature.now (numbers_of c.args.frees.now) c.args.state.now.locals (written_of c.args.function.now) (made c.args.state.now) (made c.infer.new.state) R (open_type_of c.in_ok-function.ty)) m i) in
+    deep_argument j (subst (λ F. ChecksDeep c.args.signature.now (numbers_of c.args.frees.now) F (written_of c.args.arg.now) (open_type_of c.in-Lam-Pi.domain.value) (made c.infer.new.state)) l (subst (λ X. ChecksDeep c.args.signature.now (numbers_of c.args.frees.now) c.infer.new.state.locals (written_of c.args.arg.now) (open_type_of X) (made c.infer.new.state)) c.deref.ensures (c.in_err-arg-in-Lam-Pi.ensures.too_deep (fault_of_call c.from_residual-in_err-arg-in-Lam-Pi.result c.in_err-arg-in-Lam-Pi.field-0.0 TooDeep (search rules) is))))
+
+pub infer_applied-returns-in_err-arg-in-Lam-Pi-clause-keeps : goal.infer_applied-returns-in_err-arg-in-Lam-Pi-clause-keeps
+infer_applied-returns-in_err-arg-in-Lam-Pi-clause-keeps t c = keeps_then c.args.state.now c.infer.new.state c.check.new.state c.infer.ensures.keeps c.check.ensures.keeps
+
+pub infer_applied-returns-in_ok-arg-in-Lam-Pi-clause-keeps : goal.infer_applied-returns-in_ok-arg-in-Lam-Pi-clause-keeps
+infer_applied-returns-in_ok-arg-in-Lam-Pi-clause-keeps t c = keeps_then c.args.state.now c.infer.new.state c.check.new.state c.infer.ensures.keeps c.check.ensures.keeps
+
+pub infer_applied-application-requires-clause-body : goal.infer_applied-application-requires-clause-body
+infer_applied-application-requires-clause-body t c =
+    let l = c.infer.ensures.keeps.locals in
+    let i = c.in_ok-function.ensures.ok in
+    let x = ap open_type_of c.in-Lam-Pi.is-1 ∙ open_type_of-Pi c.in-Lam-Pi.domain c.in-Lam-Pi.range in
+    let m : open_term_of c.in_ok-function.function ≡ lambda (open_term_of c.deref-in-Lam-Pi.result.now) = grind (arith, steps) in
+    let j : Infers c.args.signature.now (numbers_of c.args.frees.now) c.args.state.now.locals (written_of c.args.function.now) (made c.args.state.now) (made c.infer.new.state) (lambda (open_term_of c.deref-in-Lam-Pi.result.now)) (pi (open_type_of c.in-Lam-Pi.domain.value) (open_type_of c.in-Lam-Pi.range.value)) = subst (λ Z. Infers c.args.signature.now (numbers_of c.args.frees.now) c.args.state.now.locals (written_of c.args.function.now) (made c.args.state.now) (made c.infer.new.state) (lambda (open_term_of c.deref-in-Lam-Pi.result.now)) Z) x (subst (λ R. Infers c.args.signature.now (numbers_of c.args.frees.now) c.args.state.now.locals (written_of c.args.function.now) (made c.args.state.now) (made c.infer.new.state) R (open_type_of c.in_ok-function.ty)) m i) in
+    let k : Checks c.args.signature.now (numbers_of c.args.frees.now) c.args.state.now.locals (written_of c.args.arg.now) (open_type_of c.in-Lam-Pi.domain.value) (made c.infer.new.state) (made c.check.new.state) (open_term_of c.in_ok-arg-in-Lam-Pi.arg) = subst (λ F. Checks c.args.signature.now (numbers_of c.args.frees.now) F (written_of c.args.arg.now) (open_type_of c.in-Lam-Pi.domain.value) (made c.infer.new.state) (made c.check.new.state) (open_term_of c.in_ok-arg-in-Lam-Pi.arg)) l (subst (λ X. Checks c.args.signature.now (numbers_of c.args.frees.now) c.infer.new.state.locals (written_of c.args.arg.now) (open_type_of X) (made c.infer.new.state) (made c.check.new.state) (open_term_of c.in_ok-arg-in-Lam-Pi.arg)) c.deref.ensures c.in_ok-arg-in-Lam-Pi.ensures.ok) in
+    let u = inferred_stands c.args.signature.now c.requires.canonical (numbers_of c.args.frees.now) c.requires.stands j c.args.state.now.locals refl in
+    let ab = inferred_type c.args.signature.now c.requires.canonical (numbers_of c.args.frees.now) c.requires.stands j c.args.state.now.locals refl in
+    subst (λ X. TermFits (single (skeleton (open_type_of X)) (open_term_of c.in_ok-arg-in-Lam-Pi.arg)) (open_term_of c.deref-in-Lam-Pi.result.now)) (sym c.deref-in-Lam-Pi-2.ensures) (body_fits c.args.signature.now c.requires.canonical (numbers_of c.args.frees.now) u ab.0 k (open_term_of c.deref-in-Lam-Pi.result.now) (open_type_of c.in-Lam-Pi.range.value) (inferred_term c.args.signature.now c.requires.canonical (numbers_of c.args.frees.now) c.requires.stands j))
+
+pub infer_applied-application-requires-clause-range : goal.infer_applied-application-requires-clause-range
+infer_applied-application-requires-clause-range t c =
+    let l = c.infer.ensures.keeps.locals in
+    let i = c.in_ok-function.ensures.ok in
+    let x = ap open_type_of c.in-Lam-Pi.is-1 ∙ open_type_of-Pi c.in-Lam-Pi.domain c.in-Lam-Pi.range in
+    let m : open_term_of c.in_ok-function.function ≡ lambda (open_term_of c.deref-in-Lam-Pi.result.now) = grind (arith, steps) in
+    let j : Infers c.args.signature.now (numbers_of c.args.frees.now) c.args.state.now.locals (written_of c.args.function.now) (made c.args.state.now) (made c.infer.new.state) (lambda (open_term_of c.deref-in-Lam-Pi.result.now)) (pi (open_type_of c.in-Lam-Pi.domain.value) (open_type_of c.in-Lam-Pi.range.value)) = subst (λ Z. Infers c.args.signature.now (numbers_of c.args.frees.now) c.args.state.now.locals (written_of c.args.function.now) (made c.args.state.now) (made c.infer.new.state) (lambda (open_term_of c.deref-in-Lam-Pi.result.now)) Z) x (subst (λ R. Infers c.args.signature.now (numbers_of c.args.frees.now) c.args.state.now.locals (written_of c.args.function.now) (made c.args.state.now) (made c.infer.new.state) R (open_type_of c.in_ok-function.ty)) m i) in
+    let k : Checks c.args.signature.now (numbers_of c.args.frees.now) c.args.state.now.locals (written_of c.args.arg.now) (open_type_of c.in-Lam-Pi.domain.value) (made c.infer.new.state) (made c.check.new.state) (open_term_of c.in_ok-arg-in-Lam-Pi.arg) = subst (λ F. Checks c.args.signature.now (numbers_of c.args.frees.now) F (written_of c.args.arg.now) (open_type_of c.in-Lam-Pi.domain.value) (made c.infer.new.state) (made c.check.new.state) (open_term_of c.in_ok-arg-in-Lam-Pi.arg)) l (subst (λ X. Checks c.args.signature.now (numbers_of c.args.frees.now) c.infer.new.state.locals (written_of c.args.arg.now) (open_type_of X) (made c.infer.new.state) (made c.check.new.state) (open_term_of c.in_ok-arg-in-Lam-Pi.arg)) c.deref.ensures c.in_ok-arg-in-Lam-Pi.ensures.ok) in
+    let u = inferred_stands c.args.signature.now c.requires.canonical (numbers_of c.args.frees.now) c.requires.stands j c.args.state.now.locals refl in
+    let ab = inferred_type c.args.signature.now c.requires.canonical (numbers_of c.args.frees.now) c.requires.stands j c.args.state.now.locals refl in
+    subst (λ X. TypeFits (single (skeleton (open_type_of X)) (open_term_of c.in_ok-arg-in-Lam-Pi.arg)) (open_type_of c.deref-in-Lam-Pi-3.result.now)) (sym c.deref-in-Lam-Pi-2.ensures) (subst (λ R. TypeFits (single (skeleton (open_type_of c.in-Lam-Pi.domain.value)) (open_term_of c.in_ok-arg-in-Lam-Pi.arg)) (open_type_of R)) (sym c.deref-in-Lam-Pi-3.ensures) (range_fits c.args.signature.now c.requires.canonical (numbers_of c.args.frees.now) u ab.0 k (open_type_of c.in-Lam-Pi.range.value) ab))
+
+pub infer_applied-returns-in_ok-arg-in-Lam-Pi-clause-ok : goal.infer_applied-returns-in_ok-arg-in-Lam-Pi-clause-ok
+infer_applied-returns-in_ok-arg-in-Lam-Pi-clause-ok t c =
+    let l = c.infer.ensures.keeps.locals in
+    let i = c.in_ok-function.ensures.ok in
+    let x = ap open_type_of c.in-Lam-Pi.is-1 ∙ open_type_of-Pi c.in-Lam-Pi.domain c.in-Lam-Pi.range in
+    let m : open_term_of c.in_ok-function.function ≡ lambda (open_term_of c.deref-in-Lam-Pi.result.now) = grind (arith, steps) in
+    let j : Infers c.args.signature.now (numbers_of c.args.frees.now) c.args.state.now.locals (written_of c.args.function.now) (made c.args.state.now) (made c.infer.new.state) (lambda (open_term_of c.deref-in-Lam-Pi.result.now)) (pi (open_type_of c.in-Lam-Pi.domain.value) (open_type_of c.in-Lam-Pi.range.value)) = subst (λ Z. Infers c.args.signature.now (numbers_of c.args.frees.now) c.args.state.now.locals (written_of c.args.function.now) (made c.args.state.now) (made c.infer.new.state) (lambda (open_term_of c.deref-in-Lam-Pi.result.now)) Z) x (subst (λ R. Infers c.args.signature.now (numbers_of c.args.frees.now) c.args.state.now.locals (written_of c.args.function.now) (made c.args.state.now) (made c.infer.new.state) R (open_type_of c.in_ok-function.ty)) m i) in
+    let k : Checks c.args.signature.now (numbers_of c.args.frees.now) c.args.state.now.locals (written_of c.args.arg.now) (open_type_of c.in-Lam-Pi.domain.value) (made c.infer.new.state) (made c.check.new.state) (open_term_of c.in_ok-arg-in-Lam-Pi.arg) = subst (λ F. Checks c.args.signature.now (numbers_of c.args.frees.now) F (written_of c.args.arg.now) (open_type_of c.in-Lam-Pi.domain.value) (made c.infer.new.state) (made c.check.new.state) (open_term_of c.in_ok-arg-in-Lam-Pi.arg)) l (subst (λ X. Checks c.args.signature.now (numbers_of c.args.frees.now) c.infer.new.state.locals (written_of c.args.arg.now) (open_type_of X) (made c.infer.new.state) (made c.check.new.state) (open_term_of c.in_ok-arg-in-Lam-Pi.arg)) c.deref.ensures c.in_ok-arg-in-Lam-Pi.ensures.ok) in
+    if_ok c.application.result _ _ (λ p e. application_inferred c.args.signature.now (numbers_of c.args.frees.now) c.args.state.now.locals (written_of c.args.function.now) (written_of c.args.arg.now) (open_type_of c.in-Lam-Pi.domain.value) (open_type_of c.deref-in-Lam-Pi-2.result.now) (open_type_of c.in-Lam-Pi.range.value) (open_type_of c.deref-in-Lam-Pi-3.result.now) (open_type_of p.1) (open_term_of c.deref-in-Lam-Pi.result.now) (open_term_of c.deref-in-Lam-Pi.result.now) (open_term_of c.in_ok-arg-in-Lam-Pi.arg) (open_term_of p.0) (made c.args.state.now) (made c.infer.new.state) (made c.check.new.state) (ap open_type_of c.deref-in-Lam-Pi-2.ensures) (ap open_type_of c.deref-in-Lam-Pi-3.ensures) refl e.0 e.1 j k) c.application.ensures.ok
+
+pub infer_applied-returns-in_ok-arg-in-Lam-Pi-clause-too_deep : goal.infer_applied-returns-in_ok-arg-in-Lam-Pi-clause-too_deep
+infer_applied-returns-in_ok-arg-in-Lam-Pi-clause-too_deep t c = λ is.
+    let l = c.infer.ensures.keeps.locals in
+    let i = c.in_ok-function.ensures.ok in
+    let x = ap open_type_of c.in-Lam-Pi.is-1 ∙ open_type_of-Pi c.in-Lam-Pi.domain c.in-Lam-Pi.range in
+    let m : open_term_of c.in_ok-function.function ≡ lambda (open_term_of c.deref-in-Lam-Pi.result.now) = grind (arith, steps) in
+    let j : Infers c.args.signature.now (numbers_of c.args.frees.now) c.args.state.now.locals (written_of c.args.function.now) (made c.args.state.now) (made c.infer.new.state) (lambda (open_term_of c.deref-in-Lam-Pi.result.now)) (pi (open_type_of c.in-Lam-Pi.domain.value) (open_type_of c.in-Lam-Pi.range.value)) = subst (λ Z. Infers c.args.signature.now (numbers_of c.args.frees.now) c.args.state.now.locals (written_of c.args.function.now) (made c.args.state.now) (made c.infer.new.state) (lambda (open_term_of c.deref-in-Lam-Pi.result.now)) Z) x (subst (λ R. Infers c.args.signature.now (numbers_of c.args.frees.now) c.args.state.now.locals (written_of c.args.function.now) (made c.args.state.now) (made c.infer.new.state) R (open_type_of c.in_ok-function.ty)) m i) in
+    let k : Checks c.args.signature.now (numbers_of c.args.frees.now) c.args.state.now.locals (written_of c.args.arg.now) (open_type_of c.in-Lam-Pi.domain.value) (made c.infer.new.state) (made c.check.new.state) (open_term_of c.in_ok-arg-in-Lam-Pi.arg) = subst (λ F. Checks c.args.signature.now (numbers_of c.args.frees.now) F (written_of c.args.arg.now) (open_type_of c.in-Lam-Pi.domain.value) (made c.infer.new.state) (made c.check.new.state) (open_term_of c.in_ok-arg-in-Lam-Pi.arg)) l (subst (λ X. Checks c.args.signature.now (numbers_of c.args.frees.now) c.infer.new.state.locals (written_of c.args.arg.now) (open_type_of X) (made c.infer.new.state) (made c.check.new.state) (open_term_of c.in_ok-arg-in-Lam-Pi.arg)) c.deref.ensures c.in_ok-arg-in-Lam-Pi.ensures.ok) in
+    application_deep c.args.signature.now (numbers_of c.args.frees.now) c.args.state.now.locals (written_of c.args.function.now) (written_of c.args.arg.now) (open_type_of c.in-Lam-Pi.domain.value) (open_type_of c.deref-in-Lam-Pi-2.result.now) (open_type_of c.in-Lam-Pi.range.value) (open_term_of c.deref-in-Lam-Pi.result.now) (open_term_of c.deref-in-Lam-Pi.result.now) (open_term_of c.in_ok-arg-in-Lam-Pi.arg) (made c.args.state.now) (made c.infer.new.state) (made c.check.new.state) (ap open_type_of c.deref-in-Lam-Pi-2.ensures) refl j k (c.application.ensures.too_deep is)
+
+pub infer_function-returns-in_err-domain-clause-too_deep : goal.infer_function-returns-in_err-domain-clause-too_deep
+infer_function-returns-in_err-domain-clause-too_deep t c = λ is. deep_domain (c.in_err-domain.ensures.too_deep (fault_of_call c.from_residual.result c.in_err-domain.field-0.0 TooDeep (search rules) is))
+
+pub infer_function-infer-inferred-requires : goal.infer_function-infer-inferred-requires
+infer_function-infer-inferred-requires t c =
+    let l = c.elaborate_domain.ensures.keeps.locals in
+    let i = c.in_ok-domain.ensures.ok in
+    let e : c.push.new.self ≡ (open_type_of c.in_ok-domain.domain) ∷ c.args.state.now.locals = in_scope c.args.state.now.locals c.push.new.self c.elaborate_domain.new.state.locals (open_type_of c.in_ok-domain.domain) (open_type_of c.in_ok-copy.field-0) c.in_ok-push.ensures.ok c.in_ok-copy.ensures l in
+    (omega arith, (c.requires.canonical, domain_under c.args.signature.now c.requires.canonical (numbers_of c.args.frees.now) c.requires.stands i c.push.new.self e))
+
+pub infer_function-returns-in_err-body-clause-too_deep : goal.infer_function-returns-in_err-body-clause-too_deep
+infer_function-returns-in_err-body-clause-too_deep t c = λ is.
+    let l = c.elaborate_domain.ensures.keeps.locals in
+    let i = c.in_ok-domain.ensures.ok in
+    let e : c.push.new.self ≡ (open_type_of c.in_ok-domain.domain) ∷ c.args.state.now.locals = in_scope c.args.state.now.locals c.push.new.self c.elaborate_domain.new.state.locals (open_type_of c.in_ok-domain.domain) (open_type_of c.in_ok-copy.field-0) c.in_ok-push.ensures.ok c.in_ok-copy.ensures l in
+    deep_body i (subst (λ F. InfersDeep c.args.signature.now (numbers_of c.args.frees.now) F (written_of c.args.body.now) (made c.elaborate_domain.new.state)) e (c.in_err-body.ensures.too_deep (fault_of_call c.from_residual-in_err-body.result c.in_err-body.field-0.0 TooDeep (search rules) is)))
+
+pub infer_function-returns-in_err-body-clause-keeps : goal.infer_function-returns-in_err-body-clause-keeps
+infer_function-returns-in_err-body-clause-keeps t c =
+    let p : c.push.new.self ≡ (open_type_of c.in_ok-domain.domain) ∷ c.elaborate_domain.new.state.locals = in_scope c.elaborate_domain.new.state.locals c.push.new.self c.elaborate_domain.new.state.locals (open_type_of c.in_ok-domain.domain) (open_type_of c.in_ok-copy.field-0) c.in_ok-push.ensures.ok c.in_ok-copy.ensures refl in
+    keeps_under (open_type_of c.in_ok-domain.domain) c.elaborate_domain.ensures.keeps p refl c.infer-inferred.ensures.keeps c.pop.ensures.rest refl
+
+pub infer_function-returns-in_err-function-clause-keeps : goal.infer_function-returns-in_err-function-clause-keeps
+infer_function-returns-in_err-function-clause-keeps t c =
+    let p : c.push.new.self ≡ (open_type_of c.in_ok-domain.domain) ∷ c.elaborate_domain.new.state.locals = in_scope c.elaborate_domain.new.state.locals c.push.new.self c.elaborate_domain.new.state.locals (open_type_of c.in_ok-domain.domain) (open_type_of c.in_ok-copy.field-0) c.in_ok-push.ensures.ok c.in_ok-copy.ensures refl in
+    keeps_under (open_type_of c.in_ok-domain.domain) c.elaborate_domain.ensures.keeps p refl c.infer-inferred.ensures.keeps c.pop.ensures.rest refl
+
+pub infer_function-returns-clause-keeps : goal.infer_function-returns-clause-keeps
+infer_function-returns-clause-keeps t c =
+    let p : c.push.new.self ≡ (open_type_of c.in_ok-domain.domain) ∷ c.elaborate_domain.new.state.locals = in_scope c.elaborate_domain.new.state.locals c.push.new.self c.elaborate_domain.new.state.locals (open_type_of c.in_ok-domain.domain) (open_type_of c.in_ok-copy.field-0) c.in_ok-push.ensures.ok c.in_ok-copy.ensures refl in
+    keeps_under (open_type_of c.in_ok-domain.domain) c.elaborate_domain.ensures.keeps p refl c.infer-inferred.ensures.keeps c.pop.ensures.rest refl
+
+pub infer_function-returns-clause-ok : goal.infer_function-returns-clause-ok
+infer_function-returns-clause-ok t c =
+    let l = c.elaborate_domain.ensures.keeps.locals in
+    let i = c.in_ok-domain.ensures.ok in
+    let e : c.push.new.self ≡ (open_type_of c.in_ok-domain.domain) ∷ c.args.state.now.locals = in_scope c.args.state.now.locals c.push.new.self c.elaborate_domain.new.state.locals (open_type_of c.in_ok-domain.domain) (open_type_of c.in_ok-copy.field-0) c.in_ok-push.ensures.ok c.in_ok-copy.ensures l in
+    function_inferred c.args.signature.now (numbers_of c.args.frees.now) c.args.state.now.locals c.push.new.self (written_domain_of c.args.domain.now) (written_of c.args.body.now) (made c.args.state.now) (made c.elaborate_domain.new.state) (made c.infer-inferred.new.state) (open_type_of c.in_ok-domain.domain) (open_type_of c.in_ok-domain.domain) (open_type_of c.in_ok-body.range) _ (open_term_of c.in_ok-body.body) _ e refl c.in_ok-function.ensures.0 c.in_ok-function.ensures.1 i c.in_ok-body.ensures.ok
+
+pub elaborate_type-returns-in_err-frames-clause-keeps : goal.elaborate_type-returns-in_err-frames-clause-keeps
+elaborate_type-returns-in_err-frames-clause-keeps t c = keeps_same c.args.state.now
+
+pub elaborate_type-returns-in_err-domain-in-Quantified-clause-too_deep : goal.elaborate_type-returns-in_err-domain-in-Quantified-clause-too_deep
+elaborate_type-returns-in_err-domain-in-Quantified-clause-too_deep t c = λ is.
+    let v = ap written_type_of c.in-Quantified.is ∙ written_type_of-Quantified c.in-Quantified.domain c.in-Quantified.range in
+    subst (λ W. TypeDeep c.args.signature.now (numbers_of c.args.frees.now) c.args.state.now.locals W (made c.args.state.now)) (sym v) (deep_quantified_domain (c.in_err-domain-in-Quantified.ensures.too_deep (fault_of_call c.from_residual-in_err-domain-in-Quantified.result c.in_err-domain-in-Quantified.field-0.0 TooDeep (search rules) is)))
+
+pub elaborate_type-elaborate_type-range-requires : goal.elaborate_type-elaborate_type-range-requires
+elaborate_type-elaborate_type-range-requires t c =
+    let l = c.elaborate_domain.ensures.keeps.locals in
+    let i = c.in_ok-domain-in-Quantified.ensures.ok in
+    let e : c.push.new.self ≡ (open_type_of c.in_ok-domain-in-Quantified.domain) ∷ c.args.state.now.locals = in_scope c.args.state.now.locals c.push.new.self c.elaborate_domain.new.state.locals (open_type_of c.in_ok-domain-in-Quantified.domain) (open_type_of c.in_ok-copy-in-Quantified.field-0) c.in_ok-push-in-Quantified.ensures.ok c.in_ok-copy-in-Quantified.ensures l in
+    (omega arith, (c.requires.canonical, domain_under c.args.signature.now c.requires.canonical (numbers_of c.args.frees.now) c.requires.stands i c.push.new.self e))
+
+pub elaborate_type-returns-in_err-range-in-Quantified-clause-too_deep : goal.elaborate_type-returns-in_err-range-in-Quantified-clause-too_deep
+elaborate_type-returns-in_err-range-in-Quantified-clause-too_deep t c = λ is.
+    let v = ap written_type_of c.in-Quantified.is ∙ written_type_of-Quantified c.in-Quantified.domain c.in-Quantified.range ∙ ap (quantified (written_domain_of c.in-Quantified.domain)) (ap written_type_of (sym c.deref-in-Quantified.ensures)) in
+    let l = c.elaborate_domain.ensures.keeps.locals in
+    let i = c.in_ok-domain-in-Quantified.ensures.ok in
+    let e : c.push.new.self ≡ (open_type_of c.in_ok-domain-in-Quantified.domain) ∷ c.args.state.now.locals = in_scope c.args.state.now.locals c.push.new.self c.elaborate_domain.new.state.locals (open_type_of c.in_ok-domain-in-Quantified.domain) (open_type_of c.in_ok-copy-in-Quantified.field-0) c.in_ok-push-in-Quantified.ensures.ok c.in_ok-copy-in-Quantified.ensures l in
+    subst (λ W. TypeDeep c.args.signature.now (numbers_of c.args.frees.now) c.args.state.now.locals W (made c.args.state.now)) (sym v) (deep_quantified_range i (subst (λ F. TypeDeep c.args.signature.now (numbers_of c.args.frees.now) F (written_type_of c.deref-in-Quantified.result.now) (made c.elaborate_domain.new.state)) e (c.in_err-range-in-Quantified.ensures.too_deep (fault_of_call c.from_residual-in_err-range-in-Quantified.result c.in_err-range-in-Quantified.field-0.0 TooDeep (search rules) is))))
+
+pub elaborate_type-returns-in_err-range-in-Quantified-clause-keeps : goal.elaborate_type-returns-in_err-range-in-Quantified-clause-keeps
+elaborate_type-returns-in_err-range-in-Quantified-clause-keeps t c =
+    let p : c.push.new.self ≡ (open_type_of c.in_ok-domain-in-Quantified.domain) ∷ c.elaborate_domain.new.state.locals = in_scope c.elaborate_domain.new.state.locals c.push.new.self c.elaborate_domain.new.state.locals (open_type_of c.in_ok-domain-in-Quantified.domain) (open_type_of c.in_ok-copy-in-Quantified.field-0) c.in_ok-push-in-Quantified.ensures.ok c.in_ok-copy-in-Quantified.ensures refl in
+    keeps_under (open_type_of c.in_ok-domain-in-Quantified.domain) c.elaborate_domain.ensures.keeps p refl c.elaborate_type-range.ensures.keeps c.pop.ensures.rest refl
+
+pub elaborate_type-returns-in_err-pi-in-Quantified-clause-keeps : goal.elaborate_type-returns-in_err-pi-in-Quantified-clause-keeps
+elaborate_type-returns-in_err-pi-in-Quantified-clause-keeps t c =
+    let p : c.push.new.self ≡ (open_type_of c.in_ok-domain-in-Quantified.domain) ∷ c.elaborate_domain.new.state.locals = in_scope c.elaborate_domain.new.state.locals c.push.new.self c.elaborate_domain.new.state.locals (open_type_of c.in_ok-domain-in-Quantified.domain) (open_type_of c.in_ok-copy-in-Quantified.field-0) c.in_ok-push-in-Quantified.ensures.ok c.in_ok-copy-in-Quantified.ensures refl in
+    keeps_under (open_type_of c.in_ok-domain-in-Quantified.domain) c.elaborate_domain.ensures.keeps p refl c.elaborate_type-range.ensures.keeps c.pop.ensures.rest refl
+
+pub elaborate_type-returns-in_ok-pi-in-Quantified-clause-keeps : goal.elaborate_type-returns-in_ok-pi-in-Quantified-clause-keeps
+elaborate_type-returns-in_ok-pi-in-Quantified-clause-keeps t c =
+    let p : c.push.new.self ≡ (open_type_of c.in_ok-domain-in-Quantified.domain) ∷ c.elaborate_domain.new.state.locals = in_scope c.elaborate_domain.new.state.locals c.push.new.self c.elaborate_domain.new.state.locals (open_type_of c.in_ok-domain-in-Quantified.domain) (open_type_of c.in_ok-copy-in-Quantified.field-0) c.in_ok-push-in-Quantified.ensures.ok c.in_ok-copy-in-Quantified.ensures refl in
+    keeps_under (open_type_of c.in_ok-domain-in-Quantified.domain) c.elaborate_domain.ensures.keeps p refl c.elaborate_type-range.ensures.keeps c.pop.ensures.rest refl
+
+pub elaborate_type-returns-in_ok-pi-in-Quantified-clause-ok : goal.elaborate_type-returns-in_ok-pi-in-Quantified-clause-ok
+elaborate_type-returns-in_ok-pi-in-Quantified-clause-ok t c =
+    let v = ap written_type_of c.in-Quantified.is ∙ written_type_of-Quantified c.in-Quantified.domain c.in-Quantified.range ∙ ap (quantified (written_domain_of c.in-Quantified.domain)) (ap written_type_of (sym c.deref-in-Quantified.ensures)) in
+    let l = c.elaborate_domain.ensures.keeps.locals in
+    let i = c.in_ok-domain-in-Quantified.ensures.ok in
+    let e : c.push.new.self ≡ (open_type_of c.in_ok-domain-in-Quantified.domain) ∷ c.args.state.now.locals = in_scope c.args.state.now.locals c.push.new.self c.elaborate_domain.new.state.locals (open_type_of c.in_ok-domain-in-Quantified.domain) (open_type_of c.in_ok-copy-in-Quantified.field-0) c.in_ok-push-in-Quantified.ensures.ok c.in_ok-copy-in-Quantified.ensures l in
+    subst (λ W. ElaboratesType c.args.signature.now (numbers_of c.args.frees.now) c.args.state.now.locals W (made c.args.state.now) (made c.elaborate_type-range.new.state) (open_type_of c.in_ok-pi-in-Quantified.field-0)) (sym v) (quantified_elaborated c.args.signature.now (numbers_of c.args.frees.now) c.args.state.now.locals c.push.new.self (written_domain_of c.in-Quantified.domain) (written_type_of c.deref-in-Quantified.result.now) (made c.args.state.now) (made c.elaborate_domain.new.state) (made c.elaborate_type-range.new.state) (open_type_of c.in_ok-domain-in-Quantified.domain) (open_type_of c.in_ok-range-in-Quantified.field-0) _ e c.in_ok-pi-in-Quantified.ensures i c.in_ok-range-in-Quantified.ensures.ok)
+
+pub elaborate_type-returns-in_err-domain-in-Arrow-clause-too_deep : goal.elaborate_type-returns-in_err-domain-in-Arrow-clause-too_deep
+elaborate_type-returns-in_err-domain-in-Arrow-clause-too_deep t c = λ is.
+    let v = ap written_type_of c.in-Arrow.is ∙ written_type_of-Arrow c.in-Arrow.domain c.in-Arrow.range ∙ ap (λ U. arrow U (written_type_of c.in-Arrow.range.value)) (ap written_type_of (sym c.deref.ensures)) in
+    subst (λ W. TypeDeep c.args.signature.now (numbers_of c.args.frees.now) c.args.state.now.locals W (made c.args.state.now)) (sym v) (deep_arrow_domain (c.in_err-domain-in-Arrow.ensures.too_deep (fault_of_call c.from_residual-in_err-domain-in-Arrow.result c.in_err-domain-in-Arrow.field-0.0 TooDeep (search rules) is)))
+
+pub elaborate_type-elaborate_type-requires-in-Arrow : goal.elaborate_type-elaborate_type-requires-in-Arrow
+elaborate_type-elaborate_type-requires-in-Arrow t c =
+    let l = c.elaborate_type.ensures.keeps.locals in
+    let i = c.in_ok-domain-in-Arrow.ensures.ok in
+    (omega arith, (c.requires.canonical, type_stands c.args.signature.now c.requires.canonical (numbers_of c.args.frees.now) c.requires.stands i c.elaborate_type.new.state.locals l))
+
+pub elaborate_type-returns-in_err-range-in-Arrow-clause-too_deep : goal.elaborate_type-returns-in_err-range-in-Arrow-clause-too_deep
+elaborate_type-returns-in_err-range-in-Arrow-clause-too_deep t c = λ is.
+    let v = ap written_type_of c.in-Arrow.is ∙ written_type_of-Arrow c.in-Arrow.domain c.in-Arrow.range ∙ ap₂ arrow (ap written_type_of (sym c.deref.ensures)) (ap written_type_of (sym c.deref-in-Arrow.ensures)) in
+    let l = c.elaborate_type.ensures.keeps.locals in
+    let i = c.in_ok-domain-in-Arrow.ensures.ok in
+    subst (λ W. TypeDeep c.args.signature.now (numbers_of c.args.frees.now) c.args.state.now.locals W (made c.args.state.now)) (sym v) (deep_arrow_range i (subst (λ F. TypeDeep c.args.signature.now (numbers_of c.args.frees.now) F (written_type_of c.deref-in-Arrow.result.now) (made c.elaborate_type.new.state)) l (c.in_err-range-in-Arrow.ensures.too_deep (fault_of_call c.from_residual-in_err-range-in-Arrow.result c.in_err-range-in-Arrow.field-0.0 TooDeep (search rules) is))))
+
+pub elaborate_type-returns-in_err-range-in-Arrow-clause-keeps : goal.elaborate_type-returns-in_err-range-in-Arrow-clause-keeps
+elaborate_type-returns-in_err-range-in-Arrow-clause-keeps t c = keeps_then c.args.state.now c.elaborate_type.new.state c.elaborate_type-in-Arrow.new.state c.elaborate_type.ensures.keeps c.elaborate_type-in-Arrow.ensures.keeps
+
+pub elaborate_type-returns-in_err-arrow-in-Arrow-clause-keeps : goal.elaborate_type-returns-in_err-arrow-in-Arrow-clause-keeps
+elaborate_type-returns-in_err-arrow-in-Arrow-clause-keeps t c = keeps_then c.args.state.now c.elaborate_type.new.state c.elaborate_type-in-Arrow.new.state c.elaborate_type.ensures.keeps c.elaborate_type-in-Arrow.ensures.keeps
+
+pub elaborate_type-returns-in_ok-arrow-in-Arrow-clause-keeps : goal.elaborate_type-returns-in_ok-arrow-in-Arrow-clause-keeps
+elaborate_type-returns-in_ok-arrow-in-Arrow-clause-keeps t c = keeps_then c.args.state.now c.elaborate_type.new.state c.elaborate_type-in-Arrow.new.state c.elaborate_type.ensures.keeps c.elaborate_type-in-Arrow.ensures.keeps
+
+pub elaborate_type-returns-in_ok-arrow-in-Arrow-clause-ok : goal.elaborate_type-returns-in_ok-arrow-in-Arrow-clause-ok
+elaborate_type-returns-in_ok-arrow-in-Arrow-clause-ok t c =
+    let v = ap written_type_of c.in-Arrow.is ∙ written_type_of-Arrow c.in-Arrow.domain c.in-Arrow.range ∙ ap₂ arrow (ap written_type_of (sym c.deref.ensures)) (ap written_type_of (sym c.deref-in-Arrow.ensures)) in
+    let l = c.elaborate_type.ensures.keeps.locals in
+    let i = c.in_ok-domain-in-Arrow.ensures.ok in
+    subst (λ W. ElaboratesType c.args.signature.now (numbers_of c.args.frees.now) c.args.state.now.locals W (made c.args.state.now) (made c.elaborate_type-in-Arrow.new.state) (open_type_of c.in_ok-arrow-in-Arrow.field-0)) (sym v) (arrow_elaborated c.args.signature.now (numbers_of c.args.frees.now) c.args.state.now.locals (written_type_of c.deref.result.now) (written_type_of c.deref-in-Arrow.result.now) (made c.args.state.now) (made c.elaborate_type.new.state) (made c.elaborate_type-in-Arrow.new.state) (open_type_of c.in_ok-domain-in-Arrow.domain) (open_type_of c.in_ok-range-in-Arrow.range) _ c.in_ok-arrow-in-Arrow.ensures i (subst (λ F. ElaboratesType c.args.signature.now (numbers_of c.args.frees.now) F (written_type_of c.deref-in-Arrow.result.now) (made c.elaborate_type.new.state) (made c.elaborate_type-in-Arrow.new.state) (open_type_of c.in_ok-range-in-Arrow.range)) l c.in_ok-range-in-Arrow.ensures.ok))
+
+pub elaborate_type-returns-in_err-family-in-Family-clause-too_deep : goal.elaborate_type-returns-in_err-family-in-Family-clause-too_deep
+elaborate_type-returns-in_err-family-in-Family-clause-too_deep t c = λ is. deep_family (c.in_err-family-in-Family.ensures.too_deep (fault_of_call c.from_residual-in_err-family-in-Family.result c.in_err-family-in-Family.field-0.0 TooDeep (search rules) is))
+
+pub elaborate_type-returns-in_ok-type_hole-in-Hole-clause-ok : goal.elaborate_type-returns-in_ok-type_hole-in-Hole-clause-ok
+elaborate_type-returns-in_ok-type_hole-in-Hole-clause-ok t c =
+    let v = ap written_type_of c.in-Hole.is ∙ written_type_of-Hole c.in-Hole.skeleton c.in-Hole.at in
+    subst (λ W. ElaboratesType c.args.signature.now (numbers_of c.args.frees.now) c.args.state.now.locals W (made c.args.state.now) (made c.type_hole.new.state) (open_type_of c.in_ok-type_hole-in-Hole.field-0)) (sym v) (at_type_hole c.in_ok-type_hole-in-Hole.ensures.ok)
+
+pub elaborate_type-returns-in-Star-clause-ok : goal.elaborate_type-returns-in-Star-clause-ok
+elaborate_type-returns-in-Star-clause-ok t c =
+    let v = ap written_type_of c.in-Ascribed.is ∙ written_type_of-Ascribed c.in-Ascribed.ty c.in-Ascribed.kind ∙ ap₂ family_ascribed (ap written_type_of (sym c.deref-in-Star.ensures)) (ap written_kind_of (sym c.deref-in-Ascribed.ensures ∙ c.in-Star.is) ∙ written_kind_of-Star) in
+    if_ok c.elaborate_type-in-Star.result _ _ (λ a j. subst (λ W. ElaboratesType c.args.signature.now (numbers_of c.args.frees.now) c.args.state.now.locals W (made c.args.state.now) (made c.elaborate_type-in-Star.new.state) (open_type_of a)) (sym v) (at_type_ascribed j)) c.elaborate_type-in-Star.ensures.ok
+
+pub elaborate_type-returns-in-Star-clause-too_deep : goal.elaborate_type-returns-in-Star-clause-too_deep
+elaborate_type-returns-in-Star-clause-too_deep t c = λ is.
+    let v = ap written_type_of c.in-Ascribed.is ∙ written_type_of-Ascribed c.in-Ascribed.ty c.in-Ascribed.kind ∙ ap₂ family_ascribed (ap written_type_of (sym c.deref-in-Star.ensures)) (ap written_kind_of (sym c.deref-in-Ascribed.ensures ∙ c.in-Star.is) ∙ written_kind_of-Star) in
+    subst (λ W. TypeDeep c.args.signature.now (numbers_of c.args.frees.now) c.args.state.now.locals W (made c.args.state.now)) (sym v) (deep_type_ascribed (c.elaborate_type-in-Star.ensures.too_deep is))
+
+pub elaborate_type-returns-in-Arrow-deref-clause-keeps : goal.elaborate_type-returns-in-Arrow-deref-clause-keeps
+elaborate_type-returns-in-Arrow-deref-clause-keeps t c = keeps_same c.args.state.now
+
+pub elaborate_type-returns-in-Star-kind-clause-ok : goal.elaborate_type-returns-in-Star-kind-clause-ok
+elaborate_type-returns-in-Star-kind-clause-ok t c = family_elaborated c.args.signature.now (numbers_of c.args.frees.now) c.args.state.now.locals (written_type_of c.args.written.now) (made c.args.state.now) (made c.elaborate_family.new.state) c.in_ok-family-in-Family.family.0 (open_spine_of c.in_ok-family-in-Family.spine) (open_kind_of c.in_ok-family-in-Family.kind) _ (ap open_kind_of c.in-Star-kind.is ∙ open_kind_of-Star) (open_type_of-Atom c.in_ok-family-in-Family.family c.in_ok-family-in-Family.spine) c.in_ok-family-in-Family.ensures.ok
+
+pub elaborate_kind-returns-in_err-frames-clause-keeps : goal.elaborate_kind-returns-in_err-frames-clause-keeps
+elaborate_kind-returns-in_err-frames-clause-keeps t c = keeps_same c.args.state.now
+
+pub elaborate_kind-returns-in-Star-clause-keeps : goal.elaborate_kind-returns-in-Star-clause-keeps
+elaborate_kind-returns-in-Star-clause-keeps t c = keeps_same c.args.state.now
+
+pub elaborate_kind-returns-in-Star-clause-ok : goal.elaborate_kind-returns-in-Star-clause-ok
+elaborate_kind-returns-in-Star-clause-ok t c =
+    let v = ap written_kind_of c.in-Star.is ∙ written_kind_of-Star in
+    subst (λ W. ElaboratesKind c.args.signature.now (numbers_of c.args.frees.now) c.args.state.now.locals W (made c.args.state.now) (made c.args.state.now) (open_kind_of OpenKind-Star)) (sym v) (subst (ElaboratesKind c.args.signature.now (numbers_of c.args.frees.now) c.args.state.now.locals written_star (made c.args.state.now) (made c.args.state.now)) (sym open_kind_of-Star) at_star)
+
+pub elaborate_kind-returns-in_err-domain-in-Arrow-clause-too_deep : goal.elaborate_kind-returns-in_err-domain-in-Arrow-clause-too_deep
+elaborate_kind-returns-in_err-domain-in-Arrow-clause-too_deep t c = λ is.
+    let v = ap written_kind_of c.in-Arrow.is ∙ written_kind_of-Arrow c.in-Arrow.domain c.in-Arrow.range ∙ ap (λ U. kind_arrow U (written_kind_of c.in-Arrow.range.value)) (ap written_type_of (sym c.deref.ensures)) in
+    subst (λ W. KindDeep c.args.signature.now (numbers_of c.args.frees.now) c.args.state.now.locals W (made c.args.state.now)) (sym v) (deep_kind_domain (c.in_err-domain-in-Arrow.ensures.too_deep (fault_of_call c.from_residual-in_err-domain-in-Arrow.result c.in_err-domain-in-Arrow.field-0.0 TooDeep (search rules) is)))
+
+pub elaborate_kind-elaborate_kind-requires : goal.elaborate_kind-elaborate_kind-requires
+elaborate_kind-elaborate_kind-requires t c =
+    let l = c.elaborate_type.ensures.keeps.locals in
+    let i = c.in_ok-domain-in-Arrow.ensures.ok in
+    (omega arith, (c.requires.canonical, type_stands c.args.signature.now c.requires.canonical (numbers_of c.args.frees.now) c.requires.stands i c.elaborate_type.new.state.locals l))
+
+pub elaborate_kind-returns-in_err-range-in-Arrow-clause-too_deep : goal.elaborate_kind-returns-in_err-range-in-Arrow-clause-too_deep
+elaborate_kind-returns-in_err-range-in-Arrow-clause-too_deep t c = λ is.
+    let v = ap written_kind_of c.in-Arrow.is ∙ written_kind_of-Arrow c.in-Arrow.domain c.in-Arrow.range ∙ ap₂ kind_arrow (ap written_type_of (sym c.deref.ensures)) (ap written_kind_of (sym c.deref-in-Arrow.ensures)) in
+    let l = c.elaborate_type.ensures.keeps.locals in
+    let i = c.in_ok-domain-in-Arrow.ensures.ok in
+    subst (λ W. KindDeep c.args.signature.now (numbers_of c.args.frees.now) c.args.state.now.locals W (made c.args.state.now)) (sym v) (deep_kind_range i (subst (λ F. KindDeep c.args.signature.now (numbers_of c.args.frees.now) F (written_kind_of c.deref-in-Arrow.result.now) (made c.elaborate_type.new.state)) l (c.in_err-range-in-Arrow.ensures.too_deep (fault_of_call c.from_residual-in_err-range-in-Arrow.result c.in_err-range-in-Arrow.field-0.0 TooDeep (search rules) is))))
+
+pub elaborate_kind-returns-in_err-range-in-Arrow-clause-keeps : goal.elaborate_kind-returns-in_err-range-in-Arrow-clause-keeps
+elaborate_kind-returns-in_err-range-in-Arrow-clause-keeps t c = keeps_then c.args.state.now c.elaborate_type.new.state c.elaborate_kind.new.state c.elaborate_type.ensures.keeps c.elaborate_kind.ensures.keeps
+
+pub elaborate_kind-returns-in_err-kind_arrow-in-Arrow-clause-keeps : goal.elaborate_kind-returns-in_err-kind_arrow-in-Arrow-clause-keeps
+elaborate_kind-returns-in_err-kind_arrow-in-Arrow-clause-keeps t c = keeps_then c.args.state.now c.elaborate_type.new.state c.elaborate_kind.new.state c.elaborate_type.ensures.keeps c.elaborate_kind.ensures.keeps
+
+pub elaborate_kind-returns-in_ok-kind_arrow-in-Arrow-clause-keeps : goal.elaborate_kind-returns-in_ok-kind_arrow-in-Arrow-clause-keeps
+elaborate_kind-returns-in_ok-kind_arrow-in-Arrow-clause-keeps t c = keeps_then c.args.state.now c.elaborate_type.new.state c.elaborate_kind.new.state c.elaborate_type.ensures.keeps c.elaborate_kind.ensures.keeps
+
+pub elaborate_kind-returns-in_ok-kind_arrow-in-Arrow-clause-ok : goal.elaborate_kind-returns-in_ok-kind_arrow-in-Arrow-clause-ok
+elaborate_kind-returns-in_ok-kind_arrow-in-Arrow-clause-ok t c =
+    let v = ap written_kind_of c.in-Arrow.is ∙ written_kind_of-Arrow c.in-Arrow.domain c.in-Arrow.range ∙ ap₂ kind_arrow (ap written_type_of (sym c.deref.ensures)) (ap written_kind_of (sym c.deref-in-Arrow.ensures)) in
+    let l = c.elaborate_type.ensures.keeps.locals in
+    let i = c.in_ok-domain-in-Arrow.ensures.ok in
+    subst (λ W. ElaboratesKind c.args.signature.now (numbers_of c.args.frees.now) c.args.state.now.locals W (made c.args.state.now) (made c.elaborate_kind.new.state) (open_kind_of c.in_ok-kind_arrow-in-Arrow.field-0)) (sym v) (kind_arrow_elaborated c.args.signature.now (numbers_of c.args.frees.now) c.args.state.now.locals (written_type_of c.deref.result.now) (written_kind_of c.deref-in-Arrow.result.now) (made c.args.state.now) (made c.elaborate_type.new.state) (made c.elaborate_kind.new.state) (open_type_of c.in_ok-domain-in-Arrow.domain) (open_kind_of c.in_ok-range-in-Arrow.range) _ c.in_ok-kind_arrow-in-Arrow.ensures i (subst (λ F. ElaboratesKind c.args.signature.now (numbers_of c.args.frees.now) F (written_kind_of c.deref-in-Arrow.result.now) (made c.elaborate_type.new.state) (made c.elaborate_kind.new.state) (open_kind_of c.in_ok-range-in-Arrow.range)) l c.in_ok-range-in-Arrow.ensures.ok))
+
+pub elaborate_kind-returns-in_err-domain-in-Quantified-clause-too_deep : goal.elaborate_kind-returns-in_err-domain-in-Quantified-clause-too_deep
+elaborate_kind-returns-in_err-domain-in-Quantified-clause-too_deep t c = λ is.
+    let v = ap written_kind_of c.in-Quantified.is ∙ written_kind_of-Quantified c.in-Quantified.domain c.in-Quantified.range in
+    subst (λ W. KindDeep c.args.signature.now (numbers_of c.args.frees.now) c.args.state.now.locals W (made c.args.state.now)) (sym v) (deep_quantified_kind_domain (c.in_err-domain-in-Quantified.ensures.too_deep (fault_of_call c.from_residual-in_err-domain-in-Quantified.result c.in_err-domain-in-Quantified.field-0.0 TooDeep (search rules) is)))
+
+pub elaborate_kind-elaborate_kind-range-requires : goal.elaborate_kind-elaborate_kind-range-requires
+elaborate_kind-elaborate_kind-range-requires t c =
+    let l = c.elaborate_domain.ensures.keeps.locals in
+    let i = c.in_ok-domain-in-Quantified.ensures.ok in
+    let e : c.push.new.self ≡ (open_type_of c.in_ok-domain-in-Quantified.domain) ∷ c.args.state.now.locals = in_scope c.args.state.now.locals c.push.new.self c.elaborate_domain.new.state.locals (open_type_of c.in_ok-domain-in-Quantified.domain) (open_type_of c.in_ok-copy-in-Quantified.field-0) c.in_ok-push-in-Quantified.ensures.ok c.in_ok-copy-in-Quantified.ensures l in
+    (omega arith, (c.requires.canonical, domain_under c.args.signature.now c.requires.canonical (numbers_of c.args.frees.now) c.requires.stands i c.push.new.self e))
+
+pub elaborate_kind-returns-in_err-range-in-Quantified-clause-too_deep : goal.elaborate_kind-returns-in_err-range-in-Quantified-clause-too_deep
+elaborate_kind-returns-in_err-range-in-Quantified-clause-too_deep t c = λ is.
+    let v = ap written_kind_of c.in-Quantified.is ∙ written_kind_of-Quantified c.in-Quantified.domain c.in-Quantified.range ∙ ap (kind_quantified (written_domain_of c.in-Quantified.domain)) (ap written_kind_of (sym c.deref-in-Quantified.ensures)) in
+    let l = c.elaborate_domain.ensures.keeps.locals in
+    let i = c.in_ok-domain-in-Quantified.ensures.ok in
+    let e : c.push.new.self ≡ (open_type_of c.in_ok-domain-in-Quantified.domain) ∷ c.args.state.now.locals = in_scope c.args.state.now.locals c.push.new.self c.elaborate_domain.new.state.locals (open_type_of c.in_ok-domain-in-Quantified.domain) (open_type_of c.in_ok-copy-in-Quantified.field-0) c.in_ok-push-in-Quantified.ensures.ok c.in_ok-copy-in-Quantified.ensures l in
+    subst (λ W. KindDeep c.args.signature.now (numbers_of c.args.frees.now) c.args.state.now.locals W (made c.args.state.now)) (sym v) (deep_quantified_kind_range i (subst (λ F. KindDeep c.args.signature.now (numbers_of c.args.frees.now) F (written_kind_of c.deref-in-Quantified.result.now) (made c.elaborate_domain.new.state)) e (c.in_err-range-in-Quantified.ensures.too_deep (fault_of_call c.from_residual-in_err-range-in-Quantified.result c.in_err-range-in-Quantified.field-0.0 TooDeep (search rules) is))))
+
+pub elaborate_kind-returns-in_err-range-in-Quantified-clause-keeps : goal.elaborate_kind-returns-in_err-range-in-Quantified-clause-keeps
+elaborate_kind-returns-in_err-range-in-Quantified-clause-keeps t c =
+    let p : c.push.new.self ≡ (open_type_of c.in_ok-domain-in-Quantified.domain) ∷ c.elaborate_domain.new.state.locals = in_scope c.elaborate_domain.new.state.locals c.push.new.self c.elaborate_domain.new.state.locals (open_type_of c.in_ok-domain-in-Quantified.domain) (open_type_of c.in_ok-copy-in-Quantified.field-0) c.in_ok-push-in-Quantified.ensures.ok c.in_ok-copy-in-Quantified.ensures refl in
+    keeps_under (open_type_of c.in_ok-domain-in-Quantified.domain) c.elaborate_domain.ensures.keeps p refl c.elaborate_kind-range.ensures.keeps c.pop.ensures.rest refl
+
+pub elaborate_kind-returns-in_err-kind_pi-in-Quantified-clause-keeps : goal.elaborate_kind-returns-in_err-kind_pi-in-Quantified-clause-keeps
+elaborate_kind-returns-in_err-kind_pi-in-Quantified-clause-keeps t c =
+    let p : c.push.new.self ≡ (open_type_of c.in_ok-domain-in-Quantified.domain) ∷ c.elaborate_domain.new.state.locals = in_scope c.elaborate_domain.new.state.locals c.push.new.self c.elaborate_domain.new.state.locals (open_type_of c.in_ok-domain-in-Quantified.domain) (open_type_of c.in_ok-copy-in-Quantified.field-0) c.in_ok-push-in-Quantified.ensures.ok c.in_ok-copy-in-Quantified.ensures refl in
+    keeps_under (open_type_of c.in_ok-domain-in-Quantified.domain) c.elaborate_domain.ensures.keeps p refl c.elaborate_kind-range.ensures.keeps c.pop.ensures.rest refl
+
+pub elaborate_kind-returns-in_ok-kind_pi-in-Quantified-clause-keeps : goal.elaborate_kind-returns-in_ok-kind_pi-in-Quantified-clause-keeps
+elaborate_kind-returns-in_ok-kind_pi-in-Quantified-clause-keeps t c =
+    let p : c.push.new.self ≡ (open_type_of c.in_ok-domain-in-Quantified.domain) ∷ c.elaborate_domain.new.state.locals = in_scope c.elaborate_domain.new.state.locals c.push.new.self c.elaborate_domain.new.state.locals (open_type_of c.in_ok-domain-in-Quantified.domain) (open_type_of c.in_ok-copy-in-Quantified.field-0) c.in_ok-push-in-Quantified.ensures.ok c.in_ok-copy-in-Quantified.ensures refl in
+    keeps_under (open_type_of c.in_ok-domain-in-Quantified.domain) c.elaborate_domain.ensures.keeps p refl c.elaborate_kind-range.ensures.keeps c.pop.ensures.rest refl
+
+pub elaborate_kind-returns-in_ok-kind_pi-in-Quantified-clause-ok : goal.elaborate_kind-returns-in_ok-kind_pi-in-Quantified-clause-ok
+elaborate_kind-returns-in_ok-kind_pi-in-Quantified-clause-ok t c =
+    let v = ap written_kind_of c.in-Quantified.is ∙ written_kind_of-Quantified c.in-Quantified.domain c.in-Quantified.range ∙ ap (kind_quantified (written_domain_of c.in-Quantified.domain)) (ap written_kind_of (sym c.deref-in-Quantified.ensures)) in
+    let l = c.elaborate_domain.ensures.keeps.locals in
+    let i = c.in_ok-domain-in-Quantified.ensures.ok in
+    let e : c.push.new.self ≡ (open_type_of c.in_ok-domain-in-Quantified.domain) ∷ c.args.state.now.locals = in_scope c.args.state.now.locals c.push.new.self c.elaborate_domain.new.state.locals (open_type_of c.in_ok-domain-in-Quantified.domain) (open_type_of c.in_ok-copy-in-Quantified.field-0) c.in_ok-push-in-Quantified.ensures.ok c.in_ok-copy-in-Quantified.ensures l in
+    subst (λ W. ElaboratesKind c.args.signature.now (numbers_of c.args.frees.now) c.args.state.now.locals W (made c.args.state.now) (made c.elaborate_kind-range.new.state) (open_kind_of c.in_ok-kind_pi-in-Quantified.field-0)) (sym v) (kind_quantified_elaborated c.args.signature.now (numbers_of c.args.frees.now) c.args.state.now.locals c.push.new.self (written_domain_of c.in-Quantified.domain) (written_kind_of c.deref-in-Quantified.result.now) (made c.args.state.now) (made c.elaborate_domain.new.state) (made c.elaborate_kind-range.new.state) (open_type_of c.in_ok-domain-in-Quantified.domain) (open_kind_of c.in_ok-range-in-Quantified.field-0) _ e c.in_ok-kind_pi-in-Quantified.ensures i c.in_ok-range-in-Quantified.ensures.ok)
+
+pub elaborate_domain-returns-in_err-frames-clause-keeps : goal.elaborate_domain-returns-in_err-frames-clause-keeps
+elaborate_domain-returns-in_err-frames-clause-keeps t c = keeps_same c.args.state.now
+
+pub elaborate_domain-returns-in_ok-type_hole-in-OfSkeleton-clause-ok : goal.elaborate_domain-returns-in_ok-type_hole-in-OfSkeleton-clause-ok
+elaborate_domain-returns-in_ok-type_hole-in-OfSkeleton-clause-ok t c =
+    let v = ap written_domain_of c.in-OfSkeleton.is ∙ written_domain_of-OfSkeleton c.in-OfSkeleton.skeleton c.in-OfSkeleton.at in
+    subst (λ W. ElaboratesDomain c.args.signature.now (numbers_of c.args.frees.now) c.args.state.now.locals W (made c.args.state.now) (made c.type_hole.new.state) (open_type_of c.in_ok-type_hole-in-OfSkeleton.field-0)) (sym v) (at_of_skeleton c.in_ok-type_hole-in-OfSkeleton.ensures.ok)
+
+pub elaborate_domain-returns-in-OfType-clause-ok : goal.elaborate_domain-returns-in-OfType-clause-ok
+elaborate_domain-returns-in-OfType-clause-ok t c =
+    let v = ap written_domain_of c.in-OfType.is ∙ written_domain_of-OfType c.in-OfType.ty ∙ ap of_type (ap written_type_of (sym c.deref.ensures)) in
+    if_ok c.elaborate_type.result _ _ (λ a j. subst (λ W. ElaboratesDomain c.args.signature.now (numbers_of c.args.frees.now) c.args.state.now.locals W (made c.args.state.now) (made c.elaborate_type.new.state) (open_type_of a)) (sym v) (at_of_type j)) c.elaborate_type.ensures.ok
+
+pub elaborate_domain-returns-in-OfType-clause-too_deep : goal.elaborate_domain-returns-in-OfType-clause-too_deep
+elaborate_domain-returns-in-OfType-clause-too_deep t c = λ is.
+    let v = ap written_domain_of c.in-OfType.is ∙ written_domain_of-OfType c.in-OfType.ty ∙ ap of_type (ap written_type_of (sym c.deref.ensures)) in
+    subst (λ W. DomainDeep c.args.signature.now (numbers_of c.args.frees.now) c.args.state.now.locals W (made c.args.state.now)) (sym v) (deep_written_domain (c.elaborate_type.ensures.too_deep is))
+
+pub elaborate_family-returns-in_err-frames-clause-keeps : goal.elaborate_family-returns-in_err-frames-clause-keeps
+elaborate_family-returns-in_err-frames-clause-keeps t c = keeps_same c.args.state.now
+
+pub elaborate_family-returns-in-Hole-clause-keeps : goal.elaborate_family-returns-in-Hole-clause-keeps
+elaborate_family-returns-in-Hole-clause-keeps t c = keeps_same c.args.state.now
+
+pub elaborate_family-returns-in_ok-spine-in-Family-clause-ok : goal.elaborate_family-returns-in_ok-spine-in-Family-clause-ok
+elaborate_family-returns-in_ok-spine-in-Family-clause-ok t c =
+    let v = ap written_type_of c.in-Family.is ∙ written_type_of-Family c.in-Family.id c.in-Family.at in
+    subst (λ W. ElaboratesFamily c.args.signature.now (numbers_of c.args.frees.now) c.args.state.now.locals W (made c.args.state.now) (made c.named_family.new.state) c.in-Family.id.0 (open_spine_of c.in_ok-spine-in-Family.spine) (open_kind_of c.in_ok-spine-in-Family.kind)) (sym v) (c.in_ok-spine-in-Family.ensures.ok (numbers_of c.args.frees.now))
+
+pub elaborate_family-returns-in_err-family-in-Applied-clause-too_deep : goal.elaborate_family-returns-in_err-family-in-Applied-clause-too_deep
+elaborate_family-returns-in_err-family-in-Applied-clause-too_deep t c = λ is.
+    let v = ap written_type_of c.in-Applied.is ∙ written_type_of-Applied c.in-Applied.family c.in-Applied.arg ∙ ap (λ U. family_applied U (written_of c.in-Applied.arg.value)) (ap written_type_of (sym c.deref.ensures)) in
+    subst (λ W. FamilyDeep c.args.signature.now (numbers_of c.args.frees.now) c.args.state.now.locals W (made c.args.state.now)) (sym v) (deep_applied_family (c.in_err-family-in-Applied.ensures.too_deep (fault_of_call c.from_residual-in_err-family-in-Applied.result c.in_err-family-in-Applied.field-0.0 TooDeep (search rules) is)))
+
+pub elaborate_family-check-requires : goal.elaborate_family-check-requires
+elaborate_family-check-requires t c =
+    let l = c.elaborate_family.ensures.keeps.locals in
+    let x = ap open_kind_of c.in-Pi.is ∙ open_kind_of-Pi c.in-Pi.domain c.in-Pi.range in
+    let j : ElaboratesFamily c.args.signature.now (numbers_of c.args.frees.now) c.args.state.now.locals (written_type_of c.deref.result.now) (made c.args.state.now) (made c.elaborate_family.new.state) c.in_ok-family-in-Applied.family.0 (open_spine_of c.in_ok-family-in-Applied.spine) (kind_pi (open_type_of c.in-Pi.domain.value) (open_kind_of c.in-Pi.range.value)) = subst (ElaboratesFamily c.args.signature.now (numbers_of c.args.frees.now) c.args.state.now.locals (written_type_of c.deref.result.now) (made c.args.state.now) (made c.elaborate_family.new.state) c.in_ok-family-in-Applied.family.0 (open_spine_of c.in_ok-family-in-Applied.spine)) x c.in_ok-family-in-Applied.ensures.ok in
+    (omega arith, (c.requires.canonical, (family_stands c.args.signature.now c.requires.canonical (numbers_of c.args.frees.now) c.requires.stands j c.elaborate_family.new.state.locals l, subst (λ X. TypeHasSkeletons (signature_of c.args.signature.now) (made c.elaborate_family.new.state) c.elaborate_family.new.state.locals (open_type_of X)) (sym c.deref-in-Pi-2.ensures) (family_found c.args.signature.now c.requires.canonical (numbers_of c.args.frees.now) c.requires.stands j c.elaborate_family.new.state.locals l).0)))
+
+pub elaborate_family-returns-in_err-arg-in-Pi-clause-too_deep : goal.elaborate_family-returns-in_err-arg-in-Pi-clause-too_deep
+elaborate_family-returns-in_err-arg-in-Pi-clause-too_deep t c = λ is.
+    let v = ap written_type_of c.in-Applied.is ∙ written_type_of-Applied c.in-Applied.family c.in-Applied.arg ∙ ap₂ family_applied (ap written_type_of (sym c.deref.ensures)) (ap written_of (sym c.deref-in-Pi.ensures)) in
+    let l = c.elaborate_family.ensures.keeps.locals in
+    let x = ap open_kind_of c.in-Pi.is ∙ open_kind_of-Pi c.in-Pi.domain c.in-Pi.range in
+    let j : ElaboratesFamily c.args.signature.now (numbers_of c.args.frees.now) c.args.state.now.locals (written_type_of c.deref.result.now) (made c.args.state.now) (made c.elaborate_family.new.state) c.in_ok-family-in-Applied.family.0 (open_spine_of c.in_ok-family-in-Applied.spine) (kind_pi (open_type_of c.in-Pi.domain.value) (open_kind_of c.in-Pi.range.value)) = subst (ElaboratesFamily c.args.signature.now (numbers_of c.args.frees.now) c.args.state.now.locals (written_type_of c.deref.result.now) (made c.args.state.now) (made c.elaborate_family.new.state) c.in_ok-family-in-Applied.family.0 (open_spine_of c.in_ok-family-in-Applied.spine)) x c.in_ok-family-in-Applied.ensures.ok in
+    subst (λ W. FamilyDeep c.args.signature.now (numbers_of c.args.frees.now) c.args.state.now.locals W (made c.args.state.now)) (sym v) (deep_index j (subst (λ F. ChecksDeep c.args.signature.now (numbers_of c.args.frees.now) F (written_of c.deref-in-Pi.result.now) (open_type_of c.in-Pi.domain.value) (made c.elaborate_family.new.state)) l (subst (λ X. ChecksDeep c.args.signature.now (numbers_of c.args.frees.now) c.elaborate_family.new.state.locals (written_of c.deref-in-Pi.result.now) (open_type_of X) (made c.elaborate_family.new.state)) c.deref-in-Pi-2.ensures (c.in_err-arg-in-Pi.ensures.too_deep (fault_of_call c.from_residual-in_err-arg-in-Pi.result c.in_err-arg-in-Pi.field-0.0 TooDeep (search rules) is)))))
+
+pub elaborate_family-returns-in_err-arg-in-Pi-clause-keeps : goal.elaborate_family-returns-in_err-arg-in-Pi-clause-keeps
+elaborate_family-returns-in_err-arg-in-Pi-clause-keeps t c = keeps_then c.args.state.now c.elaborate_family.new.state c.check.new.state c.elaborate_family.ensures.keeps c.check.ensures.keeps
+
+pub elaborate_family-returns-in_err-spine-in-Pi-clause-keeps : goal.elaborate_family-returns-in_err-spine-in-Pi-clause-keeps
+elaborate_family-returns-in_err-spine-in-Pi-clause-keeps t c = keeps_then c.args.state.now c.elaborate_family.new.state c.check.new.state c.elaborate_family.ensures.keeps c.check.ensures.keeps
+
+pub elaborate_family-returns-in_ok-spine-in-Pi-clause-keeps : goal.elaborate_family-returns-in_ok-spine-in-Pi-clause-keeps
+elaborate_family-returns-in_ok-spine-in-Pi-clause-keeps t c = keeps_then c.args.state.now c.elaborate_family.new.state c.check.new.state c.elaborate_family.ensures.keeps c.check.ensures.keeps
+
+pub elaborate_family-family_application-requires : goal.elaborate_family-family_application-requires
+elaborate_family-family_application-requires t c =
+    let l = c.elaborate_family.ensures.keeps.locals in
+    let x = ap open_kind_of c.in-Pi.is ∙ open_kind_of-Pi c.in-Pi.domain c.in-Pi.range in
+    let j : ElaboratesFamily c.args.signature.now (numbers_of c.args.frees.now) c.args.state.now.locals (written_type_of c.deref.result.now) (made c.args.state.now) (made c.elaborate_family.new.state) c.in_ok-family-in-Applied.family.0 (open_spine_of c.in_ok-family-in-Applied.spine) (kind_pi (open_type_of c.in-Pi.domain.value) (open_kind_of c.in-Pi.range.value)) = subst (ElaboratesFamily c.args.signature.now (numbers_of c.args.frees.now) c.args.state.now.locals (written_type_of c.deref.result.now) (made c.args.state.now) (made c.elaborate_family.new.state) c.in_ok-family-in-Applied.family.0 (open_spine_of c.in_ok-family-in-Applied.spine)) x c.in_ok-family-in-Applied.ensures.ok in
+    let k : Checks c.args.signature.now (numbers_of c.args.frees.now) c.args.state.now.locals (written_of c.deref-in-Pi.result.now) (open_type_of c.in-Pi.domain.value) (made c.elaborate_family.new.state) (made c.check.new.state) (open_term_of c.in_ok-arg-in-Pi.arg) = subst (λ F. Checks c.args.signature.now (numbers_of c.args.frees.now) F (written_of c.deref-in-Pi.result.now) (open_type_of c.in-Pi.domain.value) (made c.elaborate_family.new.state) (made c.check.new.state) (open_term_of c.in_ok-arg-in-Pi.arg)) l (subst (λ X. Checks c.args.signature.now (numbers_of c.args.frees.now) c.elaborate_family.new.state.locals (written_of c.deref-in-Pi.result.now) (open_type_of X) (made c.elaborate_family.new.state) (made c.check.new.state) (open_term_of c.in_ok-arg-in-Pi.arg)) c.deref-in-Pi-2.ensures c.in_ok-arg-in-Pi.ensures.ok) in
+    let u = family_stands c.args.signature.now c.requires.canonical (numbers_of c.args.frees.now) c.requires.stands j c.args.state.now.locals refl in
+    let ak = family_found c.args.signature.now c.requires.canonical (numbers_of c.args.frees.now) c.requires.stands j c.args.state.now.locals refl in
+    subst (λ X. KindFits (single (skeleton (open_type_of X)) (open_term_of c.in_ok-arg-in-Pi.arg)) (open_kind_of c.deref-in-Pi-4.result.now)) (sym c.deref-in-Pi-3.ensures) (subst (λ X. KindFits (single (skeleton (open_type_of c.in-Pi.domain.value)) (open_term_of c.in_ok-arg-in-Pi.arg)) (open_kind_of X)) (sym c.deref-in-Pi-4.ensures) (kind_range_fits c.args.signature.now c.requires.canonical (numbers_of c.args.frees.now) u ak.0 k (open_kind_of c.in-Pi.range.value) ak))
+
+pub elaborate_family-returns-in_ok-spine-in-Pi-clause-ok : goal.elaborate_family-returns-in_ok-spine-in-Pi-clause-ok
+elaborate_family-returns-in_ok-spine-in-Pi-clause-ok t c =
+    let v = ap written_type_of c.in-Applied.is ∙ written_type_of-Applied c.in-Applied.family c.in-Applied.arg ∙ ap₂ family_applied (ap written_type_of (sym c.deref.ensures)) (ap written_of (sym c.deref-in-Pi.ensures)) in
+    let l = c.elaborate_family.ensures.keeps.locals in
+    let x = ap open_kind_of c.in-Pi.is ∙ open_kind_of-Pi c.in-Pi.domain c.in-Pi.range in
+    let j : ElaboratesFamily c.args.signature.now (numbers_of c.args.frees.now) c.args.state.now.locals (written_type_of c.deref.result.now) (made c.args.state.now) (made c.elaborate_family.new.state) c.in_ok-family-in-Applied.family.0 (open_spine_of c.in_ok-family-in-Applied.spine) (kind_pi (open_type_of c.in-Pi.domain.value) (open_kind_of c.in-Pi.range.value)) = subst (ElaboratesFamily c.args.signature.now (numbers_of c.args.frees.now) c.args.state.now.locals (written_type_of c.deref.result.now) (made c.args.state.now) (made c.elaborate_family.new.state) c.in_ok-family-in-Applied.family.0 (open_spine_of c.in_ok-family-in-Applied.spine)) x c.in_ok-family-in-Applied.ensures.ok in
+    let k : Checks c.args.signature.now (numbers_of c.args.frees.now) c.args.state.now.locals (written_of c.deref-in-Pi.result.now) (open_type_of c.in-Pi.domain.value) (made c.elaborate_family.new.state) (made c.check.new.state) (open_term_of c.in_ok-arg-in-Pi.arg) = subst (λ F. Checks c.args.signature.now (numbers_of c.args.frees.now) F (written_of c.deref-in-Pi.result.now) (open_type_of c.in-Pi.domain.value) (made c.elaborate_family.new.state) (made c.check.new.state) (open_term_of c.in_ok-arg-in-Pi.arg)) l (subst (λ X. Checks c.args.signature.now (numbers_of c.args.frees.now) c.elaborate_family.new.state.locals (written_of c.deref-in-Pi.result.now) (open_type_of X) (made c.elaborate_family.new.state) (made c.check.new.state) (open_term_of c.in_ok-arg-in-Pi.arg)) c.deref-in-Pi-2.ensures c.in_ok-arg-in-Pi.ensures.ok) in
+    subst (λ W. ElaboratesFamily c.args.signature.now (numbers_of c.args.frees.now) c.args.state.now.locals W (made c.args.state.now) (made c.check.new.state) c.in_ok-family-in-Applied.family.0 (open_spine_of c.in_ok-spine-in-Pi.spine) (open_kind_of c.in_ok-spine-in-Pi.rest)) (sym v) (family_on_argument c.args.signature.now (numbers_of c.args.frees.now) c.args.state.now.locals (written_type_of c.deref.result.now) (written_of c.deref-in-Pi.result.now) (made c.args.state.now) (made c.elaborate_family.new.state) (made c.check.new.state) c.in_ok-family-in-Applied.family.0 (open_spine_of c.in_ok-family-in-Applied.spine) _ (open_type_of c.in-Pi.domain.value) (open_type_of c.deref-in-Pi-3.result.now) (open_kind_of c.in-Pi.range.value) (open_kind_of c.deref-in-Pi-4.result.now) _ (open_term_of c.in_ok-arg-in-Pi.arg) (ap open_type_of c.deref-in-Pi-3.ensures) (ap open_kind_of c.deref-in-Pi-4.ensures) c.in_ok-spine-in-Pi.ensures.0 c.in_ok-spine-in-Pi.ensures.1 j k)
+
+pub elaborate_family-returns-in_err-expected-in-Ascribed-clause-too_deep : goal.elaborate_family-returns-in_err-expected-in-Ascribed-clause-too_deep
+elaborate_family-returns-in_err-expected-in-Ascribed-clause-too_deep t c = λ is.
+    let v = ap written_type_of c.in-Ascribed.is ∙ written_type_of-Ascribed c.in-Ascribed.family c.in-Ascribed.kind ∙ ap (family_ascribed (written_type_of c.in-Ascribed.family.value)) (ap written_kind_of (sym c.deref-in-Ascribed.ensures)) in
+    subst (λ W. FamilyDeep c.args.signature.now (numbers_of c.args.frees.now) c.args.state.now.locals W (made c.args.state.now)) (sym v) (deep_family_kind (c.in_err-expected-in-Ascribed.ensures.too_deep (fault_of_call c.from_residual-in_err-expected-in-Ascribed.result c.in_err-expected-in-Ascribed.field-0.0 TooDeep (search rules) is)))
+
+pub elaborate_family-elaborate_family-requires-in-Ascribed : goal.elaborate_family-elaborate_family-requires-in-Ascribed
+elaborate_family-elaborate_family-requires-in-Ascribed t c =
+    let l = c.elaborate_kind.ensures.keeps.locals in
+    let i = c.in_ok-expected-in-Ascribed.ensures.ok in
+    (omega arith, (c.requires.canonical, kind_stands c.args.signature.now c.requires.canonical (numbers_of c.args.frees.now) c.requires.stands i c.elaborate_kind.new.state.locals l))
+
+pub elaborate_family-returns-in_err-family-in-Ascribed-clause-too_deep : goal.elaborate_family-returns-in_err-family-in-Ascribed-clause-too_deep
+elaborate_family-returns-in_err-family-in-Ascribed-clause-too_deep t c = λ is.
+    let v = ap written_type_of c.in-Ascribed.is ∙ written_type_of-Ascribed c.in-Ascribed.family c.in-Ascribed.kind ∙ ap₂ family_ascribed (ap written_type_of (sym c.deref-in-Ascribed-2.ensures)) (ap written_kind_of (sym c.deref-in-Ascribed.ensures)) in
+    let l = c.elaborate_kind.ensures.keeps.locals in
+    let i = c.in_ok-expected-in-Ascribed.ensures.ok in
+    subst (λ W. FamilyDeep c.args.signature.now (numbers_of c.args.frees.now) c.args.state.now.locals W (made c.args.state.now)) (sym v) (deep_ascribed_family i (subst (λ F. FamilyDeep c.args.signature.now (numbers_of c.args.frees.now) F (written_type_of c.deref-in-Ascribed-2.result.now) (made c.elaborate_kind.new.state)) l (c.in_err-family-in-Ascribed.ensures.too_deep (fault_of_call c.from_residual-in_err-family-in-Ascribed.result c.in_err-family-in-Ascribed.field-0.0 TooDeep (search rules) is))))
+
+pub elaborate_family-returns-in_err-family-in-Ascribed-clause-keeps : goal.elaborate_family-returns-in_err-family-in-Ascribed-clause-keeps
+elaborate_family-returns-in_err-family-in-Ascribed-clause-keeps t c = keeps_then c.args.state.now c.elaborate_kind.new.state c.elaborate_family-in-Ascribed.new.state c.elaborate_kind.ensures.keeps c.elaborate_family-in-Ascribed.ensures.keeps
+
+pub elaborate_family-compare_ascribed-requires-clause-found : goal.elaborate_family-compare_ascribed-requires-clause-found
+elaborate_family-compare_ascribed-requires-clause-found t c =
+    let l = c.elaborate_kind.ensures.keeps.locals in
+    let i = c.in_ok-expected-in-Ascribed.ensures.ok in
+    let j : ElaboratesFamily c.args.signature.now (numbers_of c.args.frees.now) c.args.state.now.locals (written_type_of c.deref-in-Ascribed-2.result.now) (made c.elaborate_kind.new.state) (made c.elaborate_family-in-Ascribed.new.state) c.in_ok-family-in-Ascribed.family.0 (open_spine_of c.in_ok-family-in-Ascribed.spine) (open_kind_of c.in_ok-family-in-Ascribed.found) = subst (λ F. ElaboratesFamily c.args.signature.now (numbers_of c.args.frees.now) F (written_type_of c.deref-in-Ascribed-2.result.now) (made c.elaborate_kind.new.state) (made c.elaborate_family-in-Ascribed.new.state) c.in_ok-family-in-Ascribed.family.0 (open_spine_of c.in_ok-family-in-Ascribed.spine) (open_kind_of c.in_ok-family-in-Ascribed.found)) l c.in_ok-family-in-Ascribed.ensures.ok in
+    let u = kind_stands c.args.signature.now c.requires.canonical (numbers_of c.args.frees.now) c.requires.stands i c.args.state.now.locals refl in
+    let m = c.elaborate_family-in-Ascribed.ensures.keeps.locals ∙ l in
+    family_found c.args.signature.now c.requires.canonical (numbers_of c.args.frees.now) u j c.elaborate_family-in-Ascribed.new.state.locals m
+
+pub elaborate_family-returns-in_err-compare_ascribed-in-Ascribed-clause-keeps : goal.elaborate_family-returns-in_err-compare_ascribed-in-Ascribed-clause-keeps
+elaborate_family-returns-in_err-compare_ascribed-in-Ascribed-clause-keeps t c = keeps_then c.args.state.now c.elaborate_family-in-Ascribed.new.state c.compare_ascribed.new.state (keeps_then c.args.state.now c.elaborate_kind.new.state c.elaborate_family-in-Ascribed.new.state c.elaborate_kind.ensures.keeps c.elaborate_family-in-Ascribed.ensures.keeps) c.compare_ascribed.ensures.keeps
+
+pub elaborate_family-returns-in_ok-compare_ascribed-in-Ascribed-clause-keeps : goal.elaborate_family-returns-in_ok-compare_ascribed-in-Ascribed-clause-keeps
+elaborate_family-returns-in_ok-compare_ascribed-in-Ascribed-clause-keeps t c = keeps_then c.args.state.now c.elaborate_family-in-Ascribed.new.state c.compare_ascribed.new.state (keeps_then c.args.state.now c.elaborate_kind.new.state c.elaborate_family-in-Ascribed.new.state c.elaborate_kind.ensures.keeps c.elaborate_family-in-Ascribed.ensures.keeps) c.compare_ascribed.ensures.keeps
+
+pub elaborate_family-returns-in_ok-compare_ascribed-in-Ascribed-clause-ok : goal.elaborate_family-returns-in_ok-compare_ascribed-in-Ascribed-clause-ok
+elaborate_family-returns-in_ok-compare_ascribed-in-Ascribed-clause-ok t c =
+    let v = ap written_type_of c.in-Ascribed.is ∙ written_type_of-Ascribed c.in-Ascribed.family c.in-Ascribed.kind ∙ ap₂ family_ascribed (ap written_type_of (sym c.deref-in-Ascribed-2.ensures)) (ap written_kind_of (sym c.deref-in-Ascribed.ensures)) in
+    let l = c.elaborate_kind.ensures.keeps.locals in
+    let i = c.in_ok-expected-in-Ascribed.ensures.ok in
+    let j : ElaboratesFamily c.args.signature.now (numbers_of c.args.frees.now) c.args.state.now.locals (written_type_of c.deref-in-Ascribed-2.result.now) (made c.elaborate_kind.new.state) (made c.elaborate_family-in-Ascribed.new.state) c.in_ok-family-in-Ascribed.family.0 (open_spine_of c.in_ok-family-in-Ascribed.spine) (open_kind_of c.in_ok-family-in-Ascribed.found) = subst (λ F. ElaboratesFamily c.args.signature.now (numbers_of c.args.frees.now) F (written_type_of c.deref-in-Ascribed-2.result.now) (made c.elaborate_kind.new.state) (made c.elaborate_family-in-Ascribed.new.state) c.in_ok-family-in-Ascribed.family.0 (open_spine_of c.in_ok-family-in-Ascribed.spine) (open_kind_of c.in_ok-family-in-Ascribed.found)) l c.in_ok-family-in-Ascribed.ensures.ok in
+    let m = c.elaborate_family-in-Ascribed.ensures.keeps.locals ∙ l in
+    subst (λ W. ElaboratesFamily c.args.signature.now (numbers_of c.args.frees.now) c.args.state.now.locals W (made c.args.state.now) (made c.compare_ascribed.new.state) c.in_ok-family-in-Ascribed.family.0 (open_spine_of c.in_ok-family-in-Ascribed.spine) (open_kind_of c.in_ok-family-in-Ascribed.found)) (sym v) (family_compared c.args.signature.now (numbers_of c.args.frees.now) c.args.state.now.locals (written_type_of c.deref-in-Ascribed-2.result.now) (written_kind_of c.deref-in-Ascribed.result.now) (made c.args.state.now) (made c.elaborate_kind.new.state) c.in_ok-family-in-Ascribed.family.0 (open_spine_of c.in_ok-family-in-Ascribed.spine) (open_kind_of c.in_ok-family-in-Ascribed.found) (open_kind_of c.in_ok-expected-in-Ascribed.expected) c.elaborate_family-in-Ascribed.new.state c.compare_ascribed.new.state m i j c.in_ok-compare_ascribed-in-Ascribed.ensures.product c.in_ok-compare_ascribed-in-Ascribed.ensures.ok)
+
+pub check-returns-in_err-frames-clause-keeps : goal.check-returns-in_err-frames-clause-keeps
+check-returns-in_err-frames-clause-keeps t c = keeps_same c.args.state.now
+
+pub check-returns-in_err-term-in-Free-clause-too_deep : goal.check-returns-in_err-term-in-Free-clause-too_deep
+check-returns-in_err-term-in-Free-clause-too_deep t c = λ is.
+    let n = is_inferred c.args.written.now c.in-Free.is in
+    deep_inferred n (c.in_err-term-in-Free.ensures.too_deep (fault_of_call c.from_residual-in_err-term-in-Free.result c.in_err-term-in-Free.field-0.0 TooDeep (search rules) is))
+
+pub check-compare_types-requires-clause-found : goal.check-compare_types-requires-clause-found
+check-compare_types-requires-clause-found t c =
+    let l = c.infer.ensures.keeps.locals in
+    let i = c.in_ok-term-in-Free.ensures.ok in
+    inferred_type c.args.signature.now c.requires.canonical (numbers_of c.args.frees.now) c.requires.stands i c.infer.new.state.locals l
+
+pub check-returns-in_err-compare_types-in-Free-clause-keeps : goal.check-returns-in_err-compare_types-in-Free-clause-keeps
+check-returns-in_err-compare_types-in-Free-clause-keeps t c = keeps_then c.args.state.now c.infer.new.state c.compare_types.new.state c.infer.ensures.keeps c.compare_types.ensures.keeps
+
+pub check-returns-in_ok-compare_types-in-Free-clause-keeps : goal.check-returns-in_ok-compare_types-in-Free-clause-keeps
+check-returns-in_ok-compare_types-in-Free-clause-keeps t c = keeps_then c.args.state.now c.infer.new.state c.compare_types.new.state c.infer.ensures.keeps c.compare_types.ensures.keeps
+
+pub check-returns-in_ok-compare_types-in-Free-clause-ok : goal.check-returns-in_ok-compare_types-in-Free-clause-ok
+check-returns-in_ok-compare_types-in-Free-clause-ok t c =
+    let n = is_inferred c.args.written.now c.in-Free.is in
+    let l = c.infer.ensures.keeps.locals in
+    let i = c.in_ok-term-in-Free.ensures.ok in
+    inferred_checked c.args.signature.now (numbers_of c.args.frees.now) c.args.state.now.locals (written_of c.args.written.now) (open_term_of c.in_ok-term-in-Free.term) (open_type_of c.in_ok-term-in-Free.found) (open_type_of c.args.expected.now) (made c.args.state.now) c.infer.new.state c.compare_types.new.state n l i c.in_ok-compare_types-in-Free.ensures.ok
+
+pub check-returns-in_ok-checked_hole-in-Hole-clause-ok : goal.check-returns-in_ok-checked_hole-in-Hole-clause-ok
+check-returns-in_ok-checked_hole-in-Hole-clause-ok t c =
+    let v = ap written_of c.in-Hole.is ∙ written_of-Hole c.in-Hole.skeleton c.in-Hole.at in
+    subst (λ W. Checks c.args.signature.now (numbers_of c.args.frees.now) c.args.state.now.locals W (open_type_of c.args.expected.now) (made c.args.state.now) (made c.checked_hole.new.state) (open_term_of c.in_ok-checked_hole-in-Hole.field-0)) (sym v) (c.in_ok-checked_hole-in-Hole.ensures.ok c.args.signature.now (numbers_of c.args.frees.now))
+
+pub check-returns-in-Function-clause-ok : goal.check-returns-in-Function-clause-ok
+check-returns-in-Function-clause-ok t c =
+    let v = ap written_of c.in-Function.is ∙ written_of-Function c.in-Function.domain c.in-Function.body ∙ ap (function (written_domain_of c.in-Function.domain)) (ap written_of (sym c.deref.ensures)) in
+    subst (λ W. IfOk c.check_function.result (λ m. Checks c.args.signature.now (numbers_of c.args.frees.now) c.args.state.now.locals W (open_type_of c.args.expected.now) (made c.args.state.now) (made c.check_function.new.state) (open_term_of m))) (sym v) c.check_function.ensures.ok
+
+pub check-returns-in-Function-clause-too_deep : goal.check-returns-in-Function-clause-too_deep
+check-returns-in-Function-clause-too_deep t c = λ is.
+    let v = ap written_of c.in-Function.is ∙ written_of-Function c.in-Function.domain c.in-Function.body ∙ ap (function (written_domain_of c.in-Function.domain)) (ap written_of (sym c.deref.ensures)) in
+    subst (λ W. ChecksDeep c.args.signature.now (numbers_of c.args.frees.now) c.args.state.now.locals W (open_type_of c.args.expected.now) (made c.args.state.now)) (sym v) (c.check_function.ensures.too_deep is)
+
+pub check_domain-returns-in_err-frames-clause-keeps : goal.check_domain-returns-in_err-frames-clause-keeps
+check_domain-returns-in_err-frames-clause-keeps t c = keeps_same c.args.state.now
+
+pub check_domain-returns-then-has_skeleton-clause-keeps : goal.check_domain-returns-then-has_skeleton-clause-keeps
+check_domain-returns-then-has_skeleton-clause-keeps t c = keeps_same c.args.state.now
+
+pub check_domain-returns-else-has_skeleton-clause-keeps : goal.check_domain-returns-else-has_skeleton-clause-keeps
+check_domain-returns-else-has_skeleton-clause-keeps t c = keeps_same c.args.state.now
+
+pub check_domain-returns-in_err-found-in-OfType-clause-too_deep : goal.check_domain-returns-in_err-found-in-OfType-clause-too_deep
+check_domain-returns-in_err-found-in-OfType-clause-too_deep t c = λ is.
+    let v = ap written_domain_of c.in-OfType.is ∙ written_domain_of-OfType c.in-OfType.ty ∙ ap of_type (ap written_type_of (sym c.deref.ensures)) in
+    subst (λ W. DomainDeep c.args.signature.now (numbers_of c.args.frees.now) c.args.state.now.locals W (made c.args.state.now)) (sym v) (deep_written_domain (c.in_err-found-in-OfType.ensures.too_deep (fault_of_call c.from_residual-in_err-found-in-OfType.result c.in_err-found-in-OfType.field-0.0 TooDeep (search rules) is)))
+
+pub check_domain-compare_types-requires-clause-found : goal.check_domain-compare_types-requires-clause-found
+check_domain-compare_types-requires-clause-found t c =
+    let l = c.elaborate_type.ensures.keeps.locals in
+    let i = c.in_ok-found-in-OfType.ensures.ok in
+    type_found c.args.signature.now c.requires.canonical (numbers_of c.args.frees.now) c.requires.stands i c.elaborate_type.new.state.locals l
+
+pub check_domain-returns-in_err-compare_types-in-OfType-clause-keeps : goal.check_domain-returns-in_err-compare_types-in-OfType-clause-keeps
+check_domain-returns-in_err-compare_types-in-OfType-clause-keeps t c = keeps_then c.args.state.now c.elaborate_type.new.state c.compare_types.new.state c.elaborate_type.ensures.keeps c.compare_types.ensures.keeps
+
+pub check_domain-returns-in_ok-compare_types-in-OfType-clause-keeps : goal.check_domain-returns-in_ok-compare_types-in-OfType-clause-keeps
+check_domain-returns-in_ok-compare_types-in-OfType-clause-keeps t c = keeps_then c.args.state.now c.elaborate_type.new.state c.compare_types.new.state c.elaborate_type.ensures.keeps c.compare_types.ensures.keeps
+
+pub check_domain-returns-then-has_skeleton-clause-ok : goal.check_domain-returns-then-has_skeleton-clause-ok
+check_domain-returns-then-has_skeleton-clause-ok t c =
+    let v = ap written_domain_of c.in-OfSkeleton.is ∙ written_domain_of-OfSkeleton c.in-OfSkeleton.skeleton c.in-OfSkeleton.field-1 in
+    subst (λ W. ChecksDomain c.args.signature.now (numbers_of c.args.frees.now) W (open_type_of c.args.expected.now) c.args.state.now c.args.state.now) (sym v) (sym (c.has_skeleton.ensures.0 c.if-has_skeleton.true), refl)
+
+pub check_domain-returns-in_ok-compare_types-in-OfType-clause-ok : goal.check_domain-returns-in_ok-compare_types-in-OfType-clause-ok
+check_domain-returns-in_ok-compare_types-in-OfType-clause-ok t c =
+    let v = ap written_domain_of c.in-OfType.is ∙ written_domain_of-OfType c.in-OfType.ty ∙ ap of_type (ap written_type_of (sym c.deref.ensures)) in
+    let l = c.elaborate_type.ensures.keeps.locals in
+    let i = c.in_ok-found-in-OfType.ensures.ok in
+    subst (λ W. ChecksDomain c.args.signature.now (numbers_of c.args.frees.now) W (open_type_of c.args.expected.now) c.args.state.now c.compare_types.new.state) (sym v) (domain_compared c.args.signature.now (numbers_of c.args.frees.now) c.args.state.now.locals (written_type_of c.deref.result.now) (open_type_of c.in_ok-found-in-OfType.found) (open_type_of c.args.expected.now) c.args.state.now c.elaborate_type.new.state c.compare_types.new.state refl l i c.in_ok-compare_types-in-OfType.ensures.ok)
+
+pub check_function-returns-in-Atom-clause-keeps : goal.check_function-returns-in-Atom-clause-keeps
+check_function-returns-in-Atom-clause-keeps t c = keeps_same c.args.state.now
+
+pub check_function-returns-in_err-check_domain-in-Pi-clause-too_deep : goal.check_function-returns-in_err-check_domain-in-Pi-clause-too_deep
+check_function-returns-in_err-check_domain-in-Pi-clause-too_deep t c = λ is.
+    let x : (open_type_of c.args.expected.now) ≡ pi (open_type_of c.in-Pi.expected.value) (open_type_of c.in-Pi.range.value) = ap open_type_of c.in-Pi.is ∙ open_type_of-Pi c.in-Pi.expected c.in-Pi.range in
+    annotation_deep c.args.signature.now (numbers_of c.args.frees.now) c.args.state.now.locals (written_domain_of c.args.domain.now) (written_of c.args.body.now) (open_type_of c.in-Pi.expected.value) (open_type_of c.in-Pi.range.value) (open_type_of c.args.expected.now) (made c.args.state.now) x (c.in_err-check_domain-in-Pi.ensures.too_deep (fault_of_call c.from_residual.result c.in_err-check_domain-in-Pi.field-0.0 TooDeep (search rules) is))
+
+pub check_function-check-checked-requires : goal.check_function-check-checked-requires
+check_function-check-checked-requires t c =
+    let x : (open_type_of c.args.expected.now) ≡ pi (open_type_of c.in-Pi.expected.value) (open_type_of c.in-Pi.range.value) = ap open_type_of c.in-Pi.is ∙ open_type_of-Pi c.in-Pi.expected c.in-Pi.range in
+    let l = c.check_domain.ensures.keeps.locals in
+    let kd : ChecksDomain c.args.signature.now (numbers_of c.args.frees.now) (written_domain_of c.args.domain.now) (open_type_of c.in-Pi.expected.value) c.args.state.now c.check_domain.new.state = subst (λ Z. ChecksDomain c.args.signature.now (numbers_of c.args.frees.now) (written_domain_of c.args.domain.now) (open_type_of Z) c.args.state.now c.check_domain.new.state) c.deref.ensures c.in_ok-check_domain-in-Pi.ensures.ok in
+    let cp : open_type_of c.in_ok-copy-in-Pi.field-0 ≡ (open_type_of c.in-Pi.expected.value) = c.in_ok-copy-in-Pi.ensures ∙ ap open_type_of c.deref-in-Pi.ensures in
+    let e : c.push.new.self ≡ (open_type_of c.in-Pi.expected.value) ∷ c.args.state.now.locals = in_scope c.args.state.now.locals c.push.new.self c.check_domain.new.state.locals (open_type_of c.in-Pi.expected.value) (open_type_of c.in_ok-copy-in-Pi.field-0) c.in_ok-push-in-Pi.ensures.ok cp l in
+    let ab : TypeHasSkeletons (signature_of c.args.signature.now) (made c.args.state.now) c.args.state.now.locals (pi (open_type_of c.in-Pi.expected.value) (open_type_of c.in-Pi.range.value)) = subst (TypeHasSkeletons (signature_of c.args.signature.now) (made c.args.state.now) c.args.state.now.locals) x c.requires.expected in
+    let q = domain_checked c.args.signature.now (numbers_of c.args.frees.now) c.requires.canonical c.args.state.now c.check_domain.new.state (written_domain_of c.args.domain.now) (open_type_of c.in-Pi.expected.value) (pi (open_type_of c.in-Pi.expected.value) (open_type_of c.in-Pi.range.value)) kd c.requires.stands ab.0 ab in
+    (omega arith, (c.requires.canonical, (under_stands c.args.signature.now c.requires.canonical (numbers_of c.args.frees.now) (made c.check_domain.new.state) c.args.state.now.locals c.push.new.self (open_type_of c.in-Pi.expected.value) e q.0 q.1.0, subst (λ F. TypeHasSkeletons (signature_of c.args.signature.now) (made c.check_domain.new.state) F (open_type_of c.deref-in-Pi-2.result.now)) (sym e) (subst (λ Z. TypeHasSkeletons (signature_of c.args.signature.now) (made c.check_domain.new.state) ((open_type_of c.in-Pi.expected.value) ∷ c.args.state.now.locals) (open_type_of Z)) (sym c.deref-in-Pi-2.ensures) q.1.1))))
+
+pub check_function-returns-in_err-checked-in-Pi-clause-too_deep : goal.check_function-returns-in_err-checked-in-Pi-clause-too_deep
+check_function-returns-in_err-checked-in-Pi-clause-too_deep t c = λ is.
+    let x : (open_type_of c.args.expected.now) ≡ pi (open_type_of c.in-Pi.expected.value) (open_type_of c.in-Pi.range.value) = ap open_type_of c.in-Pi.is ∙ open_type_of-Pi c.in-Pi.expected c.in-Pi.range in
+    let l = c.check_domain.ensures.keeps.locals in
+    let kd : ChecksDomain c.args.signature.now (numbers_of c.args.frees.now) (written_domain_of c.args.domain.now) (open_type_of c.in-Pi.expected.value) c.args.state.now c.check_domain.new.state = subst (λ Z. ChecksDomain c.args.signature.now (numbers_of c.args.frees.now) (written_domain_of c.args.domain.now) (open_type_of Z) c.args.state.now c.check_domain.new.state) c.deref.ensures c.in_ok-check_domain-in-Pi.ensures.ok in
+    let cp : open_type_of c.in_ok-copy-in-Pi.field-0 ≡ (open_type_of c.in-Pi.expected.value) = c.in_ok-copy-in-Pi.ensures ∙ ap open_type_of c.deref-in-Pi.ensures in
+    let e : c.push.new.self ≡ (open_type_of c.in-Pi.expected.value) ∷ c.args.state.now.locals = in_scope c.args.state.now.locals c.push.new.self c.check_domain.new.state.locals (open_type_of c.in-Pi.expected.value) (open_type_of c.in_ok-copy-in-Pi.field-0) c.in_ok-push-in-Pi.ensures.ok cp l in
+    body_deep c.args.signature.now (numbers_of c.args.frees.now) c.args.state.now c.check_domain.new.state (written_domain_of c.args.domain.now) c.push.new.self (written_of c.args.body.now) (open_type_of c.in-Pi.expected.value) (open_type_of c.in-Pi.range.value) (open_type_of c.args.expected.now) e x kd (subst (λ Z. ChecksDeep c.args.signature.now (numbers_of c.args.frees.now) c.push.new.self (written_of c.args.body.now) (open_type_of Z) (made c.check_domain.new.state)) c.deref-in-Pi-2.ensures (c.in_err-checked-in-Pi.ensures.too_deep (fault_of_call c.from_residual-in_err-checked-in-Pi.result c.in_err-checked-in-Pi.field-0.0 TooDeep (search rules) is)))
+
+pub check_function-returns-in_err-checked-in-Pi-clause-keeps : goal.check_function-returns-in_err-checked-in-Pi-clause-keeps
+check_function-returns-in_err-checked-in-Pi-clause-keeps t c =
+    let cp : open_type_of c.in_ok-copy-in-Pi.field-0 ≡ (open_type_of c.in-Pi.expected.value) = c.in_ok-copy-in-Pi.ensures ∙ ap open_type_of c.deref-in-Pi.ensures in
+    let p : c.push.new.self ≡ (open_type_of c.in-Pi.expected.value) ∷ c.check_domain.new.state.locals = in_scope c.check_domain.new.state.locals c.push.new.self c.check_domain.new.state.locals (open_type_of c.in-Pi.expected.value) (open_type_of c.in_ok-copy-in-Pi.field-0) c.in_ok-push-in-Pi.ensures.ok cp refl in
+    keeps_under (open_type_of c.in-Pi.expected.value) c.check_domain.ensures.keeps p refl c.check-checked.ensures.keeps c.pop.ensures.rest refl
+
+pub check_function-returns-in_err-lambda-in-Pi-clause-keeps : goal.check_function-returns-in_err-lambda-in-Pi-clause-keeps
+check_function-returns-in_err-lambda-in-Pi-clause-keeps t c =
+    let cp : open_type_of c.in_ok-copy-in-Pi.field-0 ≡ (open_type_of c.in-Pi.expected.value) = c.in_ok-copy-in-Pi.ensures ∙ ap open_type_of c.deref-in-Pi.ensures in
+    let p : c.push.new.self ≡ (open_type_of c.in-Pi.expected.value) ∷ c.check_domain.new.state.locals = in_scope c.check_domain.new.state.locals c.push.new.self c.check_domain.new.state.locals (open_type_of c.in-Pi.expected.value) (open_type_of c.in_ok-copy-in-Pi.field-0) c.in_ok-push-in-Pi.ensures.ok cp refl in
+    keeps_under (open_type_of c.in-Pi.expected.value) c.check_domain.ensures.keeps p refl c.check-checked.ensures.keeps c.pop.ensures.rest refl
+
+pub check_function-returns-in_ok-lambda-in-Pi-clause-keeps : goal.check_function-returns-in_ok-lambda-in-Pi-clause-keeps
+check_function-returns-in_ok-lambda-in-Pi-clause-keeps t c =
+    let cp : open_type_of c.in_ok-copy-in-Pi.field-0 ≡ (open_type_of c.in-Pi.expected.value) = c.in_ok-copy-in-Pi.ensures ∙ ap open_type_of c.deref-in-Pi.ensures in
+    let p : c.push.new.self ≡ (open_type_of c.in-Pi.expected.value) ∷ c.check_domain.new.state.locals = in_scope c.check_domain.new.state.locals c.push.new.self c.check_domain.new.state.locals (open_type_of c.in-Pi.expected.value) (open_type_of c.in_ok-copy-in-Pi.field-0) c.in_ok-push-in-Pi.ensures.ok cp refl in
+    keeps_under (open_type_of c.in-Pi.expected.value) c.check_domain.ensures.keeps p refl c.check-checked.ensures.keeps c.pop.ensures.rest refl
+
+pub check_function-returns-in_ok-lambda-in-Pi-clause-ok : goal.check_function-returns-in_ok-lambda-in-Pi-clause-ok
+check_function-returns-in_ok-lambda-in-Pi-clause-ok t c =
+    let x : (open_type_of c.args.expected.now) ≡ pi (open_type_of c.in-Pi.expected.value) (open_type_of c.in-Pi.range.value) = ap open_type_of c.in-Pi.is ∙ open_type_of-Pi c.in-Pi.expected c.in-Pi.range in
+    let l = c.check_domain.ensures.keeps.locals in
+    let kd : ChecksDomain c.args.signature.now (numbers_of c.args.frees.now) (written_domain_of c.args.domain.now) (open_type_of c.in-Pi.expected.value) c.args.state.now c.check_domain.new.state = subst (λ Z. ChecksDomain c.args.signature.now (numbers_of c.args.frees.now) (written_domain_of c.args.domain.now) (open_type_of Z) c.args.state.now c.check_domain.new.state) c.deref.ensures c.in_ok-check_domain-in-Pi.ensures.ok in
+    let cp : open_type_of c.in_ok-copy-in-Pi.field-0 ≡ (open_type_of c.in-Pi.expected.value) = c.in_ok-copy-in-Pi.ensures ∙ ap open_type_of c.deref-in-Pi.ensures in
+    let e : c.push.new.self ≡ (open_type_of c.in-Pi.expected.value) ∷ c.args.state.now.locals = in_scope c.args.state.now.locals c.push.new.self c.check_domain.new.state.locals (open_type_of c.in-Pi.expected.value) (open_type_of c.in_ok-copy-in-Pi.field-0) c.in_ok-push-in-Pi.ensures.ok cp l in
+    function_checked c.args.signature.now (numbers_of c.args.frees.now) c.args.state.now c.check_domain.new.state (written_domain_of c.args.domain.now) c.push.new.self (written_of c.args.body.now) (open_type_of c.in-Pi.expected.value) (open_type_of c.in-Pi.range.value) (open_type_of c.args.expected.now) (made c.check-checked.new.state) (open_term_of c.in_ok-checked-in-Pi.field-0) _ e x c.in_ok-lambda-in-Pi.ensures kd (subst (λ Z. Checks c.args.signature.now (numbers_of c.args.frees.now) c.push.new.self (written_of c.args.body.now) (open_type_of Z) (made c.check_domain.new.state) (made c.check-checked.new.state) (open_term_of c.in_ok-checked-in-Pi.field-0)) c.deref-in-Pi-2.ensures c.in_ok-checked-in-Pi.ensures.ok)

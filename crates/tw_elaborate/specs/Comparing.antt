@@ -1,0 +1,50 @@
+-- Two types or kinds compared, between the values of the program before and after.
+use Rattle.std.specs.Prelude.{◌≡◌, ℕ, zero, List, [], ◌∷◌, Option}
+use Rattle.lf.specs.Entries.{Entry, signature_of}
+use Rattle.lf.specs.SkeletonTyping.{HeadSkeletons, KindBySkeletons, SpineSkeleton}
+use Rattle.lf.specs.Syntax.{Kind, LfType, Skeleton, Spine, Term, kind_pi, kind_skeleton, skeleton}
+use Rattle.lf.specs.Typing.{Signature, instantiate_kind}
+use Rattle.elaboration.specs.Elaboration.{ElaboratesType}
+use Rattle.elaboration.specs.State.{State, kind_equations, type_equations, with_equations}
+use Rattle.elaboration.specs.Written.{WrittenDomain, of_skeleton, of_type}
+use Rattle.unification.specs.Patterns.{local_skeletons}
+use Rattle.tw_elaborate.specs.declared.state.Elaboration.{Elaboration}
+use Rattle.tw_elaborate.specs.View.{made}
+
+-- the types have one skeleton, and their equations were added
+pub record ComparesTypes (Σ : Signature) (A X : LfType) (old new : Elaboration) : Type 0 where
+  pub same : skeleton A ≡ skeleton X
+  pub state : made new ≡ with_equations (type_equations Σ old.locals A X) (made old)
+
+-- and of kinds
+pub record ComparesKinds (Σ : Signature) (K L : Kind) (old new : Elaboration) : Type 0 where
+  pub same : kind_skeleton zero K ≡ kind_skeleton zero L
+  pub state : made new ≡ with_equations (kind_equations Σ old.locals K L) (made old)
+
+-- skeletons type the kind in the local context, and the arguments, as far as they go
+pub record SpineStands (s : State) (D : List LfType) (K : Kind) (S : Spine) : Type 0 where
+  pub families : ℕ → Option Skeleton
+  pub heads : HeadSkeletons
+  pub family : ℕ
+  pub result : Skeleton
+  pub kind_typed : KindBySkeletons families heads (local_skeletons D []) K
+  pub spine_typed : SpineSkeleton heads (local_skeletons D []) S (kind_skeleton family K) result
+
+-- the kind K takes M, whose equation with N was added, and L is left
+pub record TakesBoth (K : Kind) (M N : Term) (L : Kind) (old new : Elaboration) : Type 0 where
+  pub domain : LfType
+  pub range : Kind
+  pub is : K ≡ kind_pi domain range
+  pub state : made new ≡ with_equations (record { local = old.locals; left = M; right = N; of_type = domain } ∷ []) (made old)
+  pub left_over : L ≡ instantiate_kind domain M range
+
+-- where a type is written at a binder, it was compared with the expected one; else the skeleton is the one of the expected type
+abbrev pub ChecksDomain : List Entry → List ℕ → WrittenDomain → LfType → Elaboration → Elaboration → Type 0
+ChecksDomain es frees (of_skeleton t) A old new = (t ≡ skeleton A) × (made new ≡ made old)
+ChecksDomain es frees (of_type U) A old new = (s : State) × (X : LfType) × ElaboratesType es frees old.locals U (made old) s X × (skeleton X ≡ skeleton A) × (made new ≡ with_equations (type_equations (signature_of es) old.locals X A) s)
+
+-- the kind takes an argument
+pub record IsProduct (K : Kind) : Type 0 where
+  pub domain : LfType
+  pub range : Kind
+  pub is : K ≡ kind_pi domain range

@@ -1,0 +1,44 @@
+-- What elaboration asks of what was made so far: that skeletons type it.
+use Rattle.std.specs.Prelude.{ℕ, List, Option}
+use Rattle.lf.specs.SkeletonTyping.{HeadSkeletons, KindBySkeletons, SpineSkeleton, SubstitutionBySkeletons, TermSkeleton}
+use Rattle.lf.specs.Substitution.{Image}
+use Rattle.lf.specs.Syntax.{Kind, LfType, Skeleton, Spine, Term}
+use Rattle.lf.specs.Typing.{IsSignature, Signature}
+use Rattle.elaboration.specs.Skeletons.{KindHasSkeletons, LocalHasSkeletons, StateHasSkeletons, TypeHasSkeletons}
+use Rattle.elaboration.specs.State.{State}
+
+-- what was made, and the local context
+pub record Stands (Σ : Signature) (s : State) (D : List LfType) : Type 0 where
+  pub state : StateHasSkeletons Σ s
+  pub local : LocalHasSkeletons Σ s D
+
+-- a type over them, in some signature
+pub record TypeStands (s : State) (D : List LfType) (A : LfType) : Type 0 where
+  pub signature : Signature
+  pub typed_signature : IsSignature signature
+  pub stands : Stands signature s D
+  pub of_type : TypeHasSkeletons signature s D A
+
+-- and a kind
+pub record KindStands (s : State) (D : List LfType) (K : Kind) : Type 0 where
+  pub signature : Signature
+  pub typed_signature : IsSignature signature
+  pub stands : Stands signature s D
+  pub of_kind : KindHasSkeletons signature s D K
+
+-- the kind has skeletons in a context that σ takes to another one
+pub record KindFits (σ : ℕ → Image) (K : Kind) : Type 0 where
+  pub families : ℕ → Option Skeleton
+  pub heads : HeadSkeletons
+  pub context : List Skeleton
+  pub target : List Skeleton
+  pub substitution_typed : SubstitutionBySkeletons heads context target σ
+  pub kind_typed : KindBySkeletons families heads context K
+
+-- the term has this skeleton, and the spine gives it some of its arguments
+pub record GivesArguments (a : Skeleton) (N : Term) (S : Spine) : Type 0 where
+  pub heads : HeadSkeletons
+  pub context : List Skeleton
+  pub result : Skeleton
+  pub term_typed : TermSkeleton heads context N a
+  pub spine_typed : SpineSkeleton heads context S a result

@@ -1,0 +1,195 @@
+//! New metavariables: one, for the arguments of a type or a kind, and the most general types of skeletons.
+ghost use Rattle.std.specs.Prelude.{◌≡◌, IfOk, option_map};
+ghost use Rattle.lf.specs.Entries.{signature_of, IsCanonicalSignature};
+ghost use Rattle.lf.specs.Syntax.{base};
+ghost use Rattle.elaboration.specs.Elaboration.{KindTakesNew, NewType, TakesAllNew, TakesNew};
+ghost use Rattle.tw_terms.specs.OpenView.{open_spine_of, open_term_of, open_type_of};
+ghost use Rattle.tw_terms.specs.View.{kind_of, skeleton_of};
+ghost use Rattle.tw_elaborate.specs.Fits.{KindStands, Stands, TypeStands};
+ghost use Rattle.tw_elaborate.specs.Fresh.{IsNew, Keeps, KindTakesOne, TakesOne};
+ghost use Rattle.tw_elaborate.specs.View.{made, open_kind_of};
+
+use crate::expand::{closed_over, expanded, local_arguments, pi};
+use crate::frames::nested;
+use crate::kinds::{instantiate_kind, open_kind};
+use crate::state::{Elaboration, OpenKind};
+use std::alloc::{AllocError, Global};
+use tw_putting::instantiate;
+use tw_signature::{Body, Signature};
+use tw_terms::{ConstId, Kind, Open, OpenContext, OpenHead, OpenSpine, OpenTy, Skeleton};
+
+/// A new metavariable for a term of this type, at the variables in scope. Fails only for want of memory.
+pub fn new_term(alloc: Global, state: &mut Elaboration, ty: &OpenTy) -> Result<Open, AllocError>
+    ensures ok { IfOk result (λ m. IsNew (open_type_of ty.now) (open_term_of m) state.old state.new) }
+    ensures keeps { Keeps state.old state.new }
+{
+    let copied = ty.copy(alloc)?;
+    let closed = closed_over(alloc, &state.locals, copied)?;
+    let spine = local_arguments(alloc, &state.locals)?;
+    let meta = state.store.fresh(OpenContext::new(alloc), closed)?;
+    expanded(alloc, OpenHead::Meta(meta), &spine, ty)
+}
+
+/// A new metavariable for the first argument of the type, and the type that is left. An atom takes none, and memory counts as used up.
+fn take_one(
+    alloc: Global,
+    state: &mut Elaboration,
+    ty: OpenTy,
+) -> Result<(Open, OpenTy), AllocError>
+    requires { TypeStands (made state.old) state.old.locals (open_type_of ty) }
+    ensures ok { IfOk result (λ p. TakesOne (open_type_of ty) (open_term_of p.0) (open_type_of p.1) state.old state.new) }
+    ensures keeps { Keeps state.old state.new }
+{
+    match ty {
+        OpenTy::Pi(domain, range) => {
+            let arg = new_term(alloc, state, &domain)?;
+            let rest = instantiate(alloc, &range, &arg, &domain)?;
+            Ok((arg, rest))
+        }
+        OpenTy::Atom(_, _) => Err(AllocError),
+    }
+}
+
+/// New metavariables for the first `count` arguments of the type, and the type that is left.
+pub fn take_new(
+    alloc: Global,
+    state: &mut Elaboration,
+    count: u64,
+    ty: OpenTy,
+) -> Result<(OpenSpine, OpenTy), AllocError>
+    requires { TypeStands (made state.old) state.old.locals (open_type_of ty) }
+    ensures ok { IfOk result (λ p. TakesNew count state.old.locals (open_type_of ty) (made state.old) (made state.new) (open_spine_of p.0) (open_type_of p.1)) }
+    ensures keeps { Keeps state.old state.new }
+{
+    let mut args = Vec::new(alloc);
+    let mut rest = ty;
+    for _ in 0..count {
+        let (arg, range) = take_one(alloc, state, rest)?;
+        args.push(arg)?;
+        rest = range;
+    }
+    Ok((OpenSpine { args }, rest))
+}
+
+/// The same of the first argument of a kind. `type` takes none, and memory counts as used up.
+fn kind_take_one(
+    alloc: Global,
+    state: &mut Elaboration,
+    kind: OpenKind,
+) -> Result<(Open, OpenKind), AllocError>
+    requires { KindStands (made state.old) state.old.locals (open_kind_of kind) }
+    ensures ok { IfOk result (λ p. KindTakesOne (open_kind_of kind) (open_term_of p.0) (open_kind_of p.1) state.old state.new) }
+    ensures keeps { Keeps state.old state.new }
+{
+    match kind {
+        OpenKind::Pi(domain, range) => {
+            let arg = new_term(alloc, state, &domain)?;
+            let rest = instantiate_kind(alloc, &range, 0, &arg, &domain)?;
+            Ok((arg, rest))
+        }
+        OpenKind::Star => Err(AllocError),
+    }
+}
+
+/// New metavariables for the first `count` arguments of the kind, and the kind that is left.
+pub fn kind_take_new(
+    alloc: Global,
+    state: &mut Elaboration,
+    count: u64,
+    kind: OpenKind,
+) -> Result<(OpenSpine, OpenKind), AllocError>
+    requires { KindStands (made state.old) state.old.locals (open_kind_of kind) }
+    ensures ok { IfOk result (λ p. KindTakesNew count state.old.locals (open_kind_of kind) (made state.old) (made state.new) (open_spine_of p.0) (open_kind_of p.1)) }
+    ensures keeps { Keeps state.old state.new }
+{
+    let mut args = Vec::new(alloc);
+    let mut rest = kind;
+    for _ in 0..count {
+        let (arg, range) = kind_take_one(alloc, state, rest)?;
+        args.push(arg)?;
+        rest = range;
+    }
+    Ok((OpenSpine { args }, rest))
+}
+
+/// New metavariables for all arguments of the kind.
+pub fn take_all_new(
+    alloc: Global,
+    state: &mut Elaboration,
+    kind: OpenKind,
+) -> Result<OpenSpine, AllocError>
+    requires { KindStands (made state.old) state.old.locals (open_kind_of kind) }
+    ensures ok { IfOk result (λ s. TakesAllNew state.old.locals (open_kind_of kind) (made state.old) (made state.new) (open_spine_of s)) }
+    ensures keeps { Keeps state.old state.new }
+{
+    let mut args = Vec::new(alloc);
+    let mut rest = kind;
+    for _ in 0..u64::MAX {
+        match rest {
+            OpenKind::Star => return Ok(OpenSpine { args }),
+            OpenKind::Pi(_, _) => {
+                let (arg, range) = kind_take_one(alloc, state, rest)?;
+                args.push(arg)?;
+                rest = range;
+            }
+        }
+    }
+    Err(AllocError)
+}
+
+/// The kind of a declared family.
+pub fn family_kind(signature: &Signature, id: ConstId) -> Option<&Kind>
+    ensures { option_map (λ k. kind_of k.now) result ≡ (signature_of signature.now).kinds id.0 }
+{
+    match &signature.entry(id)?.body {
+        Body::Family(kind) => Some(kind),
+        Body::Constant(_) | Body::Defined { .. } => None,
+    }
+}
+
+/// The most general type of the skeleton: its families on new metavariables. Where one isn't declared, memory counts as used up.
+pub fn new_type(
+    alloc: Global,
+    signature: &Signature,
+    state: &mut Elaboration,
+    skeleton: &Skeleton,
+    frames: u32,
+) -> Result<OpenTy, AllocError>
+    requires canonical { IsCanonicalSignature signature.now }
+    requires stands { Stands (signature_of signature.now) (made state.old) state.old.locals }
+    ensures ok { IfOk result (λ a. NewType signature.now state.old.locals (skeleton_of skeleton.now) (made state.old) (made state.new) (open_type_of a)) }
+    ensures keeps { Keeps state.old state.new }
+{
+    let frames = nested(frames)?;
+    match skeleton {
+        Skeleton::Base(family) => new_atom(alloc, signature, state, *family),
+        Skeleton::Arrow(domain, range) => {
+            let domain = new_type(alloc, signature, state, domain, frames)?;
+            state.locals.push(domain.copy(alloc)?)?;
+            let range = new_type(alloc, signature, state, range, frames);
+            state.locals.pop();
+            pi(alloc, domain, range?)
+        }
+    }
+}
+
+/// A family on new metavariables.
+fn new_atom(
+    alloc: Global,
+    signature: &Signature,
+    state: &mut Elaboration,
+    family: ConstId,
+) -> Result<OpenTy, AllocError>
+    requires canonical { IsCanonicalSignature signature.now }
+    requires stands { Stands (signature_of signature.now) (made state.old) state.old.locals }
+    ensures ok { IfOk result (λ a. NewType signature.now state.old.locals (base family.0) (made state.old) (made state.new) (open_type_of a)) }
+    ensures keeps { Keeps state.old state.new }
+{
+    match family_kind(signature, family) {
+        Some(kind) => {
+            let spine = take_all_new(alloc, state, open_kind(alloc, kind)?)?;
+            Ok(OpenTy::Atom(family, spine))
+        }
+        None => Err(AllocError),
+    }
+}

@@ -1,0 +1,205 @@
+//! Names in terms and types, with their types: free variables, variables in scope, constants, definitions and families.
+ghost use Rattle.std.specs.Prelude.{◌≡◌, List, ℕ, IfOk, IsErrOf};
+ghost use Rattle.lf.specs.Depth.{depth_limit};
+ghost use Rattle.lf.specs.Entries.{Entry as Entered, signature_of, IsCanonicalSignature};
+ghost use Rattle.lf.specs.Substitution.{reduce};
+ghost use Rattle.lf.specs.Syntax.{skeleton};
+ghost use Rattle.elaboration.specs.Elaboration.{ElaboratesFamily, Infers};
+ghost use Rattle.elaboration.specs.Written.{bound as bound_variable, declared as declared_name, family as family_name, free as free_name};
+ghost use Rattle.tw_terms.specs.OpenView.{open_spine_of, open_term_of, open_type_of};
+ghost use Rattle.tw_elaborate.specs.Deep.{InfersDeep, TakesDeep};
+ghost use Rattle.tw_elaborate.specs.Fits.{GivesArguments, Stands};
+ghost use Rattle.tw_elaborate.specs.Fresh.{Keeps};
+ghost use Rattle.tw_elaborate.specs.View.{made, numbers_of, open_kind_of};
+
+use crate::expand::expanded;
+use crate::fault::ElaborateFault;
+use crate::fresh::{kind_take_new, take_new};
+use crate::kinds::open_kind;
+use crate::state::{Elaboration, OpenKind};
+use std::alloc::{AllocError, Global};
+use tw_lexer::Place;
+use tw_putting::{open_term, open_type, shift_type, substitute};
+use tw_signature::{Body, Signature};
+use tw_terms::{ConstId, MetaId, Open, OpenHead, OpenSpine, OpenTy};
+
+/// A free variable at a place of the text, and its type.
+#[inline(never)]
+pub fn free(
+    alloc: Global,
+    frees: &[MetaId],
+    state: &mut Elaboration,
+    variable: u64,
+    at: Place,
+) -> Result<(Open, OpenTy), AllocError>
+    ensures ok { IfOk result (λ p. (es : List Entered) → Infers es (numbers_of frees.now) state.old.locals (free_name variable) (made state.old) (made state.new) (open_term_of p.0) (open_type_of p.1)) }
+    ensures keeps { Keeps state.old state.new }
+{
+    let found = free_variable(alloc, frees, state, variable)?;
+    state.come_to_free(variable, at)?;
+    Ok(found)
+}
+
+/// A free variable, which is a metavariable in the empty context, and its type. Where there is no such one, memory counts as used up.
+fn free_variable(
+    alloc: Global,
+    frees: &[MetaId],
+    state: &Elaboration,
+    variable: u64,
+) -> Result<(Open, OpenTy), AllocError>
+    ensures { IfOk result (λ p. (es : List Entered) → Infers es (numbers_of frees.now) state.now.locals (free_name variable) (made state.now) (made state.now) (open_term_of p.0) (open_type_of p.1)) }
+{
+    let Some(meta) = frees.get(variable as usize) else {
+        return Err(AllocError);
+    };
+    let Some((_, ty)) = state.store.about(*meta) else {
+        return Err(AllocError);
+    };
+    let spine = OpenSpine {
+        args: Vec::new(alloc),
+    };
+    let term = expanded(alloc, OpenHead::Meta(*meta), &spine, ty)?;
+    Ok((term, shift_type(alloc, ty, state.locals.len() as u64, 0)?))
+}
+
+/// A variable in scope and its type. Where there is no such one, memory counts as used up.
+#[inline(never)]
+pub fn bound(
+    alloc: Global,
+    state: &Elaboration,
+    variable: u64,
+) -> Result<(Open, OpenTy), AllocError>
+    ensures { IfOk result (λ p. (es : List Entered) (numbers : List ℕ) → Infers es numbers state.now.locals (bound_variable variable) (made state.now) (made state.now) (open_term_of p.0) (open_type_of p.1)) }
+{
+    let Some(ty) = state.locals.get(variable) else {
+        return Err(AllocError);
+    };
+    let by = variable.checked_add(1).ok_or(AllocError)?;
+    let ty = shift_type(alloc, ty, by, 0)?;
+    let spine = OpenSpine {
+        args: Vec::new(alloc),
+    };
+    Ok((expanded(alloc, OpenHead::Var(variable), &spine, &ty)?, ty))
+}
+
+/// A constant at a place of the text, or the term that a definition stands for, on new metavariables for its implicit arguments.
+#[inline(never)]
+pub fn declared(
+    alloc: Global,
+    signature: &Signature,
+    state: &mut Elaboration,
+    id: ConstId,
+    at: Place,
+) -> Result<(Open, OpenTy), ElaborateFault>
+    requires canonical { IsCanonicalSignature signature.now }
+    requires stands { Stands (signature_of signature.now) (made state.old) state.old.locals }
+    ensures ok { IfOk result (λ p. (numbers : List ℕ) → Infers signature.now numbers state.old.locals (declared_name id.0) (made state.old) (made state.new) (open_term_of p.0) (open_type_of p.1)) }
+    ensures too_deep { IsErrOf result ElaborateFault.TooDeep → (numbers : List ℕ) → InfersDeep signature.now numbers state.old.locals (declared_name id.0) (made state.old) }
+    ensures keeps { Keeps state.old state.new }
+{
+    state.come_to(at)?;
+    constant(alloc, signature, state, id)
+}
+
+/// A constant, or the term that a definition stands for. Where there is no such one, memory counts as used up.
+fn constant(
+    alloc: Global,
+    signature: &Signature,
+    state: &mut Elaboration,
+    id: ConstId,
+) -> Result<(Open, OpenTy), ElaborateFault>
+    requires canonical { IsCanonicalSignature signature.now }
+    requires stands { Stands (signature_of signature.now) (made state.old) state.old.locals }
+    ensures ok { IfOk result (λ p. (numbers : List ℕ) → Infers signature.now numbers state.old.locals (declared_name id.0) (made state.old) (made state.new) (open_term_of p.0) (open_type_of p.1)) }
+    ensures too_deep { IsErrOf result ElaborateFault.TooDeep → (numbers : List ℕ) → InfersDeep signature.now numbers state.old.locals (declared_name id.0) (made state.old) }
+    ensures keeps { Keeps state.old state.new }
+{
+    let Some(entry) = signature.entry(id) else {
+        return Err(ElaborateFault::NoMemory);
+    };
+    let implicit = entry.implicit as u64;
+    match &entry.body {
+        Body::Constant(ty) => {
+            let ty = open_type(alloc, ty)?;
+            let (spine, rest) = take_new(alloc, state, implicit, ty)?;
+            Ok((expanded(alloc, OpenHead::Const(id), &spine, &rest)?, rest))
+        }
+        Body::Defined {
+            term,
+            ty,
+            abbrev: _,
+        } => {
+            let whole = open_type(alloc, ty)?;
+            let (spine, rest) = take_new(alloc, state, implicit, open_type(alloc, ty)?)?;
+            let term = on_arguments(alloc, open_term(alloc, term)?, &spine, &whole)?;
+            Ok((term, rest))
+        }
+        Body::Family(_) => Err(ElaborateFault::NoMemory),
+    }
+}
+
+/// The term, which has the skeleton of the type, on some of its arguments: each takes a lambda away.
+fn on_arguments(
+    alloc: Global,
+    term: Open,
+    spine: &OpenSpine,
+    ty: &OpenTy,
+) -> Result<Open, ElaborateFault>
+    requires { GivesArguments (skeleton (open_type_of ty.now)) (open_term_of term) (open_spine_of spine.now) }
+    ensures ok { IfOk result (λ m. open_term_of m ≡ reduce (skeleton (open_type_of ty.now)) (open_term_of term) (open_spine_of spine.now)) }
+    ensures too_deep { IsErrOf result ElaborateFault.TooDeep → TakesDeep depth_limit (skeleton (open_type_of ty.now)) (open_term_of term) (open_spine_of spine.now) }
+{
+    let mut body = term;
+    let mut rest = ty;
+    for arg in &spine.args {
+        match (body, rest) {
+            (Open::Lam(inner), OpenTy::Pi(domain, range)) => {
+                body = substitute(alloc, &inner, 0, arg, domain)?;
+                rest = range;
+            }
+            _ => return Err(ElaborateFault::NoMemory),
+        }
+    }
+    Ok(body)
+}
+
+/// A family at a place of the text, on new metavariables for its implicit arguments, and the kind that is left.
+#[inline(never)]
+pub fn named_family(
+    alloc: Global,
+    signature: &Signature,
+    state: &mut Elaboration,
+    id: ConstId,
+    at: Place,
+) -> Result<(OpenSpine, OpenKind), AllocError>
+    requires canonical { IsCanonicalSignature signature.now }
+    requires stands { Stands (signature_of signature.now) (made state.old) state.old.locals }
+    ensures ok { IfOk result (λ p. (numbers : List ℕ) → ElaboratesFamily signature.now numbers state.old.locals (family_name id.0) (made state.old) (made state.new) id.0 (open_spine_of p.0) (open_kind_of p.1)) }
+    ensures keeps { Keeps state.old state.new }
+{
+    state.come_to(at)?;
+    family(alloc, signature, state, id)
+}
+
+/// A family on new metavariables. Where there is no such one, memory counts as used up.
+fn family(
+    alloc: Global,
+    signature: &Signature,
+    state: &mut Elaboration,
+    id: ConstId,
+) -> Result<(OpenSpine, OpenKind), AllocError>
+    requires canonical { IsCanonicalSignature signature.now }
+    requires stands { Stands (signature_of signature.now) (made state.old) state.old.locals }
+    ensures ok { IfOk result (λ p. (numbers : List ℕ) → ElaboratesFamily signature.now numbers state.old.locals (family_name id.0) (made state.old) (made state.new) id.0 (open_spine_of p.0) (open_kind_of p.1)) }
+    ensures keeps { Keeps state.old state.new }
+{
+    let Some(entry) = signature.entry(id) else {
+        return Err(AllocError);
+    };
+    match &entry.body {
+        Body::Family(kind) => {
+            kind_take_new(alloc, state, entry.implicit as u64, open_kind(alloc, kind)?)
+        }
+        Body::Constant(_) | Body::Defined { .. } => Err(AllocError),
+    }
+}

@@ -1,0 +1,111 @@
+//! Terms, types and kinds put together of their parts.
+ghost use Rattle.std.specs.Prelude.{◌≡◌, suc, zero, IfOk, IsErrOf, OnOk};
+ghost use Rattle.lf.specs.Deep.{DeepSubstitution};
+ghost use Rattle.lf.specs.Depth.{depth_limit};
+ghost use Rattle.lf.specs.Entries.{signature_of, IsCanonicalSignature};
+ghost use Rattle.lf.specs.Eta.{add_last};
+ghost use Rattle.lf.specs.Substitution.{reduce, single, substitute as put_in};
+ghost use Rattle.lf.specs.Syntax.{kind_pi as kind_pi_of, lambda as lambda_of, pi as pi_of, rename_kind, skeleton, weaken};
+ghost use Rattle.lf.specs.Typing.{instantiate_kind as instantiate_kind_of, instantiate_type};
+ghost use Rattle.elaboration.specs.Skeletons.{KindHasSkeletons};
+ghost use Rattle.tw_hered.specs.Fits.{TermFits, TypeFits};
+ghost use Rattle.tw_terms.specs.OpenView.{open_spine_of, open_term_of, open_type_of};
+ghost use Rattle.tw_elaborate.specs.Comparing.{ComparesKinds, IsProduct};
+ghost use Rattle.tw_elaborate.specs.Fits.{KindFits};
+ghost use Rattle.tw_elaborate.specs.Fresh.{Keeps};
+ghost use Rattle.tw_elaborate.specs.View.{made, open_kind_of};
+
+use crate::equations::compare_kinds;
+use crate::expand::{lambda, pi, with_argument};
+use crate::fault::ElaborateFault;
+use crate::kinds::{instantiate_kind, kind_pi, weakened_kind};
+use crate::state::{Elaboration, OpenKind};
+use std::alloc::{AllocError, Global};
+use tw_putting::{instantiate, shift_type, substitute};
+use tw_signature::Signature;
+use tw_terms::{Open, OpenSpine, OpenTy};
+
+/// A function and its type.
+#[inline(never)]
+pub fn function(
+    alloc: Global,
+    domain: OpenTy,
+    body: Open,
+    range: OpenTy,
+) -> Result<(Open, OpenTy), AllocError>
+    ensures { IfOk result (λ p. (open_term_of p.0 ≡ lambda_of (open_term_of body)) × (open_type_of p.1 ≡ pi_of (open_type_of domain) (open_type_of range))) }
+{
+    Ok((lambda(alloc, body)?, pi(alloc, domain, range)?))
+}
+
+/// A function's body with the argument put in, and its type.
+#[inline(never)]
+pub fn application(
+    alloc: Global,
+    body: &Open,
+    domain: &OpenTy,
+    range: &OpenTy,
+    arg: &Open,
+) -> Result<(Open, OpenTy), ElaborateFault>
+    requires body { TermFits (single (skeleton (open_type_of domain.now)) (open_term_of arg.now)) (open_term_of body.now) }
+    requires range { TypeFits (single (skeleton (open_type_of domain.now)) (open_term_of arg.now)) (open_type_of range.now) }
+    ensures ok { IfOk result (λ p. (open_term_of p.0 ≡ put_in reduce (single (skeleton (open_type_of domain.now)) (open_term_of arg.now)) (open_term_of body.now)) × (open_type_of p.1 ≡ instantiate_type (open_type_of domain.now) (open_term_of arg.now) (open_type_of range.now))) }
+    ensures too_deep { IsErrOf result ElaborateFault.TooDeep → DeepSubstitution depth_limit (single (skeleton (open_type_of domain.now)) (open_term_of arg.now)) (open_term_of body.now) }
+{
+    let term = substitute(alloc, body, 0, arg, domain)?;
+    Ok((term, instantiate(alloc, range, arg, domain)?))
+}
+
+/// The type of functions whose variable isn't in scope in the range.
+#[inline(never)]
+pub fn arrow(alloc: Global, domain: OpenTy, range: &OpenTy) -> Result<OpenTy, AllocError>
+    ensures { IfOk result (λ a. open_type_of a ≡ pi_of (open_type_of domain) (weaken (open_type_of range.now))) }
+{
+    pi(alloc, domain, shift_type(alloc, range, 1, 0)?)
+}
+
+/// The kind of families whose variable isn't in scope in the range.
+#[inline(never)]
+pub fn kind_arrow(alloc: Global, domain: OpenTy, range: &OpenKind) -> Result<OpenKind, AllocError>
+    ensures { IfOk result (λ k. open_kind_of k ≡ kind_pi_of (open_type_of domain) (rename_kind suc (open_kind_of range.now))) }
+{
+    kind_pi(alloc, domain, weakened_kind(alloc, range, 0)?)
+}
+
+/// The arguments of a family and one more, and the kind that is left.
+#[inline(never)]
+pub fn family_application(
+    alloc: Global,
+    spine: OpenSpine,
+    domain: &OpenTy,
+    range: &OpenKind,
+    arg: Open,
+) -> Result<(OpenSpine, OpenKind), AllocError>
+    requires { KindFits (single (skeleton (open_type_of domain.now)) (open_term_of arg)) (open_kind_of range.now) }
+    ensures { IfOk result (λ p. (open_spine_of p.0 ≡ add_last (open_spine_of spine) (open_term_of arg)) × (open_kind_of p.1 ≡ instantiate_kind_of (open_type_of domain.now) (open_term_of arg) (open_kind_of range.now))) }
+{
+    let rest = instantiate_kind(alloc, range, 0, &arg, domain)?;
+    Ok((with_argument(spine, arg)?, rest))
+}
+
+/// Compares the kind of a family, which takes an argument, with the one that is written. Else memory counts as used up.
+#[inline(never)]
+pub fn compare_ascribed(
+    alloc: Global,
+    signature: &Signature,
+    state: &mut Elaboration,
+    found: &OpenKind,
+    expected: &OpenKind,
+    frames: u32,
+) -> Result<(), AllocError>
+    requires canonical { IsCanonicalSignature signature.now }
+    requires found { KindHasSkeletons (signature_of signature.now) (made state.old) state.old.locals (open_kind_of found.now) }
+    ensures product { OnOk result (IsProduct (open_kind_of found.now)) }
+    ensures ok { OnOk result (ComparesKinds (signature_of signature.now) (open_kind_of found.now) (open_kind_of expected.now) state.old state.new) }
+    ensures keeps { Keeps state.old state.new }
+{
+    match found {
+        OpenKind::Pi(_, _) => compare_kinds(alloc, signature, state, found, expected, frames),
+        OpenKind::Star => Err(AllocError),
+    }
+}

@@ -1,0 +1,387 @@
+//! Terms: with the type that is found, or at an expected one; types, families and kinds.
+ghost use Rattle.std.specs.Prelude.{IfOk, IsErrOf, OnOk};
+ghost use Rattle.lf.specs.Entries.{signature_of, IsCanonicalSignature};
+ghost use Rattle.elaboration.specs.Elaboration.{Checks, ElaboratesDomain, ElaboratesFamily, ElaboratesKind, ElaboratesType, Infers};
+ghost use Rattle.elaboration.specs.Skeletons.{TypeHasSkeletons};
+ghost use Rattle.elaboration.specs.Written.{applied as applied_of, function as function_of};
+ghost use Rattle.tw_terms.specs.OpenView.{open_spine_of, open_term_of, open_type_of};
+ghost use Rattle.tw_elaborate.specs.Comparing.{ChecksDomain};
+ghost use Rattle.tw_elaborate.specs.Deep.{ChecksDeep, DomainDeep, FamilyDeep, InfersDeep, KindDeep, TypeDeep};
+ghost use Rattle.tw_elaborate.specs.Fits.{Stands};
+ghost use Rattle.tw_elaborate.specs.Fresh.{Keeps};
+ghost use Rattle.tw_elaborate.specs.View.{made, numbers_of, open_kind_of};
+ghost use Rattle.tw_written.specs.View.{written_domain_of, written_kind_of, written_of, written_type_of};
+
+use crate::equations::{compare_types, has_skeleton};
+use crate::expand::{lambda, pi};
+use crate::fault::ElaborateFault;
+use crate::frames::nested;
+use crate::heads::{bound, declared, free, named_family};
+use crate::holes::{checked_hole, term_hole, type_hole};
+use crate::kinds::kind_pi;
+use crate::parts::{
+    application, arrow, compare_ascribed, family_application, function, kind_arrow,
+};
+use crate::state::{Elaboration, OpenKind};
+use std::alloc::Global;
+use tw_signature::Signature;
+use tw_terms::{ConstId, MetaId, Open, OpenSpine, OpenTy};
+use tw_written::{Written, WrittenDomain, WrittenKind, WrittenType};
+
+/// The term that is written, and its type. What has no skeleton has none, and memory counts as used up.
+///
+/// Answers `TooDeep` only where elaboration reaches a substitution with a term deeper than 4,096.
+#[cycle(elaborate)]
+pub fn infer(
+    alloc: Global,
+    signature: &Signature,
+    frees: &[MetaId],
+    state: &mut Elaboration,
+    written: &Written,
+    frames: u32,
+) -> Result<(Open, OpenTy), ElaborateFault>
+    requires canonical { IsCanonicalSignature signature.now }
+    requires stands { Stands (signature_of signature.now) (made state.old) state.old.locals }
+    ensures ok { IfOk result (λ p. Infers signature.now (numbers_of frees.now) state.old.locals (written_of written.now) (made state.old) (made state.new) (open_term_of p.0) (open_type_of p.1)) }
+    ensures too_deep { IsErrOf result ElaborateFault.TooDeep → InfersDeep signature.now (numbers_of frees.now) state.old.locals (written_of written.now) (made state.old) }
+    ensures keeps { Keeps state.old state.new }
+{
+    let frames = nested(frames)?;
+    match written {
+        Written::Free(variable, at) => Ok(free(alloc, frees, state, *variable, *at)?),
+        Written::Bound(variable) => Ok(bound(alloc, state, *variable)?),
+        Written::Declared(id, at) => declared(alloc, signature, state, *id, *at),
+        Written::Hole(skeleton, at) => Ok(term_hole(
+            alloc, signature, state, skeleton, *at, frames,
+        )?),
+        Written::Function(domain, body) => infer_function(
+            alloc, signature, frees, state, domain, body, frames,
+        ),
+        Written::Applied(function, arg) => infer_applied(
+            alloc, signature, frees, state, function, arg, frames,
+        ),
+        Written::Ascribed(term, ty) => {
+            let ty = elaborate_type(alloc, signature, frees, state, ty, frames)?;
+            let term = check(alloc, signature, frees, state, term, &ty, frames)?;
+            Ok((term, ty))
+        }
+    }
+}
+
+/// A function, and its type.
+#[cycle(elaborate)]
+#[inline(never)]
+fn infer_function(
+    alloc: Global,
+    signature: &Signature,
+    frees: &[MetaId],
+    state: &mut Elaboration,
+    domain: &WrittenDomain,
+    body: &Written,
+    frames: u32,
+) -> Result<(Open, OpenTy), ElaborateFault>
+    requires canonical { IsCanonicalSignature signature.now }
+    requires stands { Stands (signature_of signature.now) (made state.old) state.old.locals }
+    ensures ok { IfOk result (λ p. Infers signature.now (numbers_of frees.now) state.old.locals (function_of (written_domain_of domain.now) (written_of body.now)) (made state.old) (made state.new) (open_term_of p.0) (open_type_of p.1)) }
+    ensures too_deep { IsErrOf result ElaborateFault.TooDeep → InfersDeep signature.now (numbers_of frees.now) state.old.locals (function_of (written_domain_of domain.now) (written_of body.now)) (made state.old) }
+    ensures keeps { Keeps state.old state.new }
+{
+    let domain = elaborate_domain(alloc, signature, frees, state, domain, frames)?;
+    state.locals.push(domain.copy(alloc)?)?;
+    let inferred = infer(alloc, signature, frees, state, body, frames);
+    state.locals.pop();
+    let (body, range) = inferred?;
+    Ok(function(alloc, domain, body, range)?)
+}
+
+/// A function on an argument, which is put in, and its type.
+#[cycle(elaborate)]
+#[inline(never)]
+fn infer_applied(
+    alloc: Global,
+    signature: &Signature,
+    frees: &[MetaId],
+    state: &mut Elaboration,
+    function: &Written,
+    arg: &Written,
+    frames: u32,
+) -> Result<(Open, OpenTy), ElaborateFault>
+    requires canonical { IsCanonicalSignature signature.now }
+    requires stands { Stands (signature_of signature.now) (made state.old) state.old.locals }
+    ensures ok { IfOk result (λ p. Infers signature.now (numbers_of frees.now) state.old.locals (applied_of (written_of function.now) (written_of arg.now)) (made state.old) (made state.new) (open_term_of p.0) (open_type_of p.1)) }
+    ensures too_deep { IsErrOf result ElaborateFault.TooDeep → InfersDeep signature.now (numbers_of frees.now) state.old.locals (applied_of (written_of function.now) (written_of arg.now)) (made state.old) }
+    ensures keeps { Keeps state.old state.new }
+{
+    let (function, ty) = infer(alloc, signature, frees, state, function, frames)?;
+    match (function, ty) {
+        (Open::Lam(body), OpenTy::Pi(domain, range)) => {
+            let arg = check(alloc, signature, frees, state, arg, &domain, frames)?;
+            application(alloc, &body, &domain, &range, &arg)
+        }
+        _ => Err(ElaborateFault::NoMemory),
+    }
+}
+
+/// The term that is written, made one of the expected type.
+#[cycle(elaborate)]
+pub fn check(
+    alloc: Global,
+    signature: &Signature,
+    frees: &[MetaId],
+    state: &mut Elaboration,
+    written: &Written,
+    expected: &OpenTy,
+    frames: u32,
+) -> Result<Open, ElaborateFault>
+    requires canonical { IsCanonicalSignature signature.now }
+    requires stands { Stands (signature_of signature.now) (made state.old) state.old.locals }
+    requires expected { TypeHasSkeletons (signature_of signature.now) (made state.old) state.old.locals (open_type_of expected.now) }
+    ensures ok { IfOk result (λ m. Checks signature.now (numbers_of frees.now) state.old.locals (written_of written.now) (open_type_of expected.now) (made state.old) (made state.new) (open_term_of m)) }
+    ensures too_deep { IsErrOf result ElaborateFault.TooDeep → ChecksDeep signature.now (numbers_of frees.now) state.old.locals (written_of written.now) (open_type_of expected.now) (made state.old) }
+    ensures keeps { Keeps state.old state.new }
+{
+    let frames = nested(frames)?;
+    match written {
+        Written::Hole(skeleton, at) => Ok(checked_hole(alloc, state, skeleton, *at, expected)?),
+        Written::Function(domain, body) => check_function(
+            alloc, signature, frees, state, domain, body, expected, frames,
+        ),
+        Written::Free(_, _)
+        | Written::Bound(_)
+        | Written::Declared(_, _)
+        | Written::Applied(_, _)
+        | Written::Ascribed(_, _) => {
+            let (term, found) = infer(alloc, signature, frees, state, written, frames)?;
+            compare_types(alloc, signature, state, &found, expected, frames)?;
+            Ok(term)
+        }
+    }
+}
+
+/// A function of the expected type.
+#[cycle(elaborate)]
+#[inline(never)]
+fn check_function(
+    alloc: Global,
+    signature: &Signature,
+    frees: &[MetaId],
+    state: &mut Elaboration,
+    domain: &WrittenDomain,
+    body: &Written,
+    expected: &OpenTy,
+    frames: u32,
+) -> Result<Open, ElaborateFault>
+    requires canonical { IsCanonicalSignature signature.now }
+    requires stands { Stands (signature_of signature.now) (made state.old) state.old.locals }
+    requires expected { TypeHasSkeletons (signature_of signature.now) (made state.old) state.old.locals (open_type_of expected.now) }
+    ensures ok { IfOk result (λ m. Checks signature.now (numbers_of frees.now) state.old.locals (function_of (written_domain_of domain.now) (written_of body.now)) (open_type_of expected.now) (made state.old) (made state.new) (open_term_of m)) }
+    ensures too_deep { IsErrOf result ElaborateFault.TooDeep → ChecksDeep signature.now (numbers_of frees.now) state.old.locals (function_of (written_domain_of domain.now) (written_of body.now)) (open_type_of expected.now) (made state.old) }
+    ensures keeps { Keeps state.old state.new }
+{
+    match expected {
+        OpenTy::Pi(expected, range) => {
+            check_domain(alloc, signature, frees, state, domain, expected, frames)?;
+            state.locals.push(expected.copy(alloc)?)?;
+            let checked = check(alloc, signature, frees, state, body, range, frames);
+            state.locals.pop();
+            Ok(lambda(alloc, checked?)?)
+        }
+        OpenTy::Atom(_, _) => Err(ElaborateFault::NoMemory),
+    }
+}
+
+/// Compares the type at a binder, where one is written, with the expected one.
+#[cycle(elaborate)]
+#[inline(never)]
+fn check_domain(
+    alloc: Global,
+    signature: &Signature,
+    frees: &[MetaId],
+    state: &mut Elaboration,
+    written: &WrittenDomain,
+    expected: &OpenTy,
+    frames: u32,
+) -> Result<(), ElaborateFault>
+    requires canonical { IsCanonicalSignature signature.now }
+    requires stands { Stands (signature_of signature.now) (made state.old) state.old.locals }
+    requires expected { TypeHasSkeletons (signature_of signature.now) (made state.old) state.old.locals (open_type_of expected.now) }
+    ensures ok { OnOk result (ChecksDomain signature.now (numbers_of frees.now) (written_domain_of written.now) (open_type_of expected.now) state.old state.new) }
+    ensures too_deep { IsErrOf result ElaborateFault.TooDeep → DomainDeep signature.now (numbers_of frees.now) state.old.locals (written_domain_of written.now) (made state.old) }
+    ensures keeps { Keeps state.old state.new }
+{
+    let frames = nested(frames)?;
+    match written {
+        WrittenDomain::OfSkeleton(skeleton, _) => {
+            if has_skeleton(expected, skeleton) {
+                Ok(())
+            } else {
+                Err(ElaborateFault::NoMemory)
+            }
+        }
+        WrittenDomain::OfType(ty) => {
+            let found = elaborate_type(alloc, signature, frees, state, ty, frames)?;
+            compare_types(alloc, signature, state, &found, expected, frames)?;
+            Ok(())
+        }
+    }
+}
+
+/// The type that is written.
+#[cycle(elaborate)]
+pub fn elaborate_type(
+    alloc: Global,
+    signature: &Signature,
+    frees: &[MetaId],
+    state: &mut Elaboration,
+    written: &WrittenType,
+    frames: u32,
+) -> Result<OpenTy, ElaborateFault>
+    requires canonical { IsCanonicalSignature signature.now }
+    requires stands { Stands (signature_of signature.now) (made state.old) state.old.locals }
+    ensures ok { IfOk result (λ a. ElaboratesType signature.now (numbers_of frees.now) state.old.locals (written_type_of written.now) (made state.old) (made state.new) (open_type_of a)) }
+    ensures too_deep { IsErrOf result ElaborateFault.TooDeep → TypeDeep signature.now (numbers_of frees.now) state.old.locals (written_type_of written.now) (made state.old) }
+    ensures keeps { Keeps state.old state.new }
+{
+    let frames = nested(frames)?;
+    match written {
+        WrittenType::Hole(skeleton, at) => Ok(type_hole(
+            alloc, signature, state, skeleton, *at, frames,
+        )?),
+        WrittenType::Arrow(domain, range) => {
+            let domain = elaborate_type(alloc, signature, frees, state, domain, frames)?;
+            let range = elaborate_type(alloc, signature, frees, state, range, frames)?;
+            Ok(arrow(alloc, domain, &range)?)
+        }
+        WrittenType::Quantified(domain, range) => {
+            let domain = elaborate_domain(alloc, signature, frees, state, domain, frames)?;
+            state.locals.push(domain.copy(alloc)?)?;
+            let range = elaborate_type(alloc, signature, frees, state, range, frames);
+            state.locals.pop();
+            Ok(pi(alloc, domain, range?)?)
+        }
+        WrittenType::Ascribed(ty, kind) => match &**kind {
+            WrittenKind::Star => elaborate_type(alloc, signature, frees, state, ty, frames),
+            WrittenKind::Arrow(_, _) | WrittenKind::Quantified(_, _) => Err(
+                ElaborateFault::NoMemory,
+            ),
+        },
+        WrittenType::Family(_, _) | WrittenType::Applied(_, _) => {
+            let (family, spine, kind) = elaborate_family(
+                alloc, signature, frees, state, written, frames,
+            )?;
+            match kind {
+                OpenKind::Star => Ok(OpenTy::Atom(family, spine)),
+                OpenKind::Pi(_, _) => Err(ElaborateFault::NoMemory),
+            }
+        }
+    }
+}
+
+/// The type of a binder's variable.
+#[cycle(elaborate)]
+#[inline(never)]
+fn elaborate_domain(
+    alloc: Global,
+    signature: &Signature,
+    frees: &[MetaId],
+    state: &mut Elaboration,
+    written: &WrittenDomain,
+    frames: u32,
+) -> Result<OpenTy, ElaborateFault>
+    requires canonical { IsCanonicalSignature signature.now }
+    requires stands { Stands (signature_of signature.now) (made state.old) state.old.locals }
+    ensures ok { IfOk result (λ a. ElaboratesDomain signature.now (numbers_of frees.now) state.old.locals (written_domain_of written.now) (made state.old) (made state.new) (open_type_of a)) }
+    ensures too_deep { IsErrOf result ElaborateFault.TooDeep → DomainDeep signature.now (numbers_of frees.now) state.old.locals (written_domain_of written.now) (made state.old) }
+    ensures keeps { Keeps state.old state.new }
+{
+    let frames = nested(frames)?;
+    match written {
+        WrittenDomain::OfSkeleton(skeleton, at) => Ok(type_hole(
+            alloc, signature, state, skeleton, *at, frames,
+        )?),
+        WrittenDomain::OfType(ty) => elaborate_type(alloc, signature, frees, state, ty, frames),
+    }
+}
+
+/// A family on the arguments that are written, and the kind that is left.
+#[cycle(elaborate)]
+fn elaborate_family(
+    alloc: Global,
+    signature: &Signature,
+    frees: &[MetaId],
+    state: &mut Elaboration,
+    written: &WrittenType,
+    frames: u32,
+) -> Result<(ConstId, OpenSpine, OpenKind), ElaborateFault>
+    requires canonical { IsCanonicalSignature signature.now }
+    requires stands { Stands (signature_of signature.now) (made state.old) state.old.locals }
+    ensures ok { IfOk result (λ f. ElaboratesFamily signature.now (numbers_of frees.now) state.old.locals (written_type_of written.now) (made state.old) (made state.new) f.0.0 (open_spine_of f.1) (open_kind_of f.2)) }
+    ensures too_deep { IsErrOf result ElaborateFault.TooDeep → FamilyDeep signature.now (numbers_of frees.now) state.old.locals (written_type_of written.now) (made state.old) }
+    ensures keeps { Keeps state.old state.new }
+{
+    let frames = nested(frames)?;
+    match written {
+        WrittenType::Family(id, at) => {
+            let (spine, kind) = named_family(alloc, signature, state, *id, *at)?;
+            Ok((*id, spine, kind))
+        }
+        WrittenType::Applied(family, arg) => {
+            let (family, spine, kind) = elaborate_family(
+                alloc, signature, frees, state, family, frames,
+            )?;
+            match kind {
+                OpenKind::Pi(domain, range) => {
+                    let arg = check(alloc, signature, frees, state, arg, &domain, frames)?;
+                    let (spine, rest) = family_application(alloc, spine, &domain, &range, arg)?;
+                    Ok((family, spine, rest))
+                }
+                OpenKind::Star => Err(ElaborateFault::NoMemory),
+            }
+        }
+        WrittenType::Ascribed(family, kind) => {
+            let expected = elaborate_kind(alloc, signature, frees, state, kind, frames)?;
+            let (family, spine, found) = elaborate_family(
+                alloc, signature, frees, state, family, frames,
+            )?;
+            compare_ascribed(alloc, signature, state, &found, &expected, frames)?;
+            Ok((family, spine, found))
+        }
+        WrittenType::Hole(_, _) | WrittenType::Arrow(_, _) | WrittenType::Quantified(_, _) => {
+            Err(ElaborateFault::NoMemory)
+        }
+    }
+}
+
+/// The kind that is written.
+#[cycle(elaborate)]
+pub fn elaborate_kind(
+    alloc: Global,
+    signature: &Signature,
+    frees: &[MetaId],
+    state: &mut Elaboration,
+    written: &WrittenKind,
+    frames: u32,
+) -> Result<OpenKind, ElaborateFault>
+    requires canonical { IsCanonicalSignature signature.now }
+    requires stands { Stands (signature_of signature.now) (made state.old) state.old.locals }
+    ensures ok { IfOk result (λ k. ElaboratesKind signature.now (numbers_of frees.now) state.old.locals (written_kind_of written.now) (made state.old) (made state.new) (open_kind_of k)) }
+    ensures too_deep { IsErrOf result ElaborateFault.TooDeep → KindDeep signature.now (numbers_of frees.now) state.old.locals (written_kind_of written.now) (made state.old) }
+    ensures keeps { Keeps state.old state.new }
+{
+    let frames = nested(frames)?;
+    match written {
+        WrittenKind::Star => Ok(OpenKind::Star),
+        WrittenKind::Arrow(domain, range) => {
+            let domain = elaborate_type(alloc, signature, frees, state, domain, frames)?;
+            let range = elaborate_kind(alloc, signature, frees, state, range, frames)?;
+            Ok(kind_arrow(alloc, domain, &range)?)
+        }
+        WrittenKind::Quantified(domain, range) => {
+            let domain = elaborate_domain(alloc, signature, frees, state, domain, frames)?;
+            state.locals.push(domain.copy(alloc)?)?;
+            let range = elaborate_kind(alloc, signature, frees, state, range, frames);
+            state.locals.pop();
+            Ok(kind_pi(alloc, domain, range?)?)
+        }
+    }
+}

@@ -1,0 +1,412 @@
+//! Expected values are worked out by hand.
+ghost use Rattle.std.specs.Prelude.{◌≡◌, IfOk, vec_len};
+ghost use Rattle.lf.specs.Entries.{kind_quantifiers, quantifiers};
+ghost use Rattle.tw_terms.specs.View.{kind_of, type_of};
+
+use crate::{ElaborateFault, Elaborated, OpenBody, OpenKind, elaborate};
+use std::alloc::{AllocError, Global};
+use std::test::Fail;
+use tw_fixity::Name;
+use tw_kernel::{Verdict, check_kind, check_type};
+use tw_lexer::Place;
+use tw_signature::{Body, Entry, Signature};
+use tw_terms::{
+    ConstId, Context, Head, Kind, MetaId, Open, OpenHead, OpenTy, Skeleton, Spine, Term, Ty,
+};
+use tw_written::{Written, WrittenBody, WrittenDomain, WrittenKind, WrittenType};
+
+const DEPTH_LIMIT: u32 = 4096;
+
+const NOWHERE: Place = Place { line: 1, column: 1 };
+
+const NAT: ConstId = ConstId(0);
+
+const Z: ConstId = ConstId(1);
+
+const S: ConstId = ConstId(2);
+
+const VEC: ConstId = ConstId(3);
+
+const NIL: ConstId = ConstId(4);
+
+const CONS: ConstId = ConstId(5);
+
+fn name_of(id: ConstId) -> &'static str {
+    match id.0 {
+        0 => "nat",
+        1 => "z",
+        2 => "s",
+        3 => "vec",
+        4 => "nil",
+        5 => "cons",
+        _ => "?",
+    }
+}
+
+// no preferred name for any quantifier
+fn type_hints(alloc: Global, ty: &Ty) -> Result<Vec<Option<Name>>, AllocError>
+    ensures { IfOk result (λ v. vec_len v ≡ quantifiers (type_of ty.now)) }
+{
+    match ty {
+        Ty::Pi(_, range) => {
+            let mut hints = type_hints(alloc, range)?;
+            hints.push(None)?;
+            Ok(hints)
+        }
+        Ty::Atom(_, _) => Ok(Vec::new(alloc)),
+    }
+}
+
+fn kind_hints(alloc: Global, kind: &Kind) -> Result<Vec<Option<Name>>, AllocError>
+    ensures { IfOk result (λ v. vec_len v ≡ kind_quantifiers (kind_of kind.now)) }
+{
+    match kind {
+        Kind::Pi(_, range) => {
+            let mut hints = kind_hints(alloc, range)?;
+            hints.push(None)?;
+            Ok(hints)
+        }
+        Kind::Star => Ok(Vec::new(alloc)),
+    }
+}
+
+// declares a family of the kind
+fn add_family(alloc: Global, signature: &mut Signature, kind: Kind) -> Result<(), Fail> {
+    let context = Context::new(alloc);
+    match check_kind(alloc, signature, &context, &kind)? {
+        Verdict::Typed => (),
+        Verdict::IllTyped | Verdict::TooDeep => return Err("no kind")?,
+    }
+    if kind.depth() > DEPTH_LIMIT {
+        return Err("a deep kind")?;
+    }
+    let hints = kind_hints(alloc, &kind)?;
+    signature.add(Entry {
+        name: Name::from_text(alloc, "a")?,
+        body: Body::Family(kind),
+        implicit: 0,
+        hints,
+    })?;
+    Ok(())
+}
+
+// declares a constant of the type, of whose arguments so many are implicit
+fn add_constant(
+    alloc: Global,
+    signature: &mut Signature,
+    ty: Ty,
+    implicit: u32,
+) -> Result<(), Fail> {
+    let context = Context::new(alloc);
+    match check_type(alloc, signature, &context, &ty)? {
+        Verdict::Typed => (),
+        Verdict::IllTyped | Verdict::TooDeep => return Err("no type")?,
+    }
+    if ty.depth() > DEPTH_LIMIT {
+        return Err("a deep type")?;
+    }
+    let hints = type_hints(alloc, &ty)?;
+    if hints.len() < implicit as usize {
+        return Err("too few arguments")?;
+    }
+    signature.add(Entry {
+        name: Name::from_text(alloc, "c")?,
+        body: Body::Constant(ty),
+        implicit,
+        hints,
+    })?;
+    Ok(())
+}
+
+fn alone(alloc: Global, head: Head) -> Term {
+    Term::Root(
+        head,
+        Spine {
+            args: Vec::new(alloc),
+        },
+    )
+}
+
+fn on(alloc: Global, head: Head, arg: Term) -> Result<Term, AllocError> {
+    let mut args = Vec::new(alloc);
+    args.push(arg)?;
+    Ok(Term::Root(head, Spine { args }))
+}
+
+fn nat(alloc: Global) -> Ty {
+    Ty::Atom(
+        NAT,
+        Spine {
+            args: Vec::new(alloc),
+        },
+    )
+}
+
+fn vec_of(alloc: Global, length: Term) -> Result<Ty, AllocError> {
+    let mut args = Vec::new(alloc);
+    args.push(length)?;
+    Ok(Ty::Atom(VEC, Spine { args }))
+}
+
+fn pi(alloc: Global, domain: Ty, range: Ty) -> Result<Ty, AllocError> {
+    Ok(Ty::Pi(Box::new(alloc, domain)?, Box::new(alloc, range)?))
+}
+
+// nat : type, z : nat, s : nat -> nat, vec : nat -> type, nil : vec z, and cons : {n} vec n -> vec (s n), whose n is implicit
+fn vectors(alloc: Global) -> Result<Signature, Fail> {
+    let mut signature = Signature::new(alloc);
+    add_family(alloc, &mut signature, Kind::Star)?;
+    add_constant(alloc, &mut signature, nat(alloc), 0)?;
+    let function = pi(alloc, nat(alloc), nat(alloc))?;
+    add_constant(alloc, &mut signature, function, 0)?;
+    let kind = Kind::Pi(Box::new(alloc, nat(alloc))?, Box::new(alloc, Kind::Star)?);
+    add_family(alloc, &mut signature, kind)?;
+    let empty = vec_of(alloc, alone(alloc, Head::Const(Z)))?;
+    add_constant(alloc, &mut signature, empty, 0)?;
+    let shorter = vec_of(alloc, alone(alloc, Head::Var(0)))?;
+    let next = on(alloc, Head::Const(S), alone(alloc, Head::Var(1)))?;
+    let step = pi(alloc, shorter, vec_of(alloc, next)?)?;
+    let whole = pi(alloc, nat(alloc), step)?;
+    add_constant(alloc, &mut signature, whole, 1)?;
+    Ok(signature)
+}
+
+fn show_term(line: &mut String, term: &Open) -> Result<(), AllocError> {
+    match term {
+        Open::Lam(body) => {
+            line.push_str("\\")?;
+            show_term(line, body)
+        }
+        Open::Root(head, spine) => {
+            match head {
+                OpenHead::Const(id) => line.push_str(name_of(*id))?,
+                OpenHead::Var(variable) => write!(line, "x{}", *variable)?,
+                OpenHead::Meta(meta) => write!(line, "?{}", meta.0)?,
+            }
+            for arg in &spine.args {
+                line.push_str(" (")?;
+                show_term(line, arg)?;
+                line.push_str(")")?;
+            }
+            Ok(())
+        }
+    }
+}
+
+fn show_type(line: &mut String, ty: &OpenTy) -> Result<(), AllocError> {
+    match ty {
+        OpenTy::Pi(domain, range) => {
+            line.push_str("{")?;
+            show_type(line, domain)?;
+            line.push_str("} ")?;
+            show_type(line, range)
+        }
+        OpenTy::Atom(family, spine) => {
+            line.push_str(name_of(*family))?;
+            for arg in &spine.args {
+                line.push_str(" (")?;
+                show_term(line, arg)?;
+                line.push_str(")")?;
+            }
+            Ok(())
+        }
+    }
+}
+
+fn show_kind(line: &mut String, kind: &OpenKind) -> Result<(), AllocError> {
+    match kind {
+        OpenKind::Pi(domain, range) => {
+            line.push_str("{")?;
+            show_type(line, domain)?;
+            line.push_str("} ")?;
+            show_kind(line, range)
+        }
+        OpenKind::Star => line.push_str("type"),
+    }
+}
+
+// the body, the free variables, the metavariables with their types, and the equations
+fn show(line: &mut String, elaborated: &Elaborated) -> Result<(), AllocError> {
+    match &elaborated.body {
+        OpenBody::Family(kind) => show_kind(line, kind)?,
+        OpenBody::Constant(ty) => show_type(line, ty)?,
+        OpenBody::Definition(term, ty, _) => {
+            show_term(line, term)?;
+            line.push_str(" : ")?;
+            show_type(line, ty)?;
+        }
+    }
+    for meta in &elaborated.frees {
+        write!(line, "; free ?{}", meta.0)?;
+    }
+    for number in 0..10u64 {
+        if let Some((_, ty)) = elaborated.state.store.about(MetaId(number)) {
+            write!(line, "; ?{} : ", number)?;
+            show_type(line, ty)?;
+        }
+    }
+    for equation in &elaborated.state.equations {
+        line.push_str("; ")?;
+        show_term(line, &equation.left)?;
+        line.push_str(" = ")?;
+        show_term(line, &equation.right)?;
+        line.push_str(" : ")?;
+        show_type(line, &equation.ty)?;
+    }
+    Ok(())
+}
+
+fn answer(
+    alloc: Global,
+    signature: &Signature,
+    skeletons: &[Skeleton],
+    body: &WrittenBody,
+) -> Result<String, AllocError> {
+    signature.is_canonical();
+    let mut line = String::new(alloc);
+    match elaborate(alloc, signature, skeletons, body) {
+        Ok(elaborated) => show(&mut line, &elaborated)?,
+        Err(ElaborateFault::TooDeep) => line.push_str("too deep")?,
+        Err(ElaborateFault::NoMemory) => line.push_str("no memory")?,
+    }
+    Ok(line)
+}
+
+fn declared(id: ConstId) -> Written {
+    Written::Declared(id, NOWHERE)
+}
+
+fn applied(alloc: Global, function: Written, arg: Written) -> Result<Written, AllocError> {
+    let function = Box::new(alloc, function)?;
+    Ok(Written::Applied(function, Box::new(alloc, arg)?))
+}
+
+fn vec_type(alloc: Global, length: Written) -> Result<WrittenType, AllocError> {
+    let family = Box::new(alloc, WrittenType::Family(VEC, NOWHERE))?;
+    Ok(WrittenType::Applied(family, Box::new(alloc, length)?))
+}
+
+fn arrow(
+    alloc: Global,
+    domain: WrittenType,
+    range: WrittenType,
+) -> Result<WrittenType, AllocError> {
+    let domain = Box::new(alloc, domain)?;
+    Ok(WrittenType::Arrow(domain, Box::new(alloc, range)?))
+}
+
+// [x] x, where x has the skeleton of the family
+fn identity(alloc: Global, family: ConstId) -> Result<Written, AllocError> {
+    let domain = WrittenDomain::OfSkeleton(Skeleton::Base(family), NOWHERE);
+    Ok(Written::Function(domain, Box::new(alloc, Written::Bound(0))?))
+}
+
+#[test]
+fn a_free_variable_is_one_metavariable(rt: HostRuntime) -> Result<(), Fail> {
+    let alloc = rt.alloc();
+    let signature = vectors(alloc)?;
+    let domain = vec_type(alloc, Written::Free(0, NOWHERE))?;
+    let range = vec_type(alloc, Written::Free(0, NOWHERE))?;
+    let body = WrittenBody::Constant(arrow(alloc, domain, range)?);
+    let line = answer(alloc, &signature, &[Skeleton::Base(NAT)], &body)?;
+    assert_eq!(rt; line.as_str(), "{vec (?0)} vec (?0); free ?0; ?0 : nat");
+    Ok(())
+}
+
+#[test]
+fn a_free_function_has_its_most_general_type(rt: HostRuntime) -> Result<(), Fail> {
+    let alloc = rt.alloc();
+    let signature = vectors(alloc)?;
+    let domain = Box::new(alloc, Skeleton::Base(NAT))?;
+    let skeleton = Skeleton::Arrow(domain, Box::new(alloc, Skeleton::Base(VEC))?);
+    let body = WrittenBody::Definition(Written::Free(0, NOWHERE), false);
+    let line = answer(alloc, &signature, &[skeleton], &body)?;
+    assert_eq!(rt;
+        line.as_str(),
+        "\\?1 (x0) : {nat} vec (?0 (x0)); free ?1; ?0 : {nat} nat; ?1 : {nat} vec (?0 (x0))"
+    );
+    Ok(())
+}
+
+#[test]
+fn an_implicit_argument_is_compared(rt: HostRuntime) -> Result<(), Fail> {
+    let alloc = rt.alloc();
+    let signature = vectors(alloc)?;
+    let term = applied(alloc, declared(CONS), declared(NIL))?;
+    let body = WrittenBody::Definition(term, false);
+    let line = answer(alloc, &signature, &[], &body)?;
+    assert_eq!(rt;
+        line.as_str(),
+        "cons (?0) (nil) : vec (s (?0)); ?0 : nat; z = ?0 : nat"
+    );
+    Ok(())
+}
+
+#[test]
+fn the_type_of_a_definition_comes_first(rt: HostRuntime) -> Result<(), Fail> {
+    let alloc = rt.alloc();
+    let signature = vectors(alloc)?;
+    let ty = vec_type(alloc, applied(alloc, declared(S), declared(Z))?)?;
+    let term = applied(alloc, declared(CONS), declared(NIL))?;
+    let body = WrittenBody::DefinitionOf(term, ty, false);
+    let line = answer(alloc, &signature, &[], &body)?;
+    assert_eq!(rt;
+        line.as_str(),
+        "cons (?0) (nil) : vec (s (z)); ?0 : nat; z = ?0 : nat; s (?0) = s (z) : nat"
+    );
+    Ok(())
+}
+
+#[test]
+fn a_binder_has_the_expected_type(rt: HostRuntime) -> Result<(), Fail> {
+    let alloc = rt.alloc();
+    let signature = vectors(alloc)?;
+    let body = WrittenBody::Definition(identity(alloc, VEC)?, false);
+    let line = answer(alloc, &signature, &[], &body)?;
+    assert_eq!(rt; line.as_str(), "\\x0 : {vec (?0)} vec (?0); ?0 : nat");
+    let empty = vec_type(alloc, declared(Z))?;
+    let ty = arrow(alloc, empty, vec_type(alloc, declared(Z))?)?;
+    let body = WrittenBody::DefinitionOf(identity(alloc, VEC)?, ty, true);
+    let line = answer(alloc, &signature, &[], &body)?;
+    assert_eq!(rt; line.as_str(), "\\x0 : {vec (z)} vec (z); z = z : nat");
+    Ok(())
+}
+
+#[test]
+fn a_hole_depends_on_what_is_in_scope(rt: HostRuntime) -> Result<(), Fail> {
+    let alloc = rt.alloc();
+    let signature = vectors(alloc)?;
+    let hole = vec_type(alloc, Written::Hole(Skeleton::Base(NAT), NOWHERE))?;
+    let rest = WrittenKind::Arrow(Box::new(alloc, hole)?, Box::new(alloc, WrittenKind::Star)?);
+    let domain = WrittenDomain::OfType(Box::new(alloc, WrittenType::Family(NAT, NOWHERE))?);
+    let body = WrittenBody::Family(WrittenKind::Quantified(domain, Box::new(alloc, rest)?));
+    let line = answer(alloc, &signature, &[], &body)?;
+    assert_eq!(rt; line.as_str(), "{nat} {vec (?0 (x0))} type; ?0 : {nat} nat");
+    Ok(())
+}
+
+#[test]
+fn what_has_no_skeleton_is_not_elaborated(rt: HostRuntime) -> Result<(), Fail> {
+    let alloc = rt.alloc();
+    let signature = vectors(alloc)?;
+    let term = applied(alloc, declared(S), declared(NIL))?;
+    let line = answer(
+        alloc,
+        &signature,
+        &[],
+        &WrittenBody::Definition(term, false),
+    )?;
+    assert_eq!(rt; line.as_str(), "no memory");
+    let missing = declared(ConstId(6));
+    let line = answer(
+        alloc,
+        &signature,
+        &[],
+        &WrittenBody::Definition(missing, false),
+    )?;
+    assert_eq!(rt; line.as_str(), "no memory");
+    let body = WrittenBody::Constant(WrittenType::Family(NAT, NOWHERE));
+    let line = answer(alloc, &signature, &[Skeleton::Base(Z)], &body)?;
+    assert_eq!(rt; line.as_str(), "no memory");
+    Ok(())
+}
