@@ -23,3 +23,4 @@ pub mod Misfits
 pub mod OneOutline
 pub mod OneDeclaration
 pub mod OneReading
+pub mod Asking

@@ -23,7 +23,7 @@ use Rattle.tw_parse.proofs.Building.{Token, a_token}
 use Rattle.tw_parse.proofs.Failing.{a_word, at_end, ended_behind, hole_sequence}
 use Rattle.tw_parse.proofs.Ports.{port_sequence}
 
-runs_none : (xs : List Lexeme) → runs None xs ≡ None
+pub runs_none : (xs : List Lexeme) → runs None xs ≡ None
 runs_none [] = refl
 runs_none (x ∷ xs) = refl
 
@@ -32,7 +32,7 @@ runs_append s [] ys = refl
 runs_append None (x ∷ xs) ys = sym (runs_none ys)
 runs_append (Some s) (x ∷ xs) ys = runs_append (next_state s x) xs ys
 
-along : (s t : Option State) (xs ys : List Lexeme) → runs s xs ≡ t → runs s (xs ++ ys) ≡ runs t ys
+pub along : (s t : Option State) (xs ys : List Lexeme) → runs s xs ≡ t → runs s (xs ++ ys) ≡ runs t ys
 along s t xs ys e = runs_append s xs ys ∙ ap (λ r. runs r ys) e
 
 abbrev in_reading : Ending → Option (Spot × List Frame) → Option State
@@ -50,7 +50,7 @@ by_next e spot frames x xs p None f h again = let clash : None ≡ Some p = sym 
 by_next e spot frames x xs p (Some q) f h again = ap (λ o. runs (lead e spot frames x.word o) xs) f ∙ again q (sym (ap (λ r. steps r xs) f) ∙ h)
 
 -- a sequence in a declaration
-reads_on : (e : Ending) (spot : Spot) (frames : List Frame) (xs : List Lexeme) (p : Spot × List Frame) → steps (Some (spot, frames)) xs ≡ Some p → runs (Some (reading e spot frames)) xs ≡ Some (reading e p.0 p.1)
+pub reads_on : (e : Ending) (spot : Spot) (frames : List Frame) (xs : List Lexeme) (p : Spot × List Frame) → steps (Some (spot, frames)) xs ≡ Some p → runs (Some (reading e spot frames)) xs ≡ Some (reading e p.0 p.1)
 reads_on e spot frames [] p h = ap (in_reading e) h
 reads_on e spot frames (x ∷ xs) p h = by_next e spot frames x xs p (next spot frames x.word) refl h (λ q k. reads_on e q.0 q.1 xs p k)
 
@@ -106,7 +106,7 @@ abbrev Alive : List Lexeme → Type 0
 Alive tokens = (s : State) × (runs (Some start) tokens ≡ Some s) × IsFinal s
 
 -- from a sequence to the token behind it
-to_next : (e : Ending) (front : List Lexeme) (x : Lexeme) (more : List Lexeme) (w : Word) (s : State) → ((frames : List Frame) → steps (Some (inside false, frames)) front ≡ Some (inside true, frames)) → x.word ≡ w → go true [] w ≡ None → end_next e w ≡ Some s
+pub to_next : (e : Ending) (front : List Lexeme) (x : Lexeme) (more : List Lexeme) (w : Word) (s : State) → ((frames : List Frame) → steps (Some (inside false, frames)) front ≡ Some (inside true, frames)) → x.word ≡ w → go true [] w ≡ None → end_next e w ≡ Some s
     → runs (Some (reading e (inside false) [])) (front ++ x ∷ more) ≡ runs (Some s) more
 to_next e front x more w s goes is none ends =
     along (Some (reading e (inside false) [])) (Some (reading e (inside true) [])) front (x ∷ more) (reads_on e (inside false) [] front (inside true, []) (goes []))
@@ -158,7 +158,7 @@ no_declaration table before x s goes dies c =
     let clash : None ≡ Some a.0 = sym dead ∙ a.1 in
     cc
 
-leaves_none : (e : Ending) (spot : Spot) (frames : List Frame) (w : Word) → IsWithin spot frames → leave e spot (frames ++ []) w ≡ None
+pub leaves_none : (e : Ending) (spot : Spot) (frames : List Frame) (w : Word) → IsWithin spot frames → leave e spot (frames ++ []) w ≡ None
 leaves_none e (inside true) [] w h = absurd h
 leaves_none e (inside true) (f ∷ frames) w h = refl
 leaves_none e (inside false) frames w h = refl
@@ -188,7 +188,7 @@ stops_reading table end place tokens rest e due s =
           (along (Some start) (Some (reading e (inside false) [])) due.front s.0 due.goes ∙ reads_on e (inside false) [] s.0 (d.0, d.1 ++ []) (d.2 [])) (λ h. h),
     )
 
-no_go : (w : Word) → is_item w ≡ false → go true [] w ≡ None
+pub no_go : (w : Word) → is_item w ≡ false → go true [] w ≡ None
 no_go Name e = cc
 no_go Forward e = cc
 no_go Backward e = cc

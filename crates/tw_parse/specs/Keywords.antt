@@ -20,10 +20,9 @@ form_of bytes =
     if bytes_eq bytes (codes "%postfix") then Some Postfix else
     None
 
--- whether declarations with a keyword of this form are read; nothing is defined yet, so abbreviations are refused
+-- whether declarations with a keyword of this form are read: all known keywords' are
 abbrev pub is_built : Option Form → Bool
 is_built None = false
-is_built (Some Abbreviation) = false
 is_built (Some form) = true
 
 abbrev pub assoc_of : List ℕ → Option Assoc

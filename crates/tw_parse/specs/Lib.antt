@@ -1,6 +1,7 @@
 pub mod Syntax
 pub mod View
 pub mod Dropping
+pub mod Ascribing
 pub mod Words
 pub mod Keywords
 pub mod Signs
@@ -16,3 +17,4 @@ pub mod Sources
 pub mod Nesting
 pub mod Faults
 pub mod Laws
+pub mod Queries

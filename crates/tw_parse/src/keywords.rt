@@ -27,11 +27,11 @@ pub fn form_of(bytes: &[u8]) -> Option<Form>
     }
 }
 
-/// Whether declarations with a keyword of this form are read. Nothing is defined yet, so abbreviations are refused.
+/// Whether declarations with a keyword of this form are read: all known keywords' are.
 pub fn is_built(form: Option<Form>) -> bool
     ensures { result ≡ is_built form }
 {
-    !matches!(form, None | Some(Form::Abbreviation))
+    form.is_some()
 }
 
 /// The side to which an infix operator associates, by its word.

@@ -13,6 +13,8 @@ mod parts;
 #[tactic(auto, using(crate::proofs::Views::views))]
 mod pile;
 #[tactic(auto, using(crate::proofs::Views::views))]
+mod query;
+#[tactic(auto, using(crate::proofs::Views::views))]
 mod sequences;
 mod sign;
 mod source;
@@ -23,6 +25,7 @@ pub use decl::{ExtDecl, ExtName};
 pub use fault::SyntaxFault;
 pub use laws::{one_outline, one_reading, readings_are_decided};
 pub use parse::parse_decl;
+pub use query::{ExtQuery, parse_query};
 pub use term::ExtTerm;
 
 #[cfg(test)]

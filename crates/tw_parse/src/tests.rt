@@ -1,5 +1,5 @@
 //! Expected values are worked out by hand.
-use crate::{ExtDecl, ExtTerm, SyntaxFault, parse_decl};
+use crate::{ExtDecl, ExtQuery, ExtTerm, SyntaxFault, parse_decl, parse_query};
 use std::alloc::{AllocError, Global};
 use std::test::Fail;
 use tw_fixity::{Assoc, Fix, FixTable, Name};
@@ -123,18 +123,24 @@ fn told(alloc: Global, decl: &Result<ExtDecl, SyntaxFault>) -> Result<String, Al
                 write!(line, "{}", name.at.column)?;
             }
         }
-        Err(SyntaxFault::Unsupported(name, at)) => {
-            line.push_str("unsupported ")?;
-            show_name(&mut line, name)?;
-            write!(line, " {}:{}", at.line, at.column)?;
-        }
-        Err(SyntaxFault::Nesting(at)) => write!(line, "nesting {}:{}", at.line, at.column)?,
-        Err(SyntaxFault::Syntax(at)) => write!(line, "syntax {}:{}", at.line, at.column)?,
-        Err(SyntaxFault::Fixity(at)) => write!(line, "fixity {}:{}", at.line, at.column)?,
-        Err(SyntaxFault::BadDecl(at)) => write!(line, "bad {}:{}", at.line, at.column)?,
-        Err(SyntaxFault::NoMemory) => line.push_str("no memory")?,
+        Err(fault) => show_fault(&mut line, fault)?,
     }
     Ok(line)
+}
+
+fn show_fault(line: &mut String, fault: &SyntaxFault) -> Result<(), AllocError> {
+    match fault {
+        SyntaxFault::Unsupported(name, at) => {
+            line.push_str("unsupported ")?;
+            show_name(line, name)?;
+            write!(line, " {}:{}", at.line, at.column)
+        }
+        SyntaxFault::Nesting(at) => write!(line, "nesting {}:{}", at.line, at.column),
+        SyntaxFault::Syntax(at) => write!(line, "syntax {}:{}", at.line, at.column),
+        SyntaxFault::Fixity(at) => write!(line, "fixity {}:{}", at.line, at.column),
+        SyntaxFault::BadDecl(at) => write!(line, "bad {}:{}", at.line, at.column),
+        SyntaxFault::NoMemory => line.push_str("no memory"),
+    }
 }
 
 #[test]
@@ -348,14 +354,93 @@ fn keywords_are_read(rt: HostRuntime) -> Result<(), Fail> {
         ("%name a X x y.", "bad 1:1"),
         ("%name a.", "bad 1:1"),
         ("%name (a) X.", "bad 1:1"),
-        ("%abbrev d = a + b.", "unsupported %abbrev 1:1"),
-        ("%abbrev d : (a.", "unsupported %abbrev 1:1"),
+        ("%abbrev d = a + b.", "d = ((+15 a13) b17) abbreviated"),
+        ("%abbrev d : a = b.", "d : a13 = b17 abbreviated"),
+        ("%abbrev d : (a.", "syntax 1:15"),
+        ("%abbrev d = a +.", "fixity 1:13"),
+        ("%abbrev d : a.", "bad 1:1"),
+        ("%abbrev d a.", "bad 1:1"),
+        ("%abbrev _ = a.", "bad 1:1"),
+        ("%abbrev.", "bad 1:1"),
         ("%solve d : a.", "unsupported %solve 1:1"),
     ];
     for (text, want) in rows {
         let line = told(alloc, &read(alloc, &table, text))?;
         assert_eq!(rt; line.as_str(), want, "{text}");
     }
+    Ok(())
+}
+
+fn read_query(alloc: Global, fixities: &FixTable, text: &str) -> Result<ExtQuery, SyntaxFault> {
+    let bytes = text.as_bytes();
+    if bytes.len() >= 1_000_000 {
+        return Err(SyntaxFault::NoMemory);
+    }
+    match lex(alloc, bytes, 0, Place { line: 1, column: 1 }) {
+        Ok(tokens) => parse_query(alloc, &tokens, bytes, fixities),
+        Err(_) => Err(SyntaxFault::NoMemory),
+    }
+}
+
+// The goal, with `X := ` in front where it has a name.
+fn told_query(alloc: Global, query: &Result<ExtQuery, SyntaxFault>) -> Result<String, AllocError> {
+    let mut line = String::new(alloc);
+    match query {
+        Ok(query) => {
+            if let Some(name) = &query.name {
+                show_name(&mut line, name)?;
+                line.push_str(" := ")?;
+            }
+            show(&mut line, &query.term)?;
+        }
+        Err(fault) => show_fault(&mut line, fault)?,
+    }
+    Ok(line)
+}
+
+#[test]
+fn queries_are_read(rt: HostRuntime) -> Result<(), Fail> {
+    let alloc = rt.alloc();
+    let table = operators(alloc)?;
+    let rows = [
+        ("nat.", "nat1"),
+        ("f a X.", "((f1 a3) X5)"),
+        ("a + b.", "((+3 a1) b5)"),
+        ("(a : b) c.", "((a2 : b6) c9)"),
+        ("X : a.", "X := a5"),
+        ("_x : a.", "_x := a6"),
+        ("(X : a).", "X := a6"),
+        ("X : a -> b + d.", "X := (a5 > ((+12 b10) d14))"),
+        ("X : {x:a} b.", "X := {5x:a8}b11"),
+        // no name stands on the left
+        ("x : a.", "bad 1:1"),
+        ("_ : a.", "bad 1:1"),
+        ("X a : b.", "bad 1:1"),
+        ("a -> b : d.", "bad 1:1"),
+        ("X : a : b.", "bad 1:1"),
+        // the name stands in the goal
+        ("X : f X.", "bad 1:1"),
+        ("X : a -> X -> b.", "bad 1:1"),
+        ("X : {X:a} b.", "bad 1:1"),
+        ("X : {x:f X} b.", "bad 1:1"),
+        ("X : f ([X] a).", "bad 1:1"),
+        ("X : f (a : X).", "bad 1:1"),
+        ("a +.", "fixity 1:1"),
+        ("X : f (a +).", "fixity 1:8"),
+        ("a", "syntax 1:2"),
+        ("", "syntax 1:1"),
+        (".", "syntax 1:1"),
+        ("a = b.", "syntax 1:3"),
+        ("a).", "syntax 1:2"),
+        ("%name a X.", "syntax 1:1"),
+    ];
+    for (text, want) in rows {
+        let line = told_query(alloc, &read_query(alloc, &table, text))?;
+        assert_eq!(rt; line.as_str(), want, "{text}");
+    }
+    let deep = repeated(alloc, "X : ", "(", 1001, "b.")?;
+    let line = told_query(alloc, &read_query(alloc, &table, deep.as_str()))?;
+    assert_eq!(rt; line.as_str(), "nesting 1:1005");
     Ok(())
 }
 

@@ -1,0 +1,24 @@
+use Rattle.std.proofs.Common.{◌≡◌, ℕ, ◌+◌, List, [], IfErr, drop, sym, subst, rules}
+use Rattle.tw_lexer.specs.declared.token.Token.{Token}
+use Rattle.tw_parse.specs.Queries.{AskingFault, IsShallow}
+use Rattle.tw_parse.specs.Words.{lexemes, first_word}
+use Rattle.tw_parse.specs.declared.words.Word.TheVariants.{Dot}
+use Rattle.tw_parse.proofs.Asking.{query_stands}
+use Rattle.tw_parse.proofs.Dots.{nothing_behind}
+use Rattle.tw_parse.proofs.query.parse_query.Goals as goal
+
+pub query-requires : goal.query-requires
+query-requires c =
+    let text : List ℕ = c.args.text.now in
+    let P : List Token → Type 0 = λ tokens. (i : ℕ) → first_word (drop i (lexemes text tokens)) ≡ Dot → drop (i + 1) (lexemes text tokens) ≡ [] in
+    record { dot = subst P (sym c.deref.ensures.value) (nothing_behind text c.args.tokens.now.list.items c.requires.through_dot.0 c.args.tokens.now.upto c.requires.through_dot.1) }
+
+pub returns-clause-fault : goal.returns-clause-fault
+returns-clause-fault c =
+    let text : List ℕ = c.args.text.now in
+    let table = c.args.fixities.now in
+    let end = c.args.tokens.now.at in
+    let tokens = lexemes text c.args.tokens.now.list.items in
+    let P : List Token → Type 0 = λ ts. IfErr c.query.result (AskingFault table end (lexemes text ts)) in
+    let shallow : IsShallow tokens = search rules in
+    query_stands table end tokens c.query.result shallow (subst P c.deref.ensures.value c.query.ensures.fault)
