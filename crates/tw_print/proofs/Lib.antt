@@ -10,3 +10,4 @@ pub mod Applications
 pub mod Marking
 pub mod Declared
 pub mod Contexts
+pub mod Equal

@@ -1,29 +1,28 @@
--- What is shown is typed.
+-- What is shown has skeletons.
 use Rattle.std.proofs.Common.{◌≡◌, ℕ, zero, suc, ◌≤◌, ◌<◌, List, [], ◌∷◌, length, drop, Bool, true, false, cond, ◌||◌, Option, Some, None, Result, Ok, Err, IfOk, refl, sym, ap, ap₂, ◌∙◌, subst, arith}
 use Rattle.std.specs.List.{slice_get}
 use Rattle.std.proofs.lemmas.Bool.{cond-true, cond-false}
 use mathlib.Core.Path.{fun_ext}
-use Rattle.lf.specs.Syntax.{Head, constant, variable, metavariable, Term, lambda, root, Spine, nil, app, LfType, pi, atom, Kind, kind_pi, star, Skeleton, base, skeleton, weaken, rename_type}
+use Rattle.lf.specs.Syntax.{Head, constant, variable, metavariable, Term, lambda, root, Spine, nil, app, LfType, pi, atom, Kind, kind_pi, star, Skeleton, base, arrow, skeleton, kind_skeleton, weaken, rename_type}
 use Rattle.lf.specs.Substitution.{Image, lift, single, substitute_type, substitute_kind, reduce}
 use Rattle.lf.specs.AtOnce.{shift_by}
-use Rattle.lf.specs.Typing.{Signature, TypeAt, HeadHasType, HasType, SpineType, SpineFitsKind, IsType, IsKind, IsContext, IsSignature, instantiate_type, instantiate_kind}
-use Rattle.lf.specs.SkeletonTyping.{HeadSkeletons, TypeBySkeletons, KindBySkeletons}
-use Rattle.lf.specs.Skeletons.{constant_skeletons, family_skeletons, context_skeletons, family_skeleton}
-use Rattle.lf.specs.Entries.{Entry, entry, type_of, kind_of, signature_of, IsCanonicalSignature}
+use Rattle.lf.specs.Typing.{Signature, TypeAt, HasType, IsType, IsContext, instantiate_type, instantiate_kind}
+use Rattle.lf.specs.SkeletonTyping.{HeadSkeletons, HeadSkeleton, SpineSkeleton, TypeBySkeletons, KindBySkeletons}
+use Rattle.lf.specs.Skeletons.{constant_skeletons, family_skeletons, context_skeletons, type_skeleton, family_skeleton}
+use Rattle.lf.specs.Entries.{Entry, Body, declare_family, declare_constant, declare_definition, entry, type_of, kind_of, signature_of, BodyIsTyped, IsCanonicalSignature}
 use Rattle.lf.specs.Variables.{same_number}
 use Rattle.lf.proofs.Checker.{number_is, number_itself}
 use Rattle.lf.proofs.Entries.{canonical_is_signature}
-use Rattle.lf.proofs.Regular.{head_type as head_is_typed, substitution_keeps_kinds}
 use Rattle.lf.proofs.SkeletonTyping.{single_by_skeletons}
-use Rattle.lf.proofs.Substitution.{instance_is_type, skeleton_context_of, single_substitution_typed, family_kind}
-use Rattle.lf.proofs.ToSkeletons.{typed_has_skeleton, type_by_skeletons, kind_by_skeletons}
-use Rattle.lf.proofs.TypeLaws.{renamings_compose_type}
+use Rattle.lf.proofs.SkeletonTypes.{renaming_keeps_types_by_skeletons, single_type_by_skeletons, single_kind_by_skeletons}
+use Rattle.lf.proofs.Substitution.{constant_type, family_kind}
+use Rattle.lf.proofs.ToSkeletons.{skeleton_has_variable, kind_skeleton_substituted, typed_has_skeleton, type_by_skeletons, kind_by_skeletons}
+use Rattle.lf.proofs.TypeLaws.{renamings_compose_type, skeleton_substituted}
 use Rattle.tw_hered.specs.Fits.{TypeFits}
-use Rattle.tw_hered.proofs.FromTyping.{typed_type_fits}
 use Rattle.tw_print.specs.Names.{Scene}
 use Rattle.tw_print.specs.Arguments.{Argument, with_type, arguments, bare_arguments, kind_as_type, type_or, kind_or, variable_type, head_type, family_type}
 use Rattle.tw_print.specs.ArgumentView.{lambda_test, any_lambda}
-use Rattle.tw_print.specs.Showable.{IsShowable, AreShowable, Takes}
+use Rattle.tw_print.specs.Showable.{HasSkeleton, IsShowableType, IsShowableKind, IsShowableContext, IsShowable, AreShowable, Takes}
 
 one_is_suc : shift_by (suc zero) ≡ suc
 one_is_suc = fun_ext (λ i. omega arith)
@@ -39,11 +38,6 @@ variable_at : (G : List LfType) (i : ℕ) (B : LfType) → TypeAt G i B → B �
 variable_at [] i B h = absurd h
 variable_at (X ∷ G) zero B e = e ∙ sym (ap (λ ρ. rename_type ρ X) one_is_suc)
 variable_at (X ∷ G) (suc i) B (C, h, e) = e ∙ ap weaken (variable_at G i C h) ∙ moved (slice_get G i) i
-
-head_at : (s : Scene) (G : List LfType) (h : Head) (B : LfType) → HeadHasType (signature_of s.entries) G h B → head_type s G h ≡ B
-head_at s G (constant c) B e = ap type_or e
-head_at s G (variable i) B h = sym (variable_at G i B h)
-head_at s G (metavariable m) B h = absurd h
 
 -- the entries have no entry of the number that the next one gets
 pub past : (es : List Entry) (n : ℕ) → length es ≤ n → entry es n ≡ None
@@ -82,39 +76,53 @@ substituted_kind : (d : ℕ) (σ : ℕ → Image) (K : Kind) → kind_as_type d 
 substituted_kind d σ (kind_pi A K) = ap (pi (substitute_type reduce σ A)) (substituted_kind d (lift σ) K)
 substituted_kind d σ star = refl
 
-module _ (Σ : Signature) (ok : IsSignature Σ) (G : List LfType) (g : IsContext Σ G) where
-  takes : (S : Spine) (A C : LfType) → IsType Σ G A → SpineType Σ G S A C → Takes Σ G S A
-  takes nil A C a s = tt
-  takes (app M S) (pi A B) C a (m, s) = (a.0, m, typed_type_fits Σ G A M B m a.1, takes S (instantiate_type A M B) C (instance_is_type Σ ok G A M B g a.0 a.1 m) s)
-  takes (app M S) (atom b T) C a s = absurd s
+-- a variable's type, in its context
+declared_showable : (Σ : Signature) (G : List LfType) (i : ℕ) (A : LfType) → IsShowableContext Σ G → TypeAt G i A → IsShowableType Σ G A
+declared_showable Σ [] i A g h = absurd h
+declared_showable Σ (X ∷ G) zero A (g, a) e =
+    subst (IsShowableType Σ (X ∷ G)) (sym e) (renaming_keeps_types_by_skeletons (family_skeletons Σ) (constant_skeletons Σ) (context_skeletons G) (context_skeletons (X ∷ G)) suc X (λ i t h. h) a)
+declared_showable Σ (X ∷ G) (suc i) A (g, a) (C, h, e) =
+    subst (IsShowableType Σ (X ∷ G)) (sym e)
+    (renaming_keeps_types_by_skeletons (family_skeletons Σ) (constant_skeletons Σ) (context_skeletons G) (context_skeletons (X ∷ G)) suc C (λ i t h. h) (declared_showable Σ G i C g h))
 
-  instance_is_kind : (A : LfType) (M : Term) (K : Kind) → IsKind Σ G (kind_pi A K) → HasType Σ G M A → IsKind Σ G (instantiate_kind A M K)
-  instance_is_kind A M K (a, k) m = substitution_keeps_kinds Σ ok (A ∷ G) G (single (skeleton A) M) K (single_substitution_typed Σ ok G A M (skeleton_context_of Σ ok G g) (type_by_skeletons Σ G A a) m) k
-
-  kind_fits : (d : ℕ) → family_skeletons Σ d ≡ None → (A : LfType) (M : Term) (K : Kind) → IsKind Σ G (kind_pi A K) → HasType Σ G M A → TypeFits (single (skeleton A) M) (kind_as_type d K)
-  kind_fits d n A M K (a, k) m = record {
-    families = with_family d (family_skeletons Σ);
+module _ (Σ : Signature) (G : List LfType) where
+  fits_one : (φ : ℕ → Option Skeleton) (A : LfType) (M : Term) (B : LfType) → HasSkeleton Σ G M (skeleton A) → TypeBySkeletons φ (constant_skeletons Σ) (skeleton A ∷ context_skeletons G) B → TypeFits (single (skeleton A) M) B
+  fits_one φ A M B m b = record {
+    families = φ;
     heads = constant_skeletons Σ;
     context = skeleton A ∷ context_skeletons G;
     target = context_skeletons G;
-    substitution_typed = single_by_skeletons (constant_skeletons Σ) (skeleton A) (context_skeletons G) M (typed_has_skeleton Σ G M A m);
-    type_typed = kind_as_type_by_skeletons d (family_skeletons Σ) (constant_skeletons Σ) (skeleton A ∷ context_skeletons G) K n (kind_by_skeletons Σ (A ∷ G) K k);
+    substitution_typed = single_by_skeletons (constant_skeletons Σ) (skeleton A) (context_skeletons G) M m;
+    type_typed = b;
   }
 
-  takes_kind : (d : ℕ) → family_skeletons Σ d ≡ None → (S : Spine) (K : Kind) → IsKind Σ G K → SpineFitsKind Σ G S K → Takes Σ G S (kind_as_type d K)
-  takes_kind d n nil K k s = tt
-  takes_kind d n (app M S) (kind_pi A K) k (m, s) = (
-    k.0,
+  takes : (S : Spine) (A : LfType) (c : ℕ) → IsShowableType Σ G A → SpineSkeleton (constant_skeletons Σ) (context_skeletons G) S (skeleton A) (base c) → Takes Σ G S A
+  takes nil A c a s = tt
+  takes (app M S) (pi A B) c (a, b) (m, s) = (
+    a,
     m,
-    kind_fits d n A M K k m,
-    subst (Takes Σ G S) (substituted_kind d (single (skeleton A) M) K) (takes_kind d n S (instantiate_kind A M K) (instance_is_kind A M K k m) s),
+    fits_one (family_skeletons Σ) A M B m b,
+    takes S (instantiate_type A M B) c (single_type_by_skeletons (family_skeletons Σ) (constant_skeletons Σ) (skeleton A) (context_skeletons G) M B m b)
+        (subst (λ t. SpineSkeleton (constant_skeletons Σ) (context_skeletons G) S t (base c)) (sym (skeleton_substituted reduce (single (skeleton A) M) B)) s),
   )
-  takes_kind d n (app M S) star k s = absurd s
+  takes (app M S) (atom b T) c a s = absurd s
+
+  takes_kind : (d : ℕ) → family_skeletons Σ d ≡ None → (S : Spine) (K : Kind) (c : ℕ) → IsShowableKind Σ G K → SpineSkeleton (constant_skeletons Σ) (context_skeletons G) S (kind_skeleton c K) (base c) → Takes Σ G S (kind_as_type d K)
+  takes_kind d n nil K c k s = tt
+  takes_kind d n (app M S) (kind_pi A K) c (a, k) (m, s) = (
+    a,
+    m,
+    fits_one (with_family d (family_skeletons Σ)) A M (kind_as_type d K) m (kind_as_type_by_skeletons d (family_skeletons Σ) (constant_skeletons Σ) (skeleton A ∷ context_skeletons G) K n k),
+    subst (Takes Σ G S) (substituted_kind d (single (skeleton A) M) K)
+        (takes_kind d n S (instantiate_kind A M K) c (single_kind_by_skeletons (family_skeletons Σ) (constant_skeletons Σ) (skeleton A) (context_skeletons G) M K m k)
+        (subst (λ t. SpineSkeleton (constant_skeletons Σ) (context_skeletons G) S t (base c)) (sym (kind_skeleton_substituted c reduce (single (skeleton A) M) K)) s)),
+  )
+  takes_kind d n (app M S) star c k s = absurd s
 
 -- the arguments that a type takes can be shown
-one_showable : (Σ : Signature) (G : List LfType) (M : Term) (A : LfType) → IsType Σ G A → HasType Σ G M A → IsShowable Σ G (with_type M A).0 (with_type M A).1
+one_showable : (Σ : Signature) (G : List LfType) (M : Term) (A : LfType) → IsShowableType Σ G A → HasSkeleton Σ G M (skeleton A) → IsShowable Σ G (with_type M A).0 (with_type M A).1
 one_showable Σ G (lambda M) A a m = (a, m)
-one_showable Σ G (root h S) A a m = (A, m)
+one_showable Σ G (root h S) A a m = (skeleton A, m)
 
 pub showable_arguments : (Σ : Signature) (G : List LfType) (S : Spine) (A : LfType) → Takes Σ G S A → AreShowable Σ G (arguments A S)
 showable_arguments Σ G nil A t = tt
@@ -133,29 +141,69 @@ bare (app (lambda M) S) A h = absurd cc
 bare (app (root k T) S) (pi A B) h = ap (λ x. (root k T, None) ∷ x) (bare S (instantiate_type A (root k T) B) h)
 bare (app (root k T) S) (atom a U) h = ap (λ x. (root k T, None) ∷ x) (bare S (atom a U) h)
 
--- the parts of what is typed
-module _ (s : Scene) (G : List LfType) (c : IsCanonicalSignature s.entries) (g : IsContext (signature_of s.entries) G) where
+-- the parts of what can be shown
+module _ (s : Scene) (G : List LfType) (c : IsCanonicalSignature s.entries) (g : IsShowableContext (signature_of s.entries) G) where
+  -- a head has a type of its skeleton
+  record HeadType (h : Head) (t : Skeleton) : Type 0 where
+    pub ty : LfType
+    pub is : head_type s G h ≡ ty
+    pub skeleton_is : skeleton ty ≡ t
+    pub showable : IsShowableType (signature_of s.entries) G ty
+
+  head_showable : (h : Head) (t : Skeleton) → HeadSkeleton (constant_skeletons (signature_of s.entries)) (context_skeletons G) h t → HeadType h t
+  head_showable (constant k) t e = of_constant (type_of (entry s.entries k)) refl e
+    where
+      of_constant : (o : Option LfType) → type_of (entry s.entries k) ≡ o → type_skeleton o ≡ Some t → HeadType (constant k) t
+      of_constant None q f = absurd (none_is_not_some f)
+      of_constant (Some A) q f =
+          let ok = canonical_is_signature s.entries c in
+          record { ty = A; is = ap type_or q; skeleton_is = (let w : skeleton A ≡ t = cc in w); showable = type_by_skeletons (signature_of s.entries) G A (constant_type (signature_of s.entries) ok G k A q) }
+  head_showable (variable i) t e =
+      let v = skeleton_has_variable G i t e in
+      record { ty = v.0; is = sym (variable_at G i v.0 v.1); skeleton_is = v.2; showable = declared_showable (signature_of s.entries) G i v.0 g v.1 }
+  head_showable (metavariable m) t e = absurd (none_is_not_some e)
+
   pub root_takes : (h : Head) (S : Spine) (t : Option LfType) → IsShowable (signature_of s.entries) G (root h S) t → Takes (signature_of s.entries) G S (head_type s G h)
-  root_takes h S t (pi A B, m) = absurd m
-  root_takes h S t (atom a T, (B, k, m)) =
-      let ok = canonical_is_signature s.entries c in
-      subst (Takes (signature_of s.entries) G S) (sym (head_at s G h B k)) (takes (signature_of s.entries) ok G g S B (atom a T) (head_is_typed (signature_of s.entries) ok G h B g k) m)
+  root_takes h S t (arrow a b, m) = absurd m
+  root_takes h S t (base a, (b, k, m)) =
+      let o = head_showable h b k in
+      subst (Takes (signature_of s.entries) G S) (sym o.is) (takes (signature_of s.entries) G S o.ty a o.showable (subst (λ u. SpineSkeleton (constant_skeletons (signature_of s.entries)) (context_skeletons G) S u (base a)) (sym o.skeleton_is) m))
 
-  family_takes_kind : (a : ℕ) (S : Spine) (K : Kind) → kind_of (entry s.entries a) ≡ Some K → SpineFitsKind (signature_of s.entries) G S K → Takes (signature_of s.entries) G S (family_type s a)
-  family_takes_kind a S K e m =
+  family_takes_kind : (a : ℕ) (S : Spine) (o : Option Kind) (t : Skeleton) → kind_of (entry s.entries a) ≡ o → family_skeleton a o ≡ Some t → SpineSkeleton (constant_skeletons (signature_of s.entries)) (context_skeletons G) S t (base a)
+      → Takes (signature_of s.entries) G S (family_type s a)
+  family_takes_kind a S None t e f m = absurd (none_is_not_some f)
+  family_takes_kind a S (Some K) t e f m =
       let ok = canonical_is_signature s.entries c in
+      let same : kind_skeleton a K ≡ t = cc in
       subst (λ L. Takes (signature_of s.entries) G S (kind_as_type (length s.entries) L)) (sym (ap kind_or e))
-      (takes_kind (signature_of s.entries) ok G g (length s.entries) (ap (λ o. family_skeleton (length s.entries) (kind_of o)) (past s.entries (length s.entries) (omega arith))) S K (family_kind (signature_of s.entries) ok G a K e) m)
+      (takes_kind (signature_of s.entries) G (length s.entries) (ap (λ o. family_skeleton (length s.entries) (kind_of o)) (past s.entries (length s.entries) (omega arith))) S K a
+      (kind_by_skeletons (signature_of s.entries) G K (family_kind (signature_of s.entries) ok G a K e))
+      (subst (λ u. SpineSkeleton (constant_skeletons (signature_of s.entries)) (context_skeletons G) S u (base a)) (sym same) m))
 
-  pub family_takes : (a : ℕ) (S : Spine) → IsType (signature_of s.entries) G (atom a S) → Takes (signature_of s.entries) G S (family_type s a)
-  family_takes a S (K, e, m) = family_takes_kind a S K e m
+  pub family_takes : (a : ℕ) (S : Spine) → IsShowableType (signature_of s.entries) G (atom a S) → Takes (signature_of s.entries) G S (family_type s a)
+  family_takes a S (t, e, m) = family_takes_kind a S (kind_of (entry s.entries a)) t refl e m
 
-pub lambda_domain : (Σ : Signature) (G : List LfType) (M : Term) (A B : LfType) → IsShowable Σ G (lambda M) (Some (pi A B)) → IsType Σ G A
+pub lambda_domain : (Σ : Signature) (G : List LfType) (M : Term) (A B : LfType) → IsShowable Σ G (lambda M) (Some (pi A B)) → IsShowableType Σ G A
 lambda_domain Σ G M A B (t, m) = t.0
 
 pub lambda_body : (Σ : Signature) (G : List LfType) (M : Term) (A B : LfType) → IsShowable Σ G (lambda M) (Some (pi A B)) → IsShowable Σ (A ∷ G) M (Some B)
 lambda_body Σ G (lambda M) A B (t, m) = (t.1, m)
-lambda_body Σ G (root h S) A B (t, m) = (B, m)
+lambda_body Σ G (root h S) A B (t, m) = (skeleton B, m)
+
+-- what is typed can be shown
+pub context_showable : (Σ : Signature) (G : List LfType) → IsContext Σ G → IsShowableContext Σ G
+context_showable Σ [] g = tt
+context_showable Σ (A ∷ G) (g, a) = (context_showable Σ G g, type_by_skeletons Σ G A a)
+
+pub type_showable : (Σ : Signature) (G : List LfType) (A : LfType) → IsType Σ G A → IsShowableType Σ G A
+type_showable Σ G A a = type_by_skeletons Σ G A a
+
+pub term_showable : (Σ : Signature) (G : List LfType) (M : Term) (A : LfType) → IsShowableType Σ G A → HasSkeleton Σ G M (skeleton A) → IsShowable Σ G M (Some A)
+term_showable Σ G (lambda M) A a m = (a, m)
+term_showable Σ G (root h S) A a m = (skeleton A, m)
+
+pub typed_showable : (Σ : Signature) (G : List LfType) (M : Term) (A : LfType) → IsType Σ G A → HasType Σ G M A → IsShowable Σ G M (Some A)
+typed_showable Σ G M A a m = term_showable Σ G M A (type_by_skeletons Σ G A a) (typed_has_skeleton Σ G M A m)
 
 -- the same up to equations
 pub takes_by : (Σ : Signature) (G : List LfType) (S T : Spine) (A B : LfType) → Takes Σ G S A → T ≡ S → B ≡ A → Takes Σ G T B
@@ -167,9 +215,29 @@ arguments_by xs S T A B h e f = h ∙ ap (arguments B) e ∙ ap (λ X. arguments
 pub bare_by : (xs : List Argument) (S T : Spine) (A : LfType) → xs ≡ bare_arguments T → T ≡ S → any_lambda T ≡ false → xs ≡ arguments A S
 bare_by xs S T A h e n = h ∙ sym (bare T A n) ∙ ap (arguments A) e
 
-pub context_grows : (Σ : Signature) (G : List LfType) (A : LfType) → IsContext Σ G → IsType Σ G A → IsContext Σ (A ∷ G)
+pub context_grows : (Σ : Signature) (G : List LfType) (A : LfType) → IsShowableContext Σ G → IsShowableType Σ G A → IsShowableContext Σ (A ∷ G)
 context_grows Σ G A g a = (g, a)
 
 pub if_ok : {T E : Type 0} (r : Result T E) (P Q : T → Type 0) → ((x : T) → P x → Q x) → IfOk r P → IfOk r Q
 if_ok (Ok x) P Q f h = f x h
 if_ok (Err e) P Q f h = h
+
+-- in the scene and the context of a page
+pub context_shown : (s r : Scene) (G D : List LfType) → s ≡ r → D ≡ G → IsContext (signature_of r.entries) G → IsShowableContext (signature_of s.entries) D
+context_shown s r G D e f g = subst (λ z. IsShowableContext (signature_of z.entries) D) (sym e) (subst (IsShowableContext (signature_of r.entries)) (sym f) (context_showable (signature_of r.entries) G g))
+
+pub type_shown : (s r : Scene) (G D : List LfType) (A : LfType) → s ≡ r → D ≡ G → IsType (signature_of r.entries) G A → IsShowableType (signature_of s.entries) D A
+type_shown s r G D A e f a = subst (λ z. IsShowableType (signature_of z.entries) D A) (sym e) (subst (λ X. IsShowableType (signature_of r.entries) X A) (sym f) (type_showable (signature_of r.entries) G A a))
+
+pub term_shown : (s r : Scene) (G D : List LfType) (M : Term) (A : LfType) → s ≡ r → D ≡ G → IsType (signature_of r.entries) G A → HasType (signature_of r.entries) G M A → IsShowable (signature_of s.entries) D M (Some A)
+term_shown s r G D M A e f a m = subst (λ z. IsShowable (signature_of z.entries) D M (Some A)) (sym e) (subst (λ X. IsShowable (signature_of r.entries) X M (Some A)) (sym f) (typed_showable (signature_of r.entries) G M A a m))
+
+-- the parts of a declaration
+pub family_shown : (Σ : Signature) (b : Body) (K : Kind) → b ≡ declare_family K → BodyIsTyped Σ b → IsShowableKind Σ [] K
+family_shown Σ b K e t = kind_by_skeletons Σ [] K (subst (BodyIsTyped Σ) e t)
+
+pub constant_shown : (Σ : Signature) (b : Body) (A : LfType) → b ≡ declare_constant A → BodyIsTyped Σ b → IsShowableType Σ [] A
+constant_shown Σ b A e t = type_by_skeletons Σ [] A (subst (BodyIsTyped Σ) e t)
+
+pub defined_shown : (Σ : Signature) (b : Body) (M : Term) (A : LfType) (short : Bool) → b ≡ declare_definition M A short → BodyIsTyped Σ b → IsShowableType Σ [] A × IsShowable Σ [] M (Some A)
+defined_shown Σ b M A short e t = let u = subst (BodyIsTyped Σ) e t in (type_by_skeletons Σ [] A u.0, typed_showable Σ [] M A u.0 u.1)

@@ -218,3 +218,7 @@ type_text s G A = render ((parts s nesting_limit).type G (context_names s G) A)
 
 abbrev pub term_text : Scene → List LfType → Term → LfType → List ℕ
 term_text s G M A = render ((parts s nesting_limit).term G (context_names s G) M (Some A))
+
+-- `M = N`, two terms of a type in a context whose variables have these names
+abbrev pub equal_text : Scene → List LfType → Scope → Term → Term → LfType → List ℕ
+equal_text s G ns M N A = let p = parts s nesting_limit in render (p.term G ns M (Some A) ++ ((space ∷ token (codes "=") ∷ space ∷ []) ++ p.term G ns N (Some A)))

@@ -1,12 +1,12 @@
 //! Declarations, written on a page.
 ghost use Rattle.std.specs.Prelude.{◌≡◌, [], ◌∷◌, OnOk, IfOk, suc};
 ghost use Rattle.lf.specs.Entries.{signature_of, IsCanonicalSignature, BodyIsTyped};
-ghost use Rattle.lf.specs.Typing.{IsContext, IsType, IsKind};
 ghost use Rattle.tw_signature.specs.View.{body_of, entry_of};
 ghost use Rattle.tw_terms.specs.View.{type_of, kind_of};
 ghost use Rattle.tw_print.specs.Marks.{marks_of, kind_marks_of};
 ghost use Rattle.tw_print.specs.Page.{Writes};
 ghost use Rattle.tw_print.specs.SceneView.{scene_in};
+ghost use Rattle.tw_print.specs.Showable.{IsShowableContext, IsShowableKind, IsShowableType};
 ghost use Rattle.tw_print.specs.Shown as layout;
 
 use crate::marks::{first_mark, kind_marks, other_marks, quantifier_marks};
@@ -75,8 +75,8 @@ fn print_leading(
     levels: u64,
 ) -> Result<(), AllocError>
     requires canonical { IsCanonicalSignature (scene_in scene.now).entries }
-    requires context { IsContext (signature_of (scene_in scene.now).entries) page.old.context }
-    requires typed { IsType (signature_of (scene_in scene.now).entries) page.old.context (type_of ty.now) }
+    requires context { IsShowableContext (signature_of (scene_in scene.now).entries) page.old.context }
+    requires typed { IsShowableType (signature_of (scene_in scene.now).entries) page.old.context (type_of ty.now) }
     requires marked { marks.now ≡ marks_of (type_of ty.now) }
     ensures { OnOk result (Writes page.old page.new (layout.leading_type (scene_in scene.now) leading.entry.implicit leading.entry.hints.now levels place page.old.context page.old.scope (type_of ty.now))) }
 {
@@ -116,8 +116,8 @@ fn print_leading_kind(
     levels: u64,
 ) -> Result<(), AllocError>
     requires canonical { IsCanonicalSignature (scene_in scene.now).entries }
-    requires context { IsContext (signature_of (scene_in scene.now).entries) page.old.context }
-    requires typed { IsKind (signature_of (scene_in scene.now).entries) page.old.context (kind_of kind.now) }
+    requires context { IsShowableContext (signature_of (scene_in scene.now).entries) page.old.context }
+    requires typed { IsShowableKind (signature_of (scene_in scene.now).entries) page.old.context (kind_of kind.now) }
     requires marked { marks.now ≡ kind_marks_of (kind_of kind.now) }
     ensures { OnOk result (Writes page.old page.new (layout.leading_kind (scene_in scene.now) leading.entry.implicit leading.entry.hints.now levels place page.old.context page.old.scope (kind_of kind.now))) }
 {
@@ -188,7 +188,7 @@ fn print_leading_type(
     requires canonical { IsCanonicalSignature (scene_in scene.now).entries }
     requires empty_context { page.old.context ≡ [] }
     requires empty_scope { page.old.scope ≡ [] }
-    requires typed { IsType (signature_of (scene_in scene.now).entries) [] (type_of ty.now) }
+    requires typed { IsShowableType (signature_of (scene_in scene.now).entries) [] (type_of ty.now) }
     ensures { OnOk result (Writes page.old page.new (layout.leading_type (scene_in scene.now) leading.entry.implicit leading.entry.hints.now layout.nesting_limit 0 [] [] (type_of ty.now))) }
 {
     let marks = quantifier_marks(alloc, ty)?;

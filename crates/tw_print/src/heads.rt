@@ -2,14 +2,13 @@
 ghost use Rattle.std.specs.Prelude.{◌≡◌, IfOk, map, drop, option_map};
 ghost use Rattle.lf.specs.Entries.{signature_of, IsCanonicalSignature};
 ghost use Rattle.lf.specs.Syntax.{root, atom};
-ghost use Rattle.lf.specs.Typing.{IsContext, IsType};
 ghost use Rattle.tw_terms.specs.View.{head_of, term_of, spine_of, type_of};
 ghost use Rattle.tw_print.specs.ArgumentView.{argument_of};
 ghost use Rattle.tw_print.specs.Arguments as counts;
 ghost use Rattle.tw_print.specs.Names as names;
 ghost use Rattle.tw_print.specs.SceneView.{scene_in};
 ghost use Rattle.tw_print.specs.Shown as layout;
-ghost use Rattle.tw_print.specs.Showable.{IsShowable};
+ghost use Rattle.tw_print.specs.Showable.{IsShowableContext, IsShowableType, IsShowable};
 
 use crate::arguments::{
     Argument, bare_arguments, family_type, has_lambda, head_type, typed_arguments,
@@ -30,7 +29,7 @@ pub fn head_arguments<'a>(
     spine: &'a Spine,
 ) -> Result<Vec<Argument<'a>>, AllocError>
     requires canonical { IsCanonicalSignature (scene_in scene.now).entries }
-    requires context { IsContext (signature_of (scene_in scene.now).entries) page.now.context }
+    requires context { IsShowableContext (signature_of (scene_in scene.now).entries) page.now.context }
     requires typed { IsShowable (signature_of (scene_in scene.now).entries) page.now.context (root (head_of head) (spine_of spine.now)) None }
     ensures { IfOk result (λ xs. map argument_of xs.items ≡ counts.arguments (counts.head_type (scene_in scene.now) page.now.context (head_of head)) (spine_of spine.now)) }
 {
@@ -51,8 +50,8 @@ pub fn family_arguments<'a>(
     spine: &'a Spine,
 ) -> Result<Vec<Argument<'a>>, AllocError>
     requires canonical { IsCanonicalSignature (scene_in scene.now).entries }
-    requires context { IsContext (signature_of (scene_in scene.now).entries) page.now.context }
-    requires typed { IsType (signature_of (scene_in scene.now).entries) page.now.context (atom family.0 (spine_of spine.now)) }
+    requires context { IsShowableContext (signature_of (scene_in scene.now).entries) page.now.context }
+    requires typed { IsShowableType (signature_of (scene_in scene.now).entries) page.now.context (atom family.0 (spine_of spine.now)) }
     ensures { IfOk result (λ xs. map argument_of xs.items ≡ counts.arguments (counts.family_type (scene_in scene.now) family.0) (spine_of spine.now)) }
 {
     if !has_lambda(&spine.args) {

@@ -2,7 +2,6 @@
 ghost use Rattle.std.specs.Prelude.{◌≡◌, [], ◌∷◌, ◌++◌, ◌≤◌, OnOk, IfOk, length, map, option_map};
 ghost use Rattle.lf.specs.Entries.{signature_of, IsCanonicalSignature};
 ghost use Rattle.lf.specs.Syntax.{lambda, pi, root, atom};
-ghost use Rattle.lf.specs.Typing.{IsContext, IsType};
 ghost use Rattle.tw_terms.specs.View.{head_of, term_of, spine_of, type_of};
 ghost use Rattle.tw_print.specs.ArgumentView.{argument_of};
 ghost use Rattle.tw_print.specs.Arguments as counts;
@@ -11,7 +10,7 @@ ghost use Rattle.tw_print.specs.Names as names;
 ghost use Rattle.tw_print.specs.Page.{Writes, Binds};
 ghost use Rattle.tw_print.specs.SceneView.{scene_in};
 ghost use Rattle.tw_print.specs.Shown as layout;
-ghost use Rattle.tw_print.specs.Showable.{IsShowable, AreShowable};
+ghost use Rattle.tw_print.specs.Showable.{IsShowableContext, IsShowableType, IsShowable, AreShowable};
 
 use crate::arguments::Argument;
 use crate::fresh::fresh_name;
@@ -39,7 +38,7 @@ pub fn print_term(
     levels: u64,
 ) -> Result<(), AllocError>
     requires canonical { IsCanonicalSignature (scene_in scene.now).entries }
-    requires context { IsContext (signature_of (scene_in scene.now).entries) page.old.context }
+    requires context { IsShowableContext (signature_of (scene_in scene.now).entries) page.old.context }
     requires typed { IsShowable (signature_of (scene_in scene.now).entries) page.old.context (term_of term.now) (option_map (λ a. type_of a.now) ty) }
     ensures { OnOk result (Writes page.old page.new ((layout.parts (scene_in scene.now) levels).term page.old.context page.old.scope (term_of term.now) (option_map (λ a. type_of a.now) ty.entry))) }
 {
@@ -68,7 +67,7 @@ fn print_lambda(
     inner: u64,
 ) -> Result<(), AllocError>
     requires canonical { IsCanonicalSignature (scene_in scene.now).entries }
-    requires context { IsContext (signature_of (scene_in scene.now).entries) page.old.context }
+    requires context { IsShowableContext (signature_of (scene_in scene.now).entries) page.old.context }
     requires typed { IsShowable (signature_of (scene_in scene.now).entries) page.old.context (lambda (term_of body.now)) (Some (pi (type_of domain.now) (type_of range.now))) }
     ensures { OnOk result (Writes page.old page.new (layout.term_layout (layout.parts (scene_in scene.now) inner) (scene_in scene.now) page.old.context page.old.scope (lambda (term_of body.now)) (Some (pi (type_of domain.now) (type_of range.now))))) }
 {
@@ -94,7 +93,7 @@ fn print_root(
     inner: u64,
 ) -> Result<(), AllocError>
     requires canonical { IsCanonicalSignature (scene_in scene.now).entries }
-    requires context { IsContext (signature_of (scene_in scene.now).entries) page.old.context }
+    requires context { IsShowableContext (signature_of (scene_in scene.now).entries) page.old.context }
     requires typed { IsShowable (signature_of (scene_in scene.now).entries) page.old.context (root (head_of head) (spine_of spine.now)) None }
     ensures { OnOk result (Writes page.old page.new (layout.root_pieces (layout.parts (scene_in scene.now) inner) (scene_in scene.now) page.old.context page.old.scope (head_of head) (spine_of spine.now))) }
 {
@@ -124,8 +123,8 @@ pub fn print_atom(
     inner: u64,
 ) -> Result<(), AllocError>
     requires canonical { IsCanonicalSignature (scene_in scene.now).entries }
-    requires context { IsContext (signature_of (scene_in scene.now).entries) page.old.context }
-    requires typed { IsType (signature_of (scene_in scene.now).entries) page.old.context (atom family.0 (spine_of spine.now)) }
+    requires context { IsShowableContext (signature_of (scene_in scene.now).entries) page.old.context }
+    requires typed { IsShowableType (signature_of (scene_in scene.now).entries) page.old.context (atom family.0 (spine_of spine.now)) }
     ensures { OnOk result (Writes page.old page.new (layout.atom_pieces (layout.parts (scene_in scene.now) inner) (scene_in scene.now) page.old.context page.old.scope family.0 (spine_of spine.now))) }
 {
     let arguments = family_arguments(alloc, scene, page, family, spine)?;
@@ -155,7 +154,7 @@ fn print_application(
     inner: u64,
 ) -> Result<(), AllocError>
     requires canonical { IsCanonicalSignature (scene_in scene.now).entries }
-    requires context { IsContext (signature_of (scene_in scene.now).entries) page.old.context }
+    requires context { IsShowableContext (signature_of (scene_in scene.now).entries) page.old.context }
     requires typed { AreShowable (signature_of (scene_in scene.now).entries) page.old.context (map argument_of arguments.now) }
     ensures { OnOk result (Writes page.old page.new (layout.application (layout.parts (scene_in scene.now) inner) (scene_in scene.now) page.old.context page.old.scope word.now operator (map argument_of arguments.now))) }
 {
@@ -190,7 +189,7 @@ fn print_operation(
     inner: u64,
 ) -> Result<(), AllocError>
     requires canonical { IsCanonicalSignature (scene_in scene.now).entries }
-    requires context { IsContext (signature_of (scene_in scene.now).entries) page.old.context }
+    requires context { IsShowableContext (signature_of (scene_in scene.now).entries) page.old.context }
     requires typed { AreShowable (signature_of (scene_in scene.now).entries) page.old.context (map argument_of arguments.now) }
     requires enough { layout.operand_count fix ≤ length arguments.now }
     ensures { OnOk result (Writes page.old page.new (layout.operation (layout.parts (scene_in scene.now) inner) (scene_in scene.now) page.old.context page.old.scope word.now fix (map argument_of arguments.now))) }
@@ -227,7 +226,7 @@ fn print_operand(
     inner: u64,
 ) -> Result<(), AllocError>
     requires canonical { IsCanonicalSignature (scene_in scene.now).entries }
-    requires context { IsContext (signature_of (scene_in scene.now).entries) page.old.context }
+    requires context { IsShowableContext (signature_of (scene_in scene.now).entries) page.old.context }
     requires typed { IsShowable (signature_of (scene_in scene.now).entries) page.old.context (argument_of argument.now).0 (argument_of argument.now).1 }
     ensures { OnOk result (Writes page.old page.new (layout.operand (layout.parts (scene_in scene.now) inner) (scene_in scene.now) page.old.context page.old.scope (argument_of argument.now))) }
 {
@@ -264,7 +263,7 @@ fn print_argument(
     inner: u64,
 ) -> Result<(), AllocError>
     requires canonical { IsCanonicalSignature (scene_in scene.now).entries }
-    requires context { IsContext (signature_of (scene_in scene.now).entries) page.old.context }
+    requires context { IsShowableContext (signature_of (scene_in scene.now).entries) page.old.context }
     requires typed { IsShowable (signature_of (scene_in scene.now).entries) page.old.context (argument_of argument.now).0 (argument_of argument.now).1 }
     ensures { OnOk result (Writes page.old page.new (layout.argument (layout.parts (scene_in scene.now) inner) (scene_in scene.now) page.old.context page.old.scope (argument_of argument.now))) }
 {
@@ -301,7 +300,7 @@ fn print_spaced(
     inner: u64,
 ) -> Result<(), AllocError>
     requires canonical { IsCanonicalSignature (scene_in scene.now).entries }
-    requires context { IsContext (signature_of (scene_in scene.now).entries) page.old.context }
+    requires context { IsShowableContext (signature_of (scene_in scene.now).entries) page.old.context }
     requires typed { AreShowable (signature_of (scene_in scene.now).entries) page.old.context (map argument_of arguments.now) }
     ensures { OnOk result (Writes page.old page.new (layout.spaced (layout.parts (scene_in scene.now) inner) (scene_in scene.now) page.old.context page.old.scope (map argument_of arguments.now))) }
 {
@@ -323,8 +322,8 @@ pub fn print_type(
     levels: u64,
 ) -> Result<(), AllocError>
     requires canonical { IsCanonicalSignature (scene_in scene.now).entries }
-    requires context { IsContext (signature_of (scene_in scene.now).entries) page.old.context }
-    requires typed { IsType (signature_of (scene_in scene.now).entries) page.old.context (type_of ty.now) }
+    requires context { IsShowableContext (signature_of (scene_in scene.now).entries) page.old.context }
+    requires typed { IsShowableType (signature_of (scene_in scene.now).entries) page.old.context (type_of ty.now) }
     ensures { OnOk result (Writes page.old page.new ((layout.parts (scene_in scene.now) levels).type page.old.context page.old.scope (type_of ty.now))) }
 {
     let marks = quantifier_marks(alloc, ty)?;
@@ -343,8 +342,8 @@ fn print_quantified(
     levels: u64,
 ) -> Result<(), AllocError>
     requires canonical { IsCanonicalSignature (scene_in scene.now).entries }
-    requires context { IsContext (signature_of (scene_in scene.now).entries) page.old.context }
-    requires typed { IsType (signature_of (scene_in scene.now).entries) page.old.context (type_of ty.now) }
+    requires context { IsShowableContext (signature_of (scene_in scene.now).entries) page.old.context }
+    requires typed { IsShowableType (signature_of (scene_in scene.now).entries) page.old.context (type_of ty.now) }
     requires marked { marks.now ≡ marks_of (type_of ty.now) }
     ensures { OnOk result (Writes page.old page.new ((layout.parts (scene_in scene.now) levels).type page.old.context page.old.scope (type_of ty.now))) }
 {
@@ -374,8 +373,8 @@ pub fn bind(
     inner: u64,
 ) -> Result<(), AllocError>
     requires canonical { IsCanonicalSignature (scene_in scene.now).entries }
-    requires context { IsContext (signature_of (scene_in scene.now).entries) page.old.context }
-    requires typed { IsType (signature_of (scene_in scene.now).entries) page.old.context (type_of domain.now) }
+    requires context { IsShowableContext (signature_of (scene_in scene.now).entries) page.old.context }
+    requires typed { IsShowableType (signature_of (scene_in scene.now).entries) page.old.context (type_of domain.now) }
     ensures { OnOk result (Binds page.old page.new (layout.quantifier (layout.parts (scene_in scene.now) inner) (scene_in scene.now) page.old.context page.old.scope (layout.quantifier_name (scene_in scene.now) page.old.scope occurring base.now) (type_of domain.now)) (type_of domain.now) (layout.quantifier_name (scene_in scene.now) page.old.scope occurring base.now)) }
 {
     if occurring {
@@ -401,8 +400,8 @@ fn print_domain(
     inner: u64,
 ) -> Result<(), AllocError>
     requires canonical { IsCanonicalSignature (scene_in scene.now).entries }
-    requires context { IsContext (signature_of (scene_in scene.now).entries) page.old.context }
-    requires typed { IsType (signature_of (scene_in scene.now).entries) page.old.context (type_of domain.now) }
+    requires context { IsShowableContext (signature_of (scene_in scene.now).entries) page.old.context }
+    requires typed { IsShowableType (signature_of (scene_in scene.now).entries) page.old.context (type_of domain.now) }
     ensures { OnOk result (Writes page.old page.new (layout.in_parentheses_if (layout.quantified_test (type_of domain.now)) ((layout.parts (scene_in scene.now) inner).type page.old.context page.old.scope (type_of domain.now)))) }
 {
     if !is_quantified(domain) {

@@ -152,7 +152,14 @@ impl<'a> Scene<'a> {
     pub fn upper_base(self, ty: &Ty) -> &'a [u8]
         ensures { result.now ≡ spec.upper_base (scene_in self.entry) (type_of ty.now) }
     {
-        match self.names.get(target(ty)) {
+        self.preferred_upper(target(ty))
+    }
+
+    /// The uppercase preference of a family, else `X`.
+    pub fn preferred_upper(self, family: ConstId) -> &'a [u8]
+        ensures { result.now ≡ spec.upper_of (map.get (scene_in self.entry).names family.0) }
+    {
+        match self.names.get(family) {
             Some(preference) => preference.upper.as_bytes(),
             None => b"X",
         }

@@ -4,18 +4,24 @@ ghost use Rattle.lf.specs.Entries.{signature_of, BodyIsTyped, IsCanonicalEntry, 
 ghost use Rattle.lf.specs.Typing.{HasType, IsType, IsContext};
 ghost use Rattle.tw_terms.specs.View.{term_of, type_of};
 ghost use Rattle.tw_signature.specs.View.{entry_of};
-ghost use Rattle.tw_print.specs.Shown.{line_of, declaration_line, scene_after, type_text, term_text};
+ghost use Rattle.std.specs.FinMap as map;
+ghost use Rattle.lf.specs.Syntax.{skeleton};
+ghost use Rattle.tw_print.specs.Names.{fresh_name, lower_base, upper_of};
+ghost use Rattle.tw_print.specs.Showable.{HasSkeleton, IsShowableContext, IsShowableType};
+ghost use Rattle.tw_print.specs.Shown.{equal_text, line_of, declaration_line, scene_after, type_text, term_text};
 ghost use Rattle.tw_print.specs.SceneView.{scene_in, with_newest};
 ghost use Rattle.tw_print.specs.ShowEnv.{scene_of};
 
 use crate::context::page_in;
 use crate::declaration::{nesting_limit, print_declaration};
+use crate::fresh;
 use crate::names::Names;
 use crate::page::Page;
 use crate::print::{print_term, print_type};
 use crate::scene::Scene;
 use std::alloc::{AllocError, Global};
-use tw_fixity::FixTable;
+use tw_fixity::{FixTable, Name};
+use tw_scope::Scope;
 use tw_signature::{Entry, Signature};
 use tw_terms::{ConstId, Context, Term, Ty};
 
@@ -42,6 +48,64 @@ impl<'a> ShowEnv<'a> {
             newest,
         }
     }
+}
+
+impl<'a> ShowEnv<'a> {
+    /// The first of a base and the base followed by 1, 2, 3 and so on that isn't taken.
+    pub fn fresh_name(self, alloc: Global, scope: &Scope, base: &[u8]) -> Result<Name, AllocError>
+        ensures { IfOk result (λ n. n ≡ fresh_name (scene_of self.entry) scope.now base.now) }
+    {
+        let scene = self.scene(None);
+        fresh::fresh_name(alloc, &scene, scope, base)
+    }
+
+    /// The base of a variable of this type: the lowercase preference of the target family, else `x`.
+    pub fn lower_base(self, ty: &Ty) -> &'a [u8]
+        ensures { result.now ≡ lower_base (scene_of self.entry) (type_of ty.now) }
+    {
+        let scene = self.scene(None);
+        scene.lower_base(ty)
+    }
+
+    /// The base of an implicit quantifier whose type has this target family: its uppercase preference, else `X`.
+    pub fn upper_base(self, family: ConstId) -> &'a [u8]
+        ensures { result.now ≡ upper_of (map.get (scene_of self.entry).names family.0) }
+    {
+        let scene = self.scene(None);
+        scene.preferred_upper(family)
+    }
+}
+
+/// The text `M = N` of two terms of a type, in a context whose variables have these names. Fails only for want of memory: past 8,192 levels it is the machine's
+/// stack that is wanting.
+pub fn show_equal(
+    alloc: Global,
+    env: &ShowEnv,
+    context: Context,
+    names: Scope,
+    left: &Term,
+    right: &Term,
+    ty: &Ty,
+) -> Result<Vec<u8>, AllocError>
+    requires context { IsShowableContext (signature_of env.now.sig.now) context }
+    requires ty { IsShowableType (signature_of env.now.sig.now) context (type_of ty.now) }
+    requires left { HasSkeleton (signature_of env.now.sig.now) context (term_of left.now) (skeleton (type_of ty.now)) }
+    requires right { HasSkeleton (signature_of env.now.sig.now) context (term_of right.now) (skeleton (type_of ty.now)) }
+    ensures { IfOk result (λ t. t.items ≡ equal_text (scene_of env.now) context names (term_of left.now) (term_of right.now) (type_of ty.now)) }
+{
+    env.sig.is_canonical();
+    let scene = env.scene(None);
+    let mut page = Page {
+        out: Vec::new(alloc),
+        context,
+        scope: names,
+    };
+    print_term(alloc, &scene, &mut page, left, Some(ty), nesting_limit())?;
+    page.space()?;
+    page.token(b"=")?;
+    page.space()?;
+    print_term(alloc, &scene, &mut page, right, Some(ty), nesting_limit())?;
+    Ok(page.out)
 }
 
 /// The text of a term at its type. Fails only for want of memory: past 8,192 levels it is the machine's stack that is wanting.

@@ -1,7 +1,6 @@
 use Rattle.std.proofs.Common.{◌≡◌, ◌+◌, ◌∙◌, sym, ap, subst, arith, rules, None, Some, drop, map, length, ◌≤◌, ◌∷◌, [], codes}
 use Rattle.lf.specs.Entries.{signature_of}
 use Rattle.lf.specs.Syntax.{pi, root, atom}
-use Rattle.lf.specs.Typing.{IsContext}
 use Rattle.tw_terms.specs.View.{head_of, term_of, spine_of, type_of}
 use Rattle.tw_terms.proofs.Args.{types}
 use Rattle.tw_print.specs.ArgumentView.{argument_of}
@@ -11,10 +10,10 @@ use Rattle.tw_print.specs.Shown as layout
 use Rattle.tw_print.specs.Pieces.{token}
 use Rattle.tw_print.specs.Page.{Writes}
 use Rattle.tw_print.specs.SceneView.{scene_in}
-use Rattle.tw_print.specs.Showable.{IsShowable, AreShowable}
+use Rattle.tw_print.specs.Showable.{IsShowableContext, IsShowable, AreShowable}
 use Rattle.tw_print.proofs.Applications.{arguments_at, map-drop, showable_at, count_mapped, rest_of, shown_by}
 use Rattle.tw_print.proofs.Printing.{on_ok, seen_ref, application_by, lambda_written, named_bound, arrow_bound, domain_enclosed, operand_enclosed, argument_enclosed, operation_followed, infix_at, postfix_at, spaced_step, root_at, atom_at, pi_at, first_of_type}
-use Rattle.tw_print.proofs.Typed.{root_takes, family_takes, showable_arguments, showable_drop}
+use Rattle.tw_print.proofs.Typed.{root_takes, family_takes, showable_arguments, showable_drop, lambda_domain, lambda_body, context_grows}
 use Rattle.tw_print.proofs.print.+print.Goals as goal
 
 pub bind-returns-then-occurring : goal.bind-returns-then-occurring
@@ -114,7 +113,7 @@ print_root-returns t c =
 pub print_spaced-print_argument-requires : goal.print_spaced-print_argument-requires
 print_spaced-print_argument-requires t c =
     let g = c.in_ok-space.ensures.context ∙ c.loop-argument.invariant.context in
-    (search rules, (c.requires.canonical, (subst (IsContext (signature_of (scene_in c.args.scene.now).entries)) (sym g) c.requires.context, subst (λ G. IsShowable (signature_of (scene_in c.args.scene.now).entries) G (argument_of c.argument-item.result).0 (argument_of c.argument-item.result).1) (sym g) (showable_at (signature_of (scene_in c.args.scene.now).entries) c.args.page.now.context c.args.arguments.now c.loop-argument.argument-index c.argument-item.result (omega arith) c.argument-item.is c.requires.typed))))
+    (search rules, (c.requires.canonical, (subst (IsShowableContext (signature_of (scene_in c.args.scene.now).entries)) (sym g) c.requires.context, subst (λ G. IsShowable (signature_of (scene_in c.args.scene.now).entries) G (argument_of c.argument-item.result).0 (argument_of c.argument-item.result).1) (sym g) (showable_at (signature_of (scene_in c.args.scene.now).entries) c.args.page.now.context c.args.arguments.now c.loop-argument.argument-index c.argument-item.result (omega arith) c.argument-item.is c.requires.typed))))
 
 pub print_spaced-loop-argument-preserved : goal.print_spaced-loop-argument-preserved
 print_spaced-loop-argument-preserved t c = record {
@@ -128,3 +127,13 @@ pub print_term-returns-in-Root : goal.print_term-returns-in-Root
 print_term-returns-in-Root t c =
     let e : term_of c.args.term.now ≡ root (head_of c.in-Root.head) (spine_of c.in-Root.spine) = grind (arith, types) in
     on_ok c.print_root.result _ _ (root_at (scene_in c.args.scene.now) c.in_ok-inner.inner c.args.page.now c.print_root.new.page (term_of c.args.term.now) (head_of c.in-Root.head) (spine_of c.in-Root.spine) _ c.args.levels c.in_ok-inner.ensures e) c.print_root.ensures
+
+pub print_lambda-print_term-requires : goal.print_lambda-print_term-requires
+print_lambda-print_term-requires t c =
+    let Σ = signature_of (scene_in c.args.scene.now).entries in
+    let G = c.args.page.now.context in
+    let A = type_of c.args.domain.now in
+    let B = type_of c.args.range.now in
+    let M = term_of c.args.body.now in
+    let g : c.enter.new.self.context ≡ A ∷ G = c.in_ok-enter.ensures.context ∙ ap (λ D. A ∷ D) (c.in_ok-close.ensures.context ∙ c.in_ok-print_type.ensures.context ∙ c.in_ok-open.ensures.context) in
+    (search rules, (c.requires.canonical, (subst (IsShowableContext Σ) (sym g) (context_grows Σ G A c.requires.context (lambda_domain Σ G M A B c.requires.typed)), subst (λ D. IsShowable Σ D M (Some B)) (sym g) (lambda_body Σ G M A B c.requires.typed))))

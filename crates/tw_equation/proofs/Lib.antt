@@ -1,0 +1,5 @@
+pub mod Laying
+pub mod LocalTypes
+pub mod Names
+pub mod Skeletons
+pub mod Whole

@@ -1,0 +1,4 @@
+pub mod Text
+pub mod LaidView
+pub mod Locals
+pub mod Sides
