@@ -1,5 +1,6 @@
--- The explicit form: each binder has its type, nothing is left to be found, and each head has just the arguments that its shape asks for.
-use Rattle.std.specs.Prelude.{zero, List, [], ◌∷◌, Bool, true, false, ◌&&◌, Option, None, Some, slice_get, if◌then◌else◌}
+-- The explicit form: each binder has its type, nothing is left to be found, no name is that of a definition or has implicit arguments, and each head has just the arguments
+-- that its shape asks for.
+use Rattle.std.specs.Prelude.{ℕ, zero, List, [], ◌∷◌, Bool, true, false, ◌&&◌, Option, None, Some, slice_get, if◌then◌else◌}
 use Rattle.lf.specs.Entries.{Entry, Body, declare_family, declare_constant, declare_definition, entry}
 use Rattle.lf.specs.Syntax.{Head, constant, variable, metavariable, Skeleton, base, arrow as shape_arrow, LfType, pi as lf_pi, atom, Kind, kind_pi, star as lf_star}
 use Rattle.tw_scope.specs.Names.{Names}
@@ -21,14 +22,15 @@ abbrev pub kind_shape : Kind → Shape
 kind_shape (kind_pi A K) = shape_arrow (shape A) (kind_shape K)
 kind_shape lf_star = point
 
-abbrev pub body_shape : Body → Shape
-body_shape (declare_family K) = kind_shape K
-body_shape (declare_constant A) = shape A
-body_shape (declare_definition M A b) = shape A
+-- A definition has no shape, and neither has what has so many implicit arguments, unless none.
+abbrev pub explicit_shape : ℕ → Body → Option Shape
+explicit_shape zero (declare_family K) = Some (kind_shape K)
+explicit_shape zero (declare_constant A) = Some (shape A)
+explicit_shape _ _ = None
 
 abbrev pub entry_shape : Option Entry → Option Shape
 entry_shape None = None
-entry_shape (Some e) = Some (body_shape e.body)
+entry_shape (Some e) = explicit_shape e.implicit e.body
 
 -- the shape of a written type
 abbrev mutual

@@ -30,8 +30,9 @@ const DEPTH_LIMIT: u32 = 4096;
 
 /// The completion of an explicit declaration: its entry in canonical LF, which may stand over the signature.
 ///
-/// A declaration is explicit where it is `c : U.`, each binder has its type, no hole, free variable or `:` stands in a term, and each head has
-/// just the arguments that its shape asks for. The causes of a refusal are tried in the order of `ExplicitFault`.
+/// A declaration is explicit where it is `c : U.`, each binder has its type, no hole, free variable or `:` stands in a term, no name is that of
+/// a definition or has implicit arguments, and each head has just the arguments that its shape asks for. The causes of a refusal are tried
+/// in the order of `ExplicitFault`.
 pub fn complete(
     alloc: Global,
     signature: &Signature,
@@ -216,7 +217,7 @@ fn constant(alloc: Global, signature: &Signature, term: &ExtTerm) -> Result<Body
 }
 
 /// For each leading quantifier the name of its binder.
-fn hints(alloc: Global, term: &ExtTerm) -> Result<Vec<Option<Name>>, AllocError>
+pub fn hints(alloc: Global, term: &ExtTerm) -> Result<Vec<Option<Name>>, AllocError>
     ensures { IfOk result (λ h. h.items ≡ hints (term_of term.now)) }
 {
     let mut hints = Vec::new(alloc);

@@ -2,7 +2,8 @@
 ghost use Rattle.std.specs.Prelude.{◌≡◌, OnOk, IfOk, MatchOption, Some, option_map, slice_get};
 ghost use Rattle.tw_parse.specs.View.{term_of};
 ghost use Rattle.tw_terms.specs.View.{head_of};
-ghost use Rattle.tw_explicit.specs.Form.{head_shape, is_point, shape_left, is_type_form, is_term_form};
+ghost use Rattle.tw_signature.specs.View.{body_of};
+ghost use Rattle.tw_explicit.specs.Form.{explicit_shape, head_shape, is_point, shape_left, is_type_form, is_term_form};
 ghost use Rattle.lf.specs.Syntax.{arrow as shape_arrow};
 ghost use Rattle.tw_explicit.specs.Shapes.{AsksForNone, shape_of, shapes_of};
 ghost use Rattle.tw_explicit.specs.Scope.{named};
@@ -14,7 +15,7 @@ use std::alloc::{AllocError, Global};
 use tw_fixity::Name;
 use tw_parse::ExtTerm;
 use tw_scope::Scope;
-use tw_signature::{Body, Signature};
+use tw_signature::{Body, Entry, Signature};
 use tw_terms::Head;
 
 /// Whether a written type or kind is in the explicit form, where the named variables in scope have these shapes.
@@ -176,12 +177,22 @@ fn named_shape<'a>(
     ensures { option_map shape_of result ≡ head_shape signature.now (shapes_of shapes.now) (named signature.now scope.now name.now) }
 {
     match named(signature, scope, name)? {
-        Head::Const(id) => match &signature.entry(id)?.body {
-            Body::Family(kind) => Some(Shape::OfKind(kind)),
-            Body::Constant(ty) => Some(Shape::OfType(ty)),
-            Body::Defined { ty, .. } => Some(Shape::OfType(ty)),
-        },
+        Head::Const(id) => entry_shape(signature.entry(id)?),
         Head::Var(variable) => variable_shape(shapes, variable),
+    }
+}
+
+/// The shape of a family or constant that has no implicit arguments.
+fn entry_shape<'a>(entry: &'a Entry) -> Option<Shape<'a>>
+    ensures { option_map shape_of result ≡ explicit_shape entry.now.implicit (body_of entry.now.body) }
+{
+    if entry.implicit > 0 {
+        return None;
+    }
+    match &entry.body {
+        Body::Family(kind) => Some(Shape::OfKind(kind)),
+        Body::Constant(ty) => Some(Shape::OfType(ty)),
+        Body::Defined { .. } => None,
     }
 }
 

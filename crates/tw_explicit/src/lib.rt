@@ -23,7 +23,7 @@ mod shapes;
 #[tactic(auto, using(crate::proofs::Unknowns::unknowns))]
 mod unknown;
 
-pub use completion::{complete, ends_in_type, first_mention};
+pub use completion::{complete, ends_in_type, first_mention, hints};
 pub use fault::ExplicitFault;
 pub use frames::{FRAMES, nested};
 pub use scope::{binder_name, named};

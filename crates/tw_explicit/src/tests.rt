@@ -109,6 +109,45 @@ fn declarations_are_completed(rt: HostRuntime) -> Result<(), Fail> {
     Ok(())
 }
 
+// Declares what the text does, with its first argument hidden.
+fn hide_first(alloc: Global, signature: &mut Signature, text: &str) -> Result<bool, AllocError> {
+    let Some(decl) = read(alloc, text) else {
+        return Ok(false);
+    };
+    let Ok(mut entry) = complete(alloc, signature, &decl) else {
+        return Ok(false);
+    };
+    if entry.hints.len() == 0 {
+        return Ok(false);
+    }
+    entry.implicit = 1;
+    signature.add(entry)?;
+    Ok(true)
+}
+
+// A name with implicit arguments has no shape, even where all its arguments are written.
+#[test]
+fn implicit_arguments_are_not_written(rt: HostRuntime) -> Result<(), Fail> {
+    let alloc = rt.alloc();
+    let mut signature = Signature::new(alloc);
+    for text in ["nat : type.", "z : nat.", "vec : nat -> type."] {
+        let line = answer(alloc, &mut signature, text)?;
+        assert!(rt; line.as_str() != "not read");
+    }
+    assert!(rt; hide_first(alloc, &mut signature, "nil : {n:nat} vec n.")?);
+    assert!(rt; hide_first(alloc, &mut signature, "is : {n:nat} vec n -> type.")?);
+    for (text, want) in [
+        ("a : vec z -> is z (nil z).", "unsupported"),
+        ("a : {v:vec z} is v.", "unsupported"),
+        ("a : is foo nil.", "unknown foo 1:8"),
+        ("a : {v:vec z} nat.", "constant v"),
+    ] {
+        let line = answer(alloc, &mut signature, text)?;
+        assert_eq!(rt; line.as_str(), want, "{text}");
+    }
+    Ok(())
+}
+
 fn repeated(
     alloc: Global,
     before: &str,

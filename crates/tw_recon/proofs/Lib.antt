@@ -1,0 +1,10 @@
+pub mod Steps
+pub mod Closed
+pub mod Naming
+pub mod Numbers
+pub mod Domains
+pub mod Settling
+pub mod Fillings
+pub mod Principals
+pub mod Entering
+pub mod Outcomes

@@ -1,0 +1,6 @@
+use Rattle.std.proofs.Common.{inl, subst}
+use Rattle.tw_approx.specs.Answer.{HasCause}
+use Rattle.tw_recon.proofs.begun.of_skeletons.Goals as goal
+
+pub returns-in-Clash : goal.returns-in-Clash
+returns-in-Clash c = λ es d h. inl (subst (HasCause es d) c.in-Clash.is h)

@@ -1,0 +1,75 @@
+//! A declaration as far as its equations: skeletons, names, metavariables.
+ghost use Rattle.std.specs.Prelude.{◌≡◌, List, IfErr, IfOk, map};
+ghost use Rattle.lf.specs.Entries.{Entry};
+ghost use Rattle.tw_approx.specs.Answer as skeletons;
+ghost use Rattle.tw_approx.specs.Answer.{rows_of};
+ghost use Rattle.tw_parse.specs.Syntax.{Declaration};
+ghost use Rattle.tw_parse.specs.View.{declaration_of};
+ghost use Rattle.tw_resolve.specs.Resolved.{skeletons_of};
+ghost use Rattle.tw_terms.specs.View.{skeleton_of};
+ghost use Rattle.tw_recon.specs.Begun.{IsBegun};
+ghost use Rattle.tw_recon.specs.Causes.{HasCause};
+
+use crate::fault::ReconFault;
+use std::alloc::{AllocError, Global};
+use tw_approx::{Approx, ApproxFault, Row, approximate};
+use tw_elaborate::{ElaborateFault, Elaborated, elaborate};
+use tw_parse::ExtDecl;
+use tw_resolve::resolve;
+use tw_signature::Signature;
+use tw_terms::Skeleton;
+
+/// The free variables of a declaration with their skeletons, and what elaboration makes of it.
+#[derive(Drop)]
+pub struct Begun {
+    pub rows: Vec<Row>,
+    pub elaborated: Elaborated,
+}
+
+/// Finds the skeletons of what isn't written, resolves names, and elaborates.
+pub fn begin(alloc: Global, signature: &Signature, decl: &ExtDecl) -> Result<Begun, ReconFault>
+    ensures begun { IfOk result (λ b. IsBegun signature.now (declaration_of decl.now) b) }
+    ensures refused { IfErr result (λ f. HasCause signature.now (declaration_of decl.now) f) }
+{
+    let Approx { free, omitted } = match approximate(alloc, signature, decl) {
+        Ok(approx) => approx,
+        Err(fault) => return Err(of_skeletons(fault)),
+    };
+    let Some(written) = resolve(alloc, signature, decl, &free, omitted)? else {
+        return Err(ReconFault::NoMemory);
+    };
+    let skeletons = skeletons(alloc, &free)?;
+    signature.is_canonical();
+    match elaborate(alloc, signature, &skeletons, &written) {
+        Ok(elaborated) => Ok(Begun {
+            rows: free,
+            elaborated,
+        }),
+        Err(ElaborateFault::TooDeep) => Err(ReconFault::TooDeep),
+        Err(ElaborateFault::NoMemory) => Err(ReconFault::NoMemory),
+    }
+}
+
+/// A fault of the skeleton pass. A clash of skeletons is a mismatch.
+fn of_skeletons(fault: ApproxFault) -> ReconFault
+    ensures { (es : List Entry) (d : Declaration) → skeletons.HasCause es d fault → HasCause es d result }
+{
+    match fault {
+        ApproxFault::Unknown(name, at) => ReconFault::Unknown(name, at),
+        ApproxFault::TypeLevel(at) => ReconFault::TypeLevel(at),
+        ApproxFault::Clash => ReconFault::Mismatch,
+        ApproxFault::Loose => ReconFault::Loose,
+        ApproxFault::NoMemory => ReconFault::NoMemory,
+    }
+}
+
+/// The skeletons of the free variables.
+fn skeletons(alloc: Global, rows: &[Row]) -> Result<Vec<Skeleton>, AllocError>
+    ensures { IfOk result (λ v. map skeleton_of v.items ≡ skeletons_of (rows_of rows.now)) }
+{
+    let mut skeletons = Vec::with_capacity(alloc, rows.len())?;
+    for row in rows {
+        skeletons.push(row.skeleton.copy(alloc)?)?;
+    }
+    Ok(skeletons)
+}

@@ -1,0 +1,26 @@
+//! Reconstruction: what a declaration leaves out is completed in the most general way.
+//!
+//! The passes: the skeletons of what isn't written (`tw_approx`), names (`tw_resolve`), metavariables and equations (`tw_elaborate`), most general bindings
+//! (`tw_unify`), and what is read off (`tw_readoff`), which the kernel checks once more.
+#![tactic(auto)]
+
+#[tactic(auto, using(crate::proofs::Steps::steps))]
+mod begun;
+#[tactic(auto, using(crate::proofs::Steps::steps))]
+mod bodies;
+#[tactic(auto, using(crate::proofs::Closed::closings))]
+mod closing;
+mod entry;
+mod fault;
+#[tactic(auto, using(crate::proofs::Steps::steps))]
+mod hints;
+mod kernel;
+mod leftover;
+mod reconstruction;
+mod sites;
+
+pub use fault::ReconFault;
+pub use reconstruction::reconstruct;
+
+#[cfg(test)]
+mod tests;

@@ -1,0 +1,416 @@
+//! Declarations, and what they are reconstructed to. Expected values are worked out by hand.
+use crate::{ReconFault, reconstruct};
+use std::alloc::{AllocError, Global};
+use std::process::Abort;
+use std::test::Fail;
+use tw_fixity::{FixTable, Name};
+use tw_lexer::{Place, lex};
+use tw_parse::{ExtDecl, parse_decl};
+use tw_print::{Names, ShowEnv, show_entry};
+use tw_signature::Signature;
+
+// What is declared in front of each row.
+const NUMBERS: [&str; 12] = [
+    "nat : type.",
+    "z : nat.",
+    "s : nat -> nat.",
+    "add : nat -> nat -> nat.",
+    "plus : nat -> nat -> nat -> type.",
+    "vec : nat -> type.",
+    "nil : vec z.",
+    "cons : nat -> vec N -> vec (s N).",
+    "len : {n:nat} vec n -> type.",
+    "r : (nat -> nat) -> type.",
+    "rr : ((nat -> nat) -> nat) -> type.",
+    "it : (nat -> nat) -> nat.",
+];
+
+const FAMILIES: [&str; 5] = [
+    "a : type.",
+    "c : a.",
+    "k : a -> type.",
+    "foo : a -> k X -> k X -> type.",
+    "h : {x:a} k x -> type.",
+];
+
+fn read(alloc: Global, text: &str) -> Option<ExtDecl> {
+    let bytes = text.as_bytes();
+    if bytes.len() >= 1_000_000 {
+        return None;
+    }
+    let fixities = FixTable::new(alloc);
+    let tokens = lex(alloc, bytes, 0, Place { line: 1, column: 1 }).ok()?;
+    parse_decl(alloc, &tokens, bytes, &fixities).ok()
+}
+
+fn declare(alloc: Global, signature: &mut Signature, text: &str) -> Result<(), Fail> {
+    let Some(decl) = read(alloc, text) else {
+        return Err(Fail::from("what is declared in front isn't read"));
+    };
+    match reconstruct(alloc, signature, &decl) {
+        Ok(entry) => {
+            signature.add(entry)?;
+            Ok(())
+        }
+        Err(_) => Err(Fail::from("what is declared in front is refused")),
+    }
+}
+
+// The declarations, and these behind them, one a line.
+fn signature_of(alloc: Global, before: &str) -> Result<Signature, Fail> {
+    let mut signature = Signature::new(alloc);
+    for text in NUMBERS {
+        declare(alloc, &mut signature, text)?;
+    }
+    for text in FAMILIES {
+        declare(alloc, &mut signature, text)?;
+    }
+    for text in before.split('\n') {
+        if !text.is_empty() {
+            declare(alloc, &mut signature, text)?;
+        }
+    }
+    Ok(signature)
+}
+
+fn push_name(line: &mut String, name: &Name) -> Result<(), AllocError> {
+    for byte in name.as_bytes() {
+        line.push(char::from(*byte))?;
+    }
+    Ok(())
+}
+
+fn fault_line(alloc: Global, fault: &ReconFault) -> Result<String, AllocError> {
+    let mut line = String::new(alloc);
+    match fault {
+        ReconFault::Unknown(name, at) => {
+            line.push_str("unknown ")?;
+            push_name(&mut line, name)?;
+            write!(line, " {}:{}", at.line, at.column)?;
+        }
+        ReconFault::TypeLevel(Some(at)) => write!(line, "type level {}:{}", at.line, at.column)?,
+        ReconFault::TypeLevel(None) => line.push_str("type level")?,
+        ReconFault::Loose => line.push_str("loose")?,
+        ReconFault::Mismatch => line.push_str("mismatch")?,
+        ReconFault::Leftover(_) => line.push_str("left over")?,
+        ReconFault::TooDeep => line.push_str("too deep")?,
+        ReconFault::NoMemory => line.push_str("no memory")?,
+    }
+    Ok(line)
+}
+
+// The line of the entry that the declaration gives, or what its fault is.
+fn said(alloc: Global, signature: &Signature, text: &str) -> Result<String, Fail> {
+    let Some(decl) = read(alloc, text) else {
+        return Ok(String::from_str(alloc, "not read")?);
+    };
+    match reconstruct(alloc, signature, &decl) {
+        Ok(entry) => {
+            let env = ShowEnv {
+                sig: signature,
+                fixities: &FixTable::new(alloc),
+                names: &Names::new(alloc),
+                implicit: false,
+            };
+            let line = show_entry(alloc, &env, &entry)?;
+            Ok(String::from_utf8_lossy(alloc, &line)?)
+        }
+        Err(fault) => Ok(fault_line(alloc, &fault)?),
+    }
+}
+
+// Each row: what is declared in front, a declaration, and the line.
+fn check_rows(rt: &impl Abort, alloc: Global, rows: &[(&str, &str, &str)]) -> Result<(), Fail> {
+    for (before, text, wanted) in rows {
+        let signature = signature_of(alloc, before)?;
+        let line = said(alloc, &signature, text)?;
+        assert_eq!(rt; line.as_str(), *wanted, "{text}");
+    }
+    Ok(())
+}
+
+#[test]
+fn free_variables(rt: HostRuntime) -> Result<(), Fail> {
+    let rows = [
+        ("", "t : plus z Y Y.", "t : {Y:nat} plus z Y Y."),
+        (
+            "",
+            "t : plus X Y Z -> plus (s X) Y (s Z).",
+            "t : {X:nat} {Y:nat} {Z:nat} plus X Y Z -> plus (s X) Y (s Z).",
+        ),
+        // in the order of the text, where the head comes first
+        (
+            "",
+            "t : plus (s Y) X (s Z) <- plus X Y Z.",
+            "t : {Y:nat} {X:nat} {Z:nat} plus X Y Z -> plus (s Y) X (s Z).",
+        ),
+        ("", "t : vec N -> type.", "t : {N:nat} vec N -> type."),
+        ("", "t : vec _n.", "t : {_n:nat} vec _n."),
+        ("", "t : r F.", "t : {F:nat -> nat} r ([x:nat] F x)."),
+        ("", "t : nat = X.", "t : nat -> nat = [x:nat] x."),
+        // what a type mentions comes first
+        (
+            "",
+            "t = (V : vec N).",
+            "t : {N:nat} vec N -> vec N = [x:nat] [x1:vec x] x1.",
+        ),
+        (
+            "",
+            "t : len N (V : vec N).",
+            "t : {N:nat} {V:vec N} len N V.",
+        ),
+        // a free variable doesn't depend on what is bound around it
+        ("", "t : {n:nat} vec N.", "t : {N:nat} nat -> vec N."),
+        ("", "t : {x:a} k X.", "t : {X:a} a -> k X."),
+        ("X : nat.", "t : vec X.", "t : vec X."),
+        ("", "t : {X:nat} vec X.", "t : {X:nat} vec X."),
+    ];
+    check_rows(&rt, rt.alloc(), &rows)
+}
+
+#[test]
+fn holes(rt: HostRuntime) -> Result<(), Fail> {
+    let rows = [
+        ("", "t : plus _ z z.", "t : {X:nat} plus X z z."),
+        ("", "t : plus _ _ z.", "t : {X:nat} {X1:nat} plus X X1 z."),
+        ("", "t : plus _ X z.", "t : {X:nat} {X1:nat} plus X X1 z."),
+        // a hole depends on the variables in scope, which that of an arrow isn't
+        (
+            "",
+            "t : {_:nat} vec _.",
+            "t : {X:nat -> nat} {x:nat} vec (X x).",
+        ),
+        (
+            "",
+            "t : {n:nat} vec _.",
+            "t : {X:nat -> nat} {n:nat} vec (X n).",
+        ),
+        (
+            "",
+            "t : {n:nat} {m:nat} vec _.",
+            "t : {X:nat -> nat -> nat} {n:nat} {m:nat} vec (X n m).",
+        ),
+        ("", "t : nat -> vec _.", "t : {X:nat} nat -> vec X."),
+        ("", "t : len _ nil.", "t : len z nil."),
+        ("", "t : vec _ -> type.", "t : {X:nat} vec X -> type."),
+        ("", "t : r _.", "t : {X:nat -> nat} r ([x:nat] X x)."),
+        ("", "t : r ([x] _).", "t : {X:nat -> nat} r ([x:nat] X x)."),
+        (
+            "",
+            "t : nat -> nat = [x] _.",
+            "t : (nat -> nat) -> nat -> nat = [x:nat -> nat] [x1:nat] x x1.",
+        ),
+        ("", "t : nat = _.", "t : nat -> nat = [x:nat] x."),
+        // one for a type
+        ("", "t : _ = z.", "t : nat = z."),
+        ("", "t : _ = nil.", "t : vec z = nil."),
+        ("", "t : vec _ = cons z nil.", "t : vec (s z) = cons z nil."),
+        ("", "t : nat -> _ = [x] x.", "t : nat -> nat = [x:nat] x."),
+    ];
+    check_rows(&rt, rt.alloc(), &rows)
+}
+
+#[test]
+fn binders_without_a_type(rt: HostRuntime) -> Result<(), Fail> {
+    let rows = [
+        ("", "t : {n} vec n.", "t : {n:nat} vec n."),
+        ("", "t : {n} vec n -> type.", "t : {n:nat} vec n -> type."),
+        ("", "t : {n} {v} len n v.", "t : {n:nat} {v:vec n} len n v."),
+        ("", "t : {v} len z v.", "t : {v:vec z} len z v."),
+        ("", "t : {v} len _ v.", "t : {X:nat} {v:vec X} len X v."),
+        ("", "t : r ([x] s x).", "t : r ([x:nat] s x)."),
+        ("", "t = [x] s x.", "t : nat -> nat = [x:nat] s x."),
+        (
+            "",
+            "t = [n] [v] cons n v.",
+            "t : {X:nat -> nat} {n:nat} vec (X n) -> vec (s (X n)) = [x:nat -> nat] [x1:nat] [x2:vec (x x1)] cons x1 x2.",
+        ),
+        (
+            "",
+            "t : nat -> nat = [x] X.",
+            "t : nat -> nat -> nat = [x:nat] [x1:nat] x.",
+        ),
+        (
+            "rep : {n:nat} vec n.",
+            "t = [n] rep n.",
+            "t : {n:nat} vec n = [x:nat] rep x.",
+        ),
+        // only a leading quantifier keeps its name
+        ("", "t : ({n} vec n) -> nat.", "t : ({x:nat} vec x) -> nat."),
+    ];
+    check_rows(&rt, rt.alloc(), &rows)
+}
+
+#[test]
+fn long_forms(rt: HostRuntime) -> Result<(), Fail> {
+    let rows = [
+        ("", "t : r s.", "t : r ([x:nat] s x)."),
+        ("", "t : r (add z).", "t : r ([x:nat] add z x)."),
+        (
+            "",
+            "t : rr it.",
+            "t : rr ([x:nat -> nat] it ([x1:nat] x x1)).",
+        ),
+        ("", "t = add z.", "t : nat -> nat = [x:nat] add z x."),
+        ("", "t : vec (([x:nat] s x) z).", "t : vec (s z)."),
+        ("", "t : vec (([x] s x) z).", "t : vec (s z)."),
+        (
+            "",
+            "t : vec (([f:nat -> nat] f (f z)) s).",
+            "t : vec (s (s z)).",
+        ),
+        // what reduction drops keeps its quantifier
+        ("", "t = ([x:nat] z) X.", "t : nat -> nat = [x:nat] z."),
+        ("", "t = ([x:nat] z) _.", "t : nat -> nat = [x:nat] z."),
+        ("", "t : vec (N : nat).", "t : {N:nat} vec N."),
+        ("", "t : (nat : type).", "t : nat."),
+        ("", "t : (vec : nat -> type) N.", "t : {N:nat} vec N."),
+        (
+            "",
+            "t = (cons z nil : vec _).",
+            "t : vec (s z) = cons z nil.",
+        ),
+        ("", "t = (z : _).", "t : nat = z."),
+        ("", "t : r (s : nat -> nat).", "t : r ([x:nat] s x)."),
+    ];
+    check_rows(&rt, rt.alloc(), &rows)
+}
+
+#[test]
+fn implicit_arguments(rt: HostRuntime) -> Result<(), Fail> {
+    let rows = [
+        ("", "t = cons z nil.", "t : vec (s z) = cons z nil."),
+        (
+            "",
+            "t = cons z V.",
+            "t : {X:nat} vec X -> vec (s X) = [x:nat] [x1:vec x] cons z x1.",
+        ),
+        (
+            "",
+            "t : vec (s z) = cons z V.",
+            "t : vec z -> vec (s z) = [x:vec z] cons z x.",
+        ),
+        ("", "t : len N nil.", "t : len z nil."),
+        (
+            "",
+            "t : len (s N) (cons z V).",
+            "t : {N:nat} {V:vec N} len (s N) (cons z V).",
+        ),
+        // no variable stands alone for the quantifier
+        (
+            "",
+            "t : len N (cons z V).",
+            "t : {X:nat} {V:vec X} len (s X) (cons z V).",
+        ),
+        // it stands at the head, whose implicit argument it is, so before the variables that are written
+        (
+            "",
+            "t : foo Y D (W : k X).",
+            "t : {X:a} {Y:a} {D:k X} {W:k X} foo Y D W.",
+        ),
+        // the first of two that are equal gives its name
+        (
+            "",
+            "t : len X (V : vec Y).",
+            "t : {X:nat} {V:vec X} len X V.",
+        ),
+        (
+            "",
+            "t : len Y (V : vec X).",
+            "t : {Y:nat} {V:vec Y} len Y V.",
+        ),
+        (
+            "d = cons z V.",
+            "t = d.",
+            "t : {X:nat} vec X -> vec (s X) = [x:nat] [x1:vec x] cons z x1.",
+        ),
+        (
+            "d = cons z V.",
+            "t : vec (s z) = d.",
+            "t : vec z -> vec (s z) = [x:vec z] cons z x.",
+        ),
+        ("f : vec N -> type.", "t : f nil.", "t : f nil."),
+        (
+            "f : vec N -> type.",
+            "t : f V.",
+            "t : {X:nat} {V:vec X} f V.",
+        ),
+        (
+            "f : vec N -> type.",
+            "t : f V -> len N V.",
+            "t : {N:nat} {V:vec N} f V -> len N V.",
+        ),
+        (
+            "f : vec N -> type.",
+            "t : vec N -> f V.",
+            "t : {N:nat} {X:nat} {V:vec X} vec N -> f V.",
+        ),
+        ("g : k X -> type.", "t : g (D : k c).", "t : {D:k c} g D."),
+        // alone, up to eta
+        (
+            "qq : {f:nat -> nat} r f -> type.",
+            "t : qq _ (Q : r F).",
+            "t : {F:nat -> nat} {Q:r ([x:nat] F x)} qq ([x:nat] F x) Q.",
+        ),
+    ];
+    check_rows(&rt, rt.alloc(), &rows)
+}
+
+#[test]
+fn names(rt: HostRuntime) -> Result<(), Fail> {
+    let rows = [
+        (
+            "",
+            "t : {x:nat} {x:vec x} nat.",
+            "t : {x:nat} vec x -> nat.",
+        ),
+        (
+            "",
+            "t : {x:nat} {x:vec x} len _ x.",
+            "t : {x:nat} {x1:vec x} len x x1.",
+        ),
+        ("", "t : {z:nat} vec z.", "t : {z1:nat} vec z1."),
+        ("nat : type.", "t : vec z -> nat.", "t : vec z -> nat."),
+        ("nat : type.", "t : {n} vec n.", "t : {n:%nat%} vec n."),
+        ("", "_ : nat = z.", "_ : nat = z."),
+        ("", "_ = s.", "_ : nat -> nat = [x:nat] s x."),
+    ];
+    check_rows(&rt, rt.alloc(), &rows)
+}
+
+#[test]
+fn refused(rt: HostRuntime) -> Result<(), Fail> {
+    let rows = [
+        ("", "t : foo1 -> nat.", "unknown foo1 1:5"),
+        ("", "t : vec (bar z) -> foo1.", "unknown bar 1:10"),
+        ("", "t : nat = nat.", "type level"),
+        ("", "t : type = nat.", "type level"),
+        ("", "t : [x:nat] nat.", "type level 1:5"),
+        // no skeletons, or more than one choice of them
+        ("", "t : z.", "mismatch"),
+        ("", "t : s X.", "mismatch"),
+        ("", "t : X.", "mismatch"),
+        ("", "t : vec nat.", "mismatch"),
+        ("", "t : vec z z.", "mismatch"),
+        ("", "t : vec.", "mismatch"),
+        ("", "t : vec ([x:nat] x).", "mismatch"),
+        ("", "t : nat -> type -> type.", "mismatch"),
+        ("", "t : vec X -> k X.", "mismatch"),
+        ("", "t = (z : vec z).", "mismatch"),
+        ("", "%name nat N.", "mismatch"),
+        ("", "t = X.", "loose"),
+        ("", "t = _.", "loose"),
+        ("", "t : nat -> _.", "loose"),
+        ("", "t : {v} nat.", "loose"),
+        ("", "t : _ -> nat = [x] z.", "loose"),
+        ("", "t = ([x] z) _.", "loose"),
+        // no indices
+        ("", "t : len (s z) nil.", "mismatch"),
+        ("", "t = (nil : vec (s z)).", "mismatch"),
+        ("", "t : len X (V : vec (s X)).", "mismatch"),
+        ("", "t : {n:nat} len n V.", "mismatch"),
+        // E V = c is outside the pattern fragment
+        ("", "t : h c (W : k (E (V : a))).", "left over"),
+    ];
+    check_rows(&rt, rt.alloc(), &rows)
+}
