@@ -19,7 +19,8 @@ use Rattle.reading_back.specs.Names.{EachIs, IsPlainByte, IsName}
 use Rattle.reading_back.specs.Sketches.{Sketch, classifier_sketch}
 use Rattle.reading_back.specs.Spelling.{Spells, IsUnhidden}
 use Rattle.reading_back.specs.Tokens.{BeginWith}
-use Rattle.reading_back.proofs.Kept.{good_name, good_leading, classifier_kept}
+use Rattle.reading_back.proofs.Explicit.{given_is_explicit}
+use Rattle.reading_back.proofs.Kept.{good_name, good_leading, classifier_kept, classifier_open}
 use Rattle.reading_back.proofs.Laying.{same_pieces, classifier_is}
 use Rattle.reading_back.proofs.Legibility.{type_legible, family_kind_legible}
 use Rattle.reading_back.proofs.Lexing.{IsSpaced, Lexed, lexed, colon, word_is_fixed}
@@ -104,6 +105,7 @@ open_reads_back s es table e text after from o p w h =
       written = r.1;
       reads = r.2;
       only = (one_reading table (lexemes text k.0) (syntax.declare e.name r.0 r.1) r.2).0;
+      explicit = given_is_explicit es e.name r.0 r.1 e.body (classifier_open s es e r.1 o.over p.typed p.hints w.unhidden r.3) (body_given es r.1 e.body p.declared g);
       entry = record { name = e.name; body = e.body; implicit = zero; hints = hints r.1 };
       completes = record { name = refl; body = body_given es r.1 e.body p.declared g; implicit = refl; hint_each = refl };
       same = refl;

@@ -1,5 +1,5 @@
 -- What is shown of an entry gives the entry's kind, type and term.
-use Rattle.std.proofs.Common.{◌≡◌, ℕ, ◌≤◌, List, length, Bool, true, false, Option, Some, None, refl}
+use Rattle.std.proofs.Common.{◌≡◌, ℕ, ◌≤◌, List, [], length, Bool, true, false, Option, Some, None, refl}
 use Rattle.std.specs.Prelude.{nat_lt, if◌then◌else◌}
 use Rattle.std.specs.List.{slice_get}
 use Rattle.std.specs.FinMap as map
@@ -16,6 +16,7 @@ use Rattle.reading_back.specs.Names.{IsName, PreferNames, HasGoodPreferences, Ar
 use Rattle.reading_back.specs.Sketches.{classifier_sketch}
 use Rattle.reading_back.specs.Spelling.{Spells, IsUnhidden}
 use Rattle.reading_back.proofs.Choosing.{chosen, upper_default, lower_default}
+use Rattle.reading_back.proofs.Openness.{NamesOpen}
 use Rattle.reading_back.proofs.Parts.{IsNew, IsGood}
 use Rattle.reading_back.proofs.Meaning.{leading_type_kept, leading_kind_kept, defined_kept}
 
@@ -66,13 +67,18 @@ module _ (s : Scene) (es : List Entry) (o : IsOver s es) where
   leading implicit hints h ns k A deep = (good_leading s o.room o.preferences implicit hints h ns k A deep).new
 
   kept_by : (b : Body) (implicit : ℕ) (hints : List (Option (List ℕ))) (U : syntax.Term) → BodyIsTyped (signature_of es) b → AreGoodHints hints
-      → IsUnhidden s (classifier_sketch s implicit hints b) → Spells (classifier_sketch s implicit hints b) U → GivesClassifier es U b
+      → IsUnhidden s (classifier_sketch s implicit hints b) → Spells (classifier_sketch s implicit hints b) U → GivesClassifier es U b × NamesOpen es [] U
   kept_by (declare_family K) implicit hints U t h u w = leading_kind_kept s o.newer es o.entries o.canonical (canonical_is_signature es o.canonical) fresh implicit hints (leading implicit hints h) K t u U w
   kept_by (declare_constant A) implicit hints U t h u w = leading_type_kept s o.newer es o.entries o.canonical (canonical_is_signature es o.canonical) fresh implicit hints (leading implicit hints h) A t u U w
   kept_by (declare_definition M A b) implicit hints U t h u w = leading_type_kept s o.newer es o.entries o.canonical (canonical_is_signature es o.canonical) fresh implicit hints (leading implicit hints h) A t.0 u U w
 
 pub classifier_kept : ClassifierIsKept
-classifier_kept s es e U o t h u w = kept_by s es o e.body e.implicit e.hints U t h u w
+classifier_kept s es e U o t h u w = (kept_by s es o e.body e.implicit e.hints U t h u w).0
+
+-- and each name in it is open
+pub classifier_open : (s : Scene) (es : List Entry) (e : Entry) (U : syntax.Term) → IsOver s es → BodyIsTyped (signature_of es) e.body → AreGoodHints e.hints
+    → IsUnhidden s (classifier_sketch s e.implicit e.hints e.body) → Spells (classifier_sketch s e.implicit e.hints e.body) U → NamesOpen es [] U
+classifier_open s es e U o t h u w = (kept_by s es o e.body e.implicit e.hints U t h u w).1
 
 pub definition_kept : DefinedIsKept
-definition_kept s es M A P o a m u w = defined_kept s o.newer es o.entries o.canonical (canonical_is_signature es o.canonical) (fresh s es o) M A a m u P w
+definition_kept s es M A P o a m u w = (defined_kept s o.newer es o.entries o.canonical (canonical_is_signature es o.canonical) (fresh s es o) M A a m u P w).0

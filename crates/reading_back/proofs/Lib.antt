@@ -2,6 +2,8 @@ mod Occurring
 mod Scopes
 mod Heads
 mod Parts
+mod Openness
+mod Explicit
 mod Meaning
 mod Fresh
 mod Choosing

@@ -1,6 +1,6 @@
 -- What a sketch is written as gives what it was sketched from.
 use Rattle.std.proofs.Common.{◌≡◌, ℕ, zero, suc, ◌+◌, ◌≤◌, List, [], ◌∷◌, ◌++◌, length, drop, Bool, true, false, cond, Option, Some, None, option_map, refl, sym, ap, ◌∙◌, subst, arith}
-use Rattle.lf.specs.Entries.{Entry, signature_of, IsCanonicalSignature}
+use Rattle.lf.specs.Entries.{Entry, entry, signature_of, IsCanonicalSignature}
 use Rattle.lf.specs.Syntax.{Head, constant, variable, metavariable, Term, lambda, root, Spine, nil, app, LfType, pi, atom, Kind, kind_pi, star, skeleton}
 use Rattle.lf.specs.Substitution.{single}
 use Rattle.lf.specs.Typing.{HeadHasType, HasType, SpineType, SpineFitsKind, IsType, IsKind, IsSignature, instantiate_type, instantiate_kind}
@@ -13,7 +13,7 @@ use Rattle.tw_explicit.specs.Completion.{then, TermGives, SpineGives, FamilyGive
 use Rattle.tw_scope.specs.Names.{Names, variable_of}
 use Rattle.tw_explicit.specs.Scope.{binder_name, head_named, named}
 use Rattle.tw_parse.specs.Syntax as syntax
-use Rattle.tw_print.specs.Arguments.{with_type, arguments, kind_as_type, head_type, family_type, hidden, head_hidden}
+use Rattle.tw_print.specs.Arguments.{implicit_in, with_type, arguments, kind_as_type, head_type, family_type, hidden, head_hidden}
 use Rattle.tw_scope.specs.Names.{Names as Scope}
 use Rattle.tw_print.specs.Names.{Scene, head_word, constant_word, variable_word, fresh_name, lower_base, word_in}
 use Rattle.tw_print.specs.Shown.{leading_base, nesting_limit}
@@ -24,7 +24,8 @@ use Rattle.reading_back.specs.Spelling.{Spells, SpellsArguments, IsOpen, IsUnhid
 use Rattle.reading_back.proofs.Occurring.{type_hidden, occurs_as_type}
 use Rattle.reading_back.proofs.Scopes.{shown, name_of, InScope, variable_named, bind, pass}
 use Rattle.reading_back.proofs.Parts.{typed_uses, IsNew, IsAt, any_term, under_named, head_spine, nothing_hidden, no_variables, head_uses, kind_uses, instance_is_kind, instance_uses_kind, empty_scope}
-use Rattle.reading_back.proofs.Heads.{substituted_kind, head_at, family_at, constant_number, family_number}
+use Rattle.reading_back.proofs.Heads.{kept, entry_of_type, entry_of_kind, substituted_kind, head_at, family_at, constant_number, family_number}
+use Rattle.reading_back.proofs.Openness.{NamesOpen}
 
 some_inj : {X : Type 0} {x y : X} → Some x ≡ Some y → x ≡ y
 some_inj e = cc
@@ -46,13 +47,13 @@ followed_nil nil = refl
 followed_nil (app M S) = ap (app M) (followed_nil S)
 
 abbrev pub GivesTerm : List Entry → Scope → List LfType → Sketch → LfType → Term → Type 0
-GivesTerm es ns G t A M = (P : syntax.Term) → Spells t P → TermGives es ns G P A M
+GivesTerm es ns G t A M = (P : syntax.Term) → Spells t P → TermGives es ns G P A M × NamesOpen es ns P
 
 abbrev pub GivesType : List Entry → Scope → List LfType → Sketch → LfType → Type 0
-GivesType es ns G t A = (P : syntax.Term) → Spells t P → TypeGives es ns G P A
+GivesType es ns G t A = (P : syntax.Term) → Spells t P → TypeGives es ns G P A × NamesOpen es ns P
 
 abbrev pub GivesKind : List Entry → Scope → List LfType → Sketch → Kind → Type 0
-GivesKind es ns G t K = (P : syntax.Term) → Spells t P → KindGives es ns G P K
+GivesKind es ns G t K = (P : syntax.Term) → Spells t P → KindGives es ns G P K × NamesOpen es ns P
 
 -- the spine of a name with its arguments is a term, and that of a family a type
 term_of_spine : (es : List Entry) (ns : Names) (G : List LfType) (P : syntax.Term) (h : Head) (S : Spine) (a : ℕ) (T : Spine) → SpineGives es ns G P h S (atom a T) → TermGives es ns G P (atom a T) (root h S)
@@ -87,6 +88,22 @@ module _ (s : Scene) (newer es : List Entry) (split : s.entries ≡ newer ++ es)
       ap (λ y. head_named (variable_of ns y) (number_of es y)) w ∙ ap (λ v. head_named v (number_of es x.0)) (i.named j x.0 x.1)
   names_head G ns i (metavariable m) A S t u o = absurd t
 
+  -- a name of an open constant names nothing else
+  constant_open : (c : ℕ) (e : Entry) → entry es c ≡ Some e → implicit_in (entry s.entries c) ≡ zero → implicit_in (entry es c) ≡ zero
+  constant_open c e h o = ap implicit_in (h ∙ sym (kept newer es c e h) ∙ ap (λ xs. entry xs c) (sym split)) ∙ o
+
+  name_open : (G : List LfType) (ns : Scope) (h : Head) (A : LfType) (x : List ℕ) → HeadHasType (signature_of es) G h A → named es ns x ≡ Some h → IsOpen s h → (c : ℕ) → named es ns x ≡ Some (constant c) → implicit_in (entry es c) ≡ zero
+  name_open G ns (constant d) A x t n o c q =
+      let same : d ≡ c = let e : Some (constant d) ≡ Some (constant c) = sym n ∙ q in cc in
+      let e = entry_of_type es d A t in subst (λ k. implicit_in (entry es k) ≡ zero) same (constant_open d e.0 e.1 o.1)
+  name_open G ns (variable j) A x t n o c q = let e : Some (variable j) ≡ Some (constant c) = sym n ∙ q in cc
+  name_open G ns (metavariable m) A x t n o c q = absurd t
+
+  family_open : (ns : Scope) (a : ℕ) (K : Kind) (x : List ℕ) → (signature_of es).kinds a ≡ Some K → named es ns x ≡ Some (constant a) → IsOpen s (constant a) → (c : ℕ) → named es ns x ≡ Some (constant c) → implicit_in (entry es c) ≡ zero
+  family_open ns a K x t n o c q =
+      let same : a ≡ c = let e : Some (constant a) ≡ Some (constant c) = sym n ∙ q in cc in
+      let e = entry_of_kind es a K t in subst (λ k. implicit_in (entry es k) ≡ zero) same (constant_open a e.0 e.1 o.1)
+
   -- the sketches of this many levels are written as what they were sketched from
   pub record Level (n : ℕ) : Type 0 where
     pub terms : (G : List LfType) (ns : Scope) → InScope s (signature_of es) G ns → length ns + n ≤ nesting_limit → (M : Term) (A : LfType) (t : Option LfType) → IsAt M A t
@@ -102,64 +119,77 @@ module _ (s : Scene) (newer es : List Entry) (split : s.entries ≡ newer ++ es)
     argument_gives (lambda M) A a v m u o = level.terms G ns i room (lambda M) A (Some A) refl a v m u o
     argument_gives (root h S) A a v m u o = level.terms G ns i room (root h S) A None tt a v m u o
 
-    spine_gives : (S T : Spine) (Q P : syntax.Term) (h : Head) (A C : LfType) → SpineGives es ns G Q h T A → IsType (signature_of es) G A → UsesType (shown ns) A → SpineType (signature_of es) G S A C → UsesSpine (shown ns) S
-        → AreUnhidden s (sketches (hand s n) s G ns (arguments A S)) → SpellsArguments Q (sketches (hand s n) s G ns (arguments A S)) P → SpineGives es ns G P h (followed T S) C
-    spine_gives nil T Q P h A C g a v m u o w =
-        subst (λ X. SpineGives es ns G X h (followed T nil) C) (sym w)
-        (subst (λ X. SpineGives es ns G Q h X C) (sym (followed_nil T)) (subst (SpineGives es ns G Q h T) m g))
-    spine_gives (app M S) T Q P h (pi A B) C g a v (m, k) u o (N, w, r) =
-        subst (λ X. SpineGives es ns G P h X C) (followed_then T S M)
-        (spine_gives S (then T M) (syntax.application Q N) P h (instantiate_type A M B) C
-        (A, B, T, M, g, argument_gives M A a.0 v.0 m u.0 o.0 N w, refl, refl)
+    spine_gives : (S T : Spine) (Q P : syntax.Term) (h : Head) (A C : LfType) → SpineGives es ns G Q h T A → NamesOpen es ns Q → IsType (signature_of es) G A → UsesType (shown ns) A → SpineType (signature_of es) G S A C → UsesSpine (shown ns) S
+        → AreUnhidden s (sketches (hand s n) s G ns (arguments A S)) → SpellsArguments Q (sketches (hand s n) s G ns (arguments A S)) P → SpineGives es ns G P h (followed T S) C × NamesOpen es ns P
+    spine_gives nil T Q P h A C g open_so a v m u o w = (
+      subst (λ X. SpineGives es ns G X h (followed T nil) C) (sym w)
+          (subst (λ X. SpineGives es ns G Q h X C) (sym (followed_nil T)) (subst (SpineGives es ns G Q h T) m g)),
+      subst (NamesOpen es ns) (sym w) open_so,
+    )
+    spine_gives (app M S) T Q P h (pi A B) C g open_so a v (m, k) u o (N, w, r) =
+        let given = argument_gives M A a.0 v.0 m u.0 o.0 N w in
+        let behind =
+        spine_gives S (then T M) (syntax.application Q N) P h (instantiate_type A M B) C
+        (A, B, T, M, g, given.0, refl, refl) (open_so, given.1)
         (instance_is_type (signature_of es) ok G A M B i.context a.0 a.1 m)
-        (instance_uses (shown ns) A M B u.0 v.1) k u.1 o.1 r)
-    spine_gives (app M S) T Q P h (atom b V) C g a v m u o w = absurd m
+        (instance_uses (shown ns) A M B u.0 v.1) k u.1 o.1 r in
+        (subst (λ X. SpineGives es ns G P h X C) (followed_then T S M) behind.0, behind.1)
+    spine_gives (app M S) T Q P h (atom b V) C g open_so a v m u o w = absurd m
 
-    family_gives : (S T : Spine) (Q P : syntax.Term) (b : ℕ) (K : Kind) → FamilyGives es ns G Q b T K → IsKind (signature_of es) G K → UsesType (shown ns) (kind_as_type (length s.entries) K) → SpineFitsKind (signature_of es) G S K → UsesSpine (shown ns) S
-        → AreUnhidden s (sketches (hand s n) s G ns (arguments (kind_as_type (length s.entries) K) S)) → SpellsArguments Q (sketches (hand s n) s G ns (arguments (kind_as_type (length s.entries) K) S)) P → FamilyGives es ns G P b (followed T S) star
-    family_gives nil T Q P b (kind_pi A K) g a v m u o w = absurd m
-    family_gives nil T Q P b star g a v m u o w =
-        subst (λ X. FamilyGives es ns G X b (followed T nil) star) (sym w)
-        (subst (λ X. FamilyGives es ns G Q b X star) (sym (followed_nil T)) g)
-    family_gives (app M S) T Q P b (kind_pi A K) g a v (m, k) u o (N, w, r) =
+    family_gives : (S T : Spine) (Q P : syntax.Term) (b : ℕ) (K : Kind) → FamilyGives es ns G Q b T K → NamesOpen es ns Q → IsKind (signature_of es) G K → UsesType (shown ns) (kind_as_type (length s.entries) K) → SpineFitsKind (signature_of es) G S K → UsesSpine (shown ns) S
+        → AreUnhidden s (sketches (hand s n) s G ns (arguments (kind_as_type (length s.entries) K) S)) → SpellsArguments Q (sketches (hand s n) s G ns (arguments (kind_as_type (length s.entries) K) S)) P → FamilyGives es ns G P b (followed T S) star × NamesOpen es ns P
+    family_gives nil T Q P b (kind_pi A K) g open_so a v m u o w = absurd m
+    family_gives nil T Q P b star g open_so a v m u o w = (
+      subst (λ X. FamilyGives es ns G X b (followed T nil) star) (sym w)
+          (subst (λ X. FamilyGives es ns G Q b X star) (sym (followed_nil T)) g),
+      subst (NamesOpen es ns) (sym w) open_so,
+    )
+    family_gives (app M S) T Q P b (kind_pi A K) g open_so a v (m, k) u o (N, w, r) =
         let e = substituted_kind (length s.entries) (single (skeleton A) M) K in
-        subst (λ X. FamilyGives es ns G P b X star) (followed_then T S M)
-        (family_gives S (then T M) (syntax.application Q N) P b (instantiate_kind A M K)
-        (A, K, T, M, g, argument_gives M A a.0 v.0 m u.0 o.0 N w, refl, refl)
+        let given = argument_gives M A a.0 v.0 m u.0 o.0 N w in
+        let behind =
+        family_gives S (then T M) (syntax.application Q N) P b (instantiate_kind A M K)
+        (A, K, T, M, g, given.0, refl, refl) (open_so, given.1)
         (instance_is_kind s es ok G A M K i.context a m)
         (instance_uses_kind s es ok (shown ns) A M K u.0 v.1) k u.1
         (subst (λ X. AreUnhidden s (sketches (hand s n) s G ns (arguments X S))) (sym e) o.1)
-        (subst (λ X. SpellsArguments (syntax.application Q N) (sketches (hand s n) s G ns (arguments X S)) P) (sym e) r))
-    family_gives (app M S) T Q P b star g a v m u o w = absurd m
+        (subst (λ X. SpellsArguments (syntax.application Q N) (sketches (hand s n) s G ns (arguments X S)) P) (sym e) r) in
+        (subst (λ X. FamilyGives es ns G P b X star) (followed_then T S M) behind.0, behind.1)
+    family_gives (app M S) T Q P b star g open_so a v m u o w = absurd m
 
     root_gives : (h : Head) (S : Spine) (a : ℕ) (T : Spine) → HasType (signature_of es) G (root h S) (atom a T) → Uses (shown ns) (root h S)
         → IsUnhidden s (root_sketch (hand s n) s G ns h S) → GivesTerm es ns G (root_sketch (hand s n) s G ns h S) (atom a T) (root h S)
     root_gives h S a T (A, t, m) u (o, os) P (at, w) =
         let e : drop (head_hidden s h) (arguments (head_type s G h) S) ≡ arguments A S =
         ap (λ k. drop k (arguments (head_type s G h) S)) (nothing_hidden s es ok h o) ∙ ap (λ X. arguments X S) (head_at s newer es split G h A t) in
-        term_of_spine es ns G P h S a T
-        (spine_gives S nil (syntax.identifier (head_word s ns h) at) P h A (atom a T)
-        (names_head G ns i h A S t u o, t, refl)
+        let named_so = names_head G ns i h A S t u o in
+        let given =
+        spine_gives S nil (syntax.identifier (head_word s ns h) at) P h A (atom a T)
+        (named_so, t, refl) (name_open G ns h A (head_word s ns h) t named_so o)
         (head_is_typed (signature_of es) ok G h A i.context t)
         (head_uses s es ok G ns i h A S t u) m (head_spine s es ok (shown ns) h S u)
         (subst (λ xs. AreUnhidden s (sketches (hand s n) s G ns xs)) e os)
-        (subst (λ xs. SpellsArguments (syntax.identifier (head_word s ns h) at) (sketches (hand s n) s G ns xs) P) e w))
+        (subst (λ xs. SpellsArguments (syntax.identifier (head_word s ns h) at) (sketches (hand s n) s G ns xs) P) e w) in
+        (term_of_spine es ns G P h S a T given.0, given.1)
 
     pub atom_gives : (a : ℕ) (S : Spine) → IsType (signature_of es) G (atom a S) → UsesSpine (shown ns) S
         → IsUnhidden s (atom_sketch (hand s n) s G ns a S) → GivesType es ns G (atom_sketch (hand s n) s G ns a S) (atom a S)
     atom_gives a S (K, t, m) u (o, os) P (at, w) =
         let e : drop (hidden s a) (arguments (family_type s a) S) ≡ arguments (kind_as_type (length s.entries) K) S =
         ap (λ k. drop k (arguments (family_type s a) S)) (nothing_hidden s es ok (constant a) o) ∙ ap (λ X. arguments X S) (family_at s newer es split a K t) in
-        type_of_family es ns G P a S
-        (family_gives S nil (syntax.identifier (constant_word s a) at) P a K
-        (names_constant G ns i a (family_number s newer es split a K t o.0), t, refl)
+        let named_so = names_constant G ns i a (family_number s newer es split a K t o.0) in
+        let given =
+        family_gives S nil (syntax.identifier (constant_word s a) at) P a K
+        (named_so, t, refl) (family_open ns a K (constant_word s a) t named_so o)
         (family_kind (signature_of es) ok G a K t)
         (kind_uses s es ok [] (shown ns) K (no_variables s es ok (shown ns)) (ok.kinds_ok a K t)) m u
         (subst (λ xs. AreUnhidden s (sketches (hand s n) s G ns xs)) e os)
-        (subst (λ xs. SpellsArguments (syntax.identifier (constant_word s a) at) (sketches (hand s n) s G ns xs) P) e w))
+        (subst (λ xs. SpellsArguments (syntax.identifier (constant_word s a) at) (sketches (hand s n) s G ns xs) P) e w) in
+        (type_of_family es ns G P a S given.0, given.1)
 
-  renamed_under : (ns : Scope) (G : List LfType) (A B : LfType) (x : List ℕ) (P : syntax.Term) → binder_name x ≡ Some x → TypeGives es (Some x ∷ ns) (A ∷ G) P B → TypeGives es (binder_name x ∷ ns) (A ∷ G) P B
-  renamed_under ns G A B x P e g = subst (λ o. TypeGives es (o ∷ ns) (A ∷ G) P B) (sym e) g
+  renamed_under : (ns : Scope) (G : List LfType) (A B : LfType) (x : List ℕ) (P : syntax.Term) → binder_name x ≡ Some x → TypeGives es (Some x ∷ ns) (A ∷ G) P B × NamesOpen es (Some x ∷ ns) P
+      → TypeGives es (binder_name x ∷ ns) (A ∷ G) P B × NamesOpen es (binder_name x ∷ ns) P
+  renamed_under ns G A B x P e g = subst (λ o. TypeGives es (o ∷ ns) (A ∷ G) P B × NamesOpen es (o ∷ ns) P) (sym e) g
 
   module _ (n : ℕ) (level : Level n) (G : List LfType) (ns : Scope) (i : InScope s (signature_of es) G ns) (room : length ns + suc n ≤ nesting_limit) where
     lambda_gives : (M : Term) (A B : LfType) → IsType (signature_of es) G (pi A B) → UsesType (shown ns) (pi A B) → HasType (signature_of es) G (lambda M) (pi A B) → Uses (shown ns) (lambda M)
@@ -168,11 +198,14 @@ module _ (s : Scene) (newer es : List Entry) (split : s.entries ≡ newer ++ es)
         let x = fresh_name s ns (lower_base s A) in
         let new : IsNew s ns x = fresh ns A (omega (arith, room)) in
         let inner : InScope s (signature_of es) (A ∷ G) (Some x ∷ ns) = bind s (signature_of es) G ns i A a v x new.untaken in
-        let body : TermGives es (Some x ∷ ns) (A ∷ G) V B M =
+        let domain = level.types G ns i (omega (arith, room)) A a v oa U p in
+        let body : TermGives es (Some x ∷ ns) (A ∷ G) V B M × NamesOpen es (Some x ∷ ns) V =
         level.terms (A ∷ G) (Some x ∷ ns) inner (omega (arith, room)) M B (Some B) (any_term M B)
         b (uses_type_within (under (shown ns)) (shown (Some x ∷ ns)) B (under_named ns x) w) m (uses_within (under (shown ns)) (shown (Some x ∷ ns)) M (under_named ns x) u) om V q in
-        subst (λ X. TermGives es ns G X (pi A B) (lambda M)) (sym e)
-        (level.types G ns i (omega (arith, room)) A a v oa U p, subst (λ o. TermGives es (o ∷ ns) (A ∷ G) V B M) (sym new.binds) body)
+        subst (λ X. TermGives es ns G X (pi A B) (lambda M) × NamesOpen es ns X) (sym e) (
+          (domain.0, subst (λ o. TermGives es (o ∷ ns) (A ∷ G) V B M) (sym new.binds) body.0),
+          (domain.1, subst (λ o. NamesOpen es (o ∷ ns) V) (sym new.binds) body.1),
+        )
 
     pi_gives : (A B : LfType) (b : Bool) (x : List ℕ) → occurs_in_type 0 B ≡ b → IsNew s ns x → IsType (signature_of es) G (pi A B) → UsesType (shown ns) (pi A B)
         → (t : Scope → Sketch)
@@ -180,16 +213,14 @@ module _ (s : Scene) (newer es : List Entry) (split : s.entries ≡ newer ++ es)
         → IsUnhidden s (quantified_by (cond b (Some x) None) (type_manner A) ((hand s n).type G ns A) (t (cond b (Some x) None ∷ ns))) → GivesType es ns G (quantified_by (cond b (Some x) None) (type_manner A) ((hand s n).type G ns A) (t (cond b (Some x) None ∷ ns))) (pi A B)
     pi_gives A B true x f new (a, b) (v, w) t rest (oa, ob) P (at, U, V, p, q, e) =
         let inner : InScope s (signature_of es) (A ∷ G) (Some x ∷ ns) = bind s (signature_of es) G ns i A a v x new.untaken in
-        subst (λ X. TypeGives es ns G X (pi A B)) (sym e) (
-          level.types G ns i (omega (arith, room)) A a v oa U p,
-          renamed_under ns G A B x V new.binds (rest (Some x ∷ ns) inner (uses_type_within (under (shown ns)) (shown (Some x ∷ ns)) B (under_named ns x) w) (omega (arith, room)) ob V q),
-        )
+        let domain = level.types G ns i (omega (arith, room)) A a v oa U p in
+        let range = renamed_under ns G A B x V new.binds (rest (Some x ∷ ns) inner (uses_type_within (under (shown ns)) (shown (Some x ∷ ns)) B (under_named ns x) w) (omega (arith, room)) ob V q) in
+        subst (λ X. TypeGives es ns G X (pi A B) × NamesOpen es ns X) (sym e) ((domain.0, range.0), (domain.1, range.1))
     pi_gives A B false x f new (a, b) (v, w) t rest (oa, ob) P (U, V, p, q, e) =
         let inner : InScope s (signature_of es) (A ∷ G) (None ∷ ns) = pass s (signature_of es) G ns i A a v in
-        subst (λ X. TypeGives es ns G X (pi A B)) (sym e) (
-          level.types G ns i (omega (arith, room)) A a v oa U p,
-          rest (None ∷ ns) inner (type_hidden (shown ns) (shown (None ∷ ns)) B (λ j h. h) w f) (omega (arith, room)) ob V q,
-        )
+        let domain = level.types G ns i (omega (arith, room)) A a v oa U p in
+        let range = rest (None ∷ ns) inner (type_hidden (shown ns) (shown (None ∷ ns)) B (λ j h. h) w f) (omega (arith, room)) ob V q in
+        subst (λ X. TypeGives es ns G X (pi A B) × NamesOpen es ns X) (sym e) ((domain.0, range.0), (domain.1, range.1))
 
     kind_gives : (A : LfType) (K : Kind) (b : Bool) (x : List ℕ) → occurs_in_kind 0 K ≡ b → IsNew s ns x → IsKind (signature_of es) G (kind_pi A K) → UsesType (shown ns) (kind_as_type (length s.entries) (kind_pi A K))
         → (t : Scope → Sketch)
@@ -197,17 +228,16 @@ module _ (s : Scene) (newer es : List Entry) (split : s.entries ≡ newer ++ es)
         → IsUnhidden s (quantified_by (cond b (Some x) None) (type_manner A) ((hand s n).type G ns A) (t (cond b (Some x) None ∷ ns))) → GivesKind es ns G (quantified_by (cond b (Some x) None) (type_manner A) ((hand s n).type G ns A) (t (cond b (Some x) None ∷ ns))) (kind_pi A K)
     kind_gives A K true x f new (a, k) (v, w) t rest (oa, ob) P (at, U, V, p, q, e) =
         let inner : InScope s (signature_of es) (A ∷ G) (Some x ∷ ns) = bind s (signature_of es) G ns i A a v x new.untaken in
-        subst (λ X. KindGives es ns G X (kind_pi A K)) (sym e) (
-          level.types G ns i (omega (arith, room)) A a v oa U p,
-          subst (λ o. KindGives es (o ∷ ns) (A ∷ G) V K) (sym new.binds)
-              (rest (Some x ∷ ns) inner (uses_type_within (under (shown ns)) (shown (Some x ∷ ns)) (kind_as_type (length s.entries) K) (under_named ns x) w) (omega (arith, room)) ob V q),
-        )
+        let domain = level.types G ns i (omega (arith, room)) A a v oa U p in
+        let range =
+        subst (λ o. KindGives es (o ∷ ns) (A ∷ G) V K × NamesOpen es (o ∷ ns) V) (sym new.binds)
+        (rest (Some x ∷ ns) inner (uses_type_within (under (shown ns)) (shown (Some x ∷ ns)) (kind_as_type (length s.entries) K) (under_named ns x) w) (omega (arith, room)) ob V q) in
+        subst (λ X. KindGives es ns G X (kind_pi A K) × NamesOpen es ns X) (sym e) ((domain.0, range.0), (domain.1, range.1))
     kind_gives A K false x f new (a, k) (v, w) t rest (oa, ob) P (U, V, p, q, e) =
         let inner : InScope s (signature_of es) (A ∷ G) (None ∷ ns) = pass s (signature_of es) G ns i A a v in
-        subst (λ X. KindGives es ns G X (kind_pi A K)) (sym e) (
-          level.types G ns i (omega (arith, room)) A a v oa U p,
-          rest (None ∷ ns) inner (type_hidden (shown ns) (shown (None ∷ ns)) (kind_as_type (length s.entries) K) (λ j h. h) w (occurs_as_type (length s.entries) 0 K ∙ f)) (omega (arith, room)) ob V q,
-        )
+        let domain = level.types G ns i (omega (arith, room)) A a v oa U p in
+        let range = rest (None ∷ ns) inner (type_hidden (shown ns) (shown (None ∷ ns)) (kind_as_type (length s.entries) K) (λ j h. h) w (occurs_as_type (length s.entries) 0 K ∙ f)) (omega (arith, room)) ob V q in
+        subst (λ X. KindGives es ns G X (kind_pi A K) × NamesOpen es ns X) (sym e) ((domain.0, range.0), (domain.1, range.1))
 
     next_term : (M : Term) (A : LfType) (t : Option LfType) → IsAt M A t → IsType (signature_of es) G A → UsesType (shown ns) A → HasType (signature_of es) G M A → Uses (shown ns) M
         → IsUnhidden s ((hand s (suc n)).term G ns M t) → GivesTerm es ns G ((hand s (suc n)).term G ns M t) A M
@@ -251,7 +281,7 @@ module _ (s : Scene) (newer es : List Entry) (split : s.entries ≡ newer ++ es)
         kind_gives n (levels n) G ns i room A K (occurs_in_kind 0 K) (fresh_name s ns (leading_base s implicit hints k A)) refl (new ns k A (omega (arith, room))) a v
         (λ ms. leading_kind_sketch s implicit hints n (suc k) (A ∷ G) ms K)
         (λ ms j u r. leading_kind_gives n (suc k) (A ∷ G) ms K j r a.1 u) o P w
-    leading_kind_gives (suc n) k G ns star i room a v o P w = subst (λ X. KindGives es ns G X star) (sym w) tt
+    leading_kind_gives (suc n) k G ns star i room a v o P w = subst (λ X. KindGives es ns G X star × NamesOpen es ns X) (sym w) (tt, tt)
 
     pub leading_type_kept : (A : LfType) → IsType (signature_of es) [] A → IsUnhidden s (leading_type_sketch s implicit hints nesting_limit 0 [] [] A) → GivesType es [] [] (leading_type_sketch s implicit hints nesting_limit 0 [] [] A) A
     leading_type_kept A a u = leading_type_gives nesting_limit 0 [] [] A (empty_scope s es ok) (omega arith) a (typed_uses_type (signature_of es) [] (shown []) A (no_variables s es ok (shown [])) a) u

@@ -3,6 +3,7 @@ use Rattle.std.specs.Prelude.{◌≡◌, ℕ, ◌+◌, List, [], ◌++◌, lengt
 use Rattle.lf.specs.Entries.{Entry, Body, declare_family, declare_constant, declare_definition, signature_of, IsCanonicalSignature, BodyIsTyped}
 use Rattle.lf.specs.Syntax.{Term, LfType}
 use Rattle.lf.specs.Typing.{HasType, IsType}
+use Rattle.tw_explicit.specs.Answer.{IsExplicit}
 use Rattle.tw_explicit.specs.Completion.{TermGives, TypeGives, KindGives, Completes}
 use Rattle.tw_lexer.specs.Tokens.{ThroughDot}
 use Rattle.tw_lexer.specs.declared.place.Place.{Place}
@@ -92,7 +93,7 @@ pub record IsOpenEntry (s : Scene) (e : Entry) : Type 0 where
   pub unhidden : IsUnhidden s (classifier_sketch s e.implicit e.hints e.body)
   pub whole : IsWhole (classifier_sketch s e.implicit e.hints e.body)
 
--- The text from one byte up to another is read as a declaration, and as no other, that completes, over the signature, to an entry of this name and body.
+-- The text from one byte up to another is read as a declaration, and as no other, that is of the explicit form and completes, over the signature, to an entry of this name and body.
 pub record ReadsAs (es : List Entry) (table : Table) (text : List ℕ) (from upto : ℕ) (name : List ℕ) (body : Body) : Type 0 where
   pub tokens : List Token
   pub through : ThroughDot text from tokens upto
@@ -100,6 +101,7 @@ pub record ReadsAs (es : List Entry) (table : Table) (text : List ℕ) (from upt
   pub written : syntax.Term
   pub reads : Declares table (lexemes text tokens) (syntax.declare name at written)
   pub only : (other : syntax.Declaration) → Declares table (lexemes text tokens) other → other ≡ syntax.declare name at written
+  pub explicit : IsExplicit es (syntax.declare name at written)
   pub entry : Entry
   pub completes : Completes es (syntax.declare name at written) entry
   pub same : entry.body ≡ body

@@ -1,5 +1,5 @@
 -- A line that reads back is accepted.
-use Rattle.std.proofs.Common.{◌≡◌, ℕ, ◌+◌, ◌-◌, ◌≤◌, List, [], ◌∷◌, length, Bool, true, false, refl, sym, ap, ◌∙◌, subst, arith, append-nil}
+use Rattle.std.proofs.Common.{◌≡◌, ℕ, ◌+◌, ◌-◌, ◌≤◌, List, [], ◌∷◌, length, Bool, true, false, refl, sym, ap, ◌∙◌, subst, arith, append-nil, inl, ◌++◌}
 use Rattle.std.specs.Bool.{MatchBool}
 use Rattle.lf.specs.Depth.{depth_limit}
 use Rattle.lf.specs.Entries.{Entry, signature_of, BodyIsTyped, BodyIsWithin, IsCanonicalEntry, IsCanonicalSignature}
@@ -24,10 +24,9 @@ use Rattle.tw_print.specs.Shown.{declaration_line}
 use Rattle.tw_decl.specs.View.{View, scene_of, with_entry}
 use Rattle.tw_decl.specs.Declaration.{IsWritten, entry_report, Makes}
 use Rattle.reading_back.specs.Laws.{ReadsAs}
-use Rattle.session_order.specs.Laws.{ReadBackIsAccepted, KeptIsAccepted, NewIsAccepted}
-use Rattle.session_order.specs.Order.{LineReadsBack, IsWithinLimits, AcceptsAgain}
-use Rattle.session_order.proofs.Explicit.{given_is_explicit}
-use Rattle.session_order.proofs.Reading.{canonical_rest, kept_back, new_line_back}
+use Rattle.session_order.specs.Laws.{ReadBackIsAccepted, KeptIsAccepted, OpenIsAccepted, NewIsAccepted}
+use Rattle.session_order.specs.Order.{IsViewInOrder, LineReadsBack, IsWithinLimits, AcceptsAgain}
+use Rattle.session_order.proofs.Reading.{canonical_rest, kept_back, open_back, new_line_back}
 
 -- a text has no more tokens than bytes, and one more
 last_counted : (text : List ℕ) (from upto : ℕ) (t : Token) (ts : List Token) (b : Bool) → ends t.kind ≡ b → IsToken text from t → MatchBool b ((ts ≡ []) × (upto ≡ t.upto)) (ThroughDot text t.upto ts upto)
@@ -76,14 +75,14 @@ read_accepted v e text upto all r k limits =
     let makes : Makes v words (entry_report v r.entry) (with_entry v r.entry) = record {
       declaration = declare e.name r.at r.written;
       reads = record { begins = (begins_known v.fixities words e.name r.at r.written r.reads, limits.shallow r.tokens upto r.through); reads = r.reads };
-      does = record {
-        form = given_is_explicit v.signature e.name r.at r.written r.entry.body h.body;
+      does = inl (record {
+        form = r.explicit;
         entry = r.entry;
         completes = h;
         stands = stands_too v.signature e.name r.written e r.entry k h r.same;
         says = refl;
         keeps = refl;
-      };
+      });
     } in
     record {
       report = entry_report v r.entry;
@@ -106,13 +105,20 @@ read_back_accepted s v e back k limits =
     let n : 0 + length text ≡ length text = omega arith in
     read_accepted v e text (0 + length text) n (back text [] 0 (sym (append-nil text))) k limits
 
-pub kept_accepted : KeptIsAccepted
-kept_accepted v u newer older e o i room split d plain same rows limits =
+-- a line that reads back over the entries before it is accepted by a session that has these and the same operators
+older_accepted : (v u : View) (newer older : List Entry) (e : Entry) → IsViewInOrder v → v.signature ≡ newer ++ e ∷ older → u.signature ≡ older → u.fixities ≡ v.fixities → IsWithinLimits (declaration_line (scene_of v) e)
+    → LineReadsBack (scene_of v) older v.fixities e → AcceptsAgain u (declaration_line (scene_of v) e) e
+older_accepted v u newer older e o split same rows limits back =
     let canonical : IsCanonicalSignature (e ∷ older) = canonical_rest newer (e ∷ older) (subst IsCanonicalSignature split o.sound) in
-    let back : LineReadsBack (scene_of v) older v.fixities e = kept_back v o i room newer older e split d plain in
     read_back_accepted (scene_of v) u e
     (subst (λ es. LineReadsBack (scene_of v) es u.fixities e) (sym same) (subst (λ t. LineReadsBack (scene_of v) older t e) (sym rows) back))
     (subst (λ es. IsCanonicalEntry (signature_of es) e) (sym same) canonical.1) limits
 
+pub kept_accepted : KeptIsAccepted
+kept_accepted v u newer older e o i room none split d plain same rows limits = older_accepted v u newer older e o split same rows limits (kept_back v o i room none newer older e split d plain)
+
+pub open_accepted : OpenIsAccepted
+open_accepted v u newer older e o i room split d open_entry same rows limits = older_accepted v u newer older e o split same rows limits (open_back v newer older e o i room split d open_entry)
+
 pub new_accepted : NewIsAccepted
-new_accepted v e o i room d plain limits = read_back_accepted _ v e (new_line_back v e o i room d plain) o.sound.1 limits
+new_accepted v e o i room none d plain limits = read_back_accepted _ v e (new_line_back v e o i room none d plain) o.sound.1 limits

@@ -1,5 +1,5 @@
 -- What is accepted keeps a session in order.
-use Rattle.std.proofs.Common.{◌≡◌, ℕ, zero, suc, ◌-◌, ◌<◌, ◌≤◌, List, [], ◌∷◌, length, Bool, true, false, cond, Option, Some, None, refl, sym, ap, ◌∙◌, subst, arith}
+use Rattle.std.proofs.Common.{◌≡◌, ℕ, zero, suc, ◌-◌, ◌<◌, ◌≤◌, List, [], ◌∷◌, length, Bool, true, false, cond, Option, Some, None, refl, sym, ap, ◌∙◌, subst, arith, ◌++◌, inl, inr}
 use Rattle.std.specs.Prelude.{◌&&◌, nat_le}
 use Rattle.std.specs.Str.{bytes_eq}
 use Rattle.std.proofs.lemmas.Bool.{cond-false}
@@ -9,7 +9,7 @@ use Rattle.std.specs.Cmp.{eq_by_cmp_equiv, nat_cmp_total}
 use Rattle.std.specs.Cmp.Lexicographic.{nat_list_cmp_total, bytes_decides}
 use Rattle.std.specs.FinMap.{FinMap, empty, get, insert, remove, get-empty, get-insert, get-remove}
 use Rattle.std.specs.Ordering.{eq_by_cmp, nat_cmp}
-use Rattle.lf.specs.Entries.{Entry, entry, body_quantifiers, IsCanonicalSignature}
+use Rattle.lf.specs.Entries.{Entry, entry, signature_of, body_quantifiers, IsCanonicalEntry, IsCanonicalSignature}
 use Rattle.lf.specs.Variables.{same_number}
 use Rattle.lf.proofs.Checker.{number_is}
 use Rattle.tw_explicit.specs.Completion.{IsCompletion, hints}
@@ -23,16 +23,20 @@ use Rattle.tw_parse.specs.Words.{Lexeme}
 use Rattle.tw_parse.specs.declared.decl.ExtName.{ExtName}
 use Rattle.tw_print.specs.Names.{Preferences}
 use Rattle.tw_print.specs.Shown as shown
+use Rattle.tw_approx.specs.Answer.{HasRow, Rows}
+use Rattle.tw_approx.specs.Names.{IsFreeVariable}
+use Rattle.tw_recon.specs.Hints.{AreOfRows, fitted, written_hints}
+use Rattle.tw_recon.specs.Reconstruction.{IsReconstructed, declared_name}
 use Rattle.tw_signature.specs.Names.{number_of}
 use Rattle.tw_decl.specs.View.{View, with_chatter, with_implicit, with_steps, with_entry, scene_of}
-use Rattle.tw_decl.specs.Declaration.{IsWritten, Completed, GivesRows, Prefers, Does}
+use Rattle.tw_decl.specs.Declaration.{IsWritten, Completed, Reconstructed, is_unnamed, GivesRows, Prefers, Does}
 use Rattle.tw_decl.specs.Operators.{entry_by, newest, explicit_count, operand_count, takes, all_take, with_rows}
 use Rattle.reading_back.specs.Names.{IsName, AreGoodHints, PreferNames, HasGoodRows}
 use Rattle.session_order.specs.Laws.{NewIsInOrder, SettingKeepsOrder, MakingKeepsOrder, AcceptingKeepsOrder, AcceptingFromKeepsOrder}
 use Rattle.session_order.specs.Order.{IsViewInOrder}
 use Rattle.session_order.specs.Words.{AreSpelled}
 use Rattle.session_order.proofs.Identifiers.{tokens_spelled}
-use Rattle.session_order.proofs.Binders.{declared_named, preferred_names}
+use Rattle.session_order.proofs.Binders.{declared_named, defined_named, free_are_named, hints_more, preferred_names}
 
 some_inj : {X : Type 0} {x y : X} → Some x ≡ Some y → x ≡ y
 some_inj e = cc
@@ -102,18 +106,54 @@ rows_kept v e h x fix c f r n q =
     let old : number_of v.signature x ≡ Some c = sym (cond-false (bytes_eq e.name x) (Some (length v.signature)) (number_of v.signature x) left.0) ∙ n in
     h x fix c f left.1 old (older_entry e v.signature c f (newest_below v.signature x c old) q)
 
-completed_keeps : (v w : View) (words : List Lexeme) (c : List ℕ) (at : _) (U : Term) (report : List ℕ) → IsName c → AreGoodHints (hints U) → Completed v (declare c at U) report w → IsViewInOrder v → IsViewInOrder w
-completed_keeps v w words c at U report n g h o =
-    let e = h.entry in
-    let k : IsCompletion v.signature c U e = h.completes in
-    subst IsViewInOrder (sym h.keeps) (record {
-      sound = (o.sound, h.stands);
-      names = each_entry (λ f. IsName f.name) e v.signature (subst IsName (sym k.name) n) o.names;
-      hints = each_entry (λ f. AreGoodHints f.hints) e v.signature (subst AreGoodHints (sym k.hint_each) g) o.hints;
-      preferences = o.preferences;
-      rows = rows_kept v e o.rows;
-      no_implicit = each_entry (λ f. f.implicit ≡ zero) e v.signature k.implicit o.no_implicit;
-    })
+one_more : (v : View) (e : Entry) → IsCanonicalEntry (signature_of v.signature) e → IsName e.name → AreGoodHints e.hints → IsViewInOrder v → IsViewInOrder (with_entry v e)
+one_more v e stands n g o = record {
+  sound = (o.sound, stands);
+  names = each_entry (λ f. IsName f.name) e v.signature n o.names;
+  hints = each_entry (λ f. AreGoodHints f.hints) e v.signature g o.hints;
+  preferences = o.preferences;
+  rows = rows_kept v e o.rows;
+}
+
+completed_keeps : (v w : View) (c : List ℕ) (at : _) (U : Term) (report : List ℕ) → IsName c → AreGoodHints (hints U) → Completed v (declare c at U) report w → IsViewInOrder v → IsViewInOrder w
+completed_keeps v w c at U report n g h o =
+    let k : IsCompletion v.signature c U h.entry = h.completes in
+    subst IsViewInOrder (sym h.keeps) (one_more v h.entry h.stands (subst IsName (sym k.name) n) (subst AreGoodHints (sym k.hint_each) g) o)
+
+-- the hints of a reconstruction are free variables, and binders that are written
+good_head : (h : Option (List ℕ)) (hs : List (Option (List ℕ))) → AreGoodHints (h ∷ hs) → (y : List ℕ) → h ≡ Some y → IsName y
+good_head h hs g y e = g zero y (ap Some e)
+
+good_rest : (h : Option (List ℕ)) (hs : List (Option (List ℕ))) → AreGoodHints (h ∷ hs) → AreGoodHints hs
+good_rest h hs g k y e = g (suc k) y e
+
+good_append : (hs ks : List (Option (List ℕ))) → AreGoodHints hs → AreGoodHints ks → AreGoodHints (hs ++ ks)
+good_append [] ks g k = k
+good_append (h ∷ hs) ks g k = hints_more h (hs ++ ks) (good_head h hs g) (good_append hs ks (good_rest h hs g) k)
+
+good_fitted : (n : ℕ) (hs : List (Option (List ℕ))) → AreGoodHints hs → AreGoodHints (fitted n hs)
+good_fitted zero hs g = λ k y e. cc
+good_fitted (suc n) [] g = hints_more None (fitted n []) (λ y e. cc) (good_fitted n [] g)
+good_fitted (suc n) (h ∷ hs) g = hints_more h (fitted n hs) (good_head h hs g) (good_fitted n hs (good_rest h hs g))
+
+good_rows : (rows : Rows) (hs : List (Option (List ℕ))) → ((x : List ℕ) → HasRow x rows → IsName x) → AreOfRows rows hs → AreGoodHints hs
+good_rows rows [] n h = λ k y e. cc
+good_rows rows (None ∷ hs) n h = hints_more None hs (λ y e. cc) (good_rows rows hs n h)
+good_rows rows (Some x ∷ hs) n h = hints_more (Some x) hs (λ y e. subst IsName (some_inj e) (n x h.0)) (good_rows rows hs n h.1)
+
+reconstructed_good : (es : List Entry) (d : Declaration) (e : Entry) → ((x : List ℕ) → IsFreeVariable es x d → IsName x) → AreGoodHints (written_hints d) → IsReconstructed es d e → AreGoodHints e.hints
+reconstructed_good es d e f g k =
+    subst AreGoodHints (sym k.hints)
+    (good_append k.quantifier_hints (fitted (body_quantifiers k.completion.body) (written_hints d)) (good_rows k.rows k.quantifier_hints (λ x r. f x (k.is_written.skeletons.row_is_free x r)) k.hints_of_rows)
+    (good_fitted (body_quantifiers k.completion.body) (written_hints d) g))
+
+reconstructed_keeps : (v w : View) (words : List Lexeme) (d : Declaration) (report : List ℕ) → AreSpelled words → Declares v.fixities words d → IsName (declared_name d) → AreGoodHints (written_hints d) → is_unnamed d ≡ false
+    → Reconstructed v d report w → IsViewInOrder v → IsViewInOrder w
+reconstructed_keeps v w words d report all r n g named h o =
+    let k = h.reconstructs in
+    let kept : w ≡ with_entry v h.entry = h.keeps ∙ cond-false (is_unnamed d) v (with_entry v h.entry) named in
+    subst IsViewInOrder (sym kept)
+    (one_more v h.entry h.stands (subst IsName (sym k.name) n) (reconstructed_good v.signature d h.entry (λ x f. free_are_named v.fixities words d v.signature x all r f) g k) o)
 
 -- rows that are given
 same_count : (fix : Fix) → shown.operand_count fix ≡ operand_count fix
@@ -158,7 +198,6 @@ given_keeps v w fix names report h o =
       hints = o.hints;
       preferences = o.preferences;
       rows = rows_right v.signature v.fixities fix names h.all_fit o.rows;
-      no_implicit = o.no_implicit;
     })
 
 -- preferences that are given
@@ -178,15 +217,19 @@ preferred_keeps v w a x y report n h o =
       hints = o.hints;
       preferences = preference_kept v.names h.family (x, y) n o.preferences;
       rows = o.rows;
-      no_implicit = o.no_implicit;
     })
 
 pub making_keeps : MakingKeepsOrder
 making_keeps v w words report all m o = by_declaration m.declaration m.reads.reads m.does
   where
     by_declaration : (d : Declaration) → Declares v.fixities words d → Does v d report w → IsViewInOrder w
-    by_declaration (declare c at U) r h = let n = declared_named v.fixities words c at U all r in completed_keeps v w words c at U report n.0 n.1 h o
-    by_declaration (define c A M b) r h = absurd h.completes
+    by_declaration (declare c at U) r (inl h) = let n = declared_named v.fixities words c at U all r in completed_keeps v w c at U report n.0 n.1 h o
+    by_declaration (declare c at U) r (inr h) =
+        let n = declared_named v.fixities words c at U all r in reconstructed_keeps v w words (declare c at U) report all r n.0 n.1 refl h o
+    by_declaration (define c A M b) r (inl h) = absurd h.completes
+    by_declaration (define None A M b) r (inr h) = subst IsViewInOrder (sym h.keeps) o
+    by_declaration (define (Some c) A M b) r (inr h) =
+        let n = defined_named v.fixities words (Some c) A M b all r in reconstructed_keeps v w words (define (Some c) A M b) report all r (n.0 c refl) n.1 refl h o
     by_declaration (prefer a x y) r h = preferred_keeps v w a x y report (preferred_names v.fixities words a x y all r) h o
     by_declaration (give fix names) r h = given_keeps v w fix names report h o
 
@@ -201,8 +244,8 @@ accepting_from_keeps v w text report from upto a o = making_keeps v w a.words re
 
 pub new_in_order : NewIsInOrder
 new_in_order = (
-  record { sound = tt; names = λ c e q. cc; hints = λ c e q. cc; preferences = λ a row q. none_there a row q; rows = λ x fix c e r n q. cc; no_implicit = λ c e q. cc },
-  λ v. record { sound = tt; names = λ c e q. cc; hints = λ c e q. cc; preferences = λ a row q. none_there a row q; rows = λ x fix c e r n q. cc; no_implicit = λ c e q. cc },
+  record { sound = tt; names = λ c e q. cc; hints = λ c e q. cc; preferences = λ a row q. none_there a row q; rows = λ x fix c e r n q. cc },
+  λ v. record { sound = tt; names = λ c e q. cc; hints = λ c e q. cc; preferences = λ a row q. none_there a row q; rows = λ x fix c e r n q. cc },
 )
   where
     none_there : (a : ℕ) (row : Preferences) → get {R = nat_cmp} empty a ≡ Some row → PreferNames row
@@ -215,7 +258,6 @@ same_parts v u p q r o = record {
   hints = subst (λ es. (c : ℕ) (e : Entry) → entry es c ≡ Some e → AreGoodHints e.hints) (sym p) o.hints;
   preferences = subst (λ m. (a : ℕ) (row : Preferences) → get m a ≡ Some row → PreferNames row) (sym r) o.preferences;
   rows = subst (λ t. AreRight u.signature t) (sym q) (subst (λ es. AreRight es v.fixities) (sym p) o.rows);
-  no_implicit = subst (λ es. (c : ℕ) (e : Entry) → entry es c ≡ Some e → e.implicit ≡ zero) (sym p) o.no_implicit;
 }
 
 pub setting_keeps : SettingKeepsOrder

@@ -3,5 +3,4 @@ pub mod Binders
 pub mod Keeping
 pub mod Reading
 pub mod Steps
-pub mod Explicit
 pub mod Accepting

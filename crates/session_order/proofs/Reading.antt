@@ -1,28 +1,27 @@
 -- The printed lines of a session in order are read back.
-use Rattle.std.proofs.Common.{◌≡◌, ℕ, ◌<◌, List, [], ◌∷◌, ◌++◌, length, Bool, true, false, cond, Some, None, refl, sym, ap, ◌∙◌, subst, arith, append_assoc}
+use Rattle.std.proofs.Common.{◌≡◌, ℕ, ◌<◌, List, [], ◌∷◌, ◌++◌, length, Bool, true, false, cond, Some, None, refl, sym, ap, ◌∙◌, subst, arith, append_assoc, inl, inr}
 use Rattle.std.specs.Prelude.{codes}
 use Rattle.std.specs.Str.{bytes_eq}
 use Rattle.std.proofs.lemmas.Bool.{cond-false}
 use Rattle.std.specs.Cmp.Lexicographic.{nat_list_cmp_total, bytes_decides}
 use Rattle.std.specs.FinMap.{get, remove, get-remove}
 use Rattle.std.specs.Ordering.{eq_by_cmp}
-use Rattle.lf.specs.Entries.{Entry, Body, declare_family, declare_constant, declare_definition, entry, IsCanonicalSignature}
+use Rattle.lf.specs.Entries.{Entry, entry, IsCanonicalSignature}
 use Rattle.lf.specs.Variables.{same_number}
 use Rattle.lf.proofs.Checker.{number_is, number_itself}
-use Rattle.tw_explicit.specs.Completion.{BodyGiven, IsCompletion}
 use Rattle.tw_fixity.specs.Rows.{name_order}
 use Rattle.tw_parse.specs.Outlines.{Table}
-use Rattle.tw_parse.specs.Syntax.{Term, Declaration, declare, define, prefer, give}
+use Rattle.tw_parse.specs.Syntax.{Declaration, declare, define, prefer, give}
 use Rattle.tw_parse.specs.Words.{Lexeme, fixed_word}
 use Rattle.tw_parse.specs.declared.words.Word.TheVariants.{Name, Underscore}
 use Rattle.tw_print.specs.Shown.{declaration_line, scene_after}
 use Rattle.tw_signature.specs.Names.{number_of}
 use Rattle.tw_decl.specs.View.{View, with_entry, scene_of, told}
-use Rattle.tw_decl.specs.Declaration.{entry_line, Does, Makes}
-use Rattle.reading_back.specs.Laws.{IsInOrder, IsTypedEntry, IsDeclared}
-use Rattle.reading_back.specs.Names.{IsName, HasRoom, AgreeOn, EachIs, IsPlainByte}
-use Rattle.reading_back.proofs.Back.{reads_back}
-use Rattle.session_order.specs.Laws.{KeptReadsBack, NewReadsBack, Reports, ReportReadsBack, ReportFromReadsBack}
+use Rattle.tw_decl.specs.Declaration.{entry_line, entry_report, Does, Makes}
+use Rattle.reading_back.specs.Laws.{IsInOrder, IsTypedEntry, IsDeclared, IsOpenEntry}
+use Rattle.reading_back.specs.Names.{IsName, HasRoom, AgreeOn, EachIs, IsPlainByte, HasNoImplicit}
+use Rattle.reading_back.proofs.Back.{open_reads_back, reads_back}
+use Rattle.session_order.specs.Laws.{KeptReadsBack, OpenReadsBack, NewReadsBack, Reports, ReportReadsBack, ReportFromReadsBack}
 use Rattle.session_order.specs.Words.{AreSpelled}
 use Rattle.session_order.specs.Order.{IsViewInOrder, LineReadsBack}
 use Rattle.session_order.proofs.Keeping.{same_name, newest_below, making_keeps, written_spelled}
@@ -49,25 +48,39 @@ pub canonical_rest : (newer es : List Entry) → IsCanonicalSignature (newer ++ 
 canonical_rest [] es h = h
 canonical_rest (f ∷ newer) es h = canonical_rest newer es h.0
 
--- the line of an entry of the session, with a table that agrees with the session's
-line_back : (v : View) (newer older : List Entry) (e : Entry) (table : Table) → IsViewInOrder v → v.parameters.implicit ≡ false → HasRoom (scene_of v) → v.signature ≡ newer ++ e ∷ older → IsDeclared e.body → AgreeOn (scene_of v) older table
-    → EachIs IsPlainByte (declaration_line (scene_of v) e) → LineReadsBack (scene_of v) older table e
-line_back v newer older e table o i room split d agrees plain text after from h =
-    let canonical : IsCanonicalSignature (e ∷ older) = canonical_rest newer (e ∷ older) (subst IsCanonicalSignature split o.sound) in
-    let a = among newer older e in
-    let found : entry v.signature (length older) ≡ Some e = ap (λ es. entry es (length older)) split ∙ a.is in
-    let order : IsInOrder (scene_of v) older table = record {
-      over = record { newer = newer ++ e ∷ []; entries = split ∙ sym (append_assoc newer (e ∷ []) older); canonical = canonical.0; preferences = o.preferences; room = room };
-      hides = i;
-      names = o.names;
-      rows = o.rows;
-      agrees = agrees;
-    } in
-    let typed : IsTypedEntry older e = record { declared = d; typed = canonical.1.typed; name = o.names (length older) e found; hints = o.hints (length older) e found } in
-    reads_back (scene_of v) older table e text after from order typed o.no_implicit plain h
+-- an entry of the session, with a table that agrees with the session's
+module _ (v : View) (newer older : List Entry) (e : Entry) (table : Table) (o : IsViewInOrder v) (i : v.parameters.implicit ≡ false) (room : HasRoom (scene_of v)) (split : v.signature ≡ newer ++ e ∷ older) (d : IsDeclared e.body)
+    (agrees : AgreeOn (scene_of v) older table) where
+  canonical : IsCanonicalSignature (e ∷ older)
+  canonical = canonical_rest newer (e ∷ older) (subst IsCanonicalSignature split o.sound)
+
+  found : entry v.signature (length older) ≡ Some e
+  found = ap (λ es. entry es (length older)) split ∙ (among newer older e).is
+
+  order : IsInOrder (scene_of v) older table
+  order = record {
+    over = record { newer = newer ++ e ∷ []; entries = split ∙ sym (append_assoc newer (e ∷ []) older); canonical = canonical.0; preferences = o.preferences; room = room };
+    hides = i;
+    names = o.names;
+    rows = o.rows;
+    agrees = agrees;
+  }
+
+  typed : IsTypedEntry older e
+  typed = record { declared = d; typed = canonical.1.typed; name = o.names (length older) e found; hints = o.hints (length older) e found }
+
+  -- its line is read back
+  open_line_back : IsOpenEntry (scene_of v) e → LineReadsBack (scene_of v) older table e
+  open_line_back open_entry text after from h = open_reads_back (scene_of v) older table e text after from order typed open_entry h
+
+  line_back : HasNoImplicit (scene_of v) → EachIs IsPlainByte (declaration_line (scene_of v) e) → LineReadsBack (scene_of v) older table e
+  line_back none plain text after from h = reads_back (scene_of v) older table e text after from order typed none plain h
 
 pub kept_back : KeptReadsBack
-kept_back v o i room newer older e split d plain = line_back v newer older e v.fixities o i room split d (λ x q. refl) plain
+kept_back v o i room none newer older e split d plain = line_back v newer older e v.fixities o i room split d (λ x q. refl) none plain
+
+pub open_back : OpenReadsBack
+open_back v newer older e o i room split d open_entry = open_line_back v newer older e v.fixities o i room split d (λ x q. refl) open_entry
 
 -- an entry that has a name is in the scene after it
 no_hole : (x : List ℕ) → IsName x → bytes_eq x (codes "_") ≡ false
@@ -95,27 +108,26 @@ agree_before v e x q = by_test (bytes_eq e.name x) refl q
 new_named : (v : View) (e : Entry) → IsViewInOrder (with_entry v e) → IsName e.name
 new_named v e o = o.names (length v.signature) e (among [] v.signature e).is
 
-pub new_line_back : (v : View) (e : Entry) → IsViewInOrder (with_entry v e) → v.parameters.implicit ≡ false → HasRoom (scene_of (with_entry v e)) → IsDeclared e.body
+pub new_line_back : (v : View) (e : Entry) → IsViewInOrder (with_entry v e) → v.parameters.implicit ≡ false → HasRoom (scene_of (with_entry v e)) → HasNoImplicit (scene_of (with_entry v e)) → IsDeclared e.body
     → EachIs IsPlainByte (declaration_line (scene_of (with_entry v e)) e) → LineReadsBack (scene_of (with_entry v e)) v.signature v.fixities e
-new_line_back v e o i room d plain = line_back (with_entry v e) [] v.signature e v.fixities o i room refl d (agree_before v e) plain
+new_line_back v e o i room none d plain = line_back (with_entry v e) [] v.signature e v.fixities o i room refl d (agree_before v e) none plain
 
 pub new_back : NewReadsBack
-new_back v e o i room d plain =
+new_back v e o i room none d plain =
     let same = scene_is v e (new_named v e o) in
-    subst (λ s. LineReadsBack s v.signature v.fixities e) (sym same) (new_line_back v e o i room d (subst (λ s. EachIs IsPlainByte (declaration_line s e)) same plain))
+    subst (λ s. LineReadsBack s v.signature v.fixities e) (sym same) (new_line_back v e o i room none d (subst (λ s. EachIs IsPlainByte (declaration_line s e)) same plain))
 
 -- what an accepted text reports of the entry that it declares
-completed_declares : (es : List Entry) (U : Term) (b : Body) → BodyGiven es U b → IsDeclared b
-completed_declares es U (declare_family K) h = tt
-completed_declares es U (declare_constant A) h = tt
-completed_declares es U (declare_definition M A b) h = absurd h
-
 line_told : (v : View) (e : Entry) → IsName e.name → told v (entry_line v e) ≡ told v (declaration_line (scene_of (with_entry v e)) e ++ codes "\n")
 unfolding entry_line
 line_told v e n = ap (λ s. told v (declaration_line s e ++ codes "\n")) (scene_is v e n)
 
-of_new : (v : View) (report : List ℕ) (e : Entry) → report ≡ told v (entry_line v e) → IsDeclared e.body → IsViewInOrder (with_entry v e) → v.parameters.implicit ≡ false → HasRoom (scene_of (with_entry v e)) → Reports v (with_entry v e) report e
-of_new v report e says d o i room = record { shows = says ∙ line_told v e (new_named v e o); reads_back = λ plain. new_line_back v e o i room d plain }
+of_new : (v : View) (report : List ℕ) (e : Entry) → report ≡ told v (entry_line v e) → IsViewInOrder (with_entry v e) → v.parameters.implicit ≡ false → HasRoom (scene_of (with_entry v e)) → Reports v (with_entry v e) report e
+of_new v report e says o i room = record {
+  shows = says ∙ line_told v e (new_named v e o);
+  open_reads_back = λ d open_entry. open_line_back (with_entry v e) [] v.signature e v.fixities o i room refl d (agree_before v e) open_entry;
+  reads_back = λ none d plain. new_line_back v e o i room none d plain;
+}
 
 same_first : (e f : Entry) (es : List Entry) → e ∷ es ≡ f ∷ es → e ≡ f
 same_first e f es h = cc
@@ -129,15 +141,20 @@ made_back v w words report e all m grows o i room = by_declaration m.declaration
     in_order : IsViewInOrder w
     in_order = making_keeps v w words report all m o
 
-    by_declaration : (d : Declaration) → Does v d report w → Reports v w report e
-    by_declaration (declare c at U) h =
-        let same : h.entry ≡ e = same_first h.entry e v.signature (sym (ap (λ (u : View). u.signature) h.keeps) ∙ grows) in
-        let is : w ≡ with_entry v e = h.keeps ∙ ap (with_entry v) same in
-        let k : IsCompletion v.signature c U h.entry = h.completes in
-        let d : IsDeclared e.body = subst (λ (f : Entry). IsDeclared f.body) same (completed_declares v.signature U h.entry.body k.body) in
+    -- the entry that was kept is this one
+    by_entry : (f : Entry) → w ≡ with_entry v f → report ≡ entry_report v f → Reports v w report e
+    by_entry f keeps says =
+        let same : f ≡ e = same_first f e v.signature (sym (ap (λ (u : View). u.signature) keeps) ∙ grows) in
+        let is : w ≡ with_entry v e = keeps ∙ ap (with_entry v) same in
         subst (λ u. Reports v u report e) (sym is)
-        (of_new v report e (h.says ∙ ap (λ f. told v (entry_line v f)) same) d (subst IsViewInOrder is in_order) i (subst (λ u. HasRoom (scene_of u)) is room))
-    by_declaration (define c A M b) h = absurd h.completes
+        (of_new v report e (says ∙ ap (λ g. told v (entry_line v g)) same) (subst IsViewInOrder is in_order) i (subst (λ u. HasRoom (scene_of u)) is room))
+
+    by_declaration : (d : Declaration) → Does v d report w → Reports v w report e
+    by_declaration (declare c at U) (inl h) = by_entry h.entry h.keeps h.says
+    by_declaration (declare c at U) (inr h) = by_entry h.entry h.keeps h.says
+    by_declaration (define c A M b) (inl h) = absurd h.completes
+    by_declaration (define None A M b) (inr h) = absurd (no_more e v.signature (sym (ap (λ (u : View). u.signature) h.keeps) ∙ grows))
+    by_declaration (define (Some c) A M b) (inr h) = by_entry h.entry h.keeps h.says
     by_declaration (prefer b x y) h = absurd (no_more e v.signature (sym (ap (λ (u : View). u.signature) h.keeps) ∙ grows))
     by_declaration (give fix names) h = absurd (no_more e v.signature (sym (ap (λ (u : View). u.signature) h.keeps) ∙ grows))
 

@@ -1,5 +1,5 @@
 -- Laws of sessions in order.
-use Rattle.std.specs.Prelude.{◌≡◌, ℕ, List, ◌∷◌, ◌++◌, codes, Bool, false, Option}
+use Rattle.std.specs.Prelude.{◌≡◌, ℕ, List, ◌∷◌, ◌++◌, codes, Bool, false, Option, Some}
 use Rattle.std.specs.List.{AllByRecursion}
 use Rattle.lf.specs.Entries.{Entry, signature_of, IsCanonicalEntry}
 use Rattle.tw_explicit.specs.Completion.{hints}
@@ -8,13 +8,15 @@ use Rattle.tw_lexer.specs.declared.place.Place.{Place}
 use Rattle.tw_lexer.specs.declared.token.Token.{Token}
 use Rattle.tw_parse.specs.Outlines.{Table}
 use Rattle.tw_parse.specs.Readings.{Declares}
-use Rattle.tw_parse.specs.Syntax.{Term, declare, prefer}
+use Rattle.tw_parse.specs.Syntax.{Term, Declaration, declare, define, prefer}
 use Rattle.tw_parse.specs.Words.{Lexeme, lexemes}
 use Rattle.tw_parse.specs.declared.decl.ExtName.{ExtName}
 use Rattle.tw_print.specs.Names.{Scene}
 use Rattle.tw_print.specs.Shown.{declaration_line, scene_after}
-use Rattle.reading_back.specs.Laws.{IsDeclared}
-use Rattle.reading_back.specs.Names.{EachIs, IsPlainByte, IsName, AreGoodHints, PreferNames, HasRoom}
+use Rattle.tw_approx.specs.Names.{IsFreeVariable}
+use Rattle.tw_recon.specs.Hints.{written_hints}
+use Rattle.reading_back.specs.Laws.{IsDeclared, IsOpenEntry}
+use Rattle.reading_back.specs.Names.{EachIs, IsPlainByte, IsName, AreGoodHints, PreferNames, HasRoom, HasNoImplicit}
 use Rattle.tw_decl.specs.View.{View, empty_view, reset_view, with_chatter, with_implicit, with_steps, with_entry, scene_of, told}
 use Rattle.tw_decl.specs.Declaration.{Makes, Accepts, AcceptsFrom}
 use Rattle.tw_ports.specs.Files.{Held}
@@ -32,6 +34,15 @@ TokensAreSpelled = (text : List ℕ) (from upto : ℕ) (tokens : List Token) →
 -- so what is declared has a name, and has names as its hints
 abbrev pub DeclaredIsNamed : Type 0
 DeclaredIsNamed = (table : Table) (words : List Lexeme) (name : List ℕ) (at : Place) (U : Term) → AreSpelled words → Declares table words (declare name at U) → IsName name × AreGoodHints (hints U)
+
+-- so is what is defined, if it has a name, and it has names as its hints
+abbrev pub DefinedIsNamed : Type 0
+DefinedIsNamed = (table : Table) (words : List Lexeme) (name : Option (List ℕ)) (A : Option Term) (M : Term) (b : Bool) → AreSpelled words → Declares table words (define name A M b)
+    → ((c : List ℕ) → name ≡ Some c → IsName c) × AreGoodHints (written_hints (define name A M b))
+
+-- and the free variables of either are names
+abbrev pub FreeAreNamed : Type 0
+FreeAreNamed = (table : Table) (words : List Lexeme) (d : Declaration) (es : List Entry) (x : List ℕ) → AreSpelled words → Declares table words d → IsFreeVariable es x d → IsName x
 
 -- and what is preferred for variables are names
 abbrev pub PreferredAreNames : Type 0
@@ -65,24 +76,31 @@ abbrev pub RunIsInOrder : Type 0
 RunIsInOrder = (held : Option Held) (words : List (List ℕ)) (left : Option (List ℕ)) (status : Status) (n : ℕ) (taken gained : List ℕ) (w : State) (ran : RanTo held words left status (state_at empty_view n) taken gained w)
     → AllByRecursion (λ t. IsViewInOrder t.after.view) ran.3.opened × AllByRecursion (λ t. IsViewInOrder t.after.view) ran.3.turns
 
--- a session in order reads back what it prints
+-- a session in order in which nothing is implicit reads back what it prints
 abbrev pub KeptReadsBack : Type 0
 KeptReadsBack = (v : View) → IsViewInOrder v → ReadsItselfBack v
 
--- THE theorem of runs: in a run that begins with a new session, each session reads back what it prints
+-- The line of a declared family or constant in which each constant is the newest of its name and has no implicit arguments, and nothing nests too deep to be shown,
+-- reads back whatever else a session in order holds.
+abbrev pub OpenReadsBack : Type 0
+OpenReadsBack = (v : View) (newer older : List Entry) (e : Entry) → IsViewInOrder v → v.parameters.implicit ≡ false → HasRoom (scene_of v) → v.signature ≡ newer ++ e ∷ older → IsDeclared e.body
+    → IsOpenEntry (scene_of v) e → LineReadsBack (scene_of v) older v.fixities e
+
+-- THE theorem of runs: in a run that begins with a new session, each session in which nothing is implicit reads back what it prints
 abbrev pub RunReadsBack : Type 0
 RunReadsBack = (held : Option Held) (words : List (List ℕ)) (left : Option (List ℕ)) (status : Status) (n : ℕ) (taken gained : List ℕ) (w : State) (ran : RanTo held words left status (state_at empty_view n) taken gained w)
     → AllByRecursion (λ t. ReadsItselfBack t.after.view) ran.3.opened × AllByRecursion (λ t. ReadsItselfBack t.after.view) ran.3.turns
 
 -- the line of an entry that is about to be kept is read back by the session as it still is
 abbrev pub NewReadsBack : Type 0
-NewReadsBack = (v : View) (e : Entry) → IsViewInOrder (with_entry v e) → v.parameters.implicit ≡ false → HasRoom (scene_of (with_entry v e)) → IsDeclared e.body
+NewReadsBack = (v : View) (e : Entry) → IsViewInOrder (with_entry v e) → v.parameters.implicit ≡ false → HasRoom (scene_of (with_entry v e)) → HasNoImplicit (scene_of (with_entry v e)) → IsDeclared e.body
     → EachIs IsPlainByte (declaration_line (scene_after (scene_of v) e) e) → LineReadsBack (scene_after (scene_of v) e) v.signature v.fixities e
 
--- a report of this entry: its line, which, where no percent sign is in it, is read back by the session before
+-- A report of this entry: its line, which is read back by the session before, if the entry is declared and the line is open, or nothing is implicit and no percent sign is in it.
 pub record Reports (v w : View) (report : List ℕ) (e : Entry) : Type 0 where
   pub shows : report ≡ told v (declaration_line (scene_of w) e ++ codes "\n")
-  pub reads_back : EachIs IsPlainByte (declaration_line (scene_of w) e) → LineReadsBack (scene_of w) v.signature v.fixities e
+  pub open_reads_back : IsDeclared e.body → IsOpenEntry (scene_of w) e → LineReadsBack (scene_of w) v.signature v.fixities e
+  pub reads_back : HasNoImplicit (scene_of w) → IsDeclared e.body → EachIs IsPlainByte (declaration_line (scene_of w) e) → LineReadsBack (scene_of w) v.signature v.fixities e
 
 -- what an accepted declaration of an entry reports reads back
 abbrev pub ReportReadsBack : Type 0
@@ -99,10 +117,15 @@ ReadBackIsAccepted = (s : Scene) (v : View) (e : Entry) → LineReadsBack s v.si
 
 -- so the line of an entry of a session is accepted by one that has the entries before it and the same operators, and declares the entry again
 abbrev pub KeptIsAccepted : Type 0
-KeptIsAccepted = (v u : View) (newer older : List Entry) (e : Entry) → IsViewInOrder v → v.parameters.implicit ≡ false → HasRoom (scene_of v) → v.signature ≡ newer ++ e ∷ older → IsDeclared e.body
+KeptIsAccepted = (v u : View) (newer older : List Entry) (e : Entry) → IsViewInOrder v → v.parameters.implicit ≡ false → HasRoom (scene_of v) → HasNoImplicit (scene_of v) → v.signature ≡ newer ++ e ∷ older → IsDeclared e.body
     → EachIs IsPlainByte (declaration_line (scene_of v) e) → u.signature ≡ older → u.fixities ≡ v.fixities → IsWithinLimits (declaration_line (scene_of v) e) → AcceptsAgain u (declaration_line (scene_of v) e) e
+
+-- the same of an open line, whatever else the sessions hold
+abbrev pub OpenIsAccepted : Type 0
+OpenIsAccepted = (v u : View) (newer older : List Entry) (e : Entry) → IsViewInOrder v → v.parameters.implicit ≡ false → HasRoom (scene_of v) → v.signature ≡ newer ++ e ∷ older → IsDeclared e.body
+    → IsOpenEntry (scene_of v) e → u.signature ≡ older → u.fixities ≡ v.fixities → IsWithinLimits (declaration_line (scene_of v) e) → AcceptsAgain u (declaration_line (scene_of v) e) e
 
 -- and the line of an entry that was just declared by the session before
 abbrev pub NewIsAccepted : Type 0
-NewIsAccepted = (v : View) (e : Entry) → IsViewInOrder (with_entry v e) → v.parameters.implicit ≡ false → HasRoom (scene_of (with_entry v e)) → IsDeclared e.body
+NewIsAccepted = (v : View) (e : Entry) → IsViewInOrder (with_entry v e) → v.parameters.implicit ≡ false → HasRoom (scene_of (with_entry v e)) → HasNoImplicit (scene_of (with_entry v e)) → IsDeclared e.body
     → EachIs IsPlainByte (declaration_line (scene_of (with_entry v e)) e) → IsWithinLimits (declaration_line (scene_of (with_entry v e)) e) → AcceptsAgain v (declaration_line (scene_of (with_entry v e)) e) e

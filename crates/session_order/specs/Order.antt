@@ -14,14 +14,13 @@ use Rattle.tw_decl.specs.View.{View, scene_of, with_entry, IsSound}
 use Rattle.tw_decl.specs.Declaration.{Accepts}
 
 -- The signature is canonical; the names of entries, their hints and the preferred names are identifiers without a fixed meaning; the newest entry
--- of an operator takes as many arguments as it has operands; and no entry has implicit arguments.
+-- of an operator takes as many arguments as it has operands.
 pub record IsViewInOrder (v : View) : Type 0 where
   pub sound : IsSound v
   pub names : HasGoodNames (scene_of v)
   pub hints : (c : ℕ) (e : Entry) → entry v.signature c ≡ Some e → AreGoodHints e.hints
   pub preferences : HasGoodPreferences (scene_of v)
   pub rows : HasGoodRows (scene_of v)
-  pub no_implicit : HasNoImplicit (scene_of v)
 
 -- The line of an entry, wherever it stands in a text, is read with the table as one declaration, and completes over the signature to the same body.
 abbrev pub LineReadsBack : Scene → List Entry → Table → Entry → Type 0
@@ -31,9 +30,10 @@ LineReadsBack s es table e = (text after : List ℕ) (from : ℕ) → drop from 
 abbrev pub EachReadsBack : View → Type 0
 EachReadsBack v = (newer older : List Entry) (e : Entry) → v.signature ≡ newer ++ e ∷ older → IsDeclared e.body → EachIs IsPlainByte (declaration_line (scene_of v) e) → LineReadsBack (scene_of v) older v.fixities e
 
--- This holds where implicit arguments aren't shown. No memory holds too many entries.
+-- This holds where implicit arguments aren't shown and no entry has any: a line that leaves arguments out is reconstructed, and for that no such law is
+-- claimed. No memory holds too many entries.
 abbrev pub ReadsItselfBack : View → Type 0
-ReadsItselfBack v = v.parameters.implicit ≡ false → HasRoom (scene_of v) → EachReadsBack v
+ReadsItselfBack v = v.parameters.implicit ≡ false → HasRoom (scene_of v) → HasNoImplicit (scene_of v) → EachReadsBack v
 
 -- A text within the limits of a declaration: it has so few bytes that it can't have too many tokens, and no bracket is nested too deep.
 pub record IsWithinLimits (text : List ℕ) : Type 0 where

@@ -1,7 +1,7 @@
 //! Each session is in order, so what it prints reads back. No function here has code: each carries one law as its contract.
 #![tactic(auto)]
 
-ghost use Rattle.session_order.specs.Laws.{TokensAreSpelled, DeclaredIsNamed, PreferredAreNames, NewIsInOrder, SettingKeepsOrder, MakingKeepsOrder, AcceptingKeepsOrder, AcceptingFromKeepsOrder, StepKeepsOrder, RunIsInOrder, KeptReadsBack, RunReadsBack, NewReadsBack, ReportReadsBack, ReportFromReadsBack, ReadBackIsAccepted, KeptIsAccepted, NewIsAccepted};
+ghost use Rattle.session_order.specs.Laws.{TokensAreSpelled, DeclaredIsNamed, DefinedIsNamed, FreeAreNamed, PreferredAreNames, NewIsInOrder, SettingKeepsOrder, MakingKeepsOrder, AcceptingKeepsOrder, AcceptingFromKeepsOrder, StepKeepsOrder, RunIsInOrder, KeptReadsBack, OpenReadsBack, RunReadsBack, NewReadsBack, ReportReadsBack, ReportFromReadsBack, ReadBackIsAccepted, KeptIsAccepted, OpenIsAccepted, NewIsAccepted};
 
 /// What a text has as names are identifiers without a fixed meaning.
 pub fn tokens_are_spelled()
@@ -11,6 +11,16 @@ pub fn tokens_are_spelled()
 /// What is declared has a name, and has names as its hints.
 pub fn declared_is_named()
     ensures { DeclaredIsNamed }
+{}
+
+/// What is defined has a name, if any, and has names as its hints.
+pub fn defined_is_named()
+    ensures { DefinedIsNamed }
+{}
+
+/// The free variables of a declaration are names.
+pub fn free_are_named()
+    ensures { FreeAreNamed }
 {}
 
 /// What is preferred for variables are names.
@@ -53,12 +63,19 @@ pub fn run_is_in_order()
     ensures { RunIsInOrder }
 {}
 
-/// The printed line of a declared family or constant of a session in order reads back over the entries before it.
+/// The printed line of a declared family or constant of a session in order, in which nothing is implicit, reads back over the entries
+/// before it.
 pub fn kept_reads_back()
     ensures { KeptReadsBack }
 {}
 
-/// In a run that begins with a new session, each session reads back what it prints.
+/// The printed line of a declared family or constant whose names aren't shadowed and have no implicit arguments reads back, whatever
+/// else a session in order holds.
+pub fn open_reads_back()
+    ensures { OpenReadsBack }
+{}
+
+/// In a run that begins with a new session, each session in which nothing is implicit reads back what it prints.
 pub fn run_reads_back()
     ensures { RunReadsBack }
 {}
@@ -86,6 +103,11 @@ pub fn read_back_is_accepted()
 /// The line of an entry of a session is accepted by one that has the entries before it and the same operators.
 pub fn kept_is_accepted()
     ensures { KeptIsAccepted }
+{}
+
+/// The same of a line whose names aren't shadowed and have no implicit arguments, whatever else the sessions hold.
+pub fn open_is_accepted()
+    ensures { OpenIsAccepted }
 {}
 
 /// The line of an entry that was just declared is accepted by the session before.

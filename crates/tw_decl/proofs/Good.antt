@@ -1,5 +1,5 @@
 -- An explicit, well typed declaration has no cause of a refusal.
-use Rattle.std.proofs.Common.{◌≡◌, ℕ, List, [], Bool, true, false, refl, sym, ap, ◌∙◌, subst, inl, inr, Ok, Err}
+use Rattle.std.proofs.Common.{◌≡◌, ℕ, List, [], Bool, true, false, None, Some, refl, sym, ap, ◌∙◌, subst, inl, inr, Ok, Err}
 use Rattle.lf.specs.Entries.{Entry}
 use Rattle.tw_lexer.specs.Places.{place_of}
 use Rattle.tw_lexer.specs.Tokens.{first_token}
@@ -10,7 +10,7 @@ use Rattle.tw_lexer.proofs.TokensUnique.{tokens_unique, fault_excludes, too_many
 use Rattle.tw_parse.proofs.OneReading.{one_reading}
 use Rattle.tw_parse.specs.Faults.{FaultStands}
 use Rattle.tw_parse.specs.Syntax.{Declaration, declare, define, prefer, give}
-use Rattle.tw_parse.specs.Words.{Lexeme, lexemes, first_place, first_bytes}
+use Rattle.tw_parse.specs.Words.{Lexeme, lexemes, first_place}
 use Rattle.tw_parse.specs.declared.fault.SyntaxFault.{SyntaxFault}
 use Rattle.tw_parse.specs.declared.fault.SyntaxFault.TheVariants as faults
 use Rattle.tw_explicit.specs.Answer as explicit
@@ -18,12 +18,15 @@ use Rattle.tw_explicit.specs.Unknown.{unknown_in, IsFirst, IsOneOf}
 use Rattle.tw_explicit.specs.declared.unknown.Mention.{Mention}
 use Rattle.tw_explicit.specs.declared.fault.ExplicitFault.{ExplicitFault}
 use Rattle.tw_explicit.specs.declared.fault.ExplicitFault.TheVariants as completions
+use Rattle.tw_explicit.specs.Form.{is_explicit}
+use Rattle.tw_recon.specs.declared.fault.ReconFault.{ReconFault}
+use Rattle.tw_recon.specs.declared.fault.ReconFault.TheVariants as reconstructions
 use Rattle.tw_decl.specs.View.{View}
-use Rattle.tw_decl.specs.Declaration.{IsWritten, IsWrittenAlone, IsReadAs, IsFaultBehind, IsUnknown, IsBad, CompletionFails, HasObstacle, IsNotMade, IsFirstCause, IsFollowed, IsLastCause, IsCauseAlone, HasCause}
+use Rattle.tw_decl.specs.Declaration.{IsWritten, IsWrittenAlone, IsReadAs, IsFaultBehind, IsUnknown, IsBad, CompletionFails, ReconstructionFails, HasObstacle, IsNotMade, IsFirstCause, IsFollowed, IsLastCause, IsCauseAlone, HasCause}
 use Rattle.tw_decl.specs.Laws.{IsWellTyped, IsGood, GoodIsAccepted}
 use Rattle.tw_decl.proofs.Faultless.{read_faultless}
 use Rattle.tw_decl.specs.declared.refusal.Refusal.{Refusal}
-use Rattle.tw_decl.specs.declared.refusal.Refusal.TheVariants.{Memory, Lex, TooMany, Unsupported, Nesting, Syntax, Fixity, BadDecl, Unknown, Mismatch, TooDeep}
+use Rattle.tw_decl.specs.declared.refusal.Refusal.TheVariants.{Memory, Lex, TooMany, Unsupported, Nesting, Syntax, Fixity, BadDecl, Unknown, Loose, Mismatch, Leftover, TooDeep}
 
 -- a declaration's tokens are unique, and so is what follows them
 pub record SameText (upto m : ℕ) (words us : List Lexeme) (end last : Place) : Type 0 where
@@ -72,29 +75,44 @@ no_fault v d completions.Mismatch t h = absurd (h.1 t.entry t.completes)
 no_fault v d completions.TooDeep t h = absurd (t.shallow h.1)
 no_fault v d completions.NoMemory t h = refl
 
--- a definition or declaration that is completed has no obstacle; operators and preferred names aren't completed
-plain_obstacle : (v : View) (d : Declaration) (first : Place) (shown : List ℕ) (refusal : Refusal) → IsWellTyped v d
-    → (IsBad v d → ⊥) → ((name : List ℕ) (place : Place) → IsUnknown v d name place → explicit.HasCause v.signature d (completions.Unknown name place))
-    → ((fault : ExplicitFault) → CompletionFails v d fault → explicit.HasCause v.signature d fault) → HasObstacle v d first shown refusal → refusal ≡ Memory
-plain_obstacle v d first shown Memory t good named fails h = refl
-plain_obstacle v d first shown (BadDecl place) t good named fails h = absurd (good h.0)
-plain_obstacle v d first shown (Unknown place name) t good named fails h = let e : completions.Unknown name place ≡ completions.NoMemory = no_fault v d (completions.Unknown name place) t (named name place h) in cc
-plain_obstacle v d first shown (Unsupported place name) t good named fails h = let e : completions.Unsupported ≡ completions.NoMemory = no_fault v d completions.Unsupported t (fails completions.Unsupported h.0) in cc
-plain_obstacle v d first shown (Mismatch place) t good named fails h = let e : completions.Mismatch ≡ completions.NoMemory = no_fault v d completions.Mismatch t (fails completions.Mismatch h.0) in cc
-plain_obstacle v d first shown (TooDeep place) t good named fails h = let e : completions.TooDeep ≡ completions.NoMemory = no_fault v d completions.TooDeep t (fails completions.TooDeep h.0) in cc
-plain_obstacle v d first shown refusal t good named fails h = absurd h
+-- it isn't reconstructed
+not_reconstructed : {X : Type 0} (v : View) (d : Declaration) → IsWellTyped v d → is_explicit v.signature d ≡ false → X
+not_reconstructed v d t h = let e : true ≡ false = sym t.form.1 ∙ h in cc
 
-no_obstacle : (v : View) (d : Declaration) (first : Place) (shown : List ℕ) (refusal : Refusal) → IsWellTyped v d → HasObstacle v d first shown refusal → refusal ≡ Memory
-no_obstacle v (declare c at U) first shown refusal t h = plain_obstacle v (declare c at U) first shown refusal t (λ b. b) (λ name place u. u) (λ fault f. f) h
-no_obstacle v (define c A M b) first shown refusal t h = plain_obstacle v (define c A M b) first shown refusal t (λ b. b) (λ name place u. u) (λ fault f. f) h
-no_obstacle v (prefer a x y) first shown refusal t h = absurd t.completes
-no_obstacle v (give fix names) first shown refusal t h = absurd t.completes
+-- a definition or declaration that is completed has no obstacle; operators and preferred names aren't completed
+module _ (v : View) (d : Declaration) (first : Place) (t : IsWellTyped v d) (good : IsBad v d → ⊥) (named : (name : List ℕ) (place : Place) → IsUnknown v d name place → explicit.HasCause v.signature d (completions.Unknown name place))
+    (fails : (fault : ExplicitFault) → CompletionFails v d fault → explicit.HasCause v.signature d fault) (apart : (fault : ReconFault) → ReconstructionFails v d fault → is_explicit v.signature d ≡ false) where
+  no_completion_fault : (fault : ExplicitFault) → CompletionFails v d fault → fault ≡ completions.NoMemory
+  no_completion_fault fault h = no_fault v d fault t (fails fault h)
+
+  no_reconstruction_fault : {X : Type 0} (fault : ReconFault) → ReconstructionFails v d fault → X
+  no_reconstruction_fault fault h = not_reconstructed v d t (apart fault h)
+
+  plain_obstacle : (refusal : Refusal) → HasObstacle v d first refusal → refusal ≡ Memory
+  plain_obstacle Memory h = refl
+  plain_obstacle (BadDecl place) h = absurd (good h.0)
+  plain_obstacle (Unknown place name) h = let e : completions.Unknown name place ≡ completions.NoMemory = no_fault v d (completions.Unknown name place) t (named name place h) in cc
+  plain_obstacle (Unsupported place shown) (inl h, e) = no_reconstruction_fault (reconstructions.TypeLevel None) h.0
+  plain_obstacle (Unsupported place shown) (inr h, e) = no_reconstruction_fault (reconstructions.TypeLevel (Some place)) h
+  plain_obstacle (Loose place) h = no_reconstruction_fault reconstructions.Loose h.0
+  plain_obstacle (Mismatch place) (inl h, at) = let e : completions.Mismatch ≡ completions.NoMemory = no_completion_fault completions.Mismatch h in cc
+  plain_obstacle (Mismatch place) (inr h, at) = no_reconstruction_fault reconstructions.Mismatch h
+  plain_obstacle (Leftover place text) ((left, h, e), at) = no_reconstruction_fault (reconstructions.Leftover left) h
+  plain_obstacle (TooDeep place) (inl h, at) = let e : completions.TooDeep ≡ completions.NoMemory = no_completion_fault completions.TooDeep h in cc
+  plain_obstacle (TooDeep place) (inr h, at) = no_reconstruction_fault reconstructions.TooDeep h
+  plain_obstacle refusal h = absurd h
+
+no_obstacle : (v : View) (d : Declaration) (first : Place) (refusal : Refusal) → IsWellTyped v d → HasObstacle v d first refusal → refusal ≡ Memory
+no_obstacle v (declare c at U) first refusal t h = plain_obstacle v (declare c at U) first t (λ b. b) (λ name place u. u) (λ fault f. f) (λ fault f. f.0) refusal h
+no_obstacle v (define c A M b) first refusal t h = absurd t.completes
+no_obstacle v (prefer a x y) first refusal t h = absurd t.completes
+no_obstacle v (give fix names) first refusal t h = absurd t.completes
 
 not_made : (v : View) (words : List Lexeme) (end : Place) (d : Declaration) (refusal : Refusal) → IsReadAs v words d → IsWellTyped v d → IsNotMade v end words refusal → refusal ≡ Memory
 not_made v words end d refusal r t h =
     let once = one_reading v.fixities words d r.reads in
     let same = once.0 h.declaration h.reads.reads in
-    no_obstacle v d (first_place end words) (first_bytes words) refusal t (subst (λ (x : Declaration). HasObstacle v x (first_place end words) (first_bytes words) refusal) same h.obstacle)
+    no_obstacle v d (first_place end words) refusal t (subst (λ (x : Declaration). HasObstacle v x (first_place end words) refusal) same h.obstacle)
 
 not_last : (v : View) (words : List Lexeme) (end : Place) (d : Declaration) (refusal : Refusal) → IsReadAs v words d → IsWellTyped v d → IsLastCause v end words refusal → refusal ≡ Memory
 not_last v words end d Memory r t h = refl

@@ -1,5 +1,5 @@
 -- A declaration's text: when it is made, with its report and the view after it, and when it is refused.
-use Rattle.std.specs.Prelude.{◌≡◌, ◌≢◌, ◌⊎◌, ℕ, List, [], ◌∷◌, ◌++◌, true, false, codes, Option, None, Some, IsSome, Ok, Err}
+use Rattle.std.specs.Prelude.{◌≡◌, ◌≢◌, ◌⊎◌, ℕ, List, [], ◌∷◌, ◌++◌, map as each, Bool, true, false, codes, Option, None, Some, IsSome, Ok, Err, if◌then◌else◌}
 use Rattle.std.specs.FinMap as map
 use Rattle.lf.specs.Entries.{Entry, entry, signature_of, IsCanonicalEntry}
 use Rattle.tw_fixity.specs.declared.table.Fix.{Fix}
@@ -10,15 +10,24 @@ use Rattle.tw_lexer.specs.declared.token.Token.{Token}
 use Rattle.tw_lexer.specs.declared.token.TokenKind.TheVariants.{End}
 use Rattle.tw_parse.specs.Faults.{IsRead, FaultStands}
 use Rattle.tw_parse.specs.Readings.{Declares}
-use Rattle.tw_parse.specs.Syntax.{Declaration, prefer, give}
+use Rattle.tw_parse.specs.Syntax.{Declaration, define, prefer, give}
 use Rattle.tw_parse.specs.declared.decl.ExtName.{ExtName}
-use Rattle.tw_parse.specs.Words.{Lexeme, lexemes, first_bytes, first_place}
+use Rattle.tw_parse.specs.Words.{Lexeme, lexemes, first_place}
 use Rattle.tw_parse.specs.declared.fault.SyntaxFault.TheVariants as faults
 use Rattle.tw_explicit.specs.Answer as explicit
 use Rattle.tw_explicit.specs.Completion.{Completes}
+use Rattle.tw_explicit.specs.Form.{is_explicit}
 use Rattle.tw_explicit.specs.declared.fault.ExplicitFault.{ExplicitFault}
 use Rattle.tw_explicit.specs.declared.fault.ExplicitFault.TheVariants as completions
 use Rattle.tw_print.specs.Shown.{declaration_line, scene_after}
+use Rattle.tw_equation.specs.Text.{equation_text}
+use Rattle.tw_metas.specs.View.{equation_of}
+use Rattle.tw_recon.specs.Causes as reconstruction
+use Rattle.tw_recon.specs.Reconstruction.{IsReconstructed}
+use Rattle.tw_recon.specs.declared.fault.ReconFault.{ReconFault}
+use Rattle.tw_recon.specs.declared.fault.ReconFault.TheVariants as reconstructions
+use Rattle.tw_unify.specs.Named.{shown_type_of}
+use Rattle.tw_unify.specs.declared.left.LeftEquation.{LeftEquation}
 use Rattle.tw_decl.specs.View.{View, scene_of, told, with_entry}
 use Rattle.tw_signature.specs.Names.{number_of}
 use Rattle.tw_decl.specs.Operators.{newest, operand_count, all_take, first_undeclared, with_rows, fixity_line}
@@ -51,7 +60,7 @@ entry_line v e = declaration_line (scene_after (scene_of v) e) e ++ codes "\n"
 abbrev pub entry_report : View → Entry → List ℕ
 entry_report v e = told v (entry_line v e)
 
--- a declared constant, family or definition: its completion may stand over the signature and is kept, and the report shows it
+-- an explicit declaration: its completion may stand over the signature and is kept, and the report shows it
 pub record Completed (v : View) (d : Declaration) (report : List ℕ) (w : View) : Type 0 where
   pub form : explicit.IsExplicit v.signature d
   pub entry : Entry
@@ -59,6 +68,24 @@ pub record Completed (v : View) (d : Declaration) (report : List ℕ) (w : View)
   pub stands : IsCanonicalEntry (signature_of v.signature) entry
   pub says : report ≡ entry_report v entry
   pub keeps : w ≡ with_entry v entry
+
+-- a definition without a name
+abbrev pub is_unnamed : Declaration → Bool
+is_unnamed (define None A M b) = true
+is_unnamed _ = false
+
+-- the view once this entry is made of the declaration: a definition without a name is checked, and not kept
+abbrev pub keeping : View → Declaration → Entry → View
+keeping v d e = if is_unnamed d then v else with_entry v e
+
+-- any other constant, family or definition: its reconstruction may stand over the signature and is kept, if it has a name, and the report shows it
+pub record Reconstructed (v : View) (d : Declaration) (report : List ℕ) (w : View) : Type 0 where
+  pub form : is_explicit v.signature d ≡ false
+  pub entry : Entry
+  pub reconstructs : IsReconstructed v.signature d entry
+  pub stands : IsCanonicalEntry (signature_of v.signature) entry
+  pub says : report ≡ entry_report v entry
+  pub keeps : w ≡ keeping v d entry
 
 -- operators: each name is declared, and takes as many arguments as the operator has operands; it gets the row
 pub record GivesRows (v : View) (fix : Fix) (names : List ExtName) (report : List ℕ) (w : View) : Type 0 where
@@ -79,7 +106,7 @@ pub record Prefers (v : View) (a : ExtName) (x : List ℕ) (y : Option (List ℕ
 abbrev pub Does : View → Declaration → List ℕ → View → Type 0
 Does v (give fix names) report w = GivesRows v fix names report w
 Does v (prefer a x y) report w = Prefers v a x y report w
-Does v d report w = Completed v d report w
+Does v d report w = Completed v d report w ⊎ Reconstructed v d report w
 
 -- a declaration that is made
 pub record Makes (v : View) (words : List Lexeme) (report : List ℕ) (w : View) : Type 0 where
@@ -101,6 +128,24 @@ CompletionFails v (give fix names) fault = ⊥
 CompletionFails v (prefer a x y) fault = ⊥
 CompletionFails v d fault = explicit.HasCause v.signature d fault
 
+-- the fault of a reconstruction, where there has to be one: of what isn't explicit
+abbrev pub ReconstructionFails : View → Declaration → ReconFault → Type 0
+ReconstructionFails v (give fix names) fault = ⊥
+ReconstructionFails v (prefer a x y) fault = ⊥
+ReconstructionFails v d fault = (is_explicit v.signature d ≡ false) × reconstruction.HasCause v.signature d fault
+
+-- A definition or a lambda stands at the level of types: the fault is told at the declaration's first token, or at the lambda's bracket.
+abbrev pub IsTypeLevel : View → Declaration → Place → Place → Type 0
+IsTypeLevel v d first place = (ReconstructionFails v d (reconstructions.TypeLevel None) × (place ≡ first)) ⊎ ReconstructionFails v d (reconstructions.TypeLevel (Some place))
+
+-- the text of an equation that is left
+abbrev pub left_text : View → LeftEquation → List ℕ
+left_text v left = equation_text (scene_of v) (each shown_type_of left.metas.items) left.names.items (equation_of left.equation)
+
+-- an equation with this text is left
+abbrev pub IsLeft : View → Declaration → List ℕ → Type 0
+IsLeft v d text = (left : LeftEquation) × ReconstructionFails v d (reconstructions.Leftover left) × (text ≡ left_text v left)
+
 -- the first name that names nothing: of those that get a row, the family, or in a term
 abbrev pub IsUnknown : View → Declaration → List ℕ → Place → Type 0
 IsUnknown v (give fix names) name place = first_undeclared v.signature names ≡ Some (record { name = name; at = place })
@@ -113,21 +158,23 @@ IsBad v (give fix names) = (first_undeclared v.signature names ≡ None) × (all
 IsBad v (prefer a x y) = IsSome (number_of v.signature a.name) × (is_family (newest v.signature a.name) ≡ false)
 IsBad v d = ⊥
 
--- why a declaration that is read isn't made, where its first token stands at this place and has these bytes
-abbrev pub HasObstacle : View → Declaration → Place → List ℕ → Refusal → Type 0
-HasObstacle v d first shown refusals.Memory = Unit {0}
-HasObstacle v d first shown (refusals.BadDecl place) = IsBad v d × (place ≡ first)
-HasObstacle v d first shown (refusals.Unknown place name) = IsUnknown v d name place
-HasObstacle v d first shown (refusals.Unsupported place name) = CompletionFails v d completions.Unsupported × (place ≡ first) × (name ≡ shown)
-HasObstacle v d first shown (refusals.Mismatch place) = CompletionFails v d completions.Mismatch × (place ≡ first)
-HasObstacle v d first shown (refusals.TooDeep place) = CompletionFails v d completions.TooDeep × (place ≡ first)
-HasObstacle v d first shown _ = ⊥
+-- why a declaration that is read isn't made, where its first token stands at this place
+abbrev pub HasObstacle : View → Declaration → Place → Refusal → Type 0
+HasObstacle v d first refusals.Memory = Unit {0}
+HasObstacle v d first (refusals.BadDecl place) = IsBad v d × (place ≡ first)
+HasObstacle v d first (refusals.Unknown place name) = IsUnknown v d name place
+HasObstacle v d first (refusals.Unsupported place shown) = IsTypeLevel v d first place × (shown ≡ codes "type")
+HasObstacle v d first (refusals.Loose place) = ReconstructionFails v d reconstructions.Loose × (place ≡ first)
+HasObstacle v d first (refusals.Mismatch place) = (CompletionFails v d completions.Mismatch ⊎ ReconstructionFails v d reconstructions.Mismatch) × (place ≡ first)
+HasObstacle v d first (refusals.Leftover place text) = IsLeft v d text.items × (place ≡ first)
+HasObstacle v d first (refusals.TooDeep place) = (CompletionFails v d completions.TooDeep ⊎ ReconstructionFails v d reconstructions.TooDeep) × (place ≡ first)
+HasObstacle v d first _ = ⊥
 
 -- the words are a declaration that isn't made
 pub record IsNotMade (v : View) (end : Place) (words : List Lexeme) (refusal : Refusal) : Type 0 where
   pub declaration : Declaration
   pub reads : IsReadAs v words declaration
-  pub obstacle : HasObstacle v declaration (first_place end words) (first_bytes words) refusal
+  pub obstacle : HasObstacle v declaration (first_place end words) refusal
 
 -- the causes behind them
 abbrev pub IsLastCause : View → Place → List Lexeme → Refusal → Type 0

@@ -2,7 +2,7 @@
 use Rattle.std.specs.Prelude.{ℕ, List, ◌++◌, codes, decimal}
 use Rattle.tw_lexer.specs.declared.place.Place.{Place}
 use Rattle.tw_decl.specs.declared.refusal.Refusal.{Refusal}
-use Rattle.tw_decl.specs.declared.refusal.Refusal.TheVariants.{Memory, Lex, TooMany, Unsupported, Nesting, Syntax, Fixity, BadDecl, Unknown, Mismatch, TooDeep}
+use Rattle.tw_decl.specs.declared.refusal.Refusal.TheVariants.{Memory, Lex, TooMany, Unsupported, Nesting, Syntax, Fixity, BadDecl, Unknown, Loose, Mismatch, Leftover, TooDeep}
 
 -- where a text came from, and a place in it
 abbrev pub show_place : List ℕ → Place → List ℕ
@@ -19,5 +19,7 @@ refusal_line origin (Syntax place) = show_place origin place ++ codes " E2 Synta
 refusal_line origin (Fixity place) = show_place origin place ++ codes " E3 Fixity\n"
 refusal_line origin (BadDecl place) = show_place origin place ++ codes " E22 BadDecl\n"
 refusal_line origin (Unknown place name) = show_place origin place ++ codes " E4 Unknown " ++ name ++ codes "\n"
+refusal_line origin (Loose place) = show_place origin place ++ codes " E7 Loose\n"
 refusal_line origin (Mismatch place) = show_place origin place ++ codes " E5 Mismatch\n"
+refusal_line origin (Leftover place text) = show_place origin place ++ codes " E6 Leftover " ++ text.items ++ codes "\n"
 refusal_line origin (TooDeep place) = show_place origin place ++ codes " E10 TooDeep\n"

@@ -1,5 +1,5 @@
 -- What the steps of a declaration come to. The proofs need these; the definitions of a declaration don't speak of them.
-use Rattle.std.specs.Prelude.{◌≡◌, ℕ, List, [], ◌∷◌, Bool, true, false, Ok, Err, MatchResult, slice_range, ◌||◌, if◌then◌else◌}
+use Rattle.std.specs.Prelude.{◌≡◌, ◌⊎◌, ℕ, List, [], ◌∷◌, Bool, true, false, codes, None, Some, Ok, Err, MatchResult, ◌||◌, if◌then◌else◌}
 use Rattle.std.specs.declared.result.Result.{Result}
 use Rattle.tw_lexer.specs.Tokens.{HasFault, HasTooMany}
 use Rattle.tw_lexer.specs.declared.place.Place.{Place}
@@ -12,13 +12,18 @@ use Rattle.tw_parse.specs.Words.{Lexeme}
 use Rattle.tw_parse.specs.declared.decl.ExtDecl.{ExtDecl}
 use Rattle.tw_parse.specs.declared.fault.SyntaxFault.{SyntaxFault}
 use Rattle.tw_parse.specs.declared.fault.SyntaxFault.TheVariants as faults
-use Rattle.tw_parse.specs.Syntax.{Declaration}
+use Rattle.tw_parse.specs.Syntax.{Declaration, declare, define, prefer, give}
 use Rattle.tw_parse.specs.declared.decl.ExtName.{ExtName}
 use Rattle.tw_explicit.specs.Answer as explicit
-use Rattle.tw_explicit.specs.declared.fault.ExplicitFault.{ExplicitFault}
-use Rattle.tw_explicit.specs.declared.fault.ExplicitFault.TheVariants as completions
+use Rattle.tw_explicit.specs.Completion.{Completes}
+use Rattle.tw_explicit.specs.Form.{is_explicit}
+use Rattle.tw_recon.specs.Reconstruction.{IsReconstructed}
+use Rattle.tw_recon.specs.declared.fault.ReconFault.{ReconFault}
+use Rattle.tw_recon.specs.declared.fault.ReconFault.TheVariants as reconstructions
+use Rattle.tw_unify.specs.declared.left.LeftEquation.{LeftEquation}
+use Rattle.lf.specs.Entries.{Entry}
 use Rattle.tw_decl.specs.View.{View}
-use Rattle.tw_decl.specs.Declaration.{IsReadAs}
+use Rattle.tw_decl.specs.Declaration.{IsReadAs, left_text}
 use Rattle.tw_decl.specs.declared.refusal.Refusal.{Refusal}
 use Rattle.tw_decl.specs.declared.refusal.Refusal.TheVariants as refusals
 
@@ -67,17 +72,46 @@ NamesUnknown x refusals.Memory = Unit {0}
 NamesUnknown x (refusals.Unknown place name) = (place ≡ x.at) × (name ≡ x.name)
 NamesUnknown x _ = ⊥
 
--- a fault of a completion as a refusal, by the first token
-abbrev pub IsRefusedFor : List ℕ → Token → ExplicitFault → Refusal → Type 0
-IsRefusedFor text first fault refusals.Memory = Unit {0}
-IsRefusedFor text first fault (refusals.Unknown place name) = fault ≡ completions.Unknown name place
-IsRefusedFor text first fault (refusals.Unsupported place name) = (fault ≡ completions.Unsupported) × (place ≡ first.at) × (name ≡ slice_range text first.from first.upto)
-IsRefusedFor text first fault (refusals.Mismatch place) = (fault ≡ completions.Mismatch) × (place ≡ first.at)
-IsRefusedFor text first fault (refusals.TooDeep place) = (fault ≡ completions.TooDeep) × (place ≡ first.at)
-IsRefusedFor text first fault _ = ⊥
+-- what has to be completed or reconstructed
+abbrev pub IsPlain : Declaration → Type 0
+IsPlain (declare c at U) = Unit {0}
+IsPlain (define c A M b) = Unit {0}
+IsPlain (prefer a x y) = ⊥
+IsPlain (give fix names) = ⊥
 
--- the completion has a fault, and this is its refusal
-pub record IsNotCompleted (v : View) (text : List ℕ) (first : Token) (d : Declaration) (refusal : Refusal) : Type 0 where
-  pub fault : ExplicitFault
-  pub cause : explicit.HasCause v.signature d fault
-  pub shows : IsRefusedFor text first fault refusal
+-- the entry of an explicit declaration
+pub record IsCompletedTo (v : View) (d : Declaration) (e : Entry) : Type 0 where
+  pub form : explicit.IsExplicit v.signature d
+  pub completes : Completes v.signature d e
+
+-- the entry of any other
+pub record IsReconstructedTo (v : View) (d : Declaration) (e : Entry) : Type 0 where
+  pub form : is_explicit v.signature d ≡ false
+  pub reconstructs : IsReconstructed v.signature d e
+
+-- the entry that a declaration gives
+abbrev pub Gives : View → Declaration → Entry → Type 0
+Gives v d e = IsCompletedTo v d e ⊎ IsReconstructedTo v d e
+
+-- want of memory, or this name at this place as a form that is unknown
+abbrev pub ShowsType : Place → Refusal → Type 0
+ShowsType at refusals.Memory = Unit {0}
+ShowsType at (refusals.Unsupported place shown) = (place ≡ at) × (shown ≡ codes "type")
+ShowsType at _ = ⊥
+
+-- a fault of a reconstruction as a refusal, where the first token stands here
+abbrev pub IsRefusedFor : View → Place → ReconFault → Refusal → Type 0
+IsRefusedFor v first fault refusals.Memory = Unit {0}
+IsRefusedFor v first fault (refusals.Unknown place name) = fault ≡ reconstructions.Unknown name place
+IsRefusedFor v first fault (refusals.Unsupported place shown) = (((fault ≡ reconstructions.TypeLevel None) × (place ≡ first)) ⊎ (fault ≡ reconstructions.TypeLevel (Some place))) × (shown ≡ codes "type")
+IsRefusedFor v first fault (refusals.Loose place) = (fault ≡ reconstructions.Loose) × (place ≡ first)
+IsRefusedFor v first fault (refusals.Mismatch place) = (fault ≡ reconstructions.Mismatch) × (place ≡ first)
+IsRefusedFor v first fault (refusals.Leftover place text) = ((left : LeftEquation) × (fault ≡ reconstructions.Leftover left) × (text.items ≡ left_text v left)) × (place ≡ first)
+IsRefusedFor v first fault (refusals.TooDeep place) = (fault ≡ reconstructions.TooDeep) × (place ≡ first)
+IsRefusedFor v first fault _ = ⊥
+
+-- want of memory, or this equation at this place
+abbrev pub ShowsLeft : View → Place → LeftEquation → Refusal → Type 0
+ShowsLeft v first left refusals.Memory = Unit {0}
+ShowsLeft v first left (refusals.Leftover place text) = (place ≡ first) × (text.items ≡ left_text v left)
+ShowsLeft v first left _ = ⊥

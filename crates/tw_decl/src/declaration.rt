@@ -1,28 +1,35 @@
 //! One declaration.
-ghost use Rattle.std.specs.Prelude.{◌≡◌, ◌≢◌, ◌≤◌, ◌<◌, ◌-◌, ◌^◌, [], List, ℕ, length, slice_range, Ok, All, IfOk, IfErr, OnErr, MatchResult};
+ghost use Rattle.std.specs.Prelude.{◌≡◌, ◌≢◌, ◌≤◌, ◌<◌, ◌-◌, ◌^◌, false, List, ℕ, length, Ok, All, IfOk, IfErr, OnErr, OnOk, MatchResult};
 ghost use Rattle.tw_lexer.specs.Places.{place_of};
 ghost use Rattle.tw_lexer.specs.Tokens.{IsWithin, Lexes, ThroughDot};
 ghost use Rattle.tw_lexer.specs.declared.place.Place.{Place};
 ghost use Rattle.tw_parse.specs.Syntax.{Declaration, prefer, give};
 ghost use Rattle.tw_parse.specs.View.{declaration_of};
-ghost use Rattle.tw_parse.specs.Words.{Lexeme, lexemes};
+ghost use Rattle.tw_parse.specs.Words.{first_place, Lexeme, lexemes};
+ghost use Rattle.tw_explicit.specs.Form.{is_explicit};
+ghost use Rattle.tw_recon.specs.Reconstruction.{IsReconstructed};
 ghost use Rattle.tw_signature.specs.View.{entry_of};
 ghost use Rattle.lf.specs.Entries.{signature_of, IsCanonicalEntry};
+ghost use Rattle.tw_print.specs.ShowEnv.{scene_of};
 ghost use Rattle.tw_decl.specs.View.{View, told};
-ghost use Rattle.tw_decl.specs.Declaration.{Accepts, HasCause, HasCauseFrom, Comes, Completed, Does, entry_line, entry_report, GivesRows, HasObstacle, IsCauseAlone, IsLastCause, IsReadAs, Makes, Prefers};
-ghost use Rattle.tw_decl.specs.Steps.{IsNotCompleted, IsParsed, IsRefusedFor, NamesUnknown, IsTokenCause, is_first, is_over, refusal_of, refused_alone};
+ghost use Rattle.tw_decl.specs.View.{scene_of as scene_of_view};
+ghost use Rattle.tw_decl.specs.Declaration.{Accepts, HasCause, HasCauseFrom, Comes, Does, entry_line, entry_report, GivesRows, HasObstacle, IsCauseAlone, IsReadAs, is_unnamed, keeping, Prefers};
+ghost use Rattle.tw_decl.specs.Steps.{Gives, IsParsed, IsPlain, IsRefusedFor, NamesUnknown, IsTokenCause, is_first, is_over, refusal_of, refused_alone, ShowsLeft, ShowsType};
 
 use crate::operators::{all_take, first_undeclared, fixity_line, operand_count};
 use crate::preferences::{is_family, preference, preference_line};
 use crate::refusal::Refusal;
 use crate::session::Session;
 use std::alloc::{AllocError, Global};
+use tw_equation::show_equation;
 use tw_explicit::{ExplicitFault, complete};
 use tw_fixity::{Fix, Name};
 use tw_lexer::{LexFault, Place, Token, TokenKind, Tokens, lex, next_token};
 use tw_parse::{ExtDecl, ExtName, SyntaxFault, parse_decl};
 use tw_print::{ShowEnv, show_entry};
+use tw_recon::{ReconFault, reconstruct};
 use tw_signature::Entry;
+use tw_unify::LeftEquation;
 
 /// From how much chatter on accepted declarations are reported.
 const REPORTS_FROM: u8 = 3;
@@ -145,22 +152,51 @@ fn unknown(alloc: Global, name: &ExtName) -> Refusal
     }
 }
 
-// The refusal of a declaration whose completion has a fault, by its first token.
-fn incomplete(alloc: Global, text: &[u8], first: &Token, fault: ExplicitFault) -> Refusal
-    requires { IsWithin (length text.now) first.now }
-    ensures { IsRefusedFor text.now first.now fault result }
+// What texts depend on.
+fn environment(session: &Session) -> ShowEnv<'_>
+    ensures { scene_of result ≡ scene_of_view session.now }
+{
+    ShowEnv {
+        sig: session.signature(),
+        fixities: session.fixities(),
+        names: session.names(),
+        implicit: session.parameters().implicit,
+    }
+}
+
+// A form that isn't known stands here: `type` is shown.
+fn no_type(alloc: Global, at: Place) -> Refusal
+    ensures { ShowsType at result }
+{
+    match Name::from_text(alloc, "type") {
+        Ok(shown) => Refusal::Unsupported(at, shown),
+        Err(_) => Refusal::Memory,
+    }
+}
+
+// The refusal of a declaration of which an equation is left.
+fn leftover(alloc: Global, session: &Session, first: Place, left: &LeftEquation) -> Refusal
+    ensures { ShowsLeft session.now first left.now result }
+{
+    match show_equation(alloc, &environment(session), left) {
+        Ok(text) => Refusal::Leftover(first, text),
+        Err(_) => Refusal::Memory,
+    }
+}
+
+// The refusal of a declaration whose reconstruction has a fault, where its first token stands here.
+fn not_reconstructed(alloc: Global, session: &Session, first: Place, fault: ReconFault) -> Refusal
+    ensures { IsRefusedFor session.now first fault result }
 {
     match fault {
-        ExplicitFault::Unknown(name, place) => Refusal::Unknown(place, name),
-        ExplicitFault::Unsupported => {
-            match Name::from_bytes(alloc, &text[first.from..first.upto]) {
-                Ok(shown) => Refusal::Unsupported(first.at, shown),
-                Err(_) => Refusal::Memory,
-            }
-        }
-        ExplicitFault::Mismatch => Refusal::Mismatch(first.at),
-        ExplicitFault::TooDeep => Refusal::TooDeep(first.at),
-        ExplicitFault::NoMemory => Refusal::Memory,
+        ReconFault::Unknown(name, place) => Refusal::Unknown(place, name),
+        ReconFault::TypeLevel(None) => no_type(alloc, first),
+        ReconFault::TypeLevel(Some(place)) => no_type(alloc, place),
+        ReconFault::Loose => Refusal::Loose(first),
+        ReconFault::Mismatch => Refusal::Mismatch(first),
+        ReconFault::Leftover(left) => leftover(alloc, session, first, &left),
+        ReconFault::TooDeep => Refusal::TooDeep(first),
+        ReconFault::NoMemory => Refusal::Memory,
     }
 }
 
@@ -169,13 +205,7 @@ fn line_of(alloc: Global, session: &Session, entry: &Entry) -> Result<Vec<u8>, A
     requires { IsCanonicalEntry (signature_of session.now.signature) (entry_of entry.now) }
     ensures { IfOk result (λ line. line.items ≡ entry_line session.now (entry_of entry.now)) }
 {
-    let env = ShowEnv {
-        sig: session.signature(),
-        fixities: session.fixities(),
-        names: session.names(),
-        implicit: session.parameters().implicit,
-    };
-    let mut text = show_entry(alloc, &env, entry)?;
+    let mut text = show_entry(alloc, &environment(session), entry)?;
     text.push(b'\n')?;
     Ok(text)
 }
@@ -206,29 +236,91 @@ fn told(alloc: Global, session: &Session, line: Vec<u8>) -> Report
     Report { text: line }
 }
 
-// Completes a declaration, and keeps what it declares. After a refusal nothing has changed.
-fn complete_and_keep(
+// The entry of a declaration that isn't explicit.
+fn reconstructed(
+    alloc: Global,
+    session: &Session,
+    first: Place,
+    declaration: &ExtDecl,
+) -> Result<Entry, Refusal>
+    requires plain { IsPlain (declaration_of declaration.now) }
+    requires form { is_explicit session.now.signature (declaration_of declaration.now) ≡ false }
+    ensures reconstructs { IfOk result (λ e. IsReconstructed session.now.signature (declaration_of declaration.now) (entry_of e)) }
+    ensures stands { IfOk result (λ e. IsCanonicalEntry (signature_of session.now.signature) (entry_of e)) }
+    ensures cause { IfErr result (HasObstacle session.now (declaration_of declaration.now) first) }
+{
+    match reconstruct(alloc, session.signature(), declaration) {
+        Ok(entry) => Ok(entry),
+        Err(fault) => Err(not_reconstructed(alloc, session, first, fault)),
+    }
+}
+
+// The entry of a declaration: its completion, or where it isn't explicit its reconstruction.
+fn given(
+    alloc: Global,
+    session: &Session,
+    first: Place,
+    declaration: &ExtDecl,
+) -> Result<Entry, Refusal>
+    requires { IsPlain (declaration_of declaration.now) }
+    ensures gives { IfOk result (λ e. Gives session.now (declaration_of declaration.now) (entry_of e)) }
+    ensures stands { IfOk result (λ e. IsCanonicalEntry (signature_of session.now.signature) (entry_of e)) }
+    ensures cause { IfErr result (HasObstacle session.now (declaration_of declaration.now) first) }
+{
+    match complete(alloc, session.signature(), declaration) {
+        Ok(entry) => Ok(entry),
+        Err(ExplicitFault::Unsupported) => reconstructed(alloc, session, first, declaration),
+        Err(ExplicitFault::Unknown(name, place)) => Err(Refusal::Unknown(place, name)),
+        Err(ExplicitFault::Mismatch) => Err(Refusal::Mismatch(first)),
+        Err(ExplicitFault::TooDeep) => Err(Refusal::TooDeep(first)),
+        Err(ExplicitFault::NoMemory) => Err(Refusal::Memory),
+    }
+}
+
+// Whether it is a definition without a name.
+fn is_unnamed(declaration: &ExtDecl) -> bool
+    ensures { result ≡ is_unnamed (declaration_of declaration.now) }
+{
+    matches!(declaration, ExtDecl::Define(None, _, _, _))
+}
+
+// Keeps the entry of a declaration, and reports it. Without memory nothing has changed.
+fn keep(
     alloc: Global,
     session: &mut Session,
-    text: &[u8],
-    first: &Token,
+    declaration: &ExtDecl,
+    entry: Entry,
+) -> Result<Report, AllocError>
+    requires { IsCanonicalEntry (signature_of session.old.signature) (entry_of entry) }
+    ensures says { IfOk result (λ report. report.text.items ≡ entry_report session.old (entry_of entry)) }
+    ensures keeps { OnOk result (session.new ≡ keeping session.old (declaration_of declaration.now) (entry_of entry)) }
+    ensures err { OnErr result (session.new ≡ session.old) }
+{
+    let report = report_of(alloc, session, &entry)?;
+    if !is_unnamed(declaration) {
+        session.keep(alloc, entry)?;
+    }
+    Ok(report)
+}
+
+// Keeps what is declared. After a refusal nothing has changed.
+fn give_and_keep(
+    alloc: Global,
+    session: &mut Session,
+    first: Place,
     declaration: &ExtDecl,
 ) -> Result<Report, Refusal>
-    requires { IsWithin (length text.now) first.now }
-    ensures ok { IfOk result (λ report. Completed session.old (declaration_of declaration.now) report.text.items session.new) }
+    requires { IsPlain (declaration_of declaration.now) }
+    ensures ok { IfOk result (λ report. Does session.old (declaration_of declaration.now) report.text.items session.new) }
     ensures err { OnErr result (session.new ≡ session.old) }
-    ensures cause { IfErr result (IsNotCompleted session.old text.now first.now (declaration_of declaration.now)) }
+    ensures cause { IfErr result (HasObstacle session.old (declaration_of declaration.now) first) }
 {
-    let entry = match complete(alloc, session.signature(), declaration) {
+    let entry = match given(alloc, session, first, declaration) {
         Ok(entry) => entry,
-        Err(fault) => return Err(incomplete(alloc, text, first, fault)),
+        Err(refusal) => return Err(refusal),
     };
-    let report = match report_of(alloc, session, &entry) {
-        Ok(report) => report,
-        Err(_) => return Err(Refusal::Memory),
-    };
-    match session.keep(alloc, entry) {
-        Ok(()) => Ok(report),
+    match keep(alloc, session, declaration, entry) {
+        Ok(report) => Ok(report),
         Err(_) => Err(Refusal::Memory),
     }
 }
@@ -243,7 +335,7 @@ fn give(
 ) -> Result<Report, Refusal>
     ensures ok { IfOk result (λ report. GivesRows session.old fix names.now report.text.items session.new) }
     ensures err { OnErr result (session.new ≡ session.old) }
-    ensures cause { IfErr result (HasObstacle session.old (give fix names.now) first []) }
+    ensures cause { IfErr result (HasObstacle session.old (give fix names.now) first) }
 {
     if let Some(name) = first_undeclared(session.signature(), names) {
         return Err(unknown(alloc, name));
@@ -272,7 +364,7 @@ fn prefer(
 ) -> Result<Report, Refusal>
     ensures ok { IfOk result (λ report. Prefers session.old family.now upper.now lower.now report.text.items session.new) }
     ensures err { OnErr result (session.new ≡ session.old) }
-    ensures cause { IfErr result (HasObstacle session.old (prefer family.now upper.now lower.now) first []) }
+    ensures cause { IfErr result (HasObstacle session.old (prefer family.now upper.now lower.now) first) }
 {
     let Some(id) = session.signature().lookup(&family.name) else {
         return Err(unknown(alloc, family));
@@ -295,56 +387,33 @@ fn prefer(
 }
 
 // Does what is declared. After a refusal nothing has changed.
-fn do_declared(
-    alloc: Global,
-    session: &mut Session,
-    text: &[u8],
-    first: &Token,
-    declaration: &ExtDecl,
-) -> Result<Report, Refusal>
-    requires { IsWithin (length text.now) first.now }
-    ensures ok { IfOk result (λ report. Does session.old (declaration_of declaration.now) report.text.items session.new) }
-    ensures err { OnErr result (session.new ≡ session.old) }
-    ensures cause { IfErr result (HasObstacle session.old (declaration_of declaration.now) first.now.at (slice_range text.now first.now.from first.now.upto)) }
-{
-    match declaration {
-        ExtDecl::Fixity(fix, names) => give(alloc, session, *fix, names, first.at),
-        ExtDecl::NamePref(family, upper, lower) => {
-            prefer(alloc, session, family, upper, lower, first.at)
-        }
-        ExtDecl::Declare(_, _, _) => {
-            match complete_and_keep(alloc, session, text, first, declaration) {
-                Ok(report) => Ok(report),
-                Err(refusal) => Err(refusal),
-            }
-        }
-        ExtDecl::Define(_, _, _, _) => {
-            match complete_and_keep(alloc, session, text, first, declaration) {
-                Ok(report) => Ok(report),
-                Err(refusal) => Err(refusal),
-            }
-        }
-    }
-}
-
-// Makes the declaration that these tokens are. After a refusal nothing has changed.
 fn make(
     alloc: Global,
     session: &mut Session,
-    text: &[u8],
-    tokens: &[Token],
+    first: Place,
     declaration: &ExtDecl,
 ) -> Result<Report, Refusal>
-    requires some { tokens.now ≢ [] }
-    requires within { All (IsWithin (length text.now)) tokens.now }
-    requires reads { IsReadAs session.old (lexemes text.now tokens.now) (declaration_of declaration.now) }
-    ensures ok { IfOk result (λ report. Makes session.old (lexemes text.now tokens.now) report.text.items session.new) }
+    ensures ok { IfOk result (λ report. Does session.old (declaration_of declaration.now) report.text.items session.new) }
     ensures err { OnErr result (session.new ≡ session.old) }
-    ensures cause { IfErr result (λ refusal. (end : Place) → IsLastCause session.old end (lexemes text.now tokens.now) refusal) }
+    ensures cause { IfErr result (HasObstacle session.old (declaration_of declaration.now) first) }
 {
-    match do_declared(alloc, session, text, &tokens[0], declaration) {
-        Ok(report) => Ok(report),
-        Err(refusal) => Err(refusal),
+    match declaration {
+        ExtDecl::Fixity(fix, names) => give(alloc, session, *fix, names, first),
+        ExtDecl::NamePref(family, upper, lower) => {
+            prefer(alloc, session, family, upper, lower, first)
+        }
+        ExtDecl::Declare(_, _, _) => give_and_keep(alloc, session, first, declaration),
+        ExtDecl::Define(_, _, _, _) => give_and_keep(alloc, session, first, declaration),
+    }
+}
+
+// The place of the first token.
+fn first_place(tokens: &Tokens) -> Place
+    ensures { (text : List ℕ) → result ≡ first_place tokens.now.at (lexemes text tokens.now.list.items) }
+{
+    match tokens.list.as_slice() {
+        [first, ..] => first.at,
+        [] => tokens.at,
     }
 }
 
@@ -374,7 +443,7 @@ pub fn declare(
         Ok(declaration) => declaration,
         Err(fault) => return Err(refusal_of(fault)),
     };
-    match make(alloc, session, text, &tokens.list, &declaration) {
+    match make(alloc, session, first_place(&tokens), &declaration) {
         Ok(report) => Ok(Next::Done {
             report,
             upto: tokens.upto,
@@ -403,7 +472,7 @@ pub fn declare_one(alloc: Global, session: &mut Session, text: &[u8]) -> Result<
         Ok(declaration) => declaration,
         Err(refusal) => return Err(refusal),
     };
-    match make(alloc, session, text, &tokens.list, &declaration) {
+    match make(alloc, session, first_place(&tokens), &declaration) {
         Ok(report) => Ok(report),
         Err(refusal) => Err(refusal),
     }

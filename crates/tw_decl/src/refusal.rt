@@ -7,8 +7,8 @@ use std::alloc::{AllocError, AllocFailed, Global};
 use tw_fixity::Name;
 use tw_lexer::Place;
 
-/// Why a declaration is refused, and where. Of several causes the first in this order is told, but that a form that is not known
-/// yet and doesn't begin with a keyword is told behind `Unknown`.
+/// Why a declaration is refused, and where. Of several causes the first in this order is told, but that a definition or a lambda at
+/// the level of types is told behind `Unknown`.
 #[derive(Debug, Drop)]
 pub enum Refusal {
     /// Memory is wanting.
@@ -17,7 +17,8 @@ pub enum Refusal {
     Lex(Place),
     /// The declaration has more than 65,536 tokens, and this is the first one too many.
     TooMany(Place),
-    /// The declaration is of no form that is known; the place is that of its first token, whose text is shown.
+    /// The declaration is of no form that is known; the place is that of its first token, whose text is shown. Or else a definition, or
+    /// the lambda whose bracket stands here, is at the level of types, and `type` is shown.
     Unsupported(Place, Name),
     /// This bracket is nested too deep.
     Nesting(Place),
@@ -29,8 +30,12 @@ pub enum Refusal {
     BadDecl(Place),
     /// This name is neither bound nor declared.
     Unknown(Place, Name),
+    /// What isn't written is left open.
+    Loose(Place),
     /// The declaration has no completion that is typed.
     Mismatch(Place),
+    /// An equation is left, whose text is shown.
+    Leftover(Place, Vec<u8>),
     /// A term deeper than 4,096 is met.
     TooDeep(Place),
 }
@@ -60,14 +65,20 @@ pub fn show_refusal(alloc: Global, refusal: &Refusal, origin: &str) -> Result<Ve
         Refusal::Lex(place) => place_line(alloc, origin, place, b" E1 Lex\n"),
         Refusal::TooMany(place) => place_line(alloc, origin, place, b" E8 TooMany\n"),
         Refusal::Unsupported(place, shown) => {
-            name_line(alloc, origin, place, b" E21 Unsupported ", shown)
+            line_with(alloc, origin, place, b" E21 Unsupported ", shown.as_bytes())
         }
         Refusal::Nesting(place) => place_line(alloc, origin, place, b" E9 Nesting\n"),
         Refusal::Syntax(place) => place_line(alloc, origin, place, b" E2 Syntax\n"),
         Refusal::Fixity(place) => place_line(alloc, origin, place, b" E3 Fixity\n"),
         Refusal::BadDecl(place) => place_line(alloc, origin, place, b" E22 BadDecl\n"),
-        Refusal::Unknown(place, name) => { name_line(alloc, origin, place, b" E4 Unknown ", name) }
+        Refusal::Unknown(place, name) => {
+            line_with(alloc, origin, place, b" E4 Unknown ", name.as_bytes())
+        }
+        Refusal::Loose(place) => place_line(alloc, origin, place, b" E7 Loose\n"),
         Refusal::Mismatch(place) => place_line(alloc, origin, place, b" E5 Mismatch\n"),
+        Refusal::Leftover(place, text) => {
+            line_with(alloc, origin, place, b" E6 Leftover ", text)
+        }
         Refusal::TooDeep(place) => place_line(alloc, origin, place, b" E10 TooDeep\n"),
     }
 }
@@ -87,18 +98,18 @@ fn place_line(
     Ok(line)
 }
 
-// A line that ends with a name.
-fn name_line(
+// A line that ends with what it shows.
+fn line_with(
     alloc: Global,
     origin: &str,
     place: &Place,
     words: &[u8],
-    name: &Name,
+    shown: &[u8],
 ) -> Result<Vec<u8>, AllocError>
-    ensures { IfOk result (λ line. line.items ≡ show_place origin.now place.now ++ words.now ++ name.now ++ codes "\n") }
+    ensures { IfOk result (λ line. line.items ≡ show_place origin.now place.now ++ words.now ++ shown.now ++ codes "\n") }
 {
     let mut line = place_line(alloc, origin, place, words)?;
-    line.extend_from_slice(name.as_bytes())?;
+    line.extend_from_slice(shown)?;
     line.push(b'\n')?;
     Ok(line)
 }

@@ -58,7 +58,6 @@ fn a_dependent_signature(rt: HostRuntime) -> Result<(), Fail> {
         ("d : (nat -> nat) -> type.", "d : (nat -> nat) -> type."),
         ("s : nat -> nat.", "s : nat -> nat."),
         ("k1 : d ([x:nat] s x).", "k1 : d ([x:nat] s x)."),
-        ("k2 : d s.", "stdin:1:1 E21 Unsupported k2"),
         // a newer name hides the older one, and what stands keeps its meaning
         ("nat : type.", "nat : type."),
         ("k3 : vec z -> nat.", "k3 : vec z -> nat."),
@@ -67,6 +66,103 @@ fn a_dependent_signature(rt: HostRuntime) -> Result<(), Fail> {
     }
     // eleven of them are kept
     assert_eq!(rt; session.signature().len(), 11);
+    Ok(())
+}
+
+// What is left out is filled in, and a definition is kept, if it has a name.
+#[test]
+fn reconstructed_declarations(rt: HostRuntime) -> Result<(), Fail> {
+    let alloc = rt.alloc();
+    let mut session = Session::new(alloc)?;
+    for (text, wanted) in [
+        ("nat : type.", "nat : type."),
+        ("z : nat.", "z : nat."),
+        ("s : nat -> nat.", "s : nat -> nat."),
+        ("two : nat = s (s z).", "two : nat = s (s z)."),
+        ("three = s two.", "three : nat = s (s (s z))."),
+        ("_ = three.", "_ : nat = s (s (s z))."),
+        ("_ : nat = two.", "_ : nat = s (s z)."),
+        ("d : (nat -> nat) -> type.", "d : (nat -> nat) -> type."),
+        ("k2 : d s.", "k2 : d ([x:nat] s x)."),
+        ("k3 : d ([x] s x).", "k3 : d ([x:nat] s x)."),
+        ("k4 : d ([x] s two).", "k4 : d ([x:nat] s (s (s z)))."),
+        // a free variable is quantified in front, and a hole is too
+        ("vec : nat -> type.", "vec : nat -> type."),
+        ("nil : vec z.", "nil : vec z."),
+        (
+            "cons : nat -> vec N -> vec (s N).",
+            "cons : {N:nat} nat -> vec N -> vec (s N).",
+        ),
+        ("any : vec _.", "any : {X:nat} vec X."),
+        // the arguments that are implicit are neither written nor shown
+        (
+            "one : vec (s z) = cons z nil.",
+            "one : vec (s z) = cons z nil.",
+        ),
+        ("l : vec (s z) -> type.", "l : vec (s z) -> type."),
+        ("lc : l (cons z nil).", "lc : l (cons z nil)."),
+    ] {
+        check_said(&rt, alloc, &mut session, text, wanted)?;
+    }
+    // all but the two without a name are kept
+    assert_eq!(rt; session.signature().len(), 16);
+    session.set_implicit(true);
+    check_said(
+        &rt,
+        alloc,
+        &mut session,
+        "li : l (cons z nil).",
+        "li : l (cons z z nil).",
+    )?;
+    Ok(())
+}
+
+#[test]
+fn declarations_that_are_not_reconstructed(rt: HostRuntime) -> Result<(), Fail> {
+    let alloc = rt.alloc();
+    let mut session = Session::new(alloc)?;
+    for (text, wanted) in [
+        ("a : type.", "a : type."),
+        ("c : a.", "c : a."),
+        ("k : a -> type.", "k : a -> type."),
+        ("h : {x:a} k x -> type.", "h : {x:a} k x -> type."),
+        ("j : k (E V).", "stdin:1:1 E7 Loose"),
+        ("j : {x} a.", "stdin:1:1 E7 Loose"),
+        (
+            "m : h c (W : k (E (V : a))).",
+            "stdin:1:1 E6 Leftover E V = c",
+        ),
+        ("n : k k.", "stdin:1:1 E5 Mismatch"),
+        ("n : a a.", "stdin:1:1 E5 Mismatch"),
+        (" n = c c.", "stdin:1:2 E5 Mismatch"),
+        ("n : k b = c.", "stdin:1:7 E4 Unknown b"),
+        ("b : type = a.", "stdin:1:1 E21 Unsupported type"),
+        ("b = k c.", "stdin:1:1 E21 Unsupported type"),
+        ("d : type = type.", "stdin:1:1 E21 Unsupported type"),
+        ("b : a -> ([x:a] a) c.", "stdin:1:11 E21 Unsupported type"),
+    ] {
+        check_said(&rt, alloc, &mut session, text, wanted)?;
+    }
+    assert_eq!(rt; session.signature().len(), 4);
+    Ok(())
+}
+
+#[test]
+fn abbreviations(rt: HostRuntime) -> Result<(), Fail> {
+    let alloc = rt.alloc();
+    let mut session = Session::new(alloc)?;
+    for (text, wanted) in [
+        ("nat : type.", "nat : type."),
+        (
+            "%abbrev id = [x:nat] x.",
+            "%abbrev id : nat -> nat = [x:nat] x.",
+        ),
+        ("%abbrev d = q.", "stdin:1:13 E4 Unknown q"),
+        ("%abbrev n = nat.", "stdin:1:1 E21 Unsupported type"),
+    ] {
+        check_said(&rt, alloc, &mut session, text, wanted)?;
+    }
+    assert_eq!(rt; session.signature().len(), 2);
     Ok(())
 }
 
@@ -148,12 +244,10 @@ fn refused_texts(rt: HostRuntime) -> Result<(), Fail> {
         ("c : nat. d : nat.", "stdin:1:10 E2 Syntax"),
         ("c : nat. \"", "stdin:1:10 E1 Lex"),
         ("%theorem t : true. d", "stdin:1:1 E21 Unsupported %theorem"),
-        ("%abbrev d = q.", "stdin:1:1 E21 Unsupported %abbrev"),
         ("c : a->b.", "stdin:1:5 E4 Unknown a->b"),
         ("c : a -> b <- d.", "stdin:1:5 E3 Fixity"),
         ("c : a -> b <- d. d", "stdin:1:18 E2 Syntax"),
         ("c : b -> [x] a.", "stdin:1:5 E4 Unknown b"),
-        ("d : type = type.", "stdin:1:1 E21 Unsupported d"),
     ] {
         check_said(&rt, alloc, &mut session, text, wanted)?;
         assert_eq!(rt; session.signature().len(), 0);
@@ -200,6 +294,11 @@ fn lines_of_refusals(rt: HostRuntime) -> Result<(), Fail> {
             "f.elf:2:30 E4 Unknown nat\n",
         ),
         (Refusal::Mismatch(place), "f.elf:2:30 E5 Mismatch\n"),
+        (
+            Refusal::Leftover(place, b"E V = c".to_vec(alloc)?),
+            "f.elf:2:30 E6 Leftover E V = c\n",
+        ),
+        (Refusal::Loose(place), "f.elf:2:30 E7 Loose\n"),
         (Refusal::TooMany(place), "f.elf:2:30 E8 TooMany\n"),
         (Refusal::Nesting(place), "f.elf:2:30 E9 Nesting\n"),
         (Refusal::TooDeep(place), "f.elf:2:30 E10 TooDeep\n"),

@@ -158,8 +158,7 @@ fn refused_declarations(rt: HostRuntime) -> Result<(), Fail> {
         ("%theorem t : true.\n", "stdin:1:1 E21 Unsupported %theorem"),
         // read, and no declaration
         ("c : a->b.\n", "stdin:1:5 E4 Unknown a->b"),
-        ("e : nat nat.\n", "stdin:1:1 E21 Unsupported e"),
-        ("c : {x} nat.\n", "stdin:1:1 E21 Unsupported c"),
+        ("e : nat -> {x:nat} x.\n", "stdin:1:1 E5 Mismatch"),
         // no token
         ("c \"\n : type.\n", "stdin:1:3 E1 Lex"),
         ("c : type. \"\n", "stdin:1:11 E1 Lex"),
@@ -169,6 +168,27 @@ fn refused_declarations(rt: HostRuntime) -> Result<(), Fail> {
         let input = format!(in alloc; "readDecl\nnat : type.\nreadDecl\n{text}")?;
         let wanted = format!(in alloc; "nat : type.\n%% OK %%\n{line}\n{ABORT}")?;
         check_row(&rt, alloc, &input, &wanted)?;
+    }
+    Ok(())
+}
+
+#[test]
+fn reconstruction(rt: HostRuntime) -> Result<(), Fail> {
+    for (input, wanted) in [
+        (
+            "readDecl\nnat : type.\nreadDecl\nvec : nat -> type.\nreadDecl\nnil : vec N.\ndecl nil\n",
+            "nat : type.\n%% OK %%\nvec : nat -> type.\n%% OK %%\nnil : {N:nat} vec N.\n%% OK %%\nnil : {N:nat} vec N.\n%% OK %%\n",
+        ),
+        (
+            "readDecl\nnat : type.\nreadDecl\nz : nat.\nreadDecl\nn = z.\nreadDecl\n_ = n.\nPrint.sgn\n",
+            "nat : type.\n%% OK %%\nz : nat.\n%% OK %%\nn : nat = z.\n%% OK %%\n_ : nat = z.\n%% OK %%\nnat : type.\nz : nat.\nn : nat = z.\n%% OK %%\n",
+        ),
+        (
+            "readDecl\nnat : type.\nreadDecl\nc : {x} nat.\nreadDecl\ne : nat nat.\n",
+            "nat : type.\n%% OK %%\nstdin:1:1 E7 Loose\n%% ABORT %%\nstdin:1:1 E5 Mismatch\n%% ABORT %%\n",
+        ),
+    ] {
+        check_row(&rt, rt.alloc(), input, wanted)?;
     }
     Ok(())
 }

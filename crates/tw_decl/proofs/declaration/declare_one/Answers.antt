@@ -1,6 +1,9 @@
-use Rattle.std.proofs.Common.{sym, inr}
+use Rattle.std.proofs.Common.{sym, inr, subst}
+use Rattle.tw_lexer.specs.declared.place.Place.{Place}
+use Rattle.tw_parse.specs.View.{declaration_of}
 use Rattle.tw_parse.specs.Words.{lexemes}
-use Rattle.tw_decl.proofs.Causes.{is_written, cause_alone}
+use Rattle.tw_decl.proofs.Causes.{is_written, cause_alone, last_cause}
+use Rattle.tw_decl.specs.Declaration.{HasObstacle}
 use Rattle.tw_decl.proofs.declaration.declare_one.Goals as goal
 
 pub returns-in-Err-next_token-clause-cause : goal.returns-in-Err-next_token-clause-cause
@@ -19,12 +22,6 @@ returns-in-Err-alone-clause-cause c =
     (record { upto = c.in-Ok.tokens.upto; written = is_written c.args.text.now 0 c.in-Ok.tokens c.in-Ok.ensures.tokens; follower = sym c.in-Ok-next_token.ensures.token })
     (c.in-Err-alone.ensures c.args.session.now c.in-Ok.tokens.at words c.parsed.ensures)
 
-pub make-requires-clause-reads : goal.make-requires-clause-reads
-make-requires-clause-reads c =
-    let words = lexemes c.args.text.now c.in-Ok.tokens.list.items in
-    let read = c.in-Ok-alone.ensures c.args.session.now c.in-Ok.tokens.at words c.parsed.ensures in
-    rw c.deref.ensures.value (read.0)
-
 pub returns-in-Ok-make-clause-ok : goal.returns-in-Ok-make-clause-ok
 returns-in-Ok-make-clause-ok c =
     let words = lexemes c.args.text.now c.in-Ok.tokens.list.items in
@@ -35,14 +32,18 @@ returns-in-Ok-make-clause-ok c =
       next = c.in-Ok-next_token.next;
       written = record { upto = c.in-Ok.tokens.upto; written = is_written c.args.text.now 0 c.in-Ok.tokens c.in-Ok.ensures.tokens; follower = sym c.in-Ok-next_token.ensures.token };
       alone = read.1;
-      makes = rw c.deref.ensures.value at c.in-Ok-make.ensures.ok;
+      makes = record { declaration = declaration_of c.in-Ok-alone.declaration; reads = read.0; does = c.in-Ok-make.ensures.ok };
     }
 
 pub returns-clause-cause : goal.returns-clause-cause
 returns-clause-cause c =
     let words = lexemes c.args.text.now c.in-Ok.tokens.list.items in
     let read = c.in-Ok-alone.ensures c.args.session.now c.in-Ok.tokens.at words c.parsed.ensures in
-    let cause = rw c.deref.ensures.value at c.in-Err-make.ensures.cause in
+    let d = declaration_of c.in-Ok-alone.declaration in
     cause_alone c.args.session.now c.args.text.now words c.in-Ok.tokens.at c.in-Ok-next_token.next c.in-Err-make.refusal
     (record { upto = c.in-Ok.tokens.upto; written = is_written c.args.text.now 0 c.in-Ok.tokens c.in-Ok.ensures.tokens; follower = sym c.in-Ok-next_token.ensures.token })
-    (inr (inr (read.1, cause c.in-Ok.tokens.at)))
+    (inr (inr (
+      read.1,
+      last_cause c.args.session.now c.in-Ok.tokens.at words d c.in-Err-make.refusal read.0
+          (subst (λ (p : Place). HasObstacle c.args.session.now d p c.in-Err-make.refusal) (c.first_place.ensures c.args.text.now) c.in-Err-make.ensures.cause),
+    )))
