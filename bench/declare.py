@@ -10,22 +10,10 @@ input does. The time and the memory of an empty input are taken off.
 import os
 import sys
 
-from running import spent
+from running import measured, read
 
 HERE = os.path.dirname(os.path.abspath(__file__))
 PROGRAM = os.path.abspath(sys.argv[1]) if len(sys.argv) > 1 else os.path.join(HERE, "..", "twelf")
-
-
-def measured(given, declarations):
-    seconds, memory, told = spent(PROGRAM, [], given)
-    accepted = told.count(b"%% OK %%\n") - 1
-    if accepted != declarations:
-        sys.exit(f"{accepted} of {declarations} accepted")
-    return seconds, memory
-
-
-def read(declarations):
-    return b"".join(b"readDecl\n" + d + b"\n" for d in declarations)
 
 
 def chain(n):
@@ -52,15 +40,15 @@ def table(title, rows):
     print(f"{'size':>8} {'bytes':>9} {'seconds':>9} {'declarations/s':>15} {'MiB':>7} {'ratio of times':>15}")
     last = None
     for size, given, count in rows:
-        seconds, memory = min(measured(given, count) for _ in range(3))
+        seconds, memory = min(measured(PROGRAM, given, count) for _ in range(3))
         seconds = max(seconds - EMPTY[0], 1e-6)
         ratio = f"{seconds / last:15.2f}" if last else ""
         print(f"{size:>8} {len(given):>9} {seconds:9.4f} {count / seconds:15,.0f} {max(memory - EMPTY[1], 0):7.1f} {ratio}")
         last = seconds
 
 
-measured(b"", 0)  # builds the program where it isn't built yet
-EMPTY = measured(b"", 0)
+measured(PROGRAM, b"", 0)  # builds the program where it isn't built yet
+EMPTY = measured(PROGRAM, b"", 0)
 print(f"an empty input: {EMPTY[0]:.4f} seconds, {EMPTY[1]:.1f} MiB")
 SIZES = (1000, 4000, 16000)
 table("a chain of families", [(n, chain(n), n) for n in SIZES])

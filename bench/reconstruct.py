@@ -10,24 +10,12 @@ grows as the input does. The time and the memory of the declarations before are 
 import os
 import sys
 
-from running import spent
+from running import measured, read
 
 HERE = os.path.dirname(os.path.abspath(__file__))
 PROGRAM = os.path.abspath(sys.argv[1]) if len(sys.argv) > 1 else os.path.join(HERE, "..", "twelf")
 
 NUMBERS = [b"nat : type.", b"z : nat.", b"s : nat -> nat.", b"plus : nat -> nat -> nat -> type.", b"plus-z : plus z Y Y.", b"plus-s : plus (s X) Y (s Z) <- plus X Y Z."]
-
-
-def read(declarations):
-    return b"".join(b"readDecl\n" + d + b"\n" for d in declarations)
-
-
-def measured(given, declarations):
-    seconds, memory, told = spent(PROGRAM, [], given)
-    accepted = told.count(b"%% OK %%\n") - 1
-    if accepted != declarations:
-        sys.exit(f"{accepted} of {declarations} accepted")
-    return seconds, memory
 
 
 def clauses(n):
@@ -61,14 +49,14 @@ def table(title, sizes, make, extra):
     last = None
     for size in sizes:
         given = make(size)
-        seconds, memory = min(measured(given, len(NUMBERS) + extra(size)) for _ in range(3))
+        seconds, memory = min(measured(PROGRAM, given, len(NUMBERS) + extra(size)) for _ in range(3))
         seconds = max(seconds - EMPTY[0], 1e-6)
         ratio = f"{seconds / last:15.2f}" if last else ""
         print(f"{size:>8} {len(given):>9} {seconds:9.4f} {size / seconds:12,.0f} {max(memory - EMPTY[1], 0):7.1f} {ratio}")
         last = seconds
 
 
-EMPTY = min(measured(read(NUMBERS), len(NUMBERS)) for _ in range(3))
+EMPTY = min(measured(PROGRAM, read(NUMBERS), len(NUMBERS)) for _ in range(3))
 table("clauses with implicit arguments", [1000, 4000, 16000], clauses, lambda n: n)
 table("steps of one proof term, in a chain", [500, 1000, 2000], proof, lambda n: len(RULES) + 1)
 table("nodes of one proof term, in a tree", [1000, 4000, 16000], trees, lambda n: len(RULES) + 1)

@@ -23,3 +23,17 @@ def spent(program, words, given, folder="."):
     if status != 0:
         sys.exit(f"status {status}")
     return seconds, used.ru_maxrss / 1024, told
+
+
+def read(declarations):
+    """The commands that make these declarations."""
+    return b"".join(b"readDecl\n" + d + b"\n" for d in declarations)
+
+
+def measured(program, given, declarations):
+    """Seconds and memory of a run in which so many declarations are accepted, and nothing is refused."""
+    seconds, memory, told = spent(program, [], given)
+    accepted = told.count(b"%% OK %%\n") - 1
+    if accepted != declarations:
+        sys.exit(f"{accepted} of {declarations} accepted")
+    return seconds, memory
