@@ -1,31 +1,12 @@
 -- The names of metavariables, one after the other.
-use Rattle.std.proofs.Common.{◌≡◌, ℕ, suc, ◌+◌, ◌<◌, ◌≤◌, List, [], ◌∷◌, ◌++◌, length, map, drop, get_or, Option, Some, refl, sym, ap, ap₂, ◌∙◌, append_assoc, add-one, drop-cons}
+use Rattle.std.proofs.Common.{◌≡◌, ℕ, suc, ◌+◌, ◌<◌, ◌≤◌, List, [], ◌∷◌, ◌++◌, length, map, drop, take, get_or, Option, refl, sym, ap, ap₂, ◌∙◌, append_assoc, add-one, drop-cons}
 use Rattle.std.proofs.Math.ListN.{drop_of_length-le}
-use Rattle.std.proofs.lemmas.List.{append-nil}
+use Rattle.std.proofs.lemmas.List.{append-nil, drop_all, drop_more, take_all, take_more}
 use Rattle.std.specs.List.{slice_get}
-use Rattle.lf.specs.Syntax.{LfType}
-use Rattle.tw_print.specs.Names.{Scene}
 use Rattle.tw_print.specs.Shown.{hint_in}
 use Rattle.tw_scope.specs.Names.{Names as Scope}
-use Rattle.tw_terms.specs.OpenView.{open_type_of}
-use Rattle.tw_terms.specs.declared.open_terms.OpenTy.{OpenTy}
-use Rattle.tw_unify.specs.Named.{shown_type_of}
 use Rattle.tw_terms.specs.declared.canonical.MetaId.{MetaId}
-use Rattle.tw_equation.specs.Text.{meta_name, meta_names, onto}
-use Rattle.tw_equation.proofs.Laying.{first_left}
-
-pub one_more_name : (s : Scene) (names : List (Option (List ℕ))) (metas : List (List LfType × OpenTy)) (i : ℕ) (m : List LfType × OpenTy) (old new : List (List ℕ)) (taken further : Scope) (x : List ℕ) (whole : List (List ℕ)) → i < length metas → m ≡ get_or metas i m
-    → x ≡ meta_name s taken (hint_in (slice_get names i)) (open_type_of m.1) → further ≡ Some x ∷ taken → new ≡ old ++ x ∷ []
-    → old ++ meta_names s names taken i (map shown_type_of (drop i metas)) ≡ whole → new ++ meta_names s names further (i + 1) (map shown_type_of (drop (i + 1) metas)) ≡ whole
-one_more_name s names metas i m old new taken further x whole h e n t p w =
-    let rest = map shown_type_of (drop (i + 1) metas) in
-    let y = meta_name s taken (hint_in (slice_get names i)) (open_type_of m.1) in
-    ap₂ (λ xs k. xs ++ meta_names s names further k rest) p (add-one i) ∙ append_assoc old (x ∷ []) (meta_names s names further (suc i) rest)
-    ∙ ap (λ ns. old ++ x ∷ meta_names s names ns (suc i) rest) t ∙ ap (λ z. old ++ z ∷ meta_names s names (Some z ∷ taken) (suc i) rest) n
-    ∙ sym (ap (λ ms. old ++ meta_names s names taken i ms) (first_left [] metas i m h e)) ∙ w
-
-pub all_named : (s : Scene) (names : List (Option (List ℕ))) (metas : List (List LfType × OpenTy)) (i : ℕ) (all : List (List ℕ)) (taken : Scope) (whole : List (List ℕ)) → length metas ≤ i → all ++ meta_names s names taken i (map shown_type_of (drop i metas)) ≡ whole → all ≡ whole
-all_named s names metas i all taken whole h w = sym (append-nil all) ∙ sym (ap (λ xs. all ++ meta_names s names taken i (map shown_type_of xs)) (drop_of_length-le metas h)) ∙ w
+use Rattle.tw_equation.specs.Text.{given_names, onto}
 
 -- one more name in scope
 name_at : (xs : List (Option (List ℕ))) (i : ℕ) (x : Option (List ℕ)) → i < length xs → x ≡ get_or xs i x → drop i xs ≡ x ∷ drop (i + 1) xs
@@ -37,14 +18,35 @@ one_onto xs i x old new whole h e n w = ap (onto (drop (i + 1) xs)) n ∙ sym (a
 pub all_onto : (xs : List (Option (List ℕ))) (i : ℕ) (scope whole : Scope) → length xs ≤ i → onto (drop i xs) scope ≡ whole → scope ≡ whole
 all_onto xs i scope whole h w = sym (ap (λ ys. onto ys scope) (drop_of_length-le xs h)) ∙ w
 
--- the same of metavariables in an order
-placed_at : (order : List MetaId) (i : ℕ) (d : MetaId) → i < length order → map (λ x. x.0) (drop i order) ≡ (get_or order i d).0 ∷ map (λ x. x.0) (drop (i + 1) order)
-placed_at order i d h = rw (add-one, drop-cons order i d) refl
+-- The given names, of which those of the metavariables up to number k in the order are left.
+abbrev given_at : List (Option (List ℕ)) → List MetaId → ℕ → Scope
+given_at names order k = given_names names (map (λ m. m.0) (take k order))
 
-pub one_placed : (names : List (List ℕ)) (order : List MetaId) (i : ℕ) (d : MetaId) (x : Option (List ℕ)) (old new whole : Scope) → i < length order → x ≡ slice_get names (get_or order i d).0 → new ≡ x ∷ old
-    → onto (map (slice_get names) (map (λ y. y.0) (drop i order))) old ≡ whole → onto (map (slice_get names) (map (λ y. y.0) (drop (i + 1) order))) new ≡ whole
-one_placed names order i d x old new whole h g n w =
-    ap (onto (map (slice_get names) (map (λ y. y.0) (drop (i + 1) order)))) (n ∙ ap (λ z. z ∷ old) g) ∙ sym (ap (λ ms. onto (map (slice_get names) ms) old) (placed_at order i d h)) ∙ w
+given_last : (names : List (Option (List ℕ))) (ms : List MetaId) (m : MetaId) (ns : Scope) → onto (map (λ k. hint_in (slice_get names k)) (map (λ x. x.0) (ms ++ m ∷ []))) ns ≡ hint_in (slice_get names m.0) ∷ onto (map (λ k. hint_in (slice_get names k)) (map (λ x. x.0) ms)) ns
+given_last names [] m ns = refl
+given_last names (n ∷ ms) m ns = given_last names ms m (hint_in (slice_get names n.0) ∷ ns)
 
-pub all_placed : (names : List (List ℕ)) (order : List MetaId) (i : ℕ) (scope whole : Scope) → length order ≤ i → onto (map (slice_get names) (map (λ y. y.0) (drop i order))) scope ≡ whole → scope ≡ whole
-all_placed names order i scope whole h w = sym (ap (λ ms. onto (map (slice_get names) (map (λ y. y.0) ms)) scope) (drop_of_length-le order h)) ∙ w
+pub none_given : (names : List (Option (List ℕ))) (order : List MetaId) (given : Scope) (k : ℕ) → given ≡ [] → length order ≤ k → given ++ given_names names (map (λ m. m.0) (take k order)) ≡ given_names names (map (λ m. m.0) order)
+none_given names order given k e h = ap₂ (λ xs ms. xs ++ given_names names (map (λ m. m.0) ms)) e (take_all k order h)
+
+pub one_given : (names : List (Option (List ℕ))) (order : List MetaId) (k j : ℕ) (d : MetaId) (x : Option (List ℕ)) (old new whole : Scope) → j ≡ k + 1 → k < length order → x ≡ hint_in (slice_get names (get_or order k d).0) → new ≡ old ++ x ∷ []
+    → old ++ given_at names order j ≡ whole → new ++ given_at names order k ≡ whole
+one_given names order k j d x old new whole i h e n w =
+    let m = get_or order k d in
+    let rest = given_at names order k in
+    let p : given_at names order j ≡ hint_in (slice_get names m.0) ∷ rest =
+    ap (λ l. given_at names order l) i ∙ ap (λ ms. given_names names (map (λ y. y.0) ms)) (take_more order k d h) ∙ given_last names (take k order) m [] in
+    ap (λ xs. xs ++ rest) n ∙ append_assoc old (x ∷ []) rest ∙ ap (λ y. old ++ y ∷ rest) e ∙ sym (ap (λ xs. old ++ xs) p) ∙ w
+
+pub all_given : (names : List (Option (List ℕ))) (order : List MetaId) (k : ℕ) (given whole : Scope) → k ≡ 0 → given ++ given_names names (map (λ m. m.0) (take k order)) ≡ whole → given ≡ whole
+all_given names order k given whole z w = sym (append-nil given) ∙ sym (ap (λ i. given ++ given_names names (map (λ m. m.0) (take i order))) z) ∙ w
+
+-- the scope of names, the innermost first
+pub none_scoped : (names scope : Scope) (k : ℕ) → scope ≡ [] → length names ≤ k → scope ≡ drop k names
+none_scoped names scope k e h = e ∙ sym (drop_all k names h)
+
+pub one_scoped : (names old new : Scope) (k j : ℕ) (x : Option (List ℕ)) → j ≡ k + 1 → k < length names → x ≡ get_or names k x → new ≡ x ∷ old → old ≡ drop j names → new ≡ drop k names
+one_scoped names old new k j x i h g n w = n ∙ ap₂ (λ y ns. y ∷ ns) g (w ∙ ap (λ l. drop l names) i) ∙ sym (drop_more names k x h)
+
+pub all_scoped : (names scope : Scope) (k : ℕ) → k ≡ 0 → scope ≡ drop k names → scope ≡ names
+all_scoped names scope k z w = w ∙ ap (λ i. drop i names) z

@@ -1,14 +1,14 @@
 -- The text of an equation that is left. Its metavariables are shown as variables of a context: the types of some may mention others, so these come first.
-use Rattle.std.specs.Prelude.{ℕ, zero, suc, List, [], ◌∷◌, ◌++◌, length, map, Bool, true, false, ◌||◌, Option, Some, None, is_some, cond, slice_get, slice_index_or}
+use Rattle.std.specs.Prelude.{ℕ, zero, suc, List, [], ◌∷◌, ◌++◌, length, map, Option, Some, None, is_some, cond, slice_get}
 use Rattle.std.specs.Option.{option_map}
 use Rattle.lf.specs.Syntax.{LfType, Term}
 use Rattle.tw_generalize.specs.Generalizing.{both, generalized, generalized_type}
 use Rattle.tw_generalize.specs.Positions.{first_of, index}
-use Rattle.tw_print.specs.Marks.{marked}
-use Rattle.tw_print.specs.Names.{Scene, fresh_name, lower_base, upper_base}
+use Rattle.tw_print.specs.Names.{Scene, lower_base}
 use Rattle.tw_print.specs.Shown.{equal_text, hint_in, quantifier_name}
-use Rattle.tw_print.specs.Variables.{occurs, occurs_in_type}
 use Rattle.tw_scope.specs.Names.{Names as Scope}
+use Rattle.tw_shown.specs.Naming.{named}
+use Rattle.tw_shown.specs.Shown.{is_shown, outer, outside, shown_in_term}
 use Rattle.unification.specs.Unifiers.{Equation}
 
 -- metavariables as variables: their numbers, the outermost first, and their types, the innermost first
@@ -42,42 +42,38 @@ abbrev pub onto : List (Option (List ℕ)) → Scope → Scope
 onto [] ns = ns
 onto (x ∷ xs) ns = onto xs (x ∷ ns)
 
--- the name of a metavariable: the given one, or else the first from the uppercase base that isn't taken
-abbrev pub meta_name : Scene → Scope → Option (List ℕ) → LfType → List ℕ
-meta_name s taken (Some x) A = x
-meta_name s taken None A = fresh_name s taken (upper_base s A)
+-- the given names of metavariables in this order
+abbrev pub given_names : List (Option (List ℕ)) → List ℕ → Scope
+given_names names order = onto (map (λ k. hint_in (slice_get names k)) order) []
 
--- the names from number k on, where these are taken
-abbrev pub meta_names : Scene → List (Option (List ℕ)) → Scope → ℕ → List (List LfType × LfType) → List (List ℕ)
-meta_names s names taken k [] = []
-meta_names s names taken k (m ∷ ms) = let x = meta_name s taken (hint_in (slice_get names k)) m.1 in x ∷ meta_names s names (Some x ∷ taken) (suc k) ms
+-- Their names once these variables are shown: one without a given name takes a name when it is first shown. Given names are taken.
+abbrev pub meta_names : Scene → Laid → List (Option (List ℕ)) → List ℕ → Scope
+meta_names s l names shown = named s l.context (record { names = given_names names l.order; taken = onto names [] }) shown
 
 -- the types of the local context, with variables for metavariables
 abbrev pub local_types : (ℕ → Option ℕ) → List LfType → Option (List LfType)
 local_types f [] = Some []
 local_types f (A ∷ D) = both (λ B E. B ∷ E) (generalized_type f (length D) A) (local_types f D)
 
--- for each local variable, the outermost first, whether it occurs in the type of one inside it
-abbrev pub type_marks : List LfType → List Bool
-type_marks [] = []
-type_marks (A ∷ E) = marked (length E) (λ i. occurs_in_type i A) (type_marks E) ++ false ∷ []
-
--- with those marked that occur in the sides or their type
-abbrev pub marks_on : List Bool → Term → Term → LfType → List Bool
-marks_on ms M N T = let n = length ms in marked n (λ i. occurs i N) (marked n (λ i. occurs i M) (marked n (λ i. occurs_in_type i T) ms))
-
--- Local variables that occur have names like any other variable, the outermost first.
-abbrev pub with_locals : Scene → List Bool → List LfType → Scope → Scope
-with_locals s marks [] ns = ns
-with_locals s marks (A ∷ E) ns = let outer = with_locals s marks E ns in quantifier_name s outer (slice_index_or marks (length E) false) (lower_base s A) ∷ outer
+-- Local variables that are shown have names like any other variable, the outermost first.
+abbrev pub with_locals : Scene → List LfType → List ℕ → Scope → Scope
+with_locals s [] shown ns = ns
+with_locals s (A ∷ E) shown ns = let further_out = with_locals s E (outer shown) ns in quantifier_name s further_out (is_shown zero shown) (lower_base s A) ∷ further_out
 
 abbrev pub or_nothing : {A : Type 0} → Option A → (A → List ℕ) → List ℕ
 or_nothing None f = []
 or_nothing (Some x) f = f x
 
--- `M = N`, where all metavariables are laid out
-abbrev pub shown : Scene → Laid → List (List ℕ) → List LfType → Term → Term → LfType → List ℕ
-shown s l names E M N T = equal_text s (E ++ l.context) (with_locals s (marks_on (type_marks E) M N T) E (onto (map (slice_get names) l.order) [])) M N T
+-- the variables that the text shows, from the left
+abbrev pub shown_in_sides : Scene → List LfType → Term → Term → LfType → List ℕ
+shown_in_sides s G M N T = shown_in_term s G M T ++ shown_in_term s G N T
+
+-- `M = N`, where all metavariables are laid out. Who isn't shown and has no given name has none.
+abbrev pub text_of : Scene → Laid → List (Option (List ℕ)) → List LfType → Term → Term → LfType → List ℕ
+text_of s l names E M N T =
+    let G = E ++ l.context in
+    let shown = shown_in_sides s G M N T in
+    equal_text s G (with_locals s E shown (meta_names s l names (outside (length E) shown))) M N T
 
 -- `M = N`. There is none where metavariables need each other, which those of a store don't.
 unfoldable pub equation_text : Scene → List (List LfType × LfType) → List (Option (List ℕ)) → Equation → List ℕ
@@ -87,4 +83,4 @@ equation_text s metas names e =
     or_nothing (generalized (index l.order) (length e.local) e.left) (λ M.
     or_nothing (generalized (index l.order) (length e.local) e.right) (λ N.
     or_nothing (generalized_type (index l.order) (length e.local) e.of_type) (λ T.
-    shown s l (meta_names s names (onto names []) zero metas) E M N T)))))
+    text_of s l names E M N T)))))

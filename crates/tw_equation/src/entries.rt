@@ -1,4 +1,4 @@
-//! Families and constants that the kernel accepts.
+//! Families and constants that the kernel accepts, with a constant's first arguments implicit.
 ghost use Rattle.std.specs.Prelude.{◌≡◌, IfOk, vec_len};
 ghost use Rattle.lf.specs.Entries.{kind_quantifiers, quantifiers};
 ghost use Rattle.tw_terms.specs.View.{kind_of, type_of};
@@ -42,6 +42,7 @@ pub fn add_constant(
     signature: &mut Signature,
     name: Name,
     ty: Ty,
+    implicit: u32,
 ) -> Result<bool, AllocError> {
     let context = Context::new(alloc);
     match check_type(alloc, signature, &context, &ty)? {
@@ -52,10 +53,13 @@ pub fn add_constant(
         return Ok(false);
     }
     let hints = type_hints(alloc, &ty)?;
+    if implicit as usize > hints.len() {
+        return Ok(false);
+    }
     signature.add(Entry {
         name,
         body: Body::Constant(ty),
-        implicit: 0,
+        implicit,
         hints,
     })?;
     Ok(true)

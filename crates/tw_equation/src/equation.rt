@@ -1,22 +1,26 @@
 //! The text of an equation that is left.
 ghost use Rattle.std.specs.Prelude.{◌≡◌, IfOk, OnOk, map};
+ghost use Rattle.lf.specs.Entries.{signature_of};
 ghost use Rattle.tw_generalize.specs.Positions.{index};
 ghost use Rattle.tw_metas.specs.View.{equation_of};
 ghost use Rattle.tw_print.specs.ShowEnv.{scene_of};
+ghost use Rattle.tw_print.specs.Showable.{IsShowableContext};
 ghost use Rattle.tw_terms.specs.View.{term_of, type_of};
 ghost use Rattle.tw_unify.specs.Named.{shown_type_of};
-ghost use Rattle.tw_equation.specs.Sides.{AreGeneralized};
-ghost use Rattle.tw_equation.specs.Text.{equation_text, marks_on};
+ghost use Rattle.tw_equation.specs.Sides.{AreGeneralized, AreShowable};
+ghost use Rattle.tw_equation.specs.Text.{equation_text, shown_in_sides};
 
 use crate::fits::{term_fits, type_fits};
-use crate::laid::{Laid, lay_out};
+use crate::laid::lay_out;
 use crate::locals::{enter_locals, name_locals};
-use crate::naming::{meta_names, scope_of};
+use crate::naming::meta_names;
 use std::alloc::{AllocError, Global};
 use tw_generalize::{Positions, generalized_term, generalized_type};
 use tw_metas::Equation;
-use tw_print::{ShowEnv, mark_term, mark_type, show_equal};
-use tw_terms::{Term, Ty};
+use tw_print::{ShowEnv, show_equal};
+use tw_shown::{outside, shown_in_term};
+use tw_signature::Signature;
+use tw_terms::{Context, Term, Ty};
 use tw_unify::LeftEquation;
 
 /// The sides of an equation and their type, with variables for metavariables.
@@ -44,14 +48,42 @@ fn sides_of(alloc: Global, positions: &Positions, equation: &Equation) -> Result
     Ok(Sides { left, right, ty })
 }
 
-/// Marks the local variables that occur in the sides or their type.
-fn mark_sides(marks: &mut [bool], sides: &Sides) -> Result<(), AllocError>
-    ensures { OnOk result (marks.new ≡ marks_on marks.old (term_of sides.now.left) (term_of sides.now.right) (type_of sides.now.ty)) }
+/// Tests that skeletons type the sides in a context. Where they don't, memory counts as used up.
+fn sides_fit(
+    alloc: Global,
+    signature: &Signature,
+    context: &Context,
+    sides: &Sides,
+) -> Result<(), AllocError>
+    ensures { OnOk result (AreShowable (signature_of signature.now) context.now sides.now) }
 {
-    let count = marks.len() as u64;
-    mark_type(&sides.ty, count, marks)?;
-    mark_term(&sides.left, count, marks)?;
-    mark_term(&sides.right, count, marks)
+    if !type_fits(alloc, signature, context, &sides.ty)? {
+        return Err(AllocError);
+    }
+    if !term_fits(alloc, signature, context, &sides.left, &sides.ty)? {
+        return Err(AllocError);
+    }
+    if !term_fits(alloc, signature, context, &sides.right, &sides.ty)? {
+        return Err(AllocError);
+    }
+    Ok(())
+}
+
+/// The variables that the sides show, from the left.
+fn shown_in_sides(
+    alloc: Global,
+    env: &ShowEnv,
+    context: &Context,
+    sides: &Sides,
+) -> Result<Vec<u64>, AllocError>
+    requires context { IsShowableContext (signature_of env.now.sig.now) context.now }
+    requires sides { AreShowable (signature_of env.now.sig.now) context.now sides.now }
+    ensures { IfOk result (λ v. v.items ≡ shown_in_sides (scene_of env.now) context.now (term_of sides.now.left) (term_of sides.now.right) (type_of sides.now.ty)) }
+{
+    let mut shown = shown_in_term(alloc, env, context, &sides.left, &sides.ty)?;
+    let right = shown_in_term(alloc, env, context, &sides.right, &sides.ty)?;
+    shown.extend_from_slice(&right)?;
+    Ok(shown)
 }
 
 /// The text `M = N` of an equation that is left. Fails only for want of memory.
@@ -62,31 +94,16 @@ pub fn show_equation(
 ) -> Result<Vec<u8>, AllocError>
     ensures { IfOk result (λ t. t.items ≡ equation_text (scene_of env.now) (map shown_type_of left.now.metas.items) left.now.names.items (equation_of left.now.equation)) }
 {
-    let names = meta_names(alloc, env, &left.metas, &left.names)?;
-    let Laid {
-        positions,
-        mut context,
-    } = lay_out(alloc, env.sig, &left.metas)?;
-    let mut scope = scope_of(alloc, positions.metas(), &names)?;
-    let sides = sides_of(alloc, &positions, &left.equation)?;
-    let mut marks = enter_locals(
-        alloc,
-        env.sig,
-        &positions,
-        &left.equation.context,
-        &mut context,
-    )?;
-    mark_sides(&mut marks, &sides)?;
-    name_locals(alloc, env, &context, &marks, &mut scope)?;
-    if !type_fits(alloc, env.sig, &context, &sides.ty)? {
-        return Err(AllocError);
-    }
-    if !term_fits(alloc, env.sig, &context, &sides.left, &sides.ty)? {
-        return Err(AllocError);
-    }
-    if !term_fits(alloc, env.sig, &context, &sides.right, &sides.ty)? {
-        return Err(AllocError);
-    }
+    let laid = lay_out(alloc, env.sig, &left.metas)?;
+    let sides = sides_of(alloc, &laid.positions, &left.equation)?;
+    let local = &left.equation.context;
+    let mut context = laid.context.copy(alloc)?;
+    enter_locals(alloc, env.sig, &laid.positions, local, &mut context)?;
+    sides_fit(alloc, env.sig, &context, &sides)?;
+    let shown = shown_in_sides(alloc, env, &context, &sides)?;
+    let outer = outside(alloc, &shown, local.len() as u64)?;
+    let mut scope = meta_names(alloc, env, &laid, &left.names, &outer)?;
+    name_locals(alloc, env, &context, local.len(), &shown, &mut scope)?;
     show_equal(
         alloc,
         env,

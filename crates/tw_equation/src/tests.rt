@@ -25,6 +25,10 @@ const PLUS: u64 = 3;
 const H: u64 = 4;
 
 const G: u64 = 5;
+// With the number implicit: len : {n:exp} vec n -> exp. all : {n:exp} (vec n -> exp) -> exp.
+const LEN: u64 = 7;
+
+const ALL: u64 = 8;
 
 fn exp(alloc: Global) -> Ty {
     Ty::Atom(
@@ -39,18 +43,8 @@ fn pi(alloc: Global, domain: Ty, range: Ty) -> Result<Ty, AllocError> {
     Ok(Ty::Pi(Box::new(alloc, domain)?, Box::new(alloc, range)?))
 }
 
-fn signature(alloc: Global) -> Result<Signature, AllocError> {
-    let mut signature = Signature::new(alloc);
-    add_family(
-        alloc,
-        &mut signature,
-        Name::from_text(alloc, "exp")?,
-        Kind::Star,
-    )?;
-    let kind = Kind::Pi(Box::new(alloc, exp(alloc))?, Box::new(alloc, Kind::Star)?);
-    add_family(alloc, &mut signature, Name::from_text(alloc, "vec")?, kind)?;
-    let binary = pi(alloc, exp(alloc), pi(alloc, exp(alloc), exp(alloc))?)?;
-    let higher = pi(alloc, pi(alloc, exp(alloc), exp(alloc))?, exp(alloc))?;
+// vec n -> exp, for the newest variable n
+fn from_vec(alloc: Global) -> Result<Ty, AllocError> {
     let newest = Term::Root(
         tw_terms::Head::Var(0),
         Spine {
@@ -63,27 +57,37 @@ fn signature(alloc: Global) -> Result<Signature, AllocError> {
             args: Vec::from_array(alloc, [newest])?,
         },
     );
-    let dependent = pi(alloc, exp(alloc), pi(alloc, vec, exp(alloc))?)?;
-    add_constant(
+    pi(alloc, vec, exp(alloc))
+}
+
+fn signature(alloc: Global) -> Result<Signature, AllocError> {
+    let mut signature = Signature::new(alloc);
+    add_family(
         alloc,
         &mut signature,
-        Name::from_text(alloc, "c")?,
-        exp(alloc),
+        Name::from_text(alloc, "exp")?,
+        Kind::Star,
     )?;
-    add_constant(alloc, &mut signature, Name::from_text(alloc, "+")?, binary)?;
-    add_constant(alloc, &mut signature, Name::from_text(alloc, "h")?, higher)?;
-    add_constant(
-        alloc,
-        &mut signature,
-        Name::from_text(alloc, "g")?,
-        dependent,
-    )?;
-    add_constant(
-        alloc,
-        &mut signature,
-        Name::from_text(alloc, "X")?,
-        exp(alloc),
-    )?;
+    let kind = Kind::Pi(Box::new(alloc, exp(alloc))?, Box::new(alloc, Kind::Star)?);
+    add_family(alloc, &mut signature, Name::from_text(alloc, "vec")?, kind)?;
+    let binary = pi(alloc, exp(alloc), pi(alloc, exp(alloc), exp(alloc))?)?;
+    let higher = pi(alloc, pi(alloc, exp(alloc), exp(alloc))?, exp(alloc))?;
+    let dependent = pi(alloc, exp(alloc), from_vec(alloc)?)?;
+    let quantified = pi(alloc, exp(alloc), pi(alloc, from_vec(alloc)?, exp(alloc))?)?;
+    let name = Name::from_text(alloc, "c")?;
+    add_constant(alloc, &mut signature, name, exp(alloc), 0)?;
+    let name = Name::from_text(alloc, "+")?;
+    add_constant(alloc, &mut signature, name, binary, 0)?;
+    let name = Name::from_text(alloc, "h")?;
+    add_constant(alloc, &mut signature, name, higher, 0)?;
+    let name = Name::from_text(alloc, "g")?;
+    add_constant(alloc, &mut signature, name, dependent.copy(alloc)?, 0)?;
+    let name = Name::from_text(alloc, "X")?;
+    add_constant(alloc, &mut signature, name, exp(alloc), 0)?;
+    let name = Name::from_text(alloc, "len")?;
+    add_constant(alloc, &mut signature, name, dependent, 1)?;
+    let name = Name::from_text(alloc, "all")?;
+    add_constant(alloc, &mut signature, name, quantified, 1)?;
     Ok(signature)
 }
 
@@ -121,6 +125,11 @@ fn function(alloc: Global) -> Result<OpenTy, AllocError> {
     Ok(OpenTy::Pi(Box::new(alloc, base(alloc))?, Box::new(alloc, base(alloc))?))
 }
 
+fn vec_of(alloc: Global, index: Open) -> Result<OpenTy, AllocError> {
+    let args = Vec::from_array(alloc, [index])?;
+    Ok(OpenTy::Atom(ConstId(VEC), OpenSpine { args }))
+}
+
 // Metavariables of these types; an empty name is none.
 fn left_with(
     alloc: Global,
@@ -129,6 +138,31 @@ fn left_with(
     local: u64,
     left: Open,
     right: Open,
+) -> Result<LeftEquation, AllocError> {
+    let mut context = OpenContext::new(alloc);
+    for _ in 0..local {
+        context.push(base(alloc))?;
+    }
+    let ty = base(alloc);
+    left_in(
+        alloc,
+        metas,
+        given,
+        Equation {
+            context,
+            left,
+            right,
+            ty,
+        },
+    )
+}
+
+// The same of an equation with its own context and type.
+fn left_in(
+    alloc: Global,
+    metas: Vec<OpenTy>,
+    given: &[&str],
+    equation: Equation,
 ) -> Result<LeftEquation, AllocError> {
     let mut types = Vec::new(alloc);
     let mut names = Vec::new(alloc);
@@ -142,19 +176,10 @@ fn left_with(
             names.push(Some(Name::from_text(alloc, name)?))?;
         }
     }
-    let mut context = OpenContext::new(alloc);
-    for _ in 0..local {
-        context.push(base(alloc))?;
-    }
     Ok(LeftEquation {
         metas: types,
         names,
-        equation: Equation {
-            context,
-            left,
-            right,
-            ty: base(alloc),
-        },
+        equation,
     })
 }
 
@@ -162,6 +187,18 @@ fn shows(
     rt: &impl Abort,
     alloc: Global,
     preferred: bool,
+    left: &LeftEquation,
+    want: &str,
+) -> Result<(), AllocError> {
+    shows_with(rt, alloc, preferred, false, left, want)
+}
+
+// The same, where implicit arguments are shown or not.
+fn shows_with(
+    rt: &impl Abort,
+    alloc: Global,
+    preferred: bool,
+    implicit: bool,
     left: &LeftEquation,
     want: &str,
 ) -> Result<(), AllocError> {
@@ -180,7 +217,7 @@ fn shows(
         sig: &signature,
         fixities: &fixities,
         names: &names,
-        implicit: false,
+        implicit,
     };
     let text = show_equation(alloc, &env, left)?;
     assert_eq!(rt; text.as_slice(), want.as_bytes(), "{want}");
@@ -234,13 +271,7 @@ fn types_come_before_what_mentions_them(rt: HostRuntime) -> Result<(), Fail> {
     let alloc = rt.alloc();
     // M : vec N stands before N
     let index = meta(alloc, 1, [])?;
-    let vec = OpenTy::Atom(
-        ConstId(VEC),
-        OpenSpine {
-            args: Vec::from_array(alloc, [index])?,
-        },
-    );
-    let metas = Vec::from_array(alloc, [vec, base(alloc)])?;
+    let metas = Vec::from_array(alloc, [vec_of(alloc, index)?, base(alloc)])?;
     let given = ["M", "N"];
     let pair = con(alloc, G, [meta(alloc, 1, [])?, meta(alloc, 0, [])?])?;
     let left = left_with(alloc, metas, &given, 0, pair, con(alloc, C, [])?)?;
@@ -276,5 +307,106 @@ fn local_variables_are_shown(rt: HostRuntime) -> Result<(), Fail> {
     let under = con(alloc, H, [Open::Lam(Box::new(alloc, body)?)])?;
     let left = left_with(alloc, metas, &given, 1, under, var(alloc, 0)?)?;
     shows(&rt, alloc, false, &left, "h ([x1:exp] F x1) = x")?;
+    Ok(())
+}
+
+#[test]
+fn metavariables_are_named_as_they_are_shown(rt: HostRuntime) -> Result<(), Fail> {
+    let alloc = rt.alloc();
+    // the first that is shown isn't the first of the list
+    let metas = Vec::from_array(alloc, [base(alloc), base(alloc)])?;
+    let sum = con(alloc, PLUS, [meta(alloc, 1, [])?, meta(alloc, 0, [])?])?;
+    let left = left_with(alloc, metas, &["", ""], 0, sum, meta(alloc, 0, [])?)?;
+    shows(&rt, alloc, true, &left, "E + E1 = E1")?;
+    // the left side comes first
+    let metas = Vec::from_array(alloc, [base(alloc), base(alloc)])?;
+    let left = left_with(
+        alloc,
+        metas,
+        &["", ""],
+        0,
+        meta(alloc, 1, [])?,
+        meta(alloc, 0, [])?,
+    )?;
+    shows(&rt, alloc, true, &left, "E = E1")?;
+    // the head before its arguments
+    let metas = Vec::from_array(alloc, [base(alloc), function(alloc)?])?;
+    let applied = meta(alloc, 1, [meta(alloc, 0, [])?])?;
+    let left = left_with(alloc, metas, &["", ""], 0, applied, con(alloc, C, [])?)?;
+    shows(&rt, alloc, true, &left, "E E1 = c")?;
+    Ok(())
+}
+
+// len N V = M, where the number N is implicit
+fn with_hidden(alloc: Global, given: &[&str]) -> Result<LeftEquation, AllocError> {
+    let vec = vec_of(alloc, meta(alloc, 0, [])?)?;
+    let metas = Vec::from_array(alloc, [base(alloc), vec, base(alloc)])?;
+    let length = con(alloc, LEN, [meta(alloc, 0, [])?, meta(alloc, 1, [])?])?;
+    left_with(alloc, metas, given, 0, length, meta(alloc, 2, [])?)
+}
+
+#[test]
+fn hidden_metavariables_take_no_name(rt: HostRuntime) -> Result<(), Fail> {
+    let alloc = rt.alloc();
+    let left = with_hidden(alloc, &["", "V", ""])?;
+    shows(&rt, alloc, true, &left, "len V = E")?;
+    shows_with(&rt, alloc, true, true, &left, "len E V = E1")?;
+    // a given name is taken all the same
+    let left = with_hidden(alloc, &["E", "V", ""])?;
+    shows(&rt, alloc, true, &left, "len V = E1")?;
+    // the type of a lambda's variable shows it: all N ([x:vec N] c) = M
+    let metas = Vec::from_array(alloc, [base(alloc), base(alloc)])?;
+    let body = Open::Lam(Box::new(alloc, con(alloc, C, [])?)?);
+    let all = con(alloc, ALL, [meta(alloc, 1, [])?, body])?;
+    let left = left_with(alloc, metas, &["", ""], 0, all, meta(alloc, 0, [])?)?;
+    shows(&rt, alloc, true, &left, "all ([x:vec E] c) = E1")?;
+    shows_with(&rt, alloc, true, true, &left, "all E ([x:vec E] c) = E1")?;
+    Ok(())
+}
+
+// In the context of a number and a vector of this length; both have the base x.
+fn with_vector(alloc: Global, left: Open, right: Open) -> Result<LeftEquation, AllocError> {
+    let mut context = OpenContext::new(alloc);
+    context.push(base(alloc))?;
+    context.push(vec_of(alloc, var(alloc, 0)?)?)?;
+    let ty = base(alloc);
+    left_in(
+        alloc,
+        Vec::new(alloc),
+        &[],
+        Equation {
+            context,
+            left,
+            right,
+            ty,
+        },
+    )
+}
+
+#[test]
+fn hidden_local_variables_take_no_name(rt: HostRuntime) -> Result<(), Fail> {
+    let alloc = rt.alloc();
+    // the number is only an implicit argument
+    let length = con(alloc, LEN, [var(alloc, 1)?, var(alloc, 0)?])?;
+    let left = with_vector(alloc, length, con(alloc, C, [])?)?;
+    shows(&rt, alloc, false, &left, "len x = c")?;
+    shows_with(&rt, alloc, false, true, &left, "len x x1 = c")?;
+    // the type of a lambda's variable shows it
+    let body = Open::Lam(Box::new(alloc, con(alloc, C, [])?)?);
+    let all = con(alloc, ALL, [var(alloc, 1)?, body])?;
+    let left = with_vector(alloc, all, con(alloc, C, [])?)?;
+    shows(&rt, alloc, false, &left, "all ([x1:vec x] c) = c")?;
+    // it is only in the type of the sides, which isn't shown
+    let mut context = OpenContext::new(alloc);
+    context.push(base(alloc))?;
+    context.push(vec_of(alloc, var(alloc, 0)?)?)?;
+    let equation = Equation {
+        context,
+        left: var(alloc, 0)?,
+        right: var(alloc, 0)?,
+        ty: vec_of(alloc, var(alloc, 1)?)?,
+    };
+    let left = left_in(alloc, Vec::new(alloc), &[], equation)?;
+    shows(&rt, alloc, false, &left, "x = x")?;
     Ok(())
 }

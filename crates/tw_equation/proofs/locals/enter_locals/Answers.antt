@@ -1,25 +1,13 @@
-use Rattle.std.proofs.Common.{◌≡◌, ◌∙◌, ◌-◌, ◌+◌, ◌∷◌, ◌++◌, [], Some, false, length, drop, refl, sym, ap, arith, rules, length-drop}
-use Rattle.std.proofs.lemmas.Grind.{common_steps}
+use Rattle.std.proofs.Common.{◌≡◌, ◌∙◌, ◌-◌, ◌+◌, ◌∷◌, Some, length, drop, sym, ap, arith, rules, length-drop}
 use Rattle.std.specs.List.{slice_get}
 use Rattle.std.specs.Option.{option_map}
 use Rattle.tw_generalize.specs.Generalizing.{generalized_type}
 use Rattle.tw_generalize.specs.Positions.{index}
 use Rattle.tw_print.proofs.Contexts.{outside_at}
-use Rattle.tw_print.specs.Marks.{marked}
-use Rattle.tw_print.specs.Variables.{occurs_in_type}
 use Rattle.tw_terms.specs.OpenView.{open_type_of}
 use Rattle.tw_terms.specs.View.{type_of}
-use Rattle.tw_equation.proofs.LocalTypes.{entered_length, one_entered}
+use Rattle.tw_equation.proofs.LocalTypes.{one_entered}
 use Rattle.tw_equation.proofs.locals.enter_locals.Goals as goal
-
-pub mark_type-requires : goal.mark_type-requires
-mark_type-requires c =
-    let D = c.args.local.now in
-    let o = c.loop-outside.outside in
-    let k = entered_length (index c.args.positions.now) (drop (length D - o) D) c.args.context.now c.loop-outside.context c.loop-outside.marks.items c.loop-outside.invariant.entered in
-    let q = length-drop (length D - o) D in
-    let v = ap length c.deref_mut.ensures.value in
-    omega (arith, k, q, v)
 
 pub loop-outside-preserved : goal.loop-outside-preserved
 loop-outside-preserved c =
@@ -32,8 +20,7 @@ loop-outside-preserved c =
     let d : drop (length D - (o + 1)) D ≡ A ∷ drop (length D - o) D = outside_at D o A (omega arith) a in
     let l : o ≡ length (drop (length D - o) D) = let q = length-drop (length D - o) D in omega (arith, q) in
     let g : generalized_type (index c.args.positions.now) o A ≡ Some B = sym c.in_ok-ty.ensures ∙ ap (option_map type_of) c.in-Some.is in
-    let p : c.push.new.self.items ≡ marked o (λ i. occurs_in_type i B) c.loop-outside.marks.items ++ false ∷ [] = grind (arith, common_steps) in
     record {
-      entered = one_entered (index c.args.positions.now) (drop (length D - o) D) (drop (length D - (o + 1)) D) c.args.context.now c.loop-outside.context c.enter.new.context c.loop-outside.marks.items (marked o (λ i. occurs_in_type i B) c.loop-outside.marks.items) c.push.new.self.items A B o d l g refl p c.in_ok-enter.ensures.grown c.loop-outside.invariant.entered;
+      entered = one_entered (index c.args.positions.now) (drop (length D - o) D) (drop (length D - (o + 1)) D) c.args.context.now c.loop-outside.context c.enter.new.context A B o d l g c.in_ok-enter.ensures.grown c.loop-outside.invariant.entered;
       showable = c.in_ok-enter.ensures.showable;
     }

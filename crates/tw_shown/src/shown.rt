@@ -1,0 +1,75 @@
+//! The variables that whole texts show.
+ghost use Rattle.std.specs.Prelude.{◌≡◌, [], IfOk};
+ghost use Rattle.lf.specs.Entries.{signature_of};
+ghost use Rattle.lf.specs.Syntax.{skeleton};
+ghost use Rattle.tw_terms.specs.View.{term_of, type_of};
+ghost use Rattle.tw_print.specs.Showable.{HasSkeleton, IsShowableContext, IsShowableType};
+ghost use Rattle.tw_print.specs.ShowEnv.{scene_of};
+ghost use Rattle.tw_print.specs.Shown.{nesting_limit};
+ghost use Rattle.tw_shown.specs.Shown.{shown_in_term, shown_in_type};
+
+use crate::showing::{walk_term, walk_type};
+use crate::walk::Walk;
+use std::alloc::{AllocError, Global};
+use tw_print::ShowEnv;
+use tw_terms::{Context, Term, Ty};
+
+/// How deep the parts of a text may nest. Past this, memory counts as used up.
+const NESTING_LIMIT: u64 = 8192;
+
+/// The limit of nesting, which is that of the printer.
+fn nesting_limit() -> u64
+    ensures { result ≡ nesting_limit }
+{
+    NESTING_LIMIT
+}
+
+/// A walk that begins in this context.
+fn begin(alloc: Global, context: &Context) -> Result<Walk, AllocError>
+    ensures shown { IfOk result (λ w. w.shown.items ≡ []) }
+    ensures context { IfOk result (λ w. w.context ≡ context.now) }
+    ensures binders { IfOk result (λ w. w.binders ≡ 0) }
+{
+    Ok(Walk {
+        shown: Vec::new(alloc),
+        context: context.copy(alloc)?,
+        binders: 0,
+    })
+}
+
+/// The variables of the context that the text of a term at its type shows, as they come from the left. One that is shown twice comes twice.
+/// Fails only for want of memory: past 8,192 levels it is the machine's stack that is wanting.
+pub fn shown_in_term(
+    alloc: Global,
+    env: &ShowEnv,
+    context: &Context,
+    term: &Term,
+    ty: &Ty,
+) -> Result<Vec<u64>, AllocError>
+    requires context { IsShowableContext (signature_of env.now.sig.now) context.now }
+    requires ty { IsShowableType (signature_of env.now.sig.now) context.now (type_of ty.now) }
+    requires term { HasSkeleton (signature_of env.now.sig.now) context.now (term_of term.now) (skeleton (type_of ty.now)) }
+    ensures { IfOk result (λ v. v.items ≡ shown_in_term (scene_of env.now) context.now (term_of term.now) (type_of ty.now)) }
+{
+    env.sig.is_canonical();
+    let mut walk = begin(alloc, context)?;
+    walk_term(alloc, env, &mut walk, term, Some(ty), nesting_limit())?;
+    Ok(walk.shown)
+}
+
+/// The same of a type.
+pub fn shown_in_type(
+    alloc: Global,
+    env: &ShowEnv,
+    context: &Context,
+    ty: &Ty,
+) -> Result<Vec<u64>, AllocError>
+    requires context { IsShowableContext (signature_of env.now.sig.now) context.now }
+    requires ty { IsShowableType (signature_of env.now.sig.now) context.now (type_of ty.now) }
+    ensures { IfOk result (λ v. v.items ≡ shown_in_type (scene_of env.now) context.now (type_of ty.now)) }
+{
+    env.sig.is_canonical();
+    let mut walk = begin(alloc, context)?;
+    walk_type(alloc, env, &mut walk, ty, nesting_limit())?;
+    Ok(walk.shown)
+}
