@@ -2,12 +2,17 @@
 use Rattle.std.proofs.Common.{◌≡◌, List, [], ◌∷◌, ◌++◌, map, None, Some, refl, sym, ap, ◌∙◌, subst}
 use Rattle.tw_lexer.specs.declared.place.Place.{Place}
 use Rattle.tw_parse.specs.Grammar.{Item, atom, Reads, ReadsOnce, bound}
-use Rattle.tw_parse.specs.Laws.{ReadingIsUnique}
-use Rattle.tw_parse.specs.Outlines.{Outline, Nodes, Node}
+use Rattle.tw_parse.specs.Failing.{is_item}
+use Rattle.tw_parse.specs.Faults.{Ends}
+use Rattle.tw_parse.specs.Laws.{ReadingIsUnique, QueryIsUnique}
+use Rattle.tw_parse.specs.Outlines.{Table, Outline, Nodes, Node}
+use Rattle.tw_parse.specs.Queries.{Query, asked, goal_tokens}
 use Rattle.tw_parse.specs.Readings.{Means, means, Lists, no_items, one_item, IsItem, a_leaf, a_mark, a_group, a_binding, a_typed_binding, MeansAll, declared, defined, defined_typed, preferred, given, sign_in, marks, FirstFault, here, inside, FaultAmong, earlier, last, FaultWithin, in_group, in_body, in_domain, in_typed_body, FirstFaultOf, of_declared, of_defined, of_type, of_term}
 use Rattle.tw_parse.specs.Syntax.{Term, untyped, typed, DeclarationOf, Declaration, declare, define}
 use Rattle.tw_parse.proofs.Building.{item_mark, signs_grow}
+use Rattle.tw_parse.specs.Words.{Lexeme}
 use Rattle.tw_parse.proofs.OneDeclaration.{one_outline}
+use Rattle.tw_parse.proofs.OneOutline.{SameSequence, sequence_once}
 
 -- One meaning
 
@@ -76,3 +81,18 @@ one_reading table tokens d r = (
   λ e q. sym (all_once r.2 (subst (λ (D : DeclarationOf Outline). MeansAll D e) (sym (one_outline table tokens r.0 q.0 r.1 q.1)) q.2)),
   λ D place shapes fault. no_first_fault r.2 (subst (λ (E : DeclarationOf Outline). FirstFaultOf E place) (one_outline table tokens D r.0 shapes r.1) fault),
 )
+
+ends_once : (table : Table) (tokens : List Lexeme) (O P : Outline) → Ends table tokens O → Ends table tokens P → O ≡ P
+ends_once table tokens O P e f =
+    let same : SameSequence O P (e.0 ∷ []) (f.0 ∷ []) = sequence_once table e.2 P (f.0 ∷ []) f.2 (ap is_item e.1) (ap is_item f.1) in
+    same.outlines
+
+asked_once : (tokens : List Lexeme) (A B : Term) (q r : Query) → A ≡ B → asked tokens A ≡ Some q → asked tokens B ≡ Some r → r ≡ q
+asked_once tokens A B q r e f g = let same : Some r ≡ Some q = sym g ∙ ap (asked tokens) (sym e) ∙ f in cc
+
+pub one_query : QueryIsUnique
+one_query table tokens q a =
+    let same : (O : Outline) → Ends table (goal_tokens tokens) O → O ≡ a.0 = λ O e. ends_once table (goal_tokens tokens) O a.0 e a.1 in (
+      λ r b. asked_once tokens a.2.0 b.2.0 q r (means_once a.2.1 (subst (λ (O : Outline). Means O b.2.0) (same b.0 b.1) b.2.1)) a.2.2 b.2.2,
+      λ O place e fault. no_fault a.2.1 (subst (λ (P : Outline). FirstFault P place) (same O e) fault),
+    )

@@ -6,7 +6,8 @@ use Rattle.tw_parse.specs.Outlines.{Table, Outline, Shapes}
 use Rattle.tw_parse.specs.Syntax.{Term, DeclarationOf, Declaration}
 use Rattle.tw_parse.specs.Words.{Lexeme}
 use Rattle.tw_parse.specs.Grammar.{Item, atom, sign, ReadsOnce}
-use Rattle.tw_parse.specs.Readings.{sign_in, Declares, FirstFaultOf}
+use Rattle.tw_parse.specs.Queries.{Query, Poses, Asks}
+use Rattle.tw_parse.specs.Readings.{sign_in, Declares, FirstFault, FirstFaultOf}
 use Rattle.tw_parse.specs.declared.sign.Sign.{Sign}
 use Rattle.tw_parse.specs.declared.sign.Sign.TheVariants.{Separator, Operator}
 
@@ -35,3 +36,7 @@ OutlinesAreUnique = (table : Table) (tokens : List Lexeme) (D E : DeclarationOf 
 abbrev pub ReadingIsUnique : Type 0
 ReadingIsUnique = (table : Table) (tokens : List Lexeme) (d : Declaration) → Declares table tokens d
     → ((e : Declaration) → Declares table tokens e → e ≡ d) × ((D : DeclarationOf Outline) (place : Place) → Shapes table tokens D → FirstFaultOf D place → ⊥)
+
+-- the same of tokens that ask something
+abbrev pub QueryIsUnique : Type 0
+QueryIsUnique = (table : Table) (tokens : List Lexeme) (q : Query) → Asks table tokens q → ((r : Query) → Asks table tokens r → r ≡ q) × ((O : Outline) (place : Place) → Poses table tokens O → FirstFault O place → ⊥)

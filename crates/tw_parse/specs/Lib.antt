@@ -1,7 +1,6 @@
 pub mod Syntax
 pub mod View
 pub mod Dropping
-pub mod Ascribing
 pub mod Words
 pub mod Keywords
 pub mod Signs

@@ -1,5 +1,5 @@
 -- Queries: what is asked, and why tokens are no query.
-use Rattle.std.specs.Prelude.{◌≡◌, ℕ, List, [], ◌∷◌, ◌++◌, Bool, true, false, ◌&&◌, ◌||◌, not, Option, None, Some, if◌then◌else◌}
+use Rattle.std.specs.Prelude.{◌≡◌, ℕ, List, [], ◌∷◌, ◌++◌, drop, Bool, true, false, ◌&&◌, ◌||◌, not, Option, None, Some, if◌then◌else◌}
 use Rattle.std.specs.Str.{bytes_eq}
 use Rattle.tw_lexer.specs.declared.place.Place.{Place}
 use Rattle.tw_parse.specs.Failing.{ended}
@@ -11,16 +11,40 @@ use Rattle.tw_parse.specs.Readings.{Means, FirstFault}
 use Rattle.tw_parse.specs.Sources.{lexemes_from}
 use Rattle.tw_parse.specs.Syntax.{Term, Domain, identifier, hole, star, arrow, pi, lambda, application, ascription, untyped, typed}
 use Rattle.tw_parse.specs.View.{term_of}
-use Rattle.tw_parse.specs.Words.{Lexeme, first_place}
+use Rattle.tw_parse.specs.Words.{Lexeme, first_word, first_bytes, first_place}
 use Rattle.tw_parse.specs.declared.fault.SyntaxFault.{SyntaxFault}
 use Rattle.tw_parse.specs.declared.fault.SyntaxFault.TheVariants.{Unsupported, Nesting, Syntax, Fixity, BadDecl, NoMemory}
 use Rattle.tw_parse.specs.declared.query.ExtQuery.{ExtQuery}
 use Rattle.tw_parse.specs.declared.source.Source.{Source}
+use Rattle.tw_parse.specs.declared.words.Word.{Word}
+use Rattle.tw_parse.specs.declared.words.Word.TheVariants.{Name, Forward, Backward, Underscore, Star, Colon}
 
--- what is asked: a name for what is found, if one is written, and the goal
+-- what is asked: the name of the proof, if one is written, and the goal
 pub record Query : Type 0 where
-  pub name : Option (List ℕ)
+  pub proof : Option (List ℕ)
   pub goal : Term
+
+-- an identifier that may stand in a sequence: any but `=`
+abbrev pub is_operand : Word → Bool
+is_operand Name = true
+is_operand Forward = true
+is_operand Backward = true
+is_operand Underscore = true
+is_operand Star = true
+is_operand _ = false
+
+-- two words with which a query names its proof: such an identifier and `:`
+abbrev pub names_proof : Word → Word → Bool
+names_proof v Colon = is_operand v
+names_proof v _ = false
+
+-- the tokens begin so; a goal that does has to stand in parentheses
+abbrev pub has_proof : List Lexeme → Bool
+has_proof tokens = names_proof (first_word tokens) (first_word (drop 1 tokens))
+
+-- the tokens of the goal and the dot: those behind `X :`, or all
+abbrev pub goal_tokens : List Lexeme → List Lexeme
+goal_tokens tokens = if has_proof tokens then drop 2 tokens else tokens
 
 abbrev mutual
   -- the name stands in the term, also as that of a binder
@@ -39,38 +63,41 @@ abbrev mutual
   mentions_domain x (typed A) = mentions x A
 
 abbrev pub with_goal : Term → List ℕ → Query
-with_goal A x = record { name = Some x; goal = A }
+with_goal A x = record { proof = Some x; goal = A }
 
--- `X : A`, where X begins with `_` or an uppercase letter and doesn't stand in A
-abbrev pub named_goal : Term → Term → Option Query
-named_goal (identifier x at) A = if is_upper x && not (mentions x A) then Some (with_goal A x) else None
-named_goal M A = None
+-- the proof of A is X, which has no fixed meaning, begins with `_` or an uppercase letter, and doesn't stand in A
+abbrev pub proved_by : Word → List ℕ → Term → Option Query
+proved_by Name x A = if is_upper x && not (mentions x A) then Some (with_goal A x) else None
+proved_by _ x A = None
 
--- what a term asks; no other ascription asks anything
-abbrev pub asked : Term → Option Query
-asked (ascription M A) = named_goal M A
-asked M = Some (record { name = None; goal = M })
+-- what tokens with this goal ask; nothing where they name a proof that can't be its
+abbrev pub asked : List Lexeme → Term → Option Query
+asked tokens A = if has_proof tokens then proved_by (first_word tokens) (first_bytes tokens) A else Some (record { proof = None; goal = A })
 
 abbrev pub query_of : ExtQuery → Query
-query_of q = record { name = q.name; goal = term_of q.term }
+query_of q = record { proof = q.proof; goal = term_of q.goal }
 
--- the tokens are a term and a dot, no sequence in it has another reading, and it asks this
+-- the tokens are `X : A.` or `A.`, where A has this outline
+abbrev pub Poses : Table → List Lexeme → Outline → Type 0
+Poses table tokens O = Ends table (goal_tokens tokens) O
+
+-- no sequence in the goal has another reading, and the tokens ask this
 abbrev pub Asks : Table → List Lexeme → Query → Type 0
-Asks table tokens q = (O : Outline) × Ends table tokens O × ((M : Term) × Means O M × (asked M ≡ Some q))
+Asks table tokens q = (O : Outline) × Poses table tokens O × ((A : Term) × Means O A × (asked tokens A ≡ Some q))
 
--- some tokens complete these to a term and a dot
+-- some tokens complete these to a query
 abbrev pub CanAsk : Table → List Lexeme → Type 0
-CanAsk table tokens = (rest : List Lexeme) × (O : Outline) × Ends table (tokens ++ rest) O
+CanAsk table tokens = (rest : List Lexeme) × (O : Outline) × Poses table (tokens ++ rest) O
 
--- the first token here such that no term with a dot begins with the tokens through it, where those before it are none by themselves; the end of the text counts as a token
+-- the first token here such that no query begins with the tokens through it, where those before it are none by themselves; the end of the text counts as a token
 abbrev pub AskingStopsAt : Table → Place → List Lexeme → Place → Type 0
-AskingStopsAt table end tokens place = (before : List Lexeme) × (x : Lexeme) × (more : List Lexeme) × (ended end tokens ≡ before ++ x ∷ more) × (place ≡ x.at) × CanAsk table before × (CanAsk table (before ++ x ∷ []) → ⊥) × ((O : Outline) → Ends table before O → ⊥)
+AskingStopsAt table end tokens place = (before : List Lexeme) × (x : Lexeme) × (more : List Lexeme) × (ended end tokens ≡ before ++ x ∷ more) × (place ≡ x.at) × CanAsk table before × (CanAsk table (before ++ x ∷ []) → ⊥) × ((O : Outline) → Poses table before O → ⊥)
 
--- a fault of tokens whose brackets aren't nested too deep: no term with a dot begins with the tokens through this one, which is the first such; some sequence has not one reading, and the first such one begins here; or the term, which begins here, asks nothing
+-- a fault of tokens whose brackets aren't nested too deep: no query begins with the tokens through this one, which is the first such; some sequence has not one reading, and the first such one begins here; or the tokens, which begin here, ask nothing
 abbrev pub AskingFault : Table → Place → List Lexeme → SyntaxFault → Type 0
 AskingFault table end tokens (Syntax place) = AskingStopsAt table end tokens place
-AskingFault table end tokens (Fixity place) = (O : Outline) × Ends table tokens O × FirstFault O place
-AskingFault table end tokens (BadDecl place) = (place ≡ first_place end tokens) × ((O : Outline) × Ends table tokens O × ((M : Term) × Means O M × (asked M ≡ None)))
+AskingFault table end tokens (Fixity place) = (O : Outline) × Poses table tokens O × FirstFault O place
+AskingFault table end tokens (BadDecl place) = (place ≡ first_place end tokens) × ((O : Outline) × Poses table tokens O × ((A : Term) × Means O A × (asked tokens A ≡ None)))
 AskingFault table end tokens NoMemory = Unit {0}
 AskingFault table end tokens _ = ⊥
 

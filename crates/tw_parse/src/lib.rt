@@ -23,7 +23,7 @@ mod words;
 
 pub use decl::{ExtDecl, ExtName};
 pub use fault::SyntaxFault;
-pub use laws::{one_outline, one_reading, readings_are_decided};
+pub use laws::{one_outline, one_query, one_reading, readings_are_decided};
 pub use parse::parse_decl;
 pub use query::{ExtQuery, parse_query};
 pub use term::ExtTerm;

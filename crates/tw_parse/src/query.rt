@@ -2,9 +2,10 @@
 ghost use Rattle.std.specs.Prelude.{◌≡◌, ℕ, [], length, All, IfOk, IfErr, OnOk, ◌||◌, option_map};
 ghost use Rattle.tw_lexer.specs.Tokens.{IsWithin, ThroughDot};
 ghost use Rattle.tw_parse.specs.Faults.{DotEnds};
-ghost use Rattle.tw_parse.specs.Queries.{Asks, AsksAll, AskingFaultOf, IsShallow, QueryFaultStands, asked, mentions, mentions_domain, named_goal, query_of, with_goal};
+ghost use Rattle.tw_parse.specs.Queries.{Asks, AsksAll, AskingFaultOf, IsShallow, QueryFaultStands, asked, goal_tokens, has_proof, mentions, mentions_domain, names_proof, proved_by, query_of, with_goal};
+ghost use Rattle.tw_parse.specs.Sources.{lexemes_from};
 ghost use Rattle.tw_parse.specs.View.{boxed_domain, term_of};
-ghost use Rattle.tw_parse.specs.Words.{lexemes};
+ghost use Rattle.tw_parse.specs.Words.{first_bytes, first_word, lexemes};
 
 use crate::fault::SyntaxFault;
 use crate::keywords::is_upper;
@@ -12,17 +13,19 @@ use crate::nesting::too_deep;
 use crate::parts::Part;
 use crate::sequences::sequence;
 use crate::source::Source;
-use crate::term::{Ascription, ExtTerm};
+use crate::term::ExtTerm;
 use crate::words::Word;
 use std::alloc::{AllocError, Global};
 use tw_fixity::{FixTable, Name};
 use tw_lexer::Tokens;
 
-/// A query as it is written: `X : A.` or `A.`, with the name X if it is written.
+/// A query as it is written: `X : A.` with X for the proof of the goal A, or `A.`
+///
+/// An identifier and `:` in front name a proof, whatever stands behind them. So a goal that begins with them, as an ascription may, has to stand in parentheses.
 #[derive(Debug, Drop)]
 pub struct ExtQuery {
-    pub name: Option<Name>,
-    pub term: ExtTerm,
+    pub proof: Option<Name>,
+    pub goal: ExtTerm,
 }
 
 /// How deep a goal with a name may be; past that memory counts as wanting.
@@ -89,35 +92,58 @@ fn mentions_in_binder(
     mentions(body, name, frames)
 }
 
-// The name that an ascription with these sides gives to what is found; none where it asks nothing.
-fn answer_name(alloc: Global, left: &ExtTerm, goal: &ExtTerm) -> Result<Option<Name>, AllocError>
-    ensures { IfOk result (λ name. named_goal (term_of left.now) (term_of goal.now) ≡ option_map (with_goal (term_of goal.now)) name) }
+// Whether tokens with these words in front name a proof.
+fn names_proof(first: Word, second: Word) -> bool
+    ensures { result ≡ names_proof first second }
 {
-    let ExtTerm::Ident(name, _) = left else {
-        return Ok(None);
-    };
-    if !is_upper(name.as_bytes()) || mentions(goal, name.as_bytes(), FRAMES)? {
-        return Ok(None);
+    match second {
+        Word::Colon => matches!(
+            first,
+            Word::Name | Word::Forward | Word::Backward | Word::Underscore | Word::Star
+        ),
+        _ => false,
     }
-    Ok(Some(name.copy(alloc)?))
 }
 
-// What a term asks.
-fn asked(alloc: Global, term: ExtTerm) -> Result<Option<ExtQuery>, AllocError>
-    ensures { IfOk result (λ query. option_map query_of query ≡ asked (term_of term)) }
+// The same of the tokens of a source.
+fn has_proof(source: &Source<'_>) -> bool
+    ensures { result ≡ has_proof (lexemes_from source.now 0) }
 {
-    match term.ascription() {
-        Ascription::Of(left, goal) => {
-            let Some(name) = answer_name(alloc, &left, &goal)? else {
-                return Ok(None);
-            };
-            Ok(Some(ExtQuery {
-                name: Some(name),
-                term: Box::into_inner(goal),
-            }))
-        }
-        Ascription::No(term) => Ok(Some(ExtQuery { name: None, term })),
+    names_proof(source.word(0), source.word(1))
+}
+
+// The number of the token with which the goal begins.
+fn goal_start(source: &Source<'_>) -> usize
+    ensures { lexemes_from source.now result ≡ goal_tokens (lexemes_from source.now 0) }
+{
+    if has_proof(source) { 2 } else { 0 }
+}
+
+// The name of the goal's proof, which stands in front; none where it can't be its name.
+fn proof(alloc: Global, source: &Source<'_>, goal: &ExtTerm) -> Result<Option<Name>, AllocError>
+    ensures { IfOk result (λ name. proved_by (first_word (lexemes_from source.now 0)) (first_bytes (lexemes_from source.now 0)) (term_of goal.now) ≡ option_map (with_goal (term_of goal.now)) name) }
+{
+    let name = source.bytes(0);
+    if source.word(0) != Word::Name || !is_upper(name) || mentions(goal, name, FRAMES)? {
+        return Ok(None);
     }
+    Ok(Some(source.name(alloc, 0)?))
+}
+
+// What the tokens ask, whose goal this is.
+fn asked(alloc: Global, source: &Source<'_>, goal: ExtTerm) -> Result<Option<ExtQuery>, AllocError>
+    ensures { IfOk result (λ query. option_map query_of query ≡ asked (lexemes_from source.now 0) (term_of goal)) }
+{
+    if !has_proof(source) {
+        return Ok(Some(ExtQuery { proof: None, goal }));
+    }
+    let Some(name) = proof(alloc, source, &goal)? else {
+        return Ok(None);
+    };
+    Ok(Some(ExtQuery {
+        proof: Some(name),
+        goal,
+    }))
 }
 
 // Reads a query from the tokens of a source.
@@ -126,13 +152,13 @@ fn query(alloc: Global, source: &Source<'_>) -> Result<ExtQuery, SyntaxFault>
     ensures reads { IfOk result (λ q. AsksAll source.now (query_of q)) }
     ensures fault { IfErr result (AskingFaultOf source.now) }
 {
-    let (part, end) = sequence(alloc, source, 0)?;
+    let (part, end) = sequence(alloc, source, goal_start(source))?;
     if source.word(end) != Word::Dot {
         return Err(SyntaxFault::Syntax(source.place(end)));
     }
     match part {
         Part::AtFault(place) => Err(SyntaxFault::Fixity(place)),
-        Part::Term(term) => match asked(alloc, term)? {
+        Part::Term(goal) => match asked(alloc, source, goal)? {
             Some(query) => Ok(query),
             None => Err(SyntaxFault::BadDecl(source.place(0))),
         },

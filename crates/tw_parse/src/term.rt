@@ -1,8 +1,6 @@
 //! External terms: what is written, before names are looked up.
 ghost use Rattle.std.specs.Prelude.{◌≡◌};
 ghost use Rattle.tw_parse.specs.Dropping.{weight, weight_of, AreSmaller};
-ghost use Rattle.tw_parse.specs.Ascribing.{SplitsAs};
-ghost use Rattle.tw_parse.specs.View.{term_of};
 ghost use Rattle.tw_parse.specs.declared.term.ExtTerm.{size-ExtTerm};
 
 use std::mem;
@@ -22,12 +20,6 @@ pub enum ExtTerm {
     Ascribe(Box<ExtTerm>, Box<ExtTerm>),
 }
 
-/// The sides of an ascription, or a term that is none.
-pub enum Ascription {
-    Of(Box<ExtTerm>, Box<ExtTerm>),
-    No(ExtTerm),
-}
-
 // The terms right inside a term, from left to right.
 enum Parts {
     None,
@@ -36,17 +28,6 @@ enum Parts {
 }
 
 impl ExtTerm {
-    /// The sides of an ascription.
-    #[tactic(auto, using(crate::proofs::Views::views))]
-    pub fn ascription(self) -> Ascription
-        ensures { SplitsAs (term_of self) result }
-    {
-        match self {
-            ExtTerm::Ascribe(left, right) => Ascription::Of(left, right),
-            term => Ascription::No(term),
-        }
-    }
-
     #[tactic(auto, using(crate::proofs::Weights::weights))]
     fn parts(self) -> Parts
         ensures weight { weight self ≡ weight_of result }

@@ -382,16 +382,16 @@ fn read_query(alloc: Global, fixities: &FixTable, text: &str) -> Result<ExtQuery
     }
 }
 
-// The goal, with `X := ` in front where it has a name.
+// The goal, with `X := ` in front where its proof has a name.
 fn told_query(alloc: Global, query: &Result<ExtQuery, SyntaxFault>) -> Result<String, AllocError> {
     let mut line = String::new(alloc);
     match query {
         Ok(query) => {
-            if let Some(name) = &query.name {
+            if let Some(name) = &query.proof {
                 show_name(&mut line, name)?;
                 line.push_str(" := ")?;
             }
-            show(&mut line, &query.term)?;
+            show(&mut line, &query.goal)?;
         }
         Err(fault) => show_fault(&mut line, fault)?,
     }
@@ -406,31 +406,45 @@ fn queries_are_read(rt: HostRuntime) -> Result<(), Fail> {
         ("nat.", "nat1"),
         ("f a X.", "((f1 a3) X5)"),
         ("a + b.", "((+3 a1) b5)"),
-        ("(a : b) c.", "((a2 : b6) c9)"),
         ("X : a.", "X := a5"),
         ("_x : a.", "_x := a6"),
-        ("(X : a).", "X := a6"),
         ("X : a -> b + d.", "X := (a5 > ((+12 b10) d14))"),
         ("X : {x:a} b.", "X := {5x:a8}b11"),
-        // no name stands on the left
+        ("X : (a : b).", "X := (a6 : b10)"),
+        ("X : a : b.", "X := (a5 : b9)"),
+        ("X : a : b : d.", "X := ((a5 : b9) : d13)"),
+        // what stands in front can't name a proof
         ("x : a.", "bad 1:1"),
+        ("nat : type.", "bad 1:1"),
         ("_ : a.", "bad 1:1"),
-        ("X a : b.", "bad 1:1"),
-        ("a -> b : d.", "bad 1:1"),
-        ("X : a : b.", "bad 1:1"),
+        ("type : a.", "bad 1:1"),
+        ("-> : a.", "bad 1:1"),
+        ("+ : a.", "bad 1:1"),
+        ("x : a : type.", "bad 1:1"),
         // the name stands in the goal
         ("X : f X.", "bad 1:1"),
+        ("X : X : a.", "bad 1:1"),
         ("X : a -> X -> b.", "bad 1:1"),
         ("X : {X:a} b.", "bad 1:1"),
         ("X : {x:f X} b.", "bad 1:1"),
         ("X : f ([X] a).", "bad 1:1"),
         ("X : f (a : X).", "bad 1:1"),
         ("a +.", "fixity 1:1"),
+        ("X : a +.", "fixity 1:5"),
+        ("x : a +.", "fixity 1:5"),
         ("X : f (a +).", "fixity 1:8"),
+        ("(X : a +).", "fixity 1:2"),
         ("a", "syntax 1:2"),
         ("", "syntax 1:1"),
         (".", "syntax 1:1"),
         ("a = b.", "syntax 1:3"),
+        ("= a.", "syntax 1:1"),
+        ("= : a.", "syntax 1:1"),
+        ("X : .", "syntax 1:5"),
+        ("X :", "syntax 1:4"),
+        ("X : = a.", "syntax 1:5"),
+        ("X : a = b.", "syntax 1:7"),
+        ("x : a).", "syntax 1:6"),
         ("a).", "syntax 1:2"),
         ("%name a X.", "syntax 1:1"),
     ];
@@ -441,6 +455,34 @@ fn queries_are_read(rt: HostRuntime) -> Result<(), Fail> {
     let deep = repeated(alloc, "X : ", "(", 1001, "b.")?;
     let line = told_query(alloc, &read_query(alloc, &table, deep.as_str()))?;
     assert_eq!(rt; line.as_str(), "nesting 1:1005");
+    Ok(())
+}
+
+#[test]
+fn a_goal_may_be_an_ascription(rt: HostRuntime) -> Result<(), Fail> {
+    let alloc = rt.alloc();
+    let table = operators(alloc)?;
+    let rows = [
+        // in parentheses
+        ("(X : a).", "(X2 : a6)"),
+        ("((X : a)).", "(X3 : a7)"),
+        ("(nat : type).", "(nat2 : *)"),
+        ("(X : f X).", "(X2 : (f6 X8))"),
+        ("(X : a) : b.", "((X2 : a6) : b11)"),
+        ("(X) : a.", "(X2 : a7)"),
+        ("(a : b) c.", "((a2 : b6) c9)"),
+        // more than an identifier stands before the first `:`
+        ("f X : a.", "((f1 X3) : a7)"),
+        ("X a : b.", "((X1 a3) : b7)"),
+        ("a -> b : d.", "((a1 > b6) : d10)"),
+        ("X + a : b.", "(((+3 X1) a5) : b9)"),
+        ("{X:a} b : d.", "{1X:a4}(b7 : d11)"),
+        (": a.", "fixity 1:1"),
+    ];
+    for (text, want) in rows {
+        let line = told_query(alloc, &read_query(alloc, &table, text))?;
+        assert_eq!(rt; line.as_str(), want, "{text}");
+    }
     Ok(())
 }
 
