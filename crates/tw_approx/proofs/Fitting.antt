@@ -1,16 +1,13 @@
 -- The answers of the whole.
 use Rattle.std.proofs.Common.{◌≡◌, ◌≢◌, ℕ, ◌<◌, ◌≤◌, List, [], ◌∷◌, ◌++◌, map, reverse, slice_get, Bool, true, false, Option, None, Some, ◌⊎◌, inl, inr, ◌↔◌, if◌then◌else◌, append_assoc, arith, refl, sym, ap, ◌∙◌, subst}
-use Rattle.std.proofs.lemmas.List.{append-nil, reverse-append, map-append}
+use Rattle.std.proofs.lemmas.List.{append-nil, reverse-append, reverse-reverse, map-append}
 use Rattle.std.specs.Str.{bytes_eq}
-use Rattle.lf.specs.Entries.{Entry}
 use Rattle.lf.specs.Syntax.{Skeleton, base}
-use Rattle.tw_approx.specs.Answer.{Rows, frees_of, HasRow, AreDistinct, IsOfObjects, AreSame, HasSkeletons, IsLoose, IsClash}
-use Rattle.tw_approx.specs.Names.{IsFreeVariable}
+use Rattle.tw_approx.specs.Answer.{Rows, frees_of, HasRow, AreDistinct, AreSame, FitsOnce, FitsTwice, NeverFits}
 use Rattle.tw_approx.specs.Readings.{Reading}
-use Rattle.tw_approx.specs.Skeletons.{Frees, Fits}
-use Rattle.tw_approx.specs.Solving.{IsFound, NeverFits, AreOpen, AreAlways, RowsAreAlways, numbers_of}
+use Rattle.tw_approx.specs.Skeletons.{Frees}
+use Rattle.tw_approx.specs.Solving.{IsFound, IsSolved, AreOpen, AreAlways, RowsAreAlways, numbers_of}
 use Rattle.tw_approx.specs.Walks.{Assignment, Readings, State, Variables, empty_state, HasVariable, NamesDiffer, Agrees, IsSound, Reads, Refuses}
-use Rattle.tw_parse.specs.Syntax.{Declaration}
 use Rattle.tw_shapes.specs.Shapes.{Shape, Store, Solves, HasSolution, empty_store, value_of}
 use Rattle.tw_approx.proofs.Naming.{name_is, is_name}
 use Rattle.tw_approx.proofs.Sequences.{given}
@@ -154,14 +151,14 @@ same_numbers f g θ ρ ((y, m) ∷ xs) e (a, c) (b, d) =
     let rest = same_numbers f g θ ρ xs (λ x h. e x (inr h)) c d in
     cc (p, rest)
 
-module _ (es : List Entry) (d : Declaration) (t : State) (ys : Variables) (e : reverse ys ≡ t.variables) (found : IsFound (λ f o. Fits es f o d) (λ x. IsFreeVariable es x d) t) where
+module _ (F : List ℕ → Type 0) (Fit : Frees → List Skeleton → Type 0) (t : State) (ys : Variables) (e : reverse ys ≡ t.variables) (found : IsFound Fit F t) where
   agrees_of : (f : Frees) (θ : Assignment) → Agrees f θ ys → Agrees f θ t.variables
   agrees_of f θ a = subst (Agrees f θ) e ((agrees_reversed f θ ys).1 a)
 
   agrees_from : (f : Frees) (θ : Assignment) → Agrees f θ t.variables → Agrees f θ ys
   agrees_from f θ a = (agrees_reversed f θ ys).0 (subst (Agrees f θ) (sym e) a)
 
-  has_of : (x : List ℕ) → HasVariable x ys ↔ IsFreeVariable es x d
+  has_of : (x : List ℕ) → HasVariable x ys ↔ F x
   has_of x = (
     λ h. (found.free x).0 (subst (HasVariable x) e ((has_reversed x ys).1 h)),
     λ h. (has_reversed x ys).0 (subst (HasVariable x) (sym e) ((found.free x).1 h)),
@@ -170,7 +167,7 @@ module _ (es : List Entry) (d : Declaration) (t : State) (ys : Variables) (e : r
   differ : NamesDiffer ys
   differ = differ_reversed ys (subst NamesDiffer (sym e) found.sound.differ)
 
-  skeletons_under : (θ : Assignment) → Solves θ t.store → ((ρ : Assignment) → Solves ρ t.store → rows_under ρ ys ≡ rows_under θ ys) → ((ρ : Assignment) → Solves ρ t.store → map ρ t.omitted ≡ map θ t.omitted) → HasSkeletons es d (rows_under θ ys) (map θ t.omitted)
+  skeletons_under : (θ : Assignment) → Solves θ t.store → ((ρ : Assignment) → Solves ρ t.store → rows_under ρ ys ≡ rows_under θ ys) → ((ρ : Assignment) → Solves ρ t.store → map ρ t.omitted ≡ map θ t.omitted) → FitsOnce F Fit (rows_under θ ys) (map θ t.omitted)
   skeletons_under θ h rows omitted = record {
     row_is_free = λ x r. (has_of x).0 ((has_row x θ ys).0 r);
     free_has_row = λ x r. (has_row x θ ys).1 ((has_of x).1 r);
@@ -185,13 +182,13 @@ module _ (es : List Entry) (d : Declaration) (t : State) (ys : Variables) (e : r
   }
 
   -- the skeletons that each solution gives
-  pub has_skeletons : (rows : Rows) (ks : List Skeleton) → HasSolution t.store → RowsAreAlways t.store ys rows → AreAlways t.store t.omitted ks → HasSkeletons es d rows ks
-  has_skeletons rows ks (θ, h) r o =
-      subst (λ rs. HasSkeletons es d rs ks) (r θ h)
-      (subst (HasSkeletons es d (rows_under θ ys)) (o θ h) (skeletons_under θ h (λ ρ g. r ρ g ∙ sym (r θ h)) (λ ρ g. o ρ g ∙ sym (o θ h))))
+  fits_once : (rows : Rows) (ks : List Skeleton) → HasSolution t.store → RowsAreAlways t.store ys rows → AreAlways t.store t.omitted ks → FitsOnce F Fit rows ks
+  fits_once rows ks (θ, h) r o =
+      subst (λ rs. FitsOnce F Fit rs ks) (r θ h)
+      (subst (FitsOnce F Fit (rows_under θ ys)) (o θ h) (skeletons_under θ h (λ ρ g. r ρ g ∙ sym (r θ h)) (λ ρ g. o ρ g ∙ sym (o θ h))))
 
   -- two solutions that differ
-  loose_under : (θ ρ : Assignment) → Solves θ t.store → Solves ρ t.store → (AreSame es d (frees_of (rows_under θ ys)) (frees_of (rows_under ρ ys)) (map θ t.omitted) (map ρ t.omitted) → ⊥) → IsLoose es d
+  loose_under : (θ ρ : Assignment) → Solves θ t.store → Solves ρ t.store → (AreSame F (frees_of (rows_under θ ys)) (frees_of (rows_under ρ ys)) (map θ t.omitted) (map ρ t.omitted) → ⊥) → FitsTwice F Fit
   loose_under θ ρ h g n = record {
     first = frees_of (rows_under θ ys);
     second = frees_of (rows_under ρ ys);
@@ -202,10 +199,22 @@ module _ (es : List Entry) (d : Declaration) (t : State) (ys : Variables) (e : r
     differ = n;
   }
 
-  pub omitted_loose : AreOpen t.store t.omitted → IsLoose es d
-  omitted_loose o = loose_under o.first o.second o.first_solves o.second_solves (λ s. o.differ s.omitted)
+  omitted_twice : AreOpen t.store t.omitted → FitsTwice F Fit
+  omitted_twice o = loose_under o.first o.second o.first_solves o.second_solves (λ s. o.differ s.omitted)
 
-  pub free_loose : AreOpen t.store (numbers_of ys) → IsLoose es d
-  free_loose o =
+  free_twice : AreOpen t.store (numbers_of ys) → FitsTwice F Fit
+  free_twice o =
       loose_under o.first o.second o.first_solves o.second_solves
       (λ s. o.differ (same_numbers (frees_of (rows_under o.first ys)) (frees_of (rows_under o.second ys)) o.first o.second ys (λ x h. s.frees x ((has_of x).0 h)) (rows_agree o.first ys differ) (rows_agree o.second ys differ)))
+
+-- what the solved store says of what was found
+module _ (F : List ℕ → Type 0) (Fit : Frees → List Skeleton → Type 0) (t : State) (found : IsFound Fit F t) where
+  pub solved_once : (rows : Rows) (ks : List Skeleton) → IsSolved t rows ks → FitsOnce F Fit rows ks
+  solved_once rows ks s = fits_once F Fit t (reverse t.variables) (reverse-reverse t.variables) found rows ks s.solution s.free s.omitted
+
+  pub open_twice : AreOpen t.store t.omitted ⊎ AreOpen t.store (numbers_of (reverse t.variables)) → FitsTwice F Fit
+  open_twice o =
+      elim o as (λ _. FitsTwice F Fit) [
+        | inl a ↦ omitted_twice F Fit t (reverse t.variables) (reverse-reverse t.variables) found a
+        | inr b ↦ free_twice F Fit t (reverse t.variables) (reverse-reverse t.variables) found b
+      ]

@@ -12,5 +12,7 @@ pub mod Families
 pub mod Answering
 pub mod Places
 pub mod Fitting
+pub mod Causes
+pub mod Declaring
 pub mod Defining
 pub mod Rows

@@ -3,14 +3,14 @@ use Rattle.std.specs.Prelude.{◌≡◌, ◌≢◌, ℕ, List, [], ◌∷◌, ma
 use Rattle.std.specs.Str.{bytes_eq}
 use Rattle.lf.specs.Entries.{Entry}
 use Rattle.lf.specs.Syntax.{Skeleton, base}
-use Rattle.tw_approx.specs.Levels.{is_type_definition, type_lambdas, IsEarliest}
-use Rattle.tw_approx.specs.Names.{IsFreeVariable}
-use Rattle.tw_approx.specs.Skeletons.{Frees, Fits}
+use Rattle.tw_approx.specs.Levels.{is_type_definition, type_lambdas, lambdas_in_type, IsEarliest}
+use Rattle.tw_approx.specs.Names.{IsFreeVariable, IsFreeIn}
+use Rattle.tw_approx.specs.Skeletons.{Frees, Fits, FitsQuery}
 use Rattle.tw_approx.specs.declared.approximation.Row.{Row}
 use Rattle.tw_approx.specs.declared.fault.ApproxFault.{ApproxFault}
 use Rattle.tw_approx.specs.declared.fault.ApproxFault.TheVariants.{Unknown, TypeLevel, Clash, Loose, NoMemory}
-use Rattle.tw_explicit.specs.Unknown.{unknown_in, IsFirst}
-use Rattle.tw_parse.specs.Syntax.{Declaration}
+use Rattle.tw_explicit.specs.Unknown.{unknown_in, unknown_names, IsFirst}
+use Rattle.tw_parse.specs.Syntax.{Declaration, Term}
 use Rattle.tw_terms.specs.View.{skeleton_of}
 
 -- free variables with their skeletons, by name
@@ -31,38 +31,51 @@ abbrev pub AreDistinct : Rows → Type 0
 AreDistinct [] = Unit {0}
 AreDistinct ((y, s) ∷ rows) = (HasRow y rows → ⊥) × AreDistinct rows
 
+-- Of what is written F are the free variables, and Fit tells which skeletons of them, and of what else isn't written, it has throughout.
+
+-- the same skeletons of all that isn't written
+pub record AreSame (F : List ℕ → Type 0) (f g : Frees) (o p : List Skeleton) : Type 0 where
+  pub frees : (x : List ℕ) → F x → f x ≡ g x
+  pub omitted : o ≡ p
+
+-- It has skeletons in just one way: rows for its free variables, and a list of what else isn't written.
+pub record FitsOnce (F : List ℕ → Type 0) (Fit : Frees → List Skeleton → Type 0) (rows : Rows) (o : List Skeleton) : Type 0 where
+  pub row_is_free : (x : List ℕ) → HasRow x rows → F x
+  pub free_has_row : (x : List ℕ) → F x → HasRow x rows
+  pub distinct : AreDistinct rows
+  pub fits : Fit (frees_of rows) o
+  pub only : (f : Frees) (p : List Skeleton) → Fit f p → AreSame F f (frees_of rows) p o
+
+-- It has them in two ways.
+pub record FitsTwice (F : List ℕ → Type 0) (Fit : Frees → List Skeleton → Type 0) : Type 0 where
+  pub first : Frees
+  pub second : Frees
+  pub first_omitted : List Skeleton
+  pub second_omitted : List Skeleton
+  pub first_fits : Fit first first_omitted
+  pub second_fits : Fit second second_omitted
+  pub differ : AreSame F first second first_omitted second_omitted → ⊥
+
+-- It has them in no way.
+abbrev pub NeverFits : (Frees → List Skeleton → Type 0) → Type 0
+NeverFits Fit = (f : Frees) (o : List Skeleton) → Fit f o → ⊥
+
+-- Declarations
+
 -- each name is known, and no definition or lambda stands at the level of types
 pub record IsOfObjects (es : List Entry) (d : Declaration) : Type 0 where
   pub known : unknown_in es d ≡ []
   pub no_definition : is_type_definition es d ≡ false
   pub no_lambda : type_lambdas d ≡ []
 
--- the same skeletons of all that isn't written
-pub record AreSame (es : List Entry) (d : Declaration) (f g : Frees) (o p : List Skeleton) : Type 0 where
-  pub frees : (x : List ℕ) → IsFreeVariable es x d → f x ≡ g x
-  pub omitted : o ≡ p
+abbrev pub HasSkeletons : List Entry → Declaration → Rows → List Skeleton → Type 0
+HasSkeletons es d rows o = FitsOnce (λ x. IsFreeVariable es x d) (λ f p. Fits es f p d) rows o
 
--- The declaration has skeletons in just one way: rows for its free variables, and a list of what else isn't written.
-pub record HasSkeletons (es : List Entry) (d : Declaration) (rows : Rows) (o : List Skeleton) : Type 0 where
-  pub row_is_free : (x : List ℕ) → HasRow x rows → IsFreeVariable es x d
-  pub free_has_row : (x : List ℕ) → IsFreeVariable es x d → HasRow x rows
-  pub distinct : AreDistinct rows
-  pub fits : Fits es (frees_of rows) o d
-  pub only : (f : Frees) (p : List Skeleton) → Fits es f p d → AreSame es d f (frees_of rows) p o
+abbrev pub IsLoose : List Entry → Declaration → Type 0
+IsLoose es d = FitsTwice (λ x. IsFreeVariable es x d) (λ f p. Fits es f p d)
 
--- It has them in two ways.
-pub record IsLoose (es : List Entry) (d : Declaration) : Type 0 where
-  pub first : Frees
-  pub second : Frees
-  pub first_omitted : List Skeleton
-  pub second_omitted : List Skeleton
-  pub first_fits : Fits es first first_omitted d
-  pub second_fits : Fits es second second_omitted d
-  pub differ : AreSame es d first second first_omitted second_omitted → ⊥
-
--- It has them in no way.
 abbrev pub IsClash : List Entry → Declaration → Type 0
-IsClash es d = (f : Frees) (o : List Skeleton) → Fits es f o d → ⊥
+IsClash es d = NeverFits (λ f p. Fits es f p d)
 
 -- Why a declaration is refused.
 abbrev pub HasCause : List Entry → Declaration → ApproxFault → Type 0
@@ -72,6 +85,31 @@ HasCause es d (TypeLevel (Some p)) = (unknown_in es d ≡ []) × (is_type_defini
 HasCause es d Clash = IsOfObjects es d × IsClash es d
 HasCause es d Loose = IsOfObjects es d × IsLoose es d
 HasCause es d NoMemory = Unit {0}
+
+-- Queries, by their goals
+
+-- each name is known, and no lambda stands at the level of types
+pub record IsQueryOfObjects (es : List Entry) (A : Term) : Type 0 where
+  pub known : unknown_names es [] A ≡ []
+  pub no_lambda : lambdas_in_type A ≡ []
+
+abbrev pub HasQuerySkeletons : List Entry → Term → Rows → List Skeleton → Type 0
+HasQuerySkeletons es A rows o = FitsOnce (λ x. IsFreeIn es x [] A) (λ f p. FitsQuery es f p A) rows o
+
+abbrev pub IsLooseQuery : List Entry → Term → Type 0
+IsLooseQuery es A = FitsTwice (λ x. IsFreeIn es x [] A) (λ f p. FitsQuery es f p A)
+
+abbrev pub IsQueryClash : List Entry → Term → Type 0
+IsQueryClash es A = NeverFits (λ f p. FitsQuery es f p A)
+
+-- Why a query with this goal is refused.
+abbrev pub HasQueryCause : List Entry → Term → ApproxFault → Type 0
+HasQueryCause es A (Unknown name place) = IsFirst (record { name = name; at = place }) (unknown_names es [] A)
+HasQueryCause es A (TypeLevel None) = ⊥
+HasQueryCause es A (TypeLevel (Some p)) = (unknown_names es [] A ≡ []) × IsEarliest p (lambdas_in_type A)
+HasQueryCause es A Clash = IsQueryOfObjects es A × IsQueryClash es A
+HasQueryCause es A Loose = IsQueryOfObjects es A × IsLooseQuery es A
+HasQueryCause es A NoMemory = Unit {0}
 
 -- the rows that values of the program stand for
 abbrev pub rows_of : List Row → Rows

@@ -154,3 +154,7 @@ module _ (es : List Entry) (f : Frees) where
   Fits o (define c A M b) = (s : Skeleton) × (definition_skeleton A M o ≡ Some (s, []))
   Fits o (prefer a x y) = ⊥
   Fits o (give fix names) = ⊥
+
+  -- The goal of a query is a type, and the same of it.
+  abbrev pub FitsQuery : List Skeleton → Term → Type 0
+  FitsQuery o A = (s : Skeleton) × (type_skeleton [] [] A o ≡ Some (s, []))

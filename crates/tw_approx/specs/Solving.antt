@@ -2,14 +2,15 @@
 use Rattle.std.specs.Prelude.{◌≡◌, ◌≢◌, ℕ, List, [], ◌∷◌, map, reverse, Option, None, Some, ◌⊎◌, ◌↔◌}
 use Rattle.lf.specs.Entries.{Entry}
 use Rattle.lf.specs.Syntax.{Skeleton}
-use Rattle.tw_approx.specs.Answer.{rows_of}
+use Rattle.tw_approx.specs.Answer.{Rows}
 use Rattle.tw_approx.specs.Names.{IsFreeIn, IsFreeInType}
 use Rattle.tw_approx.specs.Reading.{IsRead}
 use Rattle.tw_approx.specs.Skeletons.{Frees, definition_skeleton}
 use Rattle.tw_approx.specs.Walks.{Assignment, State, Variables, empty_state, HasVariable, Agrees, IsSound}
-use Rattle.tw_approx.specs.declared.approximation.Row.{Row}
+use Rattle.tw_approx.specs.declared.fault.ApproxFault.{ApproxFault}
+use Rattle.tw_approx.specs.declared.fault.ApproxFault.TheVariants.{Loose, NoMemory}
 use Rattle.tw_parse.specs.Syntax.{Term}
-use Rattle.tw_shapes.specs.Shapes.{Store, Solves}
+use Rattle.tw_shapes.specs.Shapes.{Store, Solves, HasSolution}
 use Rattle.tw_shapes.specs.declared.shape.Shape.{Shape}
 
 -- The solutions of the state's store are the ways in which something fits.
@@ -18,10 +19,6 @@ pub record IsFound (Fit : Frees → List Skeleton → Type 0) (F : List ℕ → 
   pub free : (x : List ℕ) → HasVariable x t.variables ↔ F x
   pub fits : (f : Frees) (θ : Assignment) → Solves θ t.store → Agrees f θ t.variables → Fit f (map θ t.omitted)
   pub every : (f : Frees) (p : List Skeleton) → Fit f p → (θ : Assignment) × Solves θ t.store × Agrees f θ t.variables × (p ≡ map θ t.omitted)
-
--- it fits in no way
-abbrev pub NeverFits : (Frees → List Skeleton → Type 0) → Type 0
-NeverFits Fit = (f : Frees) (p : List Skeleton) → Fit f p → ⊥
 
 -- two solutions differ at one of these
 pub record AreOpen (s : Store) (ms : List ℕ) : Type 0 where
@@ -41,6 +38,18 @@ RowsAreAlways s xs rows = (θ : Assignment) → Solves θ s → map (λ p. (p.0,
 
 abbrev pub numbers_of : Variables → List ℕ
 numbers_of xs = map (λ p. p.1) xs
+
+-- there is a solution, and each gives these skeletons
+pub record IsSolved (t : State) (rows : Rows) (ks : List Skeleton) : Type 0 where
+  pub solution : HasSolution t.store
+  pub free : RowsAreAlways t.store (reverse t.variables) rows
+  pub omitted : AreAlways t.store t.omitted ks
+
+-- two solutions differ, or memory is wanting
+abbrev pub IsLeftOpen : State → ApproxFault → Type 0
+IsLeftOpen t Loose = AreOpen t.store t.omitted ⊎ AreOpen t.store (numbers_of (reverse t.variables))
+IsLeftOpen t NoMemory = Unit {0}
+IsLeftOpen t _ = ⊥
 
 -- of a definition with its type, if one is written
 abbrev pub DefinitionIsRead : List Entry → State → State → Option Term → Term → Option Shape → Type 0

@@ -1,13 +1,13 @@
 //! The skeletons of a declaration.
 ghost use Rattle.std.specs.Prelude.{◌≡◌, [], map, true, false, Some, None, IfOk, IfErr, MatchOption, option_map};
-ghost use Rattle.tw_approx.specs.Answer.{rows_of, IsOfObjects, HasSkeletons, HasCause};
+ghost use Rattle.tw_approx.specs.Answer.{rows_of, IsOfObjects, HasSkeletons, HasCause, NeverFits};
 ghost use Rattle.tw_approx.specs.Levels.{is_type_definition, earliest, type_lambdas, lambdas_in_written};
 ghost use Rattle.tw_approx.specs.Names.{IsFreeVariable, IsFreeIn};
 ghost use Rattle.tw_approx.specs.Reading.{state_of};
 ghost use Rattle.tw_approx.specs.Skeletons.{Fits, FitsClassifier};
 ghost use Rattle.tw_explicit.specs.Answer.{ends_in_type};
 ghost use Rattle.tw_explicit.specs.Earliest.{earliest as first_mention};
-ghost use Rattle.tw_approx.specs.Solving.{IsFound, NeverFits, FitsDefinition, IsFreeInDefinition, DefinitionIsRead};
+ghost use Rattle.tw_approx.specs.Solving.{IsFound, IsSolved, IsLeftOpen, FitsDefinition, IsFreeInDefinition, DefinitionIsRead};
 ghost use Rattle.tw_approx.specs.Walks.{empty_state};
 ghost use Rattle.tw_explicit.specs.Unknown.{unknown_in};
 ghost use Rattle.tw_parse.specs.View.{term_of, declaration_of};
@@ -59,9 +59,17 @@ pub fn approximate(
 {
     known(alloc, signature, decl)?;
     of_objects(alloc, signature, decl)?;
-    let Some(walk) = found(alloc, signature, decl)? else {
-        return Err(ApproxFault::Clash);
-    };
+    match found(alloc, signature, decl)? {
+        Some(walk) => solved(alloc, &walk),
+        None => Err(ApproxFault::Clash),
+    }
+}
+
+/// The skeletons that each solution of a walk gives.
+pub fn solved(alloc: Global, walk: &Walk) -> Result<Approx, ApproxFault>
+    ensures solved { IfOk result (λ a. IsSolved (state_of walk.now) (rows_of a.free.items) (map skeleton_of a.omitted.items)) }
+    ensures open { IfErr result (IsLeftOpen (state_of walk.now)) }
+{
     let Some(omitted) = solved_all(alloc, &walk.shapes, &walk.omitted)? else {
         return Err(ApproxFault::Loose);
     };
@@ -187,7 +195,8 @@ fn family(alloc: Global, signature: &Signature, term: &ExtTerm) -> Result<Option
     }
 }
 
-fn constant(
+/// The same of a written type.
+pub fn constant(
     alloc: Global,
     signature: &Signature,
     term: &ExtTerm,

@@ -1,4 +1,4 @@
-//! Skeletons of declarations: the first pass of reconstruction.
+//! Skeletons of declarations and queries: the first pass of reconstruction.
 //!
 //! A skeleton is a type without its indices. What is written tells some skeletons, and equations between them tell more; what isn't written has a variable until then.
 #![tactic(auto)]
@@ -10,6 +10,8 @@ mod family;
 mod fault;
 #[tactic(auto, using(crate::proofs::Places::places))]
 mod levels;
+#[tactic(auto, using(crate::proofs::Places::places))]
+mod query;
 #[tactic(auto, using(crate::proofs::Spines::spines))]
 mod skeletons;
 #[tactic(auto, using(crate::proofs::Views::shapes))]
@@ -20,6 +22,7 @@ mod walk;
 
 pub use approximation::{Approx, Row, approximate};
 pub use fault::ApproxFault;
+pub use query::approximate_query;
 
 #[cfg(test)]
 mod tests;

@@ -1,11 +1,11 @@
 //! Expected values are worked out by hand.
-use crate::{Approx, ApproxFault, approximate};
+use crate::{Approx, ApproxFault, approximate, approximate_query};
 use std::alloc::{AllocError, Global};
 use std::test::Fail;
 use tw_explicit::complete;
 use tw_fixity::{FixTable, Name};
 use tw_lexer::{Place, lex};
-use tw_parse::{ExtDecl, parse_decl};
+use tw_parse::{ExtDecl, ExtQuery, parse_decl, parse_query};
 use tw_signature::Signature;
 use tw_terms::Skeleton;
 
@@ -85,16 +85,16 @@ fn push_found(line: &mut String, signature: &Signature, found: &Approx) -> Resul
     Ok(())
 }
 
-fn answer(alloc: Global, signature: &Signature, text: &str) -> Result<String, AllocError> {
-    let Some(decl) = read(alloc, text) else {
-        return String::from_str(alloc, "not read");
-    };
-    let mut line = String::new(alloc);
-    match approximate(alloc, signature, &decl) {
-        Ok(found) => push_found(&mut line, signature, &found)?,
+fn push_answer(
+    line: &mut String,
+    signature: &Signature,
+    answer: Result<Approx, ApproxFault>,
+) -> Result<(), AllocError> {
+    match answer {
+        Ok(found) => push_found(line, signature, &found)?,
         Err(ApproxFault::Unknown(name, at)) => {
             line.push_str("unknown ")?;
-            push_name(&mut line, &name)?;
+            push_name(line, &name)?;
             write!(line, " {}:{}", at.line, at.column)?;
         }
         Err(ApproxFault::TypeLevel(None)) => line.push_str("type level")?,
@@ -105,6 +105,38 @@ fn answer(alloc: Global, signature: &Signature, text: &str) -> Result<String, Al
         Err(ApproxFault::Loose) => line.push_str("loose")?,
         Err(ApproxFault::NoMemory) => line.push_str("no memory")?,
     }
+    Ok(())
+}
+
+fn answer(alloc: Global, signature: &Signature, text: &str) -> Result<String, AllocError> {
+    let Some(decl) = read(alloc, text) else {
+        return String::from_str(alloc, "not read");
+    };
+    let mut line = String::new(alloc);
+    push_answer(&mut line, signature, approximate(alloc, signature, &decl))?;
+    Ok(line)
+}
+
+fn read_query(alloc: Global, text: &str) -> Option<ExtQuery> {
+    let bytes = text.as_bytes();
+    if bytes.len() >= 1_000_000 {
+        return None;
+    }
+    let fixities = FixTable::new(alloc);
+    let tokens = lex(alloc, bytes, 0, Place { line: 1, column: 1 }).ok()?;
+    parse_query(alloc, &tokens, bytes, &fixities).ok()
+}
+
+fn answer_query(alloc: Global, signature: &Signature, text: &str) -> Result<String, AllocError> {
+    let Some(query) = read_query(alloc, text) else {
+        return String::from_str(alloc, "not read");
+    };
+    let mut line = String::new(alloc);
+    push_answer(
+        &mut line,
+        signature,
+        approximate_query(alloc, signature, &query),
+    )?;
     Ok(line)
 }
 
@@ -208,6 +240,47 @@ fn faults_are_told(rt: HostRuntime) -> Result<(), Fail> {
     ];
     for (text, want) in rows {
         let line = answer(alloc, &signature, text)?;
+        assert_eq!(rt; line.as_str(), want, "{text}");
+    }
+    Ok(())
+}
+
+#[test]
+fn skeletons_of_queries_are_found(rt: HostRuntime) -> Result<(), Fail> {
+    let alloc = rt.alloc();
+    let signature = numbers(alloc)?.ok_or("not declared")?;
+    let rows = [
+        ("nat.", "found"),
+        ("X : vec z.", "found"),
+        ("vec X -> len Y.", "found X:nat Y:vec"),
+        ("len Y -> vec X.", "found Y:vec X:nat"),
+        ("X : vec (Y _) -> nat.", "loose"),
+        ("X : vec (lam Y) -> vec _.", "found Y:(nat>nat) _:nat"),
+        ("{x} vec x.", "found _:nat"),
+        ("(vec X : type).", "found X:nat"),
+        ("vec X : type.", "found X:nat"),
+        ("vec (X : nat).", "found X:nat"),
+        // a name first, and then a lambda
+        ("type -> [x:foo] _ -> bar.", "unknown foo 1:12"),
+        ("X : [x:nat] vec nat.", "type level 1:5"),
+        ("vec z -> [x:nat] [y] type.", "type level 1:10"),
+        ("vec ([x:nat] x).", "clash"),
+        // no type
+        ("type.", "clash"),
+        ("nat -> type.", "clash"),
+        ("{x:_} vec z -> type.", "clash"),
+        ("(type : X).", "clash"),
+        ("vec.", "clash"),
+        ("z.", "clash"),
+        ("(X : nat).", "clash"),
+        ("X : Y.", "clash"),
+        ("vec X -> len X.", "clash"),
+        ("_.", "loose"),
+        ("X : _ -> nat.", "loose"),
+        ("vec (X Y).", "loose"),
+    ];
+    for (text, want) in rows {
+        let line = answer_query(alloc, &signature, text)?;
         assert_eq!(rt; line.as_str(), want, "{text}");
     }
     Ok(())

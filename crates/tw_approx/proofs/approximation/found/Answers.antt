@@ -1,8 +1,9 @@
 use Rattle.std.proofs.Common.{IfOk, MatchOption, sym, subst}
+use Rattle.tw_approx.specs.Answer.{NeverFits}
 use Rattle.tw_approx.specs.Names.{IsFreeVariable}
 use Rattle.tw_approx.specs.Reading.{state_of}
 use Rattle.tw_approx.specs.Skeletons.{Fits}
-use Rattle.tw_approx.specs.Solving.{IsFound, NeverFits}
+use Rattle.tw_approx.specs.Solving.{IsFound}
 use Rattle.tw_parse.specs.View.{declaration_of}
 use Rattle.tw_approx.proofs.approximation.found.Goals as goal
 

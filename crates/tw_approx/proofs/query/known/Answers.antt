@@ -1,0 +1,11 @@
+use Rattle.std.proofs.Common.{[], sym, ◌∙◌}
+use Rattle.tw_parse.specs.View.{term_of}
+use Rattle.tw_explicit.specs.Unknown.{unknown_names}
+use Rattle.tw_explicit.proofs.Order.{earliest_is_first, none_is_empty}
+use Rattle.tw_approx.proofs.query.known.Goals as goal
+
+pub returns-in-Some-clause-refused : goal.returns-in-Some-clause-refused
+returns-in-Some-clause-refused c = earliest_is_first (unknown_names c.args.signature.now [] (term_of c.args.goal.now)) c.in-Some.field-0 (sym c.in_ok-name.ensures ∙ c.in-Some.is)
+
+pub returns-in-None-clause-known : goal.returns-in-None-clause-known
+returns-in-None-clause-known c = none_is_empty (unknown_names c.args.signature.now [] (term_of c.args.goal.now)) (sym c.in_ok-name.ensures ∙ c.in-None.is)
