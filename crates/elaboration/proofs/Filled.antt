@@ -22,7 +22,7 @@ use Rattle.elaboration.specs.Elaboration.{Checks, ElaboratesDomain, ElaboratesFa
 use Rattle.elaboration.specs.Completions.{Completes, CompletesDomain, CompletesFamily, CompletesKind, CompletesType, FreeValue, KindTakesAny, TakesAny, any_next, any_none, applied_completed, arrow_completed, ascribed_completed, ascribed_type_completed, bound_completed, constant_completed, definition_completed, family_applied_completed, family_ascribed_completed, family_completed, family_name_completed, free_completed, function_completed, hole_completed, kind_any_next, kind_any_none, kind_arrow_completed, kind_quantified_completed, quantified_completed, skeleton_completed, star_completed, type_completed, type_hole_completed}
 use Rattle.elaboration.specs.Skeletons.{StateHasSkeletons}
 use Rattle.elaboration.specs.State.{State, kind_equations, type_equations, with_equations, with_metavariable}
-use Rattle.elaboration.specs.Written.{Written, WrittenDomain, WrittenKind, WrittenType, applied, arrow, family_applied, free, kind_arrow}
+use Rattle.elaboration.specs.Written.{Place, Written, WrittenDomain, WrittenKind, WrittenType, applied, arrow, family_applied, free, kind_arrow}
 use Rattle.elaboration.proofs.Adds.{Grows, adds_equations, adds_metavariable, checks_adds, domain_adds, family_adds, infers_adds, kind_adds, kind_takes_adds, new_type_adds, takes_adds, type_adds}
 use Rattle.elaboration.proofs.Meeting.{fill_expand_constant, filled, free_at, free_type_at, in_scope, κ_of}
 use Rattle.elaboration.proofs.Skeletons.{entry_typed, kind_declared, type_declared}
@@ -182,8 +182,8 @@ module _ (es : List Entry) (canonical : IsCanonicalSignature es) (z : State) (zs
   completes_at : {G : List LfType} {M : Written} {R R' : Term} {A A' : LfType} → R ≡ R' → A ≡ A' → Completes es F values G M R A → Completes es F values G M R' A'
   completes_at {G = G} {M = M} {R = R} {A' = A'} p q c = subst (λ x. Completes es F values G M x A') p (subst (Completes es F values G M R) q c)
 
-  free_filled : (D : List LfType) (i m : ℕ) (B : LfType) → slice_get frees i ≡ Some m → Ψ m ≡ Some B → Completes es F values (E D) (free i) (the_term D (eta_long (skeleton B) (metavariable m))) (the_type D (weaken_past D B))
-  free_filled D i m B f e =
+  free_filled : (D : List LfType) (at : Place) (i m : ℕ) (B : LfType) → slice_get frees i ≡ Some m → Ψ m ≡ Some B → Completes es F values (E D) (free i at) (the_term D (eta_long (skeleton B) (metavariable m))) (the_type D (weaken_past D B))
+  free_filled D at i m B f e =
       let (v, p, y, q) = fv i m f in
       completes_at (ap (λ ρ. rename ρ v.term) (beyond_filled μ β D) ∙ sym (free_at Σ ok F frees values z D β m B v.term sol.0 e y))
       (past_filled μ β D v.of_type ∙ ap (weaken_past D) (sym (q B e)) ∙ sym (free_type_at Σ ok F frees values z D β B)) (free_completed p)
@@ -203,7 +203,7 @@ module _ (es : List Entry) (canonical : IsCanonicalSignature es) (z : State) (zs
 
   mutual
     pub infers_filled : {D : List LfType} {M : Written} {s s' : State} {R : Term} {A : LfType} → Infers es frees D M s s' R A → IsNumbered s → W s' → Locals D → T s → Completes es F values (E D) M (the_term D R) (the_type D A)
-    infers_filled {D = D} (at_free {i = i} {m = m} {B = B} f e) n w l t = free_filled D i m B f (w.declares m B e)
+    infers_filled {D = D} (at_free {at = at} {i = i} {m = m} {B = B} f e) n w l t = free_filled D at i m B f (w.declares m B e)
     infers_filled {D = D} (at_bound {i = i} {A = A} g) n w l t = completes_at (ap (λ t. eta_long t (variable i)) (skeleton_fill μ (under_locals D β) A) ∙ sym (fill_expand μ (skeleton A) (under_locals D β) i nil)) refl (bound_completed (local_filled μ β D i A g))
     infers_filled {D = D} (at_constant {c = c} {e = e} {B = B} {A = A} {S = S} q b x) n w l t =
         let k : Σ.types c ≡ Some B = type_declared es c e B q b in

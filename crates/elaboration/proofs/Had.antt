@@ -83,10 +83,10 @@ module _ (es : List Entry) (canonical : IsCanonicalSignature es) (fs : List Skel
 
     -- a family on arguments, all of them
     whole_family : (Γ : List Skeleton) (V : WrittenType) (a : ℕ) → IsFamilyForm es V → FamilyHasSkeleton es fs Γ V a (base a) → WrittenTypeHasSkeleton es fs Γ V (base a)
-    whole_family Γ (family c) a i h = h
+    whole_family Γ (family c at) a i h = h
     whole_family Γ (family_applied V P) a i h = h
     whole_family Γ (family_ascribed V k) a i h = absurd i
-    whole_family Γ (type_hole u) a i h = absurd i
+    whole_family Γ (type_hole u at) a i h = absurd i
     whole_family Γ (arrow V W) a i h = absurd i
     whole_family Γ (quantified d V) a i h = absurd i
 

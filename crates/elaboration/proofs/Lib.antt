@@ -23,3 +23,4 @@ pub mod Principal
 pub mod Reordered
 pub mod Determined
 pub mod Placed
+pub mod Counted

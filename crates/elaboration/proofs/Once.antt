@@ -63,7 +63,7 @@ module _ (es : List Entry) where
 
   -- what is a family on arguments, and not ascribed
   abbrev pub IsFamilyForm : WrittenType → Type 0
-  IsFamilyForm (family a) = Unit {0}
+  IsFamilyForm (family a at) = Unit {0}
   IsFamilyForm (family_applied V P) = Unit {0}
   IsFamilyForm V = ⊥
 

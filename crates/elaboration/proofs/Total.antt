@@ -18,7 +18,7 @@ use Rattle.unification.proofs.OpenSound.{skeleton_raise}
 use Rattle.elaboration.specs.Elaboration.{Checks, ElaboratesDomain, ElaboratesFamily, ElaboratesKind, ElaboratesType, Infers, IsInferred, KindTakesNew, NewType, TakesAllNew, TakesNew, takes_none, takes_next, kind_takes_none, kind_takes_next, takes_all, takes_first, new_atom, new_pi, at_free, at_bound, at_constant, at_definition, at_hole, at_function, at_applied, at_ascribed, checks_hole, checks_function, checks_typed, checks_inferred, at_type_hole, at_arrow, at_quantified, at_family, at_type_ascribed, at_of_skeleton, at_of_type, at_family_name, at_family_applied, at_family_ascribed, at_star, at_kind_arrow, at_kind_quantified}
 use Rattle.elaboration.specs.Skeletons.{KindHasSkeletons, StateHasSkeletons, TermHasSkeleton, TypeHasSkeletons}
 use Rattle.elaboration.specs.State.{State, kind_equations, type_equations, with_equations, with_metavariable}
-use Rattle.elaboration.specs.Written.{Written, WrittenDomain, WrittenKind, WrittenType, applied, arrow, ascribed, bound, declared, family, family_applied, family_ascribed, free, function, hole, kind_arrow, kind_quantified, of_skeleton, of_type, quantified, type_hole, written_star}
+use Rattle.elaboration.specs.Written.{Place, Written, WrittenDomain, WrittenKind, WrittenType, applied, arrow, ascribed, bound, declared, family, family_applied, family_ascribed, free, function, hole, kind_arrow, kind_quantified, of_skeleton, of_type, quantified, type_hole, written_star}
 use Rattle.elaboration.specs.WrittenSkeletons.{DomainHasSkeleton, FamilyHasSkeleton, IsArrow, KindHasSkeleton, LeavesSkeleton, SkeletonIsDeclared, Stands, WrittenHasSkeleton, WrittenTypeHasSkeleton, type_in_terms}
 use Rattle.elaboration.proofs.Adds.{Grows, adds_equations, domain_adds, family_adds, infers_adds, kind_adds, type_adds}
 use Rattle.elaboration.proofs.Skeletons.{domain_skeletons, family_skeletons_of, infers_skeletons, kind_skeletons, local_grows, more_equations, new_type_skeletons, type_equations_have, type_grows, type_skeletons}
@@ -130,10 +130,10 @@ module _ (es : List Entry) (canonical : IsCanonicalSignature es) (fs : List Skel
   checked_by : (M : Written) → IsInferred M → AllInferred M → AllChecked M
   checked_by M n f D s A w a h = let (s', R, X, d, e) = f D s (skeleton A) w h in (with_equations (type_equations Σ D X A) s', R, checks_inferred n d e)
 
-  name_total : (c : ℕ) → AllInferred (declared c)
-  name_total c D s t w (e, B, q, v, l) = go (name_in_terms e.body B v) (takes_total e.implicit D B s t l)
+  name_total : (c : ℕ) (at : Place) → AllInferred (declared c at)
+  name_total c at D s t w (e, B, q, v, l) = go (name_in_terms e.body B v) (takes_total e.implicit D B s t l)
     where
-      go : (e.body ≡ declare_constant B) ⊎ ((N : Term) × (d : Bool) × (e.body ≡ declare_definition N B d)) → ((s' : State) × (S : Spine) × (C : LfType) × TakesNew e.implicit D B s s' S C × (skeleton C ≡ t)) → InfersTo D (declared c) s t
+      go : (e.body ≡ declare_constant B) ⊎ ((N : Term) × (d : Bool) × (e.body ≡ declare_definition N B d)) → ((s' : State) × (S : Spine) × (C : LfType) × TakesNew e.implicit D B s s' S C × (skeleton C ≡ t)) → InfersTo D (declared c at) s t
       go (inl b) (s', S, C, x, p) = (s', eta_expand (skeleton C) (constant c) S, C, at_constant q b x, p)
       go (inr (N, d, b)) (s', S, C, x, p) = (s', reduce (skeleton B) N S, C, at_definition q b x, p)
 
@@ -166,8 +166,8 @@ module _ (es : List Entry) (canonical : IsCanonicalSignature es) (fs : List Skel
   ascribed_total D V k s s' s'' a S star L t x y e f i = absurd (subst IsArrow (sym f) i)
   ascribed_total D V k s s' s'' a S (kind_pi A K) L t x y e f i = (with_equations (kind_equations Σ D (kind_pi A K) L) s'', S, kind_pi A K, at_family_ascribed x y (same_kind_skeleton a (kind_pi A K) L (f ∙ sym e)), f)
 
-  skeleton_domain : (u : Skeleton) → AllDomains (of_skeleton u)
-  skeleton_domain u D s t w h = let (s', A, x) = new_type_total u D s h.1 in (s', A, at_of_skeleton x, (new_type_skeletons es canonical x w.state w.local).2 ∙ h.0)
+  skeleton_domain : (u : Skeleton) (at : Place) → AllDomains (of_skeleton u at)
+  skeleton_domain u at D s t w h = let (s', A, x) = new_type_total u D s h.1 in (s', A, at_of_skeleton x, (new_type_skeletons es canonical x w.state w.local).2 ∙ h.0)
 
   type_domain : (V : WrittenType) → AllTypes V → AllDomains (of_type V)
   type_domain V f D s t w h = let (s', A, x, e) = f D s t w h in (s', A, at_of_type x, e)
@@ -180,9 +180,9 @@ module _ (es : List Entry) (canonical : IsCanonicalSignature es) (fs : List Skel
       let (s'', R, B, z, i) = g (A ∷ D) s' b (stands_under s' D A y (stands_behind s s' D (domain_adds es frees x w.state.numbered) k w)) (subst (λ v. WrittenHasSkeleton es fs (v ∷ local_skeletons D []) M b) (sym e) h.1) in
       (s'', lambda R, pi A B, at_function x z, ap₂ arrow_skeleton e i)
 
-  function_checked : (u : Skeleton) (M : Written) → AllChecked M → AllChecked (function (of_skeleton u) M)
-  function_checked u M g D s (atom a S) w x h = absurd h
-  function_checked u M g D s (pi A B) w x h = let (s', R, c) = g (A ∷ D) s B (stands_under s D A x.0 w) x.1 h.1 in (s', lambda R, checks_function h.0.0 c)
+  function_checked : (u : Skeleton) (at : Place) (M : Written) → AllChecked M → AllChecked (function (of_skeleton u at) M)
+  function_checked u at M g D s (atom a S) w x h = absurd h
+  function_checked u at M g D s (pi A B) w x h = let (s', R, c) = g (A ∷ D) s B (stands_under s D A x.0 w) x.1 h.1 in (s', lambda R, checks_function h.0.0 c)
 
   typed_function_checked : (V : WrittenType) (M : Written) → AllTypes V → AllChecked M → AllChecked (function (of_type V) M)
   typed_function_checked V M f g D s (atom a S) w x h = absurd h
@@ -215,16 +215,16 @@ module _ (es : List Entry) (canonical : IsCanonicalSignature es) (fs : List Skel
       let (s'', B, z, i) = g D s' b (stands_behind s s' D (type_adds es frees x w.state.numbered) k w) h.1 in
       (s'', pi A (weaken B), at_arrow x z, ap₂ arrow_skeleton e (skeleton_renamed suc B ∙ i))
 
-  family_total : (c : ℕ) → AllFamilies (family c)
-  family_total c D s a t w (e, (en, K, q, b, l)) =
+  family_total : (c : ℕ) (at : Place) → AllFamilies (family c at)
+  family_total c at D s a t w (e, (en, K, q, b, l)) =
       let (s', S, L, x, p) = kind_takes_total c en.implicit D K s t l in
-      (s', S, L, subst (λ a. ElaboratesFamily es frees D (family c) s s' a S L) e (at_family_name q b x), subst (λ a. kind_skeleton a L ≡ t) e p)
+      (s', S, L, subst (λ a. ElaboratesFamily es frees D (family c at) s s' a S L) e (at_family_name q b x), subst (λ a. kind_skeleton a L ≡ t) e p)
 
-  family_name_type : (c : ℕ) → AllTypes (family c)
-  family_name_type c D s (arrow_skeleton a b) w h = absurd h
-  family_name_type c D s (base a) w h =
-      let (s', S, L, x, p) = family_total c D s a (base a) w h in
-      (s', atom a S, family_type D (family c) s s' a S L x (only_star a a L p), refl)
+  family_name_type : (c : ℕ) (at : Place) → AllTypes (family c at)
+  family_name_type c at D s (arrow_skeleton a b) w h = absurd h
+  family_name_type c at D s (base a) w h =
+      let (s', S, L, x, p) = family_total c at D s a (base a) w h in
+      (s', atom a S, family_type D (family c at) s s' a S L x (only_star a a L p), refl)
 
   applied_family : (V : WrittenType) (P : Written) → AllFamilies V → AllChecked P → AllFamilies (family_applied V P)
   applied_family V P f g D s a t w (x, h, i) =
@@ -269,20 +269,20 @@ module _ (es : List Entry) (canonical : IsCanonicalSignature es) (fs : List Skel
   mutual
     -- THE theorem
     pub term_total : (M : Written) → AllInferred M × AllChecked M
-    term_total (free i) =
-        let f : AllInferred (free i) = λ D s t w h. let (m, B, g, e, k) = w.free_variables.each i t h in (s, eta_long (skeleton B) (metavariable m), weaken_past D B, at_free g e, skeleton_raise D B ∙ k) in
-        (f, checked_by (free i) tt f)
+    term_total (free i at) =
+        let f : AllInferred (free i at) = λ D s t w h. let (m, B, g, e, k) = w.free_variables.each i t h in (s, eta_long (skeleton B) (metavariable m), weaken_past D B, at_free g e, skeleton_raise D B ∙ k) in
+        (f, checked_by (free i at) tt f)
     term_total (bound i) =
         let f : AllInferred (bound i) = λ D s t w h. let (A, g, e) = local_of_skeleton D i t h in (s, eta_long (skeleton A) (variable i), A, at_bound g, e) in
         (f, checked_by (bound i) tt f)
-    term_total (declared c) = (name_total c, checked_by (declared c) tt (name_total c))
-    term_total (hole u) = (
+    term_total (declared c at) = (name_total c at, checked_by (declared c at) tt (name_total c at))
+    term_total (hole u at) = (
       (λ D s t w h. let (s', A, x) = new_type_total u D s h.1 in (with_metavariable D A s', raised D A s'.next, A, at_hole x, (new_type_skeletons es canonical x w.state w.local).2 ∙ h.0)),
       (λ D s A w a h. (with_metavariable D A s, raised D A s.next, checks_hole h.0)),
     )
-    term_total (function (of_skeleton u) M) =
+    term_total (function (of_skeleton u at) M) =
         let m : AllInferred M × AllChecked M = term_total M in
-        (function_inferred (of_skeleton u) M (skeleton_domain u) m.0, function_checked u M m.1)
+        (function_inferred (of_skeleton u at) M (skeleton_domain u at) m.0, function_checked u at M m.1)
     term_total (function (of_type V) M) =
         let m : AllInferred M × AllChecked M = term_total M in
         let v : AllTypes V × AllFamilies V = type_total V in
@@ -306,17 +306,17 @@ module _ (es : List Entry) (canonical : IsCanonicalSignature es) (fs : List Skel
         (f, checked_by (ascribed M V) tt f)
 
     pub domain_total : (d : WrittenDomain) → AllDomains d
-    domain_total (of_skeleton u) = skeleton_domain u
+    domain_total (of_skeleton u at) = skeleton_domain u at
     domain_total (of_type V) = type_domain V (type_total V).0
 
     pub type_total : (V : WrittenType) → AllTypes V × AllFamilies V
-    type_total (type_hole u) = (
+    type_total (type_hole u at) = (
       (λ D s t w h. let (s', A, x) = new_type_total u D s h.1 in (s', A, at_type_hole x, (new_type_skeletons es canonical x w.state w.local).2 ∙ h.0)),
       (λ D s a t w h. absurd h),
     )
     type_total (arrow V W) = (arrow_total V W (type_total V).0 (type_total W).0, (λ D s a t w h. absurd h))
     type_total (quantified d V) = (quantified_total d V (domain_total d) (type_total V).0, (λ D s a t w h. absurd h))
-    type_total (family c) = (family_name_type c, family_total c)
+    type_total (family c at) = (family_name_type c at, family_total c at)
     type_total (family_applied V P) =
         let f : AllFamilies (family_applied V P) = applied_family V P (type_total V).1 (term_total P).1 in
         (applied_family_type V P f, f)

@@ -6,7 +6,7 @@ use Rattle.lf.specs.Substitution.{reduce, single, substitute}
 use Rattle.lf.specs.Syntax.{constant, variable, Term, Spine, lambda, nil, app, LfType, pi, atom, Kind, kind_pi, star, Skeleton, skeleton, weaken, rename, rename_kind}
 use Rattle.lf.specs.Typing.{HasType, IsType, TypeAt, instantiate_kind, instantiate_type}
 use Rattle.lf.specs.Variables.{onto}
-use Rattle.elaboration.specs.Written.{Written, WrittenDomain, WrittenType, WrittenKind, free, bound, declared, hole, function, applied, ascribed, of_skeleton, of_type, type_hole, arrow, quantified, family, family_applied, family_ascribed, written_star, kind_arrow, kind_quantified}
+use Rattle.elaboration.specs.Written.{Place, Written, WrittenDomain, WrittenType, WrittenKind, free, bound, declared, hole, function, applied, ascribed, of_skeleton, of_type, type_hole, arrow, quantified, family, family_applied, family_ascribed, written_star, kind_arrow, kind_quantified}
 use Rattle.unification.specs.OpenTyping.{weaken_past}
 use Rattle.unification.specs.Patterns.{beyond}
 
@@ -31,21 +31,21 @@ module _ (es : List Entry) (F : List LfType) where
     mutual
       -- a term with its type
       pub data Completes : List LfType → Written → Term → LfType → Type 0 where
-        free_completed : {D : List LfType} {i : ℕ} {v : FreeValue} → slice_get values i ≡ Some v → Completes D (free i) (rename (beyond D) v.term) (weaken_past D v.of_type)
+        free_completed : {D : List LfType} {at : Place} {i : ℕ} {v : FreeValue} → slice_get values i ≡ Some v → Completes D (free i at) (rename (beyond D) v.term) (weaken_past D v.of_type)
         bound_completed : {D : List LfType} {i : ℕ} {A : LfType} → TypeAt (onto D []) i A → Completes D (bound i) (eta_long (skeleton A) (variable i)) A
-        constant_completed : {D : List LfType} {c : ℕ} {e : Entry} {B A : LfType} {S : Spine} → entry es c ≡ Some e → e.body ≡ declare_constant B → TakesAny e.implicit D B S A → Completes D (declared c) (eta_expand (skeleton A) (constant c) S) A
-        definition_completed : {D : List LfType} {c : ℕ} {e : Entry} {N : Term} {B A : LfType} {b : Bool} {S : Spine} → entry es c ≡ Some e → e.body ≡ declare_definition N B b → TakesAny e.implicit D B S A → Completes D (declared c) (reduce (skeleton B) N S) A
-        hole_completed : {D : List LfType} {t : Skeleton} {R : Term} {A : LfType} → skeleton A ≡ t → IsType (signature_of es) (onto D F) A → HasType (signature_of es) (onto D F) R A → Completes D (hole t) R A
+        constant_completed : {D : List LfType} {at : Place} {c : ℕ} {e : Entry} {B A : LfType} {S : Spine} → entry es c ≡ Some e → e.body ≡ declare_constant B → TakesAny e.implicit D B S A → Completes D (declared c at) (eta_expand (skeleton A) (constant c) S) A
+        definition_completed : {D : List LfType} {at : Place} {c : ℕ} {e : Entry} {N : Term} {B A : LfType} {b : Bool} {S : Spine} → entry es c ≡ Some e → e.body ≡ declare_definition N B b → TakesAny e.implicit D B S A → Completes D (declared c at) (reduce (skeleton B) N S) A
+        hole_completed : {D : List LfType} {at : Place} {t : Skeleton} {R : Term} {A : LfType} → skeleton A ≡ t → IsType (signature_of es) (onto D F) A → HasType (signature_of es) (onto D F) R A → Completes D (hole t at) R A
         function_completed : {D : List LfType} {d : WrittenDomain} {M : Written} {A B : LfType} {R : Term} → CompletesDomain D d A → Completes (A ∷ D) M R B → Completes D (function d M) (lambda R) (pi A B)
         applied_completed : {D : List LfType} {M P : Written} {A B : LfType} {R Q : Term} → Completes D M (lambda R) (pi A B) → Completes D P Q A → Completes D (applied M P) (substitute reduce (single (skeleton A) Q) R) (instantiate_type A Q B)
         ascribed_completed : {D : List LfType} {M : Written} {U : WrittenType} {A : LfType} {R : Term} → CompletesType D U A → Completes D M R A → Completes D (ascribed M U) R A
 
       pub data CompletesDomain : List LfType → WrittenDomain → LfType → Type 0 where
-        skeleton_completed : {D : List LfType} {t : Skeleton} {A : LfType} → skeleton A ≡ t → IsType (signature_of es) (onto D F) A → CompletesDomain D (of_skeleton t) A
+        skeleton_completed : {D : List LfType} {at : Place} {t : Skeleton} {A : LfType} → skeleton A ≡ t → IsType (signature_of es) (onto D F) A → CompletesDomain D (of_skeleton t at) A
         type_completed : {D : List LfType} {U : WrittenType} {A : LfType} → CompletesType D U A → CompletesDomain D (of_type U) A
 
       pub data CompletesType : List LfType → WrittenType → LfType → Type 0 where
-        type_hole_completed : {D : List LfType} {t : Skeleton} {A : LfType} → skeleton A ≡ t → IsType (signature_of es) (onto D F) A → CompletesType D (type_hole t) A
+        type_hole_completed : {D : List LfType} {at : Place} {t : Skeleton} {A : LfType} → skeleton A ≡ t → IsType (signature_of es) (onto D F) A → CompletesType D (type_hole t at) A
         arrow_completed : {D : List LfType} {U V : WrittenType} {A B : LfType} → CompletesType D U A → CompletesType D V B → CompletesType D (arrow U V) (pi A (weaken B))
         quantified_completed : {D : List LfType} {d : WrittenDomain} {V : WrittenType} {A B : LfType} → CompletesDomain D d A → CompletesType (A ∷ D) V B → CompletesType D (quantified d V) (pi A B)
         family_completed : {D : List LfType} {U : WrittenType} {a : ℕ} {S : Spine} → CompletesFamily D U a S star → CompletesType D U (atom a S)
@@ -53,7 +53,7 @@ module _ (es : List Entry) (F : List LfType) where
 
       -- a family on arguments, and the kind that is left
       pub data CompletesFamily : List LfType → WrittenType → ℕ → Spine → Kind → Type 0 where
-        family_name_completed : {D : List LfType} {a : ℕ} {e : Entry} {K L : Kind} {S : Spine} → entry es a ≡ Some e → e.body ≡ declare_family K → KindTakesAny e.implicit D K S L → CompletesFamily D (family a) a S L
+        family_name_completed : {D : List LfType} {at : Place} {a : ℕ} {e : Entry} {K L : Kind} {S : Spine} → entry es a ≡ Some e → e.body ≡ declare_family K → KindTakesAny e.implicit D K S L → CompletesFamily D (family a at) a S L
         family_applied_completed : {D : List LfType} {U : WrittenType} {P : Written} {a : ℕ} {S : Spine} {A : LfType} {K : Kind} {Q : Term} → CompletesFamily D U a S (kind_pi A K) → Completes D P Q A → CompletesFamily D (family_applied U P) a (add_last S Q) (instantiate_kind A Q K)
         family_ascribed_completed : {D : List LfType} {U : WrittenType} {k : WrittenKind} {a : ℕ} {S : Spine} {A : LfType} {K : Kind} → CompletesKind D k (kind_pi A K) → CompletesFamily D U a S (kind_pi A K) → CompletesFamily D (family_ascribed U k) a S (kind_pi A K)
 

@@ -8,7 +8,7 @@ use Rattle.lf.specs.Syntax.{constant, variable, metavariable, Term, Spine, lambd
 use Rattle.lf.specs.Typing.{TypeAt, instantiate_kind, instantiate_type}
 use Rattle.lf.specs.Variables.{onto}
 use Rattle.elaboration.specs.State.{State, with_metavariable, with_equations, type_equations, kind_equations}
-use Rattle.elaboration.specs.Written.{Written, WrittenDomain, WrittenType, WrittenKind, free, bound, declared, hole, function, applied, ascribed, of_skeleton, of_type, type_hole, arrow, quantified, family, family_applied, family_ascribed, written_star, kind_arrow, kind_quantified}
+use Rattle.elaboration.specs.Written.{Place, Written, WrittenDomain, WrittenType, WrittenKind, free, bound, declared, hole, function, applied, ascribed, of_skeleton, of_type, type_hole, arrow, quantified, family, family_applied, family_ascribed, written_star, kind_arrow, kind_quantified}
 use Rattle.unification.specs.Offering.{raised}
 use Rattle.unification.specs.OpenTyping.{weaken_past}
 
@@ -34,7 +34,7 @@ pub data TakesAllNew : List LfType → Kind → State → State → Spine → Ty
 
 -- a term is inferred: neither a hole nor a function, whose types come from outside where one is expected
 abbrev pub IsInferred : Written → Type 0
-IsInferred (hole t) = ⊥
+IsInferred (hole t at) = ⊥
 IsInferred (function d M) = ⊥
 IsInferred _ = Unit {0}
 
@@ -54,14 +54,14 @@ module _ (es : List Entry) where
     mutual
       -- the type of a term is found
       pub data Infers : List LfType → Written → State → State → Term → LfType → Type 0 where
-        at_free : {D : List LfType} {i m : ℕ} {B : LfType} {s : State} → slice_get frees i ≡ Some m → s.metavariables m ≡ Some B → Infers D (free i) s s (eta_long (skeleton B) (metavariable m)) (weaken_past D B)
+        at_free : {D : List LfType} {at : Place} {i m : ℕ} {B : LfType} {s : State} → slice_get frees i ≡ Some m → s.metavariables m ≡ Some B → Infers D (free i at) s s (eta_long (skeleton B) (metavariable m)) (weaken_past D B)
         at_bound : {D : List LfType} {i : ℕ} {A : LfType} {s : State} → TypeAt (onto D []) i A → Infers D (bound i) s s (eta_long (skeleton A) (variable i)) A
-        at_constant : {D : List LfType} {c : ℕ} {e : Entry} {B A : LfType} {s s' : State} {S : Spine} →
-            entry es c ≡ Some e → e.body ≡ declare_constant B → TakesNew e.implicit D B s s' S A → Infers D (declared c) s s' (eta_expand (skeleton A) (constant c) S) A
+        at_constant : {D : List LfType} {at : Place} {c : ℕ} {e : Entry} {B A : LfType} {s s' : State} {S : Spine} →
+            entry es c ≡ Some e → e.body ≡ declare_constant B → TakesNew e.implicit D B s s' S A → Infers D (declared c at) s s' (eta_expand (skeleton A) (constant c) S) A
         -- a definition stands for its term
-        at_definition : {D : List LfType} {c : ℕ} {e : Entry} {N : Term} {B A : LfType} {b : Bool} {s s' : State} {S : Spine} →
-            entry es c ≡ Some e → e.body ≡ declare_definition N B b → TakesNew e.implicit D B s s' S A → Infers D (declared c) s s' (reduce (skeleton B) N S) A
-        at_hole : {D : List LfType} {t : Skeleton} {A : LfType} {s s' : State} → NewType D t s s' A → Infers D (hole t) s (with_metavariable D A s') (raised D A s'.next) A
+        at_definition : {D : List LfType} {at : Place} {c : ℕ} {e : Entry} {N : Term} {B A : LfType} {b : Bool} {s s' : State} {S : Spine} →
+            entry es c ≡ Some e → e.body ≡ declare_definition N B b → TakesNew e.implicit D B s s' S A → Infers D (declared c at) s s' (reduce (skeleton B) N S) A
+        at_hole : {D : List LfType} {at : Place} {t : Skeleton} {A : LfType} {s s' : State} → NewType D t s s' A → Infers D (hole t at) s (with_metavariable D A s') (raised D A s'.next) A
         at_function : {D : List LfType} {d : WrittenDomain} {M : Written} {A B : LfType} {R : Term} {s s' s'' : State} → ElaboratesDomain D d s s' A → Infers (A ∷ D) M s' s'' R B → Infers D (function d M) s s'' (lambda R) (pi A B)
         -- a term of a function type is a lambda, and its argument is put in
         at_applied : {D : List LfType} {M P : Written} {A B : LfType} {R Q : Term} {s s' s'' : State} →
@@ -70,8 +70,8 @@ module _ (es : List Entry) where
 
       -- a term is made one of an expected type
       pub data Checks : List LfType → Written → LfType → State → State → Term → Type 0 where
-        checks_hole : {D : List LfType} {t : Skeleton} {A : LfType} {s : State} → t ≡ skeleton A → Checks D (hole t) A s (with_metavariable D A s) (raised D A s.next)
-        checks_function : {D : List LfType} {t : Skeleton} {M : Written} {A B : LfType} {R : Term} {s s' : State} → t ≡ skeleton A → Checks (A ∷ D) M B s s' R → Checks D (function (of_skeleton t) M) (pi A B) s s' (lambda R)
+        checks_hole : {D : List LfType} {at : Place} {t : Skeleton} {A : LfType} {s : State} → t ≡ skeleton A → Checks D (hole t at) A s (with_metavariable D A s) (raised D A s.next)
+        checks_function : {D : List LfType} {at : Place} {t : Skeleton} {M : Written} {A B : LfType} {R : Term} {s s' : State} → t ≡ skeleton A → Checks (A ∷ D) M B s s' R → Checks D (function (of_skeleton t at) M) (pi A B) s s' (lambda R)
         checks_typed : {D : List LfType} {U : WrittenType} {M : Written} {A B X : LfType} {R : Term} {s s' s'' : State} →
             ElaboratesType D U s s' X → skeleton X ≡ skeleton A → Checks (A ∷ D) M B (with_equations (type_equations (signature_of es) D X A) s') s'' R → Checks D (function (of_type U) M) (pi A B) s s'' (lambda R)
         checks_inferred : {D : List LfType} {M : Written} {A X : LfType} {R : Term} {s s' : State} →
@@ -79,7 +79,7 @@ module _ (es : List Entry) where
 
       -- a type
       pub data ElaboratesType : List LfType → WrittenType → State → State → LfType → Type 0 where
-        at_type_hole : {D : List LfType} {t : Skeleton} {A : LfType} {s s' : State} → NewType D t s s' A → ElaboratesType D (type_hole t) s s' A
+        at_type_hole : {D : List LfType} {at : Place} {t : Skeleton} {A : LfType} {s s' : State} → NewType D t s s' A → ElaboratesType D (type_hole t at) s s' A
         at_arrow : {D : List LfType} {U V : WrittenType} {A B : LfType} {s s' s'' : State} → ElaboratesType D U s s' A → ElaboratesType D V s' s'' B → ElaboratesType D (arrow U V) s s'' (pi A (weaken B))
         at_quantified : {D : List LfType} {d : WrittenDomain} {V : WrittenType} {A B : LfType} {s s' s'' : State} → ElaboratesDomain D d s s' A → ElaboratesType (A ∷ D) V s' s'' B → ElaboratesType D (quantified d V) s s'' (pi A B)
         at_family : {D : List LfType} {U : WrittenType} {a : ℕ} {S : Spine} {s s' : State} → ElaboratesFamily D U s s' a S star → ElaboratesType D U s s' (atom a S)
@@ -87,13 +87,13 @@ module _ (es : List Entry) where
 
       -- the type of a binder's variable
       pub data ElaboratesDomain : List LfType → WrittenDomain → State → State → LfType → Type 0 where
-        at_of_skeleton : {D : List LfType} {t : Skeleton} {A : LfType} {s s' : State} → NewType D t s s' A → ElaboratesDomain D (of_skeleton t) s s' A
+        at_of_skeleton : {D : List LfType} {at : Place} {t : Skeleton} {A : LfType} {s s' : State} → NewType D t s s' A → ElaboratesDomain D (of_skeleton t at) s s' A
         at_of_type : {D : List LfType} {U : WrittenType} {A : LfType} {s s' : State} → ElaboratesType D U s s' A → ElaboratesDomain D (of_type U) s s' A
 
       -- a family on its arguments so far, and the kind that is left
       pub data ElaboratesFamily : List LfType → WrittenType → State → State → ℕ → Spine → Kind → Type 0 where
-        at_family_name : {D : List LfType} {a : ℕ} {e : Entry} {K L : Kind} {S : Spine} {s s' : State} →
-            entry es a ≡ Some e → e.body ≡ declare_family K → KindTakesNew e.implicit D K s s' S L → ElaboratesFamily D (family a) s s' a S L
+        at_family_name : {D : List LfType} {at : Place} {a : ℕ} {e : Entry} {K L : Kind} {S : Spine} {s s' : State} →
+            entry es a ≡ Some e → e.body ≡ declare_family K → KindTakesNew e.implicit D K s s' S L → ElaboratesFamily D (family a at) s s' a S L
         at_family_applied : {D : List LfType} {U : WrittenType} {P : Written} {a : ℕ} {S : Spine} {A : LfType} {K : Kind} {Q : Term} {s s' s'' : State} →
             ElaboratesFamily D U s s' a S (kind_pi A K) → Checks D P A s' s'' Q → ElaboratesFamily D (family_applied U P) s s'' a (add_last S Q) (instantiate_kind A Q K)
         -- of `type` itself the rule of types speaks

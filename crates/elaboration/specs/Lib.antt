@@ -8,4 +8,6 @@ pub mod Completions
 pub mod Laws
 pub mod Examples
 pub mod Principal
+pub mod Sites
 pub mod PrincipalLaws
+pub mod SiteLaws

@@ -46,27 +46,27 @@ module _ (es : List Entry) (frees : List Skeleton) where
 
   abbrev mutual
     pub WrittenHasSkeleton : List Skeleton → Written → Skeleton → Type 0
-    WrittenHasSkeleton Γ (free i) t = slice_get frees i ≡ Some t
+    WrittenHasSkeleton Γ (free i at) t = slice_get frees i ≡ Some t
     WrittenHasSkeleton Γ (bound i) t = SkeletonAt Γ i t
-    WrittenHasSkeleton Γ (declared c) t = NameHasSkeleton c t
-    WrittenHasSkeleton Γ (hole u) t = (u ≡ t) × SkeletonIsDeclared es u
+    WrittenHasSkeleton Γ (declared c at) t = NameHasSkeleton c t
+    WrittenHasSkeleton Γ (hole u at) t = (u ≡ t) × SkeletonIsDeclared es u
     WrittenHasSkeleton Γ (function d M) (arrow_skeleton a b) = DomainHasSkeleton Γ d a × WrittenHasSkeleton (a ∷ Γ) M b
     WrittenHasSkeleton Γ (function d M) (base c) = ⊥
     WrittenHasSkeleton Γ (applied M P) t = (a : Skeleton) × WrittenHasSkeleton Γ M (arrow_skeleton a t) × WrittenHasSkeleton Γ P a
     WrittenHasSkeleton Γ (ascribed M U) t = WrittenTypeHasSkeleton Γ U t × WrittenHasSkeleton Γ M t
 
     pub DomainHasSkeleton : List Skeleton → WrittenDomain → Skeleton → Type 0
-    DomainHasSkeleton Γ (of_skeleton u) t = (u ≡ t) × SkeletonIsDeclared es u
+    DomainHasSkeleton Γ (of_skeleton u at) t = (u ≡ t) × SkeletonIsDeclared es u
     DomainHasSkeleton Γ (of_type U) t = WrittenTypeHasSkeleton Γ U t
 
     pub WrittenTypeHasSkeleton : List Skeleton → WrittenType → Skeleton → Type 0
-    WrittenTypeHasSkeleton Γ (type_hole u) t = (u ≡ t) × SkeletonIsDeclared es u
+    WrittenTypeHasSkeleton Γ (type_hole u at) t = (u ≡ t) × SkeletonIsDeclared es u
     WrittenTypeHasSkeleton Γ (arrow U V) (arrow_skeleton a b) = WrittenTypeHasSkeleton Γ U a × WrittenTypeHasSkeleton Γ V b
     WrittenTypeHasSkeleton Γ (arrow U V) (base c) = ⊥
     WrittenTypeHasSkeleton Γ (quantified d V) (arrow_skeleton a b) = DomainHasSkeleton Γ d a × WrittenTypeHasSkeleton (a ∷ Γ) V b
     WrittenTypeHasSkeleton Γ (quantified d V) (base c) = ⊥
-    WrittenTypeHasSkeleton Γ (family c) (arrow_skeleton a b) = ⊥
-    WrittenTypeHasSkeleton Γ (family c) (base a) = (c ≡ a) × FamilyNameLeaves c (base a)
+    WrittenTypeHasSkeleton Γ (family c at) (arrow_skeleton a b) = ⊥
+    WrittenTypeHasSkeleton Γ (family c at) (base a) = (c ≡ a) × FamilyNameLeaves c (base a)
     WrittenTypeHasSkeleton Γ (family_applied U P) (arrow_skeleton a b) = ⊥
     WrittenTypeHasSkeleton Γ (family_applied U P) (base a) = (x : Skeleton) × FamilyHasSkeleton Γ U a (arrow_skeleton x (base a)) × WrittenHasSkeleton Γ P x
     WrittenTypeHasSkeleton Γ (family_ascribed U written_star) t = WrittenTypeHasSkeleton Γ U t
@@ -74,7 +74,7 @@ module _ (es : List Entry) (frees : List Skeleton) where
 
     -- family a on arguments, which leave this of the skeleton of its kind
     pub FamilyHasSkeleton : List Skeleton → WrittenType → ℕ → Skeleton → Type 0
-    FamilyHasSkeleton Γ (family c) a t = (c ≡ a) × FamilyNameLeaves c t
+    FamilyHasSkeleton Γ (family c at) a t = (c ≡ a) × FamilyNameLeaves c t
     FamilyHasSkeleton Γ (family_applied U P) a t = (x : Skeleton) × FamilyHasSkeleton Γ U a (arrow_skeleton x t) × WrittenHasSkeleton Γ P x
     FamilyHasSkeleton Γ (family_ascribed U k) a t = KindHasSkeleton Γ k a t × FamilyHasSkeleton Γ U a t × IsArrow t
     FamilyHasSkeleton Γ U a t = ⊥

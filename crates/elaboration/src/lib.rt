@@ -2,8 +2,9 @@
 //! where types are compared. They have no code: each function carries one law as its contract.
 #![tactic(auto)]
 
-ghost use Rattle.elaboration.specs.Examples.{NumberIsNotPrincipal, PlusSuccessorIsElaborated, FullIsElaborated, EquationsAreAll, HoleIsRaised, ShortIsExpanded, DefinitionIsExpanded, KindIsElaborated};
+ghost use Rattle.elaboration.specs.Examples.{NumberIsNotPrincipal, BackwardHasSites, UntypedHasSite, FreesInOrder, PlusSuccessorIsElaborated, FullIsElaborated, EquationsAreAll, HoleIsRaised, ShortIsExpanded, DefinitionIsExpanded, KindIsElaborated};
 ghost use Rattle.elaboration.specs.Laws.{ElaboratedTypeIsMade, ElaboratedKindIsMade, InferredTermIsMade, CheckedTermIsMade, NothingHasSkeletons, ElaboratedHasSkeletons, StateIsScoped, FreesAreMade, SkeletonIsElaborated, ElaboratedHadSkeleton, ElaborationIsUnique, CompletionIsInstance, InstanceIsCompletion, SolvedTypeIsTyped, SolvedTermIsTyped, SolvedKindIsTyped, SolvedBodyIsTyped, UnifierIsOfSolved};
+ghost use Rattle.elaboration.specs.SiteLaws.{MetavariablesAreCounted, SpotsAreAll};
 ghost use Rattle.elaboration.specs.PrincipalLaws.{PrincipalMayStand, ContextIsReordered, GivenDetermineAll, QuantifiersAreUndetermined, NeverHasNoCompletion, ReadOffIsPrincipal, ReorderedIsPrincipal};
 
 /// What is elaborated has skeletons, in each local context that has them, and so has the state behind.
@@ -131,6 +132,16 @@ pub fn unifier_is_of_solved()
     ensures { UnifierIsOfSolved }
 {}
 
+/// What is elaborated makes as many metavariables as its spots count.
+pub fn metavariables_are_counted()
+    ensures { MetavariablesAreCounted }
+{}
+
+/// So the spots of a declaration are all, and each free variable has the last number of its own.
+pub fn spots_are_all()
+    ensures { SpotsAreAll }
+{}
+
 /// plus X Y Z -> plus (s X) Y (s Z), elaborated.
 pub fn plus_successor_is_elaborated()
     ensures { PlusSuccessorIsElaborated }
@@ -169,4 +180,19 @@ pub fn kind_is_elaborated()
 /// A completion that is not principal.
 pub fn number_is_not_principal()
     ensures { NumberIsNotPrincipal }
+{}
+
+/// vec _ <- full W: its places aren't in the order of elaboration.
+pub fn backward_has_sites()
+    ensures { BackwardHasSites }
+{}
+
+/// [x] x, alone and at a type.
+pub fn untyped_has_site()
+    ensures { UntypedHasSite }
+{}
+
+/// plus Y X X <- vec Y: free variables in the order of the text.
+pub fn frees_in_order()
+    ensures { FreesInOrder }
 {}

@@ -25,8 +25,9 @@ use Rattle.tw_print.specs.Names.{Preferences}
 use Rattle.tw_print.specs.Shown as shown
 use Rattle.tw_approx.specs.Answer.{HasRow, Rows}
 use Rattle.tw_approx.specs.Names.{IsFreeVariable}
-use Rattle.tw_recon.specs.Hints.{AreOfRows, fitted, written_hints}
+use Rattle.tw_recon.specs.Hints.{fitted, written_hints}
 use Rattle.tw_recon.specs.Reconstruction.{IsReconstructed, declared_name}
+use Rattle.tw_recon.proofs.OfRows.{AreOfRows, hints_of_rows}
 use Rattle.tw_signature.specs.Names.{number_of}
 use Rattle.tw_decl.specs.View.{View, with_chatter, with_implicit, with_steps, with_entry, scene_of}
 use Rattle.tw_decl.specs.Declaration.{IsWritten, Completed, Reconstructed, is_unnamed, GivesRows, Prefers, Does}
@@ -138,14 +139,15 @@ good_fitted (suc n) (h ∷ hs) g = hints_more h (fitted n hs) (good_head h hs g)
 
 good_rows : (rows : Rows) (hs : List (Option (List ℕ))) → ((x : List ℕ) → HasRow x rows → IsName x) → AreOfRows rows hs → AreGoodHints hs
 good_rows rows [] n h = λ k y e. cc
-good_rows rows (None ∷ hs) n h = hints_more None hs (λ y e. cc) (good_rows rows hs n h)
+good_rows rows (None ∷ hs) n h = hints_more None hs (λ y e. cc) (good_rows rows hs n h.1)
 good_rows rows (Some x ∷ hs) n h = hints_more (Some x) hs (λ y e. subst IsName (some_inj e) (n x h.0)) (good_rows rows hs n h.1)
 
 reconstructed_good : (es : List Entry) (d : Declaration) (e : Entry) → ((x : List ℕ) → IsFreeVariable es x d → IsName x) → AreGoodHints (written_hints d) → IsReconstructed es d e → AreGoodHints e.hints
 reconstructed_good es d e f g k =
-    subst AreGoodHints (sym k.hints)
-    (good_append k.quantifier_hints (fitted (body_quantifiers k.completion.body) (written_hints d)) (good_rows k.rows k.quantifier_hints (λ x r. f x (k.is_written.skeletons.row_is_free x r)) k.hints_of_rows)
-    (good_fitted (body_quantifiers k.completion.body) (written_hints d) g))
+    subst AreGoodHints (sym k.is_entry.hints)
+    (good_append k.quantifier_hints (fitted (body_quantifiers k.inner) (written_hints d))
+    (good_rows k.rows k.quantifier_hints (λ x r. f x (k.is_written.skeletons.row_is_free x r)) (hints_of_rows es k.rows k.written k.quantifiers k.quantifier_hints k.shown k.inner k.completed))
+    (good_fitted (body_quantifiers k.inner) (written_hints d) g))
 
 reconstructed_keeps : (v w : View) (words : List Lexeme) (d : Declaration) (report : List ℕ) → AreSpelled words → Declares v.fixities words d → IsName (declared_name d) → AreGoodHints (written_hints d) → is_unnamed d ≡ false
     → Reconstructed v d report w → IsViewInOrder v → IsViewInOrder w
@@ -153,7 +155,7 @@ reconstructed_keeps v w words d report all r n g named h o =
     let k = h.reconstructs in
     let kept : w ≡ with_entry v h.entry = h.keeps ∙ cond-false (is_unnamed d) v (with_entry v h.entry) named in
     subst IsViewInOrder (sym kept)
-    (one_more v h.entry h.stands (subst IsName (sym k.name) n) (reconstructed_good v.signature d h.entry (λ x f. free_are_named v.fixities words d v.signature x all r f) g k) o)
+    (one_more v h.entry h.stands (subst IsName (sym k.is_entry.name) n) (reconstructed_good v.signature d h.entry (λ x f. free_are_named v.fixities words d v.signature x all r f) g k) o)
 
 -- rows that are given
 same_count : (fix : Fix) → shown.operand_count fix ≡ operand_count fix

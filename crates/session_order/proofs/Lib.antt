@@ -4,3 +4,4 @@ pub mod Keeping
 pub mod Reading
 pub mod Steps
 pub mod Accepting
+pub mod Principal

@@ -1,3 +1,4 @@
 pub mod Words
 pub mod Order
 pub mod Laws
+pub mod Principal

@@ -1,6 +1,7 @@
 //! Each session is in order, so what it prints reads back. No function here has code: each carries one law as its contract.
 #![tactic(auto)]
 
+ghost use Rattle.session_order.specs.Principal.{AcceptedIsPrincipal};
 ghost use Rattle.session_order.specs.Laws.{TokensAreSpelled, DeclaredIsNamed, DefinedIsNamed, FreeAreNamed, PreferredAreNames, NewIsInOrder, SettingKeepsOrder, MakingKeepsOrder, AcceptingKeepsOrder, AcceptingFromKeepsOrder, StepKeepsOrder, RunIsInOrder, KeptReadsBack, OpenReadsBack, RunReadsBack, NewReadsBack, ReportReadsBack, ReportFromReadsBack, ReadBackIsAccepted, KeptIsAccepted, OpenIsAccepted, NewIsAccepted};
 
 /// What a text has as names are identifiers without a fixed meaning.
@@ -113,4 +114,9 @@ pub fn open_is_accepted()
 /// The line of an entry that was just declared is accepted by the session before.
 pub fn new_is_accepted()
     ensures { NewIsAccepted }
+{}
+
+/// What is accepted is the principal completion of its text, whichever way it was completed.
+pub fn accepted_is_principal()
+    ensures { AcceptedIsPrincipal }
 {}

@@ -1,16 +1,13 @@
 -- What a call answers, from its parts: one rule of elaboration each, or one place that is too deep.
 use Rattle.std.proofs.Common.{◌≡◌, ℕ, ◌⊎◌, inl, inr, Box, Global, suc, zero, List, ◌∷◌, Result, Err, IsErrOf, refl, sym, ap, ap₂, ◌∙◌, subst}
-use Rattle.lf.specs.Deep.{DeepSubstitution}
-use Rattle.lf.specs.Depth.{depth_limit}
 use Rattle.lf.specs.Entries.{Entry, IsCanonicalSignature, signature_of}
 use Rattle.lf.specs.Eta.{add_last}
-use Rattle.lf.specs.Substitution.{reduce, single, substitute}
-use Rattle.lf.specs.Syntax.{Kind, LfType, Spine, Term, atom, kind_pi, kind_skeleton, lambda, pi, rename_kind, skeleton, star, weaken}
-use Rattle.lf.specs.Typing.{instantiate_kind, instantiate_type}
-use Rattle.elaboration.specs.Elaboration.{Checks, ElaboratesDomain, ElaboratesFamily, ElaboratesKind, ElaboratesType, Infers, IsInferred, at_applied, at_arrow, at_family, at_family_applied, at_family_ascribed, at_function, at_kind_arrow, at_kind_quantified, at_quantified, checks_function, checks_inferred, checks_typed}
+use Rattle.lf.specs.Syntax.{Kind, LfType, Spine, Term, atom, kind_pi, kind_skeleton, lambda, pi, rename_kind, star, weaken}
+use Rattle.lf.specs.Typing.{instantiate_kind}
+use Rattle.elaboration.specs.Elaboration.{Checks, ElaboratesDomain, ElaboratesFamily, ElaboratesKind, ElaboratesType, Infers, IsInferred, at_arrow, at_family, at_family_applied, at_family_ascribed, at_function, at_kind_arrow, at_kind_quantified, at_quantified, checks_function, checks_inferred, checks_typed}
 use Rattle.elaboration.specs.Skeletons.{TypeHasSkeletons}
 use Rattle.elaboration.specs.State.{State, kind_equations, type_equations, with_equations}
-use Rattle.elaboration.specs.Written.{Written, WrittenDomain, WrittenKind, WrittenType, applied, arrow, family_applied, family_ascribed, function, kind_arrow, kind_quantified, of_skeleton, of_type, quantified}
+use Rattle.elaboration.specs.Written.{Written, WrittenDomain, WrittenKind, WrittenType, arrow, family_applied, family_ascribed, function, kind_arrow, kind_quantified, of_skeleton, of_type, quantified}
 use Rattle.tw_lexer.specs.declared.place.Place.{Place}
 use Rattle.tw_terms.specs.declared.canonical.ConstId.{ConstId}
 use Rattle.tw_written.specs.View.{written_of}
@@ -18,7 +15,7 @@ use Rattle.tw_written.specs.declared.written.Written.{Written as Syntax, Applied
 use Rattle.tw_written.specs.declared.written.WrittenType.{WrittenType as WrittenTypeSyntax}
 use Rattle.tw_written.proofs.Views.{written_of-Applied, written_of-Ascribed, written_of-Bound, written_of-Declared, written_of-Free}
 use Rattle.tw_elaborate.specs.Comparing.{ChecksDomain, ComparesKinds, ComparesTypes, IsProduct}
-use Rattle.tw_elaborate.specs.Deep.{ChecksDeep, DomainDeep, InfersDeep, deep_annotated_body, deep_annotation, deep_application, deep_checked_body, deep_written_domain}
+use Rattle.tw_elaborate.specs.Deep.{ChecksDeep, DomainDeep, deep_annotated_body, deep_annotation, deep_checked_body, deep_written_domain}
 use Rattle.tw_elaborate.specs.Fits.{Stands}
 use Rattle.tw_elaborate.specs.View.{made}
 use Rattle.tw_elaborate.specs.declared.state.Elaboration.{Elaboration}
@@ -29,15 +26,6 @@ module _ (es : List Entry) (ns : List ℕ) (D : List LfType) where
   function_inferred E d M s s' s'' A X B Y R N e x n y i j =
       let q : Y ≡ pi A B = y ∙ ap (λ Z. pi Z B) x in
       subst (λ Z. Infers es ns D (function d M) s s'' N Z) (sym q) (subst (λ P. Infers es ns D (function d M) s s'' P (pi A B)) (sym n) (at_function i (subst (λ F. Infers es ns F M s' s'' R B) e j)))
-
-  pub application_inferred : (F P : Written) (A A' B B' Y : LfType) (M M' Q N : Term) (s s' s'' : State) → A' ≡ A → B' ≡ B → M' ≡ M → N ≡ substitute reduce (single (skeleton A') Q) M' → Y ≡ instantiate_type A' Q B' → Infers es ns D F s s' (lambda M) (pi A B) → Checks es ns D P A s' s'' Q → Infers es ns D (applied F P) s s'' N Y
-  application_inferred F P A A' B B' Y M M' Q N s s' s'' a b m n y i j =
-      let p : N ≡ substitute reduce (single (skeleton A) Q) M = n ∙ ap₂ (λ X R. substitute reduce (single (skeleton X) Q) R) a m in
-      let q : Y ≡ instantiate_type A Q B = y ∙ ap₂ (λ X Z. instantiate_type X Q Z) a b in
-      subst (λ Z. Infers es ns D (applied F P) s s'' N Z) (sym q) (subst (λ R. Infers es ns D (applied F P) s s'' R (instantiate_type A Q B)) (sym p) (at_applied i j))
-
-  pub application_deep : (F P : Written) (A A' B : LfType) (M M' Q : Term) (s s' s'' : State) → A' ≡ A → M' ≡ M → Infers es ns D F s s' (lambda M) (pi A B) → Checks es ns D P A s' s'' Q → DeepSubstitution depth_limit (single (skeleton A') Q) M' → InfersDeep es ns D (applied F P) s
-  application_deep F P A A' B M M' Q s s' s'' a m i j h = deep_application i j (subst (λ R. DeepSubstitution depth_limit (single (skeleton A) Q) R) m (subst (λ X. DeepSubstitution depth_limit (single (skeleton X) Q) M') a h))
 
   pub inferred_checked : (M : Written) (R : Term) (X A : LfType) (s : State) (b c : Elaboration) → IsInferred M → b.locals ≡ D → Infers es ns D M s (made b) R X → ComparesTypes (signature_of es) X A b c → Checks es ns D M A s (made c) R
   inferred_checked M R X A s b c n l i k = subst (λ t. Checks es ns D M A s t R) (sym (k.state ∙ ap (λ E. with_equations (type_equations (signature_of es) E X A) (made b)) l)) (checks_inferred n i k.same)
@@ -78,14 +66,14 @@ module _ (es : List Entry) (ns : List ℕ) where
   function_checked a b d E M A B X s R N e x n k c = subst (λ Y. Checks es ns a.locals (function d M) Y (made a) s N) (sym x) (subst (Checks es ns a.locals (function d M) (pi A B) (made a) s) (sym n) (go d k (subst (λ F. Checks es ns F M B (made b) s R) e c)))
     where
       go : (d : WrittenDomain) → ChecksDomain es ns d A a b → Checks es ns (A ∷ a.locals) M B (made b) s R → Checks es ns a.locals (function d M) (pi A B) (made a) s (lambda R)
-      go (of_skeleton t) (t', m) c = checks_function t' (subst (λ z. Checks es ns (A ∷ a.locals) M B z s R) m c)
+      go (of_skeleton t at) (t', m) c = checks_function t' (subst (λ z. Checks es ns (A ∷ a.locals) M B z s R) m c)
       go (of_type U) (z, Z, i, q, m) c = checks_typed i q (subst (λ y. Checks es ns (A ∷ a.locals) M B y s R) m c)
 
   pub body_deep : (a b : Elaboration) (d : WrittenDomain) (E : List LfType) (M : Written) (A B X : LfType) → E ≡ A ∷ a.locals → X ≡ pi A B → ChecksDomain es ns d A a b → ChecksDeep es ns E M B (made b) → ChecksDeep es ns a.locals (function d M) X (made a)
   body_deep a b d E M A B X e x k c = subst (λ Y. ChecksDeep es ns a.locals (function d M) Y (made a)) (sym x) (go d k (subst (λ F. ChecksDeep es ns F M B (made b)) e c))
     where
       go : (d : WrittenDomain) → ChecksDomain es ns d A a b → ChecksDeep es ns (A ∷ a.locals) M B (made b) → ChecksDeep es ns a.locals (function d M) (pi A B) (made a)
-      go (of_skeleton t) (t', m) c = deep_checked_body t' (subst (ChecksDeep es ns (A ∷ a.locals) M B) m c)
+      go (of_skeleton t at) (t', m) c = deep_checked_body t' (subst (ChecksDeep es ns (A ∷ a.locals) M B) m c)
       go (of_type U) (z, Z, i, q, m) c = deep_annotated_body i q (subst (ChecksDeep es ns (A ∷ a.locals) M B) m c)
 
   pub annotation_deep : (D : List LfType) (d : WrittenDomain) (M : Written) (A B X : LfType) (s : State) → X ≡ pi A B → DomainDeep es ns D d s → ChecksDeep es ns D (function d M) X s
@@ -97,7 +85,7 @@ module _ (es : List Entry) (ns : List ℕ) where
   module _ (o : IsCanonicalSignature es) where
     pub domain_checked : (a b : Elaboration) (d : WrittenDomain) (A Y : LfType) → ChecksDomain es ns d A a b → Stands (signature_of es) (made a) a.locals → TypeHasSkeletons (signature_of es) (made a) a.locals A → TypeHasSkeletons (signature_of es) (made a) a.locals Y →
         Stands (signature_of es) (made b) a.locals × TypeHasSkeletons (signature_of es) (made b) a.locals Y
-    domain_checked a b (of_skeleton t) A Y (t', m) w x y = (subst (λ z. Stands (signature_of es) z a.locals) (sym m) w, subst (λ z. TypeHasSkeletons (signature_of es) z a.locals Y) (sym m) y)
+    domain_checked a b (of_skeleton t at) A Y (t', m) w x y = (subst (λ z. Stands (signature_of es) z a.locals) (sym m) w, subst (λ z. TypeHasSkeletons (signature_of es) z a.locals Y) (sym m) y)
     domain_checked a b (of_type U) A Y (z, Z, i, q, m) w x y =
         let w' = type_stands es o ns w i a.locals refl in
         let z' = type_found es o ns w i a.locals refl in (

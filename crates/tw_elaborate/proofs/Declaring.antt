@@ -11,7 +11,7 @@ use Rattle.lf.proofs.Entries.{canonical_is_signature}
 use Rattle.elaboration.specs.Elaboration.{ElaboratesFamily, Infers, KindTakesNew, TakesNew, at_constant, at_definition, at_family_name}
 use Rattle.elaboration.specs.Skeletons.{heads_of}
 use Rattle.elaboration.specs.State.{State}
-use Rattle.elaboration.specs.Written.{declared, family}
+use Rattle.elaboration.specs.Written.{Place, declared, family}
 use Rattle.unification.specs.Patterns.{local_skeletons}
 use Rattle.elaboration.proofs.Skeletons.{closed_term_skeleton, constant_type, entry_typed, kind_closed, kind_declared, takes_skeletons, type_declared}
 use Rattle.tw_elaborate.specs.Deep.{InfersDeep, TakesDeep, deep_definition}
@@ -43,17 +43,17 @@ module _ (es : List Entry) (o : IsCanonicalSignature es) where
       spine_typed = (takes_skeletons Σ ok t w.state w.local (constant_type Σ ok s D B (subst (BodyIsTyped Σ) d (entry_typed es o c e q)).0)).1;
     }))
 
-module _ (es : List Entry) (ns : List ℕ) (D : List LfType) (s s' : State) (c : ℕ) (e : Entry) (q : entry es c ≡ Some e) where
-  pub family_named : (K X L : Kind) (S : Spine) → X ≡ K → e.body ≡ declare_family K → KindTakesNew e.implicit D X s s' S L → ElaboratesFamily es ns D (family c) s s' c S L
+module _ (es : List Entry) (ns : List ℕ) (at : Place) (D : List LfType) (s s' : State) (c : ℕ) (e : Entry) (q : entry es c ≡ Some e) where
+  pub family_named : (K X L : Kind) (S : Spine) → X ≡ K → e.body ≡ declare_family K → KindTakesNew e.implicit D X s s' S L → ElaboratesFamily es ns D (family c at) s s' c S L
   family_named K X L S x b t = at_family_name q b (subst (λ Y. KindTakesNew e.implicit D Y s s' S L) x t)
 
-  pub constant_inferred : (B X A : LfType) (S : Spine) (R : Term) → X ≡ B → e.body ≡ declare_constant B → TakesNew e.implicit D X s s' S A → R ≡ eta_expand (skeleton A) (constant c) S → Infers es ns D (declared c) s s' R A
-  constant_inferred B X A S R x b t r = subst (λ M. Infers es ns D (declared c) s s' M A) (sym r) (at_constant q b (subst (λ Y. TakesNew e.implicit D Y s s' S A) x t))
+  pub constant_inferred : (B X A : LfType) (S : Spine) (R : Term) → X ≡ B → e.body ≡ declare_constant B → TakesNew e.implicit D X s s' S A → R ≡ eta_expand (skeleton A) (constant c) S → Infers es ns D (declared c at) s s' R A
+  constant_inferred B X A S R x b t r = subst (λ M. Infers es ns D (declared c at) s s' M A) (sym r) (at_constant q b (subst (λ Y. TakesNew e.implicit D Y s s' S A) x t))
 
-  pub defined_inferred : (N P : Term) (B X Z A : LfType) (d : Bool) (S : Spine) (R : Term) → P ≡ N → X ≡ B → Z ≡ B → e.body ≡ declare_definition N B d → TakesNew e.implicit D X s s' S A → R ≡ reduce (skeleton Z) P S → Infers es ns D (declared c) s s' R A
+  pub defined_inferred : (N P : Term) (B X Z A : LfType) (d : Bool) (S : Spine) (R : Term) → P ≡ N → X ≡ B → Z ≡ B → e.body ≡ declare_definition N B d → TakesNew e.implicit D X s s' S A → R ≡ reduce (skeleton Z) P S → Infers es ns D (declared c at) s s' R A
   defined_inferred N P B X Z A d S R p x z b t r =
       let u : R ≡ reduce (skeleton B) N S = subst (λ Y. R ≡ reduce (skeleton Y) N S) z (subst (λ M. R ≡ reduce (skeleton Z) M S) p r) in
-      subst (λ M. Infers es ns D (declared c) s s' M A) (sym u) (at_definition q b (subst (λ Y. TakesNew e.implicit D Y s s' S A) x t))
+      subst (λ M. Infers es ns D (declared c at) s s' M A) (sym u) (at_definition q b (subst (λ Y. TakesNew e.implicit D Y s s' S A) x t))
 
-  pub defined_deep : (N P : Term) (B X Z A : LfType) (d : Bool) (S : Spine) → P ≡ N → X ≡ B → Z ≡ B → e.body ≡ declare_definition N B d → TakesNew e.implicit D X s s' S A → TakesDeep depth_limit (skeleton Z) P S → InfersDeep es ns D (declared c) s
+  pub defined_deep : (N P : Term) (B X Z A : LfType) (d : Bool) (S : Spine) → P ≡ N → X ≡ B → Z ≡ B → e.body ≡ declare_definition N B d → TakesNew e.implicit D X s s' S A → TakesDeep depth_limit (skeleton Z) P S → InfersDeep es ns D (declared c at) s
   defined_deep N P B X Z A d S p x z b t h = deep_definition q b (subst (λ Y. TakesNew e.implicit D Y s s' S A) x t) (subst (λ Y. TakesDeep depth_limit (skeleton Y) N S) z (subst (λ M. TakesDeep depth_limit (skeleton Z) M S) p h))

@@ -2,7 +2,7 @@
 use Rattle.std.proofs.Common.{◌≡◌, ℕ, List, [], ◌∷◌, drop, refl, sym, ap, ap₂, ◌∙◌, subst}
 use Rattle.lf.specs.Entries.{Entry, IsCanonicalSignature, signature_of}
 use Rattle.lf.specs.Skeletons.{family_skeletons}
-use Rattle.lf.specs.Syntax.{Kind, LfType, Spine, Term, kind_pi, lambda, pi, skeleton}
+use Rattle.lf.specs.Syntax.{Kind, LfType, Spine, Term, kind_pi, pi, skeleton}
 use Rattle.lf.specs.Typing.{IsSignature, Signature}
 use Rattle.lf.proofs.Entries.{canonical_is_signature}
 use Rattle.lf.proofs.SkeletonTyping.{single_by_skeletons}
@@ -13,9 +13,10 @@ use Rattle.elaboration.specs.Written.{Written, WrittenDomain, WrittenKind, Writt
 use Rattle.unification.specs.Patterns.{local_skeletons}
 use Rattle.elaboration.proofs.Adds.{Grows, adds_equations, checks_adds, domain_adds, family_adds, infers_adds, kind_adds, type_adds}
 use Rattle.elaboration.proofs.Skeletons.{checks_skeletons, domain_skeletons, family_skeletons_of, infers_skeletons, kind_grows, kind_skeletons, local_grows, more_equations, term_grows, type_equations_have, type_grows, type_skeletons}
-use Rattle.tw_hered.specs.Fits.{TermFits, TypeFits}
+use Rattle.tw_hered.specs.Fits.{TypeFits}
 use Rattle.tw_elaborate.specs.Fits.{KindFits, Stands}
 use Rattle.tw_elaborate.specs.Fresh.{Keeps}
+use Rattle.tw_elaborate.specs.Operators.{Applies}
 use Rattle.tw_elaborate.specs.declared.state.Elaboration.{Elaboration}
 use Rattle.tw_elaborate.proofs.Taking.{declares_same, declares_then}
 use Rattle.lf.specs.Substitution.{single}
@@ -101,14 +102,13 @@ module _ (es : List Entry) (o : IsCanonicalSignature es) (ns : List ℕ) where
     grown : Grows s' s''
     grown = checks_adds es ns c w.state.numbered
 
-    pub body_fits : (R : Term) (B : LfType) → TermHasSkeleton Σ s' D (lambda R) (pi A B) → TermFits (single (skeleton A) Q) R
-    body_fits R B r = record {
+    -- the operator, of the skeleton of a function type, and the argument
+    pub operator_applies : (M : Term) (B : LfType) → TermHasSkeleton Σ s' D M (pi A B) → Applies (skeleton A) (skeleton B) M Q
+    operator_applies M B m = record {
       heads = heads_of Σ s'';
-      context = skeleton A ∷ local_skeletons D [];
-      target = local_skeletons D [];
-      term_skeleton = skeleton B;
-      substitution_typed = single_by_skeletons (heads_of Σ s'') (skeleton A) (local_skeletons D []) Q arg_typed;
-      term_typed = term_grows Σ ok s' s'' grown D (lambda R) (pi A B) r;
+      context = local_skeletons D [];
+      function_typed = term_grows Σ ok s' s'' grown D M (pi A B) m;
+      argument_typed = arg_typed;
     }
 
     pub range_fits : (B : LfType) → TypeHasSkeletons Σ s' D (pi A B) → TypeFits (single (skeleton A) Q) B

@@ -9,8 +9,9 @@ pub mod Freeing
 pub mod Equating
 pub mod Unbound
 pub mod Bodying
-pub mod Places
+pub mod NewHoles
 pub mod Naming
 pub mod Following
+pub mod Rows
 pub mod Declaring
 pub mod Answering

@@ -12,12 +12,12 @@ use Rattle.lf.specs.Typing.{TypeAt}
 use Rattle.lf.specs.Variables.{onto}
 use Rattle.lf.proofs.Eta.{reduce_nil}
 use Rattle.lf.proofs.Renaming.{reduction_beta}
-use Rattle.lf.proofs.TypeLaws.{renamings_compose_type}
+use Rattle.lf.proofs.TypeLaws.{renamings_compose_type, skeleton_renamed}
 use Rattle.unification.proofs.Eta.{rename_id_type}
 use Rattle.lf.proofs.SkeletonTyping.{single_by_skeletons, substitution_keeps_skeletons}
 use Rattle.elaboration.specs.Elaboration.{Infers, at_bound, at_free}
 use Rattle.elaboration.specs.State.{State}
-use Rattle.elaboration.specs.Written.{bound, free}
+use Rattle.elaboration.specs.Written.{Place, bound, free}
 use Rattle.unification.specs.OpenTyping.{weaken_past}
 use Rattle.tw_hered.specs.Fits.{TermFits, put_at}
 use Rattle.tw_hered.specs.declared.fault.HeredFault.{HeredFault}
@@ -60,10 +60,12 @@ module _ (es : List Entry) (ns : List ℕ) where
   past_is_shift [] A = sym (ap (λ ρ. rename_type ρ A) no_shift ∙ rename_id_type A)
   past_is_shift (B ∷ D) A = ap weaken (past_is_shift D A) ∙ sym (shift_next (length D) A)
 
-  pub free_inferred : (D : List LfType) (s : State) (i m n : ℕ) (B A : LfType) (R : Term) → slice_get ns i ≡ Some m → s.metavariables m ≡ Some B → n ≡ length D → A ≡ rename_type (lift_renaming_by 0 (shift_by n)) B → R ≡ eta_expand (skeleton B) (metavariable m) nil → Infers es ns D (free i) s s R A
-  free_inferred D s i m n B A R f g k a r =
+  pub free_inferred : (at : Place) (D : List LfType) (s : State) (i m n : ℕ) (B A : LfType) (R : Term) → slice_get ns i ≡ Some m → s.metavariables m ≡ Some B → n ≡ length D → A ≡ rename_type (lift_renaming_by 0 (shift_by n)) B → R ≡ eta_expand (skeleton A) (metavariable m) nil → Infers es ns D (free i at) s s R A
+  free_inferred at D s i m n B A R f g k a r =
       let p : A ≡ weaken_past D B = a ∙ ap (λ j. rename_type (shift_by j) B) k ∙ sym (past_is_shift D B) in
-      subst (λ M. Infers es ns D (free i) s s M A) (sym r) (subst (Infers es ns D (free i) s s (eta_expand (skeleton B) (metavariable m) nil)) (sym p) (at_free f g))
+      let q : skeleton A ≡ skeleton B = ap skeleton a ∙ skeleton_renamed (lift_renaming_by 0 (shift_by n)) B in
+      let t : R ≡ eta_expand (skeleton B) (metavariable m) nil = r ∙ ap (λ b. eta_expand b (metavariable m) nil) q in
+      subst (λ M. Infers es ns D (free i at) s s M A) (sym t) (subst (Infers es ns D (free i at) s s (eta_expand (skeleton B) (metavariable m) nil)) (sym p) (at_free f g))
 
 pub at_mapped : {X Y : Type 0} (f : X → Y) (xs : List X) (i : ℕ) (x : X) → slice_get xs i ≡ Some x → slice_get (map f xs) i ≡ Some (f x)
 at_mapped f [] i x e = absurd cc

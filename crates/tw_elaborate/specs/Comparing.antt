@@ -40,7 +40,7 @@ pub record TakesBoth (K : Kind) (M N : Term) (L : Kind) (old new : Elaboration) 
 
 -- where a type is written at a binder, it was compared with the expected one; else the skeleton is the one of the expected type
 abbrev pub ChecksDomain : List Entry → List ℕ → WrittenDomain → LfType → Elaboration → Elaboration → Type 0
-ChecksDomain es frees (of_skeleton t) A old new = (t ≡ skeleton A) × (made new ≡ made old)
+ChecksDomain es frees (of_skeleton t at) A old new = (t ≡ skeleton A) × (made new ≡ made old)
 ChecksDomain es frees (of_type U) A old new = (s : State) × (X : LfType) × ElaboratesType es frees old.locals U (made old) s X × (skeleton X ≡ skeleton A) × (made new ≡ with_equations (type_equations (signature_of es) old.locals X A) s)
 
 -- the kind takes an argument

@@ -2,9 +2,9 @@ pub mod View
 pub mod Faults
 pub mod Fits
 pub mod Fresh
+pub mod Operators
 pub mod Comparing
 pub mod Deep
-pub mod Places
 pub mod Frees
 pub mod Unbound
 pub mod Bodies

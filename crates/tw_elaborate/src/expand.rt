@@ -15,6 +15,22 @@ use tw_terms::{Open, OpenContext, OpenHead, OpenSpine, OpenTy};
 pub fn expanded(
     alloc: Global,
     head: OpenHead,
+    spine: OpenSpine,
+    ty: &OpenTy,
+) -> Result<Open, AllocError>
+    ensures { IfOk result (λ m. open_term_of m ≡ eta_expand (skeleton (open_type_of ty.now)) (open_head_of head) (open_spine_of spine)) }
+{
+    match ty {
+        OpenTy::Atom(_, _) => Ok(Open::Root(head, spine)),
+        OpenTy::Pi(_, _) => expanded_function(alloc, head, &spine, ty),
+    }
+}
+
+/// The same under a lambda for each argument that the type takes.
+#[inline(never)]
+fn expanded_function(
+    alloc: Global,
+    head: OpenHead,
     spine: &OpenSpine,
     ty: &OpenTy,
 ) -> Result<Open, AllocError>

@@ -27,7 +27,7 @@ pub fn new_term(alloc: Global, state: &mut Elaboration, ty: &OpenTy) -> Result<O
     let closed = closed_over(alloc, &state.locals, copied)?;
     let spine = local_arguments(alloc, &state.locals)?;
     let meta = state.store.fresh(OpenContext::new(alloc), closed)?;
-    expanded(alloc, OpenHead::Meta(meta), &spine, ty)
+    expanded(alloc, OpenHead::Meta(meta), spine, ty)
 }
 
 /// A new metavariable for the first argument of the type, and the type that is left. An atom takes none, and memory counts as used up.

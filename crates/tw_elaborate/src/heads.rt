@@ -5,49 +5,33 @@ ghost use Rattle.lf.specs.Entries.{Entry as Entered, signature_of, IsCanonicalSi
 ghost use Rattle.lf.specs.Substitution.{reduce};
 ghost use Rattle.lf.specs.Syntax.{skeleton};
 ghost use Rattle.elaboration.specs.Elaboration.{ElaboratesFamily, Infers};
-ghost use Rattle.elaboration.specs.Written.{bound as bound_variable, declared as declared_name, family as family_name, free as free_name};
+ghost use Rattle.elaboration.specs.Written.{Place, bound as bound_variable, declared as declared_name, family as family_name, free as free_name};
 ghost use Rattle.tw_terms.specs.OpenView.{open_spine_of, open_term_of, open_type_of};
 ghost use Rattle.tw_elaborate.specs.Deep.{InfersDeep, TakesDeep};
 ghost use Rattle.tw_elaborate.specs.Fits.{GivesArguments, Stands};
 ghost use Rattle.tw_elaborate.specs.Fresh.{Keeps};
+ghost use Rattle.tw_elaborate.specs.Operators.{operator_of};
 ghost use Rattle.tw_elaborate.specs.View.{made, numbers_of, open_kind_of};
 
-use crate::expand::expanded;
 use crate::fault::ElaborateFault;
 use crate::fresh::{kind_take_new, take_new};
 use crate::kinds::open_kind;
+use crate::operators::Operator;
 use crate::state::{Elaboration, OpenKind};
 use std::alloc::{AllocError, Global};
-use tw_lexer::Place;
 use tw_putting::{open_term, open_type, shift_type, substitute};
 use tw_signature::{Body, Signature};
 use tw_terms::{ConstId, MetaId, Open, OpenHead, OpenSpine, OpenTy};
 
-/// A free variable at a place of the text, and its type.
+/// A free variable, which is a metavariable in the empty context, and its type. Where there is no such one, memory counts as used up.
 #[inline(never)]
 pub fn free(
     alloc: Global,
     frees: &[MetaId],
-    state: &mut Elaboration,
-    variable: u64,
-    at: Place,
-) -> Result<(Open, OpenTy), AllocError>
-    ensures ok { IfOk result (λ p. (es : List Entered) → Infers es (numbers_of frees.now) state.old.locals (free_name variable) (made state.old) (made state.new) (open_term_of p.0) (open_type_of p.1)) }
-    ensures keeps { Keeps state.old state.new }
-{
-    let found = free_variable(alloc, frees, state, variable)?;
-    state.come_to_free(variable, at)?;
-    Ok(found)
-}
-
-/// A free variable, which is a metavariable in the empty context, and its type. Where there is no such one, memory counts as used up.
-fn free_variable(
-    alloc: Global,
-    frees: &[MetaId],
     state: &Elaboration,
     variable: u64,
-) -> Result<(Open, OpenTy), AllocError>
-    ensures { IfOk result (λ p. (es : List Entered) → Infers es (numbers_of frees.now) state.now.locals (free_name variable) (made state.now) (made state.now) (open_term_of p.0) (open_type_of p.1)) }
+) -> Result<(Operator, OpenTy), AllocError>
+    ensures { IfOk result (λ p. (es : List Entered) (at : Place) → Infers es (numbers_of frees.now) state.now.locals (free_name variable at) (made state.now) (made state.now) (operator_of (skeleton (open_type_of p.1)) p.0) (open_type_of p.1)) }
 {
     let Some(meta) = frees.get(variable as usize) else {
         return Err(AllocError);
@@ -58,8 +42,8 @@ fn free_variable(
     let spine = OpenSpine {
         args: Vec::new(alloc),
     };
-    let term = expanded(alloc, OpenHead::Meta(*meta), &spine, ty)?;
-    Ok((term, shift_type(alloc, ty, state.locals.len() as u64, 0)?))
+    let ty = shift_type(alloc, ty, state.locals.len() as u64, 0)?;
+    Ok((Operator::Head(OpenHead::Meta(*meta), spine), ty))
 }
 
 /// A variable in scope and its type. Where there is no such one, memory counts as used up.
@@ -68,8 +52,8 @@ pub fn bound(
     alloc: Global,
     state: &Elaboration,
     variable: u64,
-) -> Result<(Open, OpenTy), AllocError>
-    ensures { IfOk result (λ p. (es : List Entered) (numbers : List ℕ) → Infers es numbers state.now.locals (bound_variable variable) (made state.now) (made state.now) (open_term_of p.0) (open_type_of p.1)) }
+) -> Result<(Operator, OpenTy), AllocError>
+    ensures { IfOk result (λ p. (es : List Entered) (numbers : List ℕ) → Infers es numbers state.now.locals (bound_variable variable) (made state.now) (made state.now) (operator_of (skeleton (open_type_of p.1)) p.0) (open_type_of p.1)) }
 {
     let Some(ty) = state.locals.get(variable) else {
         return Err(AllocError);
@@ -79,39 +63,21 @@ pub fn bound(
     let spine = OpenSpine {
         args: Vec::new(alloc),
     };
-    Ok((expanded(alloc, OpenHead::Var(variable), &spine, &ty)?, ty))
+    Ok((Operator::Head(OpenHead::Var(variable), spine), ty))
 }
 
-/// A constant at a place of the text, or the term that a definition stands for, on new metavariables for its implicit arguments.
+/// A constant, or the term that a definition stands for, on new metavariables for its implicit arguments. Where there is no such one, memory counts as used up.
 #[inline(never)]
 pub fn declared(
     alloc: Global,
     signature: &Signature,
     state: &mut Elaboration,
     id: ConstId,
-    at: Place,
-) -> Result<(Open, OpenTy), ElaborateFault>
+) -> Result<(Operator, OpenTy), ElaborateFault>
     requires canonical { IsCanonicalSignature signature.now }
     requires stands { Stands (signature_of signature.now) (made state.old) state.old.locals }
-    ensures ok { IfOk result (λ p. (numbers : List ℕ) → Infers signature.now numbers state.old.locals (declared_name id.0) (made state.old) (made state.new) (open_term_of p.0) (open_type_of p.1)) }
-    ensures too_deep { IsErrOf result ElaborateFault.TooDeep → (numbers : List ℕ) → InfersDeep signature.now numbers state.old.locals (declared_name id.0) (made state.old) }
-    ensures keeps { Keeps state.old state.new }
-{
-    state.come_to(at)?;
-    constant(alloc, signature, state, id)
-}
-
-/// A constant, or the term that a definition stands for. Where there is no such one, memory counts as used up.
-fn constant(
-    alloc: Global,
-    signature: &Signature,
-    state: &mut Elaboration,
-    id: ConstId,
-) -> Result<(Open, OpenTy), ElaborateFault>
-    requires canonical { IsCanonicalSignature signature.now }
-    requires stands { Stands (signature_of signature.now) (made state.old) state.old.locals }
-    ensures ok { IfOk result (λ p. (numbers : List ℕ) → Infers signature.now numbers state.old.locals (declared_name id.0) (made state.old) (made state.new) (open_term_of p.0) (open_type_of p.1)) }
-    ensures too_deep { IsErrOf result ElaborateFault.TooDeep → (numbers : List ℕ) → InfersDeep signature.now numbers state.old.locals (declared_name id.0) (made state.old) }
+    ensures ok { IfOk result (λ p. (numbers : List ℕ) (at : Place) → Infers signature.now numbers state.old.locals (declared_name id.0 at) (made state.old) (made state.new) (operator_of (skeleton (open_type_of p.1)) p.0) (open_type_of p.1)) }
+    ensures too_deep { IsErrOf result ElaborateFault.TooDeep → (numbers : List ℕ) (at : Place) → InfersDeep signature.now numbers state.old.locals (declared_name id.0 at) (made state.old) }
     ensures keeps { Keeps state.old state.new }
 {
     let Some(entry) = signature.entry(id) else {
@@ -122,7 +88,7 @@ fn constant(
         Body::Constant(ty) => {
             let ty = open_type(alloc, ty)?;
             let (spine, rest) = take_new(alloc, state, implicit, ty)?;
-            Ok((expanded(alloc, OpenHead::Const(id), &spine, &rest)?, rest))
+            Ok((Operator::Head(OpenHead::Const(id), spine), rest))
         }
         Body::Defined {
             term,
@@ -132,7 +98,7 @@ fn constant(
             let whole = open_type(alloc, ty)?;
             let (spine, rest) = take_new(alloc, state, implicit, open_type(alloc, ty)?)?;
             let term = on_arguments(alloc, open_term(alloc, term)?, &spine, &whole)?;
-            Ok((term, rest))
+            Ok((Operator::Term(term), rest))
         }
         Body::Family(_) => Err(ElaborateFault::NoMemory),
     }
@@ -163,34 +129,17 @@ fn on_arguments(
     Ok(body)
 }
 
-/// A family at a place of the text, on new metavariables for its implicit arguments, and the kind that is left.
+/// A family on new metavariables for its implicit arguments, and the kind that is left. Where there is no such one, memory counts as used up.
 #[inline(never)]
 pub fn named_family(
     alloc: Global,
     signature: &Signature,
     state: &mut Elaboration,
     id: ConstId,
-    at: Place,
 ) -> Result<(OpenSpine, OpenKind), AllocError>
     requires canonical { IsCanonicalSignature signature.now }
     requires stands { Stands (signature_of signature.now) (made state.old) state.old.locals }
-    ensures ok { IfOk result (λ p. (numbers : List ℕ) → ElaboratesFamily signature.now numbers state.old.locals (family_name id.0) (made state.old) (made state.new) id.0 (open_spine_of p.0) (open_kind_of p.1)) }
-    ensures keeps { Keeps state.old state.new }
-{
-    state.come_to(at)?;
-    family(alloc, signature, state, id)
-}
-
-/// A family on new metavariables. Where there is no such one, memory counts as used up.
-fn family(
-    alloc: Global,
-    signature: &Signature,
-    state: &mut Elaboration,
-    id: ConstId,
-) -> Result<(OpenSpine, OpenKind), AllocError>
-    requires canonical { IsCanonicalSignature signature.now }
-    requires stands { Stands (signature_of signature.now) (made state.old) state.old.locals }
-    ensures ok { IfOk result (λ p. (numbers : List ℕ) → ElaboratesFamily signature.now numbers state.old.locals (family_name id.0) (made state.old) (made state.new) id.0 (open_spine_of p.0) (open_kind_of p.1)) }
+    ensures ok { IfOk result (λ p. (numbers : List ℕ) (at : Place) → ElaboratesFamily signature.now numbers state.old.locals (family_name id.0 at) (made state.old) (made state.new) id.0 (open_spine_of p.0) (open_kind_of p.1)) }
     ensures keeps { Keeps state.old state.new }
 {
     let Some(entry) = signature.entry(id) else {

@@ -1,8 +1,8 @@
 //! Holes, for which metavariables stand.
 ghost use Rattle.std.specs.Prelude.{List, ℕ, IfOk, ◌≡◌};
 ghost use Rattle.lf.specs.Entries.{Entry as Entered, signature_of, IsCanonicalSignature};
-ghost use Rattle.elaboration.specs.Elaboration.{Checks, Infers, NewType};
-ghost use Rattle.elaboration.specs.Written.{hole};
+ghost use Rattle.elaboration.specs.Elaboration.{Checks, Infers};
+ghost use Rattle.elaboration.specs.Written.{Place, hole};
 ghost use Rattle.tw_terms.specs.OpenView.{open_term_of, open_type_of};
 ghost use Rattle.tw_terms.specs.View.{skeleton_of};
 ghost use Rattle.tw_elaborate.specs.Fits.{Stands};
@@ -13,28 +13,8 @@ use crate::equations::has_skeleton;
 use crate::fresh::{new_term, new_type};
 use crate::state::Elaboration;
 use std::alloc::{AllocError, Global};
-use tw_lexer::Place;
 use tw_signature::Signature;
 use tw_terms::{Open, OpenTy, Skeleton};
-
-/// The most general type of the skeleton, for a hole or a binder at a place of the text.
-#[inline(never)]
-pub fn type_hole(
-    alloc: Global,
-    signature: &Signature,
-    state: &mut Elaboration,
-    skeleton: &Skeleton,
-    at: Place,
-    frames: u32,
-) -> Result<OpenTy, AllocError>
-    requires canonical { IsCanonicalSignature signature.now }
-    requires stands { Stands (signature_of signature.now) (made state.old) state.old.locals }
-    ensures ok { IfOk result (λ a. NewType signature.now state.old.locals (skeleton_of skeleton.now) (made state.old) (made state.new) (open_type_of a)) }
-    ensures keeps { Keeps state.old state.new }
-{
-    state.come_to(at)?;
-    new_type(alloc, signature, state, skeleton, frames)
-}
 
 /// A new metavariable of the most general type of the skeleton, and that type.
 #[inline(never)]
@@ -43,15 +23,14 @@ pub fn term_hole(
     signature: &Signature,
     state: &mut Elaboration,
     skeleton: &Skeleton,
-    at: Place,
     frames: u32,
 ) -> Result<(Open, OpenTy), AllocError>
     requires canonical { IsCanonicalSignature signature.now }
     requires stands { Stands (signature_of signature.now) (made state.old) state.old.locals }
-    ensures ok { IfOk result (λ p. (numbers : List ℕ) → Infers signature.now numbers state.old.locals (hole (skeleton_of skeleton.now)) (made state.old) (made state.new) (open_term_of p.0) (open_type_of p.1)) }
+    ensures ok { IfOk result (λ p. (numbers : List ℕ) (at : Place) → Infers signature.now numbers state.old.locals (hole (skeleton_of skeleton.now) at) (made state.old) (made state.new) (open_term_of p.0) (open_type_of p.1)) }
     ensures keeps { Keeps state.old state.new }
 {
-    let ty = type_hole(alloc, signature, state, skeleton, at, frames)?;
+    let ty = new_type(alloc, signature, state, skeleton, frames)?;
     Ok((new_term(alloc, state, &ty)?, ty))
 }
 
@@ -61,15 +40,13 @@ pub fn checked_hole(
     alloc: Global,
     state: &mut Elaboration,
     skeleton: &Skeleton,
-    at: Place,
     expected: &OpenTy,
 ) -> Result<Open, AllocError>
-    ensures ok { IfOk result (λ m. (es : List Entered) (numbers : List ℕ) → Checks es numbers state.old.locals (hole (skeleton_of skeleton.now)) (open_type_of expected.now) (made state.old) (made state.new) (open_term_of m)) }
+    ensures ok { IfOk result (λ m. (es : List Entered) (numbers : List ℕ) (at : Place) → Checks es numbers state.old.locals (hole (skeleton_of skeleton.now) at) (open_type_of expected.now) (made state.old) (made state.new) (open_term_of m)) }
     ensures keeps { Keeps state.old state.new }
 {
     if !has_skeleton(expected, skeleton) {
         return Err(AllocError);
     }
-    state.come_to(at)?;
     new_term(alloc, state, expected)
 }

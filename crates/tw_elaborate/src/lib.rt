@@ -20,6 +20,8 @@ mod holes;
 #[tactic(auto, using(crate::proofs::Steps::steps))]
 mod kinds;
 #[tactic(auto, using(crate::proofs::Steps::steps))]
+mod operators;
+#[tactic(auto, using(crate::proofs::Steps::steps))]
 mod parts;
 mod state;
 #[tactic(auto, using(crate::proofs::Steps::steps))]
@@ -28,7 +30,7 @@ mod terms;
 pub use bodies::{Elaborated, OpenBody, elaborate};
 pub use fault::ElaborateFault;
 pub use frames::FRAMES;
-pub use state::{Elaboration, Mark, OpenKind};
+pub use state::{Elaboration, OpenKind};
 pub use terms::{check, elaborate_kind, elaborate_type, infer};
 
 #[cfg(test)]

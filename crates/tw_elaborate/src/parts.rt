@@ -1,14 +1,11 @@
 //! Terms, types and kinds put together of their parts.
-ghost use Rattle.std.specs.Prelude.{◌≡◌, suc, zero, IfOk, IsErrOf, OnOk};
-ghost use Rattle.lf.specs.Deep.{DeepSubstitution};
-ghost use Rattle.lf.specs.Depth.{depth_limit};
+ghost use Rattle.std.specs.Prelude.{◌≡◌, suc, IfOk, OnOk};
 ghost use Rattle.lf.specs.Entries.{signature_of, IsCanonicalSignature};
 ghost use Rattle.lf.specs.Eta.{add_last};
-ghost use Rattle.lf.specs.Substitution.{reduce, single, substitute as put_in};
+ghost use Rattle.lf.specs.Substitution.{single};
 ghost use Rattle.lf.specs.Syntax.{kind_pi as kind_pi_of, lambda as lambda_of, pi as pi_of, rename_kind, skeleton, weaken};
-ghost use Rattle.lf.specs.Typing.{instantiate_kind as instantiate_kind_of, instantiate_type};
+ghost use Rattle.lf.specs.Typing.{instantiate_kind as instantiate_kind_of};
 ghost use Rattle.elaboration.specs.Skeletons.{KindHasSkeletons};
-ghost use Rattle.tw_hered.specs.Fits.{TermFits, TypeFits};
 ghost use Rattle.tw_terms.specs.OpenView.{open_spine_of, open_term_of, open_type_of};
 ghost use Rattle.tw_elaborate.specs.Comparing.{ComparesKinds, IsProduct};
 ghost use Rattle.tw_elaborate.specs.Fits.{KindFits};
@@ -17,11 +14,10 @@ ghost use Rattle.tw_elaborate.specs.View.{made, open_kind_of};
 
 use crate::equations::compare_kinds;
 use crate::expand::{lambda, pi, with_argument};
-use crate::fault::ElaborateFault;
 use crate::kinds::{instantiate_kind, kind_pi, weakened_kind};
 use crate::state::{Elaboration, OpenKind};
 use std::alloc::{AllocError, Global};
-use tw_putting::{instantiate, shift_type, substitute};
+use tw_putting::shift_type;
 use tw_signature::Signature;
 use tw_terms::{Open, OpenSpine, OpenTy};
 
@@ -36,24 +32,6 @@ pub fn function(
     ensures { IfOk result (λ p. (open_term_of p.0 ≡ lambda_of (open_term_of body)) × (open_type_of p.1 ≡ pi_of (open_type_of domain) (open_type_of range))) }
 {
     Ok((lambda(alloc, body)?, pi(alloc, domain, range)?))
-}
-
-/// A function's body with the argument put in, and its type.
-#[inline(never)]
-pub fn application(
-    alloc: Global,
-    body: &Open,
-    domain: &OpenTy,
-    range: &OpenTy,
-    arg: &Open,
-) -> Result<(Open, OpenTy), ElaborateFault>
-    requires body { TermFits (single (skeleton (open_type_of domain.now)) (open_term_of arg.now)) (open_term_of body.now) }
-    requires range { TypeFits (single (skeleton (open_type_of domain.now)) (open_term_of arg.now)) (open_type_of range.now) }
-    ensures ok { IfOk result (λ p. (open_term_of p.0 ≡ put_in reduce (single (skeleton (open_type_of domain.now)) (open_term_of arg.now)) (open_term_of body.now)) × (open_type_of p.1 ≡ instantiate_type (open_type_of domain.now) (open_term_of arg.now) (open_type_of range.now))) }
-    ensures too_deep { IsErrOf result ElaborateFault.TooDeep → DeepSubstitution depth_limit (single (skeleton (open_type_of domain.now)) (open_term_of arg.now)) (open_term_of body.now) }
-{
-    let term = substitute(alloc, body, 0, arg, domain)?;
-    Ok((term, instantiate(alloc, range, arg, domain)?))
 }
 
 /// The type of functions whose variable isn't in scope in the range.

@@ -1,14 +1,16 @@
 //! Terms: with the type that is found, or at an expected one; types, families and kinds.
 ghost use Rattle.std.specs.Prelude.{IfOk, IsErrOf, OnOk};
 ghost use Rattle.lf.specs.Entries.{signature_of, IsCanonicalSignature};
+ghost use Rattle.lf.specs.Syntax.{skeleton as skeleton_of_type};
 ghost use Rattle.elaboration.specs.Elaboration.{Checks, ElaboratesDomain, ElaboratesFamily, ElaboratesKind, ElaboratesType, Infers};
 ghost use Rattle.elaboration.specs.Skeletons.{TypeHasSkeletons};
-ghost use Rattle.elaboration.specs.Written.{applied as applied_of, function as function_of};
+ghost use Rattle.elaboration.specs.Written.{function as function_of};
 ghost use Rattle.tw_terms.specs.OpenView.{open_spine_of, open_term_of, open_type_of};
 ghost use Rattle.tw_elaborate.specs.Comparing.{ChecksDomain};
 ghost use Rattle.tw_elaborate.specs.Deep.{ChecksDeep, DomainDeep, FamilyDeep, InfersDeep, KindDeep, TypeDeep};
 ghost use Rattle.tw_elaborate.specs.Fits.{Stands};
 ghost use Rattle.tw_elaborate.specs.Fresh.{Keeps};
+ghost use Rattle.tw_elaborate.specs.Operators.{operator_of};
 ghost use Rattle.tw_elaborate.specs.View.{made, numbers_of, open_kind_of};
 ghost use Rattle.tw_written.specs.View.{written_domain_of, written_kind_of, written_of, written_type_of};
 
@@ -16,12 +18,12 @@ use crate::equations::{compare_types, has_skeleton};
 use crate::expand::{lambda, pi};
 use crate::fault::ElaborateFault;
 use crate::frames::nested;
+use crate::fresh::new_type;
 use crate::heads::{bound, declared, free, named_family};
-use crate::holes::{checked_hole, term_hole, type_hole};
+use crate::holes::{checked_hole, term_hole};
 use crate::kinds::kind_pi;
-use crate::parts::{
-    application, arrow, compare_ascribed, family_application, function, kind_arrow,
-};
+use crate::operators::{Operator, product, put, row, whole};
+use crate::parts::{arrow, compare_ascribed, family_application, function, kind_arrow};
 use crate::state::{Elaboration, OpenKind};
 use std::alloc::Global;
 use tw_signature::Signature;
@@ -48,18 +50,14 @@ pub fn infer(
 {
     let frames = nested(frames)?;
     match written {
-        Written::Free(variable, at) => Ok(free(alloc, frees, state, *variable, *at)?),
-        Written::Bound(variable) => Ok(bound(alloc, state, *variable)?),
-        Written::Declared(id, at) => declared(alloc, signature, state, *id, *at),
-        Written::Hole(skeleton, at) => Ok(term_hole(
-            alloc, signature, state, skeleton, *at, frames,
-        )?),
+        Written::Hole(skeleton, _) => Ok(term_hole(alloc, signature, state, skeleton, frames)?),
         Written::Function(domain, body) => infer_function(
             alloc, signature, frees, state, domain, body, frames,
         ),
-        Written::Applied(function, arg) => infer_applied(
-            alloc, signature, frees, state, function, arg, frames,
-        ),
+        Written::Free(_, _)
+        | Written::Bound(_)
+        | Written::Declared(_, _)
+        | Written::Applied(_, _) => infer_applied(alloc, signature, frees, state, written, frames),
         Written::Ascribed(term, ty) => {
             let ty = elaborate_type(alloc, signature, frees, state, ty, frames)?;
             let term = check(alloc, signature, frees, state, term, &ty, frames)?;
@@ -94,7 +92,7 @@ fn infer_function(
     Ok(function(alloc, domain, body, range)?)
 }
 
-/// A function on an argument, which is put in, and its type.
+/// A row of arguments, none or more, put to what stands before them, and the type that is left.
 #[cycle(elaborate)]
 #[inline(never)]
 fn infer_applied(
@@ -102,23 +100,55 @@ fn infer_applied(
     signature: &Signature,
     frees: &[MetaId],
     state: &mut Elaboration,
-    function: &Written,
-    arg: &Written,
+    written: &Written,
     frames: u32,
 ) -> Result<(Open, OpenTy), ElaborateFault>
     requires canonical { IsCanonicalSignature signature.now }
     requires stands { Stands (signature_of signature.now) (made state.old) state.old.locals }
-    ensures ok { IfOk result (λ p. Infers signature.now (numbers_of frees.now) state.old.locals (applied_of (written_of function.now) (written_of arg.now)) (made state.old) (made state.new) (open_term_of p.0) (open_type_of p.1)) }
-    ensures too_deep { IsErrOf result ElaborateFault.TooDeep → InfersDeep signature.now (numbers_of frees.now) state.old.locals (applied_of (written_of function.now) (written_of arg.now)) (made state.old) }
+    ensures ok { IfOk result (λ p. Infers signature.now (numbers_of frees.now) state.old.locals (written_of written.now) (made state.old) (made state.new) (open_term_of p.0) (open_type_of p.1)) }
+    ensures too_deep { IsErrOf result ElaborateFault.TooDeep → InfersDeep signature.now (numbers_of frees.now) state.old.locals (written_of written.now) (made state.old) }
     ensures keeps { Keeps state.old state.new }
 {
-    let (function, ty) = infer(alloc, signature, frees, state, function, frames)?;
-    match (function, ty) {
-        (Open::Lam(body), OpenTy::Pi(domain, range)) => {
-            let arg = check(alloc, signature, frees, state, arg, &domain, frames)?;
-            application(alloc, &body, &domain, &range, &arg)
+    let (head, mut args) = row(alloc, written)?;
+    let (mut operator, mut ty) = elaborate_operator(alloc, signature, frees, state, head, frames)?;
+    while let Some(arg) = args.pop() {
+        let (domain, range) = product(ty)?;
+        let arg = check(alloc, signature, frees, state, arg, &domain, frames)?;
+        let (longer, rest) = put(alloc, operator, &domain, range, arg)?;
+        operator = longer;
+        ty = rest;
+    }
+    Ok((whole(alloc, operator, &ty)?, ty))
+}
+
+/// What stands before arguments, and its type.
+#[cycle(elaborate)]
+#[inline(never)]
+fn elaborate_operator(
+    alloc: Global,
+    signature: &Signature,
+    frees: &[MetaId],
+    state: &mut Elaboration,
+    written: &Written,
+    frames: u32,
+) -> Result<(Operator, OpenTy), ElaborateFault>
+    requires canonical { IsCanonicalSignature signature.now }
+    requires stands { Stands (signature_of signature.now) (made state.old) state.old.locals }
+    ensures ok { IfOk result (λ p. Infers signature.now (numbers_of frees.now) state.old.locals (written_of written.now) (made state.old) (made state.new) (operator_of (skeleton_of_type (open_type_of p.1)) p.0) (open_type_of p.1)) }
+    ensures too_deep { IsErrOf result ElaborateFault.TooDeep → InfersDeep signature.now (numbers_of frees.now) state.old.locals (written_of written.now) (made state.old) }
+    ensures keeps { Keeps state.old state.new }
+{
+    match written {
+        Written::Free(variable, _) => Ok(free(alloc, frees, state, *variable)?),
+        Written::Bound(variable) => Ok(bound(alloc, state, *variable)?),
+        Written::Declared(id, _) => declared(alloc, signature, state, *id),
+        Written::Hole(_, _)
+        | Written::Function(_, _)
+        | Written::Applied(_, _)
+        | Written::Ascribed(_, _) => {
+            let (term, ty) = infer(alloc, signature, frees, state, written, frames)?;
+            Ok((Operator::Term(term), ty))
         }
-        _ => Err(ElaborateFault::NoMemory),
     }
 }
 
@@ -142,7 +172,7 @@ pub fn check(
 {
     let frames = nested(frames)?;
     match written {
-        Written::Hole(skeleton, at) => Ok(checked_hole(alloc, state, skeleton, *at, expected)?),
+        Written::Hole(skeleton, _) => Ok(checked_hole(alloc, state, skeleton, expected)?),
         Written::Function(domain, body) => check_function(
             alloc, signature, frees, state, domain, body, expected, frames,
         ),
@@ -244,9 +274,7 @@ pub fn elaborate_type(
 {
     let frames = nested(frames)?;
     match written {
-        WrittenType::Hole(skeleton, at) => Ok(type_hole(
-            alloc, signature, state, skeleton, *at, frames,
-        )?),
+        WrittenType::Hole(skeleton, _) => Ok(new_type(alloc, signature, state, skeleton, frames)?),
         WrittenType::Arrow(domain, range) => {
             let domain = elaborate_type(alloc, signature, frees, state, domain, frames)?;
             let range = elaborate_type(alloc, signature, frees, state, range, frames)?;
@@ -296,8 +324,8 @@ fn elaborate_domain(
 {
     let frames = nested(frames)?;
     match written {
-        WrittenDomain::OfSkeleton(skeleton, at) => Ok(type_hole(
-            alloc, signature, state, skeleton, *at, frames,
+        WrittenDomain::OfSkeleton(skeleton, _) => Ok(new_type(
+            alloc, signature, state, skeleton, frames,
         )?),
         WrittenDomain::OfType(ty) => elaborate_type(alloc, signature, frees, state, ty, frames),
     }
@@ -321,8 +349,8 @@ fn elaborate_family(
 {
     let frames = nested(frames)?;
     match written {
-        WrittenType::Family(id, at) => {
-            let (spine, kind) = named_family(alloc, signature, state, *id, *at)?;
+        WrittenType::Family(id, _) => {
+            let (spine, kind) = named_family(alloc, signature, state, *id)?;
             Ok((*id, spine, kind))
         }
         WrittenType::Applied(family, arg) => {

@@ -7,7 +7,7 @@ use crate::{ElaborateFault, Elaborated, OpenBody, OpenKind, elaborate};
 use std::alloc::{AllocError, Global};
 use std::test::Fail;
 use tw_fixity::Name;
-use tw_kernel::{Verdict, check_kind, check_type};
+use tw_kernel::{Verdict, check_kind, check_term, check_type};
 use tw_lexer::Place;
 use tw_signature::{Body, Entry, Signature};
 use tw_terms::{
@@ -31,6 +31,12 @@ const NIL: ConstId = ConstId(4);
 
 const CONS: ConstId = ConstId(5);
 
+const APPEND: ConstId = ConstId(6);
+
+const ITERATE: ConstId = ConstId(7);
+
+const DOUBLE: ConstId = ConstId(8);
+
 fn name_of(id: ConstId) -> &'static str {
     match id.0 {
         0 => "nat",
@@ -39,6 +45,8 @@ fn name_of(id: ConstId) -> &'static str {
         3 => "vec",
         4 => "nil",
         5 => "cons",
+        6 => "append",
+        7 => "iterate",
         _ => "?",
     }
 }
@@ -118,6 +126,39 @@ fn add_constant(
     Ok(())
 }
 
+// declares a definition of the type
+fn add_definition(
+    alloc: Global,
+    signature: &mut Signature,
+    term: Term,
+    ty: Ty,
+) -> Result<(), Fail> {
+    let context = Context::new(alloc);
+    match check_type(alloc, signature, &context, &ty)? {
+        Verdict::Typed => (),
+        Verdict::IllTyped | Verdict::TooDeep => return Err("no type")?,
+    }
+    match check_term(alloc, signature, &context, &term, &ty)? {
+        Verdict::Typed => (),
+        Verdict::IllTyped | Verdict::TooDeep => return Err("not of the type")?,
+    }
+    if ty.depth() > DEPTH_LIMIT || term.depth() > DEPTH_LIMIT {
+        return Err("a deep definition")?;
+    }
+    let hints = type_hints(alloc, &ty)?;
+    signature.add(Entry {
+        name: Name::from_text(alloc, "d")?,
+        body: Body::Defined {
+            term,
+            ty,
+            abbrev: false,
+        },
+        implicit: 0,
+        hints,
+    })?;
+    Ok(())
+}
+
 fn alone(alloc: Global, head: Head) -> Term {
     Term::Root(
         head,
@@ -168,6 +209,28 @@ fn vectors(alloc: Global) -> Result<Signature, Fail> {
     let step = pi(alloc, shorter, vec_of(alloc, next)?)?;
     let whole = pi(alloc, nat(alloc), step)?;
     add_constant(alloc, &mut signature, whole, 1)?;
+    Ok(signature)
+}
+
+// these, and append : {n} {m} vec n -> vec m -> vec (s n), iterate : (nat -> nat) -> nat -> nat, and double = [x] s (s x)
+fn functions(alloc: Global) -> Result<Signature, Fail> {
+    let mut signature = vectors(alloc)?;
+    let longer = vec_of(
+        alloc,
+        on(alloc, Head::Const(S), alone(alloc, Head::Var(3)))?,
+    )?;
+    let second = pi(alloc, vec_of(alloc, alone(alloc, Head::Var(1)))?, longer)?;
+    let first = pi(alloc, vec_of(alloc, alone(alloc, Head::Var(1)))?, second)?;
+    let lengths = pi(alloc, nat(alloc), pi(alloc, nat(alloc), first)?)?;
+    add_constant(alloc, &mut signature, lengths, 0)?;
+    let step = pi(alloc, nat(alloc), nat(alloc))?;
+    let iterate = pi(alloc, step, pi(alloc, nat(alloc), nat(alloc))?)?;
+    add_constant(alloc, &mut signature, iterate, 0)?;
+    let next = on(alloc, Head::Const(S), alone(alloc, Head::Var(0)))?;
+    let body = on(alloc, Head::Const(S), next)?;
+    let double = Term::Lam(Box::new(alloc, body)?);
+    let ty = pi(alloc, nat(alloc), nat(alloc))?;
+    add_definition(alloc, &mut signature, double, ty)?;
     Ok(signature)
 }
 
@@ -281,6 +344,24 @@ fn applied(alloc: Global, function: Written, arg: Written) -> Result<Written, Al
     Ok(Written::Applied(function, Box::new(alloc, arg)?))
 }
 
+// the function on each of the arguments
+fn row(alloc: Global, function: Written, args: Vec<Written>) -> Result<Written, AllocError> {
+    let mut term = function;
+    for arg in args {
+        term = applied(alloc, term, arg)?;
+    }
+    Ok(term)
+}
+
+// what a definition of the term comes to
+fn term_answer(alloc: Global, signature: &Signature, term: Written) -> Result<String, AllocError> {
+    answer(alloc, signature, &[], &WrittenBody::Definition(term, false))
+}
+
+fn one(alloc: Global) -> Result<Written, AllocError> {
+    applied(alloc, declared(S), declared(Z))
+}
+
 fn vec_type(alloc: Global, length: Written) -> Result<WrittenType, AllocError> {
     let family = Box::new(alloc, WrittenType::Family(VEC, NOWHERE))?;
     Ok(WrittenType::Applied(family, Box::new(alloc, length)?))
@@ -293,6 +374,16 @@ fn arrow(
 ) -> Result<WrittenType, AllocError> {
     let domain = Box::new(alloc, domain)?;
     Ok(WrittenType::Arrow(domain, Box::new(alloc, range)?))
+}
+
+// [x : domain] body
+fn lambda(alloc: Global, domain: WrittenType, body: Written) -> Result<Written, AllocError> {
+    let domain = WrittenDomain::OfType(Box::new(alloc, domain)?);
+    Ok(Written::Function(domain, Box::new(alloc, body)?))
+}
+
+fn nat_type() -> WrittenType {
+    WrittenType::Family(NAT, NOWHERE)
 }
 
 // [x] x, where x has the skeleton of the family
@@ -408,5 +499,128 @@ fn what_has_no_skeleton_is_not_elaborated(rt: HostRuntime) -> Result<(), Fail> {
     let body = WrittenBody::Constant(WrittenType::Family(NAT, NOWHERE));
     let line = answer(alloc, &signature, &[Skeleton::Base(Z)], &body)?;
     assert_eq!(rt; line.as_str(), "no memory");
+    Ok(())
+}
+
+#[test]
+fn a_row_of_arguments_is_of_dependent_types(rt: HostRuntime) -> Result<(), Fail> {
+    let alloc = rt.alloc();
+    let signature = functions(alloc)?;
+    let args = vec![in alloc; declared(Z), one(alloc)?, declared(NIL), declared(NIL)]?;
+    let line = term_answer(alloc, &signature, row(alloc, declared(APPEND), args)?)?;
+    assert_eq!(rt;
+        line.as_str(),
+        "append (z) (s (z)) (nil) (nil) : vec (s (z)); z = z : nat; z = s (z) : nat"
+    );
+    let args = vec![in alloc;
+        declared(Z),
+        declared(Z),
+        declared(NIL),
+        declared(NIL),
+        declared(Z),
+    ]?;
+    let line = term_answer(alloc, &signature, row(alloc, declared(APPEND), args)?)?;
+    assert_eq!(rt; line.as_str(), "no memory");
+    Ok(())
+}
+
+#[test]
+fn a_head_is_short_of_arguments(rt: HostRuntime) -> Result<(), Fail> {
+    let alloc = rt.alloc();
+    let signature = functions(alloc)?;
+    let line = term_answer(
+        alloc,
+        &signature,
+        applied(alloc, declared(APPEND), declared(Z))?,
+    )?;
+    assert_eq!(rt;
+        line.as_str(),
+        "\\\\\\append (z) (x2) (x1) (x0) : {nat} {vec (z)} {vec (x1)} vec (s (z))"
+    );
+    let args = vec![in alloc; declared(Z), one(alloc)?, declared(NIL)]?;
+    let line = term_answer(alloc, &signature, row(alloc, declared(APPEND), args)?)?;
+    assert_eq!(rt;
+        line.as_str(),
+        "\\append (z) (s (z)) (nil) (x0) : {vec (s (z))} vec (s (z)); z = z : nat"
+    );
+    Ok(())
+}
+
+#[test]
+fn an_argument_is_a_function(rt: HostRuntime) -> Result<(), Fail> {
+    let alloc = rt.alloc();
+    let signature = functions(alloc)?;
+    let args = vec![in alloc; declared(S), declared(Z)]?;
+    let line = term_answer(alloc, &signature, row(alloc, declared(ITERATE), args)?)?;
+    assert_eq!(rt; line.as_str(), "iterate (\\s (x0)) (z) : nat");
+    let inner = applied(alloc, declared(ITERATE), declared(S))?;
+    let args = vec![in alloc; inner, declared(Z)]?;
+    let line = term_answer(alloc, &signature, row(alloc, declared(ITERATE), args)?)?;
+    assert_eq!(rt;
+        line.as_str(),
+        "iterate (\\iterate (\\s (x0)) (x0)) (z) : nat"
+    );
+    let args = vec![in alloc; declared(Z), declared(Z)]?;
+    let line = term_answer(alloc, &signature, row(alloc, declared(ITERATE), args)?)?;
+    assert_eq!(rt; line.as_str(), "no memory");
+    Ok(())
+}
+
+#[test]
+fn a_variable_is_a_function(rt: HostRuntime) -> Result<(), Fail> {
+    let alloc = rt.alloc();
+    let signature = functions(alloc)?;
+    let once = applied(alloc, Written::Bound(1), Written::Bound(0))?;
+    let twice = applied(alloc, Written::Bound(1), once)?;
+    let inner = lambda(alloc, nat_type(), twice)?;
+    let domain = arrow(alloc, nat_type(), nat_type())?;
+    let line = term_answer(alloc, &signature, lambda(alloc, domain, inner)?)?;
+    assert_eq!(rt; line.as_str(), "\\\\x1 (x1 (x0)) : {{nat} nat} {nat} nat");
+    let short = applied(alloc, declared(ITERATE), Written::Bound(0))?;
+    let domain = arrow(alloc, nat_type(), nat_type())?;
+    let line = term_answer(alloc, &signature, lambda(alloc, domain, short)?)?;
+    assert_eq!(rt;
+        line.as_str(),
+        "\\\\iterate (\\x2 (x0)) (x0) : {{nat} nat} {nat} nat"
+    );
+    Ok(())
+}
+
+#[test]
+fn a_free_function_is_on_an_argument(rt: HostRuntime) -> Result<(), Fail> {
+    let alloc = rt.alloc();
+    let signature = functions(alloc)?;
+    let domain = Box::new(alloc, Skeleton::Base(NAT))?;
+    let skeleton = Skeleton::Arrow(domain, Box::new(alloc, Skeleton::Base(VEC))?);
+    let term = applied(alloc, Written::Free(0, NOWHERE), declared(Z))?;
+    let line = answer(
+        alloc,
+        &signature,
+        &[skeleton],
+        &WrittenBody::Definition(term, false),
+    )?;
+    assert_eq!(rt;
+        line.as_str(),
+        "?1 (z) : vec (?0 (z)); free ?1; ?0 : {nat} nat; ?1 : {nat} vec (?0 (x0))"
+    );
+    Ok(())
+}
+
+#[test]
+fn arguments_are_put_into_a_term(rt: HostRuntime) -> Result<(), Fail> {
+    let alloc = rt.alloc();
+    let signature = functions(alloc)?;
+    let inner = applied(alloc, declared(DOUBLE), declared(Z))?;
+    let line = term_answer(alloc, &signature, applied(alloc, declared(DOUBLE), inner)?)?;
+    assert_eq!(rt; line.as_str(), "s (s (s (s (z)))) : nat");
+    let line = term_answer(
+        alloc,
+        &signature,
+        applied(alloc, identity(alloc, NAT)?, declared(Z))?,
+    )?;
+    assert_eq!(rt; line.as_str(), "z : nat");
+    let args = vec![in alloc; declared(DOUBLE), declared(Z)]?;
+    let line = term_answer(alloc, &signature, row(alloc, declared(ITERATE), args)?)?;
+    assert_eq!(rt; line.as_str(), "iterate (\\s (s (x0))) (z) : nat");
     Ok(())
 }

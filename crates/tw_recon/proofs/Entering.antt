@@ -1,89 +1,131 @@
--- What stands behind an entry and its refusal.
-use Rattle.std.proofs.Common.{◌≡◌, ℕ, ◌+◌, List, ◌++◌, length, Option, refl, sym, ap, ap₂, ◌∙◌, subst, ◌⊎◌, inl, inr, arith, length-append}
+-- What is read off a solution, and the entry of it.
+use Rattle.std.proofs.Common.{◌≡◌, ℕ, zero, suc, ◌+◌, List, [], ◌∷◌, ◌++◌, length, Option, refl, sym, ap, ◌∙◌, subst, ◌⊎◌, inl, inr, arith, length-append}
 use Rattle.lf.specs.Depth.{depth_limit}
 use Rattle.lf.specs.Entries.{Body, BodyIsTyped, BodyIsWithin, Entry, IsCanonicalEntry, IsCanonicalSignature, body_quantifiers, signature_of}
 use Rattle.lf.specs.Syntax.{LfType}
 use Rattle.lf.specs.Typing.{Signature}
 use Rattle.lf.proofs.Entries.{canonical_is_signature}
-use Rattle.elaboration.specs.Principal.{Completion, IsPrincipal, body_over}
+use Rattle.elaboration.specs.Completions.{FreeValue}
+use Rattle.elaboration.specs.Principal.{IsPrincipal, WrittenBody, body_over}
+use Rattle.elaboration.specs.Sites.{AreFreesInOrder, AreSites}
 use Rattle.tw_approx.specs.Answer.{Rows}
 use Rattle.tw_metas.specs.State as metas
-use Rattle.tw_parse.specs.Syntax.{Declaration}
+use Rattle.tw_parse.specs.Syntax.{Declaration, Term}
 use Rattle.tw_readoff.specs.Causes.{BlamesQuantifiers}
-use Rattle.tw_readoff.specs.Quantifiers.{AreQuantifiers}
+use Rattle.tw_readoff.specs.Quantifiers.{AreQuantifiers, IsContextOf, no_quantifiers, one_inside}
 use Rattle.tw_readoff.specs.Reading.{IsSettled}
 use Rattle.tw_readoff.specs.declared.fault.ReadFault.{ReadFault}
 use Rattle.tw_readoff.specs.declared.fault.ReadFault.TheVariants as reading
 use Rattle.tw_resolve.specs.Resolved.{skeletons_of}
 use Rattle.tw_recon.specs.Begun.{IsSolved}
-use Rattle.tw_recon.specs.Causes.{BodyReachesDeep, HasCause, IsTooDeep, in_body, in_entry, in_quantifiers, of_reading}
-use Rattle.tw_recon.specs.Hints.{AreOfRows, fitted, written_hints}
+use Rattle.tw_recon.specs.Causes.{BodyReachesDeep, HasCause, Stops, in_body, in_entry, in_frees, in_quantifiers, of_reading}
+use Rattle.tw_recon.specs.Hints.{fitted, written_hints}
+use Rattle.tw_recon.specs.Names.{AreNames, FreeIsDeep, Naming, names_of, variables_of}
+use Rattle.tw_recon.specs.Queries.{HasGoalCause, IsGoalWrittenAs}
 use Rattle.tw_recon.specs.Reading.{BodyIsDeep, BodyStands, IsBodyReadAs}
-use Rattle.tw_recon.specs.Reconstruction.{IsReconstructed, declared_name}
+use Rattle.tw_recon.specs.Reconstruction.{AreReadOff, IsCompletedTo, IsEntryOf, IsReconstructed, IsWrittenAs}
 use Rattle.tw_recon.specs.declared.fault.ReconFault.{ReconFault}
-use Rattle.tw_recon.specs.declared.fault.ReconFault.TheVariants.{NoMemory, TooDeep}
+use Rattle.tw_recon.specs.declared.fault.ReconFault.TheVariants.{Leftover, Loose, Mismatch, NoMemory, TooDeep, TypeLevel, Unknown}
 use Rattle.tw_readoff.proofs.Contexts.{quantifiers_law, reading_law}
+use Rattle.tw_recon.proofs.Naming.{names_each}
 use Rattle.tw_recon.proofs.Principals.{fitted_length, quantifiers_over, read_is_principal}
 use Rattle.tw_recon.proofs.Settling.{body_stands}
 
-module _ (es : List Entry) (canonical : IsCanonicalSignature es) (d : Declaration) (rows : Rows) (frees : List ℕ) (b : Body) (after : metas.State) (z : IsSolved es d rows frees b after) where
+-- there are as many quantifiers as metavariables that become such
+context_each : (s : metas.State) (ms : List ℕ) (G : List LfType) → IsContextOf s ms G → length ms ≡ length G
+context_each s ms G no_quantifiers = refl
+context_each s ms G (one_inside {ms = ns} m A A' h e p g) = let k = context_each s ns _ h in length-append ns (m ∷ []) ∙ omega (arith, k)
+
+module _ (es : List Entry) (canonical : IsCanonicalSignature es) (rows : Rows) (w : WrittenBody) (frees : List ℕ) (b : Body) (after : metas.State) (z : IsSolved es rows w frees b after) where
   -- the store is settled, and types the body
   pub settled : IsSettled after
   settled = record { signature = signature_of es; is_signature = canonical_is_signature es canonical; ready = z.ready }
 
   pub stands : BodyStands after b
-  stands = body_stands es canonical (skeletons_of rows) z.written frees z.state b after z.made z.solved z.ready
+  stands = body_stands es canonical (skeletons_of rows) w frees z.state b after z.made z.solved z.ready
 
   -- what reading off blames
-  pub quantifiers_blamed : (f : ReadFault) (sites : List ℕ) → BlamesQuantifiers f after sites → HasCause es d (of_reading f)
-  quantifiers_blamed reading.TooDeep sites h = record { rows = rows; written = z.written; is_written = z.is_written; deep = in_quantifiers sites after z.made z.solved h }
+  pub quantifiers_blamed : (f : ReadFault) (sites : List ℕ) → BlamesQuantifiers f after sites → Stops es rows w (of_reading f)
+  quantifiers_blamed reading.TooDeep sites h = in_quantifiers sites after z.made z.solved h
   quantifiers_blamed reading.NoMemory sites h = tt
 
-  pub body_blamed : (f : ReadFault) → (f ≡ reading.TooDeep → BodyIsDeep after b) → HasCause es d (of_reading f)
-  body_blamed reading.TooDeep h = record { rows = rows; written = z.written; is_written = z.is_written; deep = in_body after z.made z.solved (h refl) }
+  pub body_blamed : (f : ReadFault) → (f ≡ reading.TooDeep → BodyIsDeep after b) → Stops es rows w (of_reading f)
+  body_blamed reading.TooDeep h = in_body after z.made z.solved (h refl)
   body_blamed reading.NoMemory h = tt
 
-  module _ (sites ms : List ℕ) (G : List LfType) (b' : Body) (q : AreQuantifiers after sites ms G) (r : IsBodyReadAs after ms b b') where
-    -- the completion
-    pub principal : (c : Completion) × IsPrincipal es (skeletons_of rows) z.written c × (c.quantifiers ≡ G) × (c.body ≡ b')
-    principal = read_is_principal quantifiers_law reading_law es canonical (skeletons_of rows) z.written frees z.state b after z.made z.solved z.ready sites ms G b' q r
+  pub names_blamed : (f : ReadFault) → (f ≡ reading.TooDeep → FreeIsDeep after frees) → Stops es rows w (of_reading f)
+  names_blamed reading.TooDeep h = in_frees after z.made (inl z.solved) (h refl)
+  names_blamed reading.NoMemory h = tt
 
-    -- the whole is deep
-    pub entry_blamed : (e : Body) → e ≡ body_over G b' → BodyReachesDeep (signature_of es) e → IsTooDeep es d
-    entry_blamed e i h =
-        let (c, p, g, k) = principal in
-        record { rows = rows; written = z.written; is_written = z.is_written; deep = in_entry p (subst (BodyReachesDeep (signature_of es)) (i ∙ ap₂ body_over (sym g) (sym k)) h) }
+  -- what is completed
+  pub completed : (sites ms order : List ℕ) (naming : Naming) (hints : List (Option (List ℕ))) (shown : List ℕ) (G : List LfType) (b' : Body) → AreSites es (skeletons_of rows) w sites → AreFreesInOrder w (length rows) order → AreQuantifiers after sites ms G → IsBodyReadAs after ms b b' →
+      AreNames after frees rows order naming → hints ≡ names_of naming.names ms → shown ≡ variables_of ms naming.firsts → IsCompletedTo es rows w G hints shown b'
+  completed sites ms order naming hints shown G b' s o q r a h k =
+      let (vs, p) = read_is_principal quantifiers_law reading_law es canonical (skeletons_of rows) w frees z.state b after z.made z.solved z.ready sites ms G b' q r in
+      record {
+        frees = vs;
+        principal = p;
+        in_order = inr (record {
+          frees = frees;
+          state = z.state;
+          open_body = b;
+          made = z.made;
+          after = after;
+          solved = z.solved;
+          sites = sites;
+          are_sites = s;
+          quantifiers = ms;
+          are_quantifiers = q;
+          order = order;
+          in_order = o;
+          naming = naming;
+          are_names = a;
+          hints_are = h;
+          shown_are = k;
+        });
+      }
 
-    pub entry_refused : (e : Body) (f : ReconFault) → e ≡ body_over G b' → (f ≡ TooDeep) ⊎ (f ≡ NoMemory) → (f ≡ TooDeep → BodyReachesDeep (signature_of es) e) → HasCause es d f
-    entry_refused e f i (inl t) h = subst (HasCause es d) (sym t) (entry_blamed e i (h t))
-    entry_refused e f i (inr n) h = subst (HasCause es d) (sym n) tt
+-- each quantifier has its place among the hints
+pub hint_each : (es : List Entry) (rows : Rows) (w : WrittenBody) (G : List LfType) (hints : List (Option (List ℕ))) (shown : List ℕ) (b : Body) → IsCompletedTo es rows w G hints shown b → length hints ≡ length G
+hint_each es rows w G hints shown b c = from c.in_order
+  where
+    from : ((G ≡ []) × (hints ≡ []) × (shown ≡ [])) ⊎ AreReadOff es rows w G hints shown → length hints ≡ length G
+    from (inl (g, h, k)) = ap length h ∙ sym (ap length g)
+    from (inr r) = ap length r.hints_are ∙ names_each r.naming.names r.quantifiers ∙ context_each r.after r.quantifiers G r.are_quantifiers.context
 
-    -- what is entered
-    pub entered : (e : Entry) (hints : List (Option (List ℕ))) → e.name ≡ declared_name d → e.body ≡ body_over G b' → e.implicit ≡ length G → length hints ≡ length G → AreOfRows rows hints → e.hints ≡ hints ++ fitted (body_quantifiers b') (written_hints d) → IsReconstructed es d e
-    entered e hints n i m l a h =
-        let (c, p, g, k) = principal in
-        record {
-          rows = rows;
-          written = z.written;
-          is_written = z.is_written;
-          completion = c;
-          principal = p;
-          name = n;
-          body = i ∙ ap₂ body_over (sym g) (sym k);
-          implicit = m ∙ ap length (sym g);
-          quantifier_hints = hints;
-          each_hint = l ∙ ap length (sym g);
-          hints_of_rows = a;
-          hints = h ∙ ap (λ x. hints ++ fitted (body_quantifiers x) (written_hints d)) (sym k);
-        }
+-- the whole is deep
+pub entry_refused : (es : List Entry) (rows : Rows) (w : WrittenBody) (G : List LfType) (hints : List (Option (List ℕ))) (shown : List ℕ) (b : Body) (f : ReconFault) → IsCompletedTo es rows w G hints shown b → (f ≡ TooDeep) ⊎ (f ≡ NoMemory) → (f ≡ TooDeep → BodyReachesDeep (signature_of es) (body_over G b)) → Stops es rows w f
+entry_refused es rows w G hints shown b f c (inl t) h = subst (Stops es rows w) (sym t) (in_entry c.principal (h t))
+entry_refused es rows w G hints shown b f c (inr n) h = subst (Stops es rows w) (sym n) tt
 
-pub canonical_entry : (Σ : Signature) (G : List LfType) (b' : Body) (d : Declaration) (e : Entry) (hints : List (Option (List ℕ))) → BodyIsTyped Σ e.body → BodyIsWithin depth_limit e.body → e.body ≡ body_over G b' → e.implicit ≡ length G → length hints ≡ length G → e.hints ≡ hints ++ fitted (body_quantifiers b') (written_hints d) → IsCanonicalEntry Σ e
-canonical_entry Σ G b' d e hints t w i m l h =
-    let n : body_quantifiers e.body ≡ length G + body_quantifiers b' = ap body_quantifiers i ∙ quantifiers_over G b' in
-    let f = fitted_length (body_quantifiers b') (written_hints d) in
+-- what stops what is written stops the declaration
+pub declaration_stops : (es : List Entry) (d : Declaration) (rows : Rows) (w : WrittenBody) (f : ReconFault) → IsWrittenAs es d rows w → Stops es rows w f → HasCause es d f
+declaration_stops es d rows w (Unknown name place) i h = absurd h
+declaration_stops es d rows w (TypeLevel place) i h = absurd h
+declaration_stops es d rows w Loose i h = absurd h
+declaration_stops es d rows w Mismatch i h = inr (rows, w, i, h)
+declaration_stops es d rows w (Leftover left) i h = (rows, w, i, h)
+declaration_stops es d rows w TooDeep i h = (rows, w, i, h)
+declaration_stops es d rows w NoMemory i h = tt
+
+pub canonical_entry : (Σ : Signature) (G : List LfType) (b : Body) (d : Declaration) (e : Entry) (hints : List (Option (List ℕ))) → BodyIsTyped Σ e.body → BodyIsWithin depth_limit e.body → length hints ≡ length G → IsEntryOf d G hints b e → IsCanonicalEntry Σ e
+canonical_entry Σ G b d e hints t w l i =
+    let n : body_quantifiers e.body ≡ length G + body_quantifiers b = ap body_quantifiers i.body ∙ quantifiers_over G b in
+    let f = fitted_length (body_quantifiers b) (written_hints d) in
+    let m = i.implicit in
     record {
       typed = t;
       within = w;
       implicit_lead = omega (arith, n, m);
-      hint_each = ap length h ∙ length-append hints (fitted (body_quantifiers b') (written_hints d)) ∙ omega (arith, n, l, f);
+      hint_each = ap length i.hints ∙ length-append hints (fitted (body_quantifiers b) (written_hints d)) ∙ omega (arith, n, l, f);
     }
+
+-- and a query
+pub goal_stops : (es : List Entry) (A : Term) (rows : Rows) (w : WrittenBody) (f : ReconFault) → IsGoalWrittenAs es A rows w → Stops es rows w f → HasGoalCause es A f
+goal_stops es A rows w (Unknown name place) i h = absurd h
+goal_stops es A rows w (TypeLevel place) i h = absurd h
+goal_stops es A rows w Loose i h = absurd h
+goal_stops es A rows w Mismatch i h = inr (rows, w, i, h)
+goal_stops es A rows w (Leftover left) i h = (rows, w, i, h)
+goal_stops es A rows w TooDeep i h = (rows, w, i, h)
+goal_stops es A rows w NoMemory i h = tt

@@ -8,3 +8,4 @@ pub mod Fillings
 pub mod Principals
 pub mod Entering
 pub mod Outcomes
+pub mod OfRows

@@ -1,76 +1,138 @@
 -- Hints, one after another.
-use Rattle.std.proofs.Common.{◌≡◌, ℕ, zero, suc, ◌+◌, ◌<◌, ◌≤◌, List, [], ◌∷◌, ◌++◌, length, get_or, reverse, Option, None, Some, true, false, refl, sym, ap, ◌∙◌, inl, inr, arith, append_assoc}
-use Rattle.std.specs.Option.{is_some}
+use Rattle.std.proofs.Common.{◌≡◌, ℕ, zero, suc, ◌+◌, ◌<◌, ◌≤◌, List, [], ◌∷◌, ◌++◌, length, get_or, map, replicate, reverse, take, ◌-◌, ◌⊎◌, Option, None, Some, true, false, refl, sym, ap, ◌∙◌, subst, inl, inr, arith, append_assoc, length-append}
+use Rattle.std.specs.List.{slice_get}
 use Rattle.std.proofs.Math.ListN.{set}
-use Rattle.std.proofs.lemmas.List.{reverse-append}
-use Rattle.tw_approx.specs.Answer.{HasRow, Rows, rows_of}
+use Rattle.std.proofs.Math.Seq.{take-suc}
+use Rattle.std.proofs.lemmas.List.{length-map, length-replicate, map-append, reverse-append}
+use Rattle.std.specs.Option.{option_map}
+use Rattle.std.specs.Prelude.{MatchOption}
+use Rattle.lf.specs.Eta.{eta_long}
+use Rattle.lf.specs.Subordination.{Member}
+use Rattle.lf.specs.Syntax.{Skeleton, Term, metavariable}
+use Rattle.tw_approx.specs.Answer.{Rows, rows_of}
 use Rattle.tw_approx.specs.declared.approximation.Row.{Row}
-use Rattle.tw_recon.specs.Hints.{AreOfRows, fitted, with_name}
+use Rattle.tw_elaborate.specs.View.{numbers_of}
+use Rattle.tw_generalize.specs.Positions.{index}
+use Rattle.tw_metas.specs.State.{State, joined, value_of}
+use Rattle.tw_putting.specs.Fits.{PutFits}
+use Rattle.tw_putting.specs.Stores.{Puts}
+use Rattle.tw_putting.proofs.Calls.{one_result}
+use Rattle.tw_terms.specs.View.{skeleton_of}
+use Rattle.tw_terms.specs.declared.canonical.MetaId.{MetaId}
+use Rattle.tw_recon.specs.Hints.{fitted}
+use Rattle.tw_recon.specs.Names.{IsSole, Naming, NamesAll, NamesOne, ValueIsAlone, add_some, names_of, variables_of, with_name, with_sole}
 
--- a name that is put in
-pub name_put : (i : ℕ) (x : List ℕ) (hs : List (Option (List ℕ))) (d : Option (List ℕ)) → i < length hs → get_or hs i d ≡ None → set hs i (Some x) ≡ with_name i x hs
-name_put i x [] d h e = absurd (omega arith)
-name_put zero x (None ∷ hs) d h e = refl
-name_put zero x (Some y ∷ hs) d h e = absurd cc
-name_put (suc i) x (k ∷ hs) d h e = ap (λ ks. k ∷ ks) (name_put i x hs d (omega arith) e)
+-- a name that is put in where none is
+pub name_put : (i : ℕ) (x : List ℕ) (hs : List (Option (List ℕ))) → i < length hs → joined (slice_get hs i) ≡ None → set hs i (Some x) ≡ with_name i x hs
+name_put i x [] h e = absurd (omega arith)
+name_put zero x (None ∷ hs) h e = refl
+name_put zero x (Some y ∷ hs) h e = absurd cc
+name_put (suc i) x (k ∷ hs) h e = ap (λ ks. k ∷ ks) (name_put i x hs (omega arith) e)
 
-pub none_of : (o : Option (List ℕ)) → is_some o ≡ false → o ≡ None
-none_of None e = refl
-none_of (Some x) e = absurd cc
+pub nameless-push : (n : ℕ) → replicate n (let x : Option (List ℕ) = None in x) ++ None ∷ [] ≡ replicate (suc n) (let x : Option (List ℕ) = None in x)
+nameless-push zero = refl
+nameless-push (suc n) = ap (λ ks. None ∷ ks) (nameless-push n)
 
-pub some_of : (o : Option (List ℕ)) → is_some o ≡ true → (x : List ℕ) × (o ≡ Some x)
-some_of None e = absurd cc
-some_of (Some x) e = (x, refl)
+-- a name behind all others
+pub name_beyond : (n : ℕ) (x : List ℕ) (hs : List (Option (List ℕ))) (k : ℕ) → n ≡ length hs + k → with_name n x hs ≡ (hs ++ replicate k None) ++ Some x ∷ []
+name_beyond zero x [] zero e = refl
+name_beyond zero x [] (suc k) e = absurd (omega (arith, e))
+name_beyond (suc n) x [] zero e = absurd (omega (arith, e))
+name_beyond (suc n) x [] (suc k) e = ap (λ ks. None ∷ ks) (name_beyond n x [] k (omega (arith, e)))
+name_beyond zero x (h ∷ hs) k e = absurd (omega (arith, e))
+name_beyond (suc n) x (h ∷ hs) k e = ap (λ ks. h ∷ ks) (name_beyond n x hs k (omega (arith, e)))
 
--- one that isn't
-pub name_kept : (i : ℕ) (x y : List ℕ) (hs : List (Option (List ℕ))) (d : Option (List ℕ)) → i < length hs → get_or hs i d ≡ Some y → hs ≡ with_name i x hs
-name_kept i x y [] d h e = refl
-name_kept zero x y (None ∷ hs) d h e = absurd cc
-name_kept zero x y (Some z ∷ hs) d h e = refl
-name_kept (suc i) x y (k ∷ hs) d h e = ap (λ ks. k ∷ ks) (name_kept i x y hs d (omega arith) e)
+-- one free variable after another
+module _ (s : State) (frees : List ℕ) (rows : Rows) where
+  pub names_then : (is : List ℕ) (i : ℕ) (hs ks ls : Naming) → NamesAll s frees rows is hs ks → NamesOne s frees rows (slice_get frees i) (slice_get rows i) ks ls → NamesAll s frees rows (is ++ i ∷ []) hs ls
+  names_then [] i hs ks ls a o = (ls, subst (λ x. NamesOne s frees rows (slice_get frees i) (slice_get rows i) x ls) a o, refl)
+  names_then (j ∷ is) i hs ks ls (mid, a, more) o = (mid, a, names_then is i mid ks ls more o)
 
-pub name_beyond : (i : ℕ) (x : List ℕ) (hs : List (Option (List ℕ))) → length hs ≤ i → hs ≡ with_name i x hs
-name_beyond i x [] h = refl
-name_beyond zero x (k ∷ hs) h = absurd (omega arith)
-name_beyond (suc i) x (k ∷ hs) h = ap (λ ks. k ∷ ks) (name_beyond i x hs (omega arith))
+  -- the next in the order
+  pub names_next : (order : List ℕ) (k : ℕ) (hs ks ls : Naming) → k < length order → NamesAll s frees rows (take k order) hs ks → NamesOne s frees rows (slice_get frees (get_or order k 0)) (slice_get rows (get_or order k 0)) ks ls → NamesAll s frees rows (take (k + 1) order) hs ls
+  names_next order k hs ks ls h a o =
+      let n : suc k ≡ k + 1 = omega arith in
+      subst (λ is. NamesAll s frees rows is hs ls) (sym (take-suc order k 0 h) ∙ ap (λ j. take j order) n) (names_then (take k order) (get_or order k 0) hs ks ls a o)
 
--- keeps the length, and that all are of rows
-pub length-with_name : (i : ℕ) (x : List ℕ) (hs : List (Option (List ℕ))) → length (with_name i x hs) ≡ length hs
-length-with_name i x [] = refl
-length-with_name zero x (None ∷ hs) = refl
-length-with_name zero x (Some y ∷ hs) = refl
-length-with_name (suc i) x (k ∷ hs) = let h = length-with_name i x hs in omega (arith, h)
+  one_at : (i : ℕ) (o : Option ℕ) (q : Option (List ℕ × Skeleton)) (hs ks : Naming) → slice_get frees i ≡ o → slice_get rows i ≡ q → NamesOne s frees rows o q hs ks → NamesOne s frees rows (slice_get frees i) (slice_get rows i) hs ks
+  one_at i o q hs ks e f n = subst (λ x. NamesOne s frees rows x (slice_get rows i) hs ks) (sym e) (subst (λ x. NamesOne s frees rows o x hs ks) (sym f) n)
 
-pub rows-with_name : (rows : Rows) (i : ℕ) (x : List ℕ) (hs : List (Option (List ℕ))) → HasRow x rows → AreOfRows rows hs → AreOfRows rows (with_name i x hs)
-rows-with_name rows i x [] r a = tt
-rows-with_name rows zero x (None ∷ hs) r a = (r, a)
-rows-with_name rows zero x (Some y ∷ hs) r a = a
-rows-with_name rows (suc i) x (None ∷ hs) r a = rows-with_name rows i x hs r a
-rows-with_name rows (suc i) x (Some y ∷ hs) r a = (a.0, rows-with_name rows i x hs r a.1)
+  -- one that is no metavariable, or has no row
+  pub names_nothing : (i : ℕ) (hs ks : Naming) → slice_get frees i ≡ None → ks ≡ hs → NamesOne s frees rows (slice_get frees i) (slice_get rows i) hs ks
+  names_nothing i hs ks e p = one_at i None (slice_get rows i) hs ks e refl p
 
-pub ruleset naming = (name_kept, name_beyond, length-with_name)
+  pub names_no_row : (i m : ℕ) (hs ks : Naming) → slice_get frees i ≡ Some m → slice_get rows i ≡ None → ks ≡ hs → NamesOne s frees rows (slice_get frees i) (slice_get rows i) hs ks
+  names_no_row i m hs ks e f p = one_at i (Some m) None hs ks e f p
 
--- before any name is put in
-abbrev pub AreNone : List (Option (List ℕ)) → Type 0
-AreNone [] = Unit {0}
-AreNone (None ∷ hs) = AreNone hs
-AreNone (Some x ∷ hs) = ⊥
+  pub names_its : (i m : ℕ) (r : List ℕ × Skeleton) (hs ks : Naming) → slice_get frees i ≡ Some m → slice_get rows i ≡ Some r → (n : Option ℕ) × IsSole s m n × (ks ≡ with_sole n r.0 hs) → NamesOne s frees rows (slice_get frees i) (slice_get rows i) hs ks
+  names_its i m r hs ks e f p = one_at i (Some m) (Some r) hs ks e f p
 
-pub none-push : (hs : List (Option (List ℕ))) → AreNone hs → AreNone (hs ++ None ∷ [])
-none-push [] a = tt
-none-push (None ∷ hs) a = none-push hs a
-none-push (Some x ∷ hs) a = absurd a
+-- what stands at a place
+pub number_at : (ms : List MetaId) (i : ℕ) (m : MetaId) → i < length ms → get_or ms i m ≡ m → slice_get (numbers_of ms) i ≡ Some m.0
+number_at [] i m h e = absurd (omega arith)
+number_at (n ∷ ms) zero m h e = ap (λ k. Some k.0) e
+number_at (n ∷ ms) (suc i) m h e = number_at ms i m (omega arith) e
 
-pub rows-none : (rows : Rows) (hs : List (Option (List ℕ))) → AreNone hs → AreOfRows rows hs
-rows-none rows [] a = tt
-rows-none rows (None ∷ hs) a = rows-none rows hs a
-rows-none rows (Some x ∷ hs) a = absurd a
+pub number_none : (ms : List MetaId) (i : ℕ) → length ms ≤ i → slice_get (numbers_of ms) i ≡ None
+number_none [] i h = refl
+number_none (n ∷ ms) zero h = absurd (omega arith)
+number_none (n ∷ ms) (suc i) h = number_none ms i (omega arith)
 
--- a name at a place of the rows is one of theirs
-pub row_at : (rs : List Row) (i : ℕ) (r : Row) → i < length rs → get_or rs i r ≡ r → HasRow r.name (rows_of rs)
-row_at [] i r h e = absurd (omega arith)
-row_at (q ∷ rs) zero r h e = inl (ap (λ x. x.name) e)
-row_at (q ∷ rs) (suc i) r h e = inr (row_at rs i r (omega arith) e)
+pub row_found : (rs : List Row) (i : ℕ) (r : Row) → i < length rs → get_or rs i r ≡ r → slice_get (rows_of rs) i ≡ Some (r.name, skeleton_of r.skeleton)
+row_found [] i r h e = absurd (omega arith)
+row_found (q ∷ rs) zero r h e = ap (λ x. Some (x.name, skeleton_of x.skeleton)) e
+row_found (q ∷ rs) (suc i) r h e = row_found rs i r (omega arith) e
+
+pub row_none : (rs : List Row) (i : ℕ) → length rs ≤ i → slice_get (rows_of rs) i ≡ None
+row_none [] i h = refl
+row_none (q ∷ rs) zero h = absurd (omega arith)
+row_none (q ∷ rs) (suc i) h = row_none rs i (omega arith)
+
+pub member_at : (ms : List MetaId) (i : ℕ) (m : MetaId) → i < length ms → get_or ms i m ≡ m → Member m.0 (numbers_of ms)
+member_at [] i m h e = absurd (omega arith)
+member_at (n ∷ ms) zero m h e = inl (ap (λ k. k.0) (sym e))
+member_at (n ∷ ms) (suc i) m h e = inr (member_at ms i m (omega arith) e)
+
+-- for which one a metavariable stands alone, with its value put in
+pub sole_found : (s : State) (m : ℕ) (N N' : Term) → value_of s m ≡ Some N → PutFits s 0 N → Puts s 0 N N' → (r : Option MetaId) → MatchOption r ((n : ℕ) (a : Skeleton) → N' ≡ eta_long a (metavariable n) → ⊥) (λ n. (a : Skeleton) × (N' ≡ eta_long a (metavariable n.0))) → IsSole s m (option_map (λ n. n.0) r)
+sole_found s m N N' v f p None h = λ n alone.
+    let (N'', a, q, e) = subst (λ o. ValueIsAlone s m o n) v alone in
+    let (R, x, only) = one_result s 0 N f in
+    h n a (only N' p ∙ sym (only N'' q) ∙ e)
+sole_found s m N N' v f p (Some n) h = subst (λ o. ValueIsAlone s m o n.0) (sym v) (N', h.0, p, h.1)
+
+-- the variables of one metavariable more
+add_some_append : (o : Option ℕ) (is js : List ℕ) → add_some o (is ++ js) ≡ add_some o is ++ js
+add_some_append None is js = refl
+add_some_append (Some i) is js = refl
+
+pub variables_then : (ms ns : List ℕ) (n : ℕ) → variables_of ms (ns ++ n ∷ []) ≡ variables_of ms ns ++ add_some (index ms n) []
+variables_then ms [] n = refl
+variables_then ms (k ∷ ns) n = ap (add_some (index ms k)) (variables_then ms ns n) ∙ add_some_append (index ms k) (variables_of ms ns) (add_some (index ms n) [])
+
+pub shown_next : (ms : List ℕ) (ks : List MetaId) (i : ℕ) (vs us : List ℕ) → i < length ks → vs ≡ variables_of ms (numbers_of (take i ks)) → us ≡ vs ++ add_some (index ms (get_or ks i (record { 0 = 0 })).0) [] → us ≡ variables_of ms (numbers_of (take (i + 1) ks))
+shown_next ms ks i vs us h v u =
+    let d : MetaId = record { 0 = 0 } in
+    let n : suc i ≡ i + 1 = omega arith in
+    let t : take (i + 1) ks ≡ take i ks ++ get_or ks i d ∷ [] = ap (λ j. take j ks) (sym n) ∙ take-suc ks i d h in
+    u ∙ ap (λ l. l ++ add_some (index ms (get_or ks i d).0) []) v ∙ sym (variables_then ms (numbers_of (take i ks)) (get_or ks i d).0)
+    ∙ ap (variables_of ms) (sym (map-append (λ m. m.0) (take i ks) (get_or ks i d ∷ [])) ∙ sym (ap numbers_of t))
+
+-- places without names, one more
+pub reach_more : (old hs ks : List (Option (List ℕ))) → hs ≡ old ++ replicate (length hs - length old) None → ks ≡ hs ++ None ∷ [] → ks ≡ old ++ replicate (length ks - length old) None
+reach_more old hs ks e k =
+    let n : ℕ = length hs - length old in
+    let a : length hs ≡ length old + n = ap length e ∙ length-append old (replicate n None) ∙ ap (λ j. length old + j) (length-replicate n None) in
+    let b : length ks ≡ length hs + 1 = ap length k ∙ length-append hs (None ∷ []) in
+    let c : length ks - length old ≡ suc n = omega (arith, a, b) in
+    k ∙ ap (λ l. l ++ None ∷ []) e ∙ append_assoc old (replicate n None) (None ∷ []) ∙ ap (λ l. old ++ l) (nameless-push n) ∙ ap (λ j. old ++ replicate j None) (sym c)
+
+pub name_past : (n : ℕ) (x : List ℕ) (hs : List (Option (List ℕ))) → length hs ≤ n → with_name n x hs ≡ (hs ++ replicate (n - length hs) None) ++ Some x ∷ []
+name_past n x hs h = name_beyond n x hs (n - length hs) (omega arith)
+
+-- the names of metavariables, as many as these
+pub names_each : (names : List (Option (List ℕ))) (ms : List ℕ) → length (names_of names ms) ≡ length ms
+names_each names ms = length-map ms (λ m. joined (slice_get names m))
 
 -- the next name that the text gives, the last one in the list
 pub next_some : (h : Option (List ℕ)) (ws us : List (Option (List ℕ))) (n : ℕ) → us ≡ ws ++ h ∷ [] → fitted (suc n) (reverse us) ≡ h ∷ fitted n (reverse ws)

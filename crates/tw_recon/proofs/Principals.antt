@@ -1,18 +1,18 @@
 -- What is read off is a principal completion, and may be declared.
-use Rattle.std.proofs.Common.{◌≡◌, ℕ, zero, suc, ◌+◌, List, [], ◌∷◌, length, Option, refl, sym, arith, ap}
+use Rattle.std.proofs.Common.{◌≡◌, ℕ, zero, suc, ◌+◌, List, [], ◌∷◌, length, Option, refl, sym, subst, arith, ap}
 use Rattle.lf.specs.Entries.{Body, Entry, IsCanonicalSignature, body_quantifiers, declare_constant, declare_definition, declare_family, kind_quantifiers, quantifiers, signature_of}
+use Rattle.lf.specs.Substitution.{keep}
 use Rattle.lf.specs.Syntax.{Kind, LfType, Skeleton, kind_pi, pi}
 use Rattle.lf.proofs.Entries.{canonical_is_signature}
 use Rattle.unification.specs.Dependency.{free_context, values}
 use Rattle.unification.specs.Offering.{pi_over}
 use Rattle.unification.specs.OpenTyping.{skeletons_of}
 use Rattle.unification.specs.Solving.{Never, Solved}
+use Rattle.elaboration.specs.Completions.{FreeValue}
 use Rattle.elaboration.specs.Kinds.{kind_over}
-use Rattle.elaboration.specs.Laws.{BodyMayStand}
-use Rattle.elaboration.specs.Principal.{Completion, IsCompletion, IsPrincipal, WrittenBody, body_over, reordered}
+use Rattle.elaboration.specs.Principal.{Completion, IsCompletion, IsPrincipal, WrittenBody, body_over, substitute_body, substitute_frees}
 use Rattle.elaboration.specs.PrincipalLaws.{fill_body}
 use Rattle.elaboration.specs.State.{State, store_of}
-use Rattle.elaboration.proofs.Bodies.{principal_stands}
 use Rattle.elaboration.proofs.Principal.{never_completion, read_off_principal}
 use Rattle.elaboration.proofs.Reordered.{reordered_is_principal}
 use Rattle.tw_metas.specs.State as metas
@@ -21,32 +21,27 @@ use Rattle.tw_readoff.specs.Laws.{QuantifiersAreReordered, ReadingIsFilling}
 use Rattle.tw_readoff.specs.Quantifiers.{AreQuantifiers}
 use Rattle.tw_unify.specs.Ready.{IsReady}
 use Rattle.tw_unify.specs.View.{whole}
-use Rattle.tw_recon.specs.Causes.{IsMade}
 use Rattle.tw_recon.specs.Hints.{fitted}
 use Rattle.tw_recon.specs.Reading.{IsBodyReadAs}
+use Rattle.tw_recon.specs.Reconstruction.{IsMade}
 use Rattle.tw_recon.proofs.Fillings.{body_is_filled}
 use Rattle.tw_recon.proofs.Settling.{body_is_open}
 
 -- of the quantifiers and the body that are read off there is a principal completion
 pub read_is_principal : QuantifiersAreReordered → ReadingIsFilling → (es : List Entry) → IsCanonicalSignature es → (ts : List Skeleton) (w : WrittenBody) (frees : List ℕ) (s : State) (b : Body) (after : metas.State) → IsMade es ts w frees s b → Solved (signature_of es) (store_of s) (whole [] after) → IsReady (signature_of es) [] after →
-    (sites ms : List ℕ) (G : List LfType) (b' : Body) → AreQuantifiers after sites ms G → IsBodyReadAs after ms b b' → (c : Completion) × IsPrincipal es ts w c × (c.quantifiers ≡ G) × (c.body ≡ b')
+    (sites ms : List ℕ) (G : List LfType) (b' : Body) → AreQuantifiers after sites ms G → IsBodyReadAs after ms b b' → (vs : List FreeValue) × IsPrincipal es ts w (record { quantifiers = G; frees = vs; body = b' })
 read_is_principal in_order filling es canonical ts w frees s b after m z r sites ms G b' q x =
     let (ρ, ρ', o, t) = in_order (signature_of es) (canonical_is_signature es canonical) after r z.well_formed sites ms G q in
     let (vs, h, p) = read_off_principal es canonical ts frees m.with_frees s m.frees_made w b m.body_made (whole [] after) z in
-    let c : Completion = record { quantifiers = free_context (skeletons_of (types_of after)) z.well_formed.order; frees = vs; body = fill_body (skeletons_of (types_of after)) (values (skeletons_of (types_of after)) z.well_formed.order) b } in (
-      reordered G ρ c,
-      reordered_is_principal es canonical ts frees m.with_frees s m.frees_made w b m.body_made (whole [] after) z c p G ρ ρ' o,
-      refl,
-      sym (body_is_filled filling (signature_of es) (canonical_is_signature es canonical) after r z.well_formed ms ρ t b b' (body_is_open es canonical ts w frees s b after m z) x),
+    let c : Completion = record { quantifiers = free_context (skeletons_of (types_of after)) z.well_formed.order; frees = vs; body = fill_body (skeletons_of (types_of after)) (values (skeletons_of (types_of after)) z.well_formed.order) b } in
+    let e : substitute_body (λ i. keep (ρ i)) c.body ≡ b' = sym (body_is_filled filling (signature_of es) (canonical_is_signature es canonical) after r z.well_formed ms ρ t b b' (body_is_open es canonical ts w frees s b after m z) x) in (
+      substitute_frees (λ i. keep (ρ i)) vs,
+      subst (λ k. IsPrincipal es ts w (record { quantifiers = G; frees = substitute_frees (λ i. keep (ρ i)) vs; body = k })) e (reordered_is_principal es canonical ts frees m.with_frees s m.frees_made w b m.body_made (whole [] after) z c p G ρ ρ' o),
     )
 
 -- without a typed unifier there is no completion
 pub no_completion : (es : List Entry) → IsCanonicalSignature es → (ts : List Skeleton) (w : WrittenBody) (frees : List ℕ) (s : State) (b : Body) → IsMade es ts w frees s b → Never (signature_of es) [] (store_of s) → (c : Completion) → IsCompletion es ts w c → ⊥
 no_completion es canonical ts w frees s b m n c i = never_completion es canonical ts frees m.with_frees s m.frees_made w b m.body_made n c i
-
--- what is declared of a principal completion may stand
-pub entry_stands : (es : List Entry) (ts : List Skeleton) (w : WrittenBody) (c : Completion) → IsPrincipal es ts w c → BodyMayStand (signature_of es) (length c.quantifiers) (body_over c.quantifiers c.body)
-entry_stands = principal_stands
 
 type_quantifiers_over : (F : List LfType) (A : LfType) → quantifiers (pi_over F A) ≡ length F + quantifiers A
 type_quantifiers_over [] A = omega arith

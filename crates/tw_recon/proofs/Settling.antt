@@ -32,7 +32,6 @@ use Rattle.elaboration.specs.State.{State, nothing_yet, store_of}
 use Rattle.elaboration.proofs.Adds.{adds_metavariable, new_type_adds}
 use Rattle.elaboration.proofs.Made.{elaborated_skeletons, nothing_skeletons, state_scoped}
 use Rattle.elaboration.proofs.Principal.{BodyIsMade, body_made}
-use Rattle.tw_approx.specs.Answer.{Rows}
 use Rattle.tw_elaborate.specs.Bodies.{IsElaborated, open_body_of}
 use Rattle.tw_elaborate.specs.Fresh.{OnlyDeclares, declares_nothing, declares_one}
 use Rattle.tw_elaborate.specs.View.{made, numbers_of}
@@ -45,8 +44,8 @@ use Rattle.tw_readoff.specs.Reading.{IsSettled}
 use Rattle.tw_unify.specs.Ready.{IsReady, LocalsBySkeletons, TypesBySkeletons}
 use Rattle.tw_unify.specs.View.{AreDistinct, IsConsistent, whole}
 use Rattle.tw_unify.proofs.Orders.{followed_nothing}
-use Rattle.tw_recon.specs.Causes.{IsMade, named}
 use Rattle.tw_recon.specs.Reading.{BodyStands, KindStands}
+use Rattle.tw_recon.specs.Reconstruction.{IsMade}
 use Rattle.tw_recon.proofs.Fillings.{BodyIsOpen}
 
 -- none of these is a value
@@ -252,36 +251,3 @@ body_is_open es canonical ts w frees s b after m z = body_goes_on es canonical t
 -- each part of the open body can be read off
 pub body_stands : (es : List Entry) → IsCanonicalSignature es → (ts : List Skeleton) (w : WrittenBody) (frees : List ℕ) (s : State) (b : Body) (after : metas.State) → IsMade es ts w frees s b → Solved (signature_of es) (store_of s) (whole [] after) → IsReady (signature_of es) [] after → BodyStands after b
 body_stands es canonical ts w frees s b after m z r = open_stands (signature_of es) (canonical_is_signature es canonical) after r b (body_is_open es canonical ts w frees s b after m z)
-
--- The numbers of the free variables.
-module _ (es : List Entry) where
-  frees_from : {ts : List Skeleton} {s s' : State} {ms : List ℕ} → IsNumbered s → NewFrees es ts s s' ms → ((m : ℕ) → Member m ms → s.next ≤ m) × AreDistinct ms
-  frees_from n no_frees = ((λ m i. absurd i), tt)
-  frees_from n (next_free {s = s} {s' = s'} {A = A} {ms = ms} t f) =
-      let g = new_type_adds es t n in
-      let h = adds_metavariable [] A s' g.numbered in
-      let (later, distinct) = frees_from h.numbered f in
-      let first : s.next ≤ s'.next = g.next in
-      (at later first, ((λ i. let x : suc s'.next ≤ s'.next = later s'.next i in omega arith), distinct))
-    where
-      at : ((m : ℕ) → Member m ms → suc s'.next ≤ m) → s.next ≤ s'.next → (m : ℕ) → Member m (s'.next ∷ ms) → s.next ≤ m
-      at later first m (inl e) = omega arith
-      at later first m (inr i) = let x = later m i in omega arith
-
-  pub numbers_distinct : {ts : List Skeleton} {s : State} {ms : List ℕ} → IsCanonicalSignature es → NewFrees es ts nothing_yet s ms → AreDistinct ms
-  numbers_distinct canonical f = (frees_from (nothing_skeletons es canonical).0.numbered f).1
-
-named_member : (rows : Rows) (ms : List ℕ) (m : ℕ) → Member m (map (λ n. n.0) (named rows ms)) → Member m ms
-named_member [] ms m i = absurd i
-named_member (r ∷ rows) [] m i = absurd i
-named_member (r ∷ rows) (n ∷ ms) m (inl e) = inl e
-named_member (r ∷ rows) (n ∷ ms) m (inr i) = inr (named_member rows ms m i)
-
-named_distinct : (rows : Rows) (ms : List ℕ) → AreDistinct ms → AreDistinct (map (λ n. n.0) (named rows ms))
-named_distinct [] ms d = tt
-named_distinct (r ∷ rows) [] d = tt
-named_distinct (r ∷ rows) (m ∷ ms) (n, d) = ((λ i. n (named_member rows ms m i)), named_distinct rows ms d)
-
--- each has one name
-pub frees_distinct : (es : List Entry) → IsCanonicalSignature es → (ts : List Skeleton) (w : WrittenBody) (frees : List ℕ) (s : State) (b : Body) → IsMade es ts w frees s b → (rows : Rows) → AreDistinct (map (λ n. n.0) (named rows frees))
-frees_distinct es canonical ts w frees s b m rows = named_distinct rows frees (numbers_distinct es canonical m.frees_made)

@@ -7,8 +7,10 @@ ghost use Rattle.tw_parse.specs.Syntax.{Declaration};
 ghost use Rattle.tw_parse.specs.View.{declaration_of};
 ghost use Rattle.tw_resolve.specs.Resolved.{skeletons_of};
 ghost use Rattle.tw_terms.specs.View.{skeleton_of};
+ghost use Rattle.tw_written.specs.View.{written_body_of};
 ghost use Rattle.tw_recon.specs.Begun.{IsBegun};
-ghost use Rattle.tw_recon.specs.Causes.{HasCause};
+ghost use Rattle.tw_recon.specs.Causes.{HasCause, Stops};
+ghost use Rattle.tw_recon.specs.Reconstruction.{IsWrittenAs};
 
 use crate::fault::ReconFault;
 use std::alloc::{AllocError, Global};
@@ -18,17 +20,26 @@ use tw_parse::ExtDecl;
 use tw_resolve::resolve;
 use tw_signature::Signature;
 use tw_terms::Skeleton;
+use tw_written::WrittenBody;
 
-/// The free variables of a declaration with their skeletons, and what elaboration makes of it.
+/// What is written, with its names resolved, and the free variables with their skeletons.
+#[derive(Drop)]
+pub struct Told {
+    pub rows: Vec<Row>,
+    pub written: WrittenBody,
+}
+
+/// The same, and what elaboration makes of it.
 #[derive(Drop)]
 pub struct Begun {
     pub rows: Vec<Row>,
+    pub written: WrittenBody,
     pub elaborated: Elaborated,
 }
 
-/// Finds the skeletons of what isn't written, resolves names, and elaborates.
-pub fn begin(alloc: Global, signature: &Signature, decl: &ExtDecl) -> Result<Begun, ReconFault>
-    ensures begun { IfOk result (λ b. IsBegun signature.now (declaration_of decl.now) b) }
+/// Finds the skeletons of what isn't written in a declaration, and resolves its names.
+pub fn tell(alloc: Global, signature: &Signature, decl: &ExtDecl) -> Result<Told, ReconFault>
+    ensures written { IfOk result (λ t. IsWrittenAs signature.now (declaration_of decl.now) (rows_of t.rows.items) (written_body_of t.written)) }
     ensures refused { IfErr result (λ f. HasCause signature.now (declaration_of decl.now) f) }
 {
     let Approx { free, omitted } = match approximate(alloc, signature, decl) {
@@ -38,11 +49,26 @@ pub fn begin(alloc: Global, signature: &Signature, decl: &ExtDecl) -> Result<Beg
     let Some(written) = resolve(alloc, signature, decl, &free, omitted)? else {
         return Err(ReconFault::NoMemory);
     };
-    let skeletons = skeletons(alloc, &free)?;
+    Ok(Told {
+        rows: free,
+        written,
+    })
+}
+
+/// Elaborates what is written.
+pub fn begin(alloc: Global, signature: &Signature, told: Told) -> Result<Begun, ReconFault>
+    ensures rows { IfOk result (λ b. b.rows ≡ told.rows) }
+    ensures written { IfOk result (λ b. b.written ≡ told.written) }
+    ensures begun { IfOk result (λ b. IsBegun signature.now b) }
+    ensures refused { IfErr result (λ f. Stops signature.now (rows_of told.rows.items) (written_body_of told.written) f) }
+{
+    let Told { rows, written } = told;
+    let skeletons = skeletons(alloc, &rows)?;
     signature.is_canonical();
     match elaborate(alloc, signature, &skeletons, &written) {
         Ok(elaborated) => Ok(Begun {
-            rows: free,
+            rows,
+            written,
             elaborated,
         }),
         Err(ElaborateFault::TooDeep) => Err(ReconFault::TooDeep),
@@ -64,7 +90,7 @@ fn of_skeletons(fault: ApproxFault) -> ReconFault
 }
 
 /// The skeletons of the free variables.
-fn skeletons(alloc: Global, rows: &[Row]) -> Result<Vec<Skeleton>, AllocError>
+pub fn skeletons(alloc: Global, rows: &[Row]) -> Result<Vec<Skeleton>, AllocError>
     ensures { IfOk result (λ v. map skeleton_of v.items ≡ skeletons_of (rows_of rows.now)) }
 {
     let mut skeletons = Vec::with_capacity(alloc, rows.len())?;

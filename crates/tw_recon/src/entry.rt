@@ -1,66 +1,47 @@
-//! The entry that is read off a solved store.
-ghost use Rattle.std.specs.Prelude.{◌≡◌, IfErr, IfOk, length, map};
-ghost use Rattle.lf.specs.Entries.{signature_of, IsCanonicalEntry};
-ghost use Rattle.tw_approx.specs.Answer.{rows_of};
-ghost use Rattle.tw_elaborate.specs.Bodies.{open_body_of};
-ghost use Rattle.tw_elaborate.specs.View.{numbers_of};
+//! The entry of what is completed.
+ghost use Rattle.std.specs.Prelude.{◌≡◌, ◌++◌, ◌⊎◌, IfErr, IfOk, IsErrOf, length};
+ghost use Rattle.lf.specs.Depth.{depth_limit};
+ghost use Rattle.lf.specs.Entries.{body_quantifiers, signature_of, BodyIsTyped, BodyIsWithin};
+ghost use Rattle.elaboration.specs.Principal.{body_over};
 ghost use Rattle.tw_parse.specs.View.{declaration_of};
-ghost use Rattle.tw_signature.specs.View.{entry_of};
-ghost use Rattle.tw_recon.specs.Begun.{IsSolved};
-ghost use Rattle.tw_recon.specs.Causes.{HasCause, of_reading};
-ghost use Rattle.tw_recon.specs.Reconstruction.{IsReconstructed, declared_name};
+ghost use Rattle.tw_signature.specs.View.{body_of, entry_of};
+ghost use Rattle.tw_recon.specs.Causes.{BodyReachesDeep};
+ghost use Rattle.tw_recon.specs.Reconstruction.{IsEntryOf, declared_name};
 
-use crate::bodies::read_body;
 use crate::closing::closed_body;
+use crate::completing::Completed;
 use crate::fault::ReconFault;
-use crate::hints::{add_written, quantifier_hints};
+use crate::hints::add_written;
 use crate::kernel::approve;
 use std::alloc::{AllocError, Global};
-use tw_approx::Row;
-use tw_elaborate::OpenBody;
 use tw_fixity::Name;
-use tw_metas::Store;
 use tw_parse::ExtDecl;
-use tw_readoff::{ReadFault, read_quantifiers};
 use tw_signature::{Entry, Signature};
-use tw_terms::{Context, MetaId};
+use tw_terms::Context;
 
-/// What a declaration is completed with: the solved store, the metavariables of its free variables, those at the places of its text, and its open body.
-#[derive(Clone, Copy)]
-pub struct Solution<'a> {
-    pub store: &'a Store,
-    pub frees: &'a [MetaId],
-    pub sites: &'a [MetaId],
-    pub body: &'a OpenBody,
-}
-
-/// The entry: the metavariables that stay free become its implicit quantifiers, and the kernel says yes to it.
+/// The entry: what is completed is closed over its implicit quantifiers, and the kernel says yes to it.
 pub fn entry(
     alloc: Global,
     signature: &Signature,
     decl: &ExtDecl,
-    rows: &[Row],
-    solution: &Solution<'_>,
+    completed: Completed,
 ) -> Result<Entry, ReconFault>
-    requires { IsSolved signature.now (declaration_of decl.now) (rows_of rows.now) (numbers_of solution.now.frees.now) (open_body_of solution.now.body.now) solution.now.store.now.now }
-    ensures reconstructed { IfOk result (λ e. IsReconstructed signature.now (declaration_of decl.now) (entry_of e)) }
-    ensures canonical { IfOk result (λ e. IsCanonicalEntry (signature_of signature.now) (entry_of e)) }
-    ensures refused { IfErr result (λ f. HasCause signature.now (declaration_of decl.now) f) }
+    ensures entry { IfOk result (λ e. IsEntryOf (declaration_of decl.now) completed.quantifiers completed.hints.items (body_of completed.body) (entry_of e)) }
+    ensures typed { IfOk result (λ e. BodyIsTyped (signature_of signature.now) (body_of e.body)) }
+    ensures within { IfOk result (λ e. BodyIsWithin depth_limit (body_of e.body)) }
+    ensures fault { IfErr result (λ f. (f ≡ ReconFault.TooDeep) ⊎ (f ≡ ReconFault.NoMemory)) }
+    ensures too_deep { IsErrOf result ReconFault.TooDeep → BodyReachesDeep (signature_of signature.now) (body_over completed.quantifiers (body_of completed.body)) }
 {
-    signature.is_canonical();
-    let quantifiers = match read_quantifiers(alloc, solution.store, solution.sites) {
-        Ok(quantifiers) => quantifiers,
-        Err(fault) => return Err(of_reading(fault)),
-    };
-    let inner = match read_body(alloc, solution.store, &quantifiers, solution.body) {
-        Ok(body) => body,
-        Err(fault) => return Err(of_reading(fault)),
-    };
-    let names = quantifier_hints(alloc, solution.store, &quantifiers, rows, solution.frees)?;
-    let hints = add_written(alloc, decl, &inner, names)?;
-    let implicit = implicit_count(&quantifiers.context)?;
+    let Completed {
+        quantifiers,
+        hints,
+        body: inner,
+        ..
+    } = completed;
+    let hints = add_written(alloc, decl, &inner, hints)?;
+    let implicit = implicit_count(&quantifiers)?;
     let name = declared_name(alloc, decl)?;
-    let body = closed_body(alloc, &quantifiers.context, inner)?;
+    let body = closed_body(alloc, &quantifiers, inner)?;
     match approve(alloc, signature, &body) {
         Ok(()) => {}
         Err(fault) => return Err(fault),
@@ -80,16 +61,6 @@ fn implicit_count(quantifiers: &Context) -> Result<u32, AllocError>
     match u32::try_from(quantifiers.len()) {
         Ok(count) => Ok(count),
         Err(_) => Err(AllocError),
-    }
-}
-
-/// A fault of reading off.
-fn of_reading(fault: ReadFault) -> ReconFault
-    ensures { result ≡ of_reading fault }
-{
-    match fault {
-        ReadFault::TooDeep => ReconFault::TooDeep,
-        ReadFault::NoMemory => ReconFault::NoMemory,
     }
 }
 

@@ -1,93 +1,17 @@
 //! The names by which the leading quantifiers of an entry are shown.
-ghost use Rattle.std.specs.Prelude.{◌≡◌, ◌+◌, ◌++◌, ◌∷◌, ℕ, IfOk, OnOk, length, map, reverse};
+ghost use Rattle.std.specs.Prelude.{◌≡◌, ◌+◌, ◌++◌, ◌∷◌, ℕ, IfOk, reverse};
 ghost use Rattle.lf.specs.Entries.{body_quantifiers, kind_quantifiers, quantifiers};
-ghost use Rattle.tw_approx.specs.Answer.{rows_of};
 ghost use Rattle.tw_parse.specs.View.{declaration_of, term_of};
 ghost use Rattle.tw_signature.specs.View.{body_of};
 ghost use Rattle.tw_terms.specs.View.{kind_of, type_of};
-ghost use Rattle.tw_readoff.specs.Reading.{IsSettled};
-ghost use Rattle.tw_recon.specs.Hints.{AreOfRows, fitted, lambda_hints, with_name, written_hints};
+ghost use Rattle.tw_recon.specs.Hints.{fitted, lambda_hints, written_hints};
 
 use std::alloc::{AllocError, Global};
-use tw_approx::Row;
 use tw_explicit::{binder_name, hints};
 use tw_fixity::Name;
-use tw_metas::Store;
 use tw_parse::{ExtDecl, ExtTerm};
-use tw_putting::put_in;
-use tw_readoff::{Quantifiers, sole_metavariable};
 use tw_signature::Body;
-use tw_terms::{Kind, MetaId, Ty};
-
-/// For each quantifier, the outermost first, the name of the first free variable that stands for it alone, if there is one.
-pub fn quantifier_hints(
-    alloc: Global,
-    store: &Store,
-    quantifiers: &Quantifiers,
-    rows: &[Row],
-    frees: &[MetaId],
-) -> Result<Vec<Option<Name>>, AllocError>
-    requires { IsSettled store.now.now }
-    ensures each { IfOk result (λ h. length h.items ≡ length quantifiers.now.context) }
-    ensures of_rows { IfOk result (λ h. AreOfRows (rows_of rows.now) h.items) }
-{
-    let mut hints = Vec::with_capacity(alloc, quantifiers.context.len())?;
-    for _ in 0..quantifiers.context.len() {
-        hints.push(None)?;
-    }
-    for (place, row) in rows.iter().enumerate() {
-        if let Some(meta) = frees.get(place) {
-            if let Some(at) = quantifier_of(alloc, store, quantifiers, *meta)? {
-                name_quantifier(alloc, &mut hints, at, &row.name)?;
-            }
-        }
-    }
-    Ok(hints)
-}
-
-/// The place, the outermost being 0, of the quantifier that a metavariable stands for alone. A value that is too deep has been told with the sites, and
-/// counts as want of memory.
-fn quantifier_of(
-    alloc: Global,
-    store: &Store,
-    quantifiers: &Quantifiers,
-    meta: MetaId,
-) -> Result<Option<usize>, AllocError>
-    requires { IsSettled store.now.now }
-{
-    let sole = match store.value(meta) {
-        None => Some(meta),
-        Some(value) => match put_in(alloc, store, 0, value) {
-            Ok(put) => sole_metavariable(&put)?,
-            Err(_) => return Err(AllocError),
-        },
-    };
-    let Some(sole) = sole else {
-        return Ok(None);
-    };
-    let Some(variable) = quantifiers.positions.variable(sole) else {
-        return Ok(None);
-    };
-    let Some(innermost) = quantifiers.context.len().checked_sub(1) else {
-        return Ok(None);
-    };
-    Ok(innermost.checked_sub(variable as usize))
-}
-
-/// Gives the quantifier at this place the name, unless it has one.
-fn name_quantifier(
-    alloc: Global,
-    hints: &mut Vec<Option<Name>>,
-    at: usize,
-    name: &Name,
-) -> Result<(), AllocError>
-    ensures { OnOk result (hints.new.items ≡ with_name at name.now hints.old.items) }
-{
-    if at < hints.len() && hints[at].is_none() {
-        hints[at] = Some(name.copy(alloc)?);
-    }
-    Ok(())
-}
+use tw_terms::{Kind, Ty};
 
 /// Adds for each leading quantifier of the body the name that the text gives it.
 pub fn add_written(

@@ -1,52 +1,51 @@
 //! The equation that is told where some are left.
-ghost use Rattle.std.specs.Prelude.{◌≡◌, ◌<◌, IfOk, length, map};
+ghost use Rattle.std.specs.Prelude.{◌≡◌, IfOk, length, map};
+ghost use Rattle.lf.specs.Entries.{IsCanonicalSignature};
+ghost use Rattle.elaboration.specs.Sites.{AreFreesInOrder};
 ghost use Rattle.tw_approx.specs.Answer.{rows_of};
 ghost use Rattle.tw_elaborate.specs.View.{numbers_of};
-ghost use Rattle.tw_parse.specs.Syntax.{Declaration};
-ghost use Rattle.tw_unify.specs.Named.{named_of};
+ghost use Rattle.tw_written.specs.View.{written_body_of};
 ghost use Rattle.tw_recon.specs.Begun.{IsLeft};
-ghost use Rattle.tw_recon.specs.Causes.{HasCause, named};
+ghost use Rattle.tw_recon.specs.Causes.{Stops};
 
 use crate::fault::ReconFault;
-use std::alloc::{AllocError, Global};
+use crate::names::{named, names};
+use std::alloc::Global;
 use tw_approx::Row;
-use tw_fixity::Name;
 use tw_metas::Store;
+use tw_readoff::ReadFault;
 use tw_signature::Signature;
 use tw_terms::MetaId;
 use tw_unify::{UnifyFault, left_equation};
+use tw_written::WrittenBody;
 
-/// The refusal of a declaration with equations that are left: it tells the first of them, with the names of the free variables.
+/// Why what is written isn't completed where equations are left: it tells the first of them, with the names of the free variables, which the text has in
+/// this order.
 pub fn leftover(
     alloc: Global,
     signature: &Signature,
     store: &Store,
     rows: &[Row],
+    written: &WrittenBody,
     frees: &[MetaId],
+    order: &[usize],
 ) -> ReconFault
-    requires { (d : Declaration) × IsLeft signature.now d (rows_of rows.now) (numbers_of frees.now) store.now.now }
-    ensures { (d : Declaration) → IsLeft signature.now d (rows_of rows.now) (numbers_of frees.now) store.now.now → HasCause signature.now d result }
+    requires canonical { IsCanonicalSignature signature.now }
+    requires left { IsLeft signature.now (rows_of rows.now) (written_body_of written.now) (numbers_of frees.now) store.now.now }
+    requires in_order { AreFreesInOrder (written_body_of written.now) (length (rows_of rows.now)) order.now }
+    ensures { Stops signature.now (rows_of rows.now) (written_body_of written.now) result }
 {
-    let names = match names(alloc, rows, frees) {
-        Ok(names) => names,
-        Err(_) => return ReconFault::NoMemory,
+    let naming = match names(alloc, store, rows, frees, order) {
+        Ok(naming) => naming,
+        Err(ReadFault::TooDeep) => return ReconFault::TooDeep,
+        Err(ReadFault::NoMemory) => return ReconFault::NoMemory,
     };
-    match left_equation(alloc, store, signature, 0, &names) {
+    let Ok(named) = named(alloc, &naming.names) else {
+        return ReconFault::NoMemory;
+    };
+    match left_equation(alloc, store, signature, 0, &named) {
         Ok(left) => ReconFault::Leftover(left),
         Err(UnifyFault::TooDeep) => ReconFault::TooDeep,
         Err(UnifyFault::NoMemory) => ReconFault::NoMemory,
     }
-}
-
-/// The metavariables of the free variables, with their names.
-fn names(alloc: Global, rows: &[Row], frees: &[MetaId]) -> Result<Vec<(MetaId, Name)>, AllocError>
-    ensures { IfOk result (λ v. map named_of v.items ≡ named (rows_of rows.now) (numbers_of frees.now)) }
-{
-    let mut names = Vec::with_capacity(alloc, rows.len())?;
-    for (place, row) in rows.iter().enumerate() {
-        if let Some(meta) = frees.get(place) {
-            names.push((*meta, row.name.copy(alloc)?))?;
-        }
-    }
-    Ok(names)
 }

@@ -1,7 +1,7 @@
 //! Reconstruction: what a declaration leaves out is completed in the most general way.
 //!
-//! The passes: the skeletons of what isn't written (`tw_approx`), names (`tw_resolve`), metavariables and equations (`tw_elaborate`), most general bindings
-//! (`tw_unify`), and what is read off (`tw_readoff`), which the kernel checks once more.
+//! The passes: the skeletons of what isn't written (`tw_approx`), names (`tw_resolve`), metavariables and equations (`tw_elaborate`), where these stand in the
+//! text (`tw_places`), most general bindings (`tw_unify`), and what is read off (`tw_readoff`), which the kernel checks once more.
 #![tactic(auto)]
 
 #[tactic(auto, using(crate::proofs::Steps::steps))]
@@ -10,16 +10,20 @@ mod begun;
 mod bodies;
 #[tactic(auto, using(crate::proofs::Closed::closings))]
 mod closing;
+mod completing;
 mod entry;
 mod fault;
 #[tactic(auto, using(crate::proofs::Steps::steps))]
 mod hints;
 mod kernel;
 mod leftover;
+mod names;
+mod query;
 mod reconstruction;
-mod sites;
+mod solving;
 
 pub use fault::ReconFault;
+pub use query::{Goal, reconstruct_query};
 pub use reconstruction::reconstruct;
 
 #[cfg(test)]

@@ -1,11 +1,11 @@
 //! Declarations, and what they are reconstructed to. Expected values are worked out by hand.
-use crate::{ReconFault, reconstruct};
+use crate::{Goal, ReconFault, reconstruct, reconstruct_query};
 use std::alloc::{AllocError, Global};
 use std::process::Abort;
 use std::test::Fail;
 use tw_fixity::{FixTable, Name};
 use tw_lexer::{Place, lex};
-use tw_parse::{ExtDecl, parse_decl};
+use tw_parse::{ExtDecl, ExtQuery, parse_decl, parse_query};
 use tw_print::{Names, ShowEnv, show_entry};
 use tw_signature::Signature;
 
@@ -413,4 +413,121 @@ fn refused(rt: HostRuntime) -> Result<(), Fail> {
         ("", "t : h c (W : k (E (V : a))).", "left over"),
     ];
     check_rows(&rt, rt.alloc(), &rows)
+}
+
+// Of the free variables that are found equal, the first in the text gives the name, also where the premise of `<-` is gone over first.
+#[test]
+fn first_in_the_text(rt: HostRuntime) -> Result<(), Fail> {
+    let before = "eq : nat -> nat -> type.\nrefl : eq X X.\nq : eq X Y -> type.";
+    let rows = [
+        (
+            before,
+            "t : plus A A A <- q (refl : eq B A).",
+            "t : {A:nat} q refl -> plus A A A.",
+        ),
+        (
+            before,
+            "t : plus B B B <- q (refl : eq A B).",
+            "t : {B:nat} q refl -> plus B B B.",
+        ),
+        (
+            before,
+            "t : q (refl : eq B A) -> plus A A A.",
+            "t : {B:nat} q refl -> plus B B B.",
+        ),
+        (
+            "",
+            "t : plus Y Y z <- plus X Y z.",
+            "t : {Y:nat} {X:nat} plus X Y z -> plus Y Y z.",
+        ),
+    ];
+    check_rows(&rt, rt.alloc(), &rows)
+}
+
+#[test]
+fn abbreviations(rt: HostRuntime) -> Result<(), Fail> {
+    let rows = [(
+        "",
+        "%abbrev id = [x:nat] x.",
+        "%abbrev id : nat -> nat = [x:nat] x.",
+    )];
+    check_rows(&rt, rt.alloc(), &rows)
+}
+
+fn read_asked(alloc: Global, text: &str) -> Option<ExtQuery> {
+    let bytes = text.as_bytes();
+    if bytes.len() >= 1_000_000 {
+        return None;
+    }
+    let fixities = FixTable::new(alloc);
+    let tokens = lex(alloc, bytes, 0, Place { line: 1, column: 1 }).ok()?;
+    parse_query(alloc, &tokens, bytes, &fixities).ok()
+}
+
+fn push_optional(line: &mut String, name: &Option<Name>) -> Result<(), AllocError> {
+    match name {
+        Some(name) => push_name(line, name),
+        None => line.push('_'),
+    }
+}
+
+// The names of the variables, the newest first; those that are shown; and the name of the proof.
+fn goal_line(alloc: Global, goal: &Goal) -> Result<String, AllocError> {
+    let mut line = String::new(alloc);
+    for name in &goal.names {
+        push_optional(&mut line, name)?;
+        line.push(' ')?;
+    }
+    line.push('|')?;
+    for variable in &goal.shown {
+        write!(line, " {variable}")?;
+    }
+    line.push_str(" | ")?;
+    push_optional(&mut line, &goal.proof)?;
+    Ok(line)
+}
+
+fn asked(alloc: Global, signature: &Signature, text: &str) -> Result<String, Fail> {
+    let Some(query) = read_asked(alloc, text) else {
+        return Ok(String::from_str(alloc, "not read")?);
+    };
+    match reconstruct_query(alloc, signature, &query) {
+        Ok(goal) => {
+            if goal.variables.len() == goal.names.len() {
+                Ok(goal_line(alloc, &goal)?)
+            } else {
+                Err(Fail::from("there are more variables than names"))
+            }
+        }
+        Err(fault) => Ok(fault_line(alloc, &fault)?),
+    }
+}
+
+#[test]
+fn queries(rt: HostRuntime) -> Result<(), Fail> {
+    let rows = [
+        ("plus X Y (s Z).", "Z Y X | 2 1 0 | _"),
+        ("P : plus z X X.", "X | 0 | P"),
+        ("plus z z z.", "| | _"),
+        // an unnamed one isn't shown
+        ("plus _ X z.", "X _ | 0 | _"),
+        // one that the indices determine has no line
+        ("h c (W : k X).", "W | 0 | _"),
+        // X is the value of the implicit argument, and so stands first; it is written last
+        ("foo Y D (W : k X).", "W D Y X | 2 1 0 3 | _"),
+        // of equal ones the first alone
+        ("foo (Y : a) (D : k X) (D : k Z).", "D Y X | 1 0 2 | _"),
+        ("plus X Y.", "mismatch"),
+        ("type.", "mismatch"),
+        ("nat -> type.", "mismatch"),
+        ("plus z y z.", "unknown y 1:8"),
+        ("plus (([u] z) _) z z.", "loose"),
+        ("r X -> nat.", "X | 0 | _"),
+    ];
+    let signature = signature_of(rt.alloc(), "")?;
+    for (text, wanted) in rows {
+        let line = asked(rt.alloc(), &signature, text)?;
+        assert_eq!(rt; line.as_str(), wanted, "{text}");
+    }
+    Ok(())
 }

@@ -2,7 +2,7 @@
 use Rattle.std.proofs.Common.{◌≡◌, ℕ, List, [], ◌∷◌, Bool, true, false, ◌&&◌, None, Some, if◌then◌else◌, refl, sym, ap, subst}
 use Rattle.lf.specs.Entries.{Entry}
 use Rattle.lf.specs.Syntax.{Skeleton, base, arrow as arrow_skeleton}
-use Rattle.elaboration.specs.Written.{Written, WrittenDomain, WrittenType, WrittenKind, applied, ascribed, family, family_applied, family_ascribed, written_star}
+use Rattle.elaboration.specs.Written.{Place, Written, WrittenDomain, WrittenType, WrittenKind, applied, ascribed, family, family_applied, family_ascribed, written_star}
 use Rattle.elaboration.specs.WrittenSkeletons.{WrittenHasSkeleton, WrittenTypeHasSkeleton, DomainHasSkeleton, FamilyHasSkeleton, KindHasSkeleton, FamilyNameLeaves}
 use Rattle.tw_approx.specs.Readings.{Reading, and_then}
 use Rattle.tw_approx.specs.Skeletons.{Family, known, unknown, same_skeleton, same_skeletons, applied as applied_skeleton, ascribed as ascribed_skeleton, family_applied as applied_family, family_ascribed as ascribed_family, whole}
@@ -63,9 +63,9 @@ module _ (es : List Entry) (ts : List Skeleton) where
   DomainFits Γ s d = DomainHasSkeleton es ts Γ d s
 
   -- the name of a family
-  pub family_name_fits : (Γ : List Skeleton) (a : ℕ) (ss : List Skeleton) → FamilyNameLeaves es ts a (due_skeleton ss a) → FamilyFits Γ (known ss (base a)) (family a)
-  family_name_fits Γ a [] h = (refl, h)
-  family_name_fits Γ a (s ∷ ss) h = (a, refl, (refl, h))
+  pub family_name_fits : (at : Place) (Γ : List Skeleton) (a : ℕ) (ss : List Skeleton) → FamilyNameLeaves es ts a (due_skeleton ss a) → FamilyFits Γ (known ss (base a)) (family a at)
+  family_name_fits at Γ a [] h = (refl, h)
+  family_name_fits at Γ a (s ∷ ss) h = (a, refl, (refl, h))
 
   -- a part behind a binder
   pub bound_part : {B C U V W : Type 0} (R : List Skeleton → Reading Skeleton) (S : Skeleton → List Skeleton → Reading B) (value : Skeleton → B → C) (Q : List Skeleton → Reading U) (T : List Skeleton → Reading V) (make : U → V → W)

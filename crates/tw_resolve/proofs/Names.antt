@@ -5,7 +5,7 @@ use Rattle.lf.specs.Entries.{Entry, Body, declare_family, declare_constant, decl
 use Rattle.lf.specs.SkeletonTyping.{SkeletonAt}
 use Rattle.lf.specs.Syntax.{Skeleton, base, arrow, skeleton, Kind, kind_pi, star, kind_skeleton}
 use Rattle.lf.specs.Variables.{same_number}
-use Rattle.elaboration.specs.Written.{Written, free, bound, declared, family}
+use Rattle.elaboration.specs.Written.{Place, Written, free, bound, declared, family}
 use Rattle.elaboration.specs.WrittenSkeletons.{LeavesSkeleton, type_in_terms, NameHasSkeleton, FamilyNameLeaves, WrittenHasSkeleton}
 use Rattle.tw_approx.specs.Answer.{Rows, frees_of, HasRow}
 use Rattle.tw_approx.specs.Skeletons.{behind, object_skeleton, entry_skeleton, name_skeleton, Family, known, due, family_of_body, family_of_entry, family_named}
@@ -110,16 +110,16 @@ module _ (es : List Entry) (rows : Rows) where
   entry_has c (Some d) s h e = body_has c d d.body s h refl e
 
   -- what a name is in a term
-  pub name_has : (G H : List Skeleton) (i j c : Option ℕ) (x : List ℕ) (s : Skeleton) → AreAlike i G j H → name_skeleton es (frees_of rows) G (head_named i c) x ≡ Some s → (head_named i c ≡ None → is_uppercase x ≡ true → HasRow x rows)
-      → (w : Written) × (resolved_name (head_named j c) (variable_of (names_of rows) x) ≡ Some w) × WrittenHasSkeleton es (skeletons_of rows) H w s
-  name_has G H (Some i) (Some j) c x s a e r = (bound j, refl, at_place H j s (sym a ∙ e))
-  name_has G H None None (Some c) x s a e r = (declared c, refl, entry_has c (entry es c) s refl e)
-  name_has G H None None None x s a e r =
+  pub name_has : (at : Place) (G H : List Skeleton) (i j c : Option ℕ) (x : List ℕ) (s : Skeleton) → AreAlike i G j H → name_skeleton es (frees_of rows) G (head_named i c) x ≡ Some s → (head_named i c ≡ None → is_uppercase x ≡ true → HasRow x rows)
+      → (w : Written) × (resolved_name at (head_named j c) (variable_of (names_of rows) x) ≡ Some w) × WrittenHasSkeleton es (skeletons_of rows) H w s
+  name_has at G H (Some i) (Some j) c x s a e r = (bound j, refl, at_place H j s (sym a ∙ e))
+  name_has at G H None None (Some c) x s a e r = (declared c at, refl, entry_has c (entry es c) s refl e)
+  name_has at G H None None None x s a e r =
       let u = upper_is (is_uppercase x) (frees_of rows x) s e in
       let p = placed rows x (r refl u.0) in
-      (free p.0, ap (option_map free) p.1, p.2 ∙ ap Some u.1)
-  name_has G H (Some i) None c x s a e r = absurd a
-  name_has G H None (Some j) c x s a e r = absurd a
+      (free p.0 at, ap (option_map (λ k. free k at)) p.1, p.2 ∙ ap Some u.1)
+  name_has at G H (Some i) None c x s a e r = absurd a
+  name_has at G H None (Some j) c x s a e r = absurd a
 
   family_body_has : IsCanonicalSignature es → (c : ℕ) (e : Entry) (b : Body) (F : Family) → entry es c ≡ Some e → e.body ≡ b → family_of_body c e.implicit b ≡ Some F
       → (ss : List Skeleton) × (F ≡ known ss (base c)) × FamilyNameLeaves es (skeletons_of rows) c (due_skeleton ss c)
@@ -135,9 +135,9 @@ module _ (es : List Entry) (rows : Rows) where
   family_entry_has k c (Some d) F h e = family_body_has k c d d.body F h refl e
 
   -- what a name is as a family
-  pub family_name_has : IsCanonicalSignature es → (G H : List Skeleton) (i j c : Option ℕ) (F : Family) → AreAlike i G j H → family_named es (head_named i c) ≡ Some F
-      → (a : ℕ) × (ss : List Skeleton) × (resolved_family (head_named j c) ≡ Some (family a)) × (F ≡ known ss (base a)) × FamilyNameLeaves es (skeletons_of rows) a (due_skeleton ss a)
-  family_name_has k G H (Some i) j c F a e = absurd cc
-  family_name_has k G H None None (Some c) F a e = let r = family_entry_has k c (entry es c) F refl e in (c, r.0, refl, r.1, r.2)
-  family_name_has k G H None None None F a e = absurd cc
-  family_name_has k G H None (Some j) c F a e = absurd a
+  pub family_name_has : IsCanonicalSignature es → (at : Place) (G H : List Skeleton) (i j c : Option ℕ) (F : Family) → AreAlike i G j H → family_named es (head_named i c) ≡ Some F
+      → (a : ℕ) × (ss : List Skeleton) × (resolved_family at (head_named j c) ≡ Some (family a at)) × (F ≡ known ss (base a)) × FamilyNameLeaves es (skeletons_of rows) a (due_skeleton ss a)
+  family_name_has k at G H (Some i) j c F a e = absurd cc
+  family_name_has k at G H None None (Some c) F a e = let r = family_entry_has k c (entry es c) F refl e in (c, r.0, refl, r.1, r.2)
+  family_name_has k at G H None None None F a e = absurd cc
+  family_name_has k at G H None (Some j) c F a e = absurd a

@@ -6,7 +6,7 @@ use Rattle.tw_approx.specs.Answer.{rows_of}
 use Rattle.tw_approx.specs.declared.approximation.Row.{Row}
 use Rattle.tw_terms.specs.View.{skeleton_of}
 use Rattle.tw_terms.specs.declared.canonical.Skeleton.{Skeleton}
-use Rattle.tw_approx.specs.Readings.{Reading, found}
+use Rattle.tw_approx.specs.Readings.{found}
 use Rattle.tw_resolve.specs.Resolved.{names_of, taken_whole}
 use Rattle.tw_resolve.proofs.Spines.{texts}
 
@@ -33,8 +33,7 @@ left_over None p n = refl
 left_over (Some a) [] n = absurd (n refl)
 left_over (Some a) (s ∷ p) n = refl
 
-pub not_whole : {A : Type 0} (w : Option A) (items : List Skeleton) (r : Reading A) → (length items ≡ 0 → ⊥) → found w (reverse (map skeleton_of items)) ≡ r → None ≡ taken_whole r
-not_whole w items r n e =
-    left_over w (reverse (map skeleton_of items)) (λ h. n (sym (length-map items skeleton_of) ∙ sym (length-reverse (map skeleton_of items)) ∙ ap length h)) ∙ ap taken_whole e
+pub not_whole : {A : Type 0} (w : Option A) (items : List Skeleton) → (length items ≡ 0 → ⊥) → None ≡ taken_whole (found w (reverse (map skeleton_of items)))
+not_whole w items n = left_over w (reverse (map skeleton_of items)) (λ h. n (sym (length-map items skeleton_of) ∙ sym (length-reverse (map skeleton_of items)) ∙ ap length h))
 
 pub ruleset rests = (texts, turned_back)

@@ -1,5 +1,5 @@
--- The body of a declaration that has skeletons.
-use Rattle.std.proofs.Common.{◌≡◌, ℕ, List, [], Bool, true, false, Option, None, Some, ap, ◌∙◌}
+-- The body of a declaration that has skeletons, and of a goal.
+use Rattle.std.proofs.Common.{◌≡◌, ℕ, List, [], Bool, true, false, Option, None, Some, sym, ap, ◌∙◌}
 use Rattle.lf.specs.Entries.{Entry}
 use Rattle.lf.specs.Syntax.{Skeleton}
 use Rattle.elaboration.specs.Principal.{WrittenBody, written_family, written_constant, written_definition, written_definition_of}
@@ -10,7 +10,7 @@ use Rattle.tw_approx.proofs.Sequences.{parts_of}
 use Rattle.tw_explicit.specs.Answer.{ends_in_type}
 use Rattle.tw_parse.specs.Syntax.{Term, Declaration, declare, define, prefer, give}
 use Rattle.tw_resolve.specs.Resolving.{resolved_term, resolved_type, with_both, made}
-use Rattle.tw_resolve.specs.Resolved.{names_of, skeletons_of, untyped_term, typed_term, resolved_definition, DefinitionHasSkeleton, ClassifierResolves, IsResolved, with_one, taken_whole, classifier_read, resolved_body, BodyHasSkeletons, BodiesAreResolved}
+use Rattle.tw_resolve.specs.Resolved.{names_of, skeletons_of, untyped_term, typed_term, resolved_definition, DefinitionHasSkeleton, ClassifierResolves, IsResolved, with_one, taken_whole, classifier_read, resolved_body, BodyHasSkeletons, BodiesAreResolved, GoalsAreConstants}
 use Rattle.tw_resolve.proofs.Whole.{skeletons_are_resolved}
 
 -- the body that a definition makes
@@ -58,3 +58,6 @@ module _ (es : List Entry) (rows : Rows) where
 
 pub bodies_are_resolved : BodiesAreResolved
 bodies_are_resolved es canonical d rows o h = has_body es rows d o (skeletons_are_resolved es canonical d rows o h)
+
+pub goals_are_constants : GoalsAreConstants
+goals_are_constants es rows o c at U e = ap (λ (b : Bool). taken_whole (classifier_read es (names_of rows) [] b U o)) (sym e)

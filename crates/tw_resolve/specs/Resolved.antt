@@ -1,4 +1,4 @@
--- What resolution makes of a declaration that has skeletons.
+-- What resolution makes of a declaration that has skeletons, and of the goal of a query.
 use Rattle.std.specs.Prelude.{◌≡◌, ℕ, List, [], ◌∷◌, map, Bool, true, false, Option, None, Some}
 use Rattle.lf.specs.Entries.{Entry, IsCanonicalSignature}
 use Rattle.lf.specs.Syntax.{Skeleton, base, arrow}
@@ -9,6 +9,7 @@ use Rattle.tw_approx.specs.Answer.{Rows, frees_of, HasSkeletons}
 use Rattle.tw_approx.specs.Readings.{Reading, and_then}
 use Rattle.tw_approx.specs.Skeletons.{type_skeleton, kind_due, definition_skeleton}
 use Rattle.tw_explicit.specs.Answer.{ends_in_type}
+use Rattle.tw_lexer.specs.declared.place.Place.{Place}
 use Rattle.tw_parse.specs.Syntax.{Term, Declaration, declare, define, prefer, give}
 use Rattle.tw_scope.specs.Names.{Names}
 use Rattle.tw_resolve.specs.Resolving.{with_both, made, resolved_term, resolved_type, resolved_kind}
@@ -89,6 +90,10 @@ module _ (es : List Entry) (free N : Names) where
 abbrev pub resolved_body : List Entry → Rows → List Skeleton → Declaration → Option WrittenBody
 resolved_body es rows o d = taken_whole (body_read es (names_of rows) [] d o)
 
+-- the goal of a query, as the type of a constant
+abbrev pub resolved_goal : List Entry → Rows → List Skeleton → Term → Option WrittenBody
+resolved_goal es rows o U = taken_whole (classifier_read es (names_of rows) [] false U o)
+
 -- the skeletons of what is written: of a family's kind whatever the family
 abbrev pub BodyHasSkeletons : List Entry → List Skeleton → WrittenBody → Type 0
 BodyHasSkeletons es ts (written_family k) = (ds : List Skeleton) × ((a : ℕ) → KindHasSkeleton es ts [] k a (due_skeleton ds a))
@@ -99,3 +104,7 @@ BodyHasSkeletons es ts (written_definition_of M U b) = (s : Skeleton) × Written
 -- What has skeletons in just one way is resolved as a whole, and has skeletons then.
 abbrev pub BodiesAreResolved : Type 0
 BodiesAreResolved = (es : List Entry) → IsCanonicalSignature es → (d : Declaration) (rows : Rows) (o : List Skeleton) → HasSkeletons es d rows o → (w : WrittenBody) × (resolved_body es rows o d ≡ Some w) × BodyHasSkeletons es (skeletons_of rows) w
+
+-- A goal that doesn't end in `type` is resolved as the declaration of a constant of this type.
+abbrev pub GoalsAreConstants : Type 0
+GoalsAreConstants = (es : List Entry) (rows : Rows) (o : List Skeleton) (c : List ℕ) (at : Place) (U : Term) → ends_in_type U ≡ false → resolved_goal es rows o U ≡ resolved_body es rows o (declare c at U)

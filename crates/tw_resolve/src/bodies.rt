@@ -1,10 +1,10 @@
-//! What a declaration is written with, its names resolved.
-ghost use Rattle.std.specs.Prelude.{◌≡◌, map, Some, IfOk, option_map};
+//! What a declaration or a query is written with, its names resolved.
+ghost use Rattle.std.specs.Prelude.{◌≡◌, map, true, false, Some, IfOk, option_map};
 ghost use Rattle.tw_approx.specs.Answer.{rows_of};
 ghost use Rattle.tw_approx.specs.Readings.{found};
 ghost use Rattle.tw_explicit.specs.Answer.{ends_in_type};
 ghost use Rattle.tw_parse.specs.View.{term_of, declaration_of};
-ghost use Rattle.tw_resolve.specs.Resolved.{classifier_read, definition_read, body_read, resolved_body};
+ghost use Rattle.tw_resolve.specs.Resolved.{classifier_read, definition_read, body_read, taken_whole, resolved_body, resolved_goal};
 ghost use Rattle.tw_resolve.specs.Rest.{rest_of};
 ghost use Rattle.tw_terms.specs.View.{skeleton_of};
 ghost use Rattle.tw_written.specs.View.{written_body_of};
@@ -19,8 +19,9 @@ use tw_signature::Signature;
 use tw_terms::Skeleton;
 use tw_written::WrittenBody;
 
-/// What a declaration is written with, its names resolved: its free variables are those of the rows, and what isn't written takes its skeletons from the list. There
-/// is none where a text has no resolution, where something of the list is left over, and where nothing is declared. Fails for want of memory alone.
+/// What a declaration is written with, its names resolved: its free variables are those of the rows, and what isn't written takes its skeletons from the list.
+/// Entries, free variables and holes have the places where they are written, and a binder without a type that of its bracket. There is none where a text has no
+/// resolution, where something of the list is left over, and where nothing is declared. Fails for want of memory alone.
 pub fn resolve(
     alloc: Global,
     signature: &Signature,
@@ -32,10 +33,32 @@ pub fn resolve(
 {
     let mut resolving = Resolving::new(alloc, rows, omitted)?;
     let body = body(alloc, signature, &mut resolving, decl)?;
+    Ok(whole(&resolving, body))
+}
+
+/// The same of a query's goal, which is read as a constant's type.
+pub fn resolve_goal(
+    alloc: Global,
+    signature: &Signature,
+    goal: &ExtTerm,
+    rows: &[Row],
+    omitted: Vec<Skeleton>,
+) -> Result<Option<WrittenBody>, AllocError>
+    ensures { IfOk result (λ o. option_map written_body_of o ≡ resolved_goal signature.now (rows_of rows.now) (map skeleton_of omitted.items) (term_of goal.now)) }
+{
+    let mut resolving = Resolving::new(alloc, rows, omitted)?;
+    let body = constant(alloc, signature, &mut resolving, goal)?;
+    Ok(whole(&resolving, body))
+}
+
+/// What is read, if nothing of the list is left over.
+fn whole(resolving: &Resolving, body: Option<WrittenBody>) -> Option<WrittenBody>
+    ensures { option_map written_body_of result ≡ taken_whole (found (option_map written_body_of body) (rest_of resolving.now)) }
+{
     if resolving.omitted.is_empty() {
-        Ok(body)
+        body
     } else {
-        Ok(None)
+        None
     }
 }
 
@@ -66,15 +89,37 @@ fn classifier(
     ensures { IfOk result (λ o. found (option_map written_body_of o) (rest_of resolving.new) ≡ classifier_read signature.now resolving.old.free resolving.old.scope (ends_in_type (term_of text.now)) (term_of text.now) (rest_of resolving.old)) }
 {
     if ends_in_type(text) {
-        match resolve_kind(alloc, signature, resolving, text)? {
-            Some(kind) => Ok(Some(WrittenBody::Family(kind))),
-            None => Ok(None),
-        }
+        family(alloc, signature, resolving, text)
     } else {
-        match resolve_type(alloc, signature, resolving, text)? {
-            Some(ty) => Ok(Some(WrittenBody::Constant(ty))),
-            None => Ok(None),
-        }
+        constant(alloc, signature, resolving, text)
+    }
+}
+
+fn family(
+    alloc: Global,
+    signature: &Signature,
+    resolving: &mut Resolving,
+    kind: &ExtTerm,
+) -> Result<Option<WrittenBody>, AllocError>
+    ensures { IfOk result (λ o. found (option_map written_body_of o) (rest_of resolving.new) ≡ classifier_read signature.now resolving.old.free resolving.old.scope true (term_of kind.now) (rest_of resolving.old)) }
+{
+    match resolve_kind(alloc, signature, resolving, kind)? {
+        Some(kind) => Ok(Some(WrittenBody::Family(kind))),
+        None => Ok(None),
+    }
+}
+
+fn constant(
+    alloc: Global,
+    signature: &Signature,
+    resolving: &mut Resolving,
+    ty: &ExtTerm,
+) -> Result<Option<WrittenBody>, AllocError>
+    ensures { IfOk result (λ o. found (option_map written_body_of o) (rest_of resolving.new) ≡ classifier_read signature.now resolving.old.free resolving.old.scope false (term_of ty.now) (rest_of resolving.old)) }
+{
+    match resolve_type(alloc, signature, resolving, ty)? {
+        Some(ty) => Ok(Some(WrittenBody::Constant(ty))),
+        None => Ok(None),
     }
 }
 

@@ -1,5 +1,5 @@
 //! The laws of resolution. They have no code: each function carries one law as its contract.
-ghost use Rattle.tw_resolve.specs.Resolved.{BodiesAreResolved, FoundAreDeclared, SkeletonsAreResolved};
+ghost use Rattle.tw_resolve.specs.Resolved.{BodiesAreResolved, FoundAreDeclared, GoalsAreConstants, SkeletonsAreResolved};
 
 /// The skeletons that a declaration has in just one way are of declared families.
 pub fn found_are_declared()
@@ -14,4 +14,9 @@ pub fn skeletons_are_resolved()
 /// What has skeletons in just one way is resolved as a whole, and what is resolved has skeletons.
 pub fn bodies_are_resolved()
     ensures { BodiesAreResolved }
+{}
+
+/// A goal that doesn't end in `type` is resolved as the declaration of a constant of this type.
+pub fn goals_are_constants()
+    ensures { GoalsAreConstants }
 {}

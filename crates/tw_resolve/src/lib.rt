@@ -10,7 +10,7 @@ mod resolution;
 mod resolving;
 mod texts;
 
-pub use bodies::resolve;
+pub use bodies::{resolve, resolve_goal};
 pub use resolving::Resolving;
 pub use texts::{resolve_kind, resolve_term, resolve_type};
 

@@ -7,7 +7,7 @@ ghost use Rattle.tw_parse.specs.View.{term_of, boxed_domain};
 ghost use Rattle.tw_approx.specs.Readings.{found};
 ghost use Rattle.tw_resolve.specs.Rest.{rest_of};
 ghost use Rattle.tw_resolve.specs.Resolving.{resolved_term, resolved_type, resolved_domain, resolved_kind, on_argument, of_kind, is_type_hole, is_higher};
-ghost use Rattle.tw_written.specs.View.{written_of, written_domain_of as domain_of, written_type_of as type_of, written_kind_of as kind_of};
+ghost use Rattle.tw_written.specs.View.{place_of, written_of, written_domain_of as domain_of, written_type_of as type_of, written_kind_of as kind_of};
 
 use crate::resolving::Resolving;
 use std::alloc::{AllocError, Global};
@@ -296,7 +296,7 @@ fn resolved_domain(
     domain: &Option<Box<ExtTerm>>,
     frames: u32,
 ) -> Result<Option<WrittenDomain>, AllocError>
-    ensures read { IfOk result (λ o. found (option_map domain_of o) (rest_of resolving.new) ≡ resolved_domain signature.now resolving.old.free resolving.old.scope (boxed_domain domain.now) (rest_of resolving.old)) }
+    ensures read { IfOk result (λ o. found (option_map domain_of o) (rest_of resolving.new) ≡ resolved_domain signature.now resolving.old.free resolving.old.scope (place_of at) (boxed_domain domain.now) (rest_of resolving.old)) }
     ensures scope { OnOk result (resolving.new.scope ≡ resolving.old.scope) }
     ensures free { OnOk result (resolving.new.free ≡ resolving.old.free) }
 {

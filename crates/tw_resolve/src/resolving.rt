@@ -7,7 +7,7 @@ ghost use Rattle.tw_resolve.specs.Rest.{rest_of};
 ghost use Rattle.tw_resolve.specs.Resolved.{names_of};
 ghost use Rattle.tw_resolve.specs.Resolving.{resolved_name, resolved_family};
 ghost use Rattle.tw_explicit.specs.Scope.{named};
-ghost use Rattle.tw_written.specs.View.{written_of, written_type_of as type_of};
+ghost use Rattle.tw_written.specs.View.{place_of, written_of, written_type_of as type_of};
 ghost use Rattle.tw_scope.specs.Names.{variable_of};
 ghost use Rattle.tw_terms.specs.View.{skeleton_of};
 
@@ -59,7 +59,7 @@ impl Resolving {
 
     /// What a name at this place is in a term; none where it is neither in scope nor declared nor free.
     pub fn name(&self, signature: &Signature, name: &Name, at: Place) -> Option<Written>
-        ensures { option_map written_of result ≡ resolved_name (named signature.now self.now.scope name.now) (variable_of self.now.free name.now) }
+        ensures { option_map written_of result ≡ resolved_name (place_of at) (named signature.now self.now.scope name.now) (variable_of self.now.free name.now) }
     {
         match named(signature, &self.scope, name) {
             Some(Head::Const(id)) => Some(Written::Declared(id, at)),
@@ -73,7 +73,7 @@ impl Resolving {
 
     /// What a name at this place is as a family.
     pub fn family(&self, signature: &Signature, name: &Name, at: Place) -> Option<WrittenType>
-        ensures { option_map type_of result ≡ resolved_family (named signature.now self.now.scope name.now) }
+        ensures { option_map type_of result ≡ resolved_family (place_of at) (named signature.now self.now.scope name.now) }
     {
         match named(signature, &self.scope, name) {
             Some(Head::Const(id)) => Some(WrittenType::Family(id, at)),

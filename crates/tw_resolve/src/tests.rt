@@ -1,9 +1,9 @@
 //! Expected values are worked out by hand. In the lines that are compared F0 is the first free variable, B0 the newest variable in scope, _:k what isn't written, and
 //! @5 says that what stands before it has its place in column 5.
-use crate::{Resolving, resolve, resolve_kind, resolve_term, resolve_type};
+use crate::{Resolving, resolve, resolve_goal, resolve_kind, resolve_term, resolve_type};
 use std::alloc::{AllocError, Global};
 use std::test::Fail;
-use tw_approx::approximate;
+use tw_approx::{Approx, approximate};
 use tw_explicit::{complete, ends_in_type};
 use tw_fixity::{FixTable, Name};
 use tw_lexer::{Place, lex};
@@ -289,7 +289,36 @@ fn push_body(
     }
 }
 
-// what is resolved, behind the skeleton pass, with this many skeletons more than it gives
+fn body_line(
+    alloc: Global,
+    signature: &Signature,
+    body: &Option<WrittenBody>,
+) -> Result<String, AllocError> {
+    let mut line = String::new(alloc);
+    match body {
+        Some(body) => push_body(&mut line, signature, body)?,
+        None => line.push_str("none")?,
+    }
+    Ok(line)
+}
+
+// what the skeleton pass gives, with this many skeletons more
+fn skeletons(
+    alloc: Global,
+    signature: &Signature,
+    decl: &ExtDecl,
+    more: u64,
+) -> Result<Option<Approx>, AllocError> {
+    let Ok(mut found) = approximate(alloc, signature, decl) else {
+        return Ok(None);
+    };
+    for _ in 0..more {
+        found.omitted.push(Skeleton::Base(ConstId(0)))?;
+    }
+    Ok(Some(found))
+}
+
+// what is resolved, behind the skeleton pass
 fn answer(
     alloc: Global,
     signature: &Signature,
@@ -299,19 +328,33 @@ fn answer(
     let Some(decl) = read(alloc, text) else {
         return String::from_str(alloc, "not read");
     };
-    let Ok(found) = approximate(alloc, signature, &decl) else {
+    let Some(found) = skeletons(alloc, signature, &decl, more)? else {
         return String::from_str(alloc, "no skeletons");
     };
-    let mut omitted = found.omitted;
-    for _ in 0..more {
-        omitted.push(Skeleton::Base(ConstId(0)))?;
-    }
-    let Some(body) = resolve(alloc, signature, &decl, &found.free, omitted)? else {
-        return String::from_str(alloc, "none");
+    let omitted = found.omitted;
+    let body = resolve(alloc, signature, &decl, &found.free, omitted)?;
+    body_line(alloc, signature, &body)
+}
+
+// the same of what stands behind a declaration's colon, as a goal
+fn goal_answer(
+    alloc: Global,
+    signature: &Signature,
+    text: &str,
+    more: u64,
+) -> Result<String, AllocError> {
+    let Some(decl) = read(alloc, text) else {
+        return String::from_str(alloc, "not read");
     };
-    let mut line = String::new(alloc);
-    push_body(&mut line, signature, &body)?;
-    Ok(line)
+    let ExtDecl::Declare(_, _, goal) = &decl else {
+        return String::from_str(alloc, "not declared");
+    };
+    let Some(found) = skeletons(alloc, signature, &decl, more)? else {
+        return String::from_str(alloc, "no skeletons");
+    };
+    let omitted = found.omitted;
+    let body = resolve_goal(alloc, signature, goal, &found.free, omitted)?;
+    body_line(alloc, signature, &body)
 }
 
 #[test]
@@ -367,6 +410,27 @@ fn no_skeleton_is_left_over(rt: HostRuntime) -> Result<(), Fail> {
     for text in ["c : nat.", "c : nat -> type.", "d = z.", "d : nat = z."] {
         let line = answer(alloc, &signature, text, 1)?;
         assert_eq!(rt; line.as_str(), "none", "{text}");
+    }
+    Ok(())
+}
+
+#[test]
+fn goals_are_types(rt: HostRuntime) -> Result<(), Fail> {
+    let alloc = rt.alloc();
+    let signature = numbers(alloc)?.ok_or("not declared")?;
+    let rows = [
+        ("c : vec X.", 0, "(vec@5 F0@9)"),
+        (
+            "c : {x} vec x -> vec _.",
+            0,
+            "{_:nat@5}((vec@9 B0)>(vec@18 _:nat@22))",
+        ),
+        ("c : vec X.", 1, "none"),
+        ("c : nat -> type.", 0, "none"),
+    ];
+    for (text, more, want) in rows {
+        let line = goal_answer(alloc, &signature, text, more)?;
+        assert_eq!(rt; line.as_str(), want, "{text}");
     }
     Ok(())
 }

@@ -5,13 +5,13 @@ use Rattle.tw_lexer.specs.declared.place.Place.{Place}
 use Rattle.tw_terms.specs.View.{skeleton_of}
 use Rattle.tw_terms.specs.declared.canonical.ConstId.{ConstId}
 use Rattle.tw_terms.specs.declared.canonical.Skeleton.{Skeleton}
-use Rattle.tw_written.specs.View.{written_of, written_domain_of, written_type_of, written_kind_of}
+use Rattle.tw_written.specs.View.{place_of, written_of, written_domain_of, written_type_of, written_kind_of}
 use Rattle.tw_written.specs.declared.written.Written.{Written, Free, Bound, Declared, Hole, Function, Applied, Ascribed, the_lemmas}
 use Rattle.tw_written.specs.declared.written.WrittenDomain.{WrittenDomain, OfSkeleton, OfType, the_lemmas as domain_lemmas}
 use Rattle.tw_written.specs.declared.written.WrittenType.{WrittenType, Hole as WrittenType-Hole, Arrow as WrittenType-Arrow, Quantified as WrittenType-Quantified, Family, Applied as WrittenType-Applied, Ascribed as WrittenType-Ascribed, the_lemmas as type_lemmas}
 use Rattle.tw_written.specs.declared.written.WrittenKind.{WrittenKind, Star, Arrow as WrittenKind-Arrow, Quantified as WrittenKind-Quantified, the_lemmas as kind_lemmas}
 
-pub written_of-Free : (i : ℕ) (at : Place) → written_of (Free i at) ≡ plain.free i
+pub written_of-Free : (i : ℕ) (at : Place) → written_of (Free i at) ≡ plain.free i (place_of at)
 unfolding written_of written_domain_of written_type_of written_kind_of
 written_of-Free i at = search (rules, the_lemmas, domain_lemmas, type_lemmas, kind_lemmas)
 
@@ -19,11 +19,11 @@ pub written_of-Bound : (i : ℕ) → written_of (Bound i) ≡ plain.bound i
 unfolding written_of written_domain_of written_type_of written_kind_of
 written_of-Bound i = search (rules, the_lemmas, domain_lemmas, type_lemmas, kind_lemmas)
 
-pub written_of-Declared : (c : ConstId) (at : Place) → written_of (Declared c at) ≡ plain.declared c.0
+pub written_of-Declared : (c : ConstId) (at : Place) → written_of (Declared c at) ≡ plain.declared c.0 (place_of at)
 unfolding written_of written_domain_of written_type_of written_kind_of
 written_of-Declared c at = search (rules, the_lemmas, domain_lemmas, type_lemmas, kind_lemmas)
 
-pub written_of-Hole : (s : Skeleton) (at : Place) → written_of (Hole s at) ≡ plain.hole (skeleton_of s)
+pub written_of-Hole : (s : Skeleton) (at : Place) → written_of (Hole s at) ≡ plain.hole (skeleton_of s) (place_of at)
 unfolding written_of written_domain_of written_type_of written_kind_of
 written_of-Hole s at = search (rules, the_lemmas, domain_lemmas, type_lemmas, kind_lemmas)
 
@@ -39,7 +39,7 @@ pub written_of-Ascribed : (M : Box Written Global) (U : Box WrittenType Global) 
 unfolding written_of written_domain_of written_type_of written_kind_of
 written_of-Ascribed M U = search (rules, the_lemmas, domain_lemmas, type_lemmas, kind_lemmas)
 
-pub written_domain_of-OfSkeleton : (s : Skeleton) (at : Place) → written_domain_of (OfSkeleton s at) ≡ plain.of_skeleton (skeleton_of s)
+pub written_domain_of-OfSkeleton : (s : Skeleton) (at : Place) → written_domain_of (OfSkeleton s at) ≡ plain.of_skeleton (skeleton_of s) (place_of at)
 unfolding written_of written_domain_of written_type_of written_kind_of
 written_domain_of-OfSkeleton s at = search (rules, the_lemmas, domain_lemmas, type_lemmas, kind_lemmas)
 
@@ -47,7 +47,7 @@ pub written_domain_of-OfType : (U : Box WrittenType Global) → written_domain_o
 unfolding written_of written_domain_of written_type_of written_kind_of
 written_domain_of-OfType U = search (rules, the_lemmas, domain_lemmas, type_lemmas, kind_lemmas)
 
-pub written_type_of-Hole : (s : Skeleton) (at : Place) → written_type_of (WrittenType-Hole s at) ≡ plain.type_hole (skeleton_of s)
+pub written_type_of-Hole : (s : Skeleton) (at : Place) → written_type_of (WrittenType-Hole s at) ≡ plain.type_hole (skeleton_of s) (place_of at)
 unfolding written_of written_domain_of written_type_of written_kind_of
 written_type_of-Hole s at = search (rules, the_lemmas, domain_lemmas, type_lemmas, kind_lemmas)
 
@@ -59,7 +59,7 @@ pub written_type_of-Quantified : (d : WrittenDomain) (V : Box WrittenType Global
 unfolding written_of written_domain_of written_type_of written_kind_of
 written_type_of-Quantified d V = search (rules, the_lemmas, domain_lemmas, type_lemmas, kind_lemmas)
 
-pub written_type_of-Family : (c : ConstId) (at : Place) → written_type_of (Family c at) ≡ plain.family c.0
+pub written_type_of-Family : (c : ConstId) (at : Place) → written_type_of (Family c at) ≡ plain.family c.0 (place_of at)
 unfolding written_of written_domain_of written_type_of written_kind_of
 written_type_of-Family c at = search (rules, the_lemmas, domain_lemmas, type_lemmas, kind_lemmas)
 

@@ -1,6 +1,7 @@
--- The written syntax of the theory that a value of the program stands for. Places aren't seen.
+-- The written syntax of the theory that a value of the program stands for.
 use Rattle.elaboration.specs.Principal as theory_bodies
 use Rattle.elaboration.specs.Written as theory
+use Rattle.tw_lexer.specs.declared.place.Place.{Place}
 use Rattle.tw_terms.specs.View.{skeleton_of}
 use Rattle.tw_written.specs.declared.written.Written.{Written, fold-Written}
 use Rattle.tw_written.specs.declared.written.Written.TheOpen.{Written-F, WrittenDomain-F, WrittenType-F, WrittenKind-F}
@@ -10,25 +11,29 @@ use Rattle.tw_written.specs.declared.written.WrittenDomain.{WrittenDomain, fold-
 use Rattle.tw_written.specs.declared.written.WrittenType.{WrittenType, fold-WrittenType}
 use Rattle.tw_written.specs.declared.written.WrittenKind.{WrittenKind, fold-WrittenKind}
 
+-- a place of the text
+abbrev pub place_of : Place → theory.Place
+place_of p = record { line = p.line; column = p.column }
+
 -- what is written, one level, with each part already seen
 abbrev pub written_step : Written-F theory.Written theory.WrittenDomain theory.WrittenKind theory.WrittenType → theory.Written
-written_step (Written-F.Free i at) = theory.free i
+written_step (Written-F.Free i at) = theory.free i (place_of at)
 written_step (Written-F.Bound i) = theory.bound i
-written_step (Written-F.Declared c at) = theory.declared c.0
-written_step (Written-F.Written::Hole t at) = theory.hole (skeleton_of t)
+written_step (Written-F.Declared c at) = theory.declared c.0 (place_of at)
+written_step (Written-F.Written::Hole t at) = theory.hole (skeleton_of t) (place_of at)
 written_step (Written-F.Function d m) = theory.function d m.value
 written_step (Written-F.Written::Applied m p) = theory.applied m.value p.value
 written_step (Written-F.Written::Ascribed m u) = theory.ascribed m.value u.value
 
 abbrev pub domain_step : WrittenDomain-F theory.Written theory.WrittenDomain theory.WrittenKind theory.WrittenType → theory.WrittenDomain
-domain_step (WrittenDomain-F.OfSkeleton t at) = theory.of_skeleton (skeleton_of t)
+domain_step (WrittenDomain-F.OfSkeleton t at) = theory.of_skeleton (skeleton_of t) (place_of at)
 domain_step (WrittenDomain-F.OfType u) = theory.of_type u.value
 
 abbrev pub type_step : WrittenType-F theory.Written theory.WrittenDomain theory.WrittenKind theory.WrittenType → theory.WrittenType
-type_step (WrittenType-F.WrittenType::Hole t at) = theory.type_hole (skeleton_of t)
+type_step (WrittenType-F.WrittenType::Hole t at) = theory.type_hole (skeleton_of t) (place_of at)
 type_step (WrittenType-F.WrittenType::Arrow u v) = theory.arrow u.value v.value
 type_step (WrittenType-F.WrittenType::Quantified d v) = theory.quantified d v.value
-type_step (WrittenType-F.Family c at) = theory.family c.0
+type_step (WrittenType-F.Family c at) = theory.family c.0 (place_of at)
 type_step (WrittenType-F.WrittenType::Applied u p) = theory.family_applied u.value p.value
 type_step (WrittenType-F.WrittenType::Ascribed u k) = theory.family_ascribed u.value k.value
 

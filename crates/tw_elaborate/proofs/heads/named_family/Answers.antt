@@ -1,20 +1,27 @@
-use Rattle.lf.specs.Entries.{signature_of}
-use Rattle.elaboration.specs.Written.{family}
+use Rattle.std.proofs.Common.{sym, ap}
 use Rattle.tw_prune.proofs.Options.{if_ok}
+use Rattle.tw_signature.specs.View.{body_of, entry_of}
 use Rattle.tw_terms.specs.OpenView.{open_spine_of}
-use Rattle.tw_elaborate.specs.View.{open_kind_of}
-use Rattle.tw_elaborate.proofs.Places.{family_after_places, keeps_places, stands_places}
-use Rattle.tw_elaborate.proofs.Taking.{keeps_then}
+use Rattle.tw_terms.specs.View.{kind_of}
+use Rattle.tw_elaborate.specs.View.{made, open_kind_of}
+use Rattle.tw_elaborate.proofs.Declaring.{declared_kind_stands, family_named}
+use Rattle.tw_elaborate.proofs.Taking.{keeps_same}
 use Rattle.tw_elaborate.proofs.heads.named_family.Goals as goal
 
-pub returns-in_err-come_to-clause-keeps : goal.returns-in_err-come_to-clause-keeps
-returns-in_err-come_to-clause-keeps c = keeps_places c.args.state.now c.come_to.new.self c.come_to.ensures
+pub returns-in_default-clause-keeps : goal.returns-in_default-clause-keeps
+returns-in_default-clause-keeps c = keeps_same c.args.state.now
 
-pub family-requires-clause-stands : goal.family-requires-clause-stands
-family-requires-clause-stands c = stands_places (signature_of c.args.signature.now) c.args.state.now c.come_to.new.self c.come_to.ensures c.requires.stands
+pub returns-in_err-open_kind-in-Family-clause-keeps : goal.returns-in_err-open_kind-in-Family-clause-keeps
+returns-in_err-open_kind-in-Family-clause-keeps c = keeps_same c.args.state.now
 
-pub returns-clause-ok : goal.returns-clause-ok
-returns-clause-ok c = if_ok c.family.result _ _ (λ p i ns. family_after_places c.args.signature.now ns c.args.state.now c.come_to.new.self c.family.new.state (family c.args.id.0) c.args.id.0 (open_spine_of p.0) (open_kind_of p.1) c.come_to.ensures (i ns)) c.family.ensures.ok
+pub kind_take_new-requires : goal.kind_take_new-requires
+kind_take_new-requires c = declared_kind_stands c.args.signature.now c.requires.canonical (made c.args.state.now) c.args.state.now.locals c.requires.stands c.args.id.0 (entry_of c.in-Some.entry.now) (sym c.in-Some.ensures)
+    (kind_of c.in-Family.kind) (open_kind_of c.in_ok-open_kind-in-Family.field-0) c.in_ok-open_kind-in-Family.ensures (ap body_of c.in-Family.is)
 
-pub returns-clause-keeps : goal.returns-clause-keeps
-returns-clause-keeps c = keeps_then c.args.state.now c.come_to.new.self c.family.new.state (keeps_places c.args.state.now c.come_to.new.self c.come_to.ensures) c.family.ensures.keeps
+pub returns-in_ok-open_kind-in-Family-clause-ok : goal.returns-in_ok-open_kind-in-Family-clause-ok
+returns-in_ok-open_kind-in-Family-clause-ok c = if_ok c.kind_take_new.result _ _ (λ p t ns at.
+    family_named c.args.signature.now ns at c.args.state.now.locals (made c.args.state.now) (made c.kind_take_new.new.state) c.args.id.0 (entry_of c.in-Some.entry.now) (sym c.in-Some.ensures)
+    (kind_of c.in-Family.kind) (open_kind_of c.in_ok-open_kind-in-Family.field-0) (open_kind_of p.1) (open_spine_of p.0) c.in_ok-open_kind-in-Family.ensures (ap body_of c.in-Family.is) t) c.kind_take_new.ensures.ok
+
+pub returns-in-Constant-clause-keeps : goal.returns-in-Constant-clause-keeps
+returns-in-Constant-clause-keeps c = keeps_same c.args.state.now

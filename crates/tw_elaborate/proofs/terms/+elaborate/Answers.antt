@@ -1,37 +1,31 @@
 use Rattle.std.proofs.Common.{◌≡◌, ◌∷◌, IfOk, refl, sym, ap, ap₂, ◌∙◌, subst, arith, rules}
 use Rattle.lf.specs.Entries.{signature_of}
 use Rattle.lf.specs.Substitution.{single}
-use Rattle.lf.specs.Syntax.{kind_pi, lambda, pi, skeleton}
+use Rattle.lf.specs.Syntax.{kind_pi, pi, skeleton}
 use Rattle.elaboration.specs.Elaboration.{Checks, ElaboratesDomain, ElaboratesFamily, ElaboratesKind, ElaboratesType, Infers, at_ascribed, at_of_skeleton, at_of_type, at_star, at_type_ascribed, at_type_hole}
 use Rattle.elaboration.specs.Skeletons.{TypeHasSkeletons}
-use Rattle.elaboration.specs.Written.{applied, arrow, ascribed, family_applied, family_ascribed, function, kind_arrow, kind_quantified, of_type, quantified, written_star}
-use Rattle.tw_hered.specs.Fits.{TermFits, TypeFits}
+use Rattle.elaboration.specs.Written.{arrow, ascribed, family_applied, family_ascribed, function, kind_arrow, kind_quantified, of_type, quantified, written_star}
 use Rattle.tw_prune.proofs.Options.{if_ok}
 use Rattle.tw_terms.specs.OpenView.{open_spine_of, open_term_of, open_type_of}
-use Rattle.tw_terms.proofs.OpenViews.{open_term_of-Lam, open_type_of-Atom, open_type_of-Pi}
-use Rattle.tw_written.specs.View.{written_domain_of, written_kind_of, written_of, written_type_of}
-use Rattle.tw_written.proofs.Views.{written_domain_of-OfSkeleton, written_domain_of-OfType, written_kind_of-Arrow, written_kind_of-Quantified, written_kind_of-Star, written_of-Applied, written_of-Ascribed, written_of-Bound, written_of-Declared, written_of-Free, written_of-Function, written_of-Hole, written_type_of-Applied, written_type_of-Arrow, written_type_of-Ascribed, written_type_of-Family, written_type_of-Hole, written_type_of-Quantified}
+use Rattle.tw_terms.proofs.OpenViews.{open_type_of-Atom, open_type_of-Pi}
+use Rattle.tw_written.specs.View.{place_of, written_domain_of, written_kind_of, written_of, written_type_of}
+use Rattle.tw_written.proofs.Views.{written_domain_of-OfSkeleton, written_domain_of-OfType, written_kind_of-Arrow, written_kind_of-Quantified, written_kind_of-Star, written_of-Ascribed, written_of-Bound, written_of-Declared, written_of-Free, written_of-Function, written_of-Hole, written_type_of-Applied, written_type_of-Arrow, written_type_of-Ascribed, written_type_of-Family, written_type_of-Hole, written_type_of-Quantified}
 use Rattle.tw_elaborate.specs.Comparing.{ChecksDomain}
-use Rattle.tw_elaborate.specs.Deep.{ChecksDeep, DomainDeep, FamilyDeep, InfersDeep, KindDeep, TypeDeep, deep_applied_family, deep_argument, deep_arrow_domain, deep_arrow_range, deep_ascribed, deep_ascribed_family, deep_ascription, deep_body, deep_domain, deep_family, deep_family_kind, deep_function, deep_index, deep_inferred, deep_kind_domain, deep_kind_range, deep_quantified_domain, deep_quantified_kind_domain, deep_quantified_kind_range, deep_quantified_range, deep_type_ascribed, deep_written_domain}
+use Rattle.tw_elaborate.specs.Deep.{ChecksDeep, DomainDeep, FamilyDeep, InfersDeep, KindDeep, TypeDeep, deep_applied_family, deep_arrow_domain, deep_arrow_range, deep_ascribed, deep_ascribed_family, deep_ascription, deep_body, deep_domain, deep_family, deep_family_kind, deep_index, deep_inferred, deep_kind_domain, deep_kind_range, deep_quantified_domain, deep_quantified_kind_domain, deep_quantified_kind_range, deep_quantified_range, deep_type_ascribed, deep_written_domain}
 use Rattle.tw_elaborate.specs.Fits.{KindFits}
+use Rattle.tw_elaborate.specs.Operators.{operator_of, written_terms}
 use Rattle.tw_elaborate.specs.View.{made, numbers_of, open_kind_of}
 use Rattle.tw_elaborate.specs.declared.fault.ElaborateFault.TheVariants.{TooDeep}
 use Rattle.tw_elaborate.specs.declared.state.OpenKind.{Star as OpenKind-Star}
-use Rattle.tw_elaborate.proofs.Answering.{annotation_deep, application_deep, application_inferred, arrow_elaborated, body_deep, domain_checked, domain_compared, family_compared, family_elaborated, family_on_argument, fault_of_call, function_checked, function_inferred, inferred_checked, is_inferred, kind_arrow_elaborated, kind_quantified_elaborated, quantified_elaborated}
-use Rattle.tw_elaborate.proofs.Following.{body_fits, domain_under, family_found, family_stands, in_scope, inferred_stands, inferred_term, inferred_type, keeps_under, kind_range_fits, kind_stands, range_fits, type_found, type_stands, under_stands}
-use Rattle.tw_elaborate.proofs.Steps.{steps}
+use Rattle.tw_elaborate.proofs.Answering.{annotation_deep, arrow_elaborated, body_deep, domain_checked, domain_compared, family_compared, family_elaborated, family_on_argument, fault_of_call, function_checked, function_inferred, inferred_checked, is_inferred, kind_arrow_elaborated, kind_quantified_elaborated, quantified_elaborated}
+use Rattle.tw_elaborate.proofs.Following.{domain_under, family_found, family_stands, in_scope, inferred_type, keeps_under, kind_range_fits, kind_stands, type_found, type_stands, under_stands}
+use Rattle.tw_elaborate.proofs.Rows.{all_reached, argument_deep, arguments_less, deep_row, next_applies, next_domain, next_range_fits, next_stands, none_left, put_deep, reached_next}
 use Rattle.tw_elaborate.proofs.Taking.{keeps_same, keeps_then}
 use Rattle.tw_elaborate.proofs.Views.{open_kind_of-Pi, open_kind_of-Star}
 use Rattle.tw_elaborate.proofs.terms.+elaborate.Goals as goal
 
 pub infer-returns-in_err-frames-clause-keeps : goal.infer-returns-in_err-frames-clause-keeps
 infer-returns-in_err-frames-clause-keeps t c = keeps_same c.args.state.now
-
-pub infer-returns-in_err-bound-in-Bound-clause-keeps : goal.infer-returns-in_err-bound-in-Bound-clause-keeps
-infer-returns-in_err-bound-in-Bound-clause-keeps t c = keeps_same c.args.state.now
-
-pub infer-returns-in_ok-bound-in-Bound-clause-keeps : goal.infer-returns-in_ok-bound-in-Bound-clause-keeps
-infer-returns-in_ok-bound-in-Bound-clause-keeps t c = keeps_same c.args.state.now
 
 pub infer-returns-in_err-ty-in-Ascribed-clause-too_deep : goal.infer-returns-in_err-ty-in-Ascribed-clause-too_deep
 infer-returns-in_err-ty-in-Ascribed-clause-too_deep t c = λ is.
@@ -64,30 +58,10 @@ infer-returns-in_ok-term-in-Ascribed-clause-ok t c =
     let i = c.in_ok-ty-in-Ascribed.ensures.ok in
     subst (λ W. Infers c.args.signature.now (numbers_of c.args.frees.now) c.args.state.now.locals W (made c.args.state.now) (made c.check.new.state) (open_term_of c.in_ok-term-in-Ascribed.term) (open_type_of c.in_ok-ty-in-Ascribed.ty)) (sym v) (at_ascribed i (subst (λ F. Checks c.args.signature.now (numbers_of c.args.frees.now) F (written_of c.deref-in-Ascribed-2.result.now) (open_type_of c.in_ok-ty-in-Ascribed.ty) (made c.elaborate_type.new.state) (made c.check.new.state) (open_term_of c.in_ok-term-in-Ascribed.term)) l c.in_ok-term-in-Ascribed.ensures.ok))
 
-pub infer-returns-in_ok-free-in-Free-clause-ok : goal.infer-returns-in_ok-free-in-Free-clause-ok
-infer-returns-in_ok-free-in-Free-clause-ok t c =
-    let v = ap written_of c.in-Free.is ∙ written_of-Free c.in-Free.variable c.in-Free.at in
-    subst (λ W. Infers c.args.signature.now (numbers_of c.args.frees.now) c.args.state.now.locals W (made c.args.state.now) (made c.free.new.state) (open_term_of c.in_ok-free-in-Free.field-0.0) (open_type_of c.in_ok-free-in-Free.field-0.1)) (sym v) (c.in_ok-free-in-Free.ensures.ok c.args.signature.now)
-
-pub infer-returns-in_ok-bound-in-Bound-clause-ok : goal.infer-returns-in_ok-bound-in-Bound-clause-ok
-infer-returns-in_ok-bound-in-Bound-clause-ok t c =
-    let v = ap written_of c.in-Bound.is ∙ written_of-Bound c.in-Bound.variable in
-    subst (λ W. Infers c.args.signature.now (numbers_of c.args.frees.now) c.args.state.now.locals W (made c.args.state.now) (made c.args.state.now) (open_term_of c.in_ok-bound-in-Bound.field-0.0) (open_type_of c.in_ok-bound-in-Bound.field-0.1)) (sym v) (c.in_ok-bound-in-Bound.ensures c.args.signature.now (numbers_of c.args.frees.now))
-
-pub infer-returns-in-Declared-clause-ok : goal.infer-returns-in-Declared-clause-ok
-infer-returns-in-Declared-clause-ok t c =
-    let v = ap written_of c.in-Declared.is ∙ written_of-Declared c.in-Declared.id c.in-Declared.at in
-    if_ok c.declared.result _ _ (λ p j. subst (λ W. Infers c.args.signature.now (numbers_of c.args.frees.now) c.args.state.now.locals W (made c.args.state.now) (made c.declared.new.state) (open_term_of p.0) (open_type_of p.1)) (sym v) (j (numbers_of c.args.frees.now))) c.declared.ensures.ok
-
-pub infer-returns-in-Declared-clause-too_deep : goal.infer-returns-in-Declared-clause-too_deep
-infer-returns-in-Declared-clause-too_deep t c = λ is.
-    let v = ap written_of c.in-Declared.is ∙ written_of-Declared c.in-Declared.id c.in-Declared.at in
-    subst (λ W. InfersDeep c.args.signature.now (numbers_of c.args.frees.now) c.args.state.now.locals W (made c.args.state.now)) (sym v) (c.declared.ensures.too_deep is (numbers_of c.args.frees.now))
-
 pub infer-returns-in_ok-term_hole-in-Hole-clause-ok : goal.infer-returns-in_ok-term_hole-in-Hole-clause-ok
 infer-returns-in_ok-term_hole-in-Hole-clause-ok t c =
-    let v = ap written_of c.in-Hole.is ∙ written_of-Hole c.in-Hole.skeleton c.in-Hole.at in
-    subst (λ W. Infers c.args.signature.now (numbers_of c.args.frees.now) c.args.state.now.locals W (made c.args.state.now) (made c.term_hole.new.state) (open_term_of c.in_ok-term_hole-in-Hole.field-0.0) (open_type_of c.in_ok-term_hole-in-Hole.field-0.1)) (sym v) (c.in_ok-term_hole-in-Hole.ensures.ok (numbers_of c.args.frees.now))
+    let v = ap written_of c.in-Hole.is ∙ written_of-Hole c.in-Hole.skeleton c.in-Hole.field-1 in
+    subst (λ W. Infers c.args.signature.now (numbers_of c.args.frees.now) c.args.state.now.locals W (made c.args.state.now) (made c.term_hole.new.state) (open_term_of c.in_ok-term_hole-in-Hole.field-0.0) (open_type_of c.in_ok-term_hole-in-Hole.field-0.1)) (sym v) (c.in_ok-term_hole-in-Hole.ensures.ok (numbers_of c.args.frees.now) (place_of c.in-Hole.field-1))
 
 pub infer-returns-in-Function-clause-ok : goal.infer-returns-in-Function-clause-ok
 infer-returns-in-Function-clause-ok t c =
@@ -98,87 +72,6 @@ pub infer-returns-in-Function-clause-too_deep : goal.infer-returns-in-Function-c
 infer-returns-in-Function-clause-too_deep t c = λ is.
     let v = ap written_of c.in-Function.is ∙ written_of-Function c.in-Function.domain c.in-Function.body ∙ ap (function (written_domain_of c.in-Function.domain)) (ap written_of (sym c.deref.ensures)) in
     subst (λ W. InfersDeep c.args.signature.now (numbers_of c.args.frees.now) c.args.state.now.locals W (made c.args.state.now)) (sym v) (c.infer_function.ensures.too_deep is)
-
-pub infer-returns-in-Applied-clause-ok : goal.infer-returns-in-Applied-clause-ok
-infer-returns-in-Applied-clause-ok t c =
-    let v = ap written_of c.in-Applied.is ∙ written_of-Applied c.in-Applied.function c.in-Applied.arg ∙ ap₂ applied (ap written_of (sym c.deref-in-Applied.ensures)) (ap written_of (sym c.deref-in-Applied-2.ensures)) in
-    subst (λ W. IfOk c.infer_applied.result (λ p. Infers c.args.signature.now (numbers_of c.args.frees.now) c.args.state.now.locals W (made c.args.state.now) (made c.infer_applied.new.state) (open_term_of p.0) (open_type_of p.1))) (sym v) c.infer_applied.ensures.ok
-
-pub infer-returns-in-Applied-clause-too_deep : goal.infer-returns-in-Applied-clause-too_deep
-infer-returns-in-Applied-clause-too_deep t c = λ is.
-    let v = ap written_of c.in-Applied.is ∙ written_of-Applied c.in-Applied.function c.in-Applied.arg ∙ ap₂ applied (ap written_of (sym c.deref-in-Applied.ensures)) (ap written_of (sym c.deref-in-Applied-2.ensures)) in
-    subst (λ W. InfersDeep c.args.signature.now (numbers_of c.args.frees.now) c.args.state.now.locals W (made c.args.state.now)) (sym v) (c.infer_applied.ensures.too_deep is)
-
-pub infer_applied-returns-in_err-function-clause-too_deep : goal.infer_applied-returns-in_err-function-clause-too_deep
-infer_applied-returns-in_err-function-clause-too_deep t c = λ is. deep_function (c.in_err-function.ensures.too_deep (fault_of_call c.from_residual.result c.in_err-function.field-0.0 TooDeep (search rules) is))
-
-pub infer_applied-check-requires : goal.infer_applied-check-requires
-infer_applied-check-requires t c =
-    let l = c.infer.ensures.keeps.locals in
-    let i = c.in_ok-function.ensures.ok in
-    let x = ap open_type_of c.in-Lam-Pi.is-1 ∙ open_type_of-Pi c.in-Lam-Pi.domain c.in-Lam-Pi.range in
-    let m = ap open_term_of c.in-Lam-Pi.is-0 ∙ open_term_of-Lam c.in-Lam-Pi.body in
-    let j : Infers c.args.signature.now (numbers_of c.args.frees.now) c.args.state.now.locals (written_of c.args.function.now) (made c.args.state.now) (made c.infer.new.state) (lambda (open_term_of c.in-Lam-Pi.body.value)) (pi (open_type_of c.in-Lam-Pi.domain.value) (open_type_of c.in-Lam-Pi.range.value)) = subst (λ Z. Infers c.args.signature.now (numbers_of c.args.frees.now) c.args.state.now.locals (written_of c.args.function.now) (made c.args.state.now) (made c.infer.new.state) (lambda (open_term_of c.in-Lam-Pi.body.value)) Z) x (subst (λ R. Infers c.args.signature.now (numbers_of c.args.frees.now) c.args.state.now.locals (written_of c.args.function.now) (made c.args.state.now) (made c.infer.new.state) R (open_type_of c.in_ok-function.ty)) m i) in
-    (omega arith, (c.requires.canonical, (inferred_stands c.args.signature.now c.requires.canonical (numbers_of c.args.frees.now) c.requires.stands j c.infer.new.state.locals l, subst (λ X. TypeHasSkeletons (signature_of c.args.signature.now) (made c.infer.new.state) c.infer.new.state.locals (open_type_of X)) (sym c.deref.ensures) (inferred_type c.args.signature.now c.requires.canonical (numbers_of c.args.frees.now) c.requires.stands j c.infer.new.state.locals l).0)))
-
-pub infer_applied-returns-in_err-arg-in-Lam-Pi-clause-too_deep : goal.infer_applied-returns-in_err-arg-in-Lam-Pi-clause-too_deep
-infer_applied-returns-in_err-arg-in-Lam-Pi-clause-too_deep t c = λ is.
-    let l = c.infer.ensures.keeps.locals in
-    let i = c.in_ok-function.ensures.ok in
-    let x = ap open_type_of c.in-Lam-Pi.is-1 ∙ open_type_of-Pi c.in-Lam-Pi.domain c.in-Lam-Pi.range in
-    let m = ap open_term_of c.in-Lam-Pi.is-0 ∙ open_term_of-Lam c.in-Lam-Pi.body in
-    let j : Infers c.args.signature.now (numbers_of c.args.frees.now) c.args.state.now.locals (written_of c.args.function.now) (made c.args.state.now) (made c.infer.new.state) (lambda (open_term_of c.in-Lam-Pi.body.value)) (pi (open_type_of c.in-Lam-Pi.domain.value) (open_type_of c.in-Lam-Pi.range.value)) = subst (λ Z. Infers c.args.signature.now (numbers_of c.args.frees.now) c.args.state.now.locals (written_of c.args.function.now) (made c.args.state.now) (made c.infer.new.state) (lambda (open_term_of c.in-Lam-Pi.body.value)) Z) x (subst (λ R. Infers c.args.signature.now (numbers_of c.args.frees.now) c.args.state.now.locals (written_of c.args.function.now) (made c.args.state.now) (made c.infer.new.state) R (open_type_of c.in_ok-function.ty)) m i) in
-    deep_argument j (subst (λ F. ChecksDeep c.args.signature.now (numbers_of c.args.frees.now) F (written_of c.args.arg.now) (open_type_of c.in-Lam-Pi.domain.value) (made c.infer.new.state)) l (subst (λ X. ChecksDeep c.args.signature.now (numbers_of c.args.frees.now) c.infer.new.state.locals (written_of c.args.arg.now) (open_type_of X) (made c.infer.new.state)) c.deref.ensures (c.in_err-arg-in-Lam-Pi.ensures.too_deep (fault_of_call c.from_residual-in_err-arg-in-Lam-Pi.result c.in_err-arg-in-Lam-Pi.field-0.0 TooDeep (search rules) is))))
-
-pub infer_applied-returns-in_err-arg-in-Lam-Pi-clause-keeps : goal.infer_applied-returns-in_err-arg-in-Lam-Pi-clause-keeps
-infer_applied-returns-in_err-arg-in-Lam-Pi-clause-keeps t c = keeps_then c.args.state.now c.infer.new.state c.check.new.state c.infer.ensures.keeps c.check.ensures.keeps
-
-pub infer_applied-returns-in_ok-arg-in-Lam-Pi-clause-keeps : goal.infer_applied-returns-in_ok-arg-in-Lam-Pi-clause-keeps
-infer_applied-returns-in_ok-arg-in-Lam-Pi-clause-keeps t c = keeps_then c.args.state.now c.infer.new.state c.check.new.state c.infer.ensures.keeps c.check.ensures.keeps
-
-pub infer_applied-application-requires-clause-body : goal.infer_applied-application-requires-clause-body
-infer_applied-application-requires-clause-body t c =
-    let l = c.infer.ensures.keeps.locals in
-    let i = c.in_ok-function.ensures.ok in
-    let x = ap open_type_of c.in-Lam-Pi.is-1 ∙ open_type_of-Pi c.in-Lam-Pi.domain c.in-Lam-Pi.range in
-    let m : open_term_of c.in_ok-function.function ≡ lambda (open_term_of c.deref-in-Lam-Pi.result.now) = grind (arith, steps) in
-    let j : Infers c.args.signature.now (numbers_of c.args.frees.now) c.args.state.now.locals (written_of c.args.function.now) (made c.args.state.now) (made c.infer.new.state) (lambda (open_term_of c.deref-in-Lam-Pi.result.now)) (pi (open_type_of c.in-Lam-Pi.domain.value) (open_type_of c.in-Lam-Pi.range.value)) = subst (λ Z. Infers c.args.signature.now (numbers_of c.args.frees.now) c.args.state.now.locals (written_of c.args.function.now) (made c.args.state.now) (made c.infer.new.state) (lambda (open_term_of c.deref-in-Lam-Pi.result.now)) Z) x (subst (λ R. Infers c.args.signature.now (numbers_of c.args.frees.now) c.args.state.now.locals (written_of c.args.function.now) (made c.args.state.now) (made c.infer.new.state) R (open_type_of c.in_ok-function.ty)) m i) in
-    let k : Checks c.args.signature.now (numbers_of c.args.frees.now) c.args.state.now.locals (written_of c.args.arg.now) (open_type_of c.in-Lam-Pi.domain.value) (made c.infer.new.state) (made c.check.new.state) (open_term_of c.in_ok-arg-in-Lam-Pi.arg) = subst (λ F. Checks c.args.signature.now (numbers_of c.args.frees.now) F (written_of c.args.arg.now) (open_type_of c.in-Lam-Pi.domain.value) (made c.infer.new.state) (made c.check.new.state) (open_term_of c.in_ok-arg-in-Lam-Pi.arg)) l (subst (λ X. Checks c.args.signature.now (numbers_of c.args.frees.now) c.infer.new.state.locals (written_of c.args.arg.now) (open_type_of X) (made c.infer.new.state) (made c.check.new.state) (open_term_of c.in_ok-arg-in-Lam-Pi.arg)) c.deref.ensures c.in_ok-arg-in-Lam-Pi.ensures.ok) in
-    let u = inferred_stands c.args.signature.now c.requires.canonical (numbers_of c.args.frees.now) c.requires.stands j c.args.state.now.locals refl in
-    let ab = inferred_type c.args.signature.now c.requires.canonical (numbers_of c.args.frees.now) c.requires.stands j c.args.state.now.locals refl in
-    subst (λ X. TermFits (single (skeleton (open_type_of X)) (open_term_of c.in_ok-arg-in-Lam-Pi.arg)) (open_term_of c.deref-in-Lam-Pi.result.now)) (sym c.deref-in-Lam-Pi-2.ensures) (body_fits c.args.signature.now c.requires.canonical (numbers_of c.args.frees.now) u ab.0 k (open_term_of c.deref-in-Lam-Pi.result.now) (open_type_of c.in-Lam-Pi.range.value) (inferred_term c.args.signature.now c.requires.canonical (numbers_of c.args.frees.now) c.requires.stands j))
-
-pub infer_applied-application-requires-clause-range : goal.infer_applied-application-requires-clause-range
-infer_applied-application-requires-clause-range t c =
-    let l = c.infer.ensures.keeps.locals in
-    let i = c.in_ok-function.ensures.ok in
-    let x = ap open_type_of c.in-Lam-Pi.is-1 ∙ open_type_of-Pi c.in-Lam-Pi.domain c.in-Lam-Pi.range in
-    let m : open_term_of c.in_ok-function.function ≡ lambda (open_term_of c.deref-in-Lam-Pi.result.now) = grind (arith, steps) in
-    let j : Infers c.args.signature.now (numbers_of c.args.frees.now) c.args.state.now.locals (written_of c.args.function.now) (made c.args.state.now) (made c.infer.new.state) (lambda (open_term_of c.deref-in-Lam-Pi.result.now)) (pi (open_type_of c.in-Lam-Pi.domain.value) (open_type_of c.in-Lam-Pi.range.value)) = subst (λ Z. Infers c.args.signature.now (numbers_of c.args.frees.now) c.args.state.now.locals (written_of c.args.function.now) (made c.args.state.now) (made c.infer.new.state) (lambda (open_term_of c.deref-in-Lam-Pi.result.now)) Z) x (subst (λ R. Infers c.args.signature.now (numbers_of c.args.frees.now) c.args.state.now.locals (written_of c.args.function.now) (made c.args.state.now) (made c.infer.new.state) R (open_type_of c.in_ok-function.ty)) m i) in
-    let k : Checks c.args.signature.now (numbers_of c.args.frees.now) c.args.state.now.locals (written_of c.args.arg.now) (open_type_of c.in-Lam-Pi.domain.value) (made c.infer.new.state) (made c.check.new.state) (open_term_of c.in_ok-arg-in-Lam-Pi.arg) = subst (λ F. Checks c.args.signature.now (numbers_of c.args.frees.now) F (written_of c.args.arg.now) (open_type_of c.in-Lam-Pi.domain.value) (made c.infer.new.state) (made c.check.new.state) (open_term_of c.in_ok-arg-in-Lam-Pi.arg)) l (subst (λ X. Checks c.args.signature.now (numbers_of c.args.frees.now) c.infer.new.state.locals (written_of c.args.arg.now) (open_type_of X) (made c.infer.new.state) (made c.check.new.state) (open_term_of c.in_ok-arg-in-Lam-Pi.arg)) c.deref.ensures c.in_ok-arg-in-Lam-Pi.ensures.ok) in
-    let u = inferred_stands c.args.signature.now c.requires.canonical (numbers_of c.args.frees.now) c.requires.stands j c.args.state.now.locals refl in
-    let ab = inferred_type c.args.signature.now c.requires.canonical (numbers_of c.args.frees.now) c.requires.stands j c.args.state.now.locals refl in
-    subst (λ X. TypeFits (single (skeleton (open_type_of X)) (open_term_of c.in_ok-arg-in-Lam-Pi.arg)) (open_type_of c.deref-in-Lam-Pi-3.result.now)) (sym c.deref-in-Lam-Pi-2.ensures) (subst (λ R. TypeFits (single (skeleton (open_type_of c.in-Lam-Pi.domain.value)) (open_term_of c.in_ok-arg-in-Lam-Pi.arg)) (open_type_of R)) (sym c.deref-in-Lam-Pi-3.ensures) (range_fits c.args.signature.now c.requires.canonical (numbers_of c.args.frees.now) u ab.0 k (open_type_of c.in-Lam-Pi.range.value) ab))
-
-pub infer_applied-returns-in_ok-arg-in-Lam-Pi-clause-ok : goal.infer_applied-returns-in_ok-arg-in-Lam-Pi-clause-ok
-infer_applied-returns-in_ok-arg-in-Lam-Pi-clause-ok t c =
-    let l = c.infer.ensures.keeps.locals in
-    let i = c.in_ok-function.ensures.ok in
-    let x = ap open_type_of c.in-Lam-Pi.is-1 ∙ open_type_of-Pi c.in-Lam-Pi.domain c.in-Lam-Pi.range in
-    let m : open_term_of c.in_ok-function.function ≡ lambda (open_term_of c.deref-in-Lam-Pi.result.now) = grind (arith, steps) in
-    let j : Infers c.args.signature.now (numbers_of c.args.frees.now) c.args.state.now.locals (written_of c.args.function.now) (made c.args.state.now) (made c.infer.new.state) (lambda (open_term_of c.deref-in-Lam-Pi.result.now)) (pi (open_type_of c.in-Lam-Pi.domain.value) (open_type_of c.in-Lam-Pi.range.value)) = subst (λ Z. Infers c.args.signature.now (numbers_of c.args.frees.now) c.args.state.now.locals (written_of c.args.function.now) (made c.args.state.now) (made c.infer.new.state) (lambda (open_term_of c.deref-in-Lam-Pi.result.now)) Z) x (subst (λ R. Infers c.args.signature.now (numbers_of c.args.frees.now) c.args.state.now.locals (written_of c.args.function.now) (made c.args.state.now) (made c.infer.new.state) R (open_type_of c.in_ok-function.ty)) m i) in
-    let k : Checks c.args.signature.now (numbers_of c.args.frees.now) c.args.state.now.locals (written_of c.args.arg.now) (open_type_of c.in-Lam-Pi.domain.value) (made c.infer.new.state) (made c.check.new.state) (open_term_of c.in_ok-arg-in-Lam-Pi.arg) = subst (λ F. Checks c.args.signature.now (numbers_of c.args.frees.now) F (written_of c.args.arg.now) (open_type_of c.in-Lam-Pi.domain.value) (made c.infer.new.state) (made c.check.new.state) (open_term_of c.in_ok-arg-in-Lam-Pi.arg)) l (subst (λ X. Checks c.args.signature.now (numbers_of c.args.frees.now) c.infer.new.state.locals (written_of c.args.arg.now) (open_type_of X) (made c.infer.new.state) (made c.check.new.state) (open_term_of c.in_ok-arg-in-Lam-Pi.arg)) c.deref.ensures c.in_ok-arg-in-Lam-Pi.ensures.ok) in
-    if_ok c.application.result _ _ (λ p e. application_inferred c.args.signature.now (numbers_of c.args.frees.now) c.args.state.now.locals (written_of c.args.function.now) (written_of c.args.arg.now) (open_type_of c.in-Lam-Pi.domain.value) (open_type_of c.deref-in-Lam-Pi-2.result.now) (open_type_of c.in-Lam-Pi.range.value) (open_type_of c.deref-in-Lam-Pi-3.result.now) (open_type_of p.1) (open_term_of c.deref-in-Lam-Pi.result.now) (open_term_of c.deref-in-Lam-Pi.result.now) (open_term_of c.in_ok-arg-in-Lam-Pi.arg) (open_term_of p.0) (made c.args.state.now) (made c.infer.new.state) (made c.check.new.state) (ap open_type_of c.deref-in-Lam-Pi-2.ensures) (ap open_type_of c.deref-in-Lam-Pi-3.ensures) refl e.0 e.1 j k) c.application.ensures.ok
-
-pub infer_applied-returns-in_ok-arg-in-Lam-Pi-clause-too_deep : goal.infer_applied-returns-in_ok-arg-in-Lam-Pi-clause-too_deep
-infer_applied-returns-in_ok-arg-in-Lam-Pi-clause-too_deep t c = λ is.
-    let l = c.infer.ensures.keeps.locals in
-    let i = c.in_ok-function.ensures.ok in
-    let x = ap open_type_of c.in-Lam-Pi.is-1 ∙ open_type_of-Pi c.in-Lam-Pi.domain c.in-Lam-Pi.range in
-    let m : open_term_of c.in_ok-function.function ≡ lambda (open_term_of c.deref-in-Lam-Pi.result.now) = grind (arith, steps) in
-    let j : Infers c.args.signature.now (numbers_of c.args.frees.now) c.args.state.now.locals (written_of c.args.function.now) (made c.args.state.now) (made c.infer.new.state) (lambda (open_term_of c.deref-in-Lam-Pi.result.now)) (pi (open_type_of c.in-Lam-Pi.domain.value) (open_type_of c.in-Lam-Pi.range.value)) = subst (λ Z. Infers c.args.signature.now (numbers_of c.args.frees.now) c.args.state.now.locals (written_of c.args.function.now) (made c.args.state.now) (made c.infer.new.state) (lambda (open_term_of c.deref-in-Lam-Pi.result.now)) Z) x (subst (λ R. Infers c.args.signature.now (numbers_of c.args.frees.now) c.args.state.now.locals (written_of c.args.function.now) (made c.args.state.now) (made c.infer.new.state) R (open_type_of c.in_ok-function.ty)) m i) in
-    let k : Checks c.args.signature.now (numbers_of c.args.frees.now) c.args.state.now.locals (written_of c.args.arg.now) (open_type_of c.in-Lam-Pi.domain.value) (made c.infer.new.state) (made c.check.new.state) (open_term_of c.in_ok-arg-in-Lam-Pi.arg) = subst (λ F. Checks c.args.signature.now (numbers_of c.args.frees.now) F (written_of c.args.arg.now) (open_type_of c.in-Lam-Pi.domain.value) (made c.infer.new.state) (made c.check.new.state) (open_term_of c.in_ok-arg-in-Lam-Pi.arg)) l (subst (λ X. Checks c.args.signature.now (numbers_of c.args.frees.now) c.infer.new.state.locals (written_of c.args.arg.now) (open_type_of X) (made c.infer.new.state) (made c.check.new.state) (open_term_of c.in_ok-arg-in-Lam-Pi.arg)) c.deref.ensures c.in_ok-arg-in-Lam-Pi.ensures.ok) in
-    application_deep c.args.signature.now (numbers_of c.args.frees.now) c.args.state.now.locals (written_of c.args.function.now) (written_of c.args.arg.now) (open_type_of c.in-Lam-Pi.domain.value) (open_type_of c.deref-in-Lam-Pi-2.result.now) (open_type_of c.in-Lam-Pi.range.value) (open_term_of c.deref-in-Lam-Pi.result.now) (open_term_of c.deref-in-Lam-Pi.result.now) (open_term_of c.in_ok-arg-in-Lam-Pi.arg) (made c.args.state.now) (made c.infer.new.state) (made c.check.new.state) (ap open_type_of c.deref-in-Lam-Pi-2.ensures) refl j k (c.application.ensures.too_deep is)
 
 pub infer_function-returns-in_err-domain-clause-too_deep : goal.infer_function-returns-in_err-domain-clause-too_deep
 infer_function-returns-in_err-domain-clause-too_deep t c = λ is. deep_domain (c.in_err-domain.ensures.too_deep (fault_of_call c.from_residual.result c.in_err-domain.field-0.0 TooDeep (search rules) is))
@@ -302,10 +195,10 @@ elaborate_type-returns-in_ok-arrow-in-Arrow-clause-ok t c =
 pub elaborate_type-returns-in_err-family-in-Family-clause-too_deep : goal.elaborate_type-returns-in_err-family-in-Family-clause-too_deep
 elaborate_type-returns-in_err-family-in-Family-clause-too_deep t c = λ is. deep_family (c.in_err-family-in-Family.ensures.too_deep (fault_of_call c.from_residual-in_err-family-in-Family.result c.in_err-family-in-Family.field-0.0 TooDeep (search rules) is))
 
-pub elaborate_type-returns-in_ok-type_hole-in-Hole-clause-ok : goal.elaborate_type-returns-in_ok-type_hole-in-Hole-clause-ok
-elaborate_type-returns-in_ok-type_hole-in-Hole-clause-ok t c =
-    let v = ap written_type_of c.in-Hole.is ∙ written_type_of-Hole c.in-Hole.skeleton c.in-Hole.at in
-    subst (λ W. ElaboratesType c.args.signature.now (numbers_of c.args.frees.now) c.args.state.now.locals W (made c.args.state.now) (made c.type_hole.new.state) (open_type_of c.in_ok-type_hole-in-Hole.field-0)) (sym v) (at_type_hole c.in_ok-type_hole-in-Hole.ensures.ok)
+pub elaborate_type-returns-in_ok-new_type-in-Hole-clause-ok : goal.elaborate_type-returns-in_ok-new_type-in-Hole-clause-ok
+elaborate_type-returns-in_ok-new_type-in-Hole-clause-ok t c =
+    let v = ap written_type_of c.in-Hole.is ∙ written_type_of-Hole c.in-Hole.skeleton c.in-Hole.field-1 in
+    subst (λ W. ElaboratesType c.args.signature.now (numbers_of c.args.frees.now) c.args.state.now.locals W (made c.args.state.now) (made c.new_type.new.state) (open_type_of c.in_ok-new_type-in-Hole.field-0)) (sym v) (at_type_hole c.in_ok-new_type-in-Hole.ensures.ok)
 
 pub elaborate_type-returns-in-Star-clause-ok : goal.elaborate_type-returns-in-Star-clause-ok
 elaborate_type-returns-in-Star-clause-ok t c =
@@ -414,10 +307,10 @@ elaborate_kind-returns-in_ok-kind_pi-in-Quantified-clause-ok t c =
 pub elaborate_domain-returns-in_err-frames-clause-keeps : goal.elaborate_domain-returns-in_err-frames-clause-keeps
 elaborate_domain-returns-in_err-frames-clause-keeps t c = keeps_same c.args.state.now
 
-pub elaborate_domain-returns-in_ok-type_hole-in-OfSkeleton-clause-ok : goal.elaborate_domain-returns-in_ok-type_hole-in-OfSkeleton-clause-ok
-elaborate_domain-returns-in_ok-type_hole-in-OfSkeleton-clause-ok t c =
-    let v = ap written_domain_of c.in-OfSkeleton.is ∙ written_domain_of-OfSkeleton c.in-OfSkeleton.skeleton c.in-OfSkeleton.at in
-    subst (λ W. ElaboratesDomain c.args.signature.now (numbers_of c.args.frees.now) c.args.state.now.locals W (made c.args.state.now) (made c.type_hole.new.state) (open_type_of c.in_ok-type_hole-in-OfSkeleton.field-0)) (sym v) (at_of_skeleton c.in_ok-type_hole-in-OfSkeleton.ensures.ok)
+pub elaborate_domain-returns-in_ok-new_type-in-OfSkeleton-clause-ok : goal.elaborate_domain-returns-in_ok-new_type-in-OfSkeleton-clause-ok
+elaborate_domain-returns-in_ok-new_type-in-OfSkeleton-clause-ok t c =
+    let v = ap written_domain_of c.in-OfSkeleton.is ∙ written_domain_of-OfSkeleton c.in-OfSkeleton.skeleton c.in-OfSkeleton.field-1 in
+    subst (λ W. ElaboratesDomain c.args.signature.now (numbers_of c.args.frees.now) c.args.state.now.locals W (made c.args.state.now) (made c.new_type.new.state) (open_type_of c.in_ok-new_type-in-OfSkeleton.field-0)) (sym v) (at_of_skeleton c.in_ok-new_type-in-OfSkeleton.ensures.ok)
 
 pub elaborate_domain-returns-in-OfType-clause-ok : goal.elaborate_domain-returns-in-OfType-clause-ok
 elaborate_domain-returns-in-OfType-clause-ok t c =
@@ -437,8 +330,8 @@ elaborate_family-returns-in-Hole-clause-keeps t c = keeps_same c.args.state.now
 
 pub elaborate_family-returns-in_ok-spine-in-Family-clause-ok : goal.elaborate_family-returns-in_ok-spine-in-Family-clause-ok
 elaborate_family-returns-in_ok-spine-in-Family-clause-ok t c =
-    let v = ap written_type_of c.in-Family.is ∙ written_type_of-Family c.in-Family.id c.in-Family.at in
-    subst (λ W. ElaboratesFamily c.args.signature.now (numbers_of c.args.frees.now) c.args.state.now.locals W (made c.args.state.now) (made c.named_family.new.state) c.in-Family.id.0 (open_spine_of c.in_ok-spine-in-Family.spine) (open_kind_of c.in_ok-spine-in-Family.kind)) (sym v) (c.in_ok-spine-in-Family.ensures.ok (numbers_of c.args.frees.now))
+    let v = ap written_type_of c.in-Family.is ∙ written_type_of-Family c.in-Family.id c.in-Family.field-1 in
+    subst (λ W. ElaboratesFamily c.args.signature.now (numbers_of c.args.frees.now) c.args.state.now.locals W (made c.args.state.now) (made c.named_family.new.state) c.in-Family.id.0 (open_spine_of c.in_ok-spine-in-Family.spine) (open_kind_of c.in_ok-spine-in-Family.kind)) (sym v) (c.in_ok-spine-in-Family.ensures.ok (numbers_of c.args.frees.now) (place_of c.in-Family.field-1))
 
 pub elaborate_family-returns-in_err-family-in-Applied-clause-too_deep : goal.elaborate_family-returns-in_err-family-in-Applied-clause-too_deep
 elaborate_family-returns-in_err-family-in-Applied-clause-too_deep t c = λ is.
@@ -562,8 +455,8 @@ check-returns-in_ok-compare_types-in-Free-clause-ok t c =
 
 pub check-returns-in_ok-checked_hole-in-Hole-clause-ok : goal.check-returns-in_ok-checked_hole-in-Hole-clause-ok
 check-returns-in_ok-checked_hole-in-Hole-clause-ok t c =
-    let v = ap written_of c.in-Hole.is ∙ written_of-Hole c.in-Hole.skeleton c.in-Hole.at in
-    subst (λ W. Checks c.args.signature.now (numbers_of c.args.frees.now) c.args.state.now.locals W (open_type_of c.args.expected.now) (made c.args.state.now) (made c.checked_hole.new.state) (open_term_of c.in_ok-checked_hole-in-Hole.field-0)) (sym v) (c.in_ok-checked_hole-in-Hole.ensures.ok c.args.signature.now (numbers_of c.args.frees.now))
+    let v = ap written_of c.in-Hole.is ∙ written_of-Hole c.in-Hole.skeleton c.in-Hole.field-1 in
+    subst (λ W. Checks c.args.signature.now (numbers_of c.args.frees.now) c.args.state.now.locals W (open_type_of c.args.expected.now) (made c.args.state.now) (made c.checked_hole.new.state) (open_term_of c.in_ok-checked_hole-in-Hole.field-0)) (sym v) (c.in_ok-checked_hole-in-Hole.ensures.ok c.args.signature.now (numbers_of c.args.frees.now) (place_of c.in-Hole.field-1))
 
 pub check-returns-in-Function-clause-ok : goal.check-returns-in-Function-clause-ok
 check-returns-in-Function-clause-ok t c =
@@ -667,3 +560,168 @@ check_function-returns-in_ok-lambda-in-Pi-clause-ok t c =
     let cp : open_type_of c.in_ok-copy-in-Pi.field-0 ≡ (open_type_of c.in-Pi.expected.value) = c.in_ok-copy-in-Pi.ensures ∙ ap open_type_of c.deref-in-Pi.ensures in
     let e : c.push.new.self ≡ (open_type_of c.in-Pi.expected.value) ∷ c.args.state.now.locals = in_scope c.args.state.now.locals c.push.new.self c.check_domain.new.state.locals (open_type_of c.in-Pi.expected.value) (open_type_of c.in_ok-copy-in-Pi.field-0) c.in_ok-push-in-Pi.ensures.ok cp l in
     function_checked c.args.signature.now (numbers_of c.args.frees.now) c.args.state.now c.check_domain.new.state (written_domain_of c.args.domain.now) c.push.new.self (written_of c.args.body.now) (open_type_of c.in-Pi.expected.value) (open_type_of c.in-Pi.range.value) (open_type_of c.args.expected.now) (made c.check-checked.new.state) (open_term_of c.in_ok-checked-in-Pi.field-0) _ e x c.in_ok-lambda-in-Pi.ensures kd (subst (λ Z. Checks c.args.signature.now (numbers_of c.args.frees.now) c.push.new.self (written_of c.args.body.now) (open_type_of Z) (made c.check_domain.new.state) (made c.check-checked.new.state) (open_term_of c.in_ok-checked-in-Pi.field-0)) c.deref-in-Pi-2.ensures c.in_ok-checked-in-Pi.ensures.ok)
+
+pub infer_applied-returns-in_err-head-clause-keeps : goal.infer_applied-returns-in_err-head-clause-keeps
+infer_applied-returns-in_err-head-clause-keeps t c = keeps_same c.args.state.now
+
+pub infer_applied-returns-in_err-operator-clause-too_deep : goal.infer_applied-returns-in_err-operator-clause-too_deep
+infer_applied-returns-in_err-operator-clause-too_deep t c = λ is.
+    let es = c.args.signature.now in
+    let ns = numbers_of c.args.frees.now in
+    subst (λ F. InfersDeep es ns c.args.state.now.locals F (made c.args.state.now)) c.in_ok-head.ensures (deep_row es ns c.args.state.now.locals (written_of c.in_ok-head.head.now) (made c.args.state.now) (written_terms c.in_ok-head.args.items)
+    (c.in_err-operator.ensures.too_deep (fault_of_call c.from_residual-in_err-operator.result c.in_err-operator.field-0.0 TooDeep (search rules) is)))
+
+pub infer_applied-loop-arg-init : goal.infer_applied-loop-arg-init
+infer_applied-loop-arg-init t c = (record { so_far = written_of c.in_ok-head.head.now; is = c.in_ok-head.ensures; inferred = c.in_ok-operator.ensures.ok }, c.elaborate_operator.ensures.keeps)
+
+pub infer_applied-returns-in_err-domain-clause-keeps : goal.infer_applied-returns-in_err-domain-clause-keeps
+infer_applied-returns-in_err-domain-clause-keeps t c = c.loop-arg.invariant.1
+
+pub infer_applied-check-requires : goal.infer_applied-check-requires
+infer_applied-check-requires t c =
+    let es = c.args.signature.now in
+    let ns = numbers_of c.args.frees.now in
+    let r = c.loop-arg.invariant.0 in
+    let l = c.loop-arg.invariant.1.locals in
+    let P = written_of c.in-Some.arg.now in
+    let q = arguments_less c.loop-arg.args.items c.pop.new.self.items c.in-Some.arg c.in-Some.ensures.items in
+    let X = open_type_of c.in_ok-domain.domain in
+    let B = open_type_of c.in_ok-domain.range in
+    let e = c.in_ok-domain.ensures in
+    (omega arith, (c.requires.canonical, (next_stands es ns c.args.state.now.locals r (written_terms c.pop.new.self.items) P q X B e c.requires.canonical c.requires.stands c.loop-arg.state.locals l, next_domain es ns c.args.state.now.locals r (written_terms c.pop.new.self.items) P q X B e c.requires.canonical c.requires.stands c.loop-arg.state.locals l)))
+
+pub infer_applied-returns-in_err-arg-clause-too_deep : goal.infer_applied-returns-in_err-arg-clause-too_deep
+infer_applied-returns-in_err-arg-clause-too_deep t c = λ is.
+    let es = c.args.signature.now in
+    let ns = numbers_of c.args.frees.now in
+    let r = c.loop-arg.invariant.0 in
+    let l = c.loop-arg.invariant.1.locals in
+    let P = written_of c.in-Some.arg.now in
+    let q = arguments_less c.loop-arg.args.items c.pop.new.self.items c.in-Some.arg c.in-Some.ensures.items in
+    let X = open_type_of c.in_ok-domain.domain in
+    let B = open_type_of c.in_ok-domain.range in
+    let e = c.in_ok-domain.ensures in
+    argument_deep es ns c.args.state.now.locals r (written_terms c.pop.new.self.items) P q X B e c.requires.canonical c.requires.stands (subst (λ F. ChecksDeep es ns F P X (made c.loop-arg.state)) l (c.in_err-arg.ensures.too_deep (fault_of_call c.from_residual-in_err-arg.result c.in_err-arg.field-0.0 TooDeep (search rules) is)))
+
+pub infer_applied-returns-in_err-arg-clause-keeps : goal.infer_applied-returns-in_err-arg-clause-keeps
+infer_applied-returns-in_err-arg-clause-keeps t c = keeps_then c.args.state.now c.loop-arg.state c.check.new.state c.loop-arg.invariant.1 c.check.ensures.keeps
+
+pub infer_applied-put-requires-clause-applies : goal.infer_applied-put-requires-clause-applies
+infer_applied-put-requires-clause-applies t c =
+    let es = c.args.signature.now in
+    let ns = numbers_of c.args.frees.now in
+    let D = c.args.state.now.locals in
+    let r = c.loop-arg.invariant.0 in
+    let P = written_of c.in-Some.arg.now in
+    let q = arguments_less c.loop-arg.args.items c.pop.new.self.items c.in-Some.arg c.in-Some.ensures.items in
+    let X = open_type_of c.in_ok-domain.domain in
+    let B = open_type_of c.in_ok-domain.range in
+    let e = c.in_ok-domain.ensures in
+    let k : Checks es ns D P X (made c.loop-arg.state) (made c.check.new.state) (open_term_of c.in_ok-arg.arg) = subst (λ F. Checks es ns F P X (made c.loop-arg.state) (made c.check.new.state) (open_term_of c.in_ok-arg.arg)) c.loop-arg.invariant.1.locals c.in_ok-arg.ensures.ok in
+    next_applies es ns D r (written_terms c.pop.new.self.items) P q X B e c.requires.canonical c.requires.stands k
+
+pub infer_applied-put-requires-clause-range : goal.infer_applied-put-requires-clause-range
+infer_applied-put-requires-clause-range t c =
+    let es = c.args.signature.now in
+    let ns = numbers_of c.args.frees.now in
+    let D = c.args.state.now.locals in
+    let r = c.loop-arg.invariant.0 in
+    let P = written_of c.in-Some.arg.now in
+    let q = arguments_less c.loop-arg.args.items c.pop.new.self.items c.in-Some.arg c.in-Some.ensures.items in
+    let X = open_type_of c.in_ok-domain.domain in
+    let B = open_type_of c.in_ok-domain.range in
+    let e = c.in_ok-domain.ensures in
+    let k : Checks es ns D P X (made c.loop-arg.state) (made c.check.new.state) (open_term_of c.in_ok-arg.arg) = subst (λ F. Checks es ns F P X (made c.loop-arg.state) (made c.check.new.state) (open_term_of c.in_ok-arg.arg)) c.loop-arg.invariant.1.locals c.in_ok-arg.ensures.ok in
+    next_range_fits es ns D r (written_terms c.pop.new.self.items) P q X B e c.requires.canonical c.requires.stands k
+
+pub infer_applied-returns-in_err-longer-clause-too_deep : goal.infer_applied-returns-in_err-longer-clause-too_deep
+infer_applied-returns-in_err-longer-clause-too_deep t c = λ is.
+    let es = c.args.signature.now in
+    let ns = numbers_of c.args.frees.now in
+    let D = c.args.state.now.locals in
+    let r = c.loop-arg.invariant.0 in
+    let P = written_of c.in-Some.arg.now in
+    let q = arguments_less c.loop-arg.args.items c.pop.new.self.items c.in-Some.arg c.in-Some.ensures.items in
+    let X = open_type_of c.in_ok-domain.domain in
+    let B = open_type_of c.in_ok-domain.range in
+    let e = c.in_ok-domain.ensures in
+    let k : Checks es ns D P X (made c.loop-arg.state) (made c.check.new.state) (open_term_of c.in_ok-arg.arg) = subst (λ F. Checks es ns F P X (made c.loop-arg.state) (made c.check.new.state) (open_term_of c.in_ok-arg.arg)) c.loop-arg.invariant.1.locals c.in_ok-arg.ensures.ok in
+    put_deep es ns D r (written_terms c.pop.new.self.items) P q X B e k (c.in_err-longer.ensures.too_deep (fault_of_call c.from_residual-in_err-longer.result c.in_err-longer.field-0.0 TooDeep (search rules) is))
+
+pub infer_applied-returns-in_err-longer-clause-keeps : goal.infer_applied-returns-in_err-longer-clause-keeps
+infer_applied-returns-in_err-longer-clause-keeps t c = keeps_then c.args.state.now c.loop-arg.state c.check.new.state c.loop-arg.invariant.1 c.check.ensures.keeps
+
+pub infer_applied-loop-arg-preserved : goal.infer_applied-loop-arg-preserved
+infer_applied-loop-arg-preserved t c =
+    let es = c.args.signature.now in
+    let ns = numbers_of c.args.frees.now in
+    let D = c.args.state.now.locals in
+    let r = c.loop-arg.invariant.0 in
+    let P = written_of c.in-Some.arg.now in
+    let q = arguments_less c.loop-arg.args.items c.pop.new.self.items c.in-Some.arg c.in-Some.ensures.items in
+    let X = open_type_of c.in_ok-domain.domain in
+    let B = open_type_of c.in_ok-domain.range in
+    let e = c.in_ok-domain.ensures in
+    let k : Checks es ns D P X (made c.loop-arg.state) (made c.check.new.state) (open_term_of c.in_ok-arg.arg) = subst (λ F. Checks es ns F P X (made c.loop-arg.state) (made c.check.new.state) (open_term_of c.in_ok-arg.arg)) c.loop-arg.invariant.1.locals c.in_ok-arg.ensures.ok in
+    (reached_next es ns D r (written_terms c.pop.new.self.items) P q X B e c.in_ok-longer.longer (open_type_of c.in_ok-longer.rest) k c.in_ok-longer.ensures.ok.0 c.in_ok-longer.ensures.ok.1, keeps_then c.args.state.now c.loop-arg.state c.check.new.state c.loop-arg.invariant.1 c.check.ensures.keeps)
+
+pub infer_applied-loop-arg-preserved-in_ok-longer : goal.infer_applied-loop-arg-preserved-in_ok-longer
+infer_applied-loop-arg-preserved-in_ok-longer t c =
+    let es = c.args.signature.now in
+    let ns = numbers_of c.args.frees.now in
+    let D = c.args.state.now.locals in
+    let r = c.loop-arg.invariant.0 in
+    let P = written_of c.in-Some.arg.now in
+    let q = arguments_less c.loop-arg.args.items c.pop.new.self.items c.in-Some.arg c.in-Some.ensures.items in
+    let X = open_type_of c.in_ok-domain.domain in
+    let B = open_type_of c.in_ok-domain.range in
+    let e = c.in_ok-domain.ensures in
+    let k : Checks es ns D P X (made c.loop-arg.state) (made c.check.new.state) (open_term_of c.in_ok-arg.arg) = subst (λ F. Checks es ns F P X (made c.loop-arg.state) (made c.check.new.state) (open_term_of c.in_ok-arg.arg)) c.loop-arg.invariant.1.locals c.in_ok-arg.ensures.ok in
+    (reached_next es ns D r (written_terms c.pop.new.self.items) P q X B e c.in_ok-longer.longer (open_type_of c.in_ok-longer.rest) k c.in_ok-longer.ensures.ok.0 c.in_ok-longer.ensures.ok.1, keeps_then c.args.state.now c.loop-arg.state c.check.new.state c.loop-arg.invariant.1 c.check.ensures.keeps)
+
+pub elaborate_operator-returns-in_ok-free-in-Free-clause-ok : goal.elaborate_operator-returns-in_ok-free-in-Free-clause-ok
+elaborate_operator-returns-in_ok-free-in-Free-clause-ok t c =
+    let v = ap written_of c.in-Free.is ∙ written_of-Free c.in-Free.variable c.in-Free.field-1 in
+    let s = c.args.state.now in
+    let p = c.in_ok-free-in-Free.field-0 in
+    subst (λ W. Infers c.args.signature.now (numbers_of c.args.frees.now) s.locals W (made s) (made s) (operator_of (skeleton (open_type_of p.1)) p.0) (open_type_of p.1)) (sym v) (c.in_ok-free-in-Free.ensures c.args.signature.now (place_of c.in-Free.field-1))
+
+pub infer_applied-returns-clause-ok : goal.infer_applied-returns-clause-ok
+infer_applied-returns-clause-ok t c =
+    let none = none_left c.loop-arg.args.items (omega (arith, c.in_default.ensures.cases)) in
+    all_reached c.args.signature.now (numbers_of c.args.frees.now) c.args.state.now.locals (written_of c.args.written.now) (made c.args.state.now) (made c.loop-arg.state) (written_terms c.loop-arg.args.items) c.loop-arg.operator (open_type_of c.loop-arg.ty) (open_term_of c.in_ok-whole.field-0) none c.in_ok-whole.ensures c.loop-arg.invariant.0
+
+pub infer_applied-returns-in_err-whole-clause-keeps : goal.infer_applied-returns-in_err-whole-clause-keeps
+infer_applied-returns-in_err-whole-clause-keeps t c = c.loop-arg.invariant.1
+
+pub infer_applied-returns-clause-keeps : goal.infer_applied-returns-clause-keeps
+infer_applied-returns-clause-keeps t c = c.loop-arg.invariant.1
+
+pub elaborate_operator-returns-in_ok-bound-in-Bound-clause-ok : goal.elaborate_operator-returns-in_ok-bound-in-Bound-clause-ok
+elaborate_operator-returns-in_ok-bound-in-Bound-clause-ok t c =
+    let v = ap written_of c.in-Bound.is ∙ written_of-Bound c.in-Bound.variable in
+    let s = c.args.state.now in
+    let p = c.in_ok-bound-in-Bound.field-0 in
+    subst (λ W. Infers c.args.signature.now (numbers_of c.args.frees.now) s.locals W (made s) (made s) (operator_of (skeleton (open_type_of p.1)) p.0) (open_type_of p.1)) (sym v) (c.in_ok-bound-in-Bound.ensures c.args.signature.now (numbers_of c.args.frees.now))
+
+pub elaborate_operator-returns-in-Declared-clause-ok : goal.elaborate_operator-returns-in-Declared-clause-ok
+elaborate_operator-returns-in-Declared-clause-ok t c =
+    let v = ap written_of c.in-Declared.is ∙ written_of-Declared c.in-Declared.id c.in-Declared.field-1 in
+    if_ok c.declared.result _ _ (λ p j. subst (λ W. Infers c.args.signature.now (numbers_of c.args.frees.now) c.args.state.now.locals W (made c.args.state.now) (made c.declared.new.state) (operator_of (skeleton (open_type_of p.1)) p.0) (open_type_of p.1)) (sym v) (j (numbers_of c.args.frees.now) (place_of c.in-Declared.field-1))) c.declared.ensures.ok
+
+pub elaborate_operator-returns-in-Declared-clause-too_deep : goal.elaborate_operator-returns-in-Declared-clause-too_deep
+elaborate_operator-returns-in-Declared-clause-too_deep t c = λ is.
+    let v = ap written_of c.in-Declared.is ∙ written_of-Declared c.in-Declared.id c.in-Declared.field-1 in
+    subst (λ W. InfersDeep c.args.signature.now (numbers_of c.args.frees.now) c.args.state.now.locals W (made c.args.state.now)) (sym v) (c.declared.ensures.too_deep is (numbers_of c.args.frees.now) (place_of c.in-Declared.field-1))
+
+pub elaborate_operator-returns-in_err-free-in-Free-clause-keeps : goal.elaborate_operator-returns-in_err-free-in-Free-clause-keeps
+elaborate_operator-returns-in_err-free-in-Free-clause-keeps t c = keeps_same c.args.state.now
+
+pub elaborate_operator-returns-in_ok-free-in-Free-clause-keeps : goal.elaborate_operator-returns-in_ok-free-in-Free-clause-keeps
+elaborate_operator-returns-in_ok-free-in-Free-clause-keeps t c = keeps_same c.args.state.now
+
+pub elaborate_operator-returns-in_err-bound-in-Bound-clause-keeps : goal.elaborate_operator-returns-in_err-bound-in-Bound-clause-keeps
+elaborate_operator-returns-in_err-bound-in-Bound-clause-keeps t c = keeps_same c.args.state.now
+
+pub elaborate_operator-returns-in_ok-bound-in-Bound-clause-keeps : goal.elaborate_operator-returns-in_ok-bound-in-Bound-clause-keeps
+elaborate_operator-returns-in_ok-bound-in-Bound-clause-keeps t c = keeps_same c.args.state.now

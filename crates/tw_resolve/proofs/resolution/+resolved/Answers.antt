@@ -6,7 +6,7 @@ use Rattle.tw_explicit.specs.Scope.{binder_name}
 use Rattle.tw_parse.proofs.Views.{term_of-Arrow, term_of-Ascribe}
 use Rattle.tw_parse.specs.View.{term_of, boxed_domain}
 use Rattle.tw_written.proofs.Views.{written_of-Applied, written_of-Ascribed, written_of-Function, written_type_of-Arrow, written_type_of-Quantified, written_kind_of-Arrow, written_kind_of-Quantified}
-use Rattle.tw_written.specs.View.{written_of, written_domain_of as domain_of, written_type_of as type_of, written_kind_of as kind_of}
+use Rattle.tw_written.specs.View.{place_of, written_of, written_domain_of as domain_of, written_type_of as type_of, written_kind_of as kind_of}
 use Rattle.tw_resolve.specs.Rest.{rest_of}
 use Rattle.tw_resolve.specs.Resolving.{made, on_argument, of_kind, resolved_term, resolved_type, resolved_domain, resolved_kind}
 use Rattle.tw_resolve.proofs.Answering.{given, missing, both_given, second_missing, with_names, head_missing, head_given, argument_missing, argument_given, family_missing, family_given, family_argument_missing, family_argument_given, family_argument_refused}
@@ -143,7 +143,7 @@ function-returns-in_ok-new-in-Some-body-clause-read t c =
     let pushed = c.in_ok-push.ensures.ok ∙ ap (λ y. y ∷ c.resolved_domain.new.resolving.scope) c.in_ok-binder_name.ensures ∙ ap (λ s. x ∷ s) c.in_ok-domain.ensures.scope in
     let second = c.in_ok-body.ensures.read ∙ with_names (λ f n. resolved_term es f n (term_of c.args.body.now) p) c.resolved_domain.new.resolving.free free c.push.new.self (x ∷ N) c.in_ok-domain.ensures.free pushed in
     let made_of = written_of-Function c.in-Some.domain c.in_ok-new-in-Some-body.field-0 ∙ ap (λ m. plain.function (domain_of c.in-Some.domain) (written_of m)) c.in_ok-new-in-Some-body.ensures.ok in
-    ap (λ w. Some (w, q)) made_of ∙ both_given domain_of written_of (made plain.function) (resolved_domain es free N (boxed_domain c.args.domain.now) o) (resolved_term es free (x ∷ N) (term_of c.args.body.now)) c.in_ok-domain.field-0 c.in-Some.domain p c.in_ok-body.body c.in-Some-body.body q c.in-Some.is c.in_ok-domain.ensures.read c.in-Some-body.is second
+    ap (λ w. Some (w, q)) made_of ∙ both_given domain_of written_of (made plain.function) (resolved_domain es free N (place_of c.args.at) (boxed_domain c.args.domain.now) o) (resolved_term es free (x ∷ N) (term_of c.args.body.now)) c.in_ok-domain.field-0 c.in-Some.domain p c.in_ok-body.body c.in-Some-body.body q c.in-Some.is c.in_ok-domain.ensures.read c.in-Some-body.is second
 
 pub function-returns-in-None-clause-read : goal.function-returns-in-None-clause-read
 function-returns-in-None-clause-read t c =
@@ -156,7 +156,7 @@ function-returns-in-None-clause-read t c =
     let x = binder_name c.args.name.now in
     let pushed = c.in_ok-push.ensures.ok ∙ ap (λ y. y ∷ c.resolved_domain.new.resolving.scope) c.in_ok-binder_name.ensures ∙ ap (λ s. x ∷ s) c.in_ok-domain.ensures.scope in
     let second = c.in_ok-body.ensures.read ∙ with_names (λ f n. resolved_term es f n (term_of c.args.body.now) p) c.resolved_domain.new.resolving.free free c.push.new.self (x ∷ N) c.in_ok-domain.ensures.free pushed in
-    second_missing domain_of written_of (made plain.function) (resolved_domain es free N (boxed_domain c.args.domain.now) o) (resolved_term es free (x ∷ N) (term_of c.args.body.now)) c.in_ok-domain.field-0 c.in-Some.domain p c.in_ok-body.body q c.in-Some.is c.in_ok-domain.ensures.read c.in-None.is second
+    second_missing domain_of written_of (made plain.function) (resolved_domain es free N (place_of c.args.at) (boxed_domain c.args.domain.now) o) (resolved_term es free (x ∷ N) (term_of c.args.body.now)) c.in_ok-domain.field-0 c.in-Some.domain p c.in_ok-body.body q c.in-Some.is c.in_ok-domain.ensures.read c.in-None.is second
 
 pub kind_quantifier-returns-in_ok-new-in-Some-range-clause-read : goal.kind_quantifier-returns-in_ok-new-in-Some-range-clause-read
 kind_quantifier-returns-in_ok-new-in-Some-range-clause-read t c =
@@ -170,7 +170,7 @@ kind_quantifier-returns-in_ok-new-in-Some-range-clause-read t c =
     let pushed = c.in_ok-push.ensures.ok ∙ ap (λ y. y ∷ c.resolved_domain.new.resolving.scope) c.in_ok-binder_name.ensures ∙ ap (λ s. x ∷ s) c.in_ok-domain.ensures.scope in
     let second = c.in_ok-range.ensures.read ∙ with_names (λ f n. resolved_kind es f n (term_of c.args.range.now) p) c.resolved_domain.new.resolving.free free c.push.new.self (x ∷ N) c.in_ok-domain.ensures.free pushed in
     let made_of = written_kind_of-Quantified c.in-Some.domain c.in_ok-new-in-Some-range.field-0 ∙ ap (λ m. plain.kind_quantified (domain_of c.in-Some.domain) (kind_of m)) c.in_ok-new-in-Some-range.ensures.ok in
-    ap (λ w. Some (w, q)) made_of ∙ both_given domain_of kind_of (made plain.kind_quantified) (resolved_domain es free N (boxed_domain c.args.domain.now) o) (resolved_kind es free (x ∷ N) (term_of c.args.range.now)) c.in_ok-domain.field-0 c.in-Some.domain p c.in_ok-range.range c.in-Some-range.range q c.in-Some.is c.in_ok-domain.ensures.read c.in-Some-range.is second
+    ap (λ w. Some (w, q)) made_of ∙ both_given domain_of kind_of (made plain.kind_quantified) (resolved_domain es free N (place_of c.args.at) (boxed_domain c.args.domain.now) o) (resolved_kind es free (x ∷ N) (term_of c.args.range.now)) c.in_ok-domain.field-0 c.in-Some.domain p c.in_ok-range.range c.in-Some-range.range q c.in-Some.is c.in_ok-domain.ensures.read c.in-Some-range.is second
 
 pub kind_quantifier-returns-in-None-clause-read : goal.kind_quantifier-returns-in-None-clause-read
 kind_quantifier-returns-in-None-clause-read t c =
@@ -183,7 +183,7 @@ kind_quantifier-returns-in-None-clause-read t c =
     let x = binder_name c.args.name.now in
     let pushed = c.in_ok-push.ensures.ok ∙ ap (λ y. y ∷ c.resolved_domain.new.resolving.scope) c.in_ok-binder_name.ensures ∙ ap (λ s. x ∷ s) c.in_ok-domain.ensures.scope in
     let second = c.in_ok-range.ensures.read ∙ with_names (λ f n. resolved_kind es f n (term_of c.args.range.now) p) c.resolved_domain.new.resolving.free free c.push.new.self (x ∷ N) c.in_ok-domain.ensures.free pushed in
-    second_missing domain_of kind_of (made plain.kind_quantified) (resolved_domain es free N (boxed_domain c.args.domain.now) o) (resolved_kind es free (x ∷ N) (term_of c.args.range.now)) c.in_ok-domain.field-0 c.in-Some.domain p c.in_ok-range.range q c.in-Some.is c.in_ok-domain.ensures.read c.in-None.is second
+    second_missing domain_of kind_of (made plain.kind_quantified) (resolved_domain es free N (place_of c.args.at) (boxed_domain c.args.domain.now) o) (resolved_kind es free (x ∷ N) (term_of c.args.range.now)) c.in_ok-domain.field-0 c.in-Some.domain p c.in_ok-range.range q c.in-Some.is c.in_ok-domain.ensures.read c.in-None.is second
 
 pub quantifier-returns-in_ok-new-in-Some-range-clause-read : goal.quantifier-returns-in_ok-new-in-Some-range-clause-read
 quantifier-returns-in_ok-new-in-Some-range-clause-read t c =
@@ -197,7 +197,7 @@ quantifier-returns-in_ok-new-in-Some-range-clause-read t c =
     let pushed = c.in_ok-push.ensures.ok ∙ ap (λ y. y ∷ c.resolved_domain.new.resolving.scope) c.in_ok-binder_name.ensures ∙ ap (λ s. x ∷ s) c.in_ok-domain.ensures.scope in
     let second = c.in_ok-range.ensures.read ∙ with_names (λ f n. resolved_type es f n (term_of c.args.range.now) p) c.resolved_domain.new.resolving.free free c.push.new.self (x ∷ N) c.in_ok-domain.ensures.free pushed in
     let made_of = written_type_of-Quantified c.in-Some.domain c.in_ok-new-in-Some-range.field-0 ∙ ap (λ m. plain.quantified (domain_of c.in-Some.domain) (type_of m)) c.in_ok-new-in-Some-range.ensures.ok in
-    ap (λ w. Some (w, q)) made_of ∙ both_given domain_of type_of (made plain.quantified) (resolved_domain es free N (boxed_domain c.args.domain.now) o) (resolved_type es free (x ∷ N) (term_of c.args.range.now)) c.in_ok-domain.field-0 c.in-Some.domain p c.in_ok-range.range c.in-Some-range.range q c.in-Some.is c.in_ok-domain.ensures.read c.in-Some-range.is second
+    ap (λ w. Some (w, q)) made_of ∙ both_given domain_of type_of (made plain.quantified) (resolved_domain es free N (place_of c.args.at) (boxed_domain c.args.domain.now) o) (resolved_type es free (x ∷ N) (term_of c.args.range.now)) c.in_ok-domain.field-0 c.in-Some.domain p c.in_ok-range.range c.in-Some-range.range q c.in-Some.is c.in_ok-domain.ensures.read c.in-Some-range.is second
 
 pub quantifier-returns-in-None-clause-read : goal.quantifier-returns-in-None-clause-read
 quantifier-returns-in-None-clause-read t c =
@@ -210,7 +210,7 @@ quantifier-returns-in-None-clause-read t c =
     let x = binder_name c.args.name.now in
     let pushed = c.in_ok-push.ensures.ok ∙ ap (λ y. y ∷ c.resolved_domain.new.resolving.scope) c.in_ok-binder_name.ensures ∙ ap (λ s. x ∷ s) c.in_ok-domain.ensures.scope in
     let second = c.in_ok-range.ensures.read ∙ with_names (λ f n. resolved_type es f n (term_of c.args.range.now) p) c.resolved_domain.new.resolving.free free c.push.new.self (x ∷ N) c.in_ok-domain.ensures.free pushed in
-    second_missing domain_of type_of (made plain.quantified) (resolved_domain es free N (boxed_domain c.args.domain.now) o) (resolved_type es free (x ∷ N) (term_of c.args.range.now)) c.in_ok-domain.field-0 c.in-Some.domain p c.in_ok-range.range q c.in-Some.is c.in_ok-domain.ensures.read c.in-None.is second
+    second_missing domain_of type_of (made plain.quantified) (resolved_domain es free N (place_of c.args.at) (boxed_domain c.args.domain.now) o) (resolved_type es free (x ∷ N) (term_of c.args.range.now)) c.in_ok-domain.field-0 c.in-Some.domain p c.in_ok-range.range q c.in-Some.is c.in_ok-domain.ensures.read c.in-None.is second
 
 pub resolved_kind-returns-in_default-2-clause-read : goal.resolved_kind-returns-in_default-2-clause-read
 resolved_kind-returns-in_default-2-clause-read t c =

@@ -1,0 +1,10 @@
+pub mod Bare
+pub mod Fitting
+pub mod Views
+pub mod Parts
+pub mod Completing
+pub mod Whole
+pub mod Back
+pub mod Steady
+pub mod Mismatch
+pub mod Reconstructed

@@ -1,0 +1,17 @@
+-- What an explicit declaration is completed to is what it would be reconstructed to.
+use Rattle.std.specs.Prelude.{List}
+use Rattle.lf.specs.Entries.{Entry, IsCanonicalEntry, IsCanonicalSignature, signature_of}
+use Rattle.tw_explicit.specs.Answer.{IsExplicit}
+use Rattle.tw_explicit.specs.Completion.{Completes}
+use Rattle.tw_parse.specs.Syntax.{Declaration}
+use Rattle.tw_recon.specs.Causes.{HasCause}
+use Rattle.tw_recon.specs.Reconstruction.{IsReconstructed}
+use Rattle.tw_recon.specs.declared.fault.ReconFault.TheVariants.{Mismatch}
+
+-- the principal completion, with no quantifier, under the written name and with the written names of its binders
+abbrev pub ExplicitIsReconstructed : Type 0
+ExplicitIsReconstructed = (es : List Entry) → IsCanonicalSignature es → (d : Declaration) (e : Entry) → IsExplicit es d → Completes es d e → IsCanonicalEntry (signature_of es) e → IsReconstructed es d e
+
+-- And where it gives no entry, it is refused by reconstruction too, as a mismatch.
+abbrev pub ExplicitMismatchIsMismatch : Type 0
+ExplicitMismatchIsMismatch = (es : List Entry) → IsCanonicalSignature es → (d : Declaration) → IsExplicit es d → ((e : Entry) → Completes es d e → ⊥) → HasCause es d Mismatch

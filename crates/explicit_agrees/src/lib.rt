@@ -1,0 +1,25 @@
+//! An explicit declaration is completed as it would be reconstructed. No function here has code: each carries one law as its contract.
+#![tactic(auto)]
+
+ghost use Rattle.explicit_agrees.specs.Agreement.{ExplicitIsPrincipal, ExplicitMismatchHasNoCompletion};
+ghost use Rattle.explicit_agrees.specs.Reconstructed.{ExplicitIsReconstructed, ExplicitMismatchIsMismatch};
+
+/// What an explicit declaration is completed to is its principal completion.
+pub fn explicit_is_principal()
+    ensures { ExplicitIsPrincipal }
+{}
+
+/// Where it gives no entry, it has no completion.
+pub fn explicit_mismatch_has_no_completion()
+    ensures { ExplicitMismatchHasNoCompletion }
+{}
+
+/// So it is what the declaration would be reconstructed to.
+pub fn explicit_is_reconstructed()
+    ensures { ExplicitIsReconstructed }
+{}
+
+/// Where it gives no entry, reconstruction refuses it as a mismatch.
+pub fn explicit_mismatch_is_mismatch()
+    ensures { ExplicitMismatchIsMismatch }
+{}

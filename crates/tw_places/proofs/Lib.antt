@@ -1,0 +1,4 @@
+pub mod Steps
+pub mod Growing
+pub mod Ordering
+pub mod Signatures

@@ -1,0 +1,14 @@
+//! The machine's stack, which is memory too.
+ghost use Rattle.std.specs.Prelude.{◌≡◌, suc, IfOk};
+
+use std::alloc::AllocError;
+
+/// How many calls a walk nests at most; past these it wants memory.
+pub const FRAMES: u32 = 5_000;
+
+/// One call fewer. Fails where none is left.
+pub fn nested(frames: u32) -> Result<u32, AllocError>
+    ensures { IfOk result (λ n. suc n ≡ frames) }
+{
+    frames.checked_sub(1).ok_or(AllocError)
+}

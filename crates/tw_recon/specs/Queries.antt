@@ -1,0 +1,57 @@
+-- What a query is reconstructed to.
+use Rattle.std.specs.Prelude.{◌≡◌, ℕ, List, Option, Some, reverse, ◌⊎◌}
+use Rattle.lf.specs.Entries.{Entry, declare_constant}
+use Rattle.lf.specs.Syntax.{LfType, Skeleton}
+use Rattle.elaboration.specs.Principal.{WrittenBody}
+use Rattle.tw_approx.specs.Answer as skeletons
+use Rattle.tw_approx.specs.Answer.{HasQuerySkeletons, IsQueryOfObjects, Rows}
+use Rattle.tw_approx.specs.declared.fault.ApproxFault.TheVariants as approx
+use Rattle.tw_parse.specs.Queries.{Query}
+use Rattle.tw_parse.specs.Syntax.{Term}
+use Rattle.tw_resolve.specs.Resolved.{resolved_goal}
+use Rattle.tw_terms.specs.View.{type_of}
+use Rattle.tw_recon.specs.Causes.{Stops}
+use Rattle.tw_recon.specs.Reconstruction.{IsCompletedTo}
+use Rattle.tw_recon.specs.declared.fault.ReconFault.{ReconFault}
+use Rattle.tw_recon.specs.declared.fault.ReconFault.TheVariants.{Leftover, Loose, Mismatch, NoMemory, TooDeep, TypeLevel, Unknown}
+use Rattle.tw_recon.specs.declared.query.Goal.{Goal as AskedGoal}
+
+-- the variables of a query, the newest in front, with their names; those that are shown, in the order of the text; the name of the proof; and the goal over the variables
+pub record Goal : Type 0 where
+  pub variables : List LfType
+  pub names : List (Option (List ℕ))
+  pub shown : List ℕ
+  pub proof : Option (List ℕ)
+  pub goal : LfType
+
+abbrev pub goal_of : AskedGoal → Goal
+goal_of g = record { variables = g.variables; names = g.names.items; shown = g.shown.items; proof = g.proof; goal = type_of g.goal }
+
+-- What isn't written has skeletons in just one way, with these rows for the free variables; told these and with its names resolved the goal is written so.
+pub record IsGoalWrittenAs (es : List Entry) (A : Term) (rows : Rows) (w : WrittenBody) : Type 0 where
+  pub objects : IsQueryOfObjects es A
+  pub omitted : List Skeleton
+  pub skeletons : HasQuerySkeletons es A rows omitted
+  pub resolved : resolved_goal es rows omitted A ≡ Some w
+
+-- The goal is a principal completion of what is written, over its variables.
+pub record IsGoalOf (es : List Entry) (q : Query) (g : Goal) : Type 0 where
+  pub rows : Rows
+  pub written : WrittenBody
+  pub is_written : IsGoalWrittenAs es q.goal rows written
+  pub completed : IsCompletedTo es rows written g.variables (reverse g.names) g.shown (declare_constant g.goal)
+  pub proof : g.proof ≡ q.proof
+
+-- the goal stops where it is written so
+abbrev pub GoalStops : List Entry → Term → ReconFault → Type 0
+GoalStops es A f = (rows : Rows) × (w : WrittenBody) × IsGoalWrittenAs es A rows w × Stops es rows w f
+
+-- Why a query with this goal isn't reconstructed.
+abbrev pub HasGoalCause : List Entry → Term → ReconFault → Type 0
+HasGoalCause es A (Unknown name place) = skeletons.HasQueryCause es A (approx.Unknown name place)
+HasGoalCause es A (TypeLevel place) = skeletons.HasQueryCause es A (approx.TypeLevel place)
+HasGoalCause es A Loose = skeletons.HasQueryCause es A approx.Loose
+HasGoalCause es A Mismatch = skeletons.HasQueryCause es A approx.Clash ⊎ GoalStops es A Mismatch
+HasGoalCause es A (Leftover left) = GoalStops es A (Leftover left)
+HasGoalCause es A TooDeep = GoalStops es A TooDeep
+HasGoalCause es A NoMemory = Unit {0}

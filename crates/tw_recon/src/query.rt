@@ -1,0 +1,110 @@
+//! The goal of a query.
+ghost use Rattle.std.specs.Prelude.{◌≡◌, List, IfErr, IfOk, reverse};
+ghost use Rattle.lf.specs.Entries.{Entry};
+ghost use Rattle.tw_approx.specs.Answer.{HasQueryCause, rows_of};
+ghost use Rattle.tw_parse.specs.Queries.{query_of};
+ghost use Rattle.tw_parse.specs.Syntax.{Term};
+ghost use Rattle.tw_parse.specs.View.{term_of};
+ghost use Rattle.tw_written.specs.View.{written_body_of};
+ghost use Rattle.tw_recon.specs.Queries.{HasGoalCause, IsGoalOf, IsGoalWrittenAs, goal_of};
+
+use crate::begun::Told;
+use crate::completing::{Completed, complete};
+use crate::fault::ReconFault;
+use std::alloc::{AllocError, Global};
+use tw_approx::{Approx, ApproxFault, approximate_query};
+use tw_fixity::Name;
+use tw_parse::ExtQuery;
+use tw_resolve::resolve_goal;
+use tw_signature::{Body, Signature};
+use tw_terms::{Context, Ty};
+
+/// A query after reconstruction: its variables, each with the name of the first free variable of the text that it alone stands for, if there is one; the
+/// variables with names, in the order of the text; the name of the proof, if one is asked for; and the goal over the variables. Variables are numbered from
+/// the newest.
+#[derive(Drop)]
+pub struct Goal {
+    pub variables: Context,
+    pub names: Vec<Option<Name>>,
+    pub shown: Vec<u64>,
+    pub proof: Option<Name>,
+    pub goal: Ty,
+}
+
+/// The goal that a query asks for, with all that it leaves out filled in the most general way.
+pub fn reconstruct_query(
+    alloc: Global,
+    signature: &Signature,
+    query: &ExtQuery,
+) -> Result<Goal, ReconFault>
+    ensures reconstructed { IfOk result (λ g. IsGoalOf signature.now (query_of query.now) (goal_of g)) }
+    ensures refused { IfErr result (λ f. HasGoalCause signature.now (term_of query.now.goal) f) }
+{
+    let told = match tell_goal(alloc, signature, query) {
+        Ok(told) => told,
+        Err(fault) => return Err(fault),
+    };
+    let completed = match complete(alloc, signature, told) {
+        Ok(completed) => completed,
+        Err(fault) => return Err(fault),
+    };
+    let Completed {
+        quantifiers,
+        hints,
+        shown,
+        body,
+    } = completed;
+    let Body::Constant(goal) = body else {
+        return Err(ReconFault::NoMemory);
+    };
+    let mut names = hints;
+    names.reverse();
+    Ok(Goal {
+        variables: quantifiers,
+        names,
+        shown,
+        proof: copy_name(alloc, &query.proof)?,
+        goal,
+    })
+}
+
+/// Finds the skeletons of what isn't written in the goal, and resolves its names.
+fn tell_goal(alloc: Global, signature: &Signature, query: &ExtQuery) -> Result<Told, ReconFault>
+    ensures written { IfOk result (λ t. IsGoalWrittenAs signature.now (term_of query.now.goal) (rows_of t.rows.items) (written_body_of t.written)) }
+    ensures refused { IfErr result (λ f. HasGoalCause signature.now (term_of query.now.goal) f) }
+{
+    let Approx { free, omitted } = match approximate_query(alloc, signature, query) {
+        Ok(approx) => approx,
+        Err(fault) => return Err(of_skeletons(fault)),
+    };
+    let Some(written) = resolve_goal(alloc, signature, &query.goal, &free, omitted)? else {
+        return Err(ReconFault::NoMemory);
+    };
+    Ok(Told {
+        rows: free,
+        written,
+    })
+}
+
+/// A fault of the skeleton pass. A clash of skeletons is a mismatch.
+fn of_skeletons(fault: ApproxFault) -> ReconFault
+    ensures { (es : List Entry) (A : Term) → HasQueryCause es A fault → HasGoalCause es A result }
+{
+    match fault {
+        ApproxFault::Unknown(name, at) => ReconFault::Unknown(name, at),
+        ApproxFault::TypeLevel(at) => ReconFault::TypeLevel(at),
+        ApproxFault::Clash => ReconFault::Mismatch,
+        ApproxFault::Loose => ReconFault::Loose,
+        ApproxFault::NoMemory => ReconFault::NoMemory,
+    }
+}
+
+/// An equal name.
+fn copy_name(alloc: Global, name: &Option<Name>) -> Result<Option<Name>, AllocError>
+    ensures { IfOk result (λ n. n ≡ name.now) }
+{
+    match name {
+        Some(name) => Ok(Some(name.copy(alloc)?)),
+        None => Ok(None),
+    }
+}
