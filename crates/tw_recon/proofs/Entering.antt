@@ -76,6 +76,7 @@ module _ (es : List Entry) (canonical : IsCanonicalSignature es) (rows : Rows) (
           are_sites = s;
           quantifiers = ms;
           are_quantifiers = q;
+          body_read = r;
           order = order;
           in_order = o;
           naming = naming;
@@ -89,7 +90,7 @@ module _ (es : List Entry) (canonical : IsCanonicalSignature es) (rows : Rows) (
 pub hint_each : (es : List Entry) (rows : Rows) (w : WrittenBody) (G : List LfType) (hints : List (Option (List ℕ))) (shown : List ℕ) (b : Body) → IsCompletedTo es rows w G hints shown b → length hints ≡ length G
 hint_each es rows w G hints shown b c = from c.in_order
   where
-    from : ((G ≡ []) × (hints ≡ []) × (shown ≡ [])) ⊎ AreReadOff es rows w G hints shown → length hints ≡ length G
+    from : ((G ≡ []) × (hints ≡ []) × (shown ≡ [])) ⊎ AreReadOff es rows w G hints shown b → length hints ≡ length G
     from (inl (g, h, k)) = ap length h ∙ sym (ap length g)
     from (inr r) = ap length r.hints_are ∙ names_each r.naming.names r.quantifiers ∙ context_each r.after r.quantifiers G r.are_quantifiers.context
 

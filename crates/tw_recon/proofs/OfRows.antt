@@ -63,6 +63,6 @@ module _ (rows : Rows) where
 pub hints_of_rows : (es : List Entry) (rows : Rows) (w : WrittenBody) (G : List LfType) (hints : List (Option (List ℕ))) (shown : List ℕ) (b : Body) → IsCompletedTo es rows w G hints shown b → AreOfRows rows hints
 hints_of_rows es rows w G hints shown b c = from c.in_order
   where
-    from : ((G ≡ []) × (hints ≡ []) × (shown ≡ [])) ⊎ AreReadOff es rows w G hints shown → AreOfRows rows hints
+    from : ((G ≡ []) × (hints ≡ []) × (shown ≡ [])) ⊎ AreReadOff es rows w G hints shown b → AreOfRows rows hints
     from (inl (g, h, k)) = subst (AreOfRows rows) (sym h) tt
     from (inr r) = subst (AreOfRows rows) (sym r.hints_are) (each_of_rows rows r.naming.names r.quantifiers (all_of_rows rows r.after r.frees r.order nothing_named r.naming r.are_names tt))

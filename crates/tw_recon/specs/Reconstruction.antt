@@ -17,6 +17,7 @@ use Rattle.tw_resolve.specs.Resolved.{resolved_body, skeletons_of}
 use Rattle.tw_unify.specs.View.{whole}
 use Rattle.tw_recon.specs.Hints.{fitted, written_hints}
 use Rattle.tw_recon.specs.Names.{AreNames, Naming, names_of, variables_of}
+use Rattle.tw_recon.specs.Reading.{IsBodyReadAs}
 
 -- the name under which it is kept; `_` isn't kept
 abbrev pub name_in : Option (List ℕ) → List ℕ
@@ -43,8 +44,8 @@ pub record IsMade (es : List Entry) (ts : List Skeleton) (w : WrittenBody) (free
   pub body_made : ElaboratesBody es frees w with_frees s b
 
 -- The quantifiers G and their hints are read off a solved store: of the metavariables that stay free, in the order of the text, repeatedly the first whose needs stand.
--- Each has the name of the first free variable in the text that stands for it alone; `shown` are those with names, in the order of the text.
-pub record AreReadOff (es : List Entry) (rows : Rows) (w : WrittenBody) (G : List LfType) (hints : List (Option (List ℕ))) (shown : List ℕ) : Type 0 where
+-- The body b has the variable of its quantifier for each metavariable. Each quantifier has the name of the first free variable in the text that stands for it alone; `shown` are those with names, in the order of the text.
+pub record AreReadOff (es : List Entry) (rows : Rows) (w : WrittenBody) (G : List LfType) (hints : List (Option (List ℕ))) (shown : List ℕ) (b : Body) : Type 0 where
   pub frees : List ℕ
   pub state : State
   pub open_body : Body
@@ -55,6 +56,7 @@ pub record AreReadOff (es : List Entry) (rows : Rows) (w : WrittenBody) (G : Lis
   pub are_sites : AreSites es (skeletons_of rows) w sites
   pub quantifiers : List ℕ
   pub are_quantifiers : AreQuantifiers after sites quantifiers G
+  pub body_read : IsBodyReadAs after quantifiers open_body b
   pub order : List ℕ
   pub in_order : AreFreesInOrder w (length rows) order
   pub naming : Naming
@@ -66,7 +68,7 @@ pub record AreReadOff (es : List Entry) (rows : Rows) (w : WrittenBody) (G : Lis
 pub record IsCompletedTo (es : List Entry) (rows : Rows) (w : WrittenBody) (G : List LfType) (hints : List (Option (List ℕ))) (shown : List ℕ) (b : Body) : Type 0 where
   pub frees : List FreeValue
   pub principal : IsPrincipal es (skeletons_of rows) w (record { quantifiers = G; frees = frees; body = b })
-  pub in_order : ((G ≡ []) × (hints ≡ []) × (shown ≡ [])) ⊎ AreReadOff es rows w G hints shown
+  pub in_order : ((G ≡ []) × (hints ≡ []) × (shown ≡ [])) ⊎ AreReadOff es rows w G hints shown b
 
 -- The entry declares this body, closed over these quantifiers, which are implicit.
 pub record IsEntryOf (d : Declaration) (G : List LfType) (quantifier_hints : List (Option (List ℕ))) (b : Body) (e : Entry) : Type 0 where
