@@ -2,7 +2,7 @@
 use Rattle.std.proofs.Common.{◌≡◌, ℕ, suc, ◌<◌, ◌≤◌, List, [], Option, Some, None, ◌⊎◌, inl, inr, sym, ap, ◌∙◌, arith}
 use Rattle.lf.specs.Entries.{Entry}
 use Rattle.lf.specs.Syntax.{Kind, LfType, Skeleton, Spine, Term}
-use Rattle.elaboration.specs.Elaboration.{Checks, ElaboratesDomain, ElaboratesFamily, ElaboratesKind, ElaboratesType, Infers, KindTakesNew, NewFrees, NewType, TakesAllNew, TakesNew, takes_none, takes_next, kind_takes_none, kind_takes_next, takes_all, takes_first, new_atom, new_pi, no_frees, next_free, at_free, at_bound, at_constant, at_definition, at_hole, at_function, at_applied, at_ascribed, checks_hole, checks_function, checks_typed, checks_inferred, at_type_hole, at_arrow, at_quantified, at_family, at_type_ascribed, at_of_skeleton, at_of_type, at_family_name, at_family_applied, at_family_ascribed, at_star, at_kind_arrow, at_kind_quantified}
+use Rattle.elaboration.specs.Elaboration.{Checks, ElaboratesDomain, ElaboratesFamily, ElaboratesKind, ElaboratesType, Infers, KindTakesNew, NewFrees, NewType, TakesAllNew, TakesNew, takes_none, takes_next, kind_takes_none, kind_takes_next, takes_all, takes_first, new_atom, new_pi, no_frees, next_free, at_free, at_bound, at_constant, at_definition, at_hole, at_function, at_applied, at_ascribed, checks_hole, checks_function, checks_inferred, at_type_hole, at_arrow, at_quantified, at_family, at_type_ascribed, at_of_skeleton, at_of_type, at_family_name, at_family_applied, at_family_ascribed, at_star, at_kind_arrow, at_kind_quantified}
 use Rattle.elaboration.specs.Skeletons.{IsNumbered}
 use Rattle.elaboration.specs.State.{State, with_equations, with_metavariable}
 use Rattle.elaboration.specs.Written.{Written, WrittenDomain, WrittenKind, WrittenType}
@@ -101,8 +101,7 @@ module _ (es : List Entry) where
 
       pub checks_adds : {D : List LfType} {M : Written} {A : LfType} {s s' : State} {R : Term} → Checks es frees D M A s s' R → Adds s s'
       checks_adds (checks_hole {D = D} {A = A} {s = s} e) = adds_metavariable D A s
-      checks_adds (checks_function e c) = checks_adds c
-      checks_adds (checks_typed {s = s} {s' = s'} {s'' = s''} t e c) = adds_then s s' s'' (type_adds t) (adds_then s' (with_equations _ s') s'' (adds_equations _ s') (checks_adds c))
+      checks_adds (checks_function {s = s} {s' = s'} {s'' = s''} t e c) = adds_then s s' s'' (domain_adds t) (adds_then s' (with_equations _ s') s'' (adds_equations _ s') (checks_adds c))
       checks_adds (checks_inferred {s = s} {s' = s'} n i e) = adds_then s s' (with_equations _ s') (infers_adds i) (adds_equations _ s')
 
       pub type_adds : {D : List LfType} {V : WrittenType} {s s' : State} {A : LfType} → ElaboratesType es frees D V s s' A → Adds s s'

@@ -23,7 +23,7 @@ use Rattle.unification.proofs.Filling.{Filled-single, fill_rename_type, fill_sub
 use Rattle.unification.proofs.OpenSound.{PartialInstance-of, fill_typed, fill_typed_type, local_at}
 use Rattle.unification.proofs.OpenTypes.{fill_kind, fill_typed_kind}
 use Rattle.unification.proofs.Patterns.{fill_add, fill_expand}
-use Rattle.elaboration.specs.Elaboration.{Checks, ElaboratesDomain, ElaboratesFamily, ElaboratesKind, ElaboratesType, Infers, KindTakesNew, NewType, TakesAllNew, TakesNew, takes_none, takes_next, kind_takes_none, kind_takes_next, takes_all, takes_first, new_atom, new_pi, at_free, at_bound, at_constant, at_definition, at_hole, at_function, at_applied, at_ascribed, checks_hole, checks_function, checks_typed, checks_inferred, at_type_hole, at_arrow, at_quantified, at_family, at_type_ascribed, at_of_skeleton, at_of_type, at_family_name, at_family_applied, at_family_ascribed, at_star, at_kind_arrow, at_kind_quantified}
+use Rattle.elaboration.specs.Elaboration.{Checks, ElaboratesDomain, ElaboratesFamily, ElaboratesKind, ElaboratesType, Infers, KindTakesNew, NewType, TakesAllNew, TakesNew, takes_none, takes_next, kind_takes_none, kind_takes_next, takes_all, takes_first, new_atom, new_pi, at_free, at_bound, at_constant, at_definition, at_hole, at_function, at_applied, at_ascribed, checks_hole, checks_function, checks_inferred, at_type_hole, at_arrow, at_quantified, at_family, at_type_ascribed, at_of_skeleton, at_of_type, at_family_name, at_family_applied, at_family_ascribed, at_star, at_kind_arrow, at_kind_quantified}
 use Rattle.elaboration.specs.Completions.{Completes, CompletesDomain, CompletesFamily, CompletesKind, CompletesType, FreeValue, KindTakesAny, TakesAny, any_next, any_none, applied_completed, arrow_completed, ascribed_completed, ascribed_type_completed, bound_completed, constant_completed, definition_completed, family_applied_completed, family_ascribed_completed, family_completed, family_name_completed, free_completed, function_completed, hole_completed, kind_any_next, kind_any_none, kind_arrow_completed, kind_quantified_completed, quantified_completed, skeleton_completed, star_completed, type_completed, type_hole_completed}
 use Rattle.elaboration.specs.Skeletons.{EquationsHaveSkeletons, KindHasSkeletons, StateHasSkeletons, TermHasSkeleton, TypeHasSkeletons, heads_of}
 use Rattle.elaboration.specs.State.{State, index_equations, kind_equations, type_equations, with_equations, with_metavariable}
@@ -327,13 +327,10 @@ module _ (es : List Entry) (canonical : IsCanonicalSignature es) (F : List LfTyp
     pub checks_met : {D : List LfType} {M : Written} {A : LfType} {s s' : State} {R : Term} → Checks es frees D M A s s' R → (β : ℕ → Option Term) (E : List LfType) → Meeting s D β E → TypeHasSkeletons Σ s D A → {T : Term} {X : LfType} → Completes es F values E M T X → fill_type (skeletons_of s.metavariables) (under_locals D β) A ≡ X →
         (f : Found s s' D β E) × (fill (skeletons_of s'.metavariables) (under_locals D f.filling) R ≡ T)
     checks_met {D = D} (checks_hole {A = A} {s = s} e) β E x a (hole_completed {R = T} {A = X} p i h) v = found_new s D β E x A a T X h v
-    checks_met {D = D} (checks_function {A = A} {B = B} {s = s} {s' = s'} e c) β E x (a, b) (function_completed {A = X} {B = Y} d m) v =
-        let (f, w) = checks_met c β (X ∷ E) (meets_under Σ ok F frees values s D β E A X x a (domain_part v)) b m (codomain_part v) in
-        (found_out s s' D β E A X f, ap lambda w)
-    checks_met {D = D} (checks_typed {A = A} {B = B} {X = Z} {s = s} {s' = s'} {s'' = s''} t e c) β E x (a, b) (function_completed {A = X} {B = Y} (type_completed t') m) v =
-        let g : Grows s s' = type_adds es frees t x.state.numbered in
-        let (f, y) = type_met t β E x t' in
-        let z : TypeHasSkeletons Σ s' D Z = (type_skeletons es canonical frees t x.state x.local).1 in
+    checks_met {D = D} (checks_function {A = A} {B = B} {X = Z} {s = s} {s' = s'} {s'' = s''} t e c) β E x (a, b) (function_completed {A = X} {B = Y} t' m) v =
+        let g : Grows s s' = domain_adds es frees t x.state.numbered in
+        let (f, y) = domain_met t β E x t' in
+        let z : TypeHasSkeletons Σ s' D Z = (domain_skeletons es canonical frees t x.state x.local).1 in
         let ab : TypeHasSkeletons Σ s' D (pi A B) = type_grows Σ ok s s' g D (pi A B) (a, b) in
         let v' : fill_type (skeletons_of s'.metavariables) (under_locals D f.filling) (pi A B) ≡ pi X Y = sym (type_kept Σ ok F frees values s s' g x.state β f.filling f.kept D (pi A B) (a, b)) ∙ v in
         let fs : List Equation = type_equations Σ D Z A in

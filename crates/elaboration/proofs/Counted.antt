@@ -5,7 +5,7 @@ use Rattle.lf.specs.Entries.{Body, Entry, declare_constant, declare_definition, 
 use Rattle.lf.specs.Substitution.{Image, lift, reduce, single, substitute_kind}
 use Rattle.lf.specs.Syntax.{Kind, LfType, Skeleton, Spine, Term, kind_pi, skeleton, star}
 use Rattle.unification.specs.Offering.{raised}
-use Rattle.elaboration.specs.Elaboration.{Checks, ElaboratesDomain, ElaboratesFamily, ElaboratesKind, ElaboratesType, Infers, IsInferred, KindTakesNew, NewFrees, NewType, TakesAllNew, TakesNew, takes_none, takes_next, kind_takes_none, kind_takes_next, takes_all, takes_first, new_atom, new_pi, no_frees, next_free, at_free, at_bound, at_constant, at_definition, at_hole, at_function, at_applied, at_ascribed, checks_hole, checks_function, checks_typed, checks_inferred, at_type_hole, at_arrow, at_quantified, at_family, at_type_ascribed, at_of_skeleton, at_of_type, at_family_name, at_family_applied, at_family_ascribed, at_star, at_kind_arrow, at_kind_quantified}
+use Rattle.elaboration.specs.Elaboration.{Checks, ElaboratesDomain, ElaboratesFamily, ElaboratesKind, ElaboratesType, Infers, IsInferred, KindTakesNew, NewFrees, NewType, TakesAllNew, TakesNew, takes_none, takes_next, kind_takes_none, kind_takes_next, takes_all, takes_first, new_atom, new_pi, no_frees, next_free, at_free, at_bound, at_constant, at_definition, at_hole, at_function, at_applied, at_ascribed, checks_hole, checks_function, checks_inferred, at_type_hole, at_arrow, at_quantified, at_family, at_type_ascribed, at_of_skeleton, at_of_type, at_family_name, at_family_applied, at_family_ascribed, at_star, at_kind_arrow, at_kind_quantified}
 use Rattle.elaboration.specs.Principal.{WrittenBody, written_constant, written_definition, written_definition_of, written_family}
 use Rattle.elaboration.specs.PrincipalLaws.{ElaboratesBody}
 use Rattle.elaboration.specs.SiteLaws.{MetavariablesAreCounted, SpotsAreAll, total}
@@ -90,24 +90,23 @@ module _ (es : List Entry) where
       infers_counted (at_constant {at = at} {c = c} {e = e} {s = s} {s' = s'} p b t) = name_counted c at e s.next s'.next p (takes_counted t)
       infers_counted (at_definition {at = at} {c = c} {e = e} {s = s} {s' = s'} p b t) = name_counted c at e s.next s'.next p (takes_counted t)
       infers_counted (at_hole {t = t} {s = s} {s' = s'} n) = let h : s'.next ≡ s.next + indices es t = new_type_counted n in omega (arith, h)
-      infers_counted (at_function {d = d} {M = M} {s = s} {s' = s'} {s'' = s''} x y) = counted_then s.next s'.next s''.next (domain_spots es false d) (term_spots es false M) (domain_counted x) (infers_counted y)
+      infers_counted (at_function {d = d} {M = M} {s = s} {s' = s'} {s'' = s''} x y) = counted_then s.next s'.next s''.next (domain_spots es d) (term_spots es false M) (domain_counted x) (infers_counted y)
       infers_counted (at_applied {M = M} {P = P} {s = s} {s' = s'} {s'' = s''} x y) = counted_then s.next s'.next s''.next (term_spots es false M) (term_spots es true P) (infers_counted x) (checks_counted y)
       infers_counted (at_ascribed {M = M} {U = V} {s = s} {s' = s'} {s'' = s''} x y) = counted_then s.next s'.next s''.next (type_spots es V) (term_spots es true M) (type_counted x) (checks_counted y)
 
       checks_counted : {D : List LfType} {M : Written} {A : LfType} {s s' : State} {R : Term} → Checks es frees D M A s s' R → s'.next ≡ s.next + total (term_spots es true M)
       checks_counted (checks_hole e) = omega arith
-      checks_counted (checks_function e c) = checks_counted c
-      checks_counted (checks_typed {U = V} {M = M} {s = s} {s' = s'} {s'' = s''} x e y) = counted_then s.next s'.next s''.next (type_spots es V) (term_spots es true M) (type_counted x) (checks_counted y)
+      checks_counted (checks_function {d = d} {M = M} {s = s} {s' = s'} {s'' = s''} x e y) = counted_then s.next s'.next s''.next (domain_spots es d) (term_spots es true M) (domain_counted x) (checks_counted y)
       checks_counted (checks_inferred {M = M} {s = s} n x e) = infers_counted x ∙ ap (λ ss. s.next + total ss) (inferred_same M n)
 
       type_counted : {D : List LfType} {V : WrittenType} {s s' : State} {A : LfType} → ElaboratesType es frees D V s s' A → s'.next ≡ s.next + total (type_spots es V)
       type_counted (at_type_hole {t = t} {s = s} {s' = s'} n) = let h : s'.next ≡ s.next + indices es t = new_type_counted n in omega (arith, h)
       type_counted (at_arrow {U = X} {V = Y} {s = s} {s' = s'} {s'' = s''} x y) = counted_then s.next s'.next s''.next (type_spots es X) (type_spots es Y) (type_counted x) (type_counted y)
-      type_counted (at_quantified {d = d} {V = Y} {s = s} {s' = s'} {s'' = s''} x y) = counted_then s.next s'.next s''.next (domain_spots es false d) (type_spots es Y) (domain_counted x) (type_counted y)
+      type_counted (at_quantified {d = d} {V = Y} {s = s} {s' = s'} {s'' = s''} x y) = counted_then s.next s'.next s''.next (domain_spots es d) (type_spots es Y) (domain_counted x) (type_counted y)
       type_counted (at_family x) = family_counted x
       type_counted (at_type_ascribed x) = type_counted x
 
-      domain_counted : {D : List LfType} {d : WrittenDomain} {s s' : State} {A : LfType} → ElaboratesDomain es frees D d s s' A → s'.next ≡ s.next + total (domain_spots es false d)
+      domain_counted : {D : List LfType} {d : WrittenDomain} {s s' : State} {A : LfType} → ElaboratesDomain es frees D d s s' A → s'.next ≡ s.next + total (domain_spots es d)
       domain_counted (at_of_skeleton {t = t} {s = s} {s' = s'} n) = let h : s'.next ≡ s.next + indices es t = new_type_counted n in omega (arith, h)
       domain_counted (at_of_type x) = type_counted x
 
@@ -119,7 +118,7 @@ module _ (es : List Entry) where
       kind_counted : {D : List LfType} {k : WrittenKind} {s s' : State} {K : Kind} → ElaboratesKind es frees D k s s' K → s'.next ≡ s.next + total (kind_spots es k)
       kind_counted at_star = omega arith
       kind_counted (at_kind_arrow {U = X} {k = k} {s = s} {s' = s'} {s'' = s''} x y) = counted_then s.next s'.next s''.next (type_spots es X) (kind_spots es k) (type_counted x) (kind_counted y)
-      kind_counted (at_kind_quantified {d = d} {k = k} {s = s} {s' = s'} {s'' = s''} x y) = counted_then s.next s'.next s''.next (domain_spots es false d) (kind_spots es k) (domain_counted x) (kind_counted y)
+      kind_counted (at_kind_quantified {d = d} {k = k} {s = s} {s' = s'} {s'' = s''} x y) = counted_then s.next s'.next s''.next (domain_spots es d) (kind_spots es k) (domain_counted x) (kind_counted y)
 
     body_counted : (s s' : State) (w : WrittenBody) (b : Body) → ElaboratesBody es frees w s s' b → s'.next ≡ s.next + total (body_spots es w)
     body_counted s s' (written_family k) (declare_family K) x = kind_counted x

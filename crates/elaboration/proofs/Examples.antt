@@ -33,7 +33,7 @@ equations_all A x = (let p : full_behind ≡ full_unequated = (type_once entries
     no e = cc
 
 pub hole_raised : HoleIsRaised
-hole_raised = at_quantified (at_of_skeleton (new_atom refl takes_all)) (at_family (at_family_applied (at_family_name refl refl kind_takes_none) (checks_function refl (checks_hole refl))))
+hole_raised = at_quantified (at_of_skeleton (new_atom refl takes_all)) (at_family (at_family_applied (at_family_name refl refl kind_takes_none) (checks_function (at_of_skeleton (new_atom refl takes_all)) refl (checks_hole refl))))
 
 pub short_expanded : ShortIsExpanded
 short_expanded = at_family (at_family_applied (at_family_name refl refl kind_takes_none) (checks_inferred tt (at_constant refl refl takes_none) refl))
@@ -88,13 +88,10 @@ backward_sites = record {
 one_in_order : (s : Site) → IsSortedBy is_site_before (s ∷ [])
 one_in_order s k d l h = absurd (omega arith)
 
-none_in_order : IsSortedBy is_site_before []
-none_in_order k d l h = absurd (omega arith)
-
 pub untyped_site : UntypedHasSite
 untyped_site = (
   record { sorted = at_column 5 0 ∷ []; all = record { moves = []; below = tt; is = refl }; in_order = one_in_order (at_column 5 0); are = refl },
-  record { sorted = []; all = record { moves = []; below = tt; is = refl }; in_order = none_in_order; are = refl },
+  record { sorted = at_column 5 0 ∷ []; all = record { moves = []; below = tt; is = refl }; in_order = one_in_order (at_column 5 0); are = refl },
 )
 
 two_in_order : IsSortedBy is_site_before (at_column 10 1 ∷ at_column 12 0 ∷ [])

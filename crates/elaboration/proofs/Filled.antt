@@ -18,7 +18,7 @@ use Rattle.unification.proofs.Filling.{Filled-single, fill_rename_type, fill_sub
 use Rattle.unification.proofs.OpenSound.{PartialInstance-of, fill_typed, fill_typed_type}
 use Rattle.unification.proofs.OpenTypes.{fill_kind, fill_typed_kind}
 use Rattle.unification.proofs.Patterns.{fill_add, fill_expand}
-use Rattle.elaboration.specs.Elaboration.{Checks, ElaboratesDomain, ElaboratesFamily, ElaboratesKind, ElaboratesType, Infers, KindTakesNew, TakesNew, takes_none, takes_next, kind_takes_none, kind_takes_next, at_free, at_bound, at_constant, at_definition, at_hole, at_function, at_applied, at_ascribed, checks_hole, checks_function, checks_typed, checks_inferred, at_type_hole, at_arrow, at_quantified, at_family, at_type_ascribed, at_of_skeleton, at_of_type, at_family_name, at_family_applied, at_family_ascribed, at_star, at_kind_arrow, at_kind_quantified}
+use Rattle.elaboration.specs.Elaboration.{Checks, ElaboratesDomain, ElaboratesFamily, ElaboratesKind, ElaboratesType, Infers, KindTakesNew, TakesNew, takes_none, takes_next, kind_takes_none, kind_takes_next, at_free, at_bound, at_constant, at_definition, at_hole, at_function, at_applied, at_ascribed, checks_hole, checks_function, checks_inferred, at_type_hole, at_arrow, at_quantified, at_family, at_type_ascribed, at_of_skeleton, at_of_type, at_family_name, at_family_applied, at_family_ascribed, at_star, at_kind_arrow, at_kind_quantified}
 use Rattle.elaboration.specs.Completions.{Completes, CompletesDomain, CompletesFamily, CompletesKind, CompletesType, FreeValue, KindTakesAny, TakesAny, any_next, any_none, applied_completed, arrow_completed, ascribed_completed, ascribed_type_completed, bound_completed, constant_completed, definition_completed, family_applied_completed, family_ascribed_completed, family_completed, family_name_completed, free_completed, function_completed, hole_completed, kind_any_next, kind_any_none, kind_arrow_completed, kind_quantified_completed, quantified_completed, skeleton_completed, star_completed, type_completed, type_hole_completed}
 use Rattle.elaboration.specs.Skeletons.{StateHasSkeletons}
 use Rattle.elaboration.specs.State.{State, kind_equations, type_equations, with_equations, with_metavariable}
@@ -240,16 +240,15 @@ module _ (es : List Entry) (canonical : IsCanonicalSignature es) (z : State) (zs
 
     pub checks_filled : {D : List LfType} {M : Written} {A : LfType} {s s' : State} {R : Term} → Checks es frees D M A s s' R → IsNumbered s → W s' → Locals D → IsOpen D A → T s → Completes es F values (E D) M (the_term D R) (the_type D A)
     checks_filled {D = D} (checks_hole {A = A} {s = s} e) n w l a t = hole_completed (skeleton_fill μ (under_locals D β) A ∙ sym e) (filled_type D A l a) (filled_term D (raised D A s.next) A l a (new_raised es canonical Ψ U h d D A s w))
-    checks_filled {D = D} (checks_function {A = A} e c) n w l (a, b) t = function_completed (skeleton_completed (skeleton_fill μ (under_locals D β) A ∙ sym e) (filled_type D A l a)) (checks_filled c n w (l, a) b t)
-    checks_filled {D = D} (checks_typed {U = V} {A = A} {B = B} {X = X} {s = s} {s' = s'} {s'' = s''} x p c) n w l (a, b) t =
-        let g : Grows s s' = type_adds es frees x n in
+    checks_filled {D = D} (checks_function {d = dom} {A = A} {B = B} {X = X} {s = s} {s' = s'} {s'' = s''} x p c) n w l (a, b) t =
+        let g : Grows s s' = domain_adds es frees x n in
         let fs : List Equation = type_equations Σ D X A in
         let i : Grows s' (with_equations fs s') = adds_equations fs s' g.numbered in
         let w₁ : W (with_equations fs s') = within_before es canonical Ψ U h d (with_equations fs s') s'' (checks_adds es frees c i.numbered) w in
         let w' : W s' = within_before es canonical Ψ U h d s' (with_equations fs s') i w₁ in
-        let (t', y) = type_typed es canonical Ψ U h d frees x n w' l t in
+        let (t', y) = domain_typed es canonical Ψ U h d frees x n w' l t in
         let q = (types_equated Σ ok Ψ U h d D l X A y a p (solved_new es canonical Ψ U h d fs s' w₁)).1 in
-        function_completed (type_completed (subst (CompletesType es F values (E D) V) (compared D X A s' l y a p w₁) (type_filled x n w' l t))) (checks_filled c i.numbered w (l, a) b (more_typed es canonical Ψ U h d fs s' q t'))
+        function_completed (subst (CompletesDomain es F values (E D) dom) (compared D X A s' l y a p w₁) (domain_filled x n w' l t)) (checks_filled c i.numbered w (l, a) b (more_typed es canonical Ψ U h d fs s' q t'))
     checks_filled {D = D} (checks_inferred {A = A} {X = X} {s = s} {s' = s'} v i p) n w l a t =
         let g : Grows s s' = infers_adds es frees i n in
         let w' : W s' = within_before es canonical Ψ U h d s' (with_equations (type_equations Σ D X A) s') (adds_equations (type_equations Σ D X A) s' g.numbered) w in

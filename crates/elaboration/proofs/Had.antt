@@ -13,7 +13,7 @@ use Rattle.lf.proofs.TypeLaws.{skeleton_renamed, skeleton_substituted}
 use Rattle.unification.specs.Offering.{raised}
 use Rattle.unification.specs.Patterns.{local_skeletons}
 use Rattle.unification.proofs.OpenSound.{skeleton_raise}
-use Rattle.elaboration.specs.Elaboration.{Checks, ElaboratesDomain, ElaboratesFamily, ElaboratesKind, ElaboratesType, Infers, KindTakesNew, NewFrees, NewType, TakesNew, takes_none, takes_next, kind_takes_none, kind_takes_next, new_atom, new_pi, no_frees, next_free, at_free, at_bound, at_constant, at_definition, at_hole, at_function, at_applied, at_ascribed, checks_hole, checks_function, checks_typed, checks_inferred, at_type_hole, at_arrow, at_quantified, at_family, at_type_ascribed, at_of_skeleton, at_of_type, at_family_name, at_family_applied, at_family_ascribed, at_star, at_kind_arrow, at_kind_quantified}
+use Rattle.elaboration.specs.Elaboration.{Checks, ElaboratesDomain, ElaboratesFamily, ElaboratesKind, ElaboratesType, Infers, KindTakesNew, NewFrees, NewType, TakesNew, takes_none, takes_next, kind_takes_none, kind_takes_next, new_atom, new_pi, no_frees, next_free, at_free, at_bound, at_constant, at_definition, at_hole, at_function, at_applied, at_ascribed, checks_hole, checks_function, checks_inferred, at_type_hole, at_arrow, at_quantified, at_family, at_type_ascribed, at_of_skeleton, at_of_type, at_family_name, at_family_applied, at_family_ascribed, at_star, at_kind_arrow, at_kind_quantified}
 use Rattle.elaboration.specs.Skeletons.{heads_of, StateHasSkeletons, TypeHasSkeletons}
 use Rattle.elaboration.specs.State.{State, type_equations, with_equations, with_metavariable}
 use Rattle.elaboration.specs.Written.{Written, WrittenDomain, WrittenKind, WrittenType, arrow, family, family_applied, family_ascribed, quantified, type_hole}
@@ -111,16 +111,15 @@ module _ (es : List Entry) (canonical : IsCanonicalSignature es) (fs : List Skel
 
       pub checks_had : {D : List LfType} {M : Written} {A : LfType} {s s' : State} {R : Term} → Checks es frees D M A s s' R → GoesOn s D → TypeHasSkeletons Σ s D A → WrittenHasSkeleton es fs (local_skeletons D []) M (skeleton A)
       checks_had {D = D} (checks_hole {A = A} {s = s} e) w a = (e, subst (SkeletonIsDeclared es) (sym e) (families_declared (heads_of Σ s) (local_skeletons D []) A a))
-      checks_had {D = D} (checks_function {A = A} {s = s} e c) w (a, b) = ((e, subst (SkeletonIsDeclared es) (sym e) (families_declared (heads_of Σ s) (local_skeletons D []) A a)), checks_had c (under s D A a w) b)
-      checks_had {D = D} (checks_typed {U = V} {A = A} {B = B} {X = X} {s = s} {s' = s'} t e c) w (a, b) =
-          let (k, x) = type_skeletons es canonical frees t w.state w.local in
-          let g : Grows s s' = type_adds es frees t w.state.numbered in
+      checks_had {D = D} (checks_function {d = d} {A = A} {B = B} {X = X} {s = s} {s' = s'} t e c) w (a, b) =
+          let (k, x) = domain_skeletons es canonical frees t w.state w.local in
+          let g : Grows s s' = domain_adds es frees t w.state.numbered in
           let w' : GoesOn s' D = behind s s' D g k w in
           let ab : TypeHasSkeletons Σ s' D (pi A B) = type_grows Σ ok s s' g D (pi A B) (a, b) in
           let s₁ : State = with_equations (type_equations Σ D X A) s' in
           let k₁ : StateHasSkeletons Σ s₁ = more_equations Σ ok (type_equations Σ D X A) s' (type_equations_have Σ ok s' D X A w'.local x ab.0 e) k in
           let w₁ : GoesOn s₁ D = behind s' s₁ D (adds_equations (type_equations Σ D X A) s' k.numbered) k₁ w' in
-          (subst (WrittenTypeHasSkeleton es fs (local_skeletons D []) V) e (type_had t w), checks_had c (under s₁ D A ab.0 w₁) ab.1)
+          (subst (DomainHasSkeleton es fs (local_skeletons D []) d) e (domain_had t w), checks_had c (under s₁ D A ab.0 w₁) ab.1)
       checks_had {D = D} (checks_inferred {M = M} n i e) w a = subst (WrittenHasSkeleton es fs (local_skeletons D []) M) e (infers_had i w)
 
       pub type_had : {D : List LfType} {V : WrittenType} {s s' : State} {A : LfType} → ElaboratesType es frees D V s s' A → GoesOn s D → WrittenTypeHasSkeleton es fs (local_skeletons D []) V (skeleton A)

@@ -10,7 +10,7 @@ use Rattle.lf.specs.Variables.{onto}
 use Rattle.lf.proofs.Decidability.{variable_type_unique}
 use Rattle.unification.specs.Offering.{raised}
 use Rattle.unification.specs.OpenTyping.{weaken_past}
-use Rattle.elaboration.specs.Elaboration.{Checks, ElaboratesDomain, ElaboratesFamily, ElaboratesKind, ElaboratesType, Infers, KindTakesNew, NewFrees, NewType, TakesAllNew, TakesNew, takes_none, takes_next, kind_takes_none, kind_takes_next, takes_all, takes_first, new_atom, new_pi, no_frees, next_free, at_free, at_bound, at_constant, at_definition, at_hole, at_function, at_applied, at_ascribed, checks_hole, checks_function, checks_typed, checks_inferred, at_type_hole, at_arrow, at_quantified, at_family, at_type_ascribed, at_of_skeleton, at_of_type, at_family_name, at_family_applied, at_family_ascribed, at_star, at_kind_arrow, at_kind_quantified}
+use Rattle.elaboration.specs.Elaboration.{Checks, ElaboratesDomain, ElaboratesFamily, ElaboratesKind, ElaboratesType, Infers, KindTakesNew, NewFrees, NewType, TakesAllNew, TakesNew, takes_none, takes_next, kind_takes_none, kind_takes_next, takes_all, takes_first, new_atom, new_pi, no_frees, next_free, at_free, at_bound, at_constant, at_definition, at_hole, at_function, at_applied, at_ascribed, checks_hole, checks_function, checks_inferred, at_type_hole, at_arrow, at_quantified, at_family, at_type_ascribed, at_of_skeleton, at_of_type, at_family_name, at_family_applied, at_family_ascribed, at_star, at_kind_arrow, at_kind_quantified}
 use Rattle.elaboration.specs.Laws.{ElaborationIsUnique}
 use Rattle.elaboration.specs.State.{State, kind_equations, type_equations, with_equations, with_metavariable}
 use Rattle.elaboration.specs.Written.{Written, WrittenDomain, WrittenKind, WrittenType, family, family_applied}
@@ -115,18 +115,15 @@ module _ (es : List Entry) where
 
       pub checks_once : {D : List LfType} {M : Written} {A : LfType} {s s' s'' : State} {R R' : Term} → Checks es frees D M A s s' R → Checks es frees D M A s s'' R' → SameMade s' R s'' R'
       checks_once (checks_hole e) (checks_hole e') = (refl, refl)
-      checks_once (checks_function e c) (checks_function e' c') = let (p, q) = checks_once c c' in (p, ap lambda q)
-      checks_once {D = D} (checks_typed {M = M} {A = A} {B = B} {s' = s'} t e c) (checks_typed {X = X} {R = T} {s' = z} {s'' = z'} t' e' c') =
-          let (p, q) = type_once t t' in
+      checks_once {D = D} (checks_function {M = M} {A = A} {B = B} {s' = s'} t e c) (checks_function {X = X} {R = T} {s' = z} {s'' = z'} t' e' c') =
+          let (p, q) = domain_once t t' in
           let (j, k) = checks_once c (subst (λ x. Checks es frees (A ∷ D) M B (with_equations (type_equations (signature_of es) D x A) s') z' T) (sym q) (subst (λ v. Checks es frees (A ∷ D) M B (with_equations (type_equations (signature_of es) D X A) v) z' T) (sym p) c')) in
           (j, ap lambda k)
       checks_once {D = D} (checks_inferred {A = A} n i e) (checks_inferred n' i' e') = let (p, q, r) = infers_once i i' in (ap₂ (λ x y. with_equations (type_equations (signature_of es) D x A) y) r p, q)
       checks_once (checks_hole e) (checks_inferred n i e') = absurd n
-      checks_once (checks_function e c) (checks_inferred n i e') = absurd n
-      checks_once (checks_typed t e c) (checks_inferred n i e') = absurd n
+      checks_once (checks_function t e c) (checks_inferred n i e') = absurd n
       checks_once (checks_inferred n i e) (checks_hole e') = absurd n
-      checks_once (checks_inferred n i e) (checks_function e' c) = absurd n
-      checks_once (checks_inferred n i e) (checks_typed t e' c) = absurd n
+      checks_once (checks_inferred n i e) (checks_function t e' c) = absurd n
 
       pub type_once : {D : List LfType} {V : WrittenType} {s s' s'' : State} {A A' : LfType} → ElaboratesType es frees D V s s' A → ElaboratesType es frees D V s s'' A' → SameMade s' A s'' A'
       type_once (at_type_hole t) (at_type_hole t') = new_type_once t t'

@@ -17,7 +17,7 @@ use Rattle.lf.proofs.SkeletonTypes.{renaming_keeps_types_by_skeletons, single_ki
 use Rattle.lf.proofs.SkeletonTyping.{reduction_keeps_skeletons, renaming_by_skeletons_under_binder, renaming_keeps_skeletons, renaming_keeps_spine_skeletons, single_by_skeletons, substitution_keeps_skeletons}
 use Rattle.lf.proofs.ToSkeletons.{kind_by_skeletons_with, kind_skeleton_substituted, type_by_skeletons_with, typed_has_skeleton_with}
 use Rattle.lf.proofs.TypeLaws.{skeleton_renamed, skeleton_substituted}
-use Rattle.elaboration.specs.Elaboration.{Checks, ElaboratesDomain, ElaboratesFamily, ElaboratesKind, ElaboratesType, Infers, KindTakesNew, NewFrees, NewType, TakesAllNew, TakesNew, takes_none, takes_next, kind_takes_none, kind_takes_next, takes_all, takes_first, new_atom, new_pi, no_frees, next_free, at_free, at_bound, at_constant, at_definition, at_hole, at_function, at_applied, at_ascribed, checks_hole, checks_function, checks_typed, checks_inferred, at_type_hole, at_arrow, at_quantified, at_family, at_type_ascribed, at_of_skeleton, at_of_type, at_family_name, at_family_applied, at_family_ascribed, at_star, at_kind_arrow, at_kind_quantified}
+use Rattle.elaboration.specs.Elaboration.{Checks, ElaboratesDomain, ElaboratesFamily, ElaboratesKind, ElaboratesType, Infers, KindTakesNew, NewFrees, NewType, TakesAllNew, TakesNew, takes_none, takes_next, kind_takes_none, kind_takes_next, takes_all, takes_first, new_atom, new_pi, no_frees, next_free, at_free, at_bound, at_constant, at_definition, at_hole, at_function, at_applied, at_ascribed, checks_hole, checks_function, checks_inferred, at_type_hole, at_arrow, at_quantified, at_family, at_type_ascribed, at_of_skeleton, at_of_type, at_family_name, at_family_applied, at_family_ascribed, at_star, at_kind_arrow, at_kind_quantified}
 use Rattle.elaboration.specs.Skeletons.{EquationsHaveSkeletons, IsNumbered, KindHasSkeletons, LocalHasSkeletons, StateHasSkeletons, TermHasSkeleton, TypeHasSkeletons, heads_of}
 use Rattle.elaboration.specs.State.{State, index_equations, kind_equations, nothing_yet, type_equations, with_equations, with_metavariable}
 use Rattle.elaboration.specs.Written.{Written, WrittenDomain, WrittenKind, WrittenType}
@@ -393,10 +393,9 @@ module _ (es : List Entry) (canonical : IsCanonicalSignature es) where
 
       pub checks_skeletons : {D : List LfType} {M : Written} {A : LfType} {s s' : State} {R : Term} → Checks es frees D M A s s' R → StateHasSkeletons Σ s → LocalHasSkeletons Σ s D → TypeHasSkeletons Σ s D A → StateHasSkeletons Σ s' × TermHasSkeleton Σ s' D R A
       checks_skeletons {D = D} (checks_hole {A = A} {s = s} e) w l a = (new_state Σ ok D A s w l a, raised_skeleton Σ ok D A s)
-      checks_skeletons {D = D} (checks_function e c) w l (a, b) = checks_skeletons c w (l, a) b
-      checks_skeletons {D = D} (checks_typed {A = A} {B = B} {X = X} {R = R} {s = s} {s' = s'} {s'' = s''} t p c) w l (a, b) =
-          let (w', x) = type_skeletons t w l in
-          let g : Grows s s' = type_adds es frees t w.numbered in
+      checks_skeletons {D = D} (checks_function {A = A} {B = B} {X = X} {R = R} {s = s} {s' = s'} {s'' = s''} t p c) w l (a, b) =
+          let (w', x) = domain_skeletons t w l in
+          let g : Grows s s' = domain_adds es frees t w.numbered in
           let ab : TypeHasSkeletons Σ s' D (pi A B) = type_grows Σ ok s s' g D (pi A B) (a, b) in
           checks_skeletons c (more_equations Σ ok (type_equations Σ D X A) s' (type_equations_have Σ ok s' D X A (local_grows Σ ok s s' g D l) x ab.0 p) w') (local_grows Σ ok s s' g D l, ab.0) ab.1
       checks_skeletons {D = D} (checks_inferred {A = A} {X = X} {R = R} {s = s} {s' = s'} n i p) w l a =

@@ -15,7 +15,7 @@ use Rattle.unification.specs.Offering.{raised}
 use Rattle.unification.specs.OpenTyping.{weaken_past}
 use Rattle.unification.specs.Patterns.{local_skeletons}
 use Rattle.unification.proofs.OpenSound.{skeleton_raise}
-use Rattle.elaboration.specs.Elaboration.{Checks, ElaboratesDomain, ElaboratesFamily, ElaboratesKind, ElaboratesType, Infers, IsInferred, KindTakesNew, NewType, TakesAllNew, TakesNew, takes_none, takes_next, kind_takes_none, kind_takes_next, takes_all, takes_first, new_atom, new_pi, at_free, at_bound, at_constant, at_definition, at_hole, at_function, at_applied, at_ascribed, checks_hole, checks_function, checks_typed, checks_inferred, at_type_hole, at_arrow, at_quantified, at_family, at_type_ascribed, at_of_skeleton, at_of_type, at_family_name, at_family_applied, at_family_ascribed, at_star, at_kind_arrow, at_kind_quantified}
+use Rattle.elaboration.specs.Elaboration.{Checks, ElaboratesDomain, ElaboratesFamily, ElaboratesKind, ElaboratesType, Infers, IsInferred, KindTakesNew, NewType, TakesAllNew, TakesNew, takes_none, takes_next, kind_takes_none, kind_takes_next, takes_all, takes_first, new_atom, new_pi, at_free, at_bound, at_constant, at_definition, at_hole, at_function, at_applied, at_ascribed, checks_hole, checks_function, checks_inferred, at_type_hole, at_arrow, at_quantified, at_family, at_type_ascribed, at_of_skeleton, at_of_type, at_family_name, at_family_applied, at_family_ascribed, at_star, at_kind_arrow, at_kind_quantified}
 use Rattle.elaboration.specs.Skeletons.{KindHasSkeletons, StateHasSkeletons, TermHasSkeleton, TypeHasSkeletons}
 use Rattle.elaboration.specs.State.{State, kind_equations, type_equations, with_equations, with_metavariable}
 use Rattle.elaboration.specs.Written.{Place, Written, WrittenDomain, WrittenKind, WrittenType, applied, arrow, ascribed, bound, declared, family, family_applied, family_ascribed, free, function, hole, kind_arrow, kind_quantified, of_skeleton, of_type, quantified, type_hole, written_star}
@@ -180,23 +180,19 @@ module _ (es : List Entry) (canonical : IsCanonicalSignature es) (fs : List Skel
       let (s'', R, B, z, i) = g (A ∷ D) s' b (stands_under s' D A y (stands_behind s s' D (domain_adds es frees x w.state.numbered) k w)) (subst (λ v. WrittenHasSkeleton es fs (v ∷ local_skeletons D []) M b) (sym e) h.1) in
       (s'', lambda R, pi A B, at_function x z, ap₂ arrow_skeleton e i)
 
-  function_checked : (u : Skeleton) (at : Place) (M : Written) → AllChecked M → AllChecked (function (of_skeleton u at) M)
-  function_checked u at M g D s (atom a S) w x h = absurd h
-  function_checked u at M g D s (pi A B) w x h = let (s', R, c) = g (A ∷ D) s B (stands_under s D A x.0 w) x.1 h.1 in (s', lambda R, checks_function h.0.0 c)
-
-  typed_function_checked : (V : WrittenType) (M : Written) → AllTypes V → AllChecked M → AllChecked (function (of_type V) M)
-  typed_function_checked V M f g D s (atom a S) w x h = absurd h
-  typed_function_checked V M f g D s (pi A B) w x h =
+  function_checked : (d : WrittenDomain) (M : Written) → AllDomains d → AllChecked M → AllChecked (function d M)
+  function_checked d M f g D s (atom a S) w x h = absurd h
+  function_checked d M f g D s (pi A B) w x h =
       let (s', X, y, e) = f D s (skeleton A) w h.0 in
-      let (k, z) = type_skeletons es canonical frees y w.state w.local in
-      let i : Grows s s' = type_adds es frees y w.state.numbered in
+      let (k, z) = domain_skeletons es canonical frees y w.state w.local in
+      let i : Grows s s' = domain_adds es frees y w.state.numbered in
       let w' : GoesOn s' D = stands_behind s s' D i k w in
       let ab : TypeHasSkeletons Σ s' D (pi A B) = type_grows Σ ok s s' i D (pi A B) x in
       let s₁ : State = with_equations (type_equations Σ D X A) s' in
       let k₁ : StateHasSkeletons Σ s₁ = more_equations Σ ok (type_equations Σ D X A) s' (type_equations_have Σ ok s' D X A w'.local z ab.0 e) k in
       let w₁ : GoesOn s₁ D = stands_behind s' s₁ D (adds_equations (type_equations Σ D X A) s' k.numbered) k₁ w' in
       let (s'', R, c) = g (A ∷ D) s₁ B (stands_under s₁ D A ab.0 w₁) ab.1 h.1 in
-      (s'', lambda R, checks_typed y e c)
+      (s'', lambda R, checks_function y e c)
 
   -- types under a binder
   quantified_total : (d : WrittenDomain) (V : WrittenType) → AllDomains d → AllTypes V → AllTypes (quantified d V)
@@ -282,11 +278,11 @@ module _ (es : List Entry) (canonical : IsCanonicalSignature es) (fs : List Skel
     )
     term_total (function (of_skeleton u at) M) =
         let m : AllInferred M × AllChecked M = term_total M in
-        (function_inferred (of_skeleton u at) M (skeleton_domain u at) m.0, function_checked u at M m.1)
+        (function_inferred (of_skeleton u at) M (skeleton_domain u at) m.0, function_checked (of_skeleton u at) M (skeleton_domain u at) m.1)
     term_total (function (of_type V) M) =
         let m : AllInferred M × AllChecked M = term_total M in
         let v : AllTypes V × AllFamilies V = type_total V in
-        (function_inferred (of_type V) M (type_domain V v.0) m.0, typed_function_checked V M v.0 m.1)
+        (function_inferred (of_type V) M (type_domain V v.0) m.0, function_checked (of_type V) M (type_domain V v.0) m.1)
     term_total (applied M P) =
         let m : AllInferred M × AllChecked M = term_total M in
         let p : AllInferred P × AllChecked P = term_total P in

@@ -18,7 +18,7 @@ use Rattle.unification.proofs.OpenEta.{Exact, Into-weak, OpenIsType-rename, exac
 use Rattle.unification.proofs.OpenSound.{skeleton_raise}
 use Rattle.unification.proofs.RigidSteps.{solves_rest}
 use Rattle.unification.proofs.SubstitutionUpTo.{reduction_typed, term_instance_typed}
-use Rattle.elaboration.specs.Elaboration.{Checks, ElaboratesDomain, ElaboratesFamily, ElaboratesKind, ElaboratesType, Infers, KindTakesNew, NewFrees, NewType, TakesAllNew, TakesNew, takes_none, takes_next, kind_takes_none, kind_takes_next, takes_all, takes_first, new_atom, new_pi, no_frees, next_free, at_free, at_bound, at_constant, at_definition, at_hole, at_function, at_applied, at_ascribed, checks_hole, checks_function, checks_typed, checks_inferred, at_type_hole, at_arrow, at_quantified, at_family, at_type_ascribed, at_of_skeleton, at_of_type, at_family_name, at_family_applied, at_family_ascribed, at_star, at_kind_arrow, at_kind_quantified}
+use Rattle.elaboration.specs.Elaboration.{Checks, ElaboratesDomain, ElaboratesFamily, ElaboratesKind, ElaboratesType, Infers, KindTakesNew, NewFrees, NewType, TakesAllNew, TakesNew, takes_none, takes_next, kind_takes_none, kind_takes_next, takes_all, takes_first, new_atom, new_pi, no_frees, next_free, at_free, at_bound, at_constant, at_definition, at_hole, at_function, at_applied, at_ascribed, checks_hole, checks_function, checks_inferred, at_type_hole, at_arrow, at_quantified, at_family, at_type_ascribed, at_of_skeleton, at_of_type, at_family_name, at_family_applied, at_family_ascribed, at_star, at_kind_arrow, at_kind_quantified}
 use Rattle.elaboration.specs.Skeletons.{IsNumbered}
 use Rattle.elaboration.specs.Kinds.{OpenIsKind}
 use Rattle.elaboration.specs.State.{State, kind_equations, nothing_yet, type_equations, with_equations, with_metavariable}
@@ -174,12 +174,11 @@ module _ (es : List Entry) (canonical : IsCanonicalSignature es) (Ψ : ℕ → O
 
       pub checks_typed_up_to : {D : List LfType} {M : Written} {A : LfType} {s s' : State} {R : Term} → Checks es frees D M A s s' R → IsNumbered s → Within s' → IsOpenContext D → IsOpen D A → StateIsTyped s → StateIsTyped s' × HasOpen D R A
       checks_typed_up_to {D = D} (checks_hole {A = A} {s = s} e) n w l a t = (new_typed D A s l a t, new_raised D A s w)
-      checks_typed_up_to (checks_function e c) n w l (a, b) t = checks_typed_up_to c n w (l, a) b t
-      checks_typed_up_to {D = D} (checks_typed {A = A} {B = B} {X = X} {s = s} {s' = s'} {s'' = s''} x p c) n w l (a, b) t =
-          let g : Grows s s' = type_adds es frees x n in
+      checks_typed_up_to {D = D} (checks_function {A = A} {B = B} {X = X} {s = s} {s' = s'} {s'' = s''} x p c) n w l (a, b) t =
+          let g : Grows s s' = domain_adds es frees x n in
           let h : Grows s' (with_equations (type_equations Σ D X A) s') = adds_equations (type_equations Σ D X A) s' g.numbered in
           let w₁ : Within (with_equations (type_equations Σ D X A) s') = within_before (with_equations (type_equations Σ D X A) s') s'' (checks_adds es frees c h.numbered) w in
-          let (t', y) = type_typed x n (within_before s' (with_equations (type_equations Σ D X A) s') h w₁) l t in
+          let (t', y) = domain_typed x n (within_before s' (with_equations (type_equations Σ D X A) s') h w₁) l t in
           let (s₀, q) = types_equated Σ ok Ψ U half declared D l X A y a p (solved_new (type_equations Σ D X A) s' w₁) in
           checks_typed_up_to c h.numbered w (l, a) b (more_typed (type_equations Σ D X A) s' q t')
       checks_typed_up_to {D = D} (checks_inferred {A = A} {X = X} {R = R} {s = s} {s' = s'} z i p) n w l a t =

@@ -32,7 +32,7 @@ pub data TakesAllNew : List LfType → Kind → State → State → Spine → Ty
   takes_first : {D : List LfType} {A : LfType} {K : Kind} {s s' : State} {S : Spine} →
       TakesAllNew D (instantiate_kind A (raised D A s.next) K) (with_metavariable D A s) s' S → TakesAllNew D (kind_pi A K) s s' (app (raised D A s.next) S)
 
--- a term is inferred: neither a hole nor a function, whose types come from outside where one is expected
+-- a term is inferred: neither a hole nor a function, which an expected type tells what they are
 abbrev pub IsInferred : Written → Type 0
 IsInferred (hole t at) = ⊥
 IsInferred (function d M) = ⊥
@@ -71,9 +71,9 @@ module _ (es : List Entry) where
       -- a term is made one of an expected type
       pub data Checks : List LfType → Written → LfType → State → State → Term → Type 0 where
         checks_hole : {D : List LfType} {at : Place} {t : Skeleton} {A : LfType} {s : State} → t ≡ skeleton A → Checks D (hole t at) A s (with_metavariable D A s) (raised D A s.next)
-        checks_function : {D : List LfType} {at : Place} {t : Skeleton} {M : Written} {A B : LfType} {R : Term} {s s' : State} → t ≡ skeleton A → Checks (A ∷ D) M B s s' R → Checks D (function (of_skeleton t at) M) (pi A B) s s' (lambda R)
-        checks_typed : {D : List LfType} {U : WrittenType} {M : Written} {A B X : LfType} {R : Term} {s s' s'' : State} →
-            ElaboratesType D U s s' X → skeleton X ≡ skeleton A → Checks (A ∷ D) M B (with_equations (type_equations (signature_of es) D X A) s') s'' R → Checks D (function (of_type U) M) (pi A B) s s'' (lambda R)
+        -- the type at a binder, written or not, is the expected one
+        checks_function : {D : List LfType} {d : WrittenDomain} {M : Written} {A B X : LfType} {R : Term} {s s' s'' : State} →
+            ElaboratesDomain D d s s' X → skeleton X ≡ skeleton A → Checks (A ∷ D) M B (with_equations (type_equations (signature_of es) D X A) s') s'' R → Checks D (function d M) (pi A B) s s'' (lambda R)
         checks_inferred : {D : List LfType} {M : Written} {A X : LfType} {R : Term} {s s' : State} →
             IsInferred M → Infers D M s s' R X → skeleton X ≡ skeleton A → Checks D M A s (with_equations (type_equations (signature_of es) D X A) s') R
 

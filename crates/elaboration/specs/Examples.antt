@@ -142,7 +142,7 @@ written_backward = written_constant (arrow (family_applied (family 6 (column 14)
 abbrev pub BackwardHasSites : Type 0
 BackwardHasSites = AreSites entries (base 4 ∷ []) written_backward (3 ∷ 2 ∷ 0 ∷ 1 ∷ [])
 
--- i = [x] x: the type of x, a vector, leaves its length open. At the type vec z -> vec z it leaves nothing open.
+-- i = [x] x: the type of x, a vector, leaves its length open. At the type vec z -> vec z it does so too, and an equation says what the length is.
 abbrev pub written_identity : Written
 written_identity = function (of_skeleton (base 4) (column 5)) (bound 0)
 
@@ -150,7 +150,7 @@ abbrev pub vec_z : WrittenType
 vec_z = family_applied (family 4 (column 5)) (declared 1 (column 9))
 
 abbrev pub UntypedHasSite : Type 0
-UntypedHasSite = AreSites entries [] (written_definition written_identity false) (0 ∷ []) × AreSites entries [] (written_definition_of written_identity (arrow vec_z vec_z) false) []
+UntypedHasSite = AreSites entries [] (written_definition written_identity false) (0 ∷ []) × AreSites entries [] (written_definition_of written_identity (arrow vec_z vec_z) false) (0 ∷ [])
 
 -- c : plus Y X X <- vec Y, where X is free variable 0 and Y is 1
 abbrev pub FreesInOrder : Type 0

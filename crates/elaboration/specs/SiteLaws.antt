@@ -20,7 +20,7 @@ MetavariablesAreCounted = (es : List Entry) (frees : List ℕ) (D : List LfType)
     ((M : Written) (R : Term) (A : LfType) → Infers es frees D M s s' R A → s'.next ≡ s.next + total (term_spots es false M))
     × ((M : Written) (A : LfType) (R : Term) → Checks es frees D M A s s' R → s'.next ≡ s.next + total (term_spots es true M))
     × ((U : WrittenType) (A : LfType) → ElaboratesType es frees D U s s' A → s'.next ≡ s.next + total (type_spots es U))
-    × ((d : WrittenDomain) (A : LfType) → ElaboratesDomain es frees D d s s' A → s'.next ≡ s.next + total (domain_spots es false d))
+    × ((d : WrittenDomain) (A : LfType) → ElaboratesDomain es frees D d s s' A → s'.next ≡ s.next + total (domain_spots es d))
     × ((U : WrittenType) (a : ℕ) (S : Spine) (K : Kind) → ElaboratesFamily es frees D U s s' a S K → s'.next ≡ s.next + total (type_spots es U))
     × ((k : WrittenKind) (K : Kind) → ElaboratesKind es frees D k s s' K → s'.next ≡ s.next + total (kind_spots es k))
 

@@ -38,26 +38,25 @@ module _ (es : List Entry) where
   skeleton_spots at t = record { at = Some at; count = indices t } ∷ []
 
   abbrev mutual
-    -- In a term, in the order in which they are made; `expected` tells whether the type is given from outside, so that nothing of it is left open.
+    -- In a term, in the order in which they are made; `expected` tells whether the type is given from outside, so that a hole leaves nothing of it open.
     pub term_spots : Bool → Written → List Spot
     term_spots expected (free i at) = []
     term_spots expected (bound i) = []
     term_spots expected (declared c at) = name_spots c at
     term_spots true (hole t at) = record { at = Some at; count = 1 } ∷ []
     term_spots false (hole t at) = record { at = Some at; count = suc (indices t) } ∷ []
-    term_spots expected (function d M) = domain_spots expected d ++ term_spots expected M
+    term_spots expected (function d M) = domain_spots d ++ term_spots expected M
     term_spots expected (applied M P) = term_spots false M ++ term_spots true P
     term_spots expected (ascribed M U) = type_spots U ++ term_spots true M
 
-    pub domain_spots : Bool → WrittenDomain → List Spot
-    domain_spots true (of_skeleton t at) = []
-    domain_spots false (of_skeleton t at) = skeleton_spots at t
-    domain_spots expected (of_type U) = type_spots U
+    pub domain_spots : WrittenDomain → List Spot
+    domain_spots (of_skeleton t at) = skeleton_spots at t
+    domain_spots (of_type U) = type_spots U
 
     pub type_spots : WrittenType → List Spot
     type_spots (type_hole t at) = skeleton_spots at t
     type_spots (arrow U V) = type_spots U ++ type_spots V
-    type_spots (quantified d V) = domain_spots false d ++ type_spots V
+    type_spots (quantified d V) = domain_spots d ++ type_spots V
     type_spots (family a at) = name_spots a at
     type_spots (family_applied U P) = type_spots U ++ term_spots true P
     type_spots (family_ascribed U k) = kind_spots k ++ type_spots U
@@ -65,7 +64,7 @@ module _ (es : List Entry) where
     pub kind_spots : WrittenKind → List Spot
     kind_spots written_star = []
     kind_spots (kind_arrow U k) = type_spots U ++ kind_spots k
-    kind_spots (kind_quantified d k) = domain_spots false d ++ kind_spots k
+    kind_spots (kind_quantified d k) = domain_spots d ++ kind_spots k
 
   abbrev pub body_spots : WrittenBody → List Spot
   body_spots (written_family k) = kind_spots k

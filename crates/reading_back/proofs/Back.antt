@@ -5,6 +5,7 @@ use Rattle.lf.specs.Entries.{Entry, Body, declare_family, declare_constant, decl
 use Rattle.lf.proofs.Entries.{canonical_is_signature}
 use Rattle.tw_explicit.specs.Completion.{BodyGiven, hints}
 use Rattle.tw_lexer.specs.Tokens.{ThroughDot}
+use Rattle.tw_lexer.specs.declared.token.Token.{Token}
 use Rattle.tw_parse.specs.Outlines.{Table, Shapes, declares, Sequence}
 use Rattle.tw_parse.specs.Readings.{Declares, declared}
 use Rattle.tw_parse.specs.Syntax as syntax
@@ -18,7 +19,7 @@ use Rattle.reading_back.specs.Legible.{IsWhole, IsLegible}
 use Rattle.reading_back.specs.Names.{EachIs, IsPlainByte, IsName}
 use Rattle.reading_back.specs.Sketches.{Sketch, classifier_sketch}
 use Rattle.reading_back.specs.Spelling.{Spells, IsUnhidden}
-use Rattle.reading_back.specs.Tokens.{BeginWith}
+use Rattle.reading_back.specs.Tokens.{BeginWith, AreTokens}
 use Rattle.reading_back.proofs.Explicit.{given_is_explicit}
 use Rattle.reading_back.proofs.Kept.{good_name, good_leading, classifier_kept, classifier_open}
 use Rattle.reading_back.proofs.Laying.{same_pieces, classifier_is}
@@ -45,15 +46,21 @@ line_spaced : (table : Table) (t : Sketch) (name : List ℕ) → IsName name →
 unfolding before_dot
 line_spaced table t name n l = inr (word_of_name name n, refl, inl (colon, refl, subst (IsSpaced false) (append-nil (pieces t)) (pieces_flow table t l [] tt)))
 
+-- what is told of the tokens of a line
+abbrev pub IsLexed : List ℕ → ℕ → List Piece → Type 0
+IsLexed text from ls = (tokens : List Token) × ThroughDot text from tokens (from + length (render ls)) × AreTokens ls (lexemes text tokens)
+
+pub lexed_whole : (text after : List ℕ) (from : ℕ) (ps ls : List Piece) → ls ≡ ps ++ token (codes ".") ∷ [] → drop from text ≡ render ls ++ after
+    → ((upto : ℕ) → drop from text ≡ render ps ++ (46 ∷ after) → upto ≡ from + (length (render ps) + 1) → Lexed text from ps upto) → IsLexed text from ls
+lexed_whole text after from ps ls q e lex =
+    let r : render ls ≡ render ps ++ (46 ∷ []) = ap render q ∙ render_append ps (token (codes ".") ∷ []) in
+    let f : drop from text ≡ render ps ++ (46 ∷ after) = e ∙ ap (λ x. x ++ after) r ∙ append_assoc (render ps) (46 ∷ []) after in
+    let h = lex (from + length (render ls)) f (omega (arith, ap length r, length-append (render ps) (46 ∷ []))) in
+    (h.tokens, h.through, subst (λ ks. AreTokens ks (lexemes text h.tokens)) (sym q) h.are)
+
 pub line_lexed : LineIsLexed
 unfolding before_dot
-line_lexed table t name text after from n l e =
-    let ps = before_dot name t in
-    let r : render (line name t) ≡ render ps ++ (46 ∷ []) = render_append ps (token (codes ".") ∷ []) in
-    let f : drop from text ≡ render ps ++ (46 ∷ after) = e ∙ ap (λ x. x ++ after) r ∙ append_assoc (render ps) (46 ∷ []) after in
-    let h : Lexed text from ps (from + length (render (line name t))) =
-    lexed text ps false from (from + length (render (line name t))) after (line_spaced table t name n l) f (omega (arith, ap length r, length-append (render ps) (46 ∷ []))) in
-    (h.tokens, h.through, h.are)
+line_lexed table t name text after from n l e = lexed_whole text after from (before_dot name t) (line name t) refl e (λ upto f k. lexed text (before_dot name t) false from upto after (line_spaced table t name n l) f k)
 
 pub line_read : LineIsRead
 line_read table t name xs n l (x, r, e, w, b, (c, r', e', w', b', h)) = behind (split (pieces t) (token (codes ".") ∷ []) r' [] h)

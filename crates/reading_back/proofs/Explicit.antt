@@ -244,3 +244,15 @@ module _ (es : List Entry) where
   given_is_explicit c at U (declare_family K) o g = let k = kind_is U [] [] [] [] K none_alike o g in (k.unknown, k.form)
   given_is_explicit c at U (declare_constant A) o g = let k = type_is U [] [] [] [] A none_alike o g in (k.unknown, k.form)
   given_is_explicit c at U (declare_definition M A b) o g = absurd g
+
+  -- of a definition the type and the term
+  pub record IsDefined (U P : Term) : Type 0 where
+    pub unknown : unknown_names es [] U ++ unknown_names es [] P ≡ []
+    pub type_form : is_type_form es [] [] U ≡ true
+    pub term_form : is_term_form es [] [] P (written_shape U) ≡ true
+
+  pub given_is_defined : (U P : Term) (A : LfType) (R : LfTerm) → NamesOpen es [] U → NamesOpen es [] P → TypeGives es [] [] U A → TermGives es [] [] P A R → IsDefined U P
+  given_is_defined U P A R o q g h =
+      let k = type_is U [] [] [] [] A none_alike o g in
+      let l = term_is P [] [] [] [] A R none_alike q h in
+      record { unknown = no_names _ _ k.unknown l.unknown; type_form = k.form; term_form = ap (is_term_form es [] [] P) k.written ∙ l.form }

@@ -4,7 +4,8 @@ use Rattle.std.specs.Prelude.{nat_lt, if◌then◌else◌}
 use Rattle.std.specs.List.{slice_get}
 use Rattle.std.specs.FinMap as map
 use Rattle.lf.specs.Entries.{Entry, Body, declare_family, declare_constant, declare_definition, signature_of, BodyIsTyped}
-use Rattle.lf.specs.Syntax.{LfType}
+use Rattle.lf.specs.Syntax.{Term, LfType}
+use Rattle.lf.specs.Typing.{HasType, IsType}
 use Rattle.lf.specs.Variables.{target}
 use Rattle.lf.proofs.Entries.{canonical_is_signature}
 use Rattle.tw_parse.specs.Syntax as syntax
@@ -13,7 +14,7 @@ use Rattle.tw_print.specs.Names.{Scene, Preferences, fresh_name, lower_base, upp
 use Rattle.tw_print.specs.Shown.{hint_in, base_by, leading_base, nesting_limit}
 use Rattle.reading_back.specs.Laws.{IsOver, GivesClassifier, ClassifierIsKept, DefinedIsKept}
 use Rattle.reading_back.specs.Names.{IsName, PreferNames, HasGoodPreferences, AreGoodHints, HasRoom}
-use Rattle.reading_back.specs.Sketches.{classifier_sketch}
+use Rattle.reading_back.specs.Sketches.{classifier_sketch, defined_sketch}
 use Rattle.reading_back.specs.Spelling.{Spells, IsUnhidden}
 use Rattle.reading_back.proofs.Choosing.{chosen, upper_default, lower_default}
 use Rattle.reading_back.proofs.Openness.{NamesOpen}
@@ -82,3 +83,7 @@ classifier_open s es e U o t h u w = (kept_by s es o e.body e.implicit e.hints U
 
 pub definition_kept : DefinedIsKept
 definition_kept s es M A P o a m u w = (defined_kept s o.newer es o.entries o.canonical (canonical_is_signature es o.canonical) (fresh s es o) M A a m u P w).0
+
+pub definition_open : (s : Scene) (es : List Entry) (M : Term) (A : LfType) (P : syntax.Term) → IsOver s es → IsType (signature_of es) [] A → HasType (signature_of es) [] M A
+    → IsUnhidden s (defined_sketch s M A) → Spells (defined_sketch s M A) P → NamesOpen es [] P
+definition_open s es M A P o a m u w = (defined_kept s o.newer es o.entries o.canonical (canonical_is_signature es o.canonical) (fresh s es o) M A a m u P w).1

@@ -8,16 +8,18 @@ use Rattle.std.specs.Str.{bytes_eq}
 use Rattle.std.specs.Cmp.Lexicographic.{bytes_decides}
 use Rattle.tw_lexer.specs.Characters.{pieces_from, char_at, size_at}
 use Rattle.tw_lexer.specs.Classes.{class_of, is_plain, run_length}
+use Rattle.tw_lexer.specs.Comments.{sign_by_char}
 use Rattle.tw_lexer.specs.Laws.{Begins}
 use Rattle.tw_lexer.specs.Tokens as tokens
 use Rattle.tw_lexer.specs.Tokens.{between, first_token, ends, ThroughDot}
 use Rattle.tw_lexer.specs.declared.class.Class.{Class}
 use Rattle.tw_lexer.specs.declared.class.Class.TheVariants.{WhiteSpace, Mark, Plain}
+use Rattle.tw_lexer.specs.declared.comment.Sign.TheVariants as signs
 use Rattle.tw_lexer.specs.declared.token.Token.{Token}
 use Rattle.tw_lexer.specs.declared.token.TokenKind.{TokenKind}
-use Rattle.tw_lexer.specs.declared.token.TokenKind.TheVariants.{Ident, Colon, Dot, LParen, RParen, LBrace, RBrace, LBracket, RBracket}
+use Rattle.tw_lexer.specs.declared.token.TokenKind.TheVariants.{Ident, Keyword, Colon, Dot, LParen, RParen, LBrace, RBrace, LBracket, RBracket}
 use Rattle.tw_lexer.proofs.Pieces.{characters_are_utf8}
-use Rattle.tw_lexer.proofs.Finds.{seek, between-by, run-more, run-none}
+use Rattle.tw_lexer.proofs.Finds.{seek, between-by, percent-by, run-more, run-none, sign-at}
 use Rattle.tw_parse.specs.Words.{fixed_word, word_of, lexeme, lexemes}
 use Rattle.tw_print.specs.Pieces.{Piece, token, space, render}
 use Rattle.reading_back.specs.Names.{EachIs, IsPlainCharacter}
@@ -245,18 +247,48 @@ stopped (space ∷ ps) after h = record { byte = 32; rest = render ps ++ (46 ∷
 stopped (token t ∷ ps) after (inl (m, e, h)) = record { byte = byte_of m; rest = render ps ++ (46 ∷ after); stops = sign_stops m; is = ap (λ x. (x ++ render ps) ++ (46 ∷ after)) e }
 stopped (token t ∷ ps) after (inr (w, e, h)) = absurd cc
 
--- a word is no mark
-word_differs : (t : List ℕ) (b : ℕ) → IsWord t → IsStop b → t ≡ b ∷ [] → ⊥
-word_differs t b w s e =
+-- the keyword of an abbreviation
+percent_stops : IsStop 37
+unfolding encode_utf8
+percent_stops = record { scalar = refl; own = refl; stop = refl }
+
+letters_plain : EachIs IsPlainCharacter (codes "abbrev")
+letters_plain = (record { scalar = refl; plain = refl }, (record { scalar = refl; plain = refl }, (record { scalar = refl; plain = refl }, (record { scalar = refl; plain = refl }, (record { scalar = refl; plain = refl }, (record { scalar = refl; plain = refl }, tt))))))
+
+letters_own : encode_utf8_all (codes "abbrev") ≡ codes "abbrev"
+unfolding encode_utf8
+letters_own = refl
+
+letter_own : encode_utf8 97 ≡ 97 ∷ []
+unfolding encode_utf8
+letter_own = refl
+
+module _ (text : List ℕ) where
+  -- the first token where it stands, before a space
+  keyword_at : (i : ℕ) (rest : List ℕ) → drop i text ≡ codes "%abbrev" ++ (32 ∷ rest) → first_token text i ≡ Ok (tokens.token text Keyword i (i + 7))
+  keyword_at i rest e =
+      let h = one_byte text i 37 (codes "abbrev" ++ (32 ∷ rest)) percent_stops.scalar percent_stops.own e in
+      let j = i + length (encode_utf8 37) in
+      let a = one_byte text j 97 (codes "bbrev" ++ (32 ∷ rest)) refl letter_own h.behind in
+      let r : run_length (pieces_from text j) ≡ length (encode_utf8_all (codes "abbrev")) =
+      run_is text (codes "abbrev") j 32 rest letters_plain refl space_own refl (h.behind ∙ ap (λ xs. xs ++ (32 ∷ rest)) (sym letters_own)) in
+      let one : length (encode_utf8 37) ≡ 1 = ap length percent_stops.own in
+      let six : length (encode_utf8_all (codes "abbrev")) ≡ 6 = ap length letters_own in
+      percent-by text i j 37 signs.Word h.within (ap (λ n. i + n) (sym h.size)) h.char refl (sym (sign-at text j a.within ∙ ap sign_by_char a.char))
+      ∙ ap (λ u. Ok (tokens.token text Keyword i u)) (omega (arith, r, one, six))
+
+-- a word is no mark, and no such keyword
+word_differs : (t : List ℕ) (b : ℕ) (rest : List ℕ) → IsWord t → IsStop b → t ≡ b ∷ rest → ⊥
+word_differs t b rest w s e =
     let h = stands t 0 w.first (encode_utf8_all w.others) w.plain.0.scalar w.spelled in
-    let k = one_byte (b ∷ []) 0 b [] s.scalar s.own refl in
+    let k = one_byte (b ∷ rest) 0 b rest s.scalar s.own refl in
     let same : Some w.first ≡ Some b = sym h.char ∙ ap (λ x. char_at x 0) e ∙ k.char in
     let number : w.first ≡ b = cc in
     let q : is_plain (Some b) ≡ true = ap (λ x. is_plain (Some x)) (sym number) ∙ rw w.plain.0.plain refl in
     let clash : true ≡ false = sym q ∙ s.stop in cc
 
-differs : (t : List ℕ) (b : ℕ) → IsWord t → IsStop b → bytes_eq t (b ∷ []) ≡ false
-differs t b w s = unlike (bytes_eq t (b ∷ [])) (λ e. word_differs t b w s ((bytes_decides t (b ∷ [])).0 e))
+differs : (t : List ℕ) (b : ℕ) (rest : List ℕ) → IsWord t → IsStop b → bytes_eq t (b ∷ rest) ≡ false
+differs t b rest w s = unlike (bytes_eq t (b ∷ rest)) (λ e. word_differs t b rest w s ((bytes_decides t (b ∷ rest)).0 e))
   where
     unlike : (v : Bool) → (v ≡ true → ⊥) → v ≡ false
     unlike true h = absurd (h refl)
@@ -265,14 +297,15 @@ differs t b w s = unlike (bytes_eq t (b ∷ [])) (λ e. word_differs t b w s ((b
 pub word_is_fixed : (t : List ℕ) → IsWord t → token_word t ≡ fixed_word t
 word_is_fixed t w =
     rw (
-      differs t 40 w (sign_stops open_paren),
-      differs t 41 w (sign_stops close_paren),
-      differs t 123 w (sign_stops open_brace),
-      differs t 125 w (sign_stops close_brace),
-      differs t 91 w (sign_stops open_bracket),
-      differs t 93 w (sign_stops close_bracket),
-      differs t 58 w (sign_stops colon),
-      differs t 46 w dot_stops,
+      differs t 40 [] w (sign_stops open_paren),
+      differs t 41 [] w (sign_stops close_paren),
+      differs t 123 [] w (sign_stops open_brace),
+      differs t 125 [] w (sign_stops close_brace),
+      differs t 91 [] w (sign_stops open_bracket),
+      differs t 93 [] w (sign_stops close_bracket),
+      differs t 58 [] w (sign_stops colon),
+      differs t 46 [] w dot_stops,
+      differs t 37 (codes "abbrev") w percent_stops,
     ) refl
 
 take_append : (xs ys : List ℕ) → take (length xs) (xs ++ ys) ≡ xs
@@ -326,3 +359,10 @@ module _ (text : List ℕ) where
       let h = lexed ps true (from + length t) upto after s (drop_on text from t (render ps ++ (46 ∷ after)) f) (omega (arith, u, length-append t (render ps))) in
       one_more from (from + length t) Ident t ps upto (word_at text from t g.byte g.rest w g.stops.scalar g.stops.own g.stops.stop (f ∙ ap (λ x. t ++ x) g.is)) refl
       (sym (word_is_fixed t w)) (cut from t (render ps ++ (46 ∷ after)) f) h
+
+  -- the same behind the keyword of an abbreviation
+  pub keyword_lexed : (ps : List Piece) (from upto : ℕ) (after : List ℕ) → IsSpaced false ps → drop from text ≡ render (token (codes "%abbrev") ∷ space ∷ ps) ++ (46 ∷ after) → upto ≡ from + (length (render (token (codes "%abbrev") ∷ space ∷ ps)) + 1)
+      → Lexed from (token (codes "%abbrev") ∷ space ∷ ps) upto
+  keyword_lexed ps from upto after s e u =
+      let h = lexed (space ∷ ps) false (from + 7) upto after s (drop_on text from (codes "%abbrev") (32 ∷ (render ps ++ (46 ∷ after))) e) (omega (arith, u)) in
+      one_more from (from + 7) Keyword (codes "%abbrev") (space ∷ ps) upto (keyword_at text from (render ps ++ (46 ∷ after)) e) refl refl (cut from (codes "%abbrev") (32 ∷ (render ps ++ (46 ∷ after))) e) h

@@ -17,3 +17,4 @@ pub mod Fronts
 pub mod Reading
 pub mod Back
 pub mod Plainness
+pub mod Defined

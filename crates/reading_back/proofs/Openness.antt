@@ -1,5 +1,5 @@
 -- Written terms in which each constant that is named has no implicit arguments.
-use Rattle.std.proofs.Common.{◌≡◌, ℕ, zero, List, [], ◌∷◌, Some, None}
+use Rattle.std.proofs.Common.{◌≡◌, ℕ, zero, List, ◌∷◌, Some, None}
 use Rattle.lf.specs.Entries.{Entry, entry}
 use Rattle.lf.specs.Syntax.{constant}
 use Rattle.tw_explicit.specs.Scope.{binder_name, named}

@@ -12,10 +12,10 @@ use Rattle.tw_print.specs.Names.{Scene, name_in, is_plain, constant_word, head_w
 use Rattle.tw_print.specs.Pieces.{Piece, token, space, render, in_parentheses}
 use Rattle.tw_print.specs.Shown.{operand_count, quantifier_name, leading_name, nesting_limit}
 use Rattle.tw_print.specs.Variables.{occurs_in_type, occurs_in_kind}
-use Rattle.reading_back.specs.Layout.{Part, as_argument, as_operand, argument, operand, spaced, plain, operated, followed, laid, bracketed, pieces, parts, line}
+use Rattle.reading_back.specs.Layout.{Part, as_argument, as_operand, argument, operand, spaced, plain, operated, followed, laid, bracketed, pieces, parts, line, definition_line}
 use Rattle.reading_back.specs.Legible.{IsWhole, AreWhole}
 use Rattle.reading_back.specs.Names.{EachIs, IsPlainByte, HasNoImplicit}
-use Rattle.reading_back.specs.Sketches.{Manner, alone, row, operation, Sketch, Sketches, applied, arrow, quantified, abstracted, kind, too_deep, untyped, none, more, type_manner, quantified_by, sketches, root_sketch, atom_sketch, hand, leading_type_sketch, leading_kind_sketch, classifier_sketch}
+use Rattle.reading_back.specs.Sketches.{Manner, alone, row, operation, Sketch, Sketches, applied, arrow, quantified, abstracted, kind, too_deep, untyped, none, more, type_manner, quantified_by, sketches, root_sketch, atom_sketch, hand, leading_type_sketch, leading_kind_sketch, classifier_sketch, defined_sketch}
 use Rattle.reading_back.specs.Spelling.{IsOpen, IsUnhidden, AreUnhidden}
 
 -- a constant stands with its own word
@@ -241,3 +241,13 @@ module _ (s : Scene) (explicit : HasNoImplicit s) where
       let t = classifier_sketch s implicit hints b in
       let r = both (token name ∷ space ∷ token (codes ":") ∷ space ∷ pieces t) (token (codes ".") ∷ []) (bytes_of (line name t) h) in
       open_sketch t (classifier_faithful s implicit hints b) r.0.1.1
+
+  -- the same of a definition, behind the keyword
+  pub open_definition : (implicit : ℕ) (hints : List (Option (List ℕ))) (name : List ℕ) (b : Body) (M : Term) (A : LfType) → EachIs IsPlainByte (render (definition_line false name (classifier_sketch s implicit hints b) (defined_sketch s M A)))
+      → (IsUnhidden s (classifier_sketch s implicit hints b) × IsWhole (classifier_sketch s implicit hints b)) × (IsUnhidden s (defined_sketch s M A) × IsWhole (defined_sketch s M A))
+  open_definition implicit hints name b M A h =
+      let t = classifier_sketch s implicit hints b in
+      let u = defined_sketch s M A in
+      let r = both (token name ∷ space ∷ token (codes ":") ∷ space ∷ pieces t) ((space ∷ token (codes "=") ∷ space ∷ pieces u) ++ token (codes ".") ∷ []) (bytes_of (definition_line false name t u) h) in
+      let q = both (space ∷ token (codes "=") ∷ space ∷ pieces u) (token (codes ".") ∷ []) r.1 in
+      (open_sketch t (classifier_faithful s implicit hints b) r.0.1.1, open_sketch u ((faithful s nesting_limit).terms [] [] M (Some A)) q.0.1)

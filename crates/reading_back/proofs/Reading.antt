@@ -49,7 +49,7 @@ split (token t ∷ ps) qs xs behind (x, rest, e, w, b, h) =
     let s = split ps qs rest behind h in
     record { middle = s.middle; front = (x, rest, e, w, b, s.front); back = s.back }
 
-name_word : (x : List ℕ) → IsName x → token_word x ≡ words.Name
+pub name_word : (x : List ℕ) → IsName x → token_word x ≡ words.Name
 name_word x n = word_is_fixed x (word_of_name x n) ∙ n.free
 
 -- an atom, and with arguments behind it

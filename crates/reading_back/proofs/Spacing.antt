@@ -103,6 +103,10 @@ arrow_word : IsWord (codes "->")
 unfolding encode_utf8
 arrow_word = record { first = 45; others = 62 ∷ []; spelled = refl; plain = (record { scalar = refl; plain = refl }, (record { scalar = refl; plain = refl }, tt)) }
 
+pub equals_word : IsWord (codes "=")
+unfolding encode_utf8
+equals_word = record { first = 61; others = []; spelled = refl; plain = (record { scalar = refl; plain = refl }, tt) }
+
 type_word : IsWord (codes "type")
 unfolding encode_utf8
 type_word = record {

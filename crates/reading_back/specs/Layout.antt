@@ -1,5 +1,5 @@
 -- How a sketch is laid out: its tokens and spaces, with the parentheses that are put.
-use Rattle.std.specs.Prelude.{ℕ, List, [], ◌∷◌, ◌++◌, length, drop, nat_le, codes, Option, Some, None, cond}
+use Rattle.std.specs.Prelude.{ℕ, List, [], ◌∷◌, ◌++◌, length, drop, nat_le, codes, Option, Some, None, Bool, cond}
 use Rattle.tw_fixity.specs.declared.table.Fix.{Fix}
 use Rattle.tw_fixity.specs.declared.table.Fix.TheVariants.{Infix, Prefix, Postfix}
 use Rattle.tw_print.specs.Pieces.{Piece, token, space, in_parentheses}
@@ -75,3 +75,7 @@ abbrev mutual
 -- the line of a declared family or constant with this name
 abbrev pub line : List ℕ → Sketch → List Piece
 line name t = (token name ∷ space ∷ token (codes ":") ∷ space ∷ pieces t) ++ token (codes ".") ∷ []
+
+-- the line of a definition with this name, a type and a term at it, or of an abbreviation
+abbrev pub definition_line : Bool → List ℕ → Sketch → Sketch → List Piece
+definition_line b name t u = cond b (token (codes "%abbrev") ∷ space ∷ []) [] ++ ((token name ∷ space ∷ token (codes ":") ∷ space ∷ pieces t) ++ ((space ∷ token (codes "=") ∷ space ∷ pieces u) ++ token (codes ".") ∷ []))

@@ -3,7 +3,7 @@ use Rattle.std.specs.Prelude.{◌≡◌, ℕ, List, [], ◌∷◌, codes, if◌t
 use Rattle.std.specs.Str.{bytes_eq}
 use Rattle.tw_parse.specs.Words.{Lexeme, fixed_word}
 use Rattle.tw_parse.specs.declared.words.Word.{Word}
-use Rattle.tw_parse.specs.declared.words.Word.TheVariants.{Colon, Dot, LParen, RParen, LBrace, RBrace, LBracket, RBracket}
+use Rattle.tw_parse.specs.declared.words.Word.TheVariants.{Keyword, Colon, Dot, LParen, RParen, LBrace, RBrace, LBracket, RBracket}
 use Rattle.tw_print.specs.Pieces.{Piece, token, space}
 
 -- what the bytes of a token are in the grammar
@@ -17,6 +17,7 @@ token_word t =
     if bytes_eq t (codes "]") then RBracket else
     if bytes_eq t (codes ":") then Colon else
     if bytes_eq t (codes ".") then Dot else
+    if bytes_eq t (codes "%abbrev") then Keyword else
     fixed_word t
 
 -- the lexemes begin with the tokens of the pieces, one for each, wherever they stand, and the others stand behind them

@@ -4,10 +4,10 @@ use Rattle.lf.specs.Entries.{Entry, IsCanonicalSignature, signature_of}
 use Rattle.lf.specs.Eta.{add_last}
 use Rattle.lf.specs.Syntax.{Kind, LfType, Spine, Term, atom, kind_pi, kind_skeleton, lambda, pi, rename_kind, star, weaken}
 use Rattle.lf.specs.Typing.{instantiate_kind}
-use Rattle.elaboration.specs.Elaboration.{Checks, ElaboratesDomain, ElaboratesFamily, ElaboratesKind, ElaboratesType, Infers, IsInferred, at_arrow, at_family, at_family_applied, at_family_ascribed, at_function, at_kind_arrow, at_kind_quantified, at_quantified, checks_function, checks_inferred, checks_typed}
+use Rattle.elaboration.specs.Elaboration.{Checks, ElaboratesDomain, ElaboratesFamily, ElaboratesKind, ElaboratesType, Infers, IsInferred, at_arrow, at_family, at_family_applied, at_family_ascribed, at_function, at_kind_arrow, at_kind_quantified, at_quantified, checks_function, checks_inferred}
 use Rattle.elaboration.specs.Skeletons.{TypeHasSkeletons}
 use Rattle.elaboration.specs.State.{State, kind_equations, type_equations, with_equations}
-use Rattle.elaboration.specs.Written.{Written, WrittenDomain, WrittenKind, WrittenType, arrow, family_applied, family_ascribed, function, kind_arrow, kind_quantified, of_skeleton, of_type, quantified}
+use Rattle.elaboration.specs.Written.{Written, WrittenDomain, WrittenKind, WrittenType, arrow, family_applied, family_ascribed, function, kind_arrow, kind_quantified, quantified}
 use Rattle.tw_lexer.specs.declared.place.Place.{Place}
 use Rattle.tw_terms.specs.declared.canonical.ConstId.{ConstId}
 use Rattle.tw_written.specs.View.{written_of}
@@ -15,11 +15,11 @@ use Rattle.tw_written.specs.declared.written.Written.{Written as Syntax, Applied
 use Rattle.tw_written.specs.declared.written.WrittenType.{WrittenType as WrittenTypeSyntax}
 use Rattle.tw_written.proofs.Views.{written_of-Applied, written_of-Ascribed, written_of-Bound, written_of-Declared, written_of-Free}
 use Rattle.tw_elaborate.specs.Comparing.{ChecksDomain, ComparesKinds, ComparesTypes, IsProduct}
-use Rattle.tw_elaborate.specs.Deep.{ChecksDeep, DomainDeep, deep_annotated_body, deep_annotation, deep_checked_body, deep_written_domain}
+use Rattle.tw_elaborate.specs.Deep.{ChecksDeep, DomainDeep, deep_checked_domain, deep_under_domain}
 use Rattle.tw_elaborate.specs.Fits.{Stands}
 use Rattle.tw_elaborate.specs.View.{made}
 use Rattle.tw_elaborate.specs.declared.state.Elaboration.{Elaboration}
-use Rattle.tw_elaborate.proofs.Following.{compared_stands, compared_type, type_found, type_kept, type_stands}
+use Rattle.tw_elaborate.proofs.Following.{compared_stands, compared_type, domain_found, domain_kept, domain_stands}
 
 module _ (es : List Entry) (ns : List ℕ) (D : List LfType) where
   pub function_inferred : (E : List LfType) (d : WrittenDomain) (M : Written) (s s' s'' : State) (A X B Y : LfType) (R N : Term) → E ≡ A ∷ D → X ≡ A → N ≡ lambda R → Y ≡ pi X B → ElaboratesDomain es ns D d s s' A → Infers es ns E M s' s'' R B → Infers es ns D (function d M) s s'' N Y
@@ -30,8 +30,8 @@ module _ (es : List Entry) (ns : List ℕ) (D : List LfType) where
   pub inferred_checked : (M : Written) (R : Term) (X A : LfType) (s : State) (b c : Elaboration) → IsInferred M → b.locals ≡ D → Infers es ns D M s (made b) R X → ComparesTypes (signature_of es) X A b c → Checks es ns D M A s (made c) R
   inferred_checked M R X A s b c n l i k = subst (λ t. Checks es ns D M A s t R) (sym (k.state ∙ ap (λ E. with_equations (type_equations (signature_of es) E X A) (made b)) l)) (checks_inferred n i k.same)
 
-  pub domain_compared : (U : WrittenType) (X A : LfType) (a b c : Elaboration) → a.locals ≡ D → b.locals ≡ D → ElaboratesType es ns D U (made a) (made b) X → ComparesTypes (signature_of es) X A b c → ChecksDomain es ns (of_type U) A a c
-  domain_compared U X A a b c la lb i k = (made b, X, subst (λ E. ElaboratesType es ns E U (made a) (made b) X) (sym la) i, k.same, k.state ∙ ap (λ E. with_equations (type_equations (signature_of es) E X A) (made b)) (lb ∙ sym la))
+  pub domain_compared : (d : WrittenDomain) (X A : LfType) (a b c : Elaboration) → a.locals ≡ D → b.locals ≡ D → ElaboratesDomain es ns D d (made a) (made b) X → ComparesTypes (signature_of es) X A b c → ChecksDomain es ns d A a c
+  domain_compared d X A a b c la lb i k = (made b, X, subst (λ E. ElaboratesDomain es ns E d (made a) (made b) X) (sym la) i, k.same, k.state ∙ ap (λ E. with_equations (type_equations (signature_of es) E X A) (made b)) (lb ∙ sym la))
 
   pub arrow_elaborated : (U V : WrittenType) (s s' s'' : State) (A B Y : LfType) → Y ≡ pi A (weaken B) → ElaboratesType es ns D U s s' A → ElaboratesType es ns D V s' s'' B → ElaboratesType es ns D (arrow U V) s s'' Y
   arrow_elaborated U V s s' s'' A B Y y i j = subst (ElaboratesType es ns D (arrow U V) s s'') (sym y) (at_arrow i j)
@@ -63,34 +63,28 @@ module _ (es : List Entry) (ns : List ℕ) (D : List LfType) where
 -- a function at an expected type
 module _ (es : List Entry) (ns : List ℕ) where
   pub function_checked : (a b : Elaboration) (d : WrittenDomain) (E : List LfType) (M : Written) (A B X : LfType) (s : State) (R N : Term) → E ≡ A ∷ a.locals → X ≡ pi A B → N ≡ lambda R → ChecksDomain es ns d A a b → Checks es ns E M B (made b) s R → Checks es ns a.locals (function d M) X (made a) s N
-  function_checked a b d E M A B X s R N e x n k c = subst (λ Y. Checks es ns a.locals (function d M) Y (made a) s N) (sym x) (subst (Checks es ns a.locals (function d M) (pi A B) (made a) s) (sym n) (go d k (subst (λ F. Checks es ns F M B (made b) s R) e c)))
+  function_checked a b d E M A B X s R N e x n k c = subst (λ Y. Checks es ns a.locals (function d M) Y (made a) s N) (sym x) (subst (Checks es ns a.locals (function d M) (pi A B) (made a) s) (sym n) (go k (subst (λ F. Checks es ns F M B (made b) s R) e c)))
     where
-      go : (d : WrittenDomain) → ChecksDomain es ns d A a b → Checks es ns (A ∷ a.locals) M B (made b) s R → Checks es ns a.locals (function d M) (pi A B) (made a) s (lambda R)
-      go (of_skeleton t at) (t', m) c = checks_function t' (subst (λ z. Checks es ns (A ∷ a.locals) M B z s R) m c)
-      go (of_type U) (z, Z, i, q, m) c = checks_typed i q (subst (λ y. Checks es ns (A ∷ a.locals) M B y s R) m c)
+      go : ChecksDomain es ns d A a b → Checks es ns (A ∷ a.locals) M B (made b) s R → Checks es ns a.locals (function d M) (pi A B) (made a) s (lambda R)
+      go (z, Z, i, q, m) c = checks_function i q (subst (λ y. Checks es ns (A ∷ a.locals) M B y s R) m c)
 
   pub body_deep : (a b : Elaboration) (d : WrittenDomain) (E : List LfType) (M : Written) (A B X : LfType) → E ≡ A ∷ a.locals → X ≡ pi A B → ChecksDomain es ns d A a b → ChecksDeep es ns E M B (made b) → ChecksDeep es ns a.locals (function d M) X (made a)
-  body_deep a b d E M A B X e x k c = subst (λ Y. ChecksDeep es ns a.locals (function d M) Y (made a)) (sym x) (go d k (subst (λ F. ChecksDeep es ns F M B (made b)) e c))
+  body_deep a b d E M A B X e x k c = subst (λ Y. ChecksDeep es ns a.locals (function d M) Y (made a)) (sym x) (go k (subst (λ F. ChecksDeep es ns F M B (made b)) e c))
     where
-      go : (d : WrittenDomain) → ChecksDomain es ns d A a b → ChecksDeep es ns (A ∷ a.locals) M B (made b) → ChecksDeep es ns a.locals (function d M) (pi A B) (made a)
-      go (of_skeleton t at) (t', m) c = deep_checked_body t' (subst (ChecksDeep es ns (A ∷ a.locals) M B) m c)
-      go (of_type U) (z, Z, i, q, m) c = deep_annotated_body i q (subst (ChecksDeep es ns (A ∷ a.locals) M B) m c)
+      go : ChecksDomain es ns d A a b → ChecksDeep es ns (A ∷ a.locals) M B (made b) → ChecksDeep es ns a.locals (function d M) (pi A B) (made a)
+      go (z, Z, i, q, m) c = deep_under_domain i q (subst (ChecksDeep es ns (A ∷ a.locals) M B) m c)
 
-  pub annotation_deep : (D : List LfType) (d : WrittenDomain) (M : Written) (A B X : LfType) (s : State) → X ≡ pi A B → DomainDeep es ns D d s → ChecksDeep es ns D (function d M) X s
-  annotation_deep D d M A B X s x h = subst (λ Y. ChecksDeep es ns D (function d M) Y s) (sym x) (go h)
-    where
-      go : {d : WrittenDomain} → DomainDeep es ns D d s → ChecksDeep es ns D (function d M) (pi A B) s
-      go (deep_written_domain t) = deep_annotation t
+  pub domain_deep : (D : List LfType) (d : WrittenDomain) (M : Written) (A B X : LfType) (s : State) → X ≡ pi A B → DomainDeep es ns D d s → ChecksDeep es ns D (function d M) X s
+  domain_deep D d M A B X s x h = subst (λ Y. ChecksDeep es ns D (function d M) Y s) (sym x) (deep_checked_domain h)
 
   module _ (o : IsCanonicalSignature es) where
     pub domain_checked : (a b : Elaboration) (d : WrittenDomain) (A Y : LfType) → ChecksDomain es ns d A a b → Stands (signature_of es) (made a) a.locals → TypeHasSkeletons (signature_of es) (made a) a.locals A → TypeHasSkeletons (signature_of es) (made a) a.locals Y →
         Stands (signature_of es) (made b) a.locals × TypeHasSkeletons (signature_of es) (made b) a.locals Y
-    domain_checked a b (of_skeleton t at) A Y (t', m) w x y = (subst (λ z. Stands (signature_of es) z a.locals) (sym m) w, subst (λ z. TypeHasSkeletons (signature_of es) z a.locals Y) (sym m) y)
-    domain_checked a b (of_type U) A Y (z, Z, i, q, m) w x y =
-        let w' = type_stands es o ns w i a.locals refl in
-        let z' = type_found es o ns w i a.locals refl in (
-          subst (λ v. Stands (signature_of es) v a.locals) (sym m) (compared_stands es o ns z a.locals Z A q w' z' (type_kept es o ns w i A x)),
-          subst (λ v. TypeHasSkeletons (signature_of es) v a.locals Y) (sym m) (compared_type es o ns z a.locals Z A Y w' (type_kept es o ns w i Y y)),
+    domain_checked a b d A Y (z, Z, i, q, m) w x y =
+        let w' = domain_stands es o ns w i a.locals refl in
+        let z' = domain_found es o ns w i a.locals refl in (
+          subst (λ v. Stands (signature_of es) v a.locals) (sym m) (compared_stands es o ns z a.locals Z A q w' z' (domain_kept es o ns w i A x)),
+          subst (λ v. TypeHasSkeletons (signature_of es) v a.locals Y) (sym m) (compared_type es o ns z a.locals Z A Y w' (domain_kept es o ns w i Y y)),
         )
 
 -- the same fault

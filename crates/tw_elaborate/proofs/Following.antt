@@ -65,16 +65,19 @@ module _ (es : List Entry) (o : IsCanonicalSignature es) (ns : List ℕ) where
       pub type_found : (E : List LfType) → E ≡ D → TypeHasSkeletons (signature_of es) s' E A
       type_found E e = subst (λ F. TypeHasSkeletons Σ s' F A) (sym e) (type_skeletons es o ns i w.state w.local).1
 
-      pub type_kept : (X : LfType) → TypeHasSkeletons (signature_of es) s D X → TypeHasSkeletons (signature_of es) s' D X
-      type_kept X x = type_grows Σ ok s s' (type_adds es ns i w.state.numbered) D X x
-
     module _ {d : WrittenDomain} {A : LfType} (i : ElaboratesDomain es ns D d s s' A) where
       pub domain_stands : (E : List LfType) → E ≡ D → Stands (signature_of es) s' E
       domain_stands E e = moved_stands s s' D E e (domain_adds es ns i w.state.numbered) (domain_skeletons es o ns i w.state w.local).0 w
 
+      pub domain_found : (E : List LfType) → E ≡ D → TypeHasSkeletons (signature_of es) s' E A
+      domain_found E e = subst (λ F. TypeHasSkeletons Σ s' F A) (sym e) (domain_skeletons es o ns i w.state w.local).1
+
+      pub domain_kept : (X : LfType) → TypeHasSkeletons (signature_of es) s D X → TypeHasSkeletons (signature_of es) s' D X
+      domain_kept X x = type_grows Σ ok s s' (domain_adds es ns i w.state.numbered) D X x
+
       -- under its variable
       pub domain_under : (E : List LfType) → E ≡ A ∷ D → Stands (signature_of es) s' E
-      domain_under E e = under_stands s' D E A e (domain_stands D refl) (domain_skeletons es o ns i w.state w.local).1
+      domain_under E e = under_stands s' D E A e (domain_stands D refl) (domain_found D refl)
 
     module _ {U : WrittenType} {a : ℕ} {S : Spine} {K : Kind} (i : ElaboratesFamily es ns D U s s' a S K) where
       pub family_stands : (E : List LfType) → E ≡ D → Stands (signature_of es) s' E

@@ -4,9 +4,9 @@ use Rattle.lf.specs.Entries.{Entry, signature_of}
 use Rattle.lf.specs.SkeletonTyping.{HeadSkeletons, KindBySkeletons, SpineSkeleton}
 use Rattle.lf.specs.Syntax.{Kind, LfType, Skeleton, Spine, Term, kind_pi, kind_skeleton, skeleton}
 use Rattle.lf.specs.Typing.{Signature, instantiate_kind}
-use Rattle.elaboration.specs.Elaboration.{ElaboratesType}
+use Rattle.elaboration.specs.Elaboration.{ElaboratesDomain}
 use Rattle.elaboration.specs.State.{State, kind_equations, type_equations, with_equations}
-use Rattle.elaboration.specs.Written.{WrittenDomain, of_skeleton, of_type}
+use Rattle.elaboration.specs.Written.{WrittenDomain}
 use Rattle.unification.specs.Patterns.{local_skeletons}
 use Rattle.tw_elaborate.specs.declared.state.Elaboration.{Elaboration}
 use Rattle.tw_elaborate.specs.View.{made}
@@ -38,10 +38,9 @@ pub record TakesBoth (K : Kind) (M N : Term) (L : Kind) (old new : Elaboration) 
   pub state : made new ≡ with_equations (record { local = old.locals; left = M; right = N; of_type = domain } ∷ []) (made old)
   pub left_over : L ≡ instantiate_kind domain M range
 
--- where a type is written at a binder, it was compared with the expected one; else the skeleton is the one of the expected type
+-- the type at a binder was compared with the expected one
 abbrev pub ChecksDomain : List Entry → List ℕ → WrittenDomain → LfType → Elaboration → Elaboration → Type 0
-ChecksDomain es frees (of_skeleton t at) A old new = (t ≡ skeleton A) × (made new ≡ made old)
-ChecksDomain es frees (of_type U) A old new = (s : State) × (X : LfType) × ElaboratesType es frees old.locals U (made old) s X × (skeleton X ≡ skeleton A) × (made new ≡ with_equations (type_equations (signature_of es) old.locals X A) s)
+ChecksDomain es frees d A old new = (s : State) × (X : LfType) × ElaboratesDomain es frees old.locals d (made old) s X × (skeleton X ≡ skeleton A) × (made new ≡ with_equations (type_equations (signature_of es) old.locals X A) s)
 
 -- the kind takes an argument
 pub record IsProduct (K : Kind) : Type 0 where

@@ -7,7 +7,7 @@ use Rattle.lf.specs.Substitution.{reduce, single, substitute}
 use Rattle.lf.specs.Syntax.{Kind, LfType, Skeleton, Spine, Term, app, arrow as arrow_skeleton, kind_pi, lambda, pi, skeleton}
 use Rattle.elaboration.specs.Elaboration.{Checks, ElaboratesDomain, ElaboratesFamily, ElaboratesKind, ElaboratesType, Infers, IsInferred, TakesNew}
 use Rattle.elaboration.specs.State.{State, type_equations, with_equations}
-use Rattle.elaboration.specs.Written.{Place, Written, WrittenDomain, WrittenKind, WrittenType, applied, arrow, ascribed, declared, family_applied, family_ascribed, function, kind_arrow, kind_quantified, of_skeleton, of_type, quantified, written_star}
+use Rattle.elaboration.specs.Written.{Place, Written, WrittenDomain, WrittenKind, WrittenType, applied, arrow, ascribed, declared, family_applied, family_ascribed, function, kind_arrow, kind_quantified, of_type, quantified, written_star}
 
 -- of the arguments that a term takes one after another, one is put in with a term deeper than the limit
 pub data TakesDeep : ℕ → Skeleton → Term → Spine → Type 0 where
@@ -31,10 +31,9 @@ module _ (es : List Entry) (frees : List ℕ) where
 
     -- where one is expected
     pub data ChecksDeep : List LfType → Written → LfType → State → Type 0 where
-      deep_checked_body : {D : List LfType} {at : Place} {t : Skeleton} {M : Written} {A B : LfType} {s : State} → t ≡ skeleton A → ChecksDeep (A ∷ D) M B s → ChecksDeep D (function (of_skeleton t at) M) (pi A B) s
-      deep_annotation : {D : List LfType} {U : WrittenType} {M : Written} {A B : LfType} {s : State} → TypeDeep D U s → ChecksDeep D (function (of_type U) M) (pi A B) s
-      deep_annotated_body : {D : List LfType} {U : WrittenType} {M : Written} {A B X : LfType} {s s' : State} →
-          ElaboratesType es frees D U s s' X → skeleton X ≡ skeleton A → ChecksDeep (A ∷ D) M B (with_equations (type_equations (signature_of es) D X A) s') → ChecksDeep D (function (of_type U) M) (pi A B) s
+      deep_checked_domain : {D : List LfType} {d : WrittenDomain} {M : Written} {A B : LfType} {s : State} → DomainDeep D d s → ChecksDeep D (function d M) (pi A B) s
+      deep_under_domain : {D : List LfType} {d : WrittenDomain} {M : Written} {A B X : LfType} {s s' : State} →
+          ElaboratesDomain es frees D d s s' X → skeleton X ≡ skeleton A → ChecksDeep (A ∷ D) M B (with_equations (type_equations (signature_of es) D X A) s') → ChecksDeep D (function d M) (pi A B) s
       deep_inferred : {D : List LfType} {M : Written} {A : LfType} {s : State} → IsInferred M → InfersDeep D M s → ChecksDeep D M A s
 
     pub data TypeDeep : List LfType → WrittenType → State → Type 0 where

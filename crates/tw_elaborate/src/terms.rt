@@ -14,7 +14,7 @@ ghost use Rattle.tw_elaborate.specs.Operators.{operator_of};
 ghost use Rattle.tw_elaborate.specs.View.{made, numbers_of, open_kind_of};
 ghost use Rattle.tw_written.specs.View.{written_domain_of, written_kind_of, written_of, written_type_of};
 
-use crate::equations::{compare_types, has_skeleton};
+use crate::equations::compare_types;
 use crate::expand::{lambda, pi};
 use crate::fault::ElaborateFault;
 use crate::frames::nested;
@@ -220,7 +220,7 @@ fn check_function(
     }
 }
 
-/// Compares the type at a binder, where one is written, with the expected one.
+/// Compares the type at a binder, written or not, with the expected one.
 #[cycle(elaborate)]
 #[inline(never)]
 fn check_domain(
@@ -239,21 +239,8 @@ fn check_domain(
     ensures too_deep { IsErrOf result ElaborateFault.TooDeep → DomainDeep signature.now (numbers_of frees.now) state.old.locals (written_domain_of written.now) (made state.old) }
     ensures keeps { Keeps state.old state.new }
 {
-    let frames = nested(frames)?;
-    match written {
-        WrittenDomain::OfSkeleton(skeleton, _) => {
-            if has_skeleton(expected, skeleton) {
-                Ok(())
-            } else {
-                Err(ElaborateFault::NoMemory)
-            }
-        }
-        WrittenDomain::OfType(ty) => {
-            let found = elaborate_type(alloc, signature, frees, state, ty, frames)?;
-            compare_types(alloc, signature, state, &found, expected, frames)?;
-            Ok(())
-        }
-    }
+    let found = elaborate_domain(alloc, signature, frees, state, written, frames)?;
+    Ok(compare_types(alloc, signature, state, &found, expected, frames)?)
 }
 
 /// The type that is written.

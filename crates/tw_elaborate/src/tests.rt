@@ -459,7 +459,10 @@ fn a_binder_has_the_expected_type(rt: HostRuntime) -> Result<(), Fail> {
     let ty = arrow(alloc, empty, vec_type(alloc, declared(Z))?)?;
     let body = WrittenBody::DefinitionOf(identity(alloc, VEC)?, ty, true);
     let line = answer(alloc, &signature, &[], &body)?;
-    assert_eq!(rt; line.as_str(), "\\x0 : {vec (z)} vec (z); z = z : nat");
+    assert_eq!(rt;
+        line.as_str(),
+        "\\x0 : {vec (z)} vec (z); ?0 : nat; ?0 = z : nat; z = z : nat"
+    );
     Ok(())
 }
 

@@ -62,7 +62,7 @@ fn term_spots(
             add(spots, *at, count.checked_add(1).ok_or(AllocError)?)
         }
         Written::Function(domain, body) => {
-            domain_spots(signature, spots, expected, domain, frames)?;
+            domain_spots(signature, spots, domain, frames)?;
             term_spots(signature, spots, expected, body, frames)
         }
         Written::Applied(function, arg) => {
@@ -80,15 +80,13 @@ fn term_spots(
 fn domain_spots(
     signature: &Signature,
     spots: &mut Vec<Spot>,
-    expected: bool,
     written: &WrittenDomain,
     frames: u32,
 ) -> Result<(), AllocError>
-    ensures { OnOk result (spots_of spots.new.items ≡ spots_of spots.old.items ++ spots_of_domain signature.now expected (written_domain_of written.now)) }
+    ensures { OnOk result (spots_of spots.new.items ≡ spots_of spots.old.items ++ spots_of_domain signature.now (written_domain_of written.now)) }
 {
     let frames = nested(frames)?;
     match written {
-        WrittenDomain::OfSkeleton(_, _) if expected => Ok(()),
         WrittenDomain::OfSkeleton(skeleton, at) => {
             add(spots, *at, indices(signature, skeleton, frames)?)
         }
@@ -114,7 +112,7 @@ fn type_spots(
             type_spots(signature, spots, range, frames)
         }
         WrittenType::Quantified(domain, range) => {
-            domain_spots(signature, spots, false, domain, frames)?;
+            domain_spots(signature, spots, domain, frames)?;
             type_spots(signature, spots, range, frames)
         }
         WrittenType::Applied(family, arg) => {
@@ -145,7 +143,7 @@ fn kind_spots(
             kind_spots(signature, spots, range, frames)
         }
         WrittenKind::Quantified(domain, range) => {
-            domain_spots(signature, spots, false, domain, frames)?;
+            domain_spots(signature, spots, domain, frames)?;
             kind_spots(signature, spots, range, frames)
         }
     }

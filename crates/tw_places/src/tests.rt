@@ -194,7 +194,7 @@ fn a_line_comes_before_the_next(rt: HostRuntime) -> Result<(), Fail> {
 }
 
 #[test]
-fn what_is_expected_leaves_less_open(rt: HostRuntime) -> Result<(), Fail> {
+fn an_expected_hole_leaves_less_open(rt: HostRuntime) -> Result<(), Fail> {
     let alloc = rt.alloc();
     let written = WrittenBody::Definition(hole(VEC, column(5)), false);
     assert_eq!(rt;
@@ -208,7 +208,7 @@ fn what_is_expected_leaves_less_open(rt: HostRuntime) -> Result<(), Fail> {
     assert_eq!(rt; numbers(alloc, &[], &written)?.as_slice(), [0].as_slice());
     let ty = WrittenType::Family(NAT, column(9));
     let written = WrittenBody::DefinitionOf(identity(alloc, column(15))?, ty, false);
-    assert_eq!(rt; numbers(alloc, &[], &written)?.len(), 0);
+    assert_eq!(rt; numbers(alloc, &[], &written)?.as_slice(), [0].as_slice());
     Ok(())
 }
 

@@ -435,6 +435,12 @@ fn first_in_the_text(rt: HostRuntime) -> Result<(), Fail> {
             "t : q (refl : eq B A) -> plus A A A.",
             "t : {B:nat} q refl -> plus B B B.",
         ),
+        // the type of a binder stands at its bracket, where it is given from outside too
+        (
+            "",
+            "t = (([v] Y) : vec N -> nat).",
+            "t : {N:nat} nat -> vec N -> nat = [x:nat] [x1:nat] [x2:vec x] x1.",
+        ),
         (
             "",
             "t : plus Y Y z <- plus X Y z.",

@@ -17,8 +17,8 @@ use Rattle.tw_elaborate.specs.Operators.{operator_of, written_terms}
 use Rattle.tw_elaborate.specs.View.{made, numbers_of, open_kind_of}
 use Rattle.tw_elaborate.specs.declared.fault.ElaborateFault.TheVariants.{TooDeep}
 use Rattle.tw_elaborate.specs.declared.state.OpenKind.{Star as OpenKind-Star}
-use Rattle.tw_elaborate.proofs.Answering.{annotation_deep, arrow_elaborated, body_deep, domain_checked, domain_compared, family_compared, family_elaborated, family_on_argument, fault_of_call, function_checked, function_inferred, inferred_checked, is_inferred, kind_arrow_elaborated, kind_quantified_elaborated, quantified_elaborated}
-use Rattle.tw_elaborate.proofs.Following.{domain_under, family_found, family_stands, in_scope, inferred_type, keeps_under, kind_range_fits, kind_stands, type_found, type_stands, under_stands}
+use Rattle.tw_elaborate.proofs.Answering.{arrow_elaborated, body_deep, domain_checked, domain_compared, domain_deep, family_compared, family_elaborated, family_on_argument, fault_of_call, function_checked, function_inferred, inferred_checked, is_inferred, kind_arrow_elaborated, kind_quantified_elaborated, quantified_elaborated}
+use Rattle.tw_elaborate.proofs.Following.{domain_found, domain_under, family_found, family_stands, in_scope, inferred_type, keeps_under, kind_range_fits, kind_stands, type_found, type_stands, under_stands}
 use Rattle.tw_elaborate.proofs.Rows.{all_reached, argument_deep, arguments_less, deep_row, next_applies, next_domain, next_range_fits, next_stands, none_left, put_deep, reached_next}
 use Rattle.tw_elaborate.proofs.Taking.{keeps_same, keeps_then}
 use Rattle.tw_elaborate.proofs.Views.{open_kind_of-Pi, open_kind_of-Star}
@@ -468,43 +468,21 @@ check-returns-in-Function-clause-too_deep t c = λ is.
     let v = ap written_of c.in-Function.is ∙ written_of-Function c.in-Function.domain c.in-Function.body ∙ ap (function (written_domain_of c.in-Function.domain)) (ap written_of (sym c.deref.ensures)) in
     subst (λ W. ChecksDeep c.args.signature.now (numbers_of c.args.frees.now) c.args.state.now.locals W (open_type_of c.args.expected.now) (made c.args.state.now)) (sym v) (c.check_function.ensures.too_deep is)
 
-pub check_domain-returns-in_err-frames-clause-keeps : goal.check_domain-returns-in_err-frames-clause-keeps
-check_domain-returns-in_err-frames-clause-keeps t c = keeps_same c.args.state.now
-
-pub check_domain-returns-then-has_skeleton-clause-keeps : goal.check_domain-returns-then-has_skeleton-clause-keeps
-check_domain-returns-then-has_skeleton-clause-keeps t c = keeps_same c.args.state.now
-
-pub check_domain-returns-else-has_skeleton-clause-keeps : goal.check_domain-returns-else-has_skeleton-clause-keeps
-check_domain-returns-else-has_skeleton-clause-keeps t c = keeps_same c.args.state.now
-
-pub check_domain-returns-in_err-found-in-OfType-clause-too_deep : goal.check_domain-returns-in_err-found-in-OfType-clause-too_deep
-check_domain-returns-in_err-found-in-OfType-clause-too_deep t c = λ is.
-    let v = ap written_domain_of c.in-OfType.is ∙ written_domain_of-OfType c.in-OfType.ty ∙ ap of_type (ap written_type_of (sym c.deref.ensures)) in
-    subst (λ W. DomainDeep c.args.signature.now (numbers_of c.args.frees.now) c.args.state.now.locals W (made c.args.state.now)) (sym v) (deep_written_domain (c.in_err-found-in-OfType.ensures.too_deep (fault_of_call c.from_residual-in_err-found-in-OfType.result c.in_err-found-in-OfType.field-0.0 TooDeep (search rules) is)))
-
 pub check_domain-compare_types-requires-clause-found : goal.check_domain-compare_types-requires-clause-found
 check_domain-compare_types-requires-clause-found t c =
-    let l = c.elaborate_type.ensures.keeps.locals in
-    let i = c.in_ok-found-in-OfType.ensures.ok in
-    type_found c.args.signature.now c.requires.canonical (numbers_of c.args.frees.now) c.requires.stands i c.elaborate_type.new.state.locals l
+    let l = c.elaborate_domain.ensures.keeps.locals in
+    domain_found c.args.signature.now c.requires.canonical (numbers_of c.args.frees.now) c.requires.stands c.in_ok-found.ensures.ok c.elaborate_domain.new.state.locals l
 
-pub check_domain-returns-in_err-compare_types-in-OfType-clause-keeps : goal.check_domain-returns-in_err-compare_types-in-OfType-clause-keeps
-check_domain-returns-in_err-compare_types-in-OfType-clause-keeps t c = keeps_then c.args.state.now c.elaborate_type.new.state c.compare_types.new.state c.elaborate_type.ensures.keeps c.compare_types.ensures.keeps
+pub check_domain-returns-in_err-compare_types-clause-keeps : goal.check_domain-returns-in_err-compare_types-clause-keeps
+check_domain-returns-in_err-compare_types-clause-keeps t c = keeps_then c.args.state.now c.elaborate_domain.new.state c.compare_types.new.state c.elaborate_domain.ensures.keeps c.compare_types.ensures.keeps
 
-pub check_domain-returns-in_ok-compare_types-in-OfType-clause-keeps : goal.check_domain-returns-in_ok-compare_types-in-OfType-clause-keeps
-check_domain-returns-in_ok-compare_types-in-OfType-clause-keeps t c = keeps_then c.args.state.now c.elaborate_type.new.state c.compare_types.new.state c.elaborate_type.ensures.keeps c.compare_types.ensures.keeps
+pub check_domain-returns-clause-keeps : goal.check_domain-returns-clause-keeps
+check_domain-returns-clause-keeps t c = keeps_then c.args.state.now c.elaborate_domain.new.state c.compare_types.new.state c.elaborate_domain.ensures.keeps c.compare_types.ensures.keeps
 
-pub check_domain-returns-then-has_skeleton-clause-ok : goal.check_domain-returns-then-has_skeleton-clause-ok
-check_domain-returns-then-has_skeleton-clause-ok t c =
-    let v = ap written_domain_of c.in-OfSkeleton.is ∙ written_domain_of-OfSkeleton c.in-OfSkeleton.skeleton c.in-OfSkeleton.field-1 in
-    subst (λ W. ChecksDomain c.args.signature.now (numbers_of c.args.frees.now) W (open_type_of c.args.expected.now) c.args.state.now c.args.state.now) (sym v) (sym (c.has_skeleton.ensures.0 c.if-has_skeleton.true), refl)
-
-pub check_domain-returns-in_ok-compare_types-in-OfType-clause-ok : goal.check_domain-returns-in_ok-compare_types-in-OfType-clause-ok
-check_domain-returns-in_ok-compare_types-in-OfType-clause-ok t c =
-    let v = ap written_domain_of c.in-OfType.is ∙ written_domain_of-OfType c.in-OfType.ty ∙ ap of_type (ap written_type_of (sym c.deref.ensures)) in
-    let l = c.elaborate_type.ensures.keeps.locals in
-    let i = c.in_ok-found-in-OfType.ensures.ok in
-    subst (λ W. ChecksDomain c.args.signature.now (numbers_of c.args.frees.now) W (open_type_of c.args.expected.now) c.args.state.now c.compare_types.new.state) (sym v) (domain_compared c.args.signature.now (numbers_of c.args.frees.now) c.args.state.now.locals (written_type_of c.deref.result.now) (open_type_of c.in_ok-found-in-OfType.found) (open_type_of c.args.expected.now) c.args.state.now c.elaborate_type.new.state c.compare_types.new.state refl l i c.in_ok-compare_types-in-OfType.ensures.ok)
+pub check_domain-returns-clause-ok : goal.check_domain-returns-clause-ok
+check_domain-returns-clause-ok t c =
+    let l = c.elaborate_domain.ensures.keeps.locals in
+    domain_compared c.args.signature.now (numbers_of c.args.frees.now) c.args.state.now.locals (written_domain_of c.args.written.now) (open_type_of c.in_ok-found.found) (open_type_of c.args.expected.now) c.args.state.now c.elaborate_domain.new.state c.compare_types.new.state refl l c.in_ok-found.ensures.ok c.in_ok-compare_types.ensures.ok
 
 pub check_function-returns-in-Atom-clause-keeps : goal.check_function-returns-in-Atom-clause-keeps
 check_function-returns-in-Atom-clause-keeps t c = keeps_same c.args.state.now
@@ -512,7 +490,7 @@ check_function-returns-in-Atom-clause-keeps t c = keeps_same c.args.state.now
 pub check_function-returns-in_err-check_domain-in-Pi-clause-too_deep : goal.check_function-returns-in_err-check_domain-in-Pi-clause-too_deep
 check_function-returns-in_err-check_domain-in-Pi-clause-too_deep t c = λ is.
     let x : (open_type_of c.args.expected.now) ≡ pi (open_type_of c.in-Pi.expected.value) (open_type_of c.in-Pi.range.value) = ap open_type_of c.in-Pi.is ∙ open_type_of-Pi c.in-Pi.expected c.in-Pi.range in
-    annotation_deep c.args.signature.now (numbers_of c.args.frees.now) c.args.state.now.locals (written_domain_of c.args.domain.now) (written_of c.args.body.now) (open_type_of c.in-Pi.expected.value) (open_type_of c.in-Pi.range.value) (open_type_of c.args.expected.now) (made c.args.state.now) x (c.in_err-check_domain-in-Pi.ensures.too_deep (fault_of_call c.from_residual.result c.in_err-check_domain-in-Pi.field-0.0 TooDeep (search rules) is))
+    domain_deep c.args.signature.now (numbers_of c.args.frees.now) c.args.state.now.locals (written_domain_of c.args.domain.now) (written_of c.args.body.now) (open_type_of c.in-Pi.expected.value) (open_type_of c.in-Pi.range.value) (open_type_of c.args.expected.now) (made c.args.state.now) x (c.in_err-check_domain-in-Pi.ensures.too_deep (fault_of_call c.from_residual.result c.in_err-check_domain-in-Pi.field-0.0 TooDeep (search rules) is))
 
 pub check_function-check-checked-requires : goal.check_function-check-checked-requires
 check_function-check-checked-requires t c =

@@ -24,10 +24,10 @@ abbrev pub decreases-check : goal.decreases-check
 decreases-check l = 3 * l.frames
 
 abbrev pub decreases-check_function : goal.decreases-check_function
-decreases-check_function l = 3 * l.frames + 1
+decreases-check_function l = 3 * l.frames + 2
 
 abbrev pub decreases-check_domain : goal.decreases-check_domain
-decreases-check_domain l = 3 * l.frames
+decreases-check_domain l = 3 * l.frames + 1
 
 abbrev pub decreases-elaborate_type : goal.decreases-elaborate_type
 decreases-elaborate_type l = 3 * l.frames
