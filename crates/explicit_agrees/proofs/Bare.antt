@@ -8,7 +8,8 @@ use Rattle.tw_approx.specs.Names.{IsFreeIn, IsFreeInDomain}
 use Rattle.tw_approx.proofs.Unifying.{both_true}
 use Rattle.tw_explicit.specs.Form.{Shape, explicit_shape, entry_shape, domain_shape, head_shape, is_point, shape_behind, is_type_form, is_domain_form, is_term_form, shape_left}
 use Rattle.tw_explicit.specs.Scope.{binder_name, head_named, named}
-use Rattle.tw_lexer.specs.declared.place.Place.{Place}
+use Rattle.tw_explicit.specs.Unknown.{unknown_in_domain, unknown_names, unless_named}
+use Rattle.tw_explicit.specs.declared.unknown.Mention.{Mention}
 use Rattle.tw_parse.specs.Syntax.{Term, Domain, identifier, hole, star, arrow, pi, lambda, application, ascription, untyped, typed}
 use Rattle.tw_scope.specs.Names.{Names, variable_of}
 use Rattle.tw_signature.specs.Names.{number_of}
@@ -161,6 +162,9 @@ module _ (es : List Entry) where
   pub whole_bare : (U : Term) → is_type_form es [] [] U ≡ true → TypeIsBare [] U
   whole_bare U e = type_bare U [] [] [] (λ x h. h) e
 
+  pub whole_term_bare : (P : Term) (s : Shape) → is_term_form es [] [] P s ≡ true → TermIsBare [] P
+  whole_term_bare P s e = term_bare P [] [] [] s (λ x h. h) e
+
   module _ (x : List ℕ) where
     mutual
       -- what is bare has no free variable
@@ -181,7 +185,7 @@ module _ (es : List Entry) where
       domain_closed untyped N h f = f
       domain_closed (typed U) N h f = type_closed U N h f
 
-      term_closed : (P : Term) (N : Names) → TermIsBare N P → IsFreeIn es x N P → ⊥
+      pub term_closed : (P : Term) (N : Names) → TermIsBare N P → IsFreeIn es x N P → ⊥
       term_closed (identifier y at) N h (e, u, n) = subst NameIsBare n h
       term_closed (arrow U V) N (h, k) (inl f) = type_closed U N h f
       term_closed (arrow U V) N (h, k) (inr f) = type_closed V (None ∷ N) k f
@@ -195,7 +199,7 @@ module _ (es : List Entry) where
       term_closed (hole at) N h f = h
       term_closed (ascription P A) N h f = h
 
-  none_in : (ps qs : List Place) → ps ≡ [] → qs ≡ [] → (ps ++ qs) ≡ []
+  pub none_in : {A : Type 0} (ps qs : List A) → ps ≡ [] → qs ≡ [] → (ps ++ qs) ≡ []
   none_in ps qs e f = ap₂ (λ p q. p ++ q) e f
 
   mutual
@@ -214,7 +218,7 @@ module _ (es : List Entry) where
     domain_without untyped N h = absurd h
     domain_without (typed U) N h = type_without U N h
 
-    term_without : (P : Term) (N : Names) → TermIsBare N P → lambdas_in_term P ≡ []
+    pub term_without : (P : Term) (N : Names) → TermIsBare N P → lambdas_in_term P ≡ []
     term_without (identifier y at) N h = refl
     term_without (arrow U V) N (h, k) = none_in (lambdas_in_type U) (lambdas_in_type V) (type_without U N h) (type_without V (None ∷ N) k)
     term_without (pi y at D V) N (h, k) = none_in (lambdas_in_domain D) (lambdas_in_type V) (domain_without D N h) (type_without V (binder_name y ∷ N) k)
@@ -223,3 +227,36 @@ module _ (es : List Entry) where
     term_without star N h = refl
     term_without (hole at) N h = absurd h
     term_without (ascription P A) N h = absurd h
+
+  bare_known : (h : Option Head) (m : Mention) → NameIsBare h → unless_named h m ≡ []
+  bare_known (Some h) m b = refl
+  bare_known None m b = absurd b
+
+  narrower_by : (N M : Names) → IsWider M N → IsWider (None ∷ M) N
+  narrower_by N M w x h = w x (before_variable (variable_of M x) (number_of es x) h)
+
+  mutual
+    -- and no unknown name, also where the variables of arrows aren't in scope
+    pub type_known : (U : Term) (N M : Names) → IsWider M N → TypeIsBare M U → unknown_names es N U ≡ []
+    type_known (identifier x at) N M w h = bare_known (named es N x) (record { name = x; at = at }) (w x h)
+    type_known (arrow U V) N M w (h, k) = none_in (unknown_names es N U) (unknown_names es N V) (type_known U N M w h) (type_known V N (None ∷ M) (narrower_by N M w) k)
+    type_known (pi x at D V) N M w (h, k) = none_in (unknown_in_domain es N D) (unknown_names es (binder_name x ∷ N) V) (domain_known D N M w h) (type_known V (binder_name x ∷ N) (binder_name x ∷ M) (wider_under (binder_name x) M N w) k)
+    type_known (application P Q) N M w (h, k) = none_in (unknown_names es N Q) (unknown_names es N P) (term_known Q N M w k) (type_known P N M w h)
+    type_known star N M w h = refl
+    type_known (hole at) N M w h = absurd h
+    type_known (lambda x at D P) N M w h = absurd h
+    type_known (ascription P A) N M w h = absurd h
+
+    domain_known : (D : Domain) (N M : Names) → IsWider M N → DomainIsBare M D → unknown_in_domain es N D ≡ []
+    domain_known untyped N M w h = absurd h
+    domain_known (typed U) N M w h = type_known U N M w h
+
+    pub term_known : (P : Term) (N M : Names) → IsWider M N → TermIsBare M P → unknown_names es N P ≡ []
+    term_known (identifier x at) N M w h = bare_known (named es N x) (record { name = x; at = at }) (w x h)
+    term_known (arrow U V) N M w (h, k) = none_in (unknown_names es N U) (unknown_names es N V) (type_known U N M w h) (type_known V N (None ∷ M) (narrower_by N M w) k)
+    term_known (pi x at D V) N M w (h, k) = none_in (unknown_in_domain es N D) (unknown_names es (binder_name x ∷ N) V) (domain_known D N M w h) (type_known V (binder_name x ∷ N) (binder_name x ∷ M) (wider_under (binder_name x) M N w) k)
+    term_known (lambda x at D P) N M w (h, k) = none_in (unknown_in_domain es N D) (unknown_names es (binder_name x ∷ N) P) (domain_known D N M w h) (term_known P (binder_name x ∷ N) (binder_name x ∷ M) (wider_under (binder_name x) M N w) k)
+    term_known (application P Q) N M w (h, k) = none_in (unknown_names es N Q) (unknown_names es N P) (term_known Q N M w k) (term_known P N M w h)
+    term_known star N M w h = refl
+    term_known (hole at) N M w h = absurd h
+    term_known (ascription P A) N M w h = absurd h

@@ -47,7 +47,7 @@ due_substituted σ (kind_pi A K) = ap₂ (λ s ss. s ∷ ss) (skeleton_substitut
 due_substituted σ lf_star = refl
 
 -- a part with what comes behind it
-then_is : {A B : Type 0} (r : Reading A) (a : A) (o : List Skeleton) (f : A → List Skeleton → Reading B) (b : Reading B) → r ≡ Some (a, o) → f a o ≡ b → and_then r f ≡ b
+pub then_is : {A B : Type 0} (r : Reading A) (a : A) (o : List Skeleton) (f : A → List Skeleton → Reading B) (b : Reading B) → r ≡ Some (a, o) → f a o ≡ b → and_then r f ≡ b
 then_is r a o f b e g = ap (λ q. and_then q f) e ∙ g
 
 module _ (es : List Entry) (f : Frees) where

@@ -8,3 +8,4 @@ pub mod Back
 pub mod Steady
 pub mod Mismatch
 pub mod Reconstructed
+pub mod Definitions

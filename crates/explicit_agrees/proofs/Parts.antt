@@ -75,7 +75,7 @@ atom_spine : {a b : ℕ} {S T : Spine} → atom a S ≡ atom b T → (a ≡ b) �
 atom_spine e = (cc, cc)
 
 -- two parts, one behind the other, that take nothing
-both_read : {A B C : Type 0} (make : A → B → List Skeleton → Reading C) (r : Reading A) (f : List Skeleton → Reading B) (a : A) (b : B) (c : C) (o : List Skeleton) → r ≡ Some (a, o) → f o ≡ Some (b, o) → make a b o ≡ Some (c, o) → with_both make r f ≡ Some (c, o)
+pub both_read : {A B C : Type 0} (make : A → B → List Skeleton → Reading C) (r : Reading A) (f : List Skeleton → Reading B) (a : A) (b : B) (c : C) (o : List Skeleton) → r ≡ Some (a, o) → f o ≡ Some (b, o) → make a b o ≡ Some (c, o) → with_both make r f ≡ Some (c, o)
 both_read make r f a b c o d e g = ap (λ x. and_then x (λ u p. and_then (f p) (make u))) d ∙ ap (λ x. and_then x (make a)) e ∙ g
 
 module _ (es : List Entry) where

@@ -34,7 +34,7 @@ module _ (es : List Entry) where
   kind_ends (pi x at D V) N G (kind_pi A K) (d, v) = kind_ends V (binder_name x ∷ N) (A ∷ G) K v
   kind_ends U N G K g = absurd g
 
-  type_ends : (U : Term) (N : Names) (G : List LfType) (A : LfType) → TypeGives es N G U A → ends_in_type U ≡ false
+  pub type_ends : (U : Term) (N : Names) (G : List LfType) (A : LfType) → TypeGives es N G U A → ends_in_type U ≡ false
   type_ends (arrow U V) N G (lf_pi A B) (u, v) = type_ends V (None ∷ N) (A ∷ G) B v
   type_ends (pi x at D V) N G (lf_pi A B) (d, v) = type_ends V (binder_name x ∷ N) (A ∷ G) B v
   type_ends (identifier x at) N G (atom a S) g = refl
@@ -72,10 +72,10 @@ module _ (es : List Entry) where
     }
 
   -- a completion without free variables and quantifiers
-  abbrev closed : Body → Completion
+  abbrev pub closed : Body → Completion
   closed b = record { quantifiers = []; frees = []; body = b }
 
-  no_values : (F : List LfType) (vs : List FreeValue) → FreesAreTyped es F [] vs → vs ≡ []
+  pub no_values : (F : List LfType) (vs : List FreeValue) → FreesAreTyped es F [] vs → vs ≡ []
   no_values F [] h = refl
   no_values F (v ∷ vs) h = absurd h
 

@@ -2,6 +2,7 @@
 #![tactic(auto)]
 
 ghost use Rattle.explicit_agrees.specs.Agreement.{ExplicitIsPrincipal, ExplicitMismatchHasNoCompletion};
+ghost use Rattle.explicit_agrees.specs.Definitions.{ExplicitDefinitionIsPrincipal, ExplicitDefinitionIsReconstructed};
 ghost use Rattle.explicit_agrees.specs.Reconstructed.{ExplicitIsReconstructed, ExplicitMismatchIsMismatch};
 
 /// What an explicit declaration is completed to is its principal completion.
@@ -22,4 +23,14 @@ pub fn explicit_is_reconstructed()
 /// Where it gives no entry, reconstruction refuses it as a mismatch.
 pub fn explicit_mismatch_is_mismatch()
     ensures { ExplicitMismatchIsMismatch }
+{}
+
+/// What the type and the term of an explicit definition give is its principal completion.
+pub fn explicit_definition_is_principal()
+    ensures { ExplicitDefinitionIsPrincipal }
+{}
+
+/// So it is what the definition would be reconstructed to.
+pub fn explicit_definition_is_reconstructed()
+    ensures { ExplicitDefinitionIsReconstructed }
 {}
