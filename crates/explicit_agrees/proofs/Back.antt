@@ -12,7 +12,7 @@ use Rattle.lf.proofs.Entries.{canonical_is_signature}
 use Rattle.lf.proofs.Strength.{rename_instance}
 use Rattle.lf.proofs.ToSkeletons.{variable_has_skeleton}
 use Rattle.lf.proofs.TypeLaws.{skeleton_substituted}
-use Rattle.unification.proofs.Eta.{SpineSkeleton-add_last, rename_add_last}
+use Rattle.unification.proofs.Eta.{SpineSkeleton-add_last, rename_add_last, rename_id_type}
 use Rattle.elaboration.specs.Completions.{Completes, CompletesDomain, CompletesFamily, CompletesKind, CompletesType, FreeValue, KindTakesAny, TakesAny, any_next, any_none, applied_completed, arrow_completed, bound_completed, constant_completed, definition_completed, family_applied_completed, family_completed, family_name_completed, function_completed, kind_any_next, kind_any_none, kind_arrow_completed, kind_quantified_completed, quantified_completed, star_completed, type_completed}
 use Rattle.elaboration.specs.Principal.{Completion, CompletesBody, IsCompletion, WrittenBody, written_constant, written_family}
 use Rattle.elaboration.specs.Written as forms
@@ -34,7 +34,7 @@ use Rattle.tw_scope.specs.Names.{Names, variable_of}
 use Rattle.tw_signature.specs.Names.{number_of}
 use Rattle.tw_written.specs.View.{place_of}
 use Rattle.explicit_agrees.proofs.Parts.{family_form, one_more, renamed_kind_instance, then_is_last}
-use Rattle.explicit_agrees.proofs.Views.{View, kind_moved_over, moved_over, onto_nothing, view_by, view_empty, view_under}
+use Rattle.explicit_agrees.proofs.Views.{View, kind_moved_over, moved_over, onto_nothing, rename_id_kind, view_by, view_empty, view_under}
 
 abbrev shapes : List LfType → List Shape
 shapes [] = []
@@ -81,7 +81,7 @@ behind_is fits (Some (shape_arrow s u)) t e = by (fits s) refl e
     by false k h = absurd cc
 
 -- the parts of what is resolved
-both_parts : {A B C : Type 0} (make : A → B → C) (r : Reading A) (f : List Skeleton → Reading B) (c : C) (q : List Skeleton) → with_both (made make) r f ≡ Some (c, q)
+pub both_parts : {A B C : Type 0} (make : A → B → C) (r : Reading A) (f : List Skeleton → Reading B) (c : C) (q : List Skeleton) → with_both (made make) r f ≡ Some (c, q)
     → (a : A) × (p : List Skeleton) × (b : B) × (r ≡ Some (a, p)) × (f p ≡ Some (b, q)) × (c ≡ make a b)
 both_parts {A} {B} {C} make r f c q e =
     let (a, p, d, g) = and_then_parts r (λ a p. and_then (f p) (made make a)) c q e in
@@ -89,7 +89,7 @@ both_parts {A} {B} {C} make r f c q e =
     let same = parts_of (make a b) c n q k in
     (a, p, b, d, subst (λ l. f p ≡ Some (b, l)) same.1 h, sym same.0)
 
-argument_parts : (r : Reading WrittenType) (f : List Skeleton → Reading Written) (c : WrittenType) (q : List Skeleton) → with_both on_argument r f ≡ Some (c, q)
+pub argument_parts : (r : Reading WrittenType) (f : List Skeleton → Reading Written) (c : WrittenType) (q : List Skeleton) → with_both on_argument r f ≡ Some (c, q)
     → (a : WrittenType) × (p : List Skeleton) × (b : Written) × (r ≡ Some (a, p)) × (f p ≡ Some (b, q)) × (c ≡ forms.family_applied a b)
 argument_parts r f c q e =
     let (a, p, d, g) = and_then_parts r (λ a p. and_then (f p) (on_argument a)) c q e in
@@ -429,37 +429,40 @@ module _ (es : List Entry) (ok : IsSignature (signature_of es)) (free : Names) (
   kind_back (ascription M U) N G v o w q K e r c = absurd cc
 
 -- what is read, where it takes the whole list
-whole_parts : {A : Type 0} (r : Reading A) (a : A) → taken_whole r ≡ Some a → r ≡ Some (a, [])
+pub whole_parts : {A : Type 0} (r : Reading A) (a : A) → taken_whole r ≡ Some a → r ≡ Some (a, [])
 whole_parts None a e = absurd cc
 whole_parts (Some (b, [])) a e = ap (λ x. given x []) (some_is e)
 whole_parts (Some (b, s ∷ o)) a e = absurd cc
 
-one_part : {A B : Type 0} (make : A → B) (r : Reading A) (b : B) (q : List Skeleton) → with_one make r ≡ Some (b, q) → (a : A) × (r ≡ Some (a, q)) × (b ≡ make a)
+pub one_part : {A B : Type 0} (make : A → B) (r : Reading A) (b : B) (q : List Skeleton) → with_one make r ≡ Some (b, q) → (a : A) × (r ≡ Some (a, q)) × (b ≡ make a)
 one_part make r b q e =
     let (a, p, d, g) = and_then_parts r (λ a p. given (make a) p) b q e in
     let same = parts_of (make a) b p q g in
     (a, subst (λ l. r ≡ Some (a, l)) same.1 d, sym same.0)
 
--- where it gives no entry, no completion is there
-pub no_completion : (es : List Entry) → IsCanonicalSignature es → (d : Declaration) → IsExplicit es d → ((e : Entry) → explicit.Completes es d e → ⊥) → (rows : Rows) (o : List Skeleton) (w : WrittenBody) → resolved_body es rows o d ≡ Some w → (c : Completion) → IsCompletion es (skeletons_of rows) w c → ⊥
-no_completion es canonical (declare x at U) (known, form) none rows o w r c h = by (ends_in_type U) (whole_parts (classifier_read es (names_of rows) [] (ends_in_type U) U o) w r)
+-- what completes it, whatever is free, is what the text gives
+pub given_back : (es : List Entry) → IsCanonicalSignature es → (U : Term) → is_type_form es [] [] U ≡ true → (rows : Rows) (o : List Skeleton) (w : WrittenBody) → taken_whole (classifier_read es (names_of rows) [] (ends_in_type U) U o) ≡ Some w
+    → (c : Completion) → IsCompletion es (skeletons_of rows) w c → BodyGiven es U c.body
+given_back es canonical U form rows o w r c h = by (ends_in_type U) (whole_parts (classifier_read es (names_of rows) [] (ends_in_type U) U o) w r)
   where
-    completed : (b : Body) → BodyGiven es U b → ⊥
-    completed b g = none (record { name = x; body = b; implicit = zero; hints = hints U }) (record { name = refl; body = g; implicit = refl; hint_each = refl })
+    of_family : (k : WrittenKind) (b : Body) → resolved_kind es (names_of rows) [] U o ≡ Some (k, []) → CompletesBody es c.quantifiers c.frees (written_family k) b → BodyGiven es U b
+    of_family k (declare_family K) e g = subst (KindGives es [] [] U) (rename_id_kind K) (kind_back es (canonical_is_signature es canonical) (names_of rows) c.quantifiers c.frees U [] [] view_empty o k [] K form e g)
+    of_family k (declare_constant A) e g = absurd g
+    of_family k (declare_definition M A b) e g = absurd g
 
-    of_family : (k : WrittenKind) (b : Body) → resolved_kind es (names_of rows) [] U o ≡ Some (k, []) → CompletesBody es c.quantifiers c.frees (written_family k) b → ⊥
-    of_family k (declare_family K) e g = completed (declare_family (rename_kind (λ i. i) K)) (kind_back es (canonical_is_signature es canonical) (names_of rows) c.quantifiers c.frees U [] [] view_empty o k [] K form e g)
-    of_family k (declare_constant A) e g = g
-    of_family k (declare_definition M A b) e g = g
+    of_constant : (V : WrittenType) (b : Body) → resolved_type es (names_of rows) [] U o ≡ Some (V, []) → CompletesBody es c.quantifiers c.frees (written_constant V) b → BodyGiven es U b
+    of_constant V (declare_constant A) e g = subst (TypeGives es [] [] U) (rename_id_type A) (type_back es (canonical_is_signature es canonical) (names_of rows) c.quantifiers c.frees U [] [] view_empty o V [] A form e g)
+    of_constant V (declare_family K) e g = absurd g
+    of_constant V (declare_definition M A b) e g = absurd g
 
-    of_constant : (V : WrittenType) (b : Body) → resolved_type es (names_of rows) [] U o ≡ Some (V, []) → CompletesBody es c.quantifiers c.frees (written_constant V) b → ⊥
-    of_constant V (declare_constant A) e g = completed (declare_constant (rename_type (λ i. i) A)) (type_back es (canonical_is_signature es canonical) (names_of rows) c.quantifiers c.frees U [] [] view_empty o V [] A form e g)
-    of_constant V (declare_family K) e g = g
-    of_constant V (declare_definition M A b) e g = g
-
-    by : (t : Bool) → classifier_read es (names_of rows) [] t U o ≡ Some (w, []) → ⊥
+    by : (t : Bool) → classifier_read es (names_of rows) [] t U o ≡ Some (w, []) → BodyGiven es U c.body
     by true e = let (k, i, j) = one_part written_family (resolved_kind es (names_of rows) [] U o) w [] e in of_family k c.body i (subst (λ z. CompletesBody es c.quantifiers c.frees z c.body) j h.completed)
     by false e = let (V, i, j) = one_part written_constant (resolved_type es (names_of rows) [] U o) w [] e in of_constant V c.body i (subst (λ z. CompletesBody es c.quantifiers c.frees z c.body) j h.completed)
+
+-- where it gives no entry, no completion is there
+pub no_completion : (es : List Entry) → IsCanonicalSignature es → (d : Declaration) → IsExplicit es d → ((e : Entry) → explicit.Completes es d e → ⊥) → (rows : Rows) (o : List Skeleton) (w : WrittenBody) → resolved_body es rows o d ≡ Some w → (c : Completion) → IsCompletion es (skeletons_of rows) w c → ⊥
+no_completion es canonical (declare x at U) (known, form) none rows o w r c h =
+    none (record { name = x; body = c.body; implicit = zero; hints = hints U }) (record { name = refl; body = given_back es canonical U form rows o w r c h; implicit = refl; hint_each = refl })
 no_completion es canonical (define x A M b) (known, form) none rows o w r c h = absurd cc
 no_completion es canonical (prefer a x y) (known, form) none rows o w r c h = absurd cc
 no_completion es canonical (give fix names) (known, form) none rows o w r c h = absurd cc

@@ -47,21 +47,21 @@ module _ (es : List Entry) where
     DomainIsBare N (typed A) = TypeIsBare N A
 
   -- a name that is bare in the first scope is so in the second, which has the variables of arrows as well
-  abbrev IsWider : Names → Names → Type 0
+  abbrev pub IsWider : Names → Names → Type 0
   IsWider N M = (x : List ℕ) → NameIsBare (named es N x) → NameIsBare (named es M x)
 
   behind_variable : (i c : Option ℕ) → NameIsBare (head_named i c) → NameIsBare (head_named (option_map suc i) c)
   behind_variable (Some i) c h = h
   behind_variable None c h = h
 
-  before_variable : (i c : Option ℕ) → NameIsBare (head_named (option_map suc i) c) → NameIsBare (head_named i c)
+  pub before_variable : (i c : Option ℕ) → NameIsBare (head_named (option_map suc i) c) → NameIsBare (head_named i c)
   before_variable (Some i) c h = h
   before_variable None c h = h
 
   wider_by : (N M : Names) → IsWider N M → IsWider N (None ∷ M)
   wider_by N M w x h = behind_variable (variable_of M x) (number_of es x) (w x h)
 
-  wider_under : (n : Option (List ℕ)) (N M : Names) → IsWider N M → IsWider (n ∷ N) (n ∷ M)
+  pub wider_under : (n : Option (List ℕ)) (N M : Names) → IsWider N M → IsWider (n ∷ N) (n ∷ M)
   wider_under None N M w x h = behind_variable (variable_of M x) (number_of es x) (w x (before_variable (variable_of N x) (number_of es x) h))
   wider_under (Some y) N M w x h = by (bytes_eq y x) h
     where

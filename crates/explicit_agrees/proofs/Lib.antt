@@ -5,7 +5,9 @@ pub mod Parts
 pub mod Completing
 pub mod Whole
 pub mod Back
+pub mod Nothing
 pub mod Steady
 pub mod Mismatch
 pub mod Reconstructed
 pub mod Definitions
+pub mod Only

@@ -13,13 +13,13 @@ use Rattle.explicit_agrees.proofs.Mismatch.{explicit_mismatch}
 use Rattle.explicit_agrees.proofs.Whole.{explicit_principal}
 
 -- a hint for each
-fitting_hints : (hs : List (Option (List ℕ))) (n : ℕ) → length hs ≡ n → hs ≡ fitted n hs
+pub fitting_hints : (hs : List (Option (List ℕ))) (n : ℕ) → length hs ≡ n → hs ≡ fitted n hs
 fitting_hints [] zero e = refl
 fitting_hints [] (suc n) e = absurd cc
 fitting_hints (h ∷ hs) zero e = absurd cc
 fitting_hints (h ∷ hs) (suc n) e = ap (λ ks. h ∷ ks) (fitting_hints hs n (omega arith))
 
-nothing_over : (b : Body) → b ≡ body_over [] b
+pub nothing_over : (b : Body) → b ≡ body_over [] b
 nothing_over (declare_family K) = refl
 nothing_over (declare_constant A) = refl
 nothing_over (declare_definition M A b) = refl

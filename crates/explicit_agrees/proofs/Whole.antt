@@ -12,14 +12,15 @@ use Rattle.elaboration.specs.Written.{WrittenKind, WrittenType}
 use Rattle.tw_approx.specs.Answer.{HasSkeletons, frees_of}
 use Rattle.tw_approx.specs.Skeletons.{FitsClassifier, Frees, due}
 use Rattle.tw_approx.proofs.Sequences.{parts_of}
-use Rattle.tw_explicit.specs.Answer.{ends_in_type}
-use Rattle.tw_explicit.specs.Completion.{BodyGiven, KindGives, TypeGives}
+use Rattle.tw_explicit.specs.Answer.{IsExplicit, ends_in_type}
+use Rattle.tw_explicit.specs.Completion.{BodyGiven, Completes, KindGives, TypeGives}
 use Rattle.tw_explicit.specs.Scope.{binder_name}
+use Rattle.tw_explicit.proofs.Gives.{kind_typed, type_typed}
 use Rattle.tw_lexer.specs.declared.place.Place.{Place}
 use Rattle.tw_parse.specs.Syntax.{Term, application, arrow, declare, define, give, identifier, pi, prefer, star}
 use Rattle.tw_resolve.specs.Resolved.{classifier_read, taken_whole, with_one}
 use Rattle.tw_scope.specs.Names.{Names}
-use Rattle.explicit_agrees.specs.Agreement.{ExplicitIsPrincipal}
+use Rattle.explicit_agrees.specs.Agreement.{ExplicitIsPrincipal, IsPrincipallyCompleted}
 use Rattle.explicit_agrees.proofs.Bare.{TypeIsBare, type_closed, type_without, whole_bare}
 use Rattle.explicit_agrees.proofs.Completing.{kind_done, type_done}
 use Rattle.explicit_agrees.proofs.Fitting.{kind_fits, type_fits}
@@ -145,10 +146,16 @@ module _ (es : List Entry) where
     body_principal U (declare_constant A) g b i = (constant_principal U A g b i, type_fitting U A g b)
     body_principal U (declare_definition M A d) g b i = absurd g
 
-pub explicit_principal : ExplicitIsPrincipal
-explicit_principal es canonical (declare c at U) e (known, form) g stands =
+given_typed : (es : List Entry) (U : Term) (b : Body) → BodyGiven es U b → BodyIsTyped (signature_of es) b
+given_typed es U (declare_family K) g = kind_typed es U [] [] K g
+given_typed es U (declare_constant A) g = type_typed es U [] [] A g
+given_typed es U (declare_definition M A d) g = absurd g
+
+-- what is given is typed
+pub completed_principal : (es : List Entry) → IsCanonicalSignature es → (c : List ℕ) (at : Place) (U : Term) (e : Entry) → IsExplicit es (declare c at U) → Completes es (declare c at U) e → IsPrincipallyCompleted es (declare c at U) e
+completed_principal es canonical c at U e (known, form) g =
     let b = whole_bare es U form in
-    let ((w, r, p), f) = body_principal es canonical U e.body g.body b stands.typed in
+    let ((w, r, p), f) = body_principal es canonical U e.body g.body b (given_typed es U e.body g.body) in
     record {
       objects = record { known = known; no_definition = refl; no_lambda = type_without es U [] b };
       skeletons = skeletons_found es c at U b f;
@@ -156,6 +163,9 @@ explicit_principal es canonical (declare c at U) e (known, form) g stands =
       resolved = r;
       principal = p;
     }
+
+pub explicit_principal : ExplicitIsPrincipal
+explicit_principal es canonical (declare c at U) e x g stands = completed_principal es canonical c at U e x g
 explicit_principal es canonical (define c A M b) e x g stands = absurd g
 explicit_principal es canonical (prefer a x y) e h g stands = absurd g
 explicit_principal es canonical (give fix names) e h g stands = absurd g

@@ -3,7 +3,7 @@
 
 ghost use Rattle.explicit_agrees.specs.Agreement.{ExplicitIsPrincipal, ExplicitMismatchHasNoCompletion};
 ghost use Rattle.explicit_agrees.specs.Definitions.{ExplicitDefinitionIsPrincipal, ExplicitDefinitionIsReconstructed};
-ghost use Rattle.explicit_agrees.specs.Reconstructed.{ExplicitIsReconstructed, ExplicitMismatchIsMismatch};
+ghost use Rattle.explicit_agrees.specs.Reconstructed.{ExplicitHasNoOtherCause, ExplicitIsReconstructed, ExplicitMismatchIsMismatch, ReconstructedIsCompleted};
 
 /// What an explicit declaration is completed to is its principal completion.
 pub fn explicit_is_principal()
@@ -33,4 +33,14 @@ pub fn explicit_definition_is_principal()
 /// So it is what the definition would be reconstructed to.
 pub fn explicit_definition_is_reconstructed()
     ensures { ExplicitDefinitionIsReconstructed }
+{}
+
+/// It would be reconstructed to nothing else.
+pub fn reconstructed_is_completed()
+    ensures { ReconstructedIsCompleted }
+{}
+
+/// And reconstruction refuses it for nothing else, but for what is too deep and for want of memory.
+pub fn explicit_has_no_other_cause()
+    ensures { ExplicitHasNoOtherCause }
 {}

@@ -1,5 +1,5 @@
 -- What is accepted keeps a session in order.
-use Rattle.std.proofs.Common.{◌≡◌, ℕ, zero, suc, ◌-◌, ◌<◌, ◌≤◌, List, [], ◌∷◌, length, Bool, true, false, cond, Option, Some, None, refl, sym, ap, ◌∙◌, subst, arith, ◌++◌, inl, inr}
+use Rattle.std.proofs.Common.{◌≡◌, ℕ, zero, suc, ◌-◌, ◌<◌, ◌≤◌, List, [], ◌∷◌, length, Bool, true, false, cond, Option, Some, None, refl, sym, ap, ◌∙◌, subst, arith, ◌++◌}
 use Rattle.std.specs.Prelude.{◌&&◌, nat_le}
 use Rattle.std.specs.Str.{bytes_eq}
 use Rattle.std.proofs.lemmas.Bool.{cond-false}
@@ -12,7 +12,6 @@ use Rattle.std.specs.Ordering.{eq_by_cmp, nat_cmp}
 use Rattle.lf.specs.Entries.{Entry, entry, signature_of, body_quantifiers, IsCanonicalEntry, IsCanonicalSignature}
 use Rattle.lf.specs.Variables.{same_number}
 use Rattle.lf.proofs.Checker.{number_is}
-use Rattle.tw_explicit.specs.Completion.{IsCompletion, hints}
 use Rattle.tw_fixity.specs.Rows.{name_order}
 use Rattle.tw_fixity.specs.declared.table.Fix.{Fix}
 use Rattle.tw_fixity.specs.declared.table.Fix.TheVariants.{Infix, Prefix, Postfix}
@@ -30,7 +29,7 @@ use Rattle.tw_recon.specs.Reconstruction.{IsReconstructed, declared_name}
 use Rattle.tw_recon.proofs.OfRows.{AreOfRows, hints_of_rows}
 use Rattle.tw_signature.specs.Names.{number_of}
 use Rattle.tw_decl.specs.View.{View, with_chatter, with_implicit, with_steps, with_entry, scene_of}
-use Rattle.tw_decl.specs.Declaration.{IsWritten, Completed, Reconstructed, is_unnamed, GivesRows, Prefers, Does}
+use Rattle.tw_decl.specs.Declaration.{IsWritten, Enters, is_unnamed, GivesRows, Prefers, Does}
 use Rattle.tw_decl.specs.Operators.{entry_by, newest, explicit_count, operand_count, takes, all_take, with_rows}
 use Rattle.reading_back.specs.Names.{IsName, AreGoodHints, PreferNames, HasGoodRows}
 use Rattle.session_order.specs.Laws.{NewIsInOrder, SettingKeepsOrder, MakingKeepsOrder, AcceptingKeepsOrder, AcceptingFromKeepsOrder}
@@ -116,11 +115,6 @@ one_more v e stands n g o = record {
   rows = rows_kept v e o.rows;
 }
 
-completed_keeps : (v w : View) (c : List ℕ) (at : _) (U : Term) (report : List ℕ) → IsName c → AreGoodHints (hints U) → Completed v (declare c at U) report w → IsViewInOrder v → IsViewInOrder w
-completed_keeps v w c at U report n g h o =
-    let k : IsCompletion v.signature c U h.entry = h.completes in
-    subst IsViewInOrder (sym h.keeps) (one_more v h.entry h.stands (subst IsName (sym k.name) n) (subst AreGoodHints (sym k.hint_each) g) o)
-
 -- the hints of a reconstruction are free variables, and binders that are written
 good_head : (h : Option (List ℕ)) (hs : List (Option (List ℕ))) → AreGoodHints (h ∷ hs) → (y : List ℕ) → h ≡ Some y → IsName y
 good_head h hs g y e = g zero y (ap Some e)
@@ -149,9 +143,9 @@ reconstructed_good es d e f g k =
     (good_rows k.rows k.quantifier_hints (λ x r. f x (k.is_written.skeletons.row_is_free x r)) (hints_of_rows es k.rows k.written k.quantifiers k.quantifier_hints k.shown k.inner k.completed))
     (good_fitted (body_quantifiers k.inner) (written_hints d) g))
 
-reconstructed_keeps : (v w : View) (words : List Lexeme) (d : Declaration) (report : List ℕ) → AreSpelled words → Declares v.fixities words d → IsName (declared_name d) → AreGoodHints (written_hints d) → is_unnamed d ≡ false
-    → Reconstructed v d report w → IsViewInOrder v → IsViewInOrder w
-reconstructed_keeps v w words d report all r n g named h o =
+entered_keeps : (v w : View) (words : List Lexeme) (d : Declaration) (report : List ℕ) → AreSpelled words → Declares v.fixities words d → IsName (declared_name d) → AreGoodHints (written_hints d) → is_unnamed d ≡ false
+    → Enters v d report w → IsViewInOrder v → IsViewInOrder w
+entered_keeps v w words d report all r n g named h o =
     let k = h.reconstructs in
     let kept : w ≡ with_entry v h.entry = h.keeps ∙ cond-false (is_unnamed d) v (with_entry v h.entry) named in
     subst IsViewInOrder (sym kept)
@@ -225,13 +219,11 @@ pub making_keeps : MakingKeepsOrder
 making_keeps v w words report all m o = by_declaration m.declaration m.reads.reads m.does
   where
     by_declaration : (d : Declaration) → Declares v.fixities words d → Does v d report w → IsViewInOrder w
-    by_declaration (declare c at U) r (inl h) = let n = declared_named v.fixities words c at U all r in completed_keeps v w c at U report n.0 n.1 h o
-    by_declaration (declare c at U) r (inr h) =
-        let n = declared_named v.fixities words c at U all r in reconstructed_keeps v w words (declare c at U) report all r n.0 n.1 refl h o
-    by_declaration (define c A M b) r (inl h) = absurd h.completes
-    by_declaration (define None A M b) r (inr h) = subst IsViewInOrder (sym h.keeps) o
-    by_declaration (define (Some c) A M b) r (inr h) =
-        let n = defined_named v.fixities words (Some c) A M b all r in reconstructed_keeps v w words (define (Some c) A M b) report all r (n.0 c refl) n.1 refl h o
+    by_declaration (declare c at U) r h =
+        let n = declared_named v.fixities words c at U all r in entered_keeps v w words (declare c at U) report all r n.0 n.1 refl h o
+    by_declaration (define None A M b) r h = subst IsViewInOrder (sym h.keeps) o
+    by_declaration (define (Some c) A M b) r h =
+        let n = defined_named v.fixities words (Some c) A M b all r in entered_keeps v w words (define (Some c) A M b) report all r (n.0 c refl) n.1 refl h o
     by_declaration (prefer a x y) r h = preferred_keeps v w a x y report (preferred_names v.fixities words a x y all r) h o
     by_declaration (give fix names) r h = given_keeps v w fix names report h o
 

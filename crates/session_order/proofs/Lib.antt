@@ -4,4 +4,3 @@ pub mod Keeping
 pub mod Reading
 pub mod Steps
 pub mod Accepting
-pub mod Principal

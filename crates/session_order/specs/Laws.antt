@@ -15,9 +15,8 @@ use Rattle.tw_print.specs.Names.{Scene}
 use Rattle.tw_print.specs.Shown.{declaration_line, scene_after}
 use Rattle.tw_approx.specs.Names.{IsFreeVariable}
 use Rattle.tw_recon.specs.Hints.{written_hints}
-use Rattle.reading_back.specs.Laws.{IsDeclared, IsOpenEntry}
-use Rattle.reading_back.specs.Names.{EachIs, IsPlainByte, IsName, AreGoodHints, PreferNames, HasRoom, HasNoImplicit}
-use Rattle.tw_decl.specs.View.{View, empty_view, reset_view, with_chatter, with_implicit, with_steps, with_entry, scene_of, told}
+use Rattle.reading_back.specs.Names.{IsName, AreGoodHints, PreferNames, HasRoom, HasNoImplicit}
+use Rattle.tw_decl.specs.View.{View, empty_view, reset_view, with_chatter, with_implicit, with_steps, with_entry, scene_of, told, IsSound}
 use Rattle.tw_decl.specs.Declaration.{Makes, Accepts, AcceptsFrom}
 use Rattle.tw_ports.specs.Files.{Held}
 use Rattle.tw_server.specs.Machine.{Step}
@@ -25,7 +24,7 @@ use Rattle.tw_server.specs.Outcome.{RanTo}
 use Rattle.tw_server.specs.State.{State, state_at}
 use Rattle.tw_server.specs.declared.status.Status.{Status}
 use Rattle.session_order.specs.Words.{AreSpelled}
-use Rattle.session_order.specs.Order.{IsViewInOrder, LineReadsBack, ReadsItselfBack, IsWithinLimits, AcceptsAgain}
+use Rattle.session_order.specs.Order.{HasOpenLine, HasPlainLine, IsViewInOrder, LineReadsBack, ReadsItselfBack, IsWithinLimits, AcceptsAgain}
 
 -- what a text has as names are names
 abbrev pub TokensAreSpelled : Type 0
@@ -80,11 +79,11 @@ RunIsInOrder = (held : Option Held) (words : List (List ℕ)) (left : Option (Li
 abbrev pub KeptReadsBack : Type 0
 KeptReadsBack = (v : View) → IsViewInOrder v → ReadsItselfBack v
 
--- The line of a declared family or constant in which each constant is the newest of its name and has no implicit arguments, and nothing nests too deep to be shown,
--- reads back whatever else a session in order holds.
+-- The line of an entry in which each constant is the newest of its name and has no implicit arguments, and nothing nests too deep to be shown, reads back whatever else a session in
+-- order holds.
 abbrev pub OpenReadsBack : Type 0
-OpenReadsBack = (v : View) (newer older : List Entry) (e : Entry) → IsViewInOrder v → v.parameters.implicit ≡ false → HasRoom (scene_of v) → v.signature ≡ newer ++ e ∷ older → IsDeclared e.body
-    → IsOpenEntry (scene_of v) e → LineReadsBack (scene_of v) older v.fixities e
+OpenReadsBack = (v : View) (newer older : List Entry) (e : Entry) → IsViewInOrder v → v.parameters.implicit ≡ false → HasRoom (scene_of v) → v.signature ≡ newer ++ e ∷ older
+    → HasOpenLine (scene_of v) e → LineReadsBack (scene_of v) older v.fixities e
 
 -- THE theorem of runs: in a run that begins with a new session, each session in which nothing is implicit reads back what it prints
 abbrev pub RunReadsBack : Type 0
@@ -93,14 +92,14 @@ RunReadsBack = (held : Option Held) (words : List (List ℕ)) (left : Option (Li
 
 -- the line of an entry that is about to be kept is read back by the session as it still is
 abbrev pub NewReadsBack : Type 0
-NewReadsBack = (v : View) (e : Entry) → IsViewInOrder (with_entry v e) → v.parameters.implicit ≡ false → HasRoom (scene_of (with_entry v e)) → HasNoImplicit (scene_of (with_entry v e)) → IsDeclared e.body
-    → EachIs IsPlainByte (declaration_line (scene_after (scene_of v) e) e) → LineReadsBack (scene_after (scene_of v) e) v.signature v.fixities e
+NewReadsBack = (v : View) (e : Entry) → IsViewInOrder (with_entry v e) → v.parameters.implicit ≡ false → HasRoom (scene_of (with_entry v e)) → HasNoImplicit (scene_of (with_entry v e))
+    → HasPlainLine (scene_after (scene_of v) e) e → LineReadsBack (scene_after (scene_of v) e) v.signature v.fixities e
 
--- A report of this entry: its line, which is read back by the session before, if the entry is declared and the line is open, or nothing is implicit and no percent sign is in it.
+-- A report of this entry: its line, which is read back by the session before, if it is open, or nothing is implicit and no percent sign is in it.
 pub record Reports (v w : View) (report : List ℕ) (e : Entry) : Type 0 where
   pub shows : report ≡ told v (declaration_line (scene_of w) e ++ codes "\n")
-  pub open_reads_back : IsDeclared e.body → IsOpenEntry (scene_of w) e → LineReadsBack (scene_of w) v.signature v.fixities e
-  pub reads_back : HasNoImplicit (scene_of w) → IsDeclared e.body → EachIs IsPlainByte (declaration_line (scene_of w) e) → LineReadsBack (scene_of w) v.signature v.fixities e
+  pub open_reads_back : HasOpenLine (scene_of w) e → LineReadsBack (scene_of w) v.signature v.fixities e
+  pub reads_back : HasNoImplicit (scene_of w) → HasPlainLine (scene_of w) e → LineReadsBack (scene_of w) v.signature v.fixities e
 
 -- what an accepted declaration of an entry reports reads back
 abbrev pub ReportReadsBack : Type 0
@@ -111,21 +110,21 @@ abbrev pub ReportFromReadsBack : Type 0
 ReportFromReadsBack = (v w : View) (text report : List ℕ) (from upto : ℕ) (e : Entry) → AcceptsFrom v text from report upto w → w.signature ≡ e ∷ v.signature → IsViewInOrder v → v.parameters.implicit ≡ false → HasRoom (scene_of w)
     → Reports v w report e
 
--- a line that reads back over a session, within the limits, is accepted by that session
+-- a line that reads back over a session whose signature is canonical, within the limits, is accepted by that session
 abbrev pub ReadBackIsAccepted : Type 0
-ReadBackIsAccepted = (s : Scene) (v : View) (e : Entry) → LineReadsBack s v.signature v.fixities e → IsCanonicalEntry (signature_of v.signature) e → IsWithinLimits (declaration_line s e) → AcceptsAgain v (declaration_line s e) e
+ReadBackIsAccepted = (s : Scene) (v : View) (e : Entry) → IsSound v → LineReadsBack s v.signature v.fixities e → IsCanonicalEntry (signature_of v.signature) e → IsWithinLimits (declaration_line s e) → AcceptsAgain v (declaration_line s e) e
 
 -- so the line of an entry of a session is accepted by one that has the entries before it and the same operators, and declares the entry again
 abbrev pub KeptIsAccepted : Type 0
-KeptIsAccepted = (v u : View) (newer older : List Entry) (e : Entry) → IsViewInOrder v → v.parameters.implicit ≡ false → HasRoom (scene_of v) → HasNoImplicit (scene_of v) → v.signature ≡ newer ++ e ∷ older → IsDeclared e.body
-    → EachIs IsPlainByte (declaration_line (scene_of v) e) → u.signature ≡ older → u.fixities ≡ v.fixities → IsWithinLimits (declaration_line (scene_of v) e) → AcceptsAgain u (declaration_line (scene_of v) e) e
+KeptIsAccepted = (v u : View) (newer older : List Entry) (e : Entry) → IsViewInOrder v → v.parameters.implicit ≡ false → HasRoom (scene_of v) → HasNoImplicit (scene_of v) → v.signature ≡ newer ++ e ∷ older
+    → HasPlainLine (scene_of v) e → u.signature ≡ older → u.fixities ≡ v.fixities → IsWithinLimits (declaration_line (scene_of v) e) → AcceptsAgain u (declaration_line (scene_of v) e) e
 
 -- the same of an open line, whatever else the sessions hold
 abbrev pub OpenIsAccepted : Type 0
-OpenIsAccepted = (v u : View) (newer older : List Entry) (e : Entry) → IsViewInOrder v → v.parameters.implicit ≡ false → HasRoom (scene_of v) → v.signature ≡ newer ++ e ∷ older → IsDeclared e.body
-    → IsOpenEntry (scene_of v) e → u.signature ≡ older → u.fixities ≡ v.fixities → IsWithinLimits (declaration_line (scene_of v) e) → AcceptsAgain u (declaration_line (scene_of v) e) e
+OpenIsAccepted = (v u : View) (newer older : List Entry) (e : Entry) → IsViewInOrder v → v.parameters.implicit ≡ false → HasRoom (scene_of v) → v.signature ≡ newer ++ e ∷ older
+    → HasOpenLine (scene_of v) e → u.signature ≡ older → u.fixities ≡ v.fixities → IsWithinLimits (declaration_line (scene_of v) e) → AcceptsAgain u (declaration_line (scene_of v) e) e
 
 -- and the line of an entry that was just declared by the session before
 abbrev pub NewIsAccepted : Type 0
-NewIsAccepted = (v : View) (e : Entry) → IsViewInOrder (with_entry v e) → v.parameters.implicit ≡ false → HasRoom (scene_of (with_entry v e)) → HasNoImplicit (scene_of (with_entry v e)) → IsDeclared e.body
-    → EachIs IsPlainByte (declaration_line (scene_of (with_entry v e)) e) → IsWithinLimits (declaration_line (scene_of (with_entry v e)) e) → AcceptsAgain v (declaration_line (scene_of (with_entry v e)) e) e
+NewIsAccepted = (v : View) (e : Entry) → IsViewInOrder (with_entry v e) → v.parameters.implicit ≡ false → HasRoom (scene_of (with_entry v e)) → HasNoImplicit (scene_of (with_entry v e))
+    → HasPlainLine (scene_of (with_entry v e)) e → IsWithinLimits (declaration_line (scene_of (with_entry v e)) e) → AcceptsAgain v (declaration_line (scene_of (with_entry v e)) e) e

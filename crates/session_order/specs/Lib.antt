@@ -1,4 +1,3 @@
 pub mod Words
 pub mod Order
 pub mod Laws
-pub mod Principal

@@ -1,6 +1,6 @@
 -- A session whose printed lines read back.
 use Rattle.std.specs.Prelude.{◌≡◌, ℕ, ◌+◌, ◌<◌, List, [], ◌∷◌, ◌++◌, length, drop, false, None, Some}
-use Rattle.lf.specs.Entries.{Entry, entry}
+use Rattle.lf.specs.Entries.{Body, Entry, declare_constant, declare_definition, declare_family, entry}
 use Rattle.tw_lexer.specs.Tokens.{ThroughDot}
 use Rattle.tw_lexer.specs.declared.token.Token.{Token}
 use Rattle.tw_parse.specs.Nesting.{first_too_deep}
@@ -8,7 +8,7 @@ use Rattle.tw_parse.specs.Outlines.{Table}
 use Rattle.tw_parse.specs.Words.{lexemes}
 use Rattle.tw_print.specs.Names.{Scene}
 use Rattle.tw_print.specs.Shown.{declaration_line}
-use Rattle.reading_back.specs.Laws.{IsDeclared, ReadsAs}
+use Rattle.reading_back.specs.Laws.{IsOpenDefinition, IsOpenEntry, ReadsAs, ReadsAsDefinition, bare_line}
 use Rattle.reading_back.specs.Names.{EachIs, IsPlainByte, HasRoom, HasGoodNames, AreGoodHints, HasGoodPreferences, HasGoodRows, HasNoImplicit}
 use Rattle.tw_decl.specs.View.{View, scene_of, with_entry, IsSound}
 use Rattle.tw_decl.specs.Declaration.{Accepts}
@@ -22,13 +22,32 @@ pub record IsViewInOrder (v : View) : Type 0 where
   pub preferences : HasGoodPreferences (scene_of v)
   pub rows : HasGoodRows (scene_of v)
 
--- The line of an entry, wherever it stands in a text, is read with the table as one declaration, and completes over the signature to the same body.
-abbrev pub LineReadsBack : Scene → List Entry → Table → Entry → Type 0
-LineReadsBack s es table e = (text after : List ℕ) (from : ℕ) → drop from text ≡ declaration_line s e ++ after → ReadsAs es table text from (from + length (declaration_line s e)) e.name e.body
+-- The text from one byte up to another is read with the table as one declaration of this name, which gives this body over the signature.
+abbrev pub ReadsBody : List Entry → Table → List ℕ → ℕ → ℕ → List ℕ → Body → Type 0
+ReadsBody es table text from upto name (declare_family K) = ReadsAs es table text from upto name (declare_family K)
+ReadsBody es table text from upto name (declare_constant A) = ReadsAs es table text from upto name (declare_constant A)
+ReadsBody es table text from upto name (declare_definition M A b) = ReadsAsDefinition es table text from upto name M A b
 
--- The line of each declared family or constant of the session, if no percent sign is in it, reads back over the entries before it.
+-- The line of an entry reads back so, wherever it stands in a text.
+abbrev pub LineReadsBack : Scene → List Entry → Table → Entry → Type 0
+LineReadsBack s es table e = (text after : List ℕ) (from : ℕ) → drop from text ≡ declaration_line s e ++ after → ReadsBody es table text from (from + length (declaration_line s e)) e.name e.body
+
+-- In the line each constant that is shown is the newest of its name and has no implicit arguments, and nothing nests too deep to be shown.
+abbrev pub IsOpen : Scene → Entry → Body → Type 0
+IsOpen s e (declare_family K) = IsOpenEntry s e
+IsOpen s e (declare_constant A) = IsOpenEntry s e
+IsOpen s e (declare_definition M A b) = IsOpenDefinition s e M A
+
+abbrev pub HasOpenLine : Scene → Entry → Type 0
+HasOpenLine s e = IsOpen s e e.body
+
+-- no percent sign is in the line, but that of the keyword of an abbreviation
+abbrev pub HasPlainLine : Scene → Entry → Type 0
+HasPlainLine s e = EachIs IsPlainByte (bare_line s e)
+
+-- The line of each entry of the session, if no percent sign is in it, reads back over the entries before it.
 abbrev pub EachReadsBack : View → Type 0
-EachReadsBack v = (newer older : List Entry) (e : Entry) → v.signature ≡ newer ++ e ∷ older → IsDeclared e.body → EachIs IsPlainByte (declaration_line (scene_of v) e) → LineReadsBack (scene_of v) older v.fixities e
+EachReadsBack v = (newer older : List Entry) (e : Entry) → v.signature ≡ newer ++ e ∷ older → HasPlainLine (scene_of v) e → LineReadsBack (scene_of v) older v.fixities e
 
 -- This holds where implicit arguments aren't shown and no entry has any: a line that leaves arguments out is reconstructed, and for that no such law is
 -- claimed. No memory holds too many entries.

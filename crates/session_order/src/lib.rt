@@ -1,7 +1,6 @@
 //! Each session is in order, so what it prints reads back. No function here has code: each carries one law as its contract.
 #![tactic(auto)]
 
-ghost use Rattle.session_order.specs.Principal.{AcceptedIsPrincipal};
 ghost use Rattle.session_order.specs.Laws.{TokensAreSpelled, DeclaredIsNamed, DefinedIsNamed, FreeAreNamed, PreferredAreNames, NewIsInOrder, SettingKeepsOrder, MakingKeepsOrder, AcceptingKeepsOrder, AcceptingFromKeepsOrder, StepKeepsOrder, RunIsInOrder, KeptReadsBack, OpenReadsBack, RunReadsBack, NewReadsBack, ReportReadsBack, ReportFromReadsBack, ReadBackIsAccepted, KeptIsAccepted, OpenIsAccepted, NewIsAccepted};
 
 /// What a text has as names are identifiers without a fixed meaning.
@@ -64,14 +63,13 @@ pub fn run_is_in_order()
     ensures { RunIsInOrder }
 {}
 
-/// The printed line of a declared family or constant of a session in order, in which nothing is implicit, reads back over the entries
-/// before it.
+/// The printed line of an entry of a session in order, in which nothing is implicit, reads back over the entries before it.
 pub fn kept_reads_back()
     ensures { KeptReadsBack }
 {}
 
-/// The printed line of a declared family or constant whose names aren't shadowed and have no implicit arguments reads back, whatever
-/// else a session in order holds.
+/// The printed line of an entry whose names aren't shadowed and have no implicit arguments reads back, whatever else a session in order
+/// holds.
 pub fn open_reads_back()
     ensures { OpenReadsBack }
 {}
@@ -114,9 +112,4 @@ pub fn open_is_accepted()
 /// The line of an entry that was just declared is accepted by the session before.
 pub fn new_is_accepted()
     ensures { NewIsAccepted }
-{}
-
-/// What is accepted is the principal completion of its text, whichever way it was completed.
-pub fn accepted_is_principal()
-    ensures { AcceptedIsPrincipal }
 {}

@@ -12,18 +12,19 @@ use Rattle.tw_parse.specs.Faults.{FaultStands}
 use Rattle.tw_parse.specs.Syntax.{Declaration, declare, define, prefer, give}
 use Rattle.tw_parse.specs.Words.{Lexeme, lexemes, first_place}
 use Rattle.tw_explicit.specs.Answer as explicit
-use Rattle.tw_explicit.specs.declared.fault.ExplicitFault.{ExplicitFault}
 use Rattle.tw_explicit.specs.declared.fault.ExplicitFault.TheVariants as completions
 use Rattle.tw_explicit.specs.Form.{is_explicit}
 use Rattle.tw_recon.specs.Causes as reconstruction
+use Rattle.tw_recon.specs.Reconstruction.{IsReconstructed}
 use Rattle.tw_recon.specs.declared.fault.ReconFault.{ReconFault}
 use Rattle.tw_recon.specs.declared.fault.ReconFault.TheVariants as reconstructions
 use Rattle.tw_unify.specs.declared.left.LeftEquation.{LeftEquation}
 use Rattle.tw_parse.specs.declared.fault.SyntaxFault.{SyntaxFault}
 use Rattle.tw_parse.specs.declared.fault.SyntaxFault.TheVariants as faults
-use Rattle.tw_decl.specs.View.{View}
-use Rattle.tw_decl.specs.Declaration.{IsWritten, IsWrittenAlone, IsReadAs, HasNoMore, CompletionFails, ReconstructionFails, IsUnknown, HasObstacle, entry_report, keeping, Does, IsPastSyntax, IsCause, IsCauseAlone, IsLastCause, HasCauseFrom, HasCause}
-use Rattle.tw_decl.specs.Steps.{IsPlain, Gives, ShowsLeft, IsRefusedFor, IsTokenCause, is_end, is_over, refusal_of, refused_alone}
+use Rattle.explicit_agrees.proofs.Reconstructed.{explicit_refused}
+use Rattle.tw_decl.specs.View.{View, IsSound}
+use Rattle.tw_decl.specs.Declaration.{IsWritten, IsWrittenAlone, IsReadAs, HasNoMore, ReconstructionFails, IsUnknown, HasObstacle, entry_report, keeping, Does, IsPastSyntax, IsCause, IsCauseAlone, IsLastCause, HasCauseFrom, HasCause}
+use Rattle.tw_decl.specs.Steps.{IsPlain, ShowsLeft, IsRefusedFor, IsTokenCause, is_end, is_over, refusal_of, refused_alone}
 use Rattle.tw_decl.specs.declared.refusal.Refusal.{Refusal}
 use Rattle.tw_decl.specs.declared.refusal.Refusal.TheVariants as refusals
 
@@ -89,24 +90,22 @@ alone_cause v end words next (faults.Fixity place) h = later v end words next (r
 alone_cause v end words next (faults.BadDecl place) h = later v end words next (refusals.BadDecl place) (is_end next.kind) refl (inl h) (inr (inr (place, h)))
 alone_cause v end words next faults.NoMemory h = inl tt
 
--- the fault of a completion or of a reconstruction, where there has to be one
-pub plain_unknown : (v : View) (d : Declaration) (name : List ℕ) (place : Place) → IsPlain d → explicit.HasCause v.signature d (completions.Unknown name place) → IsUnknown v d name place
+-- the fault of a reconstruction, where there has to be one
+pub plain_unknown : (v : View) (d : Declaration) (name : List ℕ) (place : Place) → IsPlain d → reconstruction.HasCause v.signature d (reconstructions.Unknown name place) → IsUnknown v d name place
 plain_unknown v (declare c at U) name place p h = h
 plain_unknown v (define c A M b) name place p h = h
 plain_unknown v (prefer a x y) name place p h = absurd p
 plain_unknown v (give fix names) name place p h = absurd p
 
-pub plain_completion : (v : View) (d : Declaration) (fault : ExplicitFault) → IsPlain d → explicit.HasCause v.signature d fault → CompletionFails v d fault
-plain_completion v (declare c at U) fault p h = h
-plain_completion v (define c A M b) fault p h = h
-plain_completion v (prefer a x y) fault p h = absurd p
-plain_completion v (give fix names) fault p h = absurd p
+pub plain_reconstruction : (v : View) (d : Declaration) (fault : ReconFault) → IsPlain d → reconstruction.HasCause v.signature d fault → ReconstructionFails v d fault
+plain_reconstruction v (declare c at U) fault p h = h
+plain_reconstruction v (define c A M b) fault p h = h
+plain_reconstruction v (prefer a x y) fault p h = absurd p
+plain_reconstruction v (give fix names) fault p h = absurd p
 
-plain_reconstruction : (v : View) (d : Declaration) (fault : ReconFault) → IsPlain d → is_explicit v.signature d ≡ false → reconstruction.HasCause v.signature d fault → ReconstructionFails v d fault
-plain_reconstruction v (declare c at U) fault p f h = (f, h)
-plain_reconstruction v (define c A M b) fault p f h = (f, h)
-plain_reconstruction v (prefer a x y) fault p f h = absurd p
-plain_reconstruction v (give fix names) fault p f h = absurd p
+-- an explicit declaration that gives no entry is a mismatch
+pub explicit_mismatched : (v : View) (d : Declaration) → IsSound v → IsPlain d → explicit.HasCause v.signature d completions.Mismatch → ReconstructionFails v d reconstructions.Mismatch
+explicit_mismatched v d s p (form, none) = plain_reconstruction v d reconstructions.Mismatch p (explicit_refused v.signature s d form none)
 
 -- an equation that is left, as a refusal
 pub left_refused : (v : View) (first : Place) (fault : ReconFault) (left : LeftEquation) (refusal : Refusal) → fault ≡ reconstructions.Leftover left → ShowsLeft v first left refusal → IsRefusedFor v first fault refusal
@@ -114,10 +113,10 @@ left_refused v first fault left refusals.Memory e h = tt
 left_refused v first fault left (refusals.Leftover place text) e h = ((left, e, h.1), h.0)
 left_refused v first fault left refusal e h = absurd h
 
--- a fault of the reconstruction is an obstacle of what isn't explicit
+-- a fault of the reconstruction is an obstacle, where something is left out
 module _ (v : View) (first : Place) (d : Declaration) (fault : ReconFault) (p : IsPlain d) (form : is_explicit v.signature d ≡ false) (cause : reconstruction.HasCause v.signature d fault) where
   fails : (told : ReconFault) → fault ≡ told → ReconstructionFails v d told
-  fails told e = plain_reconstruction v d told p form (subst (reconstruction.HasCause v.signature d) e cause)
+  fails told e = plain_reconstruction v d told p (subst (reconstruction.HasCause v.signature d) e cause)
 
   pub obstacle_of : (refusal : Refusal) → IsRefusedFor v first fault refusal → HasObstacle v d first refusal
   obstacle_of refusals.Memory h = tt
@@ -125,19 +124,17 @@ module _ (v : View) (first : Place) (d : Declaration) (fault : ReconFault) (p : 
   obstacle_of (refusals.Unsupported place shown) (inl h, t) = (inl (fails (reconstructions.TypeLevel None) h.0, h.1), t)
   obstacle_of (refusals.Unsupported place shown) (inr h, t) = (inr (fails (reconstructions.TypeLevel (Some place)) h), t)
   obstacle_of (refusals.Loose place) h = (fails reconstructions.Loose h.0, h.1)
-  obstacle_of (refusals.Mismatch place) h = (inr (fails reconstructions.Mismatch h.0), h.1)
+  obstacle_of (refusals.Mismatch place) h = (fails reconstructions.Mismatch h.0, h.1)
   obstacle_of (refusals.Leftover place text) ((left, e, t), at) = ((left, fails (reconstructions.Leftover left) e, t), at)
-  obstacle_of (refusals.TooDeep place) h = (inr (fails reconstructions.TooDeep h.0), h.1)
+  obstacle_of (refusals.TooDeep place) h = (inr (form, fails reconstructions.TooDeep h.0), h.1)
   obstacle_of refusal h = absurd h
 
--- a declaration that gives an entry, which is reported and kept
-pub plain_does : (v w : View) (d : Declaration) (report : List ℕ) (e : Entry) → IsPlain d → Gives v d e → IsCanonicalEntry (signature_of v.signature) e → report ≡ entry_report v e → w ≡ keeping v d e → Does v d report w
-plain_does v w (declare c at U) report e p (inl g) stands says keeps = inl (record { form = g.form; entry = e; completes = g.completes; stands = stands; says = says; keeps = keeps })
-plain_does v w (declare c at U) report e p (inr g) stands says keeps = inr (record { form = g.form; entry = e; reconstructs = g.reconstructs; stands = stands; says = says; keeps = keeps })
-plain_does v w (define c A M b) report e p (inl g) stands says keeps = absurd g.completes
-plain_does v w (define c A M b) report e p (inr g) stands says keeps = inr (record { form = g.form; entry = e; reconstructs = g.reconstructs; stands = stands; says = says; keeps = keeps })
-plain_does v w (prefer a x y) report e p g stands says keeps = absurd p
-plain_does v w (give fix names) report e p g stands says keeps = absurd p
+-- a declaration that is reconstructed, whose entry is reported and kept
+pub plain_does : (v w : View) (d : Declaration) (report : List ℕ) (e : Entry) → IsPlain d → IsReconstructed v.signature d e → IsCanonicalEntry (signature_of v.signature) e → report ≡ entry_report v e → w ≡ keeping v d e → Does v d report w
+plain_does v w (declare c at U) report e p r stands says keeps = record { entry = e; reconstructs = r; stands = stands; says = says; keeps = keeps }
+plain_does v w (define c A M b) report e p r stands says keeps = record { entry = e; reconstructs = r; stands = stands; says = says; keeps = keeps }
+plain_does v w (prefer a x y) report e p r stands says keeps = absurd p
+plain_does v w (give fix names) report e p r stands says keeps = absurd p
 
 -- an obstacle of the words is a cause
 pub last_cause : (v : View) (end : Place) (words : List Lexeme) (d : Declaration) (refusal : Refusal) → IsReadAs v words d → HasObstacle v d (first_place end words) refusal → IsLastCause v end words refusal

@@ -1,5 +1,5 @@
 -- A declaration that is made keeps the signature canonical.
-use Rattle.std.proofs.Common.{◌≡◌, ℕ, List, None, Some, sym, subst, inl, inr}
+use Rattle.std.proofs.Common.{◌≡◌, ℕ, List, None, Some, sym, subst}
 use Rattle.tw_parse.specs.Syntax.{Declaration, declare, define, prefer, give}
 use Rattle.tw_parse.specs.Words.{Lexeme}
 use Rattle.tw_decl.specs.View.{View, IsSound}
@@ -7,11 +7,9 @@ use Rattle.tw_decl.specs.Declaration.{Does, Makes, Accepts, AcceptsFrom}
 use Rattle.tw_decl.specs.Laws.{AcceptingKeepsSound, AcceptingFromKeepsSound}
 
 does_sound : (v w : View) (d : Declaration) (report : List ℕ) → Does v d report w → IsSound v → IsSound w
-does_sound v w (declare c at U) report (inl h) s = subst IsSound (sym h.keeps) (s, h.stands)
-does_sound v w (declare c at U) report (inr h) s = subst IsSound (sym h.keeps) (s, h.stands)
-does_sound v w (define c A M b) report (inl h) s = absurd h.completes
-does_sound v w (define None A M b) report (inr h) s = subst IsSound (sym h.keeps) s
-does_sound v w (define (Some c) A M b) report (inr h) s = subst IsSound (sym h.keeps) (s, h.stands)
+does_sound v w (declare c at U) report h s = subst IsSound (sym h.keeps) (s, h.stands)
+does_sound v w (define None A M b) report h s = subst IsSound (sym h.keeps) s
+does_sound v w (define (Some c) A M b) report h s = subst IsSound (sym h.keeps) (s, h.stands)
 does_sound v w (prefer a x y) report h s = subst IsSound (sym h.keeps) s
 does_sound v w (give fix names) report h s = subst IsSound (sym h.keeps) s
 

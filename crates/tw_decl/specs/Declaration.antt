@@ -15,9 +15,7 @@ use Rattle.tw_parse.specs.declared.decl.ExtName.{ExtName}
 use Rattle.tw_parse.specs.Words.{Lexeme, lexemes, first_place}
 use Rattle.tw_parse.specs.declared.fault.SyntaxFault.TheVariants as faults
 use Rattle.tw_explicit.specs.Answer as explicit
-use Rattle.tw_explicit.specs.Completion.{Completes}
 use Rattle.tw_explicit.specs.Form.{is_explicit}
-use Rattle.tw_explicit.specs.declared.fault.ExplicitFault.{ExplicitFault}
 use Rattle.tw_explicit.specs.declared.fault.ExplicitFault.TheVariants as completions
 use Rattle.tw_print.specs.Shown.{declaration_line, scene_after}
 use Rattle.tw_equation.specs.Text.{equation_text}
@@ -60,15 +58,6 @@ entry_line v e = declaration_line (scene_after (scene_of v) e) e ++ codes "\n"
 abbrev pub entry_report : View → Entry → List ℕ
 entry_report v e = told v (entry_line v e)
 
--- an explicit declaration: its completion may stand over the signature and is kept, and the report shows it
-pub record Completed (v : View) (d : Declaration) (report : List ℕ) (w : View) : Type 0 where
-  pub form : explicit.IsExplicit v.signature d
-  pub entry : Entry
-  pub completes : Completes v.signature d entry
-  pub stands : IsCanonicalEntry (signature_of v.signature) entry
-  pub says : report ≡ entry_report v entry
-  pub keeps : w ≡ with_entry v entry
-
 -- a definition without a name
 abbrev pub is_unnamed : Declaration → Bool
 is_unnamed (define None A M b) = true
@@ -78,9 +67,8 @@ is_unnamed _ = false
 abbrev pub keeping : View → Declaration → Entry → View
 keeping v d e = if is_unnamed d then v else with_entry v e
 
--- any other constant, family or definition: its reconstruction may stand over the signature and is kept, if it has a name, and the report shows it
-pub record Reconstructed (v : View) (d : Declaration) (report : List ℕ) (w : View) : Type 0 where
-  pub form : is_explicit v.signature d ≡ false
+-- a constant, family or definition: its reconstruction may stand over the signature and is kept, if it has a name, and the report shows it
+pub record Enters (v : View) (d : Declaration) (report : List ℕ) (w : View) : Type 0 where
   pub entry : Entry
   pub reconstructs : IsReconstructed v.signature d entry
   pub stands : IsCanonicalEntry (signature_of v.signature) entry
@@ -106,7 +94,7 @@ pub record Prefers (v : View) (a : ExtName) (x : List ℕ) (y : Option (List ℕ
 abbrev pub Does : View → Declaration → List ℕ → View → Type 0
 Does v (give fix names) report w = GivesRows v fix names report w
 Does v (prefer a x y) report w = Prefers v a x y report w
-Does v d report w = Completed v d report w ⊎ Reconstructed v d report w
+Does v d report w = Enters v d report w
 
 -- a declaration that is made
 pub record Makes (v : View) (words : List Lexeme) (report : List ℕ) (w : View) : Type 0 where
@@ -122,17 +110,15 @@ IsFirstCause v end words (refusals.Nesting place) = FaultStands v.fixities end w
 IsFirstCause v end words (refusals.Syntax place) = FaultStands v.fixities end words (faults.Syntax place)
 IsFirstCause v end words _ = ⊥
 
--- the fault of a completion, where there has to be one
-abbrev pub CompletionFails : View → Declaration → ExplicitFault → Type 0
-CompletionFails v (give fix names) fault = ⊥
-CompletionFails v (prefer a x y) fault = ⊥
-CompletionFails v d fault = explicit.HasCause v.signature d fault
-
--- the fault of a reconstruction, where there has to be one: of what isn't explicit
+-- the fault of a reconstruction, where there has to be one
 abbrev pub ReconstructionFails : View → Declaration → ReconFault → Type 0
 ReconstructionFails v (give fix names) fault = ⊥
 ReconstructionFails v (prefer a x y) fault = ⊥
-ReconstructionFails v d fault = (is_explicit v.signature d ≡ false) × reconstruction.HasCause v.signature d fault
+ReconstructionFails v d fault = reconstruction.HasCause v.signature d fault
+
+-- Something deeper than 4,096 is reached: where nothing is left out, in what is written or in its typing, and elsewhere in the reconstruction.
+abbrev pub IsTooDeep : View → Declaration → Type 0
+IsTooDeep v d = explicit.HasCause v.signature d completions.TooDeep ⊎ ((is_explicit v.signature d ≡ false) × ReconstructionFails v d reconstructions.TooDeep)
 
 -- A definition or a lambda stands at the level of types: the fault is told at the declaration's first token, or at the lambda's bracket.
 abbrev pub IsTypeLevel : View → Declaration → Place → Place → Type 0
@@ -150,7 +136,7 @@ IsLeft v d text = (left : LeftEquation) × ReconstructionFails v d (reconstructi
 abbrev pub IsUnknown : View → Declaration → List ℕ → Place → Type 0
 IsUnknown v (give fix names) name place = first_undeclared v.signature names ≡ Some (record { name = name; at = place })
 IsUnknown v (prefer a x y) name place = (number_of v.signature a.name ≡ None) × (name ≡ a.name) × (place ≡ a.at)
-IsUnknown v d name place = explicit.HasCause v.signature d (completions.Unknown name place)
+IsUnknown v d name place = reconstruction.HasCause v.signature d (reconstructions.Unknown name place)
 
 -- the names are declared, and are not of the sort that the keyword asks for
 abbrev pub IsBad : View → Declaration → Type 0
@@ -165,9 +151,9 @@ HasObstacle v d first (refusals.BadDecl place) = IsBad v d × (place ≡ first)
 HasObstacle v d first (refusals.Unknown place name) = IsUnknown v d name place
 HasObstacle v d first (refusals.Unsupported place shown) = IsTypeLevel v d first place × (shown ≡ codes "type")
 HasObstacle v d first (refusals.Loose place) = ReconstructionFails v d reconstructions.Loose × (place ≡ first)
-HasObstacle v d first (refusals.Mismatch place) = (CompletionFails v d completions.Mismatch ⊎ ReconstructionFails v d reconstructions.Mismatch) × (place ≡ first)
+HasObstacle v d first (refusals.Mismatch place) = ReconstructionFails v d reconstructions.Mismatch × (place ≡ first)
 HasObstacle v d first (refusals.Leftover place text) = IsLeft v d text.items × (place ≡ first)
-HasObstacle v d first (refusals.TooDeep place) = (CompletionFails v d completions.TooDeep ⊎ ReconstructionFails v d reconstructions.TooDeep) × (place ≡ first)
+HasObstacle v d first (refusals.TooDeep place) = IsTooDeep v d × (place ≡ first)
 HasObstacle v d first _ = ⊥
 
 -- the words are a declaration that isn't made

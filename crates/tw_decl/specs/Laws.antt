@@ -40,6 +40,6 @@ pub record IsGood (v : View) (text : List ℕ) : Type 0 where
   pub reads : IsReadAs v words declaration
   pub typed : IsWellTyped v declaration
 
--- such a text is refused for want of memory alone
+-- such a text is refused over a canonical signature for want of memory alone
 abbrev pub GoodIsAccepted : Type 0
-GoodIsAccepted = (v : View) (text : List ℕ) (refusal : Refusal) → IsGood v text → HasCause v text refusal → refusal ≡ Memory
+GoodIsAccepted = (v : View) (text : List ℕ) (refusal : Refusal) → IsSound v → IsGood v text → HasCause v text refusal → refusal ≡ Memory

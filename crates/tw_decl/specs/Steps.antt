@@ -14,14 +14,9 @@ use Rattle.tw_parse.specs.declared.fault.SyntaxFault.{SyntaxFault}
 use Rattle.tw_parse.specs.declared.fault.SyntaxFault.TheVariants as faults
 use Rattle.tw_parse.specs.Syntax.{Declaration, declare, define, prefer, give}
 use Rattle.tw_parse.specs.declared.decl.ExtName.{ExtName}
-use Rattle.tw_explicit.specs.Answer as explicit
-use Rattle.tw_explicit.specs.Completion.{Completes}
-use Rattle.tw_explicit.specs.Form.{is_explicit}
-use Rattle.tw_recon.specs.Reconstruction.{IsReconstructed}
 use Rattle.tw_recon.specs.declared.fault.ReconFault.{ReconFault}
 use Rattle.tw_recon.specs.declared.fault.ReconFault.TheVariants as reconstructions
 use Rattle.tw_unify.specs.declared.left.LeftEquation.{LeftEquation}
-use Rattle.lf.specs.Entries.{Entry}
 use Rattle.tw_decl.specs.View.{View}
 use Rattle.tw_decl.specs.Declaration.{IsReadAs, left_text}
 use Rattle.tw_decl.specs.declared.refusal.Refusal.{Refusal}
@@ -72,26 +67,12 @@ NamesUnknown x refusals.Memory = Unit {0}
 NamesUnknown x (refusals.Unknown place name) = (place ≡ x.at) × (name ≡ x.name)
 NamesUnknown x _ = ⊥
 
--- what has to be completed or reconstructed
+-- what has to be reconstructed
 abbrev pub IsPlain : Declaration → Type 0
 IsPlain (declare c at U) = Unit {0}
 IsPlain (define c A M b) = Unit {0}
 IsPlain (prefer a x y) = ⊥
 IsPlain (give fix names) = ⊥
-
--- the entry of an explicit declaration
-pub record IsCompletedTo (v : View) (d : Declaration) (e : Entry) : Type 0 where
-  pub form : explicit.IsExplicit v.signature d
-  pub completes : Completes v.signature d e
-
--- the entry of any other
-pub record IsReconstructedTo (v : View) (d : Declaration) (e : Entry) : Type 0 where
-  pub form : is_explicit v.signature d ≡ false
-  pub reconstructs : IsReconstructed v.signature d e
-
--- the entry that a declaration gives
-abbrev pub Gives : View → Declaration → Entry → Type 0
-Gives v d e = IsCompletedTo v d e ⊎ IsReconstructedTo v d e
 
 -- want of memory, or this name at this place as a form that is unknown
 abbrev pub ShowsType : Place → Refusal → Type 0

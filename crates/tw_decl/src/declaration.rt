@@ -14,7 +14,7 @@ ghost use Rattle.tw_print.specs.ShowEnv.{scene_of};
 ghost use Rattle.tw_decl.specs.View.{View, told};
 ghost use Rattle.tw_decl.specs.View.{scene_of as scene_of_view};
 ghost use Rattle.tw_decl.specs.Declaration.{Accepts, HasCause, HasCauseFrom, Comes, Does, entry_line, entry_report, GivesRows, HasObstacle, IsCauseAlone, IsReadAs, is_unnamed, keeping, Prefers};
-ghost use Rattle.tw_decl.specs.Steps.{Gives, IsParsed, IsPlain, IsRefusedFor, NamesUnknown, IsTokenCause, is_first, is_over, refusal_of, refused_alone, ShowsLeft, ShowsType};
+ghost use Rattle.tw_decl.specs.Steps.{IsParsed, IsPlain, IsRefusedFor, NamesUnknown, IsTokenCause, is_first, is_over, refusal_of, refused_alone, ShowsLeft, ShowsType};
 
 use crate::operators::{all_take, first_undeclared, fixity_line, operand_count};
 use crate::preferences::{is_family, preference, preference_line};
@@ -236,7 +236,7 @@ fn told(alloc: Global, session: &Session, line: Vec<u8>) -> Report
     Report { text: line }
 }
 
-// The entry of a declaration that isn't explicit.
+// The entry of a declaration in which something is left out.
 fn reconstructed(
     alloc: Global,
     session: &Session,
@@ -255,7 +255,7 @@ fn reconstructed(
     }
 }
 
-// The entry of a declaration: its completion, or where it isn't explicit its reconstruction.
+// The entry of a declaration. What is explicit is only completed, which comes to the same.
 fn given(
     alloc: Global,
     session: &Session,
@@ -263,10 +263,11 @@ fn given(
     declaration: &ExtDecl,
 ) -> Result<Entry, Refusal>
     requires { IsPlain (declaration_of declaration.now) }
-    ensures gives { IfOk result (λ e. Gives session.now (declaration_of declaration.now) (entry_of e)) }
+    ensures reconstructs { IfOk result (λ e. IsReconstructed session.now.signature (declaration_of declaration.now) (entry_of e)) }
     ensures stands { IfOk result (λ e. IsCanonicalEntry (signature_of session.now.signature) (entry_of e)) }
     ensures cause { IfErr result (HasObstacle session.now (declaration_of declaration.now) first) }
 {
+    session.is_sound();
     match complete(alloc, session.signature(), declaration) {
         Ok(entry) => Ok(entry),
         Err(ExplicitFault::Unsupported) => reconstructed(alloc, session, first, declaration),

@@ -11,7 +11,7 @@ pub fn accepting_from_keeps_sound()
     ensures { AcceptingFromKeepsSound }
 {}
 
-/// A text that is one explicit, well typed declaration within the limits is refused for want of memory alone.
+/// A text that is one explicit, well typed declaration within the limits is refused over a canonical signature for want of memory alone.
 pub fn good_is_accepted()
     ensures { GoodIsAccepted }
 {}
