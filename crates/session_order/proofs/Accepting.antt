@@ -128,10 +128,10 @@ length_fitted (suc n) (h ∷ hs) = ap suc (length_fitted n hs)
 
 -- the entry of a definition that is read back
 module _ (v : View) (e : Entry) (text : List ℕ) (upto : ℕ) (M : LfTerm) (A : LfType) (b : Bool) (r : ReadsAsDefinition v.signature v.fixities text 0 upto e.name M A b) where
-  definition : Declaration
+  abbrev definition : Declaration
   definition = define (Some e.name) (Some r.type_written) r.term_written b
 
-  again : Entry
+  abbrev again : Entry
   again = record { name = e.name; implicit = zero; hints = fitted (body_quantifiers (declare_definition M A b)) (written_hints definition); body = declare_definition M A b }
 
   definition_accepted : e.body ≡ declare_definition M A b → upto ≡ length text → IsSound v → IsCanonicalEntry (signature_of v.signature) e → IsWithinLimits text → AcceptsAgain v text e

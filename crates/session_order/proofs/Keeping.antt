@@ -17,7 +17,7 @@ use Rattle.tw_fixity.specs.declared.table.Fix.{Fix}
 use Rattle.tw_fixity.specs.declared.table.Fix.TheVariants.{Infix, Prefix, Postfix}
 use Rattle.tw_parse.specs.Outlines.{Table}
 use Rattle.tw_parse.specs.Readings.{Declares}
-use Rattle.tw_parse.specs.Syntax.{Term, Declaration, declare, define, prefer, give}
+use Rattle.tw_parse.specs.Syntax.{Declaration, declare, define, prefer, give}
 use Rattle.tw_parse.specs.Words.{Lexeme}
 use Rattle.tw_parse.specs.declared.decl.ExtName.{ExtName}
 use Rattle.tw_print.specs.Names.{Preferences}
