@@ -32,7 +32,7 @@ pub data TakesAllNew : List LfType → Kind → State → State → Spine → Ty
   takes_first : {D : List LfType} {A : LfType} {K : Kind} {s s' : State} {S : Spine} →
       TakesAllNew D (instantiate_kind A (raised D A s.next) K) (with_metavariable D A s) s' S → TakesAllNew D (kind_pi A K) s s' (app (raised D A s.next) S)
 
--- a term is inferred: neither a hole nor a function, which an expected type tells what they are
+-- a term is inferred: neither a hole nor a function, of which an expected type tells more
 abbrev pub IsInferred : Written → Type 0
 IsInferred (hole t at) = ⊥
 IsInferred (function d M) = ⊥

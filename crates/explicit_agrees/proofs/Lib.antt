@@ -10,4 +10,6 @@ pub mod Steady
 pub mod Mismatch
 pub mod Reconstructed
 pub mod Definitions
+pub mod Full
 pub mod Only
+pub mod OnlyDefinitions

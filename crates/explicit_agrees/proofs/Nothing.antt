@@ -41,7 +41,7 @@ none_is_not_some : {A : Type 0} {o : Option A} {a : A} → o ≡ None → o ≡ 
 none_is_not_some n s = let e = sym n ∙ s in cc
 
 -- parts that make none, one behind the other
-none_behind : (xs ys : List Spot) → total xs ≡ zero → total ys ≡ zero → total (xs ++ ys) ≡ zero
+pub none_behind : (xs ys : List Spot) → total xs ≡ zero → total ys ≡ zero → total (xs ++ ys) ≡ zero
 none_behind [] ys h k = k
 none_behind (x ∷ xs) ys h k = let n : total (xs ++ ys) ≡ zero = none_behind xs ys (omega (arith, h)) k in omega (arith, h, n)
 
@@ -69,7 +69,7 @@ module _ (es : List Entry) where
     wider_by_arrow M N f x h = f x (before_variable es (variable_of M x) (number_of es x) h)
 
     mutual
-      term_none : (P : Term) (M N : Names) (o : List Skeleton) (w : Written) (q : List Skeleton) (b : Bool) → IsWider es M N → TermIsBare es M P → resolved_term es free N P o ≡ Some (w, q) → total (term_spots es b w) ≡ zero
+      pub term_none : (P : Term) (M N : Names) (o : List Skeleton) (w : Written) (q : List Skeleton) (b : Bool) → IsWider es M N → TermIsBare es M P → resolved_term es free N P o ≡ Some (w, q) → total (term_spots es b w) ≡ zero
       term_none (identifier x at) M N o w q b f h e = name_none (place_of at) (named es N x) (variable_of free x) o w q b (f x h) e
       term_none (lambda x at D P) M N o w q b f (h, k) e =
           let (d, n, m, i, j, s) = both_parts forms.function (resolved_domain es free N (place_of at) D o) (resolved_term es free (binder_name x ∷ N) P) w q e in
@@ -83,7 +83,7 @@ module _ (es : List Entry) where
       term_none (hole at) M N o w q b f h e = absurd h
       term_none (ascription P U) M N o w q b f h e = absurd h
 
-      type_none : (U : Term) (M N : Names) (o : List Skeleton) (w : WrittenType) (q : List Skeleton) → IsWider es M N → TypeIsBare es M U → resolved_type es free N U o ≡ Some (w, q) → total (type_spots es w) ≡ zero
+      pub type_none : (U : Term) (M N : Names) (o : List Skeleton) (w : WrittenType) (q : List Skeleton) → IsWider es M N → TypeIsBare es M U → resolved_type es free N U o ≡ Some (w, q) → total (type_spots es w) ≡ zero
       type_none (identifier x at) M N o w q f h e = family_name_none (place_of at) (named es N x) o w q (f x h) e
       type_none (arrow U V) M N o w q f (h, k) e =
           let (u, n, v, i, j, s) = both_parts forms.arrow (resolved_type es free N U o) (resolved_type es free N V) w q e in
@@ -119,7 +119,7 @@ module _ (es : List Entry) where
     kind_none (lambda x at D P) M N o w q f h e = absurd h
     kind_none (ascription P U) M N o w q f h e = absurd h
 
-    body_none : (U : Term) (o : List Skeleton) (w : WrittenBody) → TypeIsBare es [] U → taken_whole (classifier_read es free [] (ends_in_type U) U o) ≡ Some w → total (body_spots es w) ≡ zero
+    pub body_none : (U : Term) (o : List Skeleton) (w : WrittenBody) → TypeIsBare es [] U → taken_whole (classifier_read es free [] (ends_in_type U) U o) ≡ Some w → total (body_spots es w) ≡ zero
     body_none U o w h r = by (ends_in_type U) (whole_parts (classifier_read es free [] (ends_in_type U) U o) w r)
       where
         by : (t : Bool) → classifier_read es free [] t U o ≡ Some (w, []) → total (body_spots es w) ≡ zero
@@ -137,11 +137,9 @@ module _ (es : List Entry) where
   frees_none no_frees e = refl
   frees_none (next_free a f) e = absurd cc
 
-  -- what is made of such a text, which has no free variable, has no metavariable
-  pub made_none : (free : Names) (U : Term) (o : List Skeleton) (w : WrittenBody) (frees : List ℕ) (s : State) (b : Body) → TypeIsBare es [] U → taken_whole (classifier_read es free [] (ends_in_type U) U o) ≡ Some w → IsMade es [] w frees s b
-      → (m : ℕ) → s.metavariables m ≡ None
-  made_none free U o w frees s b h r made m =
-      let none : total (body_spots es w) ≡ zero = body_none free U o w h r in
+  -- what is made of what makes none, and has no free variable, has no metavariable
+  pub made_none : (w : WrittenBody) (frees : List ℕ) (s : State) (b : Body) → total (body_spots es w) ≡ zero → IsMade es [] w frees s b → (m : ℕ) → s.metavariables m ≡ None
+  made_none w frees s b none made m =
       let all : s.next ≡ total (body_spots es w) = (spots_all es [] frees made.with_frees s made.frees_made w b made.body_made).0 in
       let begun : IsNumbered made.with_frees = subst IsNumbered (sym (frees_none made.frees_made refl)) (record { fresh = λ k l. refl; full = λ k l. (let no : ⊥ = omega (arith, l) in absurd no) }) in
       (body_numbered frees w made.with_frees s b made.body_made begun).fresh m (omega (arith, none, all))

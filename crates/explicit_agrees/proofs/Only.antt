@@ -1,95 +1,57 @@
 -- An explicit declaration is reconstructed to its completion alone, and refused for nothing that isn't told of it.
-use Rattle.std.proofs.Common.{◌≡◌, ℕ, List, [], ◌∷◌, ◌++◌, length, true, false, Option, None, Some, ◌⊎◌, inl, inr, refl, sym, ap, ap₂, ◌∙◌, subst}
-use Rattle.lf.specs.Entries.{Body, Entry, IsCanonicalSignature, body_quantifiers, signature_of}
-use Rattle.lf.specs.Syntax.{LfType, Skeleton}
-use Rattle.elaboration.specs.Principal.{Completion, IsCompletion, WrittenBody, body_over}
-use Rattle.elaboration.specs.State.{State}
-use Rattle.tw_approx.specs.Answer.{HasSkeletons, IsClash, IsLoose, Rows, frees_of}
-use Rattle.tw_approx.specs.Levels.{IsAmong, IsEarliest, type_lambdas}
+use Rattle.std.proofs.Common.{◌≡◌, ℕ, zero, List, [], ◌++◌, length, true, false, None, Some, refl, sym, ap, ◌∙◌, subst}
+use Rattle.lf.specs.Entries.{Entry, IsCanonicalSignature, body_quantifiers}
+use Rattle.lf.specs.Syntax.{Skeleton}
+use Rattle.elaboration.specs.Principal.{WrittenBody, body_over}
+use Rattle.elaboration.specs.SiteLaws.{total}
+use Rattle.elaboration.specs.Sites.{body_spots}
+use Rattle.tw_approx.specs.Answer.{IsOfObjects, Rows}
+use Rattle.tw_approx.specs.Names.{IsFreeVariable}
 use Rattle.tw_explicit.specs.Completion.{BodyGiven, Completes, hints}
 use Rattle.tw_explicit.specs.Form.{is_type_form}
-use Rattle.tw_explicit.specs.Unknown.{IsOneOf, unknown_in}
-use Rattle.tw_explicit.specs.declared.unknown.Mention.{Mention}
+use Rattle.tw_explicit.specs.Unknown.{unknown_in}
 use Rattle.tw_explicit.proofs.Bodies.{body_hints}
 use Rattle.tw_lexer.specs.declared.place.Place.{Place}
 use Rattle.tw_parse.specs.Syntax.{Term, declare, define, give, prefer}
-use Rattle.tw_recon.specs.Causes.{DeclarationStops, HasCause}
+use Rattle.tw_recon.specs.Causes.{HasCause}
 use Rattle.tw_recon.specs.Hints.{fitted}
-use Rattle.tw_recon.specs.Names.{names_of as hints_of}
-use Rattle.tw_recon.specs.Reconstruction.{AreReadOff, IsMade, IsWrittenAs}
 use Rattle.tw_recon.specs.declared.fault.ReconFault.TheVariants.{Leftover, Loose, Mismatch, NoMemory, TooDeep, TypeLevel, Unknown}
-use Rattle.tw_resolve.specs.Resolved.{names_of, resolved_body, skeletons_of}
-use Rattle.tw_unify.specs.View.{whole}
-use Rattle.tw_unify.specs.declared.left.LeftEquation.{LeftEquation}
+use Rattle.tw_resolve.specs.Resolved.{names_of, resolved_body}
 use Rattle.explicit_agrees.specs.Reconstructed.{ExplicitHasNoOtherCause, ReconstructedIsCompleted}
 use Rattle.explicit_agrees.proofs.Back.{given_back}
 use Rattle.explicit_agrees.proofs.Bare.{TypeIsBare, type_closed, type_without, whole_bare}
-use Rattle.explicit_agrees.proofs.Nothing.{context_none, left_none, made_none, run_none}
+use Rattle.explicit_agrees.proofs.Full.{no_equation, no_lambda, no_name, no_quantifier, not_loose, not_mismatched}
+use Rattle.explicit_agrees.proofs.Nothing.{body_none}
 use Rattle.explicit_agrees.proofs.Reconstructed.{fitting_hints, nothing_over}
 use Rattle.explicit_agrees.proofs.Steady.{decided}
-use Rattle.explicit_agrees.proofs.Whole.{completed_principal}
-
-some_is : {X : Type 0} {x y : X} → Some x ≡ Some y → x ≡ y
-some_is e = cc
+use Rattle.explicit_agrees.proofs.Whole.{closed, completed_principal}
 
 module _ (es : List Entry) (c : List ℕ) (at : Place) (U : Term) (form : is_type_form es [] [] U ≡ true) where
   bare : TypeIsBare es [] U
   bare = whole_bare es U form
 
-  -- it has no free variable
-  no_rows : (rows : Rows) (o : List Skeleton) → HasSkeletons es (declare c at U) rows o → rows ≡ []
-  no_rows [] o h = refl
-  no_rows ((x, s) ∷ rows) o h = absurd (type_closed es x U [] bare (h.row_is_free x (inl refl)))
+  not_free : (x : List ℕ) → IsFreeVariable es x (declare c at U) → ⊥
+  not_free x h = type_closed es x U [] bare h
 
-  nothing_made : (rows : Rows) (w : WrittenBody) (frees : List ℕ) (s : State) (b : Body) → IsWrittenAs es (declare c at U) rows w → IsMade es (skeletons_of rows) w frees s b → (m : ℕ) → s.metavariables m ≡ None
-  nothing_made rows w frees s b h made = made_none es (names_of rows) U h.omitted w frees s b bare h.resolved (subst (λ r. IsMade es (skeletons_of r) w frees s b) (no_rows rows h.omitted h.skeletons) made)
+  makes_none : (rows : Rows) (o : List Skeleton) (w : WrittenBody) → resolved_body es rows o (declare c at U) ≡ Some w → total (body_spots es w) ≡ zero
+  makes_none rows o w r = body_none es (names_of rows) U o w bare r
 
-  no_equation : (left : LeftEquation) → DeclarationStops es (declare c at U) (Leftover left) → ⊥
-  no_equation left (rows, w, h, l) = left_none (signature_of es) l.state (nothing_made rows w l.frees l.state l.body h l.made) (whole [] l.after) l.outcome
+  module _ (known : unknown_in es (declare c at U) ≡ []) where
+    of_objects : IsOfObjects es (declare c at U)
+    of_objects = record { known = known; no_definition = refl; no_lambda = type_without es U [] bare }
 
-  -- it has skeletons in one way, or in none
-  not_loose : IsLoose es (declare c at U) → ⊥
-  not_loose h = by (decided es c at U bare)
-    where
-      by : HasSkeletons es (declare c at U) [] [] ⊎ IsClash es (declare c at U) → ⊥
-      by (inl s) =
-          let p = s.only h.first h.first_omitted h.first_fits in
-          let q = s.only h.second h.second_omitted h.second_fits in
-          h.differ (record { frees = λ x i. p.frees x i ∙ sym (q.frees x i); omitted = p.omitted ∙ sym q.omitted })
-      by (inr clash) = clash h.first h.first_omitted h.first_fits
-
-  no_quantifier : (rows : Rows) (w : WrittenBody) (G : List LfType) (hs : List (Option (List ℕ))) (shown : List ℕ) (b : Body) → IsWrittenAs es (declare c at U) rows w → ((G ≡ []) × (hs ≡ []) × (shown ≡ [])) ⊎ AreReadOff es rows w G hs shown b → (G ≡ []) × (hs ≡ [])
-  no_quantifier rows w G hs shown b h (inl (p, q, r)) = (p, q)
-  no_quantifier rows w G hs shown b h (inr read) =
-      let none = run_none read.solved.run (nothing_made rows w read.frees read.state read.open_body h read.made) in
-      let (ms, empty) = context_none read.after none read.are_quantifiers.context in
-      (empty, read.hints_are ∙ ap (hints_of read.naming.names) ms)
-
-  module _ (canonical : IsCanonicalSignature es) (known : unknown_in es (declare c at U) ≡ []) where
-    -- a mismatch has no completion
-    mismatched : HasCause es (declare c at U) Mismatch → (e : Entry) → Completes es (declare c at U) e → ⊥
-    mismatched (inl (o, clash)) e g = clash (frees_of []) [] (completed_principal es canonical c at U e (known, form) g).skeletons.fits
-    mismatched (inr (rows, w, h, none)) e g =
+    mismatched : IsCanonicalSignature es → HasCause es (declare c at U) Mismatch → (e : Entry) → Completes es (declare c at U) e → ⊥
+    mismatched canonical h e g =
         let p = completed_principal es canonical c at U e (known, form) g in
-        let r : rows ≡ [] = no_rows rows h.omitted h.skeletons in
-        let o : [] ≡ h.omitted = (h.skeletons.only (frees_of []) [] p.skeletons.fits).omitted in
-        let same : Some w ≡ Some p.written = sym h.resolved ∙ ap₂ (λ rs os. resolved_body es rs os (declare c at U)) r (sym o) ∙ p.resolved in
-        let it : Completion = record { quantifiers = []; frees = []; body = e.body } in
-        none it (subst (λ rs. IsCompletion es (skeletons_of rs) w it) (sym r) (subst (λ x. IsCompletion es [] x it) (sym (some_is same)) p.principal.completion))
-
-    no_name : (m : Mention) → IsOneOf m (unknown_in es (declare c at U)) → ⊥
-    no_name m h = let none : IsOneOf m [] = subst (IsOneOf m) known h in none
-
-    no_lambda : (p : Place) → IsEarliest p (type_lambdas (declare c at U)) → ⊥
-    no_lambda p h = let none : IsAmong p [] = subst (IsAmong p) (type_without es U [] bare) h.stands in none
+        not_mismatched es (declare c at U) not_free p.skeletons p.written p.resolved (closed es e.body) p.principal.completion h
 
 pub no_other_cause : ExplicitHasNoOtherCause
-no_other_cause es canonical (declare c at U) (known, form) (Unknown name place) h = no_name es c at U form canonical known (record { name = name; at = place }) h.stands
+no_other_cause es canonical (declare c at U) (known, form) (Unknown name place) h = no_name es (declare c at U) (of_objects es c at U form known) (record { name = name; at = place }) h.stands
 no_other_cause es canonical (declare c at U) (known, form) (TypeLevel None) h = let clash : false ≡ true = h.1 in absurd cc
-no_other_cause es canonical (declare c at U) (known, form) (TypeLevel (Some p)) h = no_lambda es c at U form canonical known p h.2
-no_other_cause es canonical (declare c at U) (known, form) Loose h = not_loose es c at U form h.1
-no_other_cause es canonical (declare c at U) (known, form) Mismatch h = mismatched es c at U form canonical known h
-no_other_cause es canonical (declare c at U) (known, form) (Leftover left) h = no_equation es c at U form left h
+no_other_cause es canonical (declare c at U) (known, form) (TypeLevel (Some p)) h = no_lambda es (declare c at U) (of_objects es c at U form known) p h.2.stands
+no_other_cause es canonical (declare c at U) (known, form) Loose h = not_loose es (declare c at U) (decided es c at U (bare es c at U form)) h.1
+no_other_cause es canonical (declare c at U) (known, form) Mismatch h = mismatched es c at U form known canonical h
+no_other_cause es canonical (declare c at U) (known, form) (Leftover left) h = no_equation es (declare c at U) (not_free es c at U form) (makes_none es c at U form) left h
 no_other_cause es canonical (declare c at U) (known, form) TooDeep h = tt
 no_other_cause es canonical (declare c at U) (known, form) NoMemory h = tt
 no_other_cause es canonical (define c A M b) (known, form) fault h = absurd cc
@@ -98,7 +60,7 @@ no_other_cause es canonical (give fix names) (known, form) fault h = absurd cc
 
 pub reconstructed_completed : ReconstructedIsCompleted
 reconstructed_completed es canonical (declare c at U) e (known, form) r =
-    let (none, unnamed) = no_quantifier es c at U form r.rows r.written r.quantifiers r.quantifier_hints r.shown r.inner r.is_written r.completed.in_order in
+    let (none, unnamed) = no_quantifier es (declare c at U) (not_free es c at U form) (makes_none es c at U form) r.rows r.written r.quantifiers r.quantifier_hints r.shown r.inner r.is_written r.completed.in_order in
     let given : BodyGiven es U r.inner =
     given_back es canonical U form r.rows r.is_written.omitted r.written r.is_written.resolved (record { quantifiers = r.quantifiers; frees = r.completed.frees; body = r.inner }) r.completed.principal.completion in
     record {

@@ -2,6 +2,8 @@
 use Rattle.std.proofs.Common.{◌≡◌, ℕ, zero, suc, List, [], ◌∷◌, length, Option, inl, inr, arith, refl, ap, ◌∙◌}
 use Rattle.lf.specs.Entries.{Body, Entry, body_quantifiers, declare_constant, declare_definition, declare_family}
 use Rattle.elaboration.specs.Principal.{body_over}
+use Rattle.elaboration.specs.SiteLaws.{total}
+use Rattle.elaboration.specs.Sites.{spots}
 use Rattle.tw_parse.specs.Syntax.{Declaration, declare, define, give, prefer}
 use Rattle.tw_recon.specs.Hints.{fitted}
 use Rattle.tw_approx.specs.Answer.{IsOfObjects}
@@ -9,7 +11,9 @@ use Rattle.tw_recon.specs.Causes.{HasCause}
 use Rattle.tw_recon.specs.declared.fault.ReconFault.TheVariants.{Mismatch}
 use Rattle.explicit_agrees.specs.Agreement.{HasNoCompletion}
 use Rattle.explicit_agrees.specs.Reconstructed.{ExplicitIsReconstructed, ExplicitMismatchIsMismatch}
+use Rattle.explicit_agrees.proofs.Bare.{whole_bare}
 use Rattle.explicit_agrees.proofs.Mismatch.{explicit_mismatch}
+use Rattle.explicit_agrees.proofs.Nothing.{body_none}
 use Rattle.explicit_agrees.proofs.Whole.{explicit_principal}
 
 -- a hint for each
@@ -25,8 +29,9 @@ nothing_over (declare_constant A) = refl
 nothing_over (declare_definition M A b) = refl
 
 pub explicit_reconstructed : ExplicitIsReconstructed
-explicit_reconstructed es canonical (declare c at U) e x g stands =
-    let p = explicit_principal es canonical (declare c at U) e x g stands in
+explicit_reconstructed es canonical (declare c at U) e (known, form) g stands =
+    let p = explicit_principal es canonical (declare c at U) e (known, form) g stands in
+    let none : total (spots es [] p.written) ≡ zero = body_none es [] U [] p.written (whole_bare es U form) p.resolved in
     record {
       rows = [];
       written = p.written;
@@ -35,7 +40,7 @@ explicit_reconstructed es canonical (declare c at U) e x g stands =
       quantifier_hints = [];
       inner = e.body;
       shown = [];
-      completed = record { frees = []; principal = p.principal; in_order = inl (refl, refl, refl) };
+      completed = record { frees = []; principal = p.principal; in_order = inl (record { makes_none = none; no_quantifier = refl; no_hint = refl; none_shown = refl }) };
       is_entry = record {
         name = g.name;
         body = nothing_over e.body;

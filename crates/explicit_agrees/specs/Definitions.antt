@@ -5,7 +5,10 @@ use Rattle.lf.specs.Syntax.{LfType, Term as LfTerm}
 use Rattle.tw_explicit.specs.Completion.{TermGives, TypeGives}
 use Rattle.tw_explicit.specs.Form.{is_term_form, is_type_form, written_shape}
 use Rattle.tw_parse.specs.Syntax.{Term, define}
+use Rattle.tw_recon.specs.Causes.{HasCause}
 use Rattle.tw_recon.specs.Reconstruction.{IsEntryOf, IsReconstructed}
+use Rattle.tw_recon.specs.declared.fault.ReconFault.{ReconFault}
+use Rattle.tw_recon.specs.declared.fault.ReconFault.TheVariants.{NoMemory, TooDeep}
 use Rattle.explicit_agrees.specs.Agreement.{IsPrincipallyCompleted}
 
 -- The type and the term of `U = P` are of the explicit form: the term where the shape of the type is due.
@@ -26,3 +29,19 @@ ExplicitDefinitionIsPrincipal = (es : List Entry) → IsCanonicalSignature es �
 abbrev pub ExplicitDefinitionIsReconstructed : Type 0
 ExplicitDefinitionIsReconstructed = (es : List Entry) → IsCanonicalSignature es → (c : Option (List ℕ)) (U P : Term) (abbreviation : Bool) (A : LfType) (M : LfTerm) → IsExplicitDefinition es U P → DefinitionGives es U P A M →
     (e : Entry) → IsEntryOf (define c (Some U) P abbreviation) [] [] (declare_definition M A abbreviation) e → IsReconstructed es (define c (Some U) P abbreviation) e
+
+-- It would be reconstructed to nothing else.
+abbrev pub DefinitionIsReconstructedAlone : Type 0
+DefinitionIsReconstructedAlone = (es : List Entry) → IsCanonicalSignature es → (c : Option (List ℕ)) (U P : Term) (abbreviation : Bool) (A : LfType) (M : LfTerm) → IsExplicitDefinition es U P → DefinitionGives es U P A M →
+    (e : Entry) → IsReconstructed es (define c (Some U) P abbreviation) e → IsEntryOf (define c (Some U) P abbreviation) [] [] (declare_definition M A abbreviation) e
+
+-- reconstruction may refuse it where something is too deep or memory is wanting
+abbrev pub DefinitionMayBeRefused : ReconFault → Type 0
+DefinitionMayBeRefused TooDeep = Unit {0}
+DefinitionMayBeRefused NoMemory = Unit {0}
+DefinitionMayBeRefused fault = ⊥
+
+-- And it is refused for nothing else.
+abbrev pub DefinitionHasNoOtherCause : Type 0
+DefinitionHasNoOtherCause = (es : List Entry) → IsCanonicalSignature es → (c : Option (List ℕ)) (U P : Term) (abbreviation : Bool) (A : LfType) (M : LfTerm) → IsExplicitDefinition es U P → DefinitionGives es U P A M →
+    (fault : ReconFault) → HasCause es (define c (Some U) P abbreviation) fault → DefinitionMayBeRefused fault

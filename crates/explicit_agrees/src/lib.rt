@@ -2,7 +2,7 @@
 #![tactic(auto)]
 
 ghost use Rattle.explicit_agrees.specs.Agreement.{ExplicitIsPrincipal, ExplicitMismatchHasNoCompletion};
-ghost use Rattle.explicit_agrees.specs.Definitions.{ExplicitDefinitionIsPrincipal, ExplicitDefinitionIsReconstructed};
+ghost use Rattle.explicit_agrees.specs.Definitions.{DefinitionHasNoOtherCause, DefinitionIsReconstructedAlone, ExplicitDefinitionIsPrincipal, ExplicitDefinitionIsReconstructed};
 ghost use Rattle.explicit_agrees.specs.Reconstructed.{ExplicitHasNoOtherCause, ExplicitIsReconstructed, ExplicitMismatchIsMismatch, ReconstructedIsCompleted};
 
 /// What an explicit declaration is completed to is its principal completion.
@@ -43,4 +43,14 @@ pub fn reconstructed_is_completed()
 /// And reconstruction refuses it for nothing else, but for what is too deep and for want of memory.
 pub fn explicit_has_no_other_cause()
     ensures { ExplicitHasNoOtherCause }
+{}
+
+/// A definition would be reconstructed to nothing else than what its type and its term give.
+pub fn definition_is_reconstructed_alone()
+    ensures { DefinitionIsReconstructedAlone }
+{}
+
+/// And reconstruction refuses it for nothing, but for what is too deep and for want of memory.
+pub fn definition_has_no_other_cause()
+    ensures { DefinitionHasNoOtherCause }
 {}

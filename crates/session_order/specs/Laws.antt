@@ -95,7 +95,7 @@ abbrev pub NewReadsBack : Type 0
 NewReadsBack = (v : View) (e : Entry) → IsViewInOrder (with_entry v e) → v.parameters.implicit ≡ false → HasRoom (scene_of (with_entry v e)) → HasNoImplicit (scene_of (with_entry v e))
     → HasPlainLine (scene_after (scene_of v) e) e → LineReadsBack (scene_after (scene_of v) e) v.signature v.fixities e
 
--- A report of this entry: its line, which is read back by the session before, if it is open, or nothing is implicit and no percent sign is in it.
+-- A report of this entry: its line, which is read back by the session before, if it is open, or nothing is implicit and no percent sign is in it but that of its keyword.
 pub record Reports (v w : View) (report : List ℕ) (e : Entry) : Type 0 where
   pub shows : report ≡ told v (declaration_line (scene_of w) e ++ codes "\n")
   pub open_reads_back : HasOpenLine (scene_of w) e → LineReadsBack (scene_of w) v.signature v.fixities e

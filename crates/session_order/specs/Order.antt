@@ -45,7 +45,7 @@ HasOpenLine s e = IsOpen s e e.body
 abbrev pub HasPlainLine : Scene → Entry → Type 0
 HasPlainLine s e = EachIs IsPlainByte (bare_line s e)
 
--- The line of each entry of the session, if no percent sign is in it, reads back over the entries before it.
+-- The line of each entry of the session, if no percent sign is in it but that of its keyword, reads back over the entries before it.
 abbrev pub EachReadsBack : View → Type 0
 EachReadsBack v = (newer older : List Entry) (e : Entry) → v.signature ≡ newer ++ e ∷ older → HasPlainLine (scene_of v) e → LineReadsBack (scene_of v) older v.fixities e
 

@@ -94,7 +94,7 @@ pub fn report_from_reads_back()
     ensures { ReportFromReadsBack }
 {}
 
-/// A line that reads back, within the limits, is accepted.
+/// A line that reads back, within the limits, is accepted over a canonical signature.
 pub fn read_back_is_accepted()
     ensures { ReadBackIsAccepted }
 {}

@@ -113,7 +113,7 @@ left_refused v first fault left refusals.Memory e h = tt
 left_refused v first fault left (refusals.Leftover place text) e h = ((left, e, h.1), h.0)
 left_refused v first fault left refusal e h = absurd h
 
--- a fault of the reconstruction is an obstacle, where something is left out
+-- a fault of the reconstruction is an obstacle, where the declaration isn't of the explicit form
 module _ (v : View) (first : Place) (d : Declaration) (fault : ReconFault) (p : IsPlain d) (form : is_explicit v.signature d ≡ false) (cause : reconstruction.HasCause v.signature d fault) where
   fails : (told : ReconFault) → fault ≡ told → ReconstructionFails v d told
   fails told e = plain_reconstruction v d told p (subst (reconstruction.HasCause v.signature d) e cause)

@@ -1,5 +1,5 @@
--- An explicit, well typed declaration has no cause of a refusal.
-use Rattle.std.proofs.Common.{◌≡◌, ℕ, List, true, false, None, Some, refl, sym, ap, ◌∙◌, subst, inl, inr, Ok, Err}
+-- A good declaration has no cause of a refusal.
+use Rattle.std.proofs.Common.{◌≡◌, ℕ, List, [], true, false, Option, None, Some, refl, sym, ap, ◌∙◌, subst, inl, inr, Ok, Err}
 use Rattle.tw_lexer.specs.Places.{place_of}
 use Rattle.tw_lexer.specs.Tokens.{first_token}
 use Rattle.tw_lexer.specs.declared.place.Place.{Place}
@@ -12,14 +12,17 @@ use Rattle.tw_parse.specs.Syntax.{Declaration, Term, declare, define, prefer, gi
 use Rattle.tw_parse.specs.Words.{Lexeme, lexemes, first_place}
 use Rattle.tw_parse.specs.declared.fault.SyntaxFault.{SyntaxFault}
 use Rattle.tw_parse.specs.declared.fault.SyntaxFault.TheVariants as faults
+use Rattle.tw_approx.specs.Answer.{frees_of}
+use Rattle.tw_approx.specs.Levels.{IsAmong}
+use Rattle.tw_explicit.specs.Unknown.{IsOneOf}
 use Rattle.tw_recon.specs.Causes as reconstruction
 use Rattle.tw_recon.specs.declared.fault.ReconFault.{ReconFault}
 use Rattle.tw_recon.specs.declared.fault.ReconFault.TheVariants as reconstructions
 use Rattle.explicit_agrees.specs.Reconstructed.{MayBeRefused}
 use Rattle.explicit_agrees.proofs.Only.{no_other_cause}
 use Rattle.tw_decl.specs.View.{View, IsSound}
-use Rattle.tw_decl.specs.Declaration.{IsWritten, IsWrittenAlone, IsReadAs, IsFaultBehind, HasObstacle, IsNotMade, IsFirstCause, IsFollowed, IsLastCause, IsCauseAlone, HasCause}
-use Rattle.tw_decl.specs.Laws.{IsWellTyped, IsGood, GoodIsAccepted}
+use Rattle.tw_decl.specs.Declaration.{IsWritten, IsWrittenAlone, IsReadAs, IsFaultBehind, HasObstacle, IsNotMade, IsFirstCause, IsFollowed, IsLastCause, IsCause, IsCauseAlone, HasCause, HasNoMore}
+use Rattle.tw_decl.specs.Laws.{IsWellTyped, IsCompletable, IsGoodDeclaration, IsGood, IsGoodFrom, GoodIsAccepted, GoodFromIsAccepted}
 use Rattle.tw_decl.proofs.Faultless.{read_faultless}
 use Rattle.tw_decl.specs.declared.refusal.Refusal.{Refusal}
 use Rattle.tw_decl.specs.declared.refusal.Refusal.TheVariants.{Memory, Lex, TooMany, Unsupported, Nesting, Syntax, Fixity, BadDecl, Unknown, Loose, Mismatch, Leftover, TooDeep}
@@ -78,34 +81,88 @@ module _ (v : View) (c : List ℕ) (at : Place) (U : Term) (first : Place) (s : 
   plain_obstacle (BadDecl place) h = absurd h.0
   plain_obstacle refusal h = absurd h
 
-no_obstacle : (v : View) (d : Declaration) (first : Place) (refusal : Refusal) → IsSound v → IsWellTyped v d → HasObstacle v d first refusal → refusal ≡ Memory
-no_obstacle v (declare c at U) first refusal s t h = plain_obstacle v c at U first s t refusal h
-no_obstacle v (define c A M b) first refusal s t h = absurd t.completes
-no_obstacle v (prefer a x y) first refusal s t h = absurd t.completes
-no_obstacle v (give fix names) first refusal s t h = absurd t.completes
+-- no refusal of a declaration that is read has a cause
+abbrev NoObstacle : View → Declaration → Type 0
+NoObstacle v d = (first : Place) (refusal : Refusal) → HasObstacle v d first refusal → refusal ≡ Memory
 
-not_made : (v : View) (words : List Lexeme) (end : Place) (d : Declaration) (refusal : Refusal) → IsReadAs v words d → IsSound v → IsWellTyped v d → IsNotMade v end words refusal → refusal ≡ Memory
-not_made v words end d refusal r s t h =
+well_typed : (v : View) (d : Declaration) → IsSound v → IsWellTyped v d → NoObstacle v d
+well_typed v (declare c at U) s t first refusal h = plain_obstacle v c at U first s t refusal h
+well_typed v (define c A M b) s t first refusal h = absurd t.completes
+well_typed v (prefer a x y) s t first refusal h = absurd t.completes
+well_typed v (give fix names) s t first refusal h = absurd t.completes
+
+-- what can be completed has no cause of another refusal
+module _ (v : View) (d : Declaration) (k : IsCompletable v d) where
+  no_unknown : (name : List ℕ) (place : Place) → reconstruction.HasCause v.signature d (reconstructions.Unknown name place) → ⊥
+  no_unknown name place h = let none : IsOneOf (record { name = name; at = place }) [] = subst (IsOneOf (record { name = name; at = place })) k.is_written.objects.known h.stands in none
+
+  no_type_level : (place : Option Place) → reconstruction.HasCause v.signature d (reconstructions.TypeLevel place) → ⊥
+  no_type_level None h = let clash : false ≡ true = sym k.is_written.objects.no_definition ∙ h.1 in cc
+  no_type_level (Some p) h = let none : IsAmong p [] = subst (IsAmong p) k.is_written.objects.no_lambda h.2.stands in none
+
+  no_loose : reconstruction.HasCause v.signature d reconstructions.Loose → ⊥
+  no_loose (o, h) =
+      let p = k.is_written.skeletons.only h.first h.first_omitted h.first_fits in
+      let q = k.is_written.skeletons.only h.second h.second_omitted h.second_fits in
+      h.differ (record { frees = λ x i. p.frees x i ∙ sym (q.frees x i); omitted = p.omitted ∙ sym q.omitted })
+
+  no_mismatch : reconstruction.HasCause v.signature d reconstructions.Mismatch → ⊥
+  no_mismatch (inl (o, clash)) = clash (frees_of k.rows) k.is_written.omitted k.is_written.skeletons.fits
+  no_mismatch (inr (rs, w, h, none)) = let (c, g) = k.completes rs w h in none c g
+
+completable : (v : View) (d : Declaration) → IsCompletable v d → NoObstacle v d
+completable v (declare c at U) k first Memory h = refl
+completable v (declare c at U) k first (Unknown place name) h = absurd (no_unknown v (declare c at U) k name place h)
+completable v (declare c at U) k first (Unsupported place shown) (inl h, e) = absurd (no_type_level v (declare c at U) k None h.0)
+completable v (declare c at U) k first (Unsupported place shown) (inr h, e) = absurd (no_type_level v (declare c at U) k (Some place) h)
+completable v (declare c at U) k first (Loose place) h = absurd (no_loose v (declare c at U) k h.0)
+completable v (declare c at U) k first (Mismatch place) h = absurd (no_mismatch v (declare c at U) k h.0)
+completable v (declare c at U) k first (Leftover place text) ((left, h, e), there) = absurd (k.none_left left h)
+completable v (declare c at U) k first (TooDeep place) h = absurd (k.shallow h.0)
+completable v (declare c at U) k first (BadDecl place) h = absurd h.0
+completable v (declare c at U) k first refusal h = absurd h
+completable v (define c A M b) k first Memory h = refl
+completable v (define c A M b) k first (Unknown place name) h = absurd (no_unknown v (define c A M b) k name place h)
+completable v (define c A M b) k first (Unsupported place shown) (inl h, e) = absurd (no_type_level v (define c A M b) k None h.0)
+completable v (define c A M b) k first (Unsupported place shown) (inr h, e) = absurd (no_type_level v (define c A M b) k (Some place) h)
+completable v (define c A M b) k first (Loose place) h = absurd (no_loose v (define c A M b) k h.0)
+completable v (define c A M b) k first (Mismatch place) h = absurd (no_mismatch v (define c A M b) k h.0)
+completable v (define c A M b) k first (Leftover place text) ((left, h, e), there) = absurd (k.none_left left h)
+completable v (define c A M b) k first (TooDeep place) h = absurd (k.shallow h.0)
+completable v (define c A M b) k first (BadDecl place) h = absurd h.0
+completable v (define c A M b) k first refusal h = absurd h
+completable v (prefer a x y) k first refusal h = let clash : None ≡ Some k.written = k.is_written.resolved in absurd cc
+completable v (give fix names) k first refusal h = let clash : None ≡ Some k.written = k.is_written.resolved in absurd cc
+
+no_obstacle : (v : View) (d : Declaration) → IsSound v → IsGoodDeclaration v d → NoObstacle v d
+no_obstacle v d s (inl t) = well_typed v d s t
+no_obstacle v d s (inr k) = completable v d k
+
+not_made : (v : View) (words : List Lexeme) (end : Place) (d : Declaration) (refusal : Refusal) → IsReadAs v words d → NoObstacle v d → IsNotMade v end words refusal → refusal ≡ Memory
+not_made v words end d refusal r free h =
     let once = one_reading v.fixities words d r.reads in
     let same = once.0 h.declaration h.reads.reads in
-    no_obstacle v d (first_place end words) refusal s t (subst (λ (x : Declaration). HasObstacle v x (first_place end words) refusal) same h.obstacle)
+    free (first_place end words) refusal (subst (λ (x : Declaration). HasObstacle v x (first_place end words) refusal) same h.obstacle)
 
-not_last : (v : View) (words : List Lexeme) (end : Place) (d : Declaration) (refusal : Refusal) → IsReadAs v words d → IsSound v → IsWellTyped v d → IsLastCause v end words refusal → refusal ≡ Memory
-not_last v words end d Memory r s t h = refl
-not_last v words end d (Fixity place) r s t h = let e : faults.Fixity place ≡ faults.NoMemory = faultless v words end d r (faults.Fixity place) h in cc
-not_last v words end d (BadDecl place) r s t (inl h) = let e : faults.BadDecl place ≡ faults.NoMemory = faultless v words end d r (faults.BadDecl place) h in cc
-not_last v words end d (BadDecl place) r s t (inr h) = not_made v words end d (BadDecl place) r s t h
-not_last v words end d refusal r s t h = not_made v words end d refusal r s t h
+not_last : (v : View) (words : List Lexeme) (end : Place) (d : Declaration) (refusal : Refusal) → IsReadAs v words d → NoObstacle v d → IsLastCause v end words refusal → refusal ≡ Memory
+not_last v words end d Memory r free h = refl
+not_last v words end d (Fixity place) r free h = let e : faults.Fixity place ≡ faults.NoMemory = faultless v words end d r (faults.Fixity place) h in cc
+not_last v words end d (BadDecl place) r free (inl h) = let e : faults.BadDecl place ≡ faults.NoMemory = faultless v words end d r (faults.BadDecl place) h in cc
+not_last v words end d (BadDecl place) r free (inr h) = not_made v words end d (BadDecl place) r free h
+not_last v words end d refusal r free h = not_made v words end d refusal r free h
+
+no_cause : (v : View) (words : List Lexeme) (end : Place) (d : Declaration) (refusal : Refusal) → IsReadAs v words d → NoObstacle v d → IsCause v end words refusal → refusal ≡ Memory
+no_cause v words end d refusal r free (inl h) = not_first v words end d refusal r h
+no_cause v words end d refusal r free (inr h) = not_last v words end d refusal r free h
 
 not_followed : (v : View) (words : List Lexeme) (end : Place) (next : Token) (refusal : Refusal) → next.kind ≡ End → IsFollowed v end words next refusal → refusal ≡ Memory
 not_followed v words end next (Syntax place) alone h = absurd (h.0 alone)
 not_followed v words end next refusal alone h = absurd h
 
-no_cause_alone : (v : View) (words : List Lexeme) (end : Place) (next : Token) (d : Declaration) (refusal : Refusal) → next.kind ≡ End → IsReadAs v words d → IsSound v → IsWellTyped v d
-    → IsCauseAlone v end words next refusal → refusal ≡ Memory
-no_cause_alone v words end next d refusal alone r s t (inl h) = not_first v words end d refusal r h
-no_cause_alone v words end next d refusal alone r s t (inr (inl h)) = not_followed v words end next refusal alone h
-no_cause_alone v words end next d refusal alone r s t (inr (inr h)) = not_last v words end d refusal r s t h.1
+no_cause_alone : (v : View) (words : List Lexeme) (end : Place) (next : Token) (d : Declaration) (refusal : Refusal) → next.kind ≡ End → IsReadAs v words d → NoObstacle v d → IsCauseAlone v end words next refusal → refusal ≡ Memory
+no_cause_alone v words end next d refusal alone r free (inl h) = not_first v words end d refusal r h
+no_cause_alone v words end next d refusal alone r free (inr (inl h)) = not_followed v words end next refusal alone h
+no_cause_alone v words end next d refusal alone r free (inr (inr h)) = not_last v words end d refusal r free h.1
 
 -- the words, their end and what follows them are those of the good text
 abbrev HasCauseIn : View → List ℕ → Refusal → Type 0
@@ -119,7 +176,7 @@ no_cause_in v text refusal s g (us, last, other, written, h) =
     subst (λ (t : Token). IsCauseAlone v g.end g.words t refusal) next
     (subst (λ (ws : List Lexeme). IsCauseAlone v g.end ws other refusal) same.words_same
     (subst (λ (p : Place). IsCauseAlone v p us other refusal) same.end_same h)) in
-    no_cause_alone v g.words g.end g.next g.declaration refusal g.alone g.reads s g.typed moved
+    no_cause_alone v g.words g.end g.next g.declaration refusal g.alone g.reads (no_obstacle v g.declaration s g.good) moved
 
 pub good_accepted : GoodIsAccepted
 good_accepted v text Memory s g h = refl
@@ -127,3 +184,19 @@ good_accepted v text (Lex place) s g (inl h) = absurd (fault_excludes text 0 g.w
 good_accepted v text (Lex place) s g (inr h) = absurd (no_fault_behind text g.words g.end place g.next g.written h)
 good_accepted v text (TooMany place) s g h = absurd (too_many_excludes text 0 g.written.written.tokens g.written.upto place g.written.written.through g.written.written.few h)
 good_accepted v text refusal s g h = no_cause_in v text refusal s g h
+
+-- the same of a declaration among others
+abbrev HasCauseAmong : View → List ℕ → ℕ → Refusal → Type 0
+HasCauseAmong v text from refusal = (HasNoMore text from → ⊥) × ((upto : ℕ) × (words : List Lexeme) × (end : Place) × IsWritten text from upto words end × IsCause v end words refusal)
+
+no_cause_among : (v : View) (text : List ℕ) (from : ℕ) (refusal : Refusal) → IsSound v → IsGoodFrom v text from → HasCauseAmong v text from refusal → refusal ≡ Memory
+no_cause_among v text from refusal s g (more, (upto, us, last, written, h)) =
+    let same = same_text text from g.upto upto g.words us g.end last g.written written in
+    let moved : IsCause v g.end g.words refusal = subst (λ (ws : List Lexeme). IsCause v g.end ws refusal) same.words_same (subst (λ (p : Place). IsCause v p us refusal) same.end_same h) in
+    no_cause v g.words g.end g.declaration refusal g.reads (no_obstacle v g.declaration s g.good) moved
+
+pub good_from_accepted : GoodFromIsAccepted
+good_from_accepted v text from Memory s g h = refl
+good_from_accepted v text from (Lex place) s g h = absurd (fault_excludes text from g.written.tokens g.upto place g.written.through h)
+good_from_accepted v text from (TooMany place) s g h = absurd (too_many_excludes text from g.written.tokens g.upto place g.written.through g.written.few h)
+good_from_accepted v text from refusal s g h = no_cause_among v text from refusal s g h

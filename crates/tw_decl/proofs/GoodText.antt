@@ -119,10 +119,10 @@ good =
         begins = (λ e. absurd (no_keyword e), refl);
         reads = (declare (codes "o") (place 1) (outline (place 5) (more none (leaf star))), declares refl refl (plain (one_more empty (a_type refl))) refl, declared (means (one_item no_items a_leaf) reads_star));
       };
-      typed = record {
+      good = inl (record {
         form = (refl, refl);
         entry = record { name = codes "o"; body = declare_family lf_star; implicit = 0; hints = [] };
         completes = record { name = refl; body = tt; implicit = refl; hint_each = refl };
         shallow = no_deep;
-      };
+      });
     }

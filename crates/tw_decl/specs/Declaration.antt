@@ -116,7 +116,7 @@ ReconstructionFails v (give fix names) fault = ⊥
 ReconstructionFails v (prefer a x y) fault = ⊥
 ReconstructionFails v d fault = reconstruction.HasCause v.signature d fault
 
--- Something deeper than 4,096 is reached: where nothing is left out, in what is written or in its typing, and elsewhere in the reconstruction.
+-- Something deeper than 4,096 is reached: of a declaration of the explicit form in what is written or in its typing, of any other in its reconstruction.
 abbrev pub IsTooDeep : View → Declaration → Type 0
 IsTooDeep v d = explicit.HasCause v.signature d completions.TooDeep ⊎ ((is_explicit v.signature d ≡ false) × ReconstructionFails v d reconstructions.TooDeep)
 

@@ -1,5 +1,5 @@
 -- Laws of declarations.
-use Rattle.std.specs.Prelude.{◌≡◌, ℕ, List}
+use Rattle.std.specs.Prelude.{◌≡◌, ◌⊎◌, ℕ, List}
 use Rattle.lf.specs.Entries.{Entry}
 use Rattle.tw_lexer.specs.declared.place.Place.{Place}
 use Rattle.tw_lexer.specs.declared.token.Token.{Token}
@@ -9,8 +9,15 @@ use Rattle.tw_parse.specs.Words.{Lexeme}
 use Rattle.tw_explicit.specs.Answer as explicit
 use Rattle.tw_explicit.specs.Completion.{Completes}
 use Rattle.tw_explicit.specs.Meaning.{DeclarationReachesDeep}
+use Rattle.elaboration.specs.Principal.{Completion, IsCompletion, WrittenBody}
+use Rattle.tw_approx.specs.Answer.{Rows}
+use Rattle.tw_recon.specs.Causes as reconstruction
+use Rattle.tw_recon.specs.Reconstruction.{IsWrittenAs}
+use Rattle.tw_recon.specs.declared.fault.ReconFault.TheVariants.{Leftover}
+use Rattle.tw_resolve.specs.Resolved.{skeletons_of}
+use Rattle.tw_unify.specs.declared.left.LeftEquation.{LeftEquation}
 use Rattle.tw_decl.specs.View.{View, IsSound}
-use Rattle.tw_decl.specs.Declaration.{IsWrittenAlone, IsReadAs, Accepts, AcceptsFrom, HasCause}
+use Rattle.tw_decl.specs.Declaration.{IsWritten, IsWrittenAlone, IsReadAs, IsTooDeep, Accepts, AcceptsFrom, HasCause, HasCauseFrom}
 use Rattle.tw_decl.specs.declared.refusal.Refusal.{Refusal}
 use Rattle.tw_decl.specs.declared.refusal.Refusal.TheVariants.{Memory}
 
@@ -29,7 +36,21 @@ pub record IsWellTyped (v : View) (d : Declaration) : Type 0 where
   pub completes : Completes v.signature d entry
   pub shallow : DeclarationReachesDeep v.signature d → ⊥
 
--- a text that is one explicit, well typed declaration within the limits
+-- A declaration of any form that has a completion: what isn't written has skeletons in just one way, and told these it can be completed, in whatever order its free variables stand.
+-- No equation is left of it, and nothing is too deep.
+pub record IsCompletable (v : View) (d : Declaration) : Type 0 where
+  pub rows : Rows
+  pub written : WrittenBody
+  pub is_written : IsWrittenAs v.signature d rows written
+  pub completes : (rs : Rows) (w : WrittenBody) → IsWrittenAs v.signature d rs w → (c : Completion) × IsCompletion v.signature (skeletons_of rs) w c
+  pub none_left : (left : LeftEquation) → reconstruction.HasCause v.signature d (Leftover left) → ⊥
+  pub shallow : IsTooDeep v d → ⊥
+
+-- what has to be accepted
+abbrev pub IsGoodDeclaration : View → Declaration → Type 0
+IsGoodDeclaration v d = IsWellTyped v d ⊎ IsCompletable v d
+
+-- a text that is one such declaration within the limits
 pub record IsGood (v : View) (text : List ℕ) : Type 0 where
   pub words : List Lexeme
   pub end : Place
@@ -38,8 +59,22 @@ pub record IsGood (v : View) (text : List ℕ) : Type 0 where
   pub alone : next.kind ≡ End
   pub declaration : Declaration
   pub reads : IsReadAs v words declaration
-  pub typed : IsWellTyped v declaration
+  pub good : IsGoodDeclaration v declaration
 
 -- such a text is refused over a canonical signature for want of memory alone
 abbrev pub GoodIsAccepted : Type 0
 GoodIsAccepted = (v : View) (text : List ℕ) (refusal : Refusal) → IsSound v → IsGood v text → HasCause v text refusal → refusal ≡ Memory
+
+-- a text in which such a declaration begins at this byte
+pub record IsGoodFrom (v : View) (text : List ℕ) (from : ℕ) : Type 0 where
+  pub upto : ℕ
+  pub words : List Lexeme
+  pub end : Place
+  pub written : IsWritten text from upto words end
+  pub declaration : Declaration
+  pub reads : IsReadAs v words declaration
+  pub good : IsGoodDeclaration v declaration
+
+-- it is refused so too
+abbrev pub GoodFromIsAccepted : Type 0
+GoodFromIsAccepted = (v : View) (text : List ℕ) (from : ℕ) (refusal : Refusal) → IsSound v → IsGoodFrom v text from → HasCauseFrom v text from refusal → refusal ≡ Memory

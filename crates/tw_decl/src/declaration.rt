@@ -236,7 +236,7 @@ fn told(alloc: Global, session: &Session, line: Vec<u8>) -> Report
     Report { text: line }
 }
 
-// The entry of a declaration in which something is left out.
+// The entry of a declaration that isn't of the explicit form.
 fn reconstructed(
     alloc: Global,
     session: &Session,

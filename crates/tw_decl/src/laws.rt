@@ -1,5 +1,5 @@
 //! Laws of declarations. They have no code.
-ghost use Rattle.tw_decl.specs.Laws.{AcceptingKeepsSound, AcceptingFromKeepsSound, GoodIsAccepted};
+ghost use Rattle.tw_decl.specs.Laws.{AcceptingKeepsSound, AcceptingFromKeepsSound, GoodIsAccepted, GoodFromIsAccepted};
 
 /// A text that is accepted keeps the signature canonical.
 pub fn accepting_keeps_sound()
@@ -11,7 +11,13 @@ pub fn accepting_from_keeps_sound()
     ensures { AcceptingFromKeepsSound }
 {}
 
-/// A text that is one explicit, well typed declaration within the limits is refused over a canonical signature for want of memory alone.
+/// A text that is one explicit, well typed declaration within the limits, or any other that can be completed and of which no equation is left, is refused over a
+/// canonical signature for want of memory alone.
 pub fn good_is_accepted()
     ensures { GoodIsAccepted }
+{}
+
+/// So is such a declaration in a text of several.
+pub fn good_from_is_accepted()
+    ensures { GoodFromIsAccepted }
 {}

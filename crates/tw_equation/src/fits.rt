@@ -1,9 +1,9 @@
 //! Whether skeletons type what is shown.
-ghost use Rattle.std.specs.Prelude.{◌≡◌, ◌∷◌, IfOk, IfSome, IsTrue, OnOk, Some, map, option_map, slice_get};
+ghost use Rattle.std.specs.Prelude.{◌≡◌, ◌∷◌, ◌↔◌, IfOk, IsTrue, OnOk, Some, map, option_map, slice_get};
 ghost use Rattle.lf.specs.Entries.{signature_of};
 ghost use Rattle.lf.specs.Skeletons.{constant_skeletons, context_skeletons, family_skeletons};
 ghost use Rattle.lf.specs.SkeletonTyping.{HeadSkeleton, SpineSkeleton, TermSkeleton, TypeBySkeletons};
-ghost use Rattle.lf.specs.Syntax.{kind_skeleton as skeleton_of_kind, skeleton as skeleton_of_type};
+ghost use Rattle.lf.specs.Syntax.{Skeleton as PlainSkeleton, kind_skeleton as skeleton_of_kind, skeleton as skeleton_of_type};
 ghost use Rattle.tw_print.specs.Showable.{HasSkeleton, IsShowableContext, IsShowableType};
 ghost use Rattle.tw_terms.specs.View.{head_of, kind_of, skeleton_of, spine_of, term_of, type_of};
 
@@ -35,7 +35,7 @@ pub fn type_fits(
     context: &Context,
     ty: &Ty,
 ) -> Result<bool, AllocError>
-    ensures { IfOk result (λ b. IsTrue b → IsShowableType (signature_of signature.now) context.now (type_of ty.now)) }
+    ensures { IfOk result (λ b. IsTrue b ↔ IsShowableType (signature_of signature.now) context.now (type_of ty.now)) }
 {
     let variables = skeletons(alloc, context)?;
     type_has(alloc, ty, signature, &variables)
@@ -49,7 +49,7 @@ pub fn term_fits(
     term: &Term,
     ty: &Ty,
 ) -> Result<bool, AllocError>
-    ensures { IfOk result (λ b. IsTrue b → HasSkeleton (signature_of signature.now) context.now (term_of term.now) (skeleton_of_type (type_of ty.now))) }
+    ensures { IfOk result (λ b. IsTrue b ↔ HasSkeleton (signature_of signature.now) context.now (term_of term.now) (skeleton_of_type (type_of ty.now))) }
 {
     let variables = skeletons(alloc, context)?;
     let made = skeleton(alloc, ty)?;
@@ -128,7 +128,7 @@ fn variable_skeleton(
     variables: &[Skeleton],
     variable: u64,
 ) -> Result<Option<Skeleton>, AllocError>
-    ensures { IfOk result (λ o. IfSome o (λ t. slice_get (map skeleton_of variables.now) variable ≡ Some (skeleton_of t))) }
+    ensures { IfOk result (λ o. option_map skeleton_of o ≡ slice_get (map skeleton_of variables.now) variable) }
 {
     if variable >= variables.len() as u64 {
         return Ok(None);
@@ -144,7 +144,7 @@ fn head_skeleton(
     variables: &[Skeleton],
     head: Head,
 ) -> Result<Option<Skeleton>, AllocError>
-    ensures { IfOk result (λ o. IfSome o (λ t. HeadSkeleton (constant_skeletons (signature_of signature.now)) (map skeleton_of variables.now) (head_of head) (skeleton_of t))) }
+    ensures { IfOk result (λ o. (t : PlainSkeleton) → (option_map skeleton_of o ≡ Some t) ↔ HeadSkeleton (constant_skeletons (signature_of signature.now)) (map skeleton_of variables.now) (head_of head) t) }
 {
     match head {
         Head::Const(id) => match constant_type(signature, id) {
@@ -161,7 +161,7 @@ fn family_skeleton(
     signature: &Signature,
     family: ConstId,
 ) -> Result<Option<Skeleton>, AllocError>
-    ensures { IfOk result (λ o. IfSome o (λ t. family_skeletons (signature_of signature.now) family.0 ≡ Some (skeleton_of t))) }
+    ensures { IfOk result (λ o. option_map skeleton_of o ≡ family_skeletons (signature_of signature.now) family.0) }
 {
     match family_kind(signature, family) {
         Some(kind) => Ok(Some(kind_skeleton(alloc, family, kind)?)),
@@ -178,7 +178,7 @@ fn term_has(
     signature: &Signature,
     variables: &[Skeleton],
 ) -> Result<bool, AllocError>
-    ensures { IfOk result (λ b. IsTrue b → TermSkeleton (constant_skeletons (signature_of signature.now)) (map skeleton_of variables.now) (term_of term.now) (skeleton_of made.now)) }
+    ensures { IfOk result (λ b. IsTrue b ↔ TermSkeleton (constant_skeletons (signature_of signature.now)) (map skeleton_of variables.now) (term_of term.now) (skeleton_of made.now)) }
 {
     match (term, made) {
         (Term::Lam(body), Skeleton::Arrow(domain, range)) => {
@@ -205,7 +205,7 @@ fn spine_has(
     signature: &Signature,
     variables: &[Skeleton],
 ) -> Result<bool, AllocError>
-    ensures { IfOk result (λ b. IsTrue b → SpineSkeleton (constant_skeletons (signature_of signature.now)) (map skeleton_of variables.now) (spine_of spine.now) (skeleton_of taken.now) (skeleton_of made.now)) }
+    ensures { IfOk result (λ b. IsTrue b ↔ SpineSkeleton (constant_skeletons (signature_of signature.now)) (map skeleton_of variables.now) (spine_of spine.now) (skeleton_of taken.now) (skeleton_of made.now)) }
 {
     let mut rest = taken;
     for arg in &spine.args {
@@ -229,7 +229,7 @@ fn type_has(
     signature: &Signature,
     variables: &[Skeleton],
 ) -> Result<bool, AllocError>
-    ensures { IfOk result (λ b. IsTrue b → TypeBySkeletons (family_skeletons (signature_of signature.now)) (constant_skeletons (signature_of signature.now)) (map skeleton_of variables.now) (type_of ty.now)) }
+    ensures { IfOk result (λ b. IsTrue b ↔ TypeBySkeletons (family_skeletons (signature_of signature.now)) (constant_skeletons (signature_of signature.now)) (map skeleton_of variables.now) (type_of ty.now)) }
 {
     match ty {
         Ty::Pi(domain, range) => {
@@ -238,10 +238,7 @@ fn type_has(
             }
             let newest = skeleton(alloc, domain)?;
             let inside = under(alloc, &newest, variables)?;
-            if !type_has(alloc, range, signature, &inside)? {
-                return Ok(false);
-            }
-            Ok(true)
+            type_has(alloc, range, signature, &inside)
         }
         Ty::Atom(family, spine) => match family_skeleton(alloc, signature, *family)? {
             Some(taken) => {

@@ -23,7 +23,7 @@ use Rattle.tw_recon.specs.Hints.{fitted, written_hints}
 use Rattle.tw_recon.specs.Names.{AreNames, FreeIsDeep, Naming, names_of, variables_of}
 use Rattle.tw_recon.specs.Queries.{HasGoalCause, IsGoalWrittenAs}
 use Rattle.tw_recon.specs.Reading.{BodyIsDeep, BodyStands, IsBodyReadAs}
-use Rattle.tw_recon.specs.Reconstruction.{AreReadOff, IsCompletedTo, IsEntryOf, IsReconstructed, IsWrittenAs}
+use Rattle.tw_recon.specs.Reconstruction.{AreReadOff, LeavesNothingOut, IsCompletedTo, IsEntryOf, IsReconstructed, IsWrittenAs}
 use Rattle.tw_recon.specs.declared.fault.ReconFault.{ReconFault}
 use Rattle.tw_recon.specs.declared.fault.ReconFault.TheVariants.{Leftover, Loose, Mismatch, NoMemory, TooDeep, TypeLevel, Unknown}
 use Rattle.tw_readoff.proofs.Contexts.{quantifiers_law, reading_law}
@@ -90,8 +90,8 @@ module _ (es : List Entry) (canonical : IsCanonicalSignature es) (rows : Rows) (
 pub hint_each : (es : List Entry) (rows : Rows) (w : WrittenBody) (G : List LfType) (hints : List (Option (List ℕ))) (shown : List ℕ) (b : Body) → IsCompletedTo es rows w G hints shown b → length hints ≡ length G
 hint_each es rows w G hints shown b c = from c.in_order
   where
-    from : ((G ≡ []) × (hints ≡ []) × (shown ≡ [])) ⊎ AreReadOff es rows w G hints shown b → length hints ≡ length G
-    from (inl (g, h, k)) = ap length h ∙ sym (ap length g)
+    from : LeavesNothingOut es rows w G hints shown ⊎ AreReadOff es rows w G hints shown b → length hints ≡ length G
+    from (inl n) = ap length n.no_hint ∙ sym (ap length n.no_quantifier)
     from (inr r) = ap length r.hints_are ∙ names_each r.naming.names r.quantifiers ∙ context_each r.after r.quantifiers G r.are_quantifiers.context
 
 -- the whole is deep

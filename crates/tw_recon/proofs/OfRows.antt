@@ -8,7 +8,7 @@ use Rattle.elaboration.specs.Principal.{WrittenBody}
 use Rattle.tw_approx.specs.Answer.{HasRow, Rows}
 use Rattle.tw_metas.specs.State.{State, joined}
 use Rattle.tw_recon.specs.Names.{Naming, NamesAll, NamesOne, names_of, nothing_named, with_name, with_sole}
-use Rattle.tw_recon.specs.Reconstruction.{AreReadOff, IsCompletedTo}
+use Rattle.tw_recon.specs.Reconstruction.{AreReadOff, LeavesNothingOut, IsCompletedTo}
 
 -- each of these is none, or the name of a free variable
 abbrev pub IsOfRows : Rows → Option (List ℕ) → Type 0
@@ -63,6 +63,6 @@ module _ (rows : Rows) where
 pub hints_of_rows : (es : List Entry) (rows : Rows) (w : WrittenBody) (G : List LfType) (hints : List (Option (List ℕ))) (shown : List ℕ) (b : Body) → IsCompletedTo es rows w G hints shown b → AreOfRows rows hints
 hints_of_rows es rows w G hints shown b c = from c.in_order
   where
-    from : ((G ≡ []) × (hints ≡ []) × (shown ≡ [])) ⊎ AreReadOff es rows w G hints shown b → AreOfRows rows hints
-    from (inl (g, h, k)) = subst (AreOfRows rows) (sym h) tt
+    from : LeavesNothingOut es rows w G hints shown ⊎ AreReadOff es rows w G hints shown b → AreOfRows rows hints
+    from (inl n) = subst (AreOfRows rows) (sym n.no_hint) tt
     from (inr r) = subst (AreOfRows rows) (sym r.hints_are) (each_of_rows rows r.naming.names r.quantifiers (all_of_rows rows r.after r.frees r.order nothing_named r.naming r.are_names tt))

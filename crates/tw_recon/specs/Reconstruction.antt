@@ -1,12 +1,13 @@
 -- What a declaration is reconstructed to.
-use Rattle.std.specs.Prelude.{◌≡◌, ℕ, List, [], ◌++◌, Option, None, Some, codes, length, ◌⊎◌}
+use Rattle.std.specs.Prelude.{◌≡◌, ℕ, zero, List, [], ◌++◌, Option, None, Some, codes, length, ◌⊎◌}
 use Rattle.lf.specs.Entries.{Body, Entry, body_quantifiers, signature_of}
 use Rattle.lf.specs.Syntax.{LfType, Skeleton}
 use Rattle.elaboration.specs.Completions.{FreeValue}
 use Rattle.elaboration.specs.Elaboration.{NewFrees}
 use Rattle.elaboration.specs.Principal.{IsPrincipal, WrittenBody, body_over}
 use Rattle.elaboration.specs.PrincipalLaws.{ElaboratesBody}
-use Rattle.elaboration.specs.Sites.{AreFreesInOrder, AreSites}
+use Rattle.elaboration.specs.SiteLaws.{total}
+use Rattle.elaboration.specs.Sites.{AreFreesInOrder, AreSites, spots}
 use Rattle.elaboration.specs.State.{State, nothing_yet, store_of}
 use Rattle.unification.specs.Solving.{Solved}
 use Rattle.tw_approx.specs.Answer.{HasSkeletons, IsOfObjects, Rows}
@@ -64,11 +65,18 @@ pub record AreReadOff (es : List Entry) (rows : Rows) (w : WrittenBody) (G : Lis
   pub hints_are : hints ≡ names_of naming.names quantifiers
   pub shown_are : shown ≡ variables_of quantifiers naming.firsts
 
+-- Nothing is left out of what is written: no metavariable is made of it, and there is no quantifier.
+pub record LeavesNothingOut (es : List Entry) (rows : Rows) (w : WrittenBody) (G : List LfType) (hints : List (Option (List ℕ))) (shown : List ℕ) : Type 0 where
+  pub makes_none : total (spots es (skeletons_of rows) w) ≡ zero
+  pub no_quantifier : G ≡ []
+  pub no_hint : hints ≡ []
+  pub none_shown : shown ≡ []
+
 -- What is written is completed: these are the implicit quantifiers with their hints, if there are any, and this is the body in their scope.
 pub record IsCompletedTo (es : List Entry) (rows : Rows) (w : WrittenBody) (G : List LfType) (hints : List (Option (List ℕ))) (shown : List ℕ) (b : Body) : Type 0 where
   pub frees : List FreeValue
   pub principal : IsPrincipal es (skeletons_of rows) w (record { quantifiers = G; frees = frees; body = b })
-  pub in_order : ((G ≡ []) × (hints ≡ []) × (shown ≡ [])) ⊎ AreReadOff es rows w G hints shown b
+  pub in_order : LeavesNothingOut es rows w G hints shown ⊎ AreReadOff es rows w G hints shown b
 
 -- The entry declares this body, closed over these quantifiers, which are implicit.
 pub record IsEntryOf (d : Declaration) (G : List LfType) (quantifier_hints : List (Option (List ℕ))) (b : Body) (e : Entry) : Type 0 where

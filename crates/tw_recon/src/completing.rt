@@ -1,6 +1,8 @@
 //! What is written, completed: what is read off the solution.
 ghost use Rattle.std.specs.Prelude.{◌≡◌, IfErr, IfOk};
+ghost use Rattle.lf.specs.Entries.{IsCanonicalSignature};
 ghost use Rattle.tw_approx.specs.Answer.{rows_of};
+ghost use Rattle.tw_readoff.specs.Reading.{IsSettled};
 ghost use Rattle.tw_signature.specs.View.{body_of};
 ghost use Rattle.tw_written.specs.View.{written_body_of};
 ghost use Rattle.tw_recon.specs.Begun.{IsSolution};
@@ -43,13 +45,22 @@ pub fn complete(alloc: Global, signature: &Signature, told: Told) -> Result<Comp
     read(alloc, signature, &solution)
 }
 
+/// The store of a solution is settled, over a canonical signature.
+fn is_settled(signature: &Signature, solution: &Solution)
+    requires { IsSolution signature.now solution.now }
+    ensures canonical { IsCanonicalSignature signature.now }
+    ensures settled { IsSettled solution.now.store.now }
+{
+    signature.is_canonical();
+}
+
 /// Reads the quantifiers and the body off a solution.
 fn read(alloc: Global, signature: &Signature, solution: &Solution) -> Result<Completed, ReconFault>
     requires { IsSolution signature.now solution.now }
     ensures completed { IfOk result (λ c. IsCompletedTo signature.now (rows_of solution.now.rows.items) (written_body_of solution.now.written) c.quantifiers c.hints.items c.shown.items (body_of c.body)) }
     ensures refused { IfErr result (λ f. Stops signature.now (rows_of solution.now.rows.items) (written_body_of solution.now.written) f) }
 {
-    signature.is_canonical();
+    is_settled(signature, solution);
     let quantifiers = match read_quantifiers(alloc, &solution.store, &solution.sites) {
         Ok(quantifiers) => quantifiers,
         Err(fault) => return Err(of_reading(fault)),

@@ -4,7 +4,6 @@ use Rattle.tw_parse.specs.View.{declaration_of}
 use Rattle.tw_signature.specs.View.{entry_of}
 use Rattle.tw_explicit.specs.Answer.{HasCause, IsExplicit}
 use Rattle.tw_explicit.specs.Completion.{Completes}
-use Rattle.tw_explicit.specs.declared.fault.ExplicitFault.TheVariants.{Mismatch, TooDeep}
 use Rattle.explicit_agrees.proofs.Reconstructed.{explicit_reconstructed}
 use Rattle.tw_decl.proofs.Causes.{explicit_mismatched}
 use Rattle.tw_decl.proofs.declaration.given.Goals as goal

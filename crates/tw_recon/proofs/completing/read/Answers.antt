@@ -9,32 +9,26 @@ use Rattle.tw_resolve.specs.Resolved.{skeletons_of}
 use Rattle.tw_recon.specs.Causes.{Stops}
 use Rattle.tw_recon.specs.Names.{AreNames, FreeIsDeep, names_of, variables_of}
 use Rattle.tw_recon.specs.NamingView.{naming_of}
-use Rattle.tw_recon.proofs.Entering.{body_blamed, completed, names_blamed, quantifiers_blamed, settled, stands}
+use Rattle.tw_recon.proofs.Entering.{body_blamed, completed, names_blamed, quantifiers_blamed, stands}
 use Rattle.tw_recon.proofs.completing.read.Goals as goal
-
-pub read_quantifiers-requires : goal.read_quantifiers-requires
-read_quantifiers-requires c = settled c.args.signature.now c.is_canonical.ensures (rows_of c.args.solution.now.rows.items) (written_body_of c.args.solution.now.written) (numbers_of c.args.solution.now.frees.items) (open_body_of c.args.solution.now.body) c.args.solution.now.store.now c.requires.solved
 
 pub returns-in-Err-clause-refused : goal.returns-in-Err-clause-refused
 returns-in-Err-clause-refused c =
     subst (Stops c.args.signature.now (rows_of c.args.solution.now.rows.items) (written_body_of c.args.solution.now.written)) (sym c.of_reading.ensures)
-    (quantifiers_blamed c.args.signature.now c.is_canonical.ensures (rows_of c.args.solution.now.rows.items) (written_body_of c.args.solution.now.written) (numbers_of c.args.solution.now.frees.items) (open_body_of c.args.solution.now.body) c.args.solution.now.store.now c.requires.solved c.in-Err.fault (numbers_of c.deref.result.now) c.in-Err.ensures)
+    (quantifiers_blamed c.args.signature.now c.is_settled.ensures.canonical (rows_of c.args.solution.now.rows.items) (written_body_of c.args.solution.now.written) (numbers_of c.args.solution.now.frees.items) (open_body_of c.args.solution.now.body) c.args.solution.now.store.now c.requires.solved c.in-Err.fault (numbers_of c.deref.result.now) c.in-Err.ensures)
 
 pub read_body-requires-clause-stands : goal.read_body-requires-clause-stands
-read_body-requires-clause-stands c = stands c.args.signature.now c.is_canonical.ensures (rows_of c.args.solution.now.rows.items) (written_body_of c.args.solution.now.written) (numbers_of c.args.solution.now.frees.items) (open_body_of c.args.solution.now.body) c.args.solution.now.store.now c.requires.solved
+read_body-requires-clause-stands c = stands c.args.signature.now c.is_settled.ensures.canonical (rows_of c.args.solution.now.rows.items) (written_body_of c.args.solution.now.written) (numbers_of c.args.solution.now.frees.items) (open_body_of c.args.solution.now.body) c.args.solution.now.store.now c.requires.solved
 
 pub returns-in-Err-read_body-clause-refused : goal.returns-in-Err-read_body-clause-refused
 returns-in-Err-read_body-clause-refused c =
     subst (Stops c.args.signature.now (rows_of c.args.solution.now.rows.items) (written_body_of c.args.solution.now.written)) (sym c.of_reading-in-Err-read_body.ensures)
-    (body_blamed c.args.signature.now c.is_canonical.ensures (rows_of c.args.solution.now.rows.items) (written_body_of c.args.solution.now.written) (numbers_of c.args.solution.now.frees.items) (open_body_of c.args.solution.now.body) c.args.solution.now.store.now c.requires.solved c.in-Err-read_body.fault (λ e. c.in-Err-read_body.ensures.too_deep (ap Err e)))
-
-pub names-requires : goal.names-requires
-names-requires c = settled c.args.signature.now c.is_canonical.ensures (rows_of c.args.solution.now.rows.items) (written_body_of c.args.solution.now.written) (numbers_of c.args.solution.now.frees.items) (open_body_of c.args.solution.now.body) c.args.solution.now.store.now c.requires.solved
+    (body_blamed c.args.signature.now c.is_settled.ensures.canonical (rows_of c.args.solution.now.rows.items) (written_body_of c.args.solution.now.written) (numbers_of c.args.solution.now.frees.items) (open_body_of c.args.solution.now.body) c.args.solution.now.store.now c.requires.solved c.in-Err-read_body.fault (λ e. c.in-Err-read_body.ensures.too_deep (ap Err e)))
 
 pub returns-in-Err-names-clause-refused : goal.returns-in-Err-names-clause-refused
 returns-in-Err-names-clause-refused c =
     subst (Stops c.args.signature.now (rows_of c.args.solution.now.rows.items) (written_body_of c.args.solution.now.written)) (sym c.of_reading-in-Err-names.ensures)
-    (names_blamed c.args.signature.now c.is_canonical.ensures (rows_of c.args.solution.now.rows.items) (written_body_of c.args.solution.now.written) (numbers_of c.args.solution.now.frees.items) (open_body_of c.args.solution.now.body) c.args.solution.now.store.now c.requires.solved c.in-Err-names.fault (λ e. subst (λ ms. FreeIsDeep c.args.solution.now.store.now (numbers_of ms)) c.deref-3.ensures.value (c.in-Err-names.ensures.too_deep (ap Err e))))
+    (names_blamed c.args.signature.now c.is_settled.ensures.canonical (rows_of c.args.solution.now.rows.items) (written_body_of c.args.solution.now.written) (numbers_of c.args.solution.now.frees.items) (open_body_of c.args.solution.now.body) c.args.solution.now.store.now c.requires.solved c.in-Err-names.fault (λ e. subst (λ ms. FreeIsDeep c.args.solution.now.store.now (numbers_of ms)) c.deref-3.ensures.value (c.in-Err-names.ensures.too_deep (ap Err e))))
 
 pub returns-clause-completed : goal.returns-clause-completed
 returns-clause-completed c =
@@ -42,7 +36,7 @@ returns-clause-completed c =
     let w = written_body_of c.args.solution.now.written in
     let after = c.args.solution.now.store.now in
     let N = naming_of c.in-Ok-names.naming in
-    completed c.args.signature.now c.is_canonical.ensures (rows_of c.args.solution.now.rows.items) (written_body_of c.args.solution.now.written) (numbers_of c.args.solution.now.frees.items) (open_body_of c.args.solution.now.body) c.args.solution.now.store.now c.requires.solved
+    completed c.args.signature.now c.is_settled.ensures.canonical (rows_of c.args.solution.now.rows.items) (written_body_of c.args.solution.now.written) (numbers_of c.args.solution.now.frees.items) (open_body_of c.args.solution.now.body) c.args.solution.now.store.now c.requires.solved
     (numbers_of c.deref.result.now) c.in-Ok.quantifiers.positions c.deref-4.result.now N c.in_ok-hints.hints.items c.in_ok-shown.shown.items c.in-Ok.quantifiers.context (body_of c.in-Ok-read_body.body)
     (subst (λ x. AreSites c.args.signature.now (skeletons_of rows) w (numbers_of x)) (sym c.deref.ensures.value) c.requires.sites)
     (subst (λ x. AreFreesInOrder w (length rows) x) (sym c.deref-4.ensures.value) c.requires.in_order)
