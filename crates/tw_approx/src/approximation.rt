@@ -38,7 +38,7 @@ pub struct Row {
 /// The skeletons of what a declaration leaves out.
 #[derive(Drop, Debug)]
 pub struct Approx {
-    /// The free variables, in the order in which they first occur.
+    /// The free variables, each once. Nothing is said of their order.
     pub free: Vec<Row>,
     /// Holes and binders without a type, in the order in which the text is gone over: a function before its argument, a domain before its range, a term before
     /// the type that is written for it, but the type of a definition before its term. A hole for a term has the skeleton of its type, a hole for a type its own.
