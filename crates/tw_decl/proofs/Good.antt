@@ -1,5 +1,5 @@
 -- A good declaration has no cause of a refusal.
-use Rattle.std.proofs.Common.{◌≡◌, ℕ, List, [], true, false, Option, None, Some, refl, sym, ap, ◌∙◌, subst, inl, inr, Ok, Err}
+use Rattle.std.proofs.Common.{◌≡◌, ℕ, List, true, false, Option, None, Some, refl, sym, ap, ◌∙◌, subst, inl, inr, Ok, Err}
 use Rattle.tw_lexer.specs.Places.{place_of}
 use Rattle.tw_lexer.specs.Tokens.{first_token}
 use Rattle.tw_lexer.specs.declared.place.Place.{Place}
@@ -13,12 +13,11 @@ use Rattle.tw_parse.specs.Words.{Lexeme, lexemes, first_place}
 use Rattle.tw_parse.specs.declared.fault.SyntaxFault.{SyntaxFault}
 use Rattle.tw_parse.specs.declared.fault.SyntaxFault.TheVariants as faults
 use Rattle.tw_approx.specs.Answer.{frees_of}
-use Rattle.tw_approx.specs.Levels.{IsAmong}
-use Rattle.tw_explicit.specs.Unknown.{IsOneOf}
 use Rattle.tw_recon.specs.Causes as reconstruction
 use Rattle.tw_recon.specs.declared.fault.ReconFault.{ReconFault}
 use Rattle.tw_recon.specs.declared.fault.ReconFault.TheVariants as reconstructions
 use Rattle.explicit_agrees.specs.Reconstructed.{MayBeRefused}
+use Rattle.explicit_agrees.proofs.Full.{no_lambda, no_name, no_type}
 use Rattle.explicit_agrees.proofs.Only.{no_other_cause}
 use Rattle.tw_decl.specs.View.{View, IsSound}
 use Rattle.tw_decl.specs.Declaration.{IsWritten, IsWrittenAlone, IsReadAs, IsFaultBehind, HasObstacle, IsNotMade, IsFirstCause, IsFollowed, IsLastCause, IsCause, IsCauseAlone, HasCause, HasNoMore}
@@ -94,11 +93,11 @@ well_typed v (give fix names) s t first refusal h = absurd t.completes
 -- what can be completed has no cause of another refusal
 module _ (v : View) (d : Declaration) (k : IsCompletable v d) where
   no_unknown : (name : List ℕ) (place : Place) → reconstruction.HasCause v.signature d (reconstructions.Unknown name place) → ⊥
-  no_unknown name place h = let none : IsOneOf (record { name = name; at = place }) [] = subst (IsOneOf (record { name = name; at = place })) k.is_written.objects.known h.stands in none
+  no_unknown name place h = no_name v.signature d k.is_written.objects (record { name = name; at = place }) h.stands
 
   no_type_level : (place : Option Place) → reconstruction.HasCause v.signature d (reconstructions.TypeLevel place) → ⊥
-  no_type_level None h = let clash : false ≡ true = sym k.is_written.objects.no_definition ∙ h.1 in cc
-  no_type_level (Some p) h = let none : IsAmong p [] = subst (IsAmong p) k.is_written.objects.no_lambda h.2.stands in none
+  no_type_level None h = no_type v.signature d k.is_written.objects h.1
+  no_type_level (Some p) h = no_lambda v.signature d k.is_written.objects p h.2.stands
 
   no_loose : reconstruction.HasCause v.signature d reconstructions.Loose → ⊥
   no_loose (o, h) =
