@@ -21,11 +21,13 @@ use Rattle.tw_approx.specs.Answer.{Rows}
 use Rattle.tw_approx.specs.Readings.{Reading, and_then, found}
 use Rattle.tw_approx.proofs.Sequences.{and_then_parts, given, parts_of}
 use Rattle.tw_approx.proofs.Unifying.{both_true}
-use Rattle.tw_explicit.specs.Answer.{IsExplicit, ends_in_type}
-use Rattle.tw_explicit.specs.Completion as explicit
-use Rattle.tw_explicit.specs.Completion.{BodyGiven, DomainGives, FamilyGives, KindGives, SpineGives, TermGives, TypeGives, hints}
-use Rattle.tw_explicit.specs.Form.{Shape, domain_shape, entry_shape, explicit_shape, head_shape, is_domain_form, is_point, is_term_form, is_type_form, kind_shape, shape, shape_behind, shape_left, written_shape}
-use Rattle.tw_explicit.specs.Scope.{binder_name, head_named, named}
+use Rattle.explicit_form.specs.Explicit.{IsExplicit}
+use Rattle.tw_names.specs.Texts.{ends_in_type}
+use Rattle.explicit_form.specs.Completion as explicit
+use Rattle.explicit_form.specs.Completion.{BodyGiven, DomainGives, FamilyGives, KindGives, SpineGives, TermGives, TypeGives}
+use Rattle.tw_names.specs.Texts.{hints}
+use Rattle.explicit_form.specs.Form.{Shape, domain_shape, entry_shape, explicit_shape, head_shape, is_domain_form, is_point, is_term_form, is_type_form, kind_shape, shape, shape_behind, shape_left, written_shape}
+use Rattle.tw_names.specs.Scope.{binder_name, head_named, named}
 use Rattle.tw_lexer.specs.declared.place.Place.{Place}
 use Rattle.tw_parse.specs.Syntax.{Declaration, Domain, Term, application, arrow, ascription, declare, define, give, hole, identifier, lambda, pi, prefer, star, typed, untyped}
 use Rattle.tw_resolve.specs.Resolved.{classifier_read, names_of, resolved_body, skeletons_of, taken_whole, with_one}

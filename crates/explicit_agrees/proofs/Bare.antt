@@ -6,10 +6,10 @@ use Rattle.lf.specs.Syntax.{Head, constant, variable, metavariable, base, arrow 
 use Rattle.tw_approx.specs.Levels.{lambdas_in_term, lambdas_in_type, lambdas_in_domain}
 use Rattle.tw_approx.specs.Names.{IsFreeIn, IsFreeInDomain}
 use Rattle.tw_approx.proofs.Unifying.{both_true}
-use Rattle.tw_explicit.specs.Form.{Shape, explicit_shape, entry_shape, domain_shape, head_shape, is_point, shape_behind, is_type_form, is_domain_form, is_term_form, shape_left}
-use Rattle.tw_explicit.specs.Scope.{binder_name, head_named, named}
-use Rattle.tw_explicit.specs.Unknown.{unknown_in_domain, unknown_names, unless_named}
-use Rattle.tw_explicit.specs.declared.unknown.Mention.{Mention}
+use Rattle.explicit_form.specs.Form.{Shape, explicit_shape, entry_shape, domain_shape, head_shape, is_point, shape_behind, is_type_form, is_domain_form, is_term_form, shape_left}
+use Rattle.tw_names.specs.Scope.{binder_name, head_named, named}
+use Rattle.tw_names.specs.Unknown.{unknown_in_domain, unknown_names, unless_named}
+use Rattle.tw_names.specs.declared.unknown.Mention.{Mention}
 use Rattle.tw_parse.specs.Syntax.{Term, Domain, identifier, hole, star, arrow, pi, lambda, application, ascription, untyped, typed}
 use Rattle.tw_scope.specs.Names.{Names, variable_of}
 use Rattle.tw_signature.specs.Names.{number_of}

@@ -5,8 +5,8 @@ use Rattle.lf.specs.Syntax.{Head, Kind, LfType, Spine, Term as LfTerm, atom, kin
 use Rattle.lf.specs.Typing.{IsSignature}
 use Rattle.lf.proofs.Entries.{canonical_is_signature}
 use Rattle.elaboration.specs.Written.{Place as WrittenPlace}
-use Rattle.tw_explicit.specs.Completion.{DomainGives, FamilyGives, KindGives, SpineGives, TermGives, TypeGives}
-use Rattle.tw_explicit.specs.Scope.{binder_name}
+use Rattle.explicit_form.specs.Completion.{DomainGives, FamilyGives, KindGives, SpineGives, TermGives, TypeGives}
+use Rattle.tw_names.specs.Scope.{binder_name}
 use Rattle.tw_parse.specs.Syntax.{Domain, Term, application, arrow, identifier, lambda, pi, star, typed, untyped}
 use Rattle.tw_scope.specs.Names.{Names}
 use Rattle.tw_written.specs.View.{place_of}

@@ -19,11 +19,11 @@ use Rattle.tw_approx.specs.Readings.{and_then}
 use Rattle.tw_approx.specs.Skeletons.{Frees, ascribed, definition_skeleton, same_skeleton, term_skeleton, type_skeleton}
 use Rattle.tw_approx.proofs.Sequences.{parts_of}
 use Rattle.tw_approx.proofs.Unifying.{passed, skeletons_same}
-use Rattle.tw_explicit.specs.Completion.{SpineGives, TermGives}
-use Rattle.tw_explicit.specs.Form.{written_shape}
-use Rattle.tw_explicit.specs.Scope.{binder_name}
-use Rattle.tw_explicit.specs.Unknown.{unknown_names}
-use Rattle.tw_explicit.proofs.Gives.{term_typed, type_typed}
+use Rattle.explicit_form.specs.Completion.{SpineGives, TermGives}
+use Rattle.explicit_form.specs.Form.{written_shape}
+use Rattle.tw_names.specs.Scope.{binder_name}
+use Rattle.tw_names.specs.Unknown.{unknown_names}
+use Rattle.explicit_form.proofs.Gives.{term_typed, type_typed}
 use Rattle.tw_parse.specs.Syntax.{Declaration, Term, application, define, identifier, lambda}
 use Rattle.tw_resolve.specs.Resolved.{names_of, resolved_body, taken_whole}
 use Rattle.tw_resolve.specs.Resolving.{made, resolved_term, resolved_type, with_both}

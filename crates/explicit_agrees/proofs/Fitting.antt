@@ -9,8 +9,8 @@ use Rattle.lf.proofs.TypeLaws.{skeleton_renamed, skeleton_substituted}
 use Rattle.tw_approx.specs.Readings.{Reading, found, and_then}
 use Rattle.tw_approx.specs.Skeletons.{Frees, known, whole, object_skeleton, entry_skeleton, name_skeleton, due, family_of_body, family_of_entry, family_named, same_skeleton, applied, family_applied, term_skeleton, family_skeleton, domain_skeleton, kind_due}
 use Rattle.tw_approx.proofs.Unifying.{passed, skeletons_same}
-use Rattle.tw_explicit.specs.Completion.{TermGives, SpineGives, FamilyGives, TypeGives, DomainGives, KindGives}
-use Rattle.tw_explicit.specs.Scope.{binder_name, named}
+use Rattle.explicit_form.specs.Completion.{TermGives, SpineGives, FamilyGives, TypeGives, DomainGives, KindGives}
+use Rattle.tw_names.specs.Scope.{binder_name, named}
 use Rattle.tw_parse.specs.Syntax.{Term, Domain, identifier, star, arrow, pi, lambda, application, untyped, typed}
 use Rattle.tw_scope.specs.Names.{Names}
 use Rattle.explicit_agrees.proofs.Bare.{NameIsBare, TermIsBare, TypeIsBare, DomainIsBare}

@@ -9,8 +9,8 @@ use Rattle.elaboration.specs.State.{State}
 use Rattle.tw_approx.specs.Answer.{HasSkeletons, IsClash, IsLoose, IsOfObjects, Rows, frees_of}
 use Rattle.tw_approx.specs.Levels.{IsAmong, is_type_definition, type_lambdas}
 use Rattle.tw_approx.specs.Names.{IsFreeVariable}
-use Rattle.tw_explicit.specs.Unknown.{IsOneOf, unknown_in}
-use Rattle.tw_explicit.specs.declared.unknown.Mention.{Mention}
+use Rattle.tw_names.specs.Unknown.{IsOneOf, unknown_in}
+use Rattle.tw_names.specs.declared.unknown.Mention.{Mention}
 use Rattle.tw_lexer.specs.declared.place.Place.{Place}
 use Rattle.tw_parse.specs.Syntax.{Declaration}
 use Rattle.tw_recon.specs.Causes.{DeclarationStops, HasCause}
@@ -43,7 +43,7 @@ module _ (es : List Entry) (d : Declaration) where
     no_lambda p h = let none : IsAmong p [] = subst (IsAmong p) objects.no_lambda h in none
 
   module _ (not_free : (x : List ℕ) → IsFreeVariable es x d → ⊥) where
-    no_rows : (rows : Rows) (o : List Skeleton) → HasSkeletons es d rows o → rows ≡ []
+    pub no_rows : (rows : Rows) (o : List Skeleton) → HasSkeletons es d rows o → rows ≡ []
     no_rows [] o h = refl
     no_rows ((x, s) ∷ rows) o h = absurd (not_free x (h.row_is_free x (inl refl)))
 
@@ -64,7 +64,7 @@ module _ (es : List Entry) (d : Declaration) where
           none c (subst (λ rs. IsCompletion es (skeletons_of rs) v c) (sym e) (subst (λ x. IsCompletion es [] x c) (sym same) k))
 
     module _ (makes_none : (rows : Rows) (o : List Skeleton) (w : WrittenBody) → resolved_body es rows o d ≡ Some w → total (body_spots es w) ≡ zero) where
-      nothing_made : (rows : Rows) (w : WrittenBody) (frees : List ℕ) (s : State) (b : Body) → IsWrittenAs es d rows w → IsMade es (skeletons_of rows) w frees s b → (m : ℕ) → s.metavariables m ≡ None
+      pub nothing_made : (rows : Rows) (w : WrittenBody) (frees : List ℕ) (s : State) (b : Body) → IsWrittenAs es d rows w → IsMade es (skeletons_of rows) w frees s b → (m : ℕ) → s.metavariables m ≡ None
       nothing_made rows w frees s b h made = made_none es w frees s b (makes_none rows h.omitted w h.resolved) (subst (λ r. IsMade es (skeletons_of r) w frees s b) (no_rows rows h.omitted h.skeletons) made)
 
       pub no_equation : (left : LeftEquation) → DeclarationStops es d (Leftover left) → ⊥

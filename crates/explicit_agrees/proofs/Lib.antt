@@ -13,3 +13,5 @@ pub mod Definitions
 pub mod Full
 pub mod Only
 pub mod OnlyDefinitions
+pub mod Shallow
+pub mod Deep

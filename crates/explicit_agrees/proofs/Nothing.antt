@@ -22,8 +22,8 @@ use Rattle.elaboration.proofs.Adds.{checks_adds, infers_adds, kind_adds, type_ad
 use Rattle.elaboration.proofs.Counted.{spots_all}
 use Rattle.tw_approx.specs.Readings.{found}
 use Rattle.tw_approx.proofs.Sequences.{and_then_parts, given, parts_of}
-use Rattle.tw_explicit.specs.Answer.{ends_in_type}
-use Rattle.tw_explicit.specs.Scope.{binder_name, named}
+use Rattle.tw_names.specs.Texts.{ends_in_type}
+use Rattle.tw_names.specs.Scope.{binder_name, named}
 use Rattle.tw_metas.specs.State as metas
 use Rattle.tw_parse.specs.Syntax.{Domain, Term, application, arrow, ascription, hole, identifier, lambda, pi, star, typed, untyped}
 use Rattle.tw_putting.specs.Stores.{types_of}
@@ -37,7 +37,7 @@ use Rattle.tw_written.specs.View.{place_of}
 use Rattle.explicit_agrees.proofs.Back.{argument_parts, both_parts, one_part, whole_parts}
 use Rattle.explicit_agrees.proofs.Bare.{DomainIsBare, IsWider, NameIsBare, TermIsBare, TypeIsBare, before_variable, wider_under}
 
-none_is_not_some : {A : Type 0} {o : Option A} {a : A} → o ≡ None → o ≡ Some a → ⊥
+pub none_is_not_some : {A : Type 0} {o : Option A} {a : A} → o ≡ None → o ≡ Some a → ⊥
 none_is_not_some n s = let e = sym n ∙ s in cc
 
 -- parts that make none, one behind the other

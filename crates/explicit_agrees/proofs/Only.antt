@@ -7,10 +7,11 @@ use Rattle.elaboration.specs.SiteLaws.{total}
 use Rattle.elaboration.specs.Sites.{body_spots}
 use Rattle.tw_approx.specs.Answer.{IsOfObjects, Rows}
 use Rattle.tw_approx.specs.Names.{IsFreeVariable}
-use Rattle.tw_explicit.specs.Completion.{BodyGiven, Completes, hints}
-use Rattle.tw_explicit.specs.Form.{is_type_form}
-use Rattle.tw_explicit.specs.Unknown.{unknown_in}
-use Rattle.tw_explicit.proofs.Bodies.{body_hints}
+use Rattle.explicit_form.specs.Completion.{BodyGiven, Completes}
+use Rattle.tw_names.specs.Texts.{hints}
+use Rattle.explicit_form.specs.Form.{is_type_form}
+use Rattle.tw_names.specs.Unknown.{unknown_in}
+use Rattle.explicit_form.proofs.Hints.{body_hints}
 use Rattle.tw_lexer.specs.declared.place.Place.{Place}
 use Rattle.tw_parse.specs.Syntax.{Term, declare, define, give, prefer}
 use Rattle.tw_recon.specs.Causes.{HasCause}

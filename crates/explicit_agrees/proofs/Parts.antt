@@ -21,8 +21,8 @@ use Rattle.elaboration.specs.Written as forms
 use Rattle.elaboration.specs.Written.{Place as WrittenPlace, Written, WrittenDomain, WrittenKind, WrittenType}
 use Rattle.tw_approx.specs.Readings.{Reading, and_then, found}
 use Rattle.tw_approx.proofs.Sequences.{given}
-use Rattle.tw_explicit.specs.Completion.{then as behind}
-use Rattle.tw_explicit.specs.Scope.{binder_name, named}
+use Rattle.explicit_form.specs.Completion.{then as behind}
+use Rattle.tw_names.specs.Scope.{binder_name, named}
 use Rattle.tw_lexer.specs.declared.place.Place.{Place}
 use Rattle.tw_parse.specs.Syntax.{Domain, Term, application, arrow, lambda, pi, star, typed}
 use Rattle.tw_resolve.specs.Resolving.{is_type_hole, made, on_argument, resolved_domain, resolved_family, resolved_kind, resolved_name, resolved_term, resolved_type, with_both}

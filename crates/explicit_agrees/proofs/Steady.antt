@@ -6,8 +6,8 @@ use Rattle.tw_approx.specs.Answer.{HasSkeletons, IsClash, frees_of}
 use Rattle.tw_approx.specs.Readings.{Reading, and_then, found}
 use Rattle.tw_approx.specs.Skeletons.{Family, FitsClassifier, Frees, applied, domain_skeleton, family_applied, family_named, family_of_body, family_of_entry, family_skeleton, kind_due, known, name_skeleton, same_skeleton, term_skeleton, type_skeleton, unknown, whole}
 use Rattle.tw_approx.proofs.Sequences.{and_then_parts, given, parts_of}
-use Rattle.tw_explicit.specs.Answer.{ends_in_type}
-use Rattle.tw_explicit.specs.Scope.{binder_name, named}
+use Rattle.tw_names.specs.Texts.{ends_in_type}
+use Rattle.tw_names.specs.Scope.{binder_name, named}
 use Rattle.tw_lexer.specs.declared.place.Place.{Place}
 use Rattle.tw_parse.specs.Syntax.{Domain, Term, application, arrow, ascription, declare, hole, identifier, lambda, pi, star, typed, untyped}
 use Rattle.tw_scope.specs.Names.{Names}

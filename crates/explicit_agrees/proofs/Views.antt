@@ -10,7 +10,7 @@ use Rattle.lf.proofs.Renaming.{up_up}
 use Rattle.lf.proofs.TypeLaws.{renamings_compose_type}
 use Rattle.lf.proofs.Weakening.{renames_under_binder}
 use Rattle.unification.proofs.Eta.{rename_id_type}
-use Rattle.tw_explicit.specs.Scope.{head_named, named}
+use Rattle.tw_names.specs.Scope.{head_named, named}
 use Rattle.tw_scope.specs.Names.{Names, variable_of}
 use Rattle.tw_signature.specs.Names.{number_of}
 

@@ -12,10 +12,11 @@ use Rattle.elaboration.specs.Written.{WrittenKind, WrittenType}
 use Rattle.tw_approx.specs.Answer.{HasSkeletons, frees_of}
 use Rattle.tw_approx.specs.Skeletons.{FitsClassifier, Frees, due}
 use Rattle.tw_approx.proofs.Sequences.{parts_of}
-use Rattle.tw_explicit.specs.Answer.{IsExplicit, ends_in_type}
-use Rattle.tw_explicit.specs.Completion.{BodyGiven, Completes, KindGives, TypeGives}
-use Rattle.tw_explicit.specs.Scope.{binder_name}
-use Rattle.tw_explicit.proofs.Gives.{kind_typed, type_typed}
+use Rattle.explicit_form.specs.Explicit.{IsExplicit}
+use Rattle.tw_names.specs.Texts.{ends_in_type}
+use Rattle.explicit_form.specs.Completion.{BodyGiven, Completes, KindGives, TypeGives}
+use Rattle.tw_names.specs.Scope.{binder_name}
+use Rattle.explicit_form.proofs.Gives.{kind_typed, type_typed}
 use Rattle.tw_lexer.specs.declared.place.Place.{Place}
 use Rattle.tw_parse.specs.Syntax.{Term, application, arrow, declare, define, give, identifier, pi, prefer, star}
 use Rattle.tw_resolve.specs.Resolved.{classifier_read, taken_whole, with_one}

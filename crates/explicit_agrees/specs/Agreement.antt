@@ -3,8 +3,8 @@ use Rattle.std.specs.Prelude.{◌≡◌, List, [], Some, ◌⊎◌}
 use Rattle.lf.specs.Entries.{Entry, IsCanonicalEntry, IsCanonicalSignature, signature_of}
 use Rattle.elaboration.specs.Principal.{Completion, IsCompletion, IsPrincipal, WrittenBody}
 use Rattle.tw_approx.specs.Answer.{HasSkeletons, IsClash, IsOfObjects}
-use Rattle.tw_explicit.specs.Answer.{IsExplicit}
-use Rattle.tw_explicit.specs.Completion.{Completes}
+use Rattle.explicit_form.specs.Explicit.{IsExplicit}
+use Rattle.explicit_form.specs.Completion.{Completes}
 use Rattle.tw_parse.specs.Syntax.{Declaration}
 use Rattle.tw_resolve.specs.Resolved.{resolved_body}
 

@@ -2,8 +2,8 @@
 use Rattle.std.specs.Prelude.{◌≡◌, ℕ, List, [], Bool, true, Option, Some}
 use Rattle.lf.specs.Entries.{Entry, IsCanonicalSignature, declare_definition}
 use Rattle.lf.specs.Syntax.{LfType, Term as LfTerm}
-use Rattle.tw_explicit.specs.Completion.{TermGives, TypeGives}
-use Rattle.tw_explicit.specs.Form.{is_term_form, is_type_form, written_shape}
+use Rattle.explicit_form.specs.Completion.{TermGives, TypeGives}
+use Rattle.explicit_form.specs.Form.{is_term_form, is_type_form, written_shape}
 use Rattle.tw_parse.specs.Syntax.{Term, define}
 use Rattle.tw_recon.specs.Causes.{HasCause}
 use Rattle.tw_recon.specs.Reconstruction.{IsEntryOf, IsReconstructed}

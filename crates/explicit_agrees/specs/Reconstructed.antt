@@ -1,8 +1,8 @@
 -- What an explicit declaration is completed to is what it would be reconstructed to.
 use Rattle.std.specs.Prelude.{List}
 use Rattle.lf.specs.Entries.{Entry, IsCanonicalEntry, IsCanonicalSignature, signature_of}
-use Rattle.tw_explicit.specs.Answer.{IsExplicit}
-use Rattle.tw_explicit.specs.Completion.{Completes}
+use Rattle.explicit_form.specs.Explicit.{IsExplicit}
+use Rattle.explicit_form.specs.Completion.{Completes}
 use Rattle.tw_parse.specs.Syntax.{Declaration}
 use Rattle.tw_recon.specs.Causes.{HasCause}
 use Rattle.tw_recon.specs.Reconstruction.{IsReconstructed}

@@ -3,7 +3,8 @@ use Rattle.std.proofs.Common.{◌≡◌, ℕ, zero, ◌+◌, List, [], ◌∷◌
 use Rattle.std.specs.Prelude.{codes}
 use Rattle.lf.specs.Entries.{Entry, Body, declare_family, declare_constant, declare_definition, signature_of, BodyIsTyped}
 use Rattle.lf.proofs.Entries.{canonical_is_signature}
-use Rattle.tw_explicit.specs.Completion.{BodyGiven, hints}
+use Rattle.explicit_form.specs.Completion.{BodyGiven}
+use Rattle.tw_names.specs.Texts.{hints}
 use Rattle.tw_lexer.specs.Tokens.{ThroughDot}
 use Rattle.tw_lexer.specs.declared.token.Token.{Token}
 use Rattle.tw_parse.specs.Outlines.{Table, Shapes, declares, Sequence}

@@ -5,7 +5,7 @@ use Rattle.std.specs.Char.{encode_utf8}
 use Rattle.std.specs.Str.{bytes_eq}
 use Rattle.std.specs.Cmp.Lexicographic.{bytes_decides}
 use Rattle.std.proofs.lemmas.Fmt.{decimal_by_steps, decimal_nonempty}
-use Rattle.tw_explicit.specs.Scope.{binder_name}
+use Rattle.tw_names.specs.Scope.{binder_name}
 use Rattle.tw_parse.specs.Words.{fixed_word}
 use Rattle.tw_parse.specs.declared.words.Word.TheVariants.{Name, Underscore}
 use Rattle.tw_scope.specs.Names.{Names as Scope}

@@ -4,7 +4,7 @@ use Rattle.std.specs.Prelude.{codes}
 use Rattle.lf.specs.Entries.{Entry, Body, declare_definition, signature_of, BodyIsTyped}
 use Rattle.lf.specs.Syntax.{Term, LfType}
 use Rattle.lf.proofs.Entries.{canonical_is_signature}
-use Rattle.tw_explicit.specs.Completion.{TermGives, TypeGives}
+use Rattle.explicit_form.specs.Completion.{TermGives, TypeGives}
 use Rattle.tw_lexer.specs.Tokens.{ThroughDot}
 use Rattle.tw_parse.specs.Keywords.{form_of}
 use Rattle.tw_parse.specs.Outlines.{Table, Shapes, defines_typed, Head, a_definition, an_abbreviation, Sequence}

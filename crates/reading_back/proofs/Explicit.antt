@@ -6,12 +6,12 @@ use Rattle.lf.specs.Entries.{Entry, Body, declare_family, declare_constant, decl
 use Rattle.lf.specs.Substitution.{Image, lift, single, substitute_type, substitute_kind, reduce}
 use Rattle.lf.specs.Syntax.{Head, constant, variable, metavariable, Term as LfTerm, Spine, lambda as lf_lambda, root, skeleton, LfType, pi as lf_pi, atom, Kind, kind_pi, star as lf_star, rename_type, lift_renaming}
 use Rattle.lf.specs.Typing.{HeadHasType, TypeAt, instantiate_kind}
-use Rattle.tw_explicit.specs.Answer.{IsExplicit}
-use Rattle.tw_explicit.specs.Completion.{TermGives, SpineGives, FamilyGives, TypeGives, DomainGives, KindGives, BodyGiven}
-use Rattle.tw_explicit.specs.Form.{Shape, point, shape, kind_shape, explicit_shape, entry_shape, written_shape, domain_shape, head_shape, is_point, shape_behind, is_type_form, is_domain_form, is_term_form, shape_left}
-use Rattle.tw_explicit.specs.Scope.{binder_name, head_named, named}
-use Rattle.tw_explicit.specs.Unknown.{unless_named, unknown_names, unknown_in_domain}
-use Rattle.tw_explicit.specs.declared.unknown.Mention.{Mention}
+use Rattle.explicit_form.specs.Explicit.{IsExplicit}
+use Rattle.explicit_form.specs.Completion.{TermGives, SpineGives, FamilyGives, TypeGives, DomainGives, KindGives, BodyGiven}
+use Rattle.explicit_form.specs.Form.{Shape, point, shape, kind_shape, explicit_shape, entry_shape, written_shape, domain_shape, head_shape, is_point, shape_behind, is_type_form, is_domain_form, is_term_form, shape_left}
+use Rattle.tw_names.specs.Scope.{binder_name, head_named, named}
+use Rattle.tw_names.specs.Unknown.{unless_named, unknown_names, unknown_in_domain}
+use Rattle.tw_names.specs.declared.unknown.Mention.{Mention}
 use Rattle.tw_lexer.specs.declared.place.Place.{Place}
 use Rattle.tw_parse.specs.Syntax.{Term, Domain, identifier, star, arrow, pi, lambda, application, untyped, typed, declare}
 use Rattle.tw_print.specs.Arguments.{implicit_in}

@@ -9,9 +9,9 @@ use Rattle.lf.proofs.Agreement.{uses_within, uses_type_within}
 use Rattle.lf.proofs.Kept.{typed_uses_type, instance_uses}
 use Rattle.lf.proofs.Regular.{head_type as head_is_typed}
 use Rattle.lf.proofs.Substitution.{instance_is_type, family_kind}
-use Rattle.tw_explicit.specs.Completion.{then, TermGives, SpineGives, FamilyGives, TypeGives, KindGives}
+use Rattle.explicit_form.specs.Completion.{then, TermGives, SpineGives, FamilyGives, TypeGives, KindGives}
 use Rattle.tw_scope.specs.Names.{Names, variable_of}
-use Rattle.tw_explicit.specs.Scope.{binder_name, head_named, named}
+use Rattle.tw_names.specs.Scope.{binder_name, head_named, named}
 use Rattle.tw_parse.specs.Syntax as syntax
 use Rattle.tw_print.specs.Arguments.{implicit_in, with_type, arguments, kind_as_type, head_type, family_type, hidden, head_hidden}
 use Rattle.tw_scope.specs.Names.{Names as Scope}

@@ -2,7 +2,7 @@
 use Rattle.std.proofs.Common.{◌≡◌, ℕ, zero, List, ◌∷◌, Some, None}
 use Rattle.lf.specs.Entries.{Entry, entry}
 use Rattle.lf.specs.Syntax.{constant}
-use Rattle.tw_explicit.specs.Scope.{binder_name, named}
+use Rattle.tw_names.specs.Scope.{binder_name, named}
 use Rattle.tw_parse.specs.Syntax.{Term, Domain, identifier, hole, star, arrow, pi, lambda, application, ascription, untyped, typed}
 use Rattle.tw_print.specs.Arguments.{implicit_in}
 use Rattle.tw_scope.specs.Names.{Names}

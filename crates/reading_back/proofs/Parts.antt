@@ -9,7 +9,7 @@ use Rattle.lf.proofs.Kept.{Covers, Covers-push, typed_uses_type, instance_uses}
 use Rattle.lf.proofs.Regular.{substitution_keeps_kinds}
 use Rattle.lf.proofs.Substitution.{skeleton_context_of, single_substitution_typed}
 use Rattle.lf.proofs.ToSkeletons.{type_by_skeletons}
-use Rattle.tw_explicit.specs.Scope.{binder_name}
+use Rattle.tw_names.specs.Scope.{binder_name}
 use Rattle.tw_print.specs.Arguments.{kind_as_type, head_hidden, implicit_in}
 use Rattle.tw_scope.specs.Names.{Names as Scope}
 use Rattle.tw_print.specs.Names.{Scene}

@@ -3,10 +3,10 @@ use Rattle.std.specs.Prelude.{◌≡◌, ℕ, ◌+◌, List, [], ◌++◌, lengt
 use Rattle.lf.specs.Entries.{Entry, Body, declare_family, declare_constant, declare_definition, signature_of, IsCanonicalSignature, BodyIsTyped}
 use Rattle.lf.specs.Syntax.{Term, LfType}
 use Rattle.lf.specs.Typing.{HasType, IsType}
-use Rattle.tw_explicit.specs.Answer.{IsExplicit}
-use Rattle.tw_explicit.specs.Completion.{TermGives, TypeGives, KindGives, Completes}
-use Rattle.tw_explicit.specs.Form.{is_type_form, is_term_form, written_shape}
-use Rattle.tw_explicit.specs.Unknown.{unknown_in}
+use Rattle.explicit_form.specs.Explicit.{IsExplicit}
+use Rattle.explicit_form.specs.Completion.{TermGives, TypeGives, KindGives, Completes}
+use Rattle.explicit_form.specs.Form.{is_type_form, is_term_form, written_shape}
+use Rattle.tw_names.specs.Unknown.{unknown_in}
 use Rattle.tw_lexer.specs.Tokens.{ThroughDot}
 use Rattle.tw_lexer.specs.declared.place.Place.{Place}
 use Rattle.tw_lexer.specs.declared.token.Token.{Token}

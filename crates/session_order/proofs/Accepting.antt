@@ -4,8 +4,8 @@ use Rattle.std.specs.Bool.{MatchBool}
 use Rattle.lf.specs.Depth.{depth_limit}
 use Rattle.lf.specs.Syntax.{LfType, Term as LfTerm}
 use Rattle.lf.specs.Entries.{Body, Entry, body_quantifiers, declare_constant, declare_definition, declare_family, signature_of, BodyIsTyped, BodyIsWithin, IsCanonicalEntry, IsCanonicalSignature}
-use Rattle.tw_explicit.specs.Completion.{IsCompletion}
-use Rattle.tw_explicit.proofs.Bodies.{body_hints}
+use Rattle.explicit_form.specs.Completion.{IsCompletion}
+use Rattle.explicit_form.proofs.Hints.{body_hints}
 use Rattle.tw_lexer.specs.Places.{place_of}
 use Rattle.tw_lexer.specs.Tokens.{token, between, ends, ThroughDot, IsFew, token_count}
 use Rattle.tw_lexer.specs.declared.place.Place.{Place}

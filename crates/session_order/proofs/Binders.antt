@@ -6,8 +6,8 @@ use Rattle.std.specs.Str.{bytes_eq}
 use Rattle.std.specs.Cmp.Lexicographic.{bytes_decides}
 use Rattle.lf.specs.Entries.{Entry}
 use Rattle.tw_approx.specs.Names.{IsFreeIn, IsFreeInDomain, IsFreeInType, IsFreeVariable}
-use Rattle.tw_explicit.specs.Completion.{hints}
-use Rattle.tw_explicit.specs.Scope.{binder_name}
+use Rattle.tw_names.specs.Texts.{hints}
+use Rattle.tw_names.specs.Scope.{binder_name}
 use Rattle.tw_fixity.specs.declared.table.Fix.{Fix}
 use Rattle.tw_lexer.specs.declared.place.Place.{Place}
 use Rattle.tw_parse.specs.Grammar.{Item, atom, sign, joined, applied, Reads, alone, apply, between, before, behind, bound}

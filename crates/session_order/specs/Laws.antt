@@ -2,7 +2,7 @@
 use Rattle.std.specs.Prelude.{◌≡◌, ℕ, List, ◌∷◌, ◌++◌, codes, Bool, false, Option, Some}
 use Rattle.std.specs.List.{AllByRecursion}
 use Rattle.lf.specs.Entries.{Entry, signature_of, IsCanonicalEntry}
-use Rattle.tw_explicit.specs.Completion.{hints}
+use Rattle.tw_names.specs.Texts.{hints}
 use Rattle.tw_lexer.specs.Tokens.{ThroughDot}
 use Rattle.tw_lexer.specs.declared.place.Place.{Place}
 use Rattle.tw_lexer.specs.declared.token.Token.{Token}

@@ -8,7 +8,7 @@ use Rattle.tw_approx.specs.Reading.{due_of, family_at, ReadsFamily, IsFamilyRead
 use Rattle.tw_approx.specs.Skeletons.{applied, family_applied, term_skeleton, family_skeleton, type_skeleton, domain_skeleton, kind_due}
 use Rattle.tw_approx.specs.Walks.{State, Nothing, filled_all, IsSound, Refuses, ReadsShape, inside, outside}
 use Rattle.tw_approx.specs.declared.family.FamilyShape.{FamilyShape}
-use Rattle.tw_explicit.specs.Scope.{binder_name}
+use Rattle.tw_names.specs.Scope.{binder_name}
 use Rattle.tw_lexer.specs.declared.place.Place.{Place}
 use Rattle.tw_parse.proofs.Views.{term_of-Pi-untyped, term_of-Pi-typed, term_of-Lam-untyped, term_of-Lam-typed}
 use Rattle.tw_parse.specs.Syntax.{Term, Domain, pi, lambda, application, ascription}

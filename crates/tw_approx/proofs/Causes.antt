@@ -10,8 +10,8 @@ use Rattle.tw_approx.specs.Solving.{IsFound, IsLeftOpen}
 use Rattle.tw_approx.specs.Walks.{State}
 use Rattle.tw_approx.specs.declared.fault.ApproxFault.{ApproxFault}
 use Rattle.tw_approx.specs.declared.fault.ApproxFault.TheVariants.{Unknown, TypeLevel, Clash, Loose, NoMemory}
-use Rattle.tw_explicit.specs.Answer.{ends_in_type}
-use Rattle.tw_explicit.specs.Scope.{binder_name}
+use Rattle.tw_names.specs.Texts.{ends_in_type}
+use Rattle.tw_names.specs.Scope.{binder_name}
 use Rattle.tw_parse.specs.Syntax.{Term, identifier, hole, star, arrow, pi, lambda, application, ascription, Declaration}
 use Rattle.tw_scope.specs.Names.{Names}
 use Rattle.tw_approx.proofs.Fitting.{open_twice}

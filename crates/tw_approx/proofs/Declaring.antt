@@ -5,7 +5,7 @@ use Rattle.lf.specs.Syntax.{Skeleton}
 use Rattle.tw_approx.specs.Answer.{Rows, FitsOnce, IsOfObjects, HasSkeletons, IsQueryOfObjects, HasQuerySkeletons}
 use Rattle.tw_approx.specs.Names.{IsFreeIn}
 use Rattle.tw_approx.specs.Skeletons.{FitsClassifier}
-use Rattle.tw_explicit.specs.Answer.{ends_in_type}
+use Rattle.tw_names.specs.Texts.{ends_in_type}
 use Rattle.tw_lexer.specs.declared.place.Place.{Place}
 use Rattle.tw_parse.specs.Syntax.{Term, declare}
 

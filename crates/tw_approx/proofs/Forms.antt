@@ -9,7 +9,7 @@ use Rattle.tw_approx.specs.Readings.{Reading, and_then}
 use Rattle.tw_approx.specs.Skeletons.{Frees, Family, known, unknown, applied, ascribed, family_applied, family_ascribed, whole, term_skeleton, family_skeleton, type_skeleton, domain_skeleton, kind_due}
 use Rattle.tw_approx.specs.Walks.{Assignment, Readings, State, SameBelow, ShapesWithin, filled_all, IsSound, Reads, Refuses, ReadsShape, Nothing, inside, outside}
 use Rattle.tw_approx.specs.declared.family.FamilyShape.{FamilyShape}
-use Rattle.tw_explicit.specs.Scope.{binder_name}
+use Rattle.tw_names.specs.Scope.{binder_name}
 use Rattle.tw_lexer.specs.declared.place.Place.{Place}
 use Rattle.tw_parse.specs.Syntax.{Term, Domain, identifier, hole, star, arrow, pi, lambda, application, ascription, untyped, typed}
 use Rattle.tw_scope.specs.Names.{Names}

@@ -11,7 +11,7 @@ use Rattle.tw_approx.specs.Walks.{Assignment, Readings, State, HasVariable, Same
 use Rattle.tw_approx.specs.declared.family.FamilyShape.{FamilyShape}
 use Rattle.tw_approx.specs.declared.family.FamilyShape.TheVariants.{Known, Unknown}
 use Rattle.tw_approx.specs.declared.family.Due.{Due}
-use Rattle.tw_explicit.specs.Unknown.{is_uppercase}
+use Rattle.tw_names.specs.Unknown.{is_uppercase}
 use Rattle.tw_shapes.specs.Shapes.{Shape, variable, base, arrow, filled, IsWithin, Store, count_of, Solves, AddsEquation}
 use Rattle.tw_shapes.specs.View.{shape_of}
 use Rattle.tw_shapes.specs.declared.shape.Shape as program

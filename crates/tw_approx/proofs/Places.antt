@@ -2,8 +2,8 @@
 use Rattle.std.proofs.Common.{◌≡◌, List, [], ◌∷◌, ◌++◌, Option, None, Some, Bool, true, false, ◌⊎◌, inl, inr, refl, sym, ◌∙◌, subst}
 use Rattle.tw_lexer.specs.declared.place.Place.{Place}
 use Rattle.tw_approx.specs.Levels.{earlier, earliest, IsAmong, IsEarliest}
-use Rattle.tw_explicit.specs.Unknown.{is_no_later}
-use Rattle.tw_explicit.proofs.Order.{reflexive, total, transitive}
+use Rattle.tw_names.specs.Unknown.{is_no_later}
+use Rattle.tw_names.proofs.Order.{reflexive, total, transitive}
 use Rattle.tw_approx.proofs.Views.{shapes}
 
 pub earliest-append : (o : Option Place) (ps qs : List Place) → earliest o (ps ++ qs) ≡ earliest (earliest o ps) qs

@@ -9,7 +9,7 @@ use Rattle.tw_approx.specs.Skeletons.{Frees, Fits, FitsQuery}
 use Rattle.tw_approx.specs.declared.approximation.Row.{Row}
 use Rattle.tw_approx.specs.declared.fault.ApproxFault.{ApproxFault}
 use Rattle.tw_approx.specs.declared.fault.ApproxFault.TheVariants.{Unknown, TypeLevel, Clash, Loose, NoMemory}
-use Rattle.tw_explicit.specs.Unknown.{unknown_in, unknown_names, IsFirst}
+use Rattle.tw_names.specs.Unknown.{unknown_in, unknown_names, IsFirst}
 use Rattle.tw_parse.specs.Syntax.{Declaration, Term}
 use Rattle.tw_terms.specs.View.{skeleton_of}
 

@@ -2,9 +2,9 @@
 use Rattle.std.specs.Prelude.{◌≡◌, ℕ, List, [], ◌∷◌, ◌++◌, Bool, true, false, ◌||◌, Option, None, Some, ◌⊎◌, if◌then◌else◌}
 use Rattle.lf.specs.Entries.{Entry, Body, declare_family, declare_constant, declare_definition, entry}
 use Rattle.lf.specs.Syntax.{Head, constant, variable, metavariable}
-use Rattle.tw_explicit.specs.Answer.{ends_in_type}
-use Rattle.tw_explicit.specs.Scope.{binder_name, named}
-use Rattle.tw_explicit.specs.Unknown.{is_no_later}
+use Rattle.tw_names.specs.Texts.{ends_in_type}
+use Rattle.tw_names.specs.Scope.{binder_name, named}
+use Rattle.tw_names.specs.Unknown.{is_no_later}
 use Rattle.tw_lexer.specs.declared.place.Place.{Place}
 use Rattle.tw_parse.specs.Syntax.{Term, Domain, identifier, hole, star, arrow, pi, lambda, application, ascription, untyped, typed, Declaration, declare, define, prefer, give}
 use Rattle.tw_scope.specs.Names.{Names}

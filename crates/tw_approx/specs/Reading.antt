@@ -11,7 +11,7 @@ use Rattle.tw_approx.specs.declared.family.Due.TheOpen.{Due-F}
 use Rattle.tw_approx.specs.declared.family.FamilyShape.{FamilyShape}
 use Rattle.tw_approx.specs.declared.family.FamilyShape.TheVariants.{Known, Unknown}
 use Rattle.tw_approx.specs.declared.walk.Walk.{Walk}
-use Rattle.tw_explicit.specs.Unknown.{is_uppercase}
+use Rattle.tw_names.specs.Unknown.{is_uppercase}
 use Rattle.tw_parse.specs.Syntax.{Term, Domain}
 use Rattle.tw_shapes.specs.Shapes as plain
 use Rattle.tw_shapes.specs.Shapes.{filled, count_of, IsWithin, Store}

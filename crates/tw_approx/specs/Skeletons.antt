@@ -4,9 +4,9 @@ use Rattle.std.specs.Prelude.{◌≡◌, ℕ, zero, suc, drop, List, [], ◌∷�
 use Rattle.lf.specs.Entries.{Entry, Body, declare_family, declare_constant, declare_definition, entry}
 use Rattle.lf.specs.Syntax.{Head, constant, variable, metavariable, Skeleton, base, arrow as arrow_skeleton, skeleton, Kind, kind_pi, star as lf_star}
 use Rattle.tw_approx.specs.Readings.{Reading, take, found, and_then}
-use Rattle.tw_explicit.specs.Answer.{ends_in_type}
-use Rattle.tw_explicit.specs.Scope.{binder_name, named}
-use Rattle.tw_explicit.specs.Unknown.{is_uppercase}
+use Rattle.tw_names.specs.Texts.{ends_in_type}
+use Rattle.tw_names.specs.Scope.{binder_name, named}
+use Rattle.tw_names.specs.Unknown.{is_uppercase}
 use Rattle.tw_parse.specs.Syntax.{Term, Domain, identifier, hole, star, arrow, pi, lambda, application, ascription, untyped, typed, Declaration, declare, define, prefer, give}
 use Rattle.tw_scope.specs.Names.{Names}
 

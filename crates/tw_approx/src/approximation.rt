@@ -5,11 +5,11 @@ ghost use Rattle.tw_approx.specs.Levels.{is_type_definition, earliest, type_lamb
 ghost use Rattle.tw_approx.specs.Names.{IsFreeVariable, IsFreeIn};
 ghost use Rattle.tw_approx.specs.Reading.{state_of};
 ghost use Rattle.tw_approx.specs.Skeletons.{Fits, FitsClassifier};
-ghost use Rattle.tw_explicit.specs.Answer.{ends_in_type};
-ghost use Rattle.tw_explicit.specs.Earliest.{earliest as first_mention};
+ghost use Rattle.tw_names.specs.Texts.{ends_in_type};
+ghost use Rattle.tw_names.specs.Earliest.{earliest as first_mention};
 ghost use Rattle.tw_approx.specs.Solving.{IsFound, IsSolved, IsLeftOpen, FitsDefinition, IsFreeInDefinition, DefinitionIsRead};
 ghost use Rattle.tw_approx.specs.Walks.{empty_state};
-ghost use Rattle.tw_explicit.specs.Unknown.{unknown_in};
+ghost use Rattle.tw_names.specs.Unknown.{unknown_in};
 ghost use Rattle.tw_parse.specs.View.{term_of, declaration_of};
 ghost use Rattle.tw_terms.specs.View.{skeleton_of};
 
@@ -19,9 +19,9 @@ use crate::skeletons::{ascribed, kind_due, term_shape, type_shape};
 use crate::solving::{solved_all, solved_rows};
 use crate::walk::Walk;
 use std::alloc::{AllocError, Global};
-use tw_explicit::{FRAMES, Mention, ends_in_type, first_mention};
 use tw_fixity::Name;
 use tw_lexer::Place;
+use tw_names::{FRAMES, Mention, ends_in_type, first_mention};
 use tw_parse::{ExtDecl, ExtTerm};
 use tw_scope::Scope;
 use tw_shapes::Shape;

@@ -2,12 +2,12 @@
 ghost use Rattle.std.specs.Prelude.{◌≡◌, ◌++◌, IfOk, option_map};
 ghost use Rattle.tw_parse.specs.View.{term_of, boxed_domain};
 ghost use Rattle.tw_approx.specs.Levels.{earlier, earliest, is_family, is_written_type, is_written_kind, lambdas_in_term, lambdas_in_type, lambdas_in_domain};
-ghost use Rattle.tw_explicit.specs.Scope.{named};
+ghost use Rattle.tw_names.specs.Scope.{named};
 
 use std::alloc::{AllocError, Global};
-use tw_explicit::{binder_name, ends_in_type, is_no_later, named, nested};
 use tw_fixity::Name;
 use tw_lexer::Place;
+use tw_names::{binder_name, ends_in_type, is_no_later, named, nested};
 use tw_parse::ExtTerm;
 use tw_scope::Scope;
 use tw_signature::{Body, Signature};

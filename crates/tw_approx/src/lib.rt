@@ -23,6 +23,3 @@ mod walk;
 pub use approximation::{Approx, Row, approximate};
 pub use fault::ApproxFault;
 pub use query::approximate_query;
-
-#[cfg(test)]
-mod tests;

@@ -1,9 +1,9 @@
 //! The skeletons of a query.
 ghost use Rattle.std.specs.Prelude.{◌≡◌, [], map, false, None, IfOk, IfErr};
 ghost use Rattle.tw_approx.specs.Answer.{rows_of, IsQueryOfObjects, HasQuerySkeletons, HasQueryCause};
-ghost use Rattle.tw_explicit.specs.Answer.{ends_in_type};
-ghost use Rattle.tw_explicit.specs.Earliest.{earliest as first_mention};
-ghost use Rattle.tw_explicit.specs.Unknown.{unknown_names};
+ghost use Rattle.tw_names.specs.Texts.{ends_in_type};
+ghost use Rattle.tw_names.specs.Earliest.{earliest as first_mention};
+ghost use Rattle.tw_names.specs.Unknown.{unknown_names};
 ghost use Rattle.tw_parse.specs.View.{term_of};
 ghost use Rattle.tw_terms.specs.View.{skeleton_of};
 
@@ -11,7 +11,7 @@ use crate::approximation::{Approx, constant, solved};
 use crate::fault::ApproxFault;
 use crate::levels::first_in_type;
 use std::alloc::{AllocError, Global};
-use tw_explicit::{FRAMES, Mention, first_mention};
+use tw_names::{FRAMES, Mention, first_mention};
 use tw_parse::{ExtQuery, ExtTerm};
 use tw_signature::Signature;
 

@@ -1,19 +1,16 @@
 -- The causes of refusals, from the causes of each step.
-use Rattle.std.proofs.Common.{◌≡◌, ◌≢◌, ℕ, List, [], ◌∷◌, Bool, true, false, None, Some, refl, sym, ap, ◌∙◌, subst, inl, inr, Ok, Err}
+use Rattle.std.proofs.Common.{◌≡◌, ◌≢◌, ℕ, List, [], ◌∷◌, Bool, true, false, None, Some, refl, sym, ap, ◌∙◌, subst, inl, inr, Ok}
 use Rattle.std.specs.Prelude.{if◌then◌else◌}
 use Rattle.lf.specs.Entries.{Entry, signature_of, IsCanonicalEntry}
-use Rattle.tw_lexer.specs.Tokens.{first_token, ThroughDot, Lexes}
+use Rattle.tw_lexer.specs.Tokens.{ThroughDot, Lexes}
 use Rattle.tw_lexer.specs.declared.place.Place.{Place}
 use Rattle.tw_lexer.specs.declared.token.Token.{Token}
 use Rattle.tw_lexer.specs.declared.token.Tokens.{Tokens}
 use Rattle.tw_lexer.specs.declared.token.TokenKind.{TokenKind}
-use Rattle.tw_lexer.specs.declared.token.TokenKind.TheVariants.{Ident, Keyword, Colon, Dot, LParen, RParen, LBrace, RBrace, LBracket, RBracket, End}
+use Rattle.tw_lexer.specs.declared.token.TokenKind.TheVariants.{End}
 use Rattle.tw_parse.specs.Faults.{FaultStands}
 use Rattle.tw_parse.specs.Syntax.{Declaration, declare, define, prefer, give}
 use Rattle.tw_parse.specs.Words.{Lexeme, lexemes, first_place}
-use Rattle.tw_explicit.specs.Answer as explicit
-use Rattle.tw_explicit.specs.declared.fault.ExplicitFault.TheVariants as completions
-use Rattle.tw_explicit.specs.Form.{is_explicit}
 use Rattle.tw_recon.specs.Causes as reconstruction
 use Rattle.tw_recon.specs.Reconstruction.{IsReconstructed}
 use Rattle.tw_recon.specs.declared.fault.ReconFault.{ReconFault}
@@ -21,8 +18,7 @@ use Rattle.tw_recon.specs.declared.fault.ReconFault.TheVariants as reconstructio
 use Rattle.tw_unify.specs.declared.left.LeftEquation.{LeftEquation}
 use Rattle.tw_parse.specs.declared.fault.SyntaxFault.{SyntaxFault}
 use Rattle.tw_parse.specs.declared.fault.SyntaxFault.TheVariants as faults
-use Rattle.explicit_agrees.proofs.Reconstructed.{explicit_refused}
-use Rattle.tw_decl.specs.View.{View, IsSound}
+use Rattle.tw_decl.specs.View.{View}
 use Rattle.tw_decl.specs.Declaration.{IsWritten, IsWrittenAlone, IsReadAs, HasNoMore, ReconstructionFails, IsUnknown, HasObstacle, entry_report, keeping, Does, IsPastSyntax, IsCause, IsCauseAlone, IsLastCause, HasCauseFrom, HasCause}
 use Rattle.tw_decl.specs.Steps.{IsPlain, ShowsLeft, IsRefusedFor, IsTokenCause, is_end, is_over, refusal_of, refused_alone}
 use Rattle.tw_decl.specs.declared.refusal.Refusal.{Refusal}
@@ -103,18 +99,14 @@ plain_reconstruction v (define c A M b) fault p h = h
 plain_reconstruction v (prefer a x y) fault p h = absurd p
 plain_reconstruction v (give fix names) fault p h = absurd p
 
--- an explicit declaration that gives no entry is a mismatch
-pub explicit_mismatched : (v : View) (d : Declaration) → IsSound v → IsPlain d → explicit.HasCause v.signature d completions.Mismatch → ReconstructionFails v d reconstructions.Mismatch
-explicit_mismatched v d s p (form, none) = plain_reconstruction v d reconstructions.Mismatch p (explicit_refused v.signature s d form none)
-
 -- an equation that is left, as a refusal
 pub left_refused : (v : View) (first : Place) (fault : ReconFault) (left : LeftEquation) (refusal : Refusal) → fault ≡ reconstructions.Leftover left → ShowsLeft v first left refusal → IsRefusedFor v first fault refusal
 left_refused v first fault left refusals.Memory e h = tt
 left_refused v first fault left (refusals.Leftover place text) e h = ((left, e, h.1), h.0)
 left_refused v first fault left refusal e h = absurd h
 
--- a fault of the reconstruction is an obstacle, where the declaration isn't of the explicit form
-module _ (v : View) (first : Place) (d : Declaration) (fault : ReconFault) (p : IsPlain d) (form : is_explicit v.signature d ≡ false) (cause : reconstruction.HasCause v.signature d fault) where
+-- a fault of the reconstruction is an obstacle
+module _ (v : View) (first : Place) (d : Declaration) (fault : ReconFault) (p : IsPlain d) (cause : reconstruction.HasCause v.signature d fault) where
   fails : (told : ReconFault) → fault ≡ told → ReconstructionFails v d told
   fails told e = plain_reconstruction v d told p (subst (reconstruction.HasCause v.signature d) e cause)
 
@@ -126,7 +118,7 @@ module _ (v : View) (first : Place) (d : Declaration) (fault : ReconFault) (p : 
   obstacle_of (refusals.Loose place) h = (fails reconstructions.Loose h.0, h.1)
   obstacle_of (refusals.Mismatch place) h = (fails reconstructions.Mismatch h.0, h.1)
   obstacle_of (refusals.Leftover place text) ((left, e, t), at) = ((left, fails (reconstructions.Leftover left) e, t), at)
-  obstacle_of (refusals.TooDeep place) h = (inr (form, fails reconstructions.TooDeep h.0), h.1)
+  obstacle_of (refusals.TooDeep place) h = (fails reconstructions.TooDeep h.0, h.1)
   obstacle_of refusal h = absurd h
 
 -- a declaration that is reconstructed, whose entry is reported and kept

@@ -1,5 +1,5 @@
 -- A good declaration has no cause of a refusal.
-use Rattle.std.proofs.Common.{◌≡◌, ℕ, List, true, false, Option, None, Some, refl, sym, ap, ◌∙◌, subst, inl, inr, Ok, Err}
+use Rattle.std.proofs.Common.{◌≡◌, ℕ, List, Option, None, Some, refl, sym, ap, ◌∙◌, subst, inl, inr}
 use Rattle.tw_lexer.specs.Places.{place_of}
 use Rattle.tw_lexer.specs.Tokens.{first_token}
 use Rattle.tw_lexer.specs.declared.place.Place.{Place}
@@ -20,7 +20,7 @@ use Rattle.explicit_agrees.specs.Reconstructed.{MayBeRefused}
 use Rattle.explicit_agrees.proofs.Full.{no_lambda, no_name, no_type}
 use Rattle.explicit_agrees.proofs.Only.{no_other_cause}
 use Rattle.tw_decl.specs.View.{View, IsSound}
-use Rattle.tw_decl.specs.Declaration.{IsWritten, IsWrittenAlone, IsReadAs, IsFaultBehind, HasObstacle, IsNotMade, IsFirstCause, IsFollowed, IsLastCause, IsCause, IsCauseAlone, HasCause, HasNoMore}
+use Rattle.tw_decl.specs.Declaration.{IsWritten, IsWrittenAlone, IsReadAs, IsFaultBehind, HasObstacle, IsNotMade, IsFirstCause, IsFollowed, IsLastCause, IsCause, IsCauseAlone, HasNoMore}
 use Rattle.tw_decl.specs.Laws.{IsWellTyped, IsCompletable, IsGoodDeclaration, IsGood, IsGoodFrom, GoodIsAccepted, GoodFromIsAccepted}
 use Rattle.tw_decl.proofs.Faultless.{read_faultless}
 use Rattle.tw_decl.specs.declared.refusal.Refusal.{Refusal}
@@ -75,8 +75,7 @@ module _ (v : View) (c : List ℕ) (at : Place) (U : Term) (first : Place) (s : 
   plain_obstacle (Loose place) h = absurd (refused reconstructions.Loose h.0)
   plain_obstacle (Mismatch place) h = absurd (refused reconstructions.Mismatch h.0 t.entry t.completes)
   plain_obstacle (Leftover place text) ((left, h, e), there) = absurd (refused (reconstructions.Leftover left) h)
-  plain_obstacle (TooDeep place) (inl h, there) = absurd (t.shallow h.1)
-  plain_obstacle (TooDeep place) (inr h, there) = let clash : true ≡ false = sym t.form.1 ∙ h.0 in cc
+  plain_obstacle (TooDeep place) h = absurd (t.shallow h.0)
   plain_obstacle (BadDecl place) h = absurd h.0
   plain_obstacle refusal h = absurd h
 

@@ -1,16 +1,19 @@
 -- A good text: `o : type.`, where nothing is declared.
-use Rattle.std.proofs.Common.{◌≡◌, ℕ, ◌<◌, List, [], ◌∷◌, None, Some, Ok, codes, drop, refl, ap, ◌∙◌, sym, subst, lit<, lit≤, arith, inl, inr}
-use Rattle.lf.specs.DeepTyping.{KindReachesDeep}
-use Rattle.lf.specs.Depth.{depth_limit, kind_depth}
-use Rattle.lf.specs.Entries.{declare_family, signature_of}
+use Rattle.std.proofs.Common.{◌≡◌, ℕ, List, [], ◌∷◌, None, Ok, codes, drop, refl, ap, ◌∙◌, lit<, lit≤, arith, inl, inr}
+use Rattle.lf.specs.Entries.{Body, declare_constant, declare_definition, declare_family, signature_of}
 use Rattle.lf.specs.Syntax.{Kind, star as lf_star}
+use Rattle.elaboration.specs.Elaboration.{ElaboratesKind, at_star}
+use Rattle.elaboration.specs.Principal.{written_family}
+use Rattle.elaboration.specs.PrincipalLaws.{ElaboratesBody}
+use Rattle.elaboration.specs.State.{State}
+use Rattle.elaboration.specs.Written.{written_star}
+use Rattle.tw_elaborate.specs.Bodies.{BodyDeep, deep_family_body}
 use Rattle.tw_lexer.proofs.Pieces.{pieces-at, pieces-end}
 use Rattle.tw_lexer.specs.Characters.{first_piece, pieces_from}
 use Rattle.tw_lexer.specs.Tokens.{first_token, find, between, ThroughDot}
 use Rattle.tw_lexer.specs.declared.place.Place.{Place}
 use Rattle.tw_lexer.specs.declared.token.Token.{Token}
 use Rattle.tw_lexer.specs.declared.token.TokenKind.TheVariants.{Ident, Colon, Dot, End}
-use Rattle.tw_explicit.specs.Meaning.{DeclarationReachesDeep}
 use Rattle.tw_parse.proofs.Once.{once}
 use Rattle.tw_parse.specs.Grammar.{atom, ReadsOnce}
 use Rattle.tw_parse.specs.Outlines.{outline, none, more, leaf, a_type, empty, one_more, plain, declares}
@@ -19,8 +22,12 @@ use Rattle.tw_parse.specs.Syntax.{Declaration, declare, star}
 use Rattle.tw_parse.specs.Words.{Lexeme}
 use Rattle.tw_parse.specs.declared.sign.Level.TheVariants as levels
 use Rattle.tw_parse.specs.declared.words.Word.TheVariants as words
-use Rattle.tw_decl.specs.View.{empty_view}
-use Rattle.tw_decl.specs.Laws.{IsGood}
+use Rattle.tw_recon.specs.Causes.{BodyReachesDeep, HasCause}
+use Rattle.tw_recon.specs.declared.fault.ReconFault.TheVariants.{TooDeep}
+use Rattle.explicit_form.specs.Completion.{Completes}
+use Rattle.explicit_agrees.proofs.Deep.{nothing_deep_explicit}
+use Rattle.explicit_agrees.proofs.Shallow.{unmade_shallow}
+use Rattle.tw_decl.specs.Examples.{FamilyIsGood, o_entry}
 
 abbrev text : List ℕ
 text = codes "o : type."
@@ -95,18 +102,35 @@ o_is_a_type = declare (codes "o") (place 1) star
 no_keyword : words.Name ≡ words.Keyword → ⊥
 no_keyword e = cc
 
-no_deep : DeclarationReachesDeep [] o_is_a_type → ⊥
-no_deep (inl deep) = omega (arith, deep)
-no_deep (inr (inl (A, given, deep))) = let clash : None ≡ Some A = given in cc
-no_deep (inr (inr (K, given, deep))) =
-    let same : lf_star ≡ K = let e : Some lf_star ≡ Some K = given in cc in
-    let shallow : depth_limit < kind_depth lf_star = subst (λ (L : Kind). KindReachesDeep depth_limit (signature_of []) [] L) (sym same) deep in
-    omega (arith, shallow)
+-- It is completed, and nothing is deep
+
+completed : Completes [] o_is_a_type o_entry
+completed = record { name = refl; body = tt; implicit = refl; hint_each = refl }
+
+star_made : {frees : List ℕ} {s s' : State} {K : Kind} → ElaboratesKind [] frees [] written_star s s' K → s' ≡ s
+star_made at_star = refl
+
+body_made : (frees : List ℕ) (s s' : State) (b : Body) → ElaboratesBody [] frees (written_family written_star) s s' b → s' ≡ s
+body_made frees s s' (declare_family K) x = star_made x
+body_made frees s s' (declare_constant A) x = absurd x
+body_made frees s s' (declare_definition M A d) x = absurd x
+
+no_elaboration : {frees : List ℕ} {s : State} → BodyDeep [] frees (written_family written_star) s → ⊥
+no_elaboration (deep_family_body k) = elim k [ ]
+
+star_shallow : BodyReachesDeep (signature_of []) (declare_family lf_star) → ⊥
+star_shallow (inl deep) = omega (arith, deep)
+star_shallow (inr deep) = omega (arith, deep)
+
+no_deep : HasCause [] o_is_a_type TooDeep → ⊥
+no_deep =
+    nothing_deep_explicit [] tt (codes "o") (place 1) star o_entry (refl, refl) completed (written_family written_star) refl (λ x. no_elaboration x.deep)
+    (λ frees s b made deep. unmade_shallow [] frees made.with_frees s made.frees_made (body_made frees made.with_frees s b made.body_made) deep) star_shallow
 
 reads_star : ReadsOnce (atom star ∷ []) star
 reads_star = once (λ x. None) (atom star ∷ []) (record { term = star; level = levels.Application }) tt refl
 
-pub good : IsGood empty_view text
+pub good : FamilyIsGood
 good =
     record {
       words = spelled;
@@ -121,8 +145,8 @@ good =
       };
       good = inl (record {
         form = (refl, refl);
-        entry = record { name = codes "o"; body = declare_family lf_star; implicit = 0; hints = [] };
-        completes = record { name = refl; body = tt; implicit = refl; hint_each = refl };
+        entry = o_entry;
+        completes = completed;
         shallow = no_deep;
       });
     }

@@ -6,4 +6,5 @@ pub mod Good
 pub mod Undone
 pub mod Arguments
 pub mod GoodText
+pub mod GoodDefinition
 pub mod Ahead

@@ -1,9 +1,9 @@
 -- A declaration that is made keeps the signature canonical.
-use Rattle.std.proofs.Common.{◌≡◌, ℕ, List, None, Some, sym, subst}
+use Rattle.std.proofs.Common.{ℕ, List, None, Some, sym, subst}
 use Rattle.tw_parse.specs.Syntax.{Declaration, declare, define, prefer, give}
 use Rattle.tw_parse.specs.Words.{Lexeme}
 use Rattle.tw_decl.specs.View.{View, IsSound}
-use Rattle.tw_decl.specs.Declaration.{Does, Makes, Accepts, AcceptsFrom}
+use Rattle.tw_decl.specs.Declaration.{Does, Makes}
 use Rattle.tw_decl.specs.Laws.{AcceptingKeepsSound, AcceptingFromKeepsSound}
 
 does_sound : (v w : View) (d : Declaration) (report : List ℕ) → Does v d report w → IsSound v → IsSound w

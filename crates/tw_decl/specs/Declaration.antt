@@ -1,5 +1,5 @@
 -- A declaration's text: when it is made, with its report and the view after it, and when it is refused.
-use Rattle.std.specs.Prelude.{◌≡◌, ◌≢◌, ◌⊎◌, ℕ, List, [], ◌∷◌, ◌++◌, map as each, Bool, true, false, codes, Option, None, Some, IsSome, Ok, Err, if◌then◌else◌}
+use Rattle.std.specs.Prelude.{◌≡◌, ◌≢◌, ◌⊎◌, ℕ, List, ◌++◌, map as each, Bool, true, false, codes, Option, None, Some, IsSome, Ok, Err, if◌then◌else◌}
 use Rattle.std.specs.FinMap as map
 use Rattle.lf.specs.Entries.{Entry, entry, signature_of, IsCanonicalEntry}
 use Rattle.tw_fixity.specs.declared.table.Fix.{Fix}
@@ -14,9 +14,6 @@ use Rattle.tw_parse.specs.Syntax.{Declaration, define, prefer, give}
 use Rattle.tw_parse.specs.declared.decl.ExtName.{ExtName}
 use Rattle.tw_parse.specs.Words.{Lexeme, lexemes, first_place}
 use Rattle.tw_parse.specs.declared.fault.SyntaxFault.TheVariants as faults
-use Rattle.tw_explicit.specs.Answer as explicit
-use Rattle.tw_explicit.specs.Form.{is_explicit}
-use Rattle.tw_explicit.specs.declared.fault.ExplicitFault.TheVariants as completions
 use Rattle.tw_print.specs.Shown.{declaration_line, scene_after}
 use Rattle.tw_equation.specs.Text.{equation_text}
 use Rattle.tw_metas.specs.View.{equation_of}
@@ -116,10 +113,6 @@ ReconstructionFails v (give fix names) fault = ⊥
 ReconstructionFails v (prefer a x y) fault = ⊥
 ReconstructionFails v d fault = reconstruction.HasCause v.signature d fault
 
--- Something deeper than 4,096 is reached: of a declaration of the explicit form in what is written or in its typing, of any other in its reconstruction.
-abbrev pub IsTooDeep : View → Declaration → Type 0
-IsTooDeep v d = explicit.HasCause v.signature d completions.TooDeep ⊎ ((is_explicit v.signature d ≡ false) × ReconstructionFails v d reconstructions.TooDeep)
-
 -- A definition or a lambda stands at the level of types: the fault is told at the declaration's first token, or at the lambda's bracket.
 abbrev pub IsTypeLevel : View → Declaration → Place → Place → Type 0
 IsTypeLevel v d first place = (ReconstructionFails v d (reconstructions.TypeLevel None) × (place ≡ first)) ⊎ ReconstructionFails v d (reconstructions.TypeLevel (Some place))
@@ -153,7 +146,7 @@ HasObstacle v d first (refusals.Unsupported place shown) = IsTypeLevel v d first
 HasObstacle v d first (refusals.Loose place) = ReconstructionFails v d reconstructions.Loose × (place ≡ first)
 HasObstacle v d first (refusals.Mismatch place) = ReconstructionFails v d reconstructions.Mismatch × (place ≡ first)
 HasObstacle v d first (refusals.Leftover place text) = IsLeft v d text.items × (place ≡ first)
-HasObstacle v d first (refusals.TooDeep place) = IsTooDeep v d × (place ≡ first)
+HasObstacle v d first (refusals.TooDeep place) = ReconstructionFails v d reconstructions.TooDeep × (place ≡ first)
 HasObstacle v d first _ = ⊥
 
 -- the words are a declaration that isn't made

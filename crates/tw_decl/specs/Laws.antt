@@ -6,18 +6,17 @@ use Rattle.tw_lexer.specs.declared.token.Token.{Token}
 use Rattle.tw_lexer.specs.declared.token.TokenKind.TheVariants.{End}
 use Rattle.tw_parse.specs.Syntax.{Declaration}
 use Rattle.tw_parse.specs.Words.{Lexeme}
-use Rattle.tw_explicit.specs.Answer as explicit
-use Rattle.tw_explicit.specs.Completion.{Completes}
-use Rattle.tw_explicit.specs.Meaning.{DeclarationReachesDeep}
+use Rattle.explicit_form.specs.Completion.{Completes}
+use Rattle.explicit_form.specs.Explicit.{IsExplicit}
 use Rattle.elaboration.specs.Principal.{Completion, IsCompletion, WrittenBody}
 use Rattle.tw_approx.specs.Answer.{Rows}
 use Rattle.tw_recon.specs.Causes as reconstruction
 use Rattle.tw_recon.specs.Reconstruction.{IsWrittenAs}
-use Rattle.tw_recon.specs.declared.fault.ReconFault.TheVariants.{Leftover}
+use Rattle.tw_recon.specs.declared.fault.ReconFault.TheVariants.{Leftover, TooDeep}
 use Rattle.tw_resolve.specs.Resolved.{skeletons_of}
 use Rattle.tw_unify.specs.declared.left.LeftEquation.{LeftEquation}
 use Rattle.tw_decl.specs.View.{View, IsSound}
-use Rattle.tw_decl.specs.Declaration.{IsWritten, IsWrittenAlone, IsReadAs, IsTooDeep, Accepts, AcceptsFrom, HasCause, HasCauseFrom}
+use Rattle.tw_decl.specs.Declaration.{IsWritten, IsWrittenAlone, IsReadAs, Accepts, AcceptsFrom, HasCause, HasCauseFrom}
 use Rattle.tw_decl.specs.declared.refusal.Refusal.{Refusal}
 use Rattle.tw_decl.specs.declared.refusal.Refusal.TheVariants.{Memory}
 
@@ -29,12 +28,12 @@ AcceptingKeepsSound = (v w : View) (text report : List ℕ) → Accepts v text r
 abbrev pub AcceptingFromKeepsSound : Type 0
 AcceptingFromKeepsSound = (v w : View) (text report : List ℕ) (from upto : ℕ) → AcceptsFrom v text from report upto w → IsSound v → IsSound w
 
--- An explicit declaration that is well typed: it has a completion, and nothing in its typing is deeper than the limit.
+-- An explicit declaration that is well typed: it has a completion, and nothing in its reconstruction is deeper than the limit.
 pub record IsWellTyped (v : View) (d : Declaration) : Type 0 where
-  pub form : explicit.IsExplicit v.signature d
+  pub form : IsExplicit v.signature d
   pub entry : Entry
   pub completes : Completes v.signature d entry
-  pub shallow : DeclarationReachesDeep v.signature d → ⊥
+  pub shallow : reconstruction.HasCause v.signature d TooDeep → ⊥
 
 -- A declaration of any form that has a completion: what isn't written has skeletons in just one way, and told these it can be completed, in whatever order its free variables stand.
 -- No equation is left of it, and nothing is too deep.
@@ -44,7 +43,7 @@ pub record IsCompletable (v : View) (d : Declaration) : Type 0 where
   pub is_written : IsWrittenAs v.signature d rows written
   pub completes : (rs : Rows) (w : WrittenBody) → IsWrittenAs v.signature d rs w → (c : Completion) × IsCompletion v.signature (skeletons_of rs) w c
   pub none_left : (left : LeftEquation) → reconstruction.HasCause v.signature d (Leftover left) → ⊥
-  pub shallow : IsTooDeep v d → ⊥
+  pub shallow : reconstruction.HasCause v.signature d TooDeep → ⊥
 
 -- what has to be accepted
 abbrev pub IsGoodDeclaration : View → Declaration → Type 0

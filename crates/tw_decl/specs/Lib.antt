@@ -7,3 +7,4 @@ pub mod Declaration
 pub mod Steps
 pub mod Undoing
 pub mod Laws
+pub mod Examples

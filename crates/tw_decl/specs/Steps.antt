@@ -1,5 +1,5 @@
 -- What the steps of a declaration come to. The proofs need these; the definitions of a declaration don't speak of them.
-use Rattle.std.specs.Prelude.{◌≡◌, ◌⊎◌, ℕ, List, [], ◌∷◌, Bool, true, false, codes, None, Some, Ok, Err, MatchResult, ◌||◌, if◌then◌else◌}
+use Rattle.std.specs.Prelude.{◌≡◌, ◌⊎◌, ℕ, List, [], ◌∷◌, Bool, true, false, codes, None, Some, MatchResult, ◌||◌, if◌then◌else◌}
 use Rattle.std.specs.declared.result.Result.{Result}
 use Rattle.tw_lexer.specs.Tokens.{HasFault, HasTooMany}
 use Rattle.tw_lexer.specs.declared.place.Place.{Place}

@@ -1,12 +1,11 @@
 //! One declaration.
-ghost use Rattle.std.specs.Prelude.{◌≡◌, ◌≢◌, ◌≤◌, ◌<◌, ◌-◌, ◌^◌, false, List, ℕ, length, Ok, All, IfOk, IfErr, OnErr, OnOk, MatchResult};
+ghost use Rattle.std.specs.Prelude.{◌≡◌, ◌≢◌, ◌≤◌, ◌<◌, ◌-◌, ◌^◌, List, ℕ, length, Ok, All, IfOk, IfErr, OnErr, OnOk, MatchResult};
 ghost use Rattle.tw_lexer.specs.Places.{place_of};
 ghost use Rattle.tw_lexer.specs.Tokens.{IsWithin, Lexes, ThroughDot};
 ghost use Rattle.tw_lexer.specs.declared.place.Place.{Place};
 ghost use Rattle.tw_parse.specs.Syntax.{Declaration, prefer, give};
 ghost use Rattle.tw_parse.specs.View.{declaration_of};
 ghost use Rattle.tw_parse.specs.Words.{first_place, Lexeme, lexemes};
-ghost use Rattle.tw_explicit.specs.Form.{is_explicit};
 ghost use Rattle.tw_recon.specs.Reconstruction.{IsReconstructed};
 ghost use Rattle.tw_signature.specs.View.{entry_of};
 ghost use Rattle.lf.specs.Entries.{signature_of, IsCanonicalEntry};
@@ -22,7 +21,6 @@ use crate::refusal::Refusal;
 use crate::session::Session;
 use std::alloc::{AllocError, Global};
 use tw_equation::show_equation;
-use tw_explicit::{ExplicitFault, complete};
 use tw_fixity::{Fix, Name};
 use tw_lexer::{LexFault, Place, Token, TokenKind, Tokens, lex, next_token};
 use tw_parse::{ExtDecl, ExtName, SyntaxFault, parse_decl};
@@ -236,26 +234,7 @@ fn told(alloc: Global, session: &Session, line: Vec<u8>) -> Report
     Report { text: line }
 }
 
-// The entry of a declaration that isn't of the explicit form.
-fn reconstructed(
-    alloc: Global,
-    session: &Session,
-    first: Place,
-    declaration: &ExtDecl,
-) -> Result<Entry, Refusal>
-    requires plain { IsPlain (declaration_of declaration.now) }
-    requires form { is_explicit session.now.signature (declaration_of declaration.now) ≡ false }
-    ensures reconstructs { IfOk result (λ e. IsReconstructed session.now.signature (declaration_of declaration.now) (entry_of e)) }
-    ensures stands { IfOk result (λ e. IsCanonicalEntry (signature_of session.now.signature) (entry_of e)) }
-    ensures cause { IfErr result (HasObstacle session.now (declaration_of declaration.now) first) }
-{
-    match reconstruct(alloc, session.signature(), declaration) {
-        Ok(entry) => Ok(entry),
-        Err(fault) => Err(not_reconstructed(alloc, session, first, fault)),
-    }
-}
-
-// The entry of a declaration. What is explicit is only completed, which comes to the same.
+// The entry of a declaration: what it leaves out is reconstructed.
 fn given(
     alloc: Global,
     session: &Session,
@@ -267,14 +246,9 @@ fn given(
     ensures stands { IfOk result (λ e. IsCanonicalEntry (signature_of session.now.signature) (entry_of e)) }
     ensures cause { IfErr result (HasObstacle session.now (declaration_of declaration.now) first) }
 {
-    session.is_sound();
-    match complete(alloc, session.signature(), declaration) {
+    match reconstruct(alloc, session.signature(), declaration) {
         Ok(entry) => Ok(entry),
-        Err(ExplicitFault::Unsupported) => reconstructed(alloc, session, first, declaration),
-        Err(ExplicitFault::Unknown(name, place)) => Err(Refusal::Unknown(place, name)),
-        Err(ExplicitFault::Mismatch) => Err(Refusal::Mismatch(first)),
-        Err(ExplicitFault::TooDeep) => Err(Refusal::TooDeep(first)),
-        Err(ExplicitFault::NoMemory) => Err(Refusal::Memory),
+        Err(fault) => Err(not_reconstructed(alloc, session, first, fault)),
     }
 }
 

@@ -1,4 +1,5 @@
-//! Laws of declarations. They have no code.
+//! Laws of declarations, and worked texts that have to be accepted. They have no code.
+ghost use Rattle.tw_decl.specs.Examples.{DefinitionIsGood, FamilyIsGood};
 ghost use Rattle.tw_decl.specs.Laws.{AcceptingKeepsSound, AcceptingFromKeepsSound, GoodIsAccepted, GoodFromIsAccepted};
 
 /// A text that is accepted keeps the signature canonical.
@@ -20,4 +21,14 @@ pub fn good_is_accepted()
 /// So is such a declaration in a text of several.
 pub fn good_from_is_accepted()
     ensures { GoodFromIsAccepted }
+{}
+
+/// Where nothing is declared, `o : type.` is such a text.
+pub fn family_is_good()
+    ensures { FamilyIsGood }
+{}
+
+/// Where `o : type.` and `c : o.` are declared, `d = c.` is one, though its type isn't written.
+pub fn definition_is_good()
+    ensures { DefinitionIsGood }
 {}

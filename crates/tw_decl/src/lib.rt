@@ -10,7 +10,10 @@ mod refusal;
 mod session;
 
 pub use declaration::{Next, Report, declare, declare_one};
-pub use laws::{accepting_from_keeps_sound, accepting_keeps_sound, good_is_accepted};
+pub use laws::{
+    accepting_from_keeps_sound, accepting_keeps_sound, definition_is_good, family_is_good,
+    good_from_is_accepted, good_is_accepted,
+};
 pub use parameters::Parameters;
 pub use refusal::{Refusal, show_refusal};
 pub use session::Session;

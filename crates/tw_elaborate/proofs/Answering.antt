@@ -1,13 +1,13 @@
 -- What a call answers, from its parts: one rule of elaboration each, or one place that is too deep.
-use Rattle.std.proofs.Common.{◌≡◌, ℕ, ◌⊎◌, inl, inr, Box, Global, suc, zero, List, ◌∷◌, Result, Err, IsErrOf, refl, sym, ap, ap₂, ◌∙◌, subst}
+use Rattle.std.proofs.Common.{◌≡◌, ℕ, ◌⊎◌, inl, inr, Box, Global, zero, List, ◌∷◌, Result, Err, IsErrOf, refl, sym, ap, ap₂, ◌∙◌, subst}
 use Rattle.lf.specs.Entries.{Entry, IsCanonicalSignature, signature_of}
 use Rattle.lf.specs.Eta.{add_last}
-use Rattle.lf.specs.Syntax.{Kind, LfType, Spine, Term, atom, kind_pi, kind_skeleton, lambda, pi, rename_kind, star, weaken}
+use Rattle.lf.specs.Syntax.{Kind, LfType, Spine, Term, atom, kind_pi, kind_skeleton, lambda, pi, star}
 use Rattle.lf.specs.Typing.{instantiate_kind}
-use Rattle.elaboration.specs.Elaboration.{Checks, ElaboratesDomain, ElaboratesFamily, ElaboratesKind, ElaboratesType, Infers, IsInferred, at_arrow, at_family, at_family_applied, at_family_ascribed, at_function, at_kind_arrow, at_kind_quantified, at_quantified, checks_function, checks_inferred}
+use Rattle.elaboration.specs.Elaboration.{Checks, ElaboratesDomain, ElaboratesFamily, ElaboratesKind, ElaboratesType, Infers, IsInferred, at_family, at_family_applied, at_family_ascribed, at_function, at_kind_quantified, at_quantified, checks_function, checks_inferred}
 use Rattle.elaboration.specs.Skeletons.{TypeHasSkeletons}
 use Rattle.elaboration.specs.State.{State, kind_equations, type_equations, with_equations}
-use Rattle.elaboration.specs.Written.{Written, WrittenDomain, WrittenKind, WrittenType, arrow, family_applied, family_ascribed, function, kind_arrow, kind_quantified, quantified}
+use Rattle.elaboration.specs.Written.{Written, WrittenDomain, WrittenKind, WrittenType, family_applied, family_ascribed, function, kind_quantified, quantified}
 use Rattle.tw_lexer.specs.declared.place.Place.{Place}
 use Rattle.tw_terms.specs.declared.canonical.ConstId.{ConstId}
 use Rattle.tw_written.specs.View.{written_of}
@@ -33,9 +33,6 @@ module _ (es : List Entry) (ns : List ℕ) (D : List LfType) where
   pub domain_compared : (d : WrittenDomain) (X A : LfType) (a b c : Elaboration) → a.locals ≡ D → b.locals ≡ D → ElaboratesDomain es ns D d (made a) (made b) X → ComparesTypes (signature_of es) X A b c → ChecksDomain es ns d A a c
   domain_compared d X A a b c la lb i k = (made b, X, subst (λ E. ElaboratesDomain es ns E d (made a) (made b) X) (sym la) i, k.same, k.state ∙ ap (λ E. with_equations (type_equations (signature_of es) E X A) (made b)) (lb ∙ sym la))
 
-  pub arrow_elaborated : (U V : WrittenType) (s s' s'' : State) (A B Y : LfType) → Y ≡ pi A (weaken B) → ElaboratesType es ns D U s s' A → ElaboratesType es ns D V s' s'' B → ElaboratesType es ns D (arrow U V) s s'' Y
-  arrow_elaborated U V s s' s'' A B Y y i j = subst (ElaboratesType es ns D (arrow U V) s s'') (sym y) (at_arrow i j)
-
   pub quantified_elaborated : (E : List LfType) (d : WrittenDomain) (V : WrittenType) (s s' s'' : State) (A B Y : LfType) → E ≡ A ∷ D → Y ≡ pi A B → ElaboratesDomain es ns D d s s' A → ElaboratesType es ns E V s' s'' B → ElaboratesType es ns D (quantified d V) s s'' Y
   quantified_elaborated E d V s s' s'' A B Y e y i j = subst (ElaboratesType es ns D (quantified d V) s s'') (sym y) (at_quantified i (subst (λ F. ElaboratesType es ns F V s' s'' B) e j))
 
@@ -53,9 +50,6 @@ module _ (es : List Entry) (ns : List ℕ) (D : List LfType) where
       let r : made c ≡ with_equations (kind_equations (signature_of es) D Z L) (made b) = q.state ∙ ap₂ (λ E X. with_equations (kind_equations (signature_of es) E X L) (made b)) l p.is in
       subst (λ X. ElaboratesFamily es ns D (family_ascribed U k) s (made c) a S X) (sym p.is) (subst (λ t. ElaboratesFamily es ns D (family_ascribed U k) s t a S Z) (sym r)
       (at_family_ascribed i (subst (ElaboratesFamily es ns D U s' (made b) a S) p.is j) (subst (λ X. kind_skeleton zero X ≡ kind_skeleton zero L) p.is q.same)))
-
-  pub kind_arrow_elaborated : (U : WrittenType) (k : WrittenKind) (s s' s'' : State) (A : LfType) (K L : Kind) → L ≡ kind_pi A (rename_kind suc K) → ElaboratesType es ns D U s s' A → ElaboratesKind es ns D k s' s'' K → ElaboratesKind es ns D (kind_arrow U k) s s'' L
-  kind_arrow_elaborated U k s s' s'' A K L l i j = subst (ElaboratesKind es ns D (kind_arrow U k) s s'') (sym l) (at_kind_arrow i j)
 
   pub kind_quantified_elaborated : (E : List LfType) (d : WrittenDomain) (k : WrittenKind) (s s' s'' : State) (A : LfType) (K L : Kind) → E ≡ A ∷ D → L ≡ kind_pi A K → ElaboratesDomain es ns D d s s' A → ElaboratesKind es ns E k s' s'' K → ElaboratesKind es ns D (kind_quantified d k) s s'' L
   kind_quantified_elaborated E d k s s' s'' A K L e l i j = subst (ElaboratesKind es ns D (kind_quantified d k) s s'') (sym l) (at_kind_quantified i (subst (λ F. ElaboratesKind es ns F k s' s'' K) e j))

@@ -13,5 +13,6 @@ pub mod NewHoles
 pub mod Naming
 pub mod Following
 pub mod Rows
+pub mod Arrows
 pub mod Declaring
 pub mod Answering

@@ -1,5 +1,5 @@
 -- A head on arguments takes one more, and a row of arguments is put to what stands before it.
-use Rattle.std.proofs.Common.{◌≡◌, ℕ, zero, suc, List, [], ◌∷◌, ◌++◌, length, Bor, refl, sym, ap, ap₂, ◌∙◌, subst}
+use Rattle.std.proofs.Common.{◌≡◌, ℕ, zero, suc, List, [], ◌∷◌, ◌++◌, length, Bor, Global, Vec, refl, sym, ap, ap₂, ◌∙◌, subst}
 use Rattle.std.proofs.lemmas.List.{map-append}
 use Rattle.lf.specs.Entries.{Entry, IsCanonicalSignature, signature_of}
 use Rattle.lf.specs.Eta.{add_last, eta_expand}
@@ -11,19 +11,26 @@ use Rattle.lf.proofs.Eta.{single_eta, substitute_eta_expand}
 use Rattle.lf.proofs.Renaming.{substitute_identity_spine, substitute_renamed_spine}
 use Rattle.lf.proofs.SkeletonTyping.{single_by_skeletons}
 use Rattle.lf.proofs.TypeLaws.{skeleton_substituted}
-use Rattle.elaboration.specs.Elaboration.{Checks, Infers, at_applied}
+use Rattle.elaboration.specs.Elaboration.{Checks, Infers, IsInferred, at_applied}
 use Rattle.elaboration.specs.Skeletons.{TermHasSkeleton, TypeHasSkeletons}
 use Rattle.elaboration.specs.State.{State}
 use Rattle.elaboration.specs.Written.{Written, applied}
 use Rattle.tw_hered.specs.Fits.{TermFits, TypeFits}
+use Rattle.tw_terms.specs.OpenView.{open_type_of}
 use Rattle.tw_terms.proofs.Args.{types_and_skeletons}
 use Rattle.tw_written.proofs.Views.{written_views}
 use Rattle.tw_written.specs.View.{written_of}
 use Rattle.tw_written.specs.declared.written.Written.{Written as Syntax}
-use Rattle.tw_elaborate.specs.Deep.{ChecksDeep, InfersDeep, deep_application, deep_argument, deep_function}
+use Rattle.tw_elaborate.specs.Deep.{ChecksDeep, InfersDeep, deep_application, deep_argument, deep_function, deep_inferred}
 use Rattle.tw_elaborate.specs.Fits.{Stands}
+use Rattle.tw_elaborate.specs.Fresh.{Keeps}
 use Rattle.tw_elaborate.specs.Operators.{Applies, PutsIn, PutsInDeep, applied_to, operator_of, written_terms}
+use Rattle.tw_elaborate.specs.Rows.{Reached}
 use Rattle.tw_elaborate.specs.declared.operators.Operator.{Operator}
+use Rattle.tw_elaborate.specs.View.{made}
+use Rattle.tw_elaborate.specs.declared.operators.Begun.{Begun}
+use Rattle.tw_elaborate.specs.declared.operators.Waiting.{Waiting}
+use Rattle.tw_elaborate.specs.declared.state.Elaboration.{Elaboration}
 use Rattle.tw_elaborate.proofs.Following.{inferred_stands, inferred_term, inferred_type, operator_applies, range_fits}
 
 -- one more argument, put in through a substitution
@@ -80,26 +87,20 @@ module _ (es : List Entry) (ns : List ℕ) (D : List LfType) where
   deep_row F s [] d = d
   deep_row F s (P ∷ Ps) d = deep_function (deep_row F s Ps d)
 
-  -- of W, all but the arguments Ps is elaborated
-  pub record Reached (W : Written) (s : State) (Ps : List Written) (t : State) (o : Operator) (A : LfType) : Type 0 where
-    pub so_far : Written
-    pub is : applied_to so_far Ps ≡ W
-    pub inferred : Infers es ns D so_far s t (operator_of (skeleton A) o) A
-
-  pub all_reached : (W : Written) (s t : State) (Ps : List Written) (o : Operator) (A : LfType) (M : Term) → Ps ≡ [] → M ≡ operator_of (skeleton A) o → Reached W s Ps t o A → Infers es ns D W s t M A
+  pub all_reached : (W : Written) (s t : State) (Ps : List Written) (o : Operator) (A : LfType) (M : Term) → Ps ≡ [] → M ≡ operator_of (skeleton A) o → Reached es ns D W s Ps t o A → Infers es ns D W s t M A
   all_reached W s t Ps o A M e m r =
       let w : r.so_far ≡ W = ap (applied_to r.so_far) (sym e) ∙ r.is in
       subst (λ N. Infers es ns D W s t N A) (sym m) (subst (λ F. Infers es ns D F s t (operator_of (skeleton A) o) A) w r.inferred)
 
   -- the next argument is P, and X and B are the domain and the range of the type
-  module _ {W : Written} {s t : State} {Qs : List Written} {o : Operator} {A : LfType} (r : Reached W s Qs t o A) (Ps : List Written) (P : Written) (q : Qs ≡ Ps ++ P ∷ []) (X B : LfType) (e : A ≡ pi X B) where
+  module _ {W : Written} {s t : State} {Qs : List Written} {o : Operator} {A : LfType} (r : Reached es ns D W s Qs t o A) (Ps : List Written) (P : Written) (q : Qs ≡ Ps ++ P ∷ []) (X B : LfType) (e : A ≡ pi X B) where
     pub next_inferred : Infers es ns D r.so_far s t (operator_of (arrow (skeleton X) (skeleton B)) o) (pi X B)
     next_inferred = subst (λ Y. Infers es ns D r.so_far s t (operator_of (skeleton Y) o) Y) e r.inferred
 
     next_is : applied_to (applied r.so_far P) Ps ≡ W
     next_is = sym (applied_to-push r.so_far P Ps) ∙ ap (applied_to r.so_far) (sym q) ∙ r.is
 
-    pub reached_next : {u : State} {Q : Term} (o' : Operator) (Y : LfType) → Checks es ns D P X t u Q → PutsIn (skeleton X) (operator_of (arrow (skeleton X) (skeleton B)) o) Q (operator_of (skeleton B) o') → Y ≡ instantiate_type X Q B → Reached W s Ps u o' Y
+    pub reached_next : {u : State} {Q : Term} (o' : Operator) (Y : LfType) → Checks es ns D P X t u Q → PutsIn (skeleton X) (operator_of (arrow (skeleton X) (skeleton B)) o) Q (operator_of (skeleton B) o') → Y ≡ instantiate_type X Q B → Reached es ns D W s Ps u o' Y
     reached_next {u = u} {Q = Q} o' Y c p y =
         let k : skeleton Y ≡ skeleton B = ap skeleton y ∙ skeleton_substituted reduce (single (skeleton X) Q) B in
         let i : Infers es ns D (applied r.so_far P) s u (substitute reduce (single (skeleton X) Q) p.body) (instantiate_type X Q B) = at_applied (subst (λ M. Infers es ns D r.so_far s t M (pi X B)) p.is next_inferred) c in
@@ -135,5 +136,146 @@ module _ (es : List Entry) (ns : List ℕ) (D : List LfType) where
 
       pub next_range_fits : {u : State} {Q : Term} → Checks es ns D P X t u Q → TypeFits (single (skeleton X) Q) B
       next_range_fits c = range_fits es canonical ns (next_stands D refl) next_type.0 c B next_type
+
+-- rows that wait, each for the next one
+module _ (es : List Entry) (ns : List ℕ) (D : List LfType) where
+  -- p is the row W, from s, and waits for P, from t
+  abbrev pub WaitsFor : Waiting → Written → State → Written → State → Type 0
+  WaitsFor p W s P t = Reached es ns D W s (written_terms p.args.items ++ P ∷ []) t p.operator (pi (open_type_of p.domain) (open_type_of p.range))
+
+  -- the first one is W, from s, and the last one waits for P, from t
+  abbrev pub Waits : List Waiting → Written → State → Written → State → Type 0
+  Waits [] W s P t = (W ≡ P) × (s ≡ t)
+  Waits (p ∷ ps) W s P t = (Q : Written) × (u : State) × WaitsFor p W s Q u × IsInferred Q × Waits ps Q u P t
+
+  one_more_waits : (ps : List Waiting) (p : Waiting) (W Q P : Written) (s u t : State) → Waits ps W s Q u → WaitsFor p Q u P t → IsInferred P → Waits (ps ++ p ∷ []) W s P t
+  one_more_waits [] p W Q P s u t (e, f) w n = (P, t, subst (λ F. WaitsFor p F s P t) (sym e) (subst (λ v. WaitsFor p Q v P t) (sym f) w), n, (refl, refl))
+  one_more_waits (q ∷ qs) p W Q P s u t (V, v, x, m, xs) w n = (V, v, x, m, one_more_waits qs p V Q P v u t xs w n)
+
+  last_waits : (ps : List Waiting) (p : Waiting) (W P : Written) (s t : State) → Waits (ps ++ p ∷ []) W s P t → (Q : Written) × (u : State) × Waits ps W s Q u × WaitsFor p Q u P t × IsInferred P
+  last_waits [] p W P s t (Q, u, w, n, (e, f)) = (W, s, (refl, refl), subst (λ F. WaitsFor p W s F t) e (subst (λ v. WaitsFor p W s Q v) f w), subst IsInferred e n)
+  last_waits (q ∷ qs) p W P s t (V, v, x, m, xs) = let (Q, u, y, w, n) = last_waits qs p V P v t xs in (Q, u, (V, v, x, m, y), w, n)
+
+  module _ (canonical : IsCanonicalSignature es) where
+    waiting_stands : (ps : List Waiting) (W P : Written) (s t : State) → Waits ps W s P t → Stands (signature_of es) s D → Stands (signature_of es) t D
+    waiting_stands [] W P s t (e, f) w = subst (λ v. Stands (signature_of es) v D) f w
+    waiting_stands (p ∷ ps) W P s t (Q, u, x, n, xs) w = waiting_stands ps Q P u t xs (next_stands es ns D x (written_terms p.args.items) Q refl (open_type_of p.domain) (open_type_of p.range) refl canonical w D refl)
+
+    -- what is too deep in the last row is it in the first one
+    waiting_deep : (ps : List Waiting) (W P : Written) (s t : State) → Waits ps W s P t → Stands (signature_of es) s D → InfersDeep es ns D P t → InfersDeep es ns D W s
+    waiting_deep [] W P s t (e, f) w d = subst (λ F. InfersDeep es ns D F s) (sym e) (subst (λ v. InfersDeep es ns D P v) (sym f) d)
+    waiting_deep (p ∷ ps) W P s t (Q, u, x, n, xs) w d =
+        let v = next_stands es ns D x (written_terms p.args.items) Q refl (open_type_of p.domain) (open_type_of p.range) refl canonical w D refl in
+        argument_deep es ns D x (written_terms p.args.items) Q refl (open_type_of p.domain) (open_type_of p.range) refl canonical w (deep_inferred n (waiting_deep ps Q P u t xs v d))
+
+  -- the rows ps wait, and in the row that the last of them waits for all but the arguments Ps is elaborated
+  pub record AllReached (ps : List Waiting) (W : Written) (s : State) (Ps : List Written) (t : State) (o : Operator) (A : LfType) : Type 0 where
+    pub inner : Written
+    pub begin : State
+    pub waits : Waits ps W s inner begin
+    pub reached : Reached es ns D inner begin Ps t o A
+
+  -- the rows ps wait, and p waits for P, from t
+  pub record Asks (ps : List Waiting) (p : Waiting) (W : Written) (s : State) (P : Written) (t : State) : Type 0 where
+    pub inner : Written
+    pub begin : State
+    pub waits : Waits ps W s inner begin
+    pub asks : WaitsFor p inner begin P t
+
+  pub first_reached : {W : Written} {s t : State} {Ps : List Written} {o : Operator} {A : LfType} (ps : List Waiting) → ps ≡ [] → Reached es ns D W s Ps t o A → AllReached ps W s Ps t o A
+  first_reached {W = W} {s = s} ps e r = record { inner = W; begin = s; waits = subst (λ qs. Waits qs W s W s) (sym e) (refl, refl); reached = r }
+
+  -- the next argument
+  pub asks_next : {ps : List Waiting} {W : Written} {s t : State} {o : Operator} {A : LfType} (old : List (Bor Syntax)) (new : Vec (Bor Syntax) Global) (arg : Bor Syntax) (p : Waiting) →
+      AllReached ps W s (written_terms old) t o A → old ≡ new.items ++ arg ∷ [] → p.operator ≡ o → A ≡ pi (open_type_of p.domain) (open_type_of p.range) → p.args ≡ new → Asks ps p W s (written_of arg.now) t
+  asks_next {t = t} {o = o} {A = A} old new arg p r q e a x =
+      let P = written_of arg.now in
+      let l : written_terms old ≡ written_terms p.args.items ++ P ∷ [] = arguments_less old new.items arg q ∙ ap (λ (v : Vec (Bor Syntax) Global). written_terms v.items ++ P ∷ []) (sym x) in
+      record {
+        inner = r.inner;
+        begin = r.begin;
+        waits = r.waits;
+        asks = subst (λ Y. Reached es ns D r.inner r.begin (written_terms p.args.items ++ P ∷ []) t p.operator Y) a (subst (λ u. Reached es ns D r.inner r.begin (written_terms p.args.items ++ P ∷ []) t u A) (sym e) (subst (λ Qs. Reached es ns D r.inner r.begin Qs t o A) l r.reached));
+      }
+
+  -- no argument is left
+  pub none_reached : {W : Written} {s t : State} {o : Operator} {A : LfType} (ps : List Waiting) (xs : List (Bor Syntax)) (M : Term) → ps ≡ [] → written_terms xs ≡ [] → M ≡ operator_of (skeleton A) o → AllReached ps W s (written_terms xs) t o A → Infers es ns D W s t M A
+  none_reached {W = W} {s = s} {t = t} {o = o} {A = A} ps xs M e n m r =
+      let (f, g) : Waits [] W s r.inner r.begin = subst (λ qs. Waits qs W s r.inner r.begin) e r.waits in
+      let i : Infers es ns D r.inner r.begin t M A = all_reached es ns D r.inner r.begin t (written_terms xs) o A M n m r.reached in
+      subst (λ F. Infers es ns D F s t M A) (sym f) (subst (λ v. Infers es ns D r.inner v t M A) (sym g) i)
+
+  -- and a row waits for this one
+  pub record Finished (ps : List Waiting) (p : Waiting) (W : Written) (s t : State) (M : Term) (A : LfType) : Type 0 where
+    pub row : Written
+    pub begin : State
+    pub asks : Asks ps p W s row begin
+    pub is_inferred : IsInferred row
+    pub inferred : Infers es ns D row begin t M A
+
+  pub finished : {W : Written} {s t : State} {o : Operator} {A : LfType} (old new : List Waiting) (p : Waiting) (xs : List (Bor Syntax)) (M : Term) (Y : LfType) → old ≡ new ++ p ∷ [] → written_terms xs ≡ [] → M ≡ operator_of (skeleton A) o → Y ≡ A → AllReached old W s (written_terms xs) t o A → Finished new p W s t M Y
+  finished {W = W} {s = s} {t = t} {o = o} {A = A} old new p xs M Y e n m x r =
+      let i : Infers es ns D r.inner r.begin t M A = all_reached es ns D r.inner r.begin t (written_terms xs) o A M n m r.reached in
+      let (Q, u, y, w, k) = last_waits new p W r.inner s r.begin (subst (λ qs. Waits qs W s r.inner r.begin) e r.waits) in
+      record {
+        row = r.inner;
+        begin = r.begin;
+        asks = record { inner = Q; begin = u; waits = y; asks = w };
+        is_inferred = k;
+        inferred = subst (λ X. Infers es ns D r.inner r.begin t M X) (sym x) i;
+      }
+
+  -- the same, between the values of the program
+  abbrev pub RowsOf : Vec Waiting Global → Begun → Elaboration → Elaboration → Written → Type 0
+  RowsOf waiting begun start now W = AllReached waiting.items W (made start) (written_terms begun.args.items) (made now) begun.operator (open_type_of begun.ty) × Keeps start now
+
+  pub rows_stay : (v w : Vec Waiting Global) (b d : Begun) (start s t : Elaboration) (W : Written) → s ≡ t → v ≡ w → b ≡ d → RowsOf w d start t W → RowsOf v b start s W
+  rows_stay v w b d start s t W e f g r = subst (λ x. RowsOf v b start x W) (sym e) (subst (λ x. RowsOf x b start t W) (sym f) (subst (λ x. RowsOf w x start t W) (sym g) r))
+
+  module _ {ps : List Waiting} {p : Waiting} {W P : Written} {s t : State} (k : Asks ps p W s P t) where
+    -- a row is begun
+    pub row_asked : {Ps : List Written} {u : State} {o : Operator} {A : LfType} (qs : List Waiting) → qs ≡ ps ++ p ∷ [] → IsInferred P → Reached es ns D P t Ps u o A → AllReached qs W s Ps u o A
+    row_asked qs e n r = record {
+      inner = P;
+      begin = t;
+      waits = subst (λ rs. Waits rs W s P t) (sym e) (one_more_waits ps p W k.inner P s k.begin t k.waits k.asks n);
+      reached = r;
+    }
+
+    -- the argument is put in
+    pub resumed : {u : State} {Q : Term} (args : Vec (Bor Syntax) Global) (o : Operator) (Y : LfType) → Checks es ns D P (open_type_of p.domain) t u Q →
+        PutsIn (skeleton (open_type_of p.domain)) (operator_of (arrow (skeleton (open_type_of p.domain)) (skeleton (open_type_of p.range))) p.operator) Q (operator_of (skeleton (open_type_of p.range)) o) →
+        Y ≡ instantiate_type (open_type_of p.domain) Q (open_type_of p.range) → args ≡ p.args → AllReached ps W s (written_terms args.items) u o Y
+    resumed {u = u} args o Y c i y x =
+        let r = reached_next es ns D k.asks (written_terms p.args.items) P refl (open_type_of p.domain) (open_type_of p.range) refl o Y c i y in
+        record {
+          inner = k.inner;
+          begin = k.begin;
+          waits = k.waits;
+          reached = subst (λ (v : Vec (Bor Syntax) Global). Reached es ns D k.inner k.begin (written_terms v.items) u o Y) (sym x) r;
+        }
+
+    module _ (canonical : IsCanonicalSignature es) (w : Stands (signature_of es) s D) where
+      begin_stands : Stands (signature_of es) k.begin D
+      begin_stands = waiting_stands canonical ps W k.inner s k.begin k.waits w
+
+      pub asked_stands : (E : List LfType) → E ≡ D → Stands (signature_of es) t E
+      asked_stands = next_stands es ns D k.asks (written_terms p.args.items) P refl (open_type_of p.domain) (open_type_of p.range) refl canonical begin_stands
+
+      pub asked_domain : (E : List LfType) → E ≡ D → TypeHasSkeletons (signature_of es) t E (open_type_of p.domain)
+      asked_domain = next_domain es ns D k.asks (written_terms p.args.items) P refl (open_type_of p.domain) (open_type_of p.range) refl canonical begin_stands
+
+      pub asked_deep : ChecksDeep es ns D P (open_type_of p.domain) t → InfersDeep es ns D W s
+      asked_deep d = waiting_deep canonical ps W k.inner s k.begin k.waits w (argument_deep es ns D k.asks (written_terms p.args.items) P refl (open_type_of p.domain) (open_type_of p.range) refl canonical begin_stands d)
+
+      module _ {u : State} {Q : Term} (c : Checks es ns D P (open_type_of p.domain) t u Q) where
+        pub asked_applies : Applies (skeleton (open_type_of p.domain)) (skeleton (open_type_of p.range)) (operator_of (arrow (skeleton (open_type_of p.domain)) (skeleton (open_type_of p.range))) p.operator) Q
+        asked_applies = next_applies es ns D k.asks (written_terms p.args.items) P refl (open_type_of p.domain) (open_type_of p.range) refl canonical begin_stands c
+
+        pub asked_range_fits : TypeFits (single (skeleton (open_type_of p.domain)) Q) (open_type_of p.range)
+        asked_range_fits = next_range_fits es ns D k.asks (written_terms p.args.items) P refl (open_type_of p.domain) (open_type_of p.range) refl canonical begin_stands c
+
+        pub asked_put_deep : PutsInDeep (skeleton (open_type_of p.domain)) (operator_of (arrow (skeleton (open_type_of p.domain)) (skeleton (open_type_of p.range))) p.operator) Q → InfersDeep es ns D W s
+        asked_put_deep d = waiting_deep canonical ps W k.inner s k.begin k.waits w (put_deep es ns D k.asks (written_terms p.args.items) P refl (open_type_of p.domain) (open_type_of p.range) refl c d)
 
 pub ruleset rows = (types_and_skeletons, written_views, applied_to-push)

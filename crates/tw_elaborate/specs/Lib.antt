@@ -3,6 +3,8 @@ pub mod Faults
 pub mod Fits
 pub mod Fresh
 pub mod Operators
+pub mod Arrows
+pub mod Rows
 pub mod Comparing
 pub mod Deep
 pub mod Frees

@@ -3,8 +3,10 @@ ghost use Rattle.std.specs.Prelude.{◌≡◌, suc, IfOk};
 
 use std::alloc::AllocError;
 
-/// How many calls a walk nests at most; past these it wants memory. A call takes up to 1,100 bytes of the stack, and what it makes, up to 4,096 deep, some 650 for each level more.
-pub const FRAMES: u32 = 5_000;
+/// How many calls a walk nests at most; past these it wants memory. Rows in rows and chains of arrows nest on the heap, so calls nest only where brackets, binders and ascriptions
+/// do: three calls for a function that is an argument, four for an ascribed argument. A call takes up to 2,400 bytes of the stack, and a type that is made below it, up to 4,096
+/// deep, some 720 for each level on top, which together stay below 8 MiB.
+pub const FRAMES: u32 = 2_100;
 
 /// One call fewer. Fails where none is left.
 pub fn nested(frames: u32) -> Result<u32, AllocError>

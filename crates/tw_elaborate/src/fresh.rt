@@ -12,9 +12,9 @@ ghost use Rattle.tw_elaborate.specs.View.{made, open_kind_of};
 use crate::expand::{closed_over, expanded, local_arguments, pi};
 use crate::frames::nested;
 use crate::kinds::{instantiate_kind, open_kind};
+use crate::operators::instantiated;
 use crate::state::{Elaboration, OpenKind};
 use std::alloc::{AllocError, Global};
-use tw_putting::instantiate;
 use tw_signature::{Body, Signature};
 use tw_terms::{ConstId, Kind, Open, OpenContext, OpenHead, OpenSpine, OpenTy, Skeleton};
 
@@ -43,7 +43,7 @@ fn take_one(
     match ty {
         OpenTy::Pi(domain, range) => {
             let arg = new_term(alloc, state, &domain)?;
-            let rest = instantiate(alloc, &range, &arg, &domain)?;
+            let rest = instantiated(alloc, &range, &arg, &domain)?;
             Ok((arg, rest))
         }
         OpenTy::Atom(_, _) => Err(AllocError),

@@ -51,15 +51,20 @@ pub fn instantiate_kind(
     }
 }
 
-/// The kind with each variable from `from` on raised by one. Fails only for want of memory.
-pub fn weakened_kind(alloc: Global, kind: &OpenKind, from: u64) -> Result<OpenKind, AllocError>
-    ensures { IfOk result (λ k. open_kind_of k ≡ rename_kind (lift_renaming_by from (shift_by 1)) (open_kind_of kind.now)) }
+/// The kind with each variable from `from` on raised by `by`. Fails only for want of memory.
+pub fn shift_kind(
+    alloc: Global,
+    kind: &OpenKind,
+    by: u64,
+    from: u64,
+) -> Result<OpenKind, AllocError>
+    ensures { IfOk result (λ k. open_kind_of k ≡ rename_kind (lift_renaming_by from (shift_by by)) (open_kind_of kind.now)) }
 {
     match kind {
         OpenKind::Pi(domain, range) => {
             let inside = from.checked_add(1).ok_or(AllocError)?;
-            let domain = shift_type(alloc, domain, 1, from)?;
-            let range = weakened_kind(alloc, range, inside)?;
+            let domain = shift_type(alloc, domain, by, from)?;
+            let range = shift_kind(alloc, range, by, inside)?;
             kind_pi(alloc, domain, range)
         }
         OpenKind::Star => Ok(OpenKind::Star),

@@ -1,5 +1,5 @@
 //! What is applied, and arguments that are put to it.
-ghost use Rattle.std.specs.Prelude.{◌≡◌, ℕ, IfOk, IsErrOf, IsTrue};
+ghost use Rattle.std.specs.Prelude.{◌≡◌, ℕ, [], ◌∷◌, ◌++◌, IfOk, IsErrOf, IsTrue, OnOk};
 ghost use Rattle.lf.specs.Syntax.{Term as LfTerm, arrow, lambda, pi, skeleton};
 ghost use Rattle.lf.specs.Substitution.{Image, reduce, single, substitute_type};
 ghost use Rattle.lf.specs.Typing.{instantiate_type};
@@ -11,7 +11,7 @@ ghost use Rattle.tw_elaborate.specs.Operators.{Applies, PutsIn, PutsInDeep, appl
 use crate::expand::{expanded, with_argument};
 use crate::fault::ElaborateFault;
 use std::alloc::{AllocError, Global};
-use tw_putting::{instantiate, substitute};
+use tw_putting::{substitute, substitute_type};
 use tw_terms::{Open, OpenHead, OpenSpine, OpenTy};
 use tw_written::Written;
 
@@ -24,8 +24,80 @@ pub enum Operator {
     Term(Open),
 }
 
+/// How many rows wait for an argument at most; past these memory is wanting. What nests deeper would be copied and dropped by recursion, which takes the machine's stack.
+const WAITING: usize = 8_000;
+
+/// A row of arguments, as far as it is elaborated: what is put to some of them, its type, and those that are left, the last one first.
+#[derive(Drop)]
+pub struct Begun<'a> {
+    pub operator: Operator,
+    pub ty: OpenTy,
+    pub args: Vec<&'a Written>,
+}
+
+/// A row that waits for its next argument: what the argument is put to, its type, the type behind it, and the arguments that are left then, the last one first.
+#[derive(Drop)]
+pub struct Waiting<'a> {
+    pub operator: Operator,
+    pub domain: OpenTy,
+    pub range: OpenTy,
+    pub args: Vec<&'a Written>,
+}
+
+/// A row whose next argument was taken off waits for it. What isn't of a function type takes none, and memory counts as used up.
+#[inline(never)]
+pub fn wait<'a>(begun: Begun<'a>) -> Result<Waiting<'a>, AllocError>
+    ensures { IfOk result (λ w. (w.operator ≡ begun.entry.operator) × (open_type_of begun.entry.ty ≡ pi (open_type_of w.domain) (open_type_of w.range)) × (w.args ≡ begun.entry.args)) }
+{
+    let (domain, range) = product(begun.ty)?;
+    Ok(Waiting {
+        operator: begun.operator,
+        domain,
+        range,
+        args: begun.args,
+    })
+}
+
+/// One row more waits, for the next one.
+#[inline(never)]
+pub fn push_waiting<'a>(waiting: &mut Vec<Waiting<'a>>, row: Waiting<'a>) -> Result<(), AllocError>
+    ensures { OnOk result (waiting.new.items ≡ waiting.old.items ++ (row.entry ∷ [])) }
+{
+    if waiting.len() >= WAITING {
+        return Err(AllocError);
+    }
+    waiting.push(row)?;
+    Ok(())
+}
+
+/// The term and the type of a row whose arguments are all elaborated. Fails only for want of memory.
+#[inline(never)]
+pub fn finish<'a>(alloc: Global, begun: Begun<'a>) -> Result<(Open, OpenTy), AllocError>
+    ensures { IfOk result (λ p. (open_term_of p.0 ≡ operator_of (skeleton (open_type_of begun.entry.ty)) begun.entry.operator) × (p.1 ≡ begun.entry.ty)) }
+{
+    let ty = begun.ty;
+    Ok((whole(alloc, begun.operator, &ty)?, ty))
+}
+
+/// The row with the argument that it waits for.
+#[inline(never)]
+pub fn resume<'a>(alloc: Global, row: Waiting<'a>, arg: Open) -> Result<Begun<'a>, ElaborateFault>
+    requires applies { Applies (skeleton (open_type_of row.domain)) (skeleton (open_type_of row.range)) (operator_of (arrow (skeleton (open_type_of row.domain)) (skeleton (open_type_of row.range))) row.operator) (open_term_of arg) }
+    requires range { TypeFits (single (skeleton (open_type_of row.domain)) (open_term_of arg)) (open_type_of row.range) }
+    ensures ok { IfOk result (λ r. let a = skeleton (open_type_of row.entry.domain) in let b = skeleton (open_type_of row.entry.range) in PutsIn a (operator_of (arrow a b) row.entry.operator) (open_term_of arg) (operator_of b r.operator) × (open_type_of r.ty ≡ instantiate_type (open_type_of row.entry.domain) (open_term_of arg) (open_type_of row.entry.range)) × (r.args ≡ row.entry.args)) }
+    ensures too_deep { IsErrOf result ElaborateFault.TooDeep → let a = skeleton (open_type_of row.entry.domain) in PutsInDeep a (operator_of (arrow a (skeleton (open_type_of row.entry.range))) row.entry.operator) (open_term_of arg) }
+{
+    let domain = row.domain;
+    let (operator, ty) = put(alloc, row.operator, &domain, row.range, arg)?;
+    Ok(Begun {
+        operator,
+        ty,
+        args: row.args,
+    })
+}
+
 /// The term that the operator stands for at its type. Fails only for want of memory.
-pub fn whole(alloc: Global, operator: Operator, ty: &OpenTy) -> Result<Open, AllocError>
+fn whole(alloc: Global, operator: Operator, ty: &OpenTy) -> Result<Open, AllocError>
     ensures { IfOk result (λ m. open_term_of m ≡ operator_of (skeleton (open_type_of ty.now)) operator) }
 {
     match operator {
@@ -35,7 +107,7 @@ pub fn whole(alloc: Global, operator: Operator, ty: &OpenTy) -> Result<Open, All
 }
 
 /// The domain and the range of a function type. An atom has none, and memory counts as used up.
-pub fn product(ty: OpenTy) -> Result<(OpenTy, OpenTy), AllocError>
+fn product(ty: OpenTy) -> Result<(OpenTy, OpenTy), AllocError>
     ensures { IfOk result (λ p. open_type_of ty ≡ pi (open_type_of p.0) (open_type_of p.1)) }
 {
     match ty {
@@ -45,8 +117,7 @@ pub fn product(ty: OpenTy) -> Result<(OpenTy, OpenTy), AllocError>
 }
 
 /// The operator on an argument, and its type: a head has one argument more, and into another function's body the argument is put in.
-#[inline(never)]
-pub fn put(
+fn put(
     alloc: Global,
     operator: Operator,
     domain: &OpenTy,
@@ -87,7 +158,7 @@ fn reduced(
     }
 }
 
-/// The type that is left behind an argument: the range itself, where it is simple.
+/// The type that is left behind an argument: the range itself, where it is simple. One that comes out deeper than 4,096 wants memory.
 fn left_over(
     alloc: Global,
     domain: &OpenTy,
@@ -100,7 +171,24 @@ fn left_over(
     if is_simple(&range) {
         Ok(range)
     } else {
-        instantiate(alloc, &range, arg, domain)
+        instantiated(alloc, &range, arg, domain)
+    }
+}
+
+/// The type with an argument of the type `ty` put in for its newest variable. One that comes out deeper than 4,096 wants memory: the stack is kept for what nests in the text.
+#[inline(never)]
+pub fn instantiated(
+    alloc: Global,
+    body: &OpenTy,
+    arg: &Open,
+    ty: &OpenTy,
+) -> Result<OpenTy, AllocError>
+    requires { TypeFits (single (skeleton (open_type_of ty.now)) (open_term_of arg.now)) (open_type_of body.now) }
+    ensures { IfOk result (λ a. open_type_of a ≡ instantiate_type (open_type_of ty.now) (open_term_of arg.now) (open_type_of body.now)) }
+{
+    match substitute_type(alloc, body, 0, arg, ty) {
+        Ok(rest) => Ok(rest),
+        Err(_) => Err(AllocError),
     }
 }
 

@@ -1,12 +1,13 @@
 //! Terms, types and kinds put together of their parts.
-ghost use Rattle.std.specs.Prelude.{◌≡◌, suc, IfOk, OnOk};
+ghost use Rattle.std.specs.Prelude.{◌≡◌, [], ◌∷◌, ◌++◌, map, IfOk, OnOk};
 ghost use Rattle.lf.specs.Entries.{signature_of, IsCanonicalSignature};
 ghost use Rattle.lf.specs.Eta.{add_last};
 ghost use Rattle.lf.specs.Substitution.{single};
-ghost use Rattle.lf.specs.Syntax.{kind_pi as kind_pi_of, lambda as lambda_of, pi as pi_of, rename_kind, skeleton, weaken};
+ghost use Rattle.lf.specs.Syntax.{lambda as lambda_of, pi as pi_of, skeleton};
 ghost use Rattle.lf.specs.Typing.{instantiate_kind as instantiate_kind_of};
 ghost use Rattle.elaboration.specs.Skeletons.{KindHasSkeletons};
 ghost use Rattle.tw_terms.specs.OpenView.{open_spine_of, open_term_of, open_type_of};
+ghost use Rattle.tw_elaborate.specs.Arrows.{arrows_to, kind_arrows_to};
 ghost use Rattle.tw_elaborate.specs.Comparing.{ComparesKinds, IsProduct};
 ghost use Rattle.tw_elaborate.specs.Fits.{KindFits};
 ghost use Rattle.tw_elaborate.specs.Fresh.{Keeps};
@@ -14,7 +15,7 @@ ghost use Rattle.tw_elaborate.specs.View.{made, open_kind_of};
 
 use crate::equations::compare_kinds;
 use crate::expand::{lambda, pi, with_argument};
-use crate::kinds::{instantiate_kind, kind_pi, weakened_kind};
+use crate::kinds::{instantiate_kind, kind_pi, shift_kind};
 use crate::state::{Elaboration, OpenKind};
 use std::alloc::{AllocError, Global};
 use tw_putting::shift_type;
@@ -34,20 +35,44 @@ pub fn function(
     Ok((lambda(alloc, body)?, pi(alloc, domain, range)?))
 }
 
-/// The type of functions whose variable isn't in scope in the range.
-#[inline(never)]
-pub fn arrow(alloc: Global, domain: OpenTy, range: &OpenTy) -> Result<OpenTy, AllocError>
-    ensures { IfOk result (λ a. open_type_of a ≡ pi_of (open_type_of domain) (weaken (open_type_of range.now))) }
+/// One type more, behind the others.
+pub fn push_domain(domains: &mut Vec<OpenTy>, domain: OpenTy) -> Result<(), AllocError>
+    ensures { OnOk result (domains.new.items ≡ domains.old.items ++ (domain ∷ [])) }
 {
-    pi(alloc, domain, shift_type(alloc, range, 1, 0)?)
+    domains.push(domain)?;
+    Ok(())
 }
 
-/// The kind of families whose variable isn't in scope in the range.
+/// Arrows from these types, in order, to the type at the end. No variable of theirs is in scope in what follows, so that each part moves over the arrows before it.
 #[inline(never)]
-pub fn kind_arrow(alloc: Global, domain: OpenTy, range: &OpenKind) -> Result<OpenKind, AllocError>
-    ensures { IfOk result (λ k. open_kind_of k ≡ kind_pi_of (open_type_of domain) (rename_kind suc (open_kind_of range.now))) }
+pub fn arrows(alloc: Global, domains: Vec<OpenTy>, end: &OpenTy) -> Result<OpenTy, AllocError>
+    ensures { IfOk result (λ a. open_type_of a ≡ arrows_to (map open_type_of domains.items) (open_type_of end.now)) }
 {
-    kind_pi(alloc, domain, weakened_kind(alloc, range, 0)?)
+    let mut left = domains;
+    let mut ty = shift_type(alloc, end, left.len() as u64, 0)?;
+    while let Some(domain) = left.pop() {
+        let moved = shift_type(alloc, &domain, left.len() as u64, 0)?;
+        ty = pi(alloc, moved, ty)?;
+    }
+    Ok(ty)
+}
+
+/// The same with a kind at the end.
+#[inline(never)]
+pub fn kind_arrows(
+    alloc: Global,
+    domains: Vec<OpenTy>,
+    end: &OpenKind,
+) -> Result<OpenKind, AllocError>
+    ensures { IfOk result (λ k. open_kind_of k ≡ kind_arrows_to (map open_type_of domains.items) (open_kind_of end.now)) }
+{
+    let mut left = domains;
+    let mut kind = shift_kind(alloc, end, left.len() as u64, 0)?;
+    while let Some(domain) = left.pop() {
+        let moved = shift_type(alloc, &domain, left.len() as u64, 0)?;
+        kind = kind_pi(alloc, moved, kind)?;
+    }
+    Ok(kind)
 }
 
 /// The arguments of a family and one more, and the kind that is left.

@@ -10,7 +10,8 @@ ghost use Rattle.tw_elaborate.specs.Comparing.{ChecksDomain};
 ghost use Rattle.tw_elaborate.specs.Deep.{ChecksDeep, DomainDeep, FamilyDeep, InfersDeep, KindDeep, TypeDeep};
 ghost use Rattle.tw_elaborate.specs.Fits.{Stands};
 ghost use Rattle.tw_elaborate.specs.Fresh.{Keeps};
-ghost use Rattle.tw_elaborate.specs.Operators.{operator_of};
+ghost use Rattle.tw_elaborate.specs.Operators.{operator_of, written_terms};
+ghost use Rattle.tw_elaborate.specs.Rows.{Reached};
 ghost use Rattle.tw_elaborate.specs.View.{made, numbers_of, open_kind_of};
 ghost use Rattle.tw_written.specs.View.{written_domain_of, written_kind_of, written_of, written_type_of};
 
@@ -22,8 +23,10 @@ use crate::fresh::new_type;
 use crate::heads::{bound, declared, free, named_family};
 use crate::holes::{checked_hole, term_hole};
 use crate::kinds::kind_pi;
-use crate::operators::{Operator, product, put, row, whole};
-use crate::parts::{arrow, compare_ascribed, family_application, function, kind_arrow};
+use crate::operators::{Begun, Operator, finish, push_waiting, resume, row, wait};
+use crate::parts::{
+    arrows, compare_ascribed, family_application, function, kind_arrows, push_domain,
+};
 use crate::state::{Elaboration, OpenKind};
 use std::alloc::Global;
 use tw_signature::Signature;
@@ -92,7 +95,7 @@ fn infer_function(
     Ok(function(alloc, domain, body, range)?)
 }
 
-/// A row of arguments, none or more, put to what stands before them, and the type that is left.
+/// A row of arguments, none or more, put to what stands before them, and the type that is left. A row that is an argument of another one nests on the heap.
 #[cycle(elaborate)]
 #[inline(never)]
 fn infer_applied(
@@ -109,16 +112,71 @@ fn infer_applied(
     ensures too_deep { IsErrOf result ElaborateFault.TooDeep → InfersDeep signature.now (numbers_of frees.now) state.old.locals (written_of written.now) (made state.old) }
     ensures keeps { Keeps state.old state.new }
 {
-    let (head, mut args) = row(alloc, written)?;
-    let (mut operator, mut ty) = elaborate_operator(alloc, signature, frees, state, head, frames)?;
-    while let Some(arg) = args.pop() {
-        let (domain, range) = product(ty)?;
-        let arg = check(alloc, signature, frees, state, arg, &domain, frames)?;
-        let (longer, rest) = put(alloc, operator, &domain, range, arg)?;
-        operator = longer;
-        ty = rest;
+    let mut waiting = Vec::new(alloc);
+    let mut begun = begin(alloc, signature, frees, state, written, frames)?;
+    for _ in 0..u64::MAX {
+        match begun.args.pop() {
+            Some(arg) => {
+                let outer = wait(begun)?;
+                match arg {
+                    Written::Applied(_, _) => {
+                        push_waiting(&mut waiting, outer)?;
+                        begun = begin(alloc, signature, frees, state, arg, frames)?;
+                    }
+                    Written::Free(_, _)
+                    | Written::Bound(_)
+                    | Written::Declared(_, _)
+                    | Written::Hole(_, _)
+                    | Written::Function(_, _)
+                    | Written::Ascribed(_, _) => {
+                        let arg = check(
+                            alloc,
+                            signature,
+                            frees,
+                            state,
+                            arg,
+                            &outer.domain,
+                            frames,
+                        )?;
+                        begun = resume(alloc, outer, arg)?;
+                    }
+                }
+            }
+            None => {
+                let (term, ty) = finish(alloc, begun)?;
+                match waiting.pop() {
+                    Some(outer) => {
+                        compare_types(alloc, signature, state, &ty, &outer.domain, frames)?;
+                        begun = resume(alloc, outer, term)?;
+                    }
+                    None => return Ok((term, ty)),
+                }
+            }
+        }
     }
-    Ok((whole(alloc, operator, &ty)?, ty))
+    Err(ElaborateFault::NoMemory)
+}
+
+/// A row of which what stands before the arguments is elaborated.
+#[cycle(elaborate)]
+#[inline(never)]
+fn begin<'a>(
+    alloc: Global,
+    signature: &Signature,
+    frees: &[MetaId],
+    state: &mut Elaboration,
+    written: &'a Written,
+    frames: u32,
+) -> Result<Begun<'a>, ElaborateFault>
+    requires canonical { IsCanonicalSignature signature.now }
+    requires stands { Stands (signature_of signature.now) (made state.old) state.old.locals }
+    ensures ok { IfOk result (λ r. Reached signature.now (numbers_of frees.now) state.old.locals (written_of written.now) (made state.old) (written_terms r.args.items) (made state.new) r.operator (open_type_of r.ty)) }
+    ensures too_deep { IsErrOf result ElaborateFault.TooDeep → InfersDeep signature.now (numbers_of frees.now) state.old.locals (written_of written.now) (made state.old) }
+    ensures keeps { Keeps state.old state.new }
+{
+    let (head, args) = row(alloc, written)?;
+    let (operator, ty) = elaborate_operator(alloc, signature, frees, state, head, frames)?;
+    Ok(Begun { operator, ty, args })
 }
 
 /// What stands before arguments, and its type.
@@ -262,11 +320,9 @@ pub fn elaborate_type(
     let frames = nested(frames)?;
     match written {
         WrittenType::Hole(skeleton, _) => Ok(new_type(alloc, signature, state, skeleton, frames)?),
-        WrittenType::Arrow(domain, range) => {
-            let domain = elaborate_type(alloc, signature, frees, state, domain, frames)?;
-            let range = elaborate_type(alloc, signature, frees, state, range, frames)?;
-            Ok(arrow(alloc, domain, &range)?)
-        }
+        WrittenType::Arrow(_, _) => elaborate_arrows(
+            alloc, signature, frees, state, written, frames,
+        ),
         WrittenType::Quantified(domain, range) => {
             let domain = elaborate_domain(alloc, signature, frees, state, domain, frames)?;
             state.locals.push(domain.copy(alloc)?)?;
@@ -290,6 +346,34 @@ pub fn elaborate_type(
             }
         }
     }
+}
+
+/// A chain of arrows, none or more, and the type at its end.
+#[cycle(elaborate)]
+#[inline(never)]
+fn elaborate_arrows(
+    alloc: Global,
+    signature: &Signature,
+    frees: &[MetaId],
+    state: &mut Elaboration,
+    written: &WrittenType,
+    frames: u32,
+) -> Result<OpenTy, ElaborateFault>
+    requires canonical { IsCanonicalSignature signature.now }
+    requires stands { Stands (signature_of signature.now) (made state.old) state.old.locals }
+    ensures ok { IfOk result (λ a. ElaboratesType signature.now (numbers_of frees.now) state.old.locals (written_type_of written.now) (made state.old) (made state.new) (open_type_of a)) }
+    ensures too_deep { IsErrOf result ElaborateFault.TooDeep → TypeDeep signature.now (numbers_of frees.now) state.old.locals (written_type_of written.now) (made state.old) }
+    ensures keeps { Keeps state.old state.new }
+{
+    let mut domains = Vec::new(alloc);
+    let mut rest = written;
+    while let WrittenType::Arrow(domain, range) = rest {
+        let domain = elaborate_type(alloc, signature, frees, state, domain, frames)?;
+        push_domain(&mut domains, domain)?;
+        rest = range;
+    }
+    let end = elaborate_type(alloc, signature, frees, state, rest, frames)?;
+    Ok(arrows(alloc, domains, &end)?)
 }
 
 /// The type of a binder's variable.
@@ -386,11 +470,9 @@ pub fn elaborate_kind(
     let frames = nested(frames)?;
     match written {
         WrittenKind::Star => Ok(OpenKind::Star),
-        WrittenKind::Arrow(domain, range) => {
-            let domain = elaborate_type(alloc, signature, frees, state, domain, frames)?;
-            let range = elaborate_kind(alloc, signature, frees, state, range, frames)?;
-            Ok(kind_arrow(alloc, domain, &range)?)
-        }
+        WrittenKind::Arrow(_, _) => elaborate_kind_arrows(
+            alloc, signature, frees, state, written, frames,
+        ),
         WrittenKind::Quantified(domain, range) => {
             let domain = elaborate_domain(alloc, signature, frees, state, domain, frames)?;
             state.locals.push(domain.copy(alloc)?)?;
@@ -399,4 +481,32 @@ pub fn elaborate_kind(
             Ok(kind_pi(alloc, domain, range?)?)
         }
     }
+}
+
+/// A chain of arrows, none or more, and the kind at its end.
+#[cycle(elaborate)]
+#[inline(never)]
+fn elaborate_kind_arrows(
+    alloc: Global,
+    signature: &Signature,
+    frees: &[MetaId],
+    state: &mut Elaboration,
+    written: &WrittenKind,
+    frames: u32,
+) -> Result<OpenKind, ElaborateFault>
+    requires canonical { IsCanonicalSignature signature.now }
+    requires stands { Stands (signature_of signature.now) (made state.old) state.old.locals }
+    ensures ok { IfOk result (λ k. ElaboratesKind signature.now (numbers_of frees.now) state.old.locals (written_kind_of written.now) (made state.old) (made state.new) (open_kind_of k)) }
+    ensures too_deep { IsErrOf result ElaborateFault.TooDeep → KindDeep signature.now (numbers_of frees.now) state.old.locals (written_kind_of written.now) (made state.old) }
+    ensures keeps { Keeps state.old state.new }
+{
+    let mut domains = Vec::new(alloc);
+    let mut rest = written;
+    while let WrittenKind::Arrow(domain, range) = rest {
+        let domain = elaborate_type(alloc, signature, frees, state, domain, frames)?;
+        push_domain(&mut domains, domain)?;
+        rest = range;
+    }
+    let end = elaborate_kind(alloc, signature, frees, state, rest, frames)?;
+    Ok(kind_arrows(alloc, domains, &end)?)
 }

@@ -627,3 +627,148 @@ fn arguments_are_put_into_a_term(rt: HostRuntime) -> Result<(), Fail> {
     assert_eq!(rt; line.as_str(), "iterate (\\s (s (x0))) (z) : nat");
     Ok(())
 }
+
+// how many constants stand on an argument, one inside the other
+fn nesting(term: &Open) -> u32 {
+    let mut rest = term;
+    for count in 0..10_000u32 {
+        match rest {
+            Open::Root(OpenHead::Const(_), spine) => match spine.args.get(0) {
+                Some(arg) => rest = arg,
+                None => return count,
+            },
+            _ => return 0,
+        }
+    }
+    0
+}
+
+#[test]
+fn rows_nest_in_rows(rt: HostRuntime) -> Result<(), Fail> {
+    let alloc = rt.alloc();
+    let signature = vectors(alloc)?;
+    let mut term = declared(Z);
+    for _ in 0..4_200u32 {
+        term = applied(alloc, declared(S), term)?;
+    }
+    signature.is_canonical();
+    let elaborated = elaborate(
+        alloc,
+        &signature,
+        &[],
+        &WrittenBody::Definition(term, false),
+    )?;
+    let depth = match &elaborated.body {
+        OpenBody::Definition(term, _, _) => nesting(term),
+        OpenBody::Family(_) | OpenBody::Constant(_) => 0,
+    };
+    assert_eq!(rt; depth, 4_200);
+    Ok(())
+}
+
+#[test]
+fn a_row_in_a_row_is_compared(rt: HostRuntime) -> Result<(), Fail> {
+    let alloc = rt.alloc();
+    let signature = functions(alloc)?;
+    let two = applied(alloc, declared(S), one(alloc)?)?;
+    let args = vec![in alloc; two, one(alloc)?, declared(NIL), declared(NIL)]?;
+    let inner = applied(alloc, declared(CONS), row(alloc, declared(APPEND), args)?)?;
+    let line = term_answer(alloc, &signature, inner)?;
+    assert_eq!(rt;
+        line.as_str(),
+        "cons (?0) (append (s (s (z))) (s (z)) (nil) (nil)) : vec (s (?0)); ?0 : nat; z = s (s (z)) : nat; z = s (z) : nat; s (s (s (z))) = ?0 : nat"
+    );
+    let inner = applied(alloc, declared(CONS), declared(NIL))?;
+    let line = term_answer(alloc, &signature, applied(alloc, declared(S), inner)?)?;
+    assert_eq!(rt; line.as_str(), "no memory");
+    Ok(())
+}
+
+// how many quantifiers stand before an atom
+fn quantified(ty: &OpenTy) -> u32 {
+    let mut rest = ty;
+    for count in 0..10_000u32 {
+        match rest {
+            OpenTy::Pi(_, range) => rest = range,
+            OpenTy::Atom(_, _) => return count,
+        }
+    }
+    0
+}
+
+#[test]
+fn arrows_nest(rt: HostRuntime) -> Result<(), Fail> {
+    let alloc = rt.alloc();
+    let signature = vectors(alloc)?;
+    let mut ty = nat_type();
+    for _ in 0..4_200u32 {
+        ty = arrow(alloc, nat_type(), ty)?;
+    }
+    signature.is_canonical();
+    let elaborated = elaborate(alloc, &signature, &[], &WrittenBody::Constant(ty))?;
+    let count = match &elaborated.body {
+        OpenBody::Constant(ty) => quantified(ty),
+        OpenBody::Family(_) | OpenBody::Definition(_, _, _) => 0,
+    };
+    assert_eq!(rt; count, 4_200);
+    Ok(())
+}
+
+// vec of the variable
+fn vec_at(alloc: Global, variable: u64) -> Result<WrittenType, AllocError> {
+    vec_type(alloc, Written::Bound(variable))
+}
+
+#[test]
+fn each_part_moves_over_the_arrows_before_it(rt: HostRuntime) -> Result<(), Fail> {
+    let alloc = rt.alloc();
+    let signature = vectors(alloc)?;
+    let inner = arrow(alloc, vec_at(alloc, 0)?, vec_at(alloc, 0)?)?;
+    let chain = arrow(
+        alloc,
+        vec_at(alloc, 0)?,
+        arrow(alloc, inner, vec_at(alloc, 0)?)?,
+    )?;
+    let domain = WrittenDomain::OfType(Box::new(alloc, nat_type())?);
+    let ty = WrittenType::Quantified(domain, Box::new(alloc, chain)?);
+    let line = answer(alloc, &signature, &[], &WrittenBody::Constant(ty))?;
+    assert_eq!(rt;
+        line.as_str(),
+        "{nat} {vec (x0)} {{vec (x1)} vec (x2)} vec (x2)"
+    );
+    let rest = WrittenKind::Arrow(
+        Box::new(alloc, vec_at(alloc, 0)?)?,
+        Box::new(alloc, WrittenKind::Star)?,
+    );
+    let chain = WrittenKind::Arrow(Box::new(alloc, vec_at(alloc, 0)?)?, Box::new(alloc, rest)?);
+    let domain = WrittenDomain::OfType(Box::new(alloc, nat_type())?);
+    let kind = WrittenKind::Quantified(domain, Box::new(alloc, chain)?);
+    let line = answer(alloc, &signature, &[], &WrittenBody::Family(kind))?;
+    assert_eq!(rt; line.as_str(), "{nat} {vec (x0)} {vec (x1)} type");
+    Ok(())
+}
+
+#[test]
+fn brackets_nest(rt: HostRuntime) -> Result<(), Fail> {
+    let alloc = rt.alloc();
+    let signature = vectors(alloc)?;
+    let mut term = declared(Z);
+    for _ in 0..100u32 {
+        let function = lambda(alloc, vec_type(alloc, term)?, declared(S))?;
+        let kept = applied(alloc, function, declared(NIL))?;
+        term = applied(alloc, kept, declared(Z))?;
+    }
+    signature.is_canonical();
+    let elaborated = elaborate(
+        alloc,
+        &signature,
+        &[],
+        &WrittenBody::Definition(term, false),
+    )?;
+    let depth = match &elaborated.body {
+        OpenBody::Definition(term, _, _) => nesting(term),
+        OpenBody::Family(_) | OpenBody::Constant(_) => 0,
+    };
+    assert_eq!(rt; depth, 1);
+    Ok(())
+}

@@ -45,16 +45,16 @@ module _ (es : List Entry) (canonical : IsCanonicalSignature es) (rows : Rows) (
   stands = body_stands es canonical (skeletons_of rows) w frees z.state b after z.made z.solved z.ready
 
   -- what reading off blames
-  pub quantifiers_blamed : (f : ReadFault) (sites : List ℕ) → BlamesQuantifiers f after sites → Stops es rows w (of_reading f)
-  quantifiers_blamed reading.TooDeep sites h = in_quantifiers sites after z.made z.solved h
-  quantifiers_blamed reading.NoMemory sites h = tt
+  pub quantifiers_blamed : (f : ReadFault) (sites : List ℕ) → AreSites es (skeletons_of rows) w sites → BlamesQuantifiers f after sites → Stops es rows w (of_reading f)
+  quantifiers_blamed reading.TooDeep sites s h = in_quantifiers sites after z.ready.consistent z.made z.solved s h
+  quantifiers_blamed reading.NoMemory sites s h = tt
 
   pub body_blamed : (f : ReadFault) → (f ≡ reading.TooDeep → BodyIsDeep after b) → Stops es rows w (of_reading f)
   body_blamed reading.TooDeep h = in_body after z.made z.solved (h refl)
   body_blamed reading.NoMemory h = tt
 
   pub names_blamed : (f : ReadFault) → (f ≡ reading.TooDeep → FreeIsDeep after frees) → Stops es rows w (of_reading f)
-  names_blamed reading.TooDeep h = in_frees after z.made (inl z.solved) (h refl)
+  names_blamed reading.TooDeep h = in_frees after z.ready.consistent z.made (inl z.solved) (h refl)
   names_blamed reading.NoMemory h = tt
 
   -- what is completed
@@ -72,6 +72,7 @@ module _ (es : List Entry) (canonical : IsCanonicalSignature es) (rows : Rows) (
           made = z.made;
           after = after;
           solved = z.solved;
+          consistent = z.ready.consistent;
           sites = sites;
           are_sites = s;
           quantifiers = ms;
@@ -96,7 +97,7 @@ hint_each es rows w G hints shown b c = from c.in_order
 
 -- the whole is deep
 pub entry_refused : (es : List Entry) (rows : Rows) (w : WrittenBody) (G : List LfType) (hints : List (Option (List ℕ))) (shown : List ℕ) (b : Body) (f : ReconFault) → IsCompletedTo es rows w G hints shown b → (f ≡ TooDeep) ⊎ (f ≡ NoMemory) → (f ≡ TooDeep → BodyReachesDeep (signature_of es) (body_over G b)) → Stops es rows w f
-entry_refused es rows w G hints shown b f c (inl t) h = subst (Stops es rows w) (sym t) (in_entry c.principal (h t))
+entry_refused es rows w G hints shown b f c (inl t) h = subst (Stops es rows w) (sym t) (in_entry c (h t))
 entry_refused es rows w G hints shown b f c (inr n) h = subst (Stops es rows w) (sym n) tt
 
 -- what stops what is written stops the declaration

@@ -108,7 +108,7 @@ module _ (es : List Entry) (rows : Rows) (w : WrittenBody) (frees : List ℕ) (a
   left_settled canonical = record { signature = signature_of es; is_signature = canonical_is_signature es canonical; ready = z.ready }
 
   pub free_deep : FreeIsDeep after frees → Stops es rows w TooDeep
-  free_deep h = in_frees after z.made (inr z.left) h
+  free_deep h = in_frees after z.ready.consistent z.made (inr z.left) h
 
   module _ (order : List ℕ) (o : AreFreesInOrder w (length rows) order) (naming : Naming) (a : AreNames after frees rows order naming) (ns : List (ℕ × List ℕ)) (n : ns ≡ named_from 0 naming.names) where
     pub names_differ : AreDistinct (map (λ k. k.0) ns)
@@ -124,6 +124,7 @@ module _ (es : List Entry) (rows : Rows) (w : WrittenBody) (frees : List ℕ) (a
           made = z.made;
           after = after;
           outcome = z.left;
+          consistent = z.ready.consistent;
           order = order;
           in_order = o;
           naming = naming;
@@ -136,4 +137,4 @@ module _ (es : List Entry) (rows : Rows) (w : WrittenBody) (frees : List ℕ) (a
     pub left_deep : (f : UnifyFault) → f ≡ unify.TooDeep → IfSome (slice_get after.equations 0) (λ e. BlamesShown f after e ns) → Stops es rows w TooDeep
     left_deep f t h =
         let (e, g) = first_left after.equations (λ p. z.left.some_left p) in
-        in_left after e ns z.made z.left g (subst (λ x. BlamesShown x after e ns) t (told (slice_get after.equations 0) e (λ q. BlamesShown f after q ns) h g))
+        in_left after e naming z.ready.consistent z.made z.left o a g (subst (λ l. BlamesShown unify.TooDeep after e l) n (subst (λ x. BlamesShown x after e ns) t (told (slice_get after.equations 0) e (λ q. BlamesShown f after q ns) h g)))

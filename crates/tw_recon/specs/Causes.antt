@@ -3,9 +3,10 @@ use Rattle.std.specs.Prelude.{◌≡◌, ◌<◌, ℕ, List, [], Option, Some, l
 use Rattle.lf.specs.DeepTyping.{KindReachesDeep, TypeReachesDeep, TypingReachesDeep}
 use Rattle.lf.specs.Depth.{depth, depth_limit, kind_depth, type_depth}
 use Rattle.lf.specs.Entries.{Body, Entry, declare_constant, declare_definition, declare_family, signature_of}
+use Rattle.lf.specs.Syntax.{LfType}
 use Rattle.lf.specs.Typing.{Signature}
-use Rattle.elaboration.specs.Principal.{Completion, IsCompletion, IsPrincipal, WrittenBody, body_over}
-use Rattle.elaboration.specs.Sites.{AreFreesInOrder}
+use Rattle.elaboration.specs.Principal.{Completion, IsCompletion, WrittenBody, body_over}
+use Rattle.elaboration.specs.Sites.{AreFreesInOrder, AreSites}
 use Rattle.elaboration.specs.State.{State, store_of}
 use Rattle.unification.specs.DeepEquations.{AreDeep}
 use Rattle.unification.specs.Solving.{Left, Solved}
@@ -23,12 +24,12 @@ use Rattle.tw_readoff.specs.declared.fault.ReadFault.TheVariants as reading
 use Rattle.tw_resolve.specs.Resolved.{skeletons_of}
 use Rattle.tw_unify.specs.Named.{shown_type_of}
 use Rattle.tw_unify.specs.Showing.{BlamesShown, Shows}
-use Rattle.tw_unify.specs.View.{whole}
+use Rattle.tw_unify.specs.View.{IsConsistent, whole}
 use Rattle.tw_unify.specs.declared.fault.UnifyFault.TheVariants as unify
 use Rattle.tw_unify.specs.declared.left.LeftEquation.{LeftEquation}
 use Rattle.tw_recon.specs.Names.{AreNames, FreeIsDeep, Naming, named_from}
 use Rattle.tw_recon.specs.Reading.{BodyIsDeep}
-use Rattle.tw_recon.specs.Reconstruction.{IsMade, IsWrittenAs}
+use Rattle.tw_recon.specs.Reconstruction.{IsCompletedTo, IsMade, IsWrittenAs}
 use Rattle.tw_recon.specs.declared.fault.ReconFault.{ReconFault}
 use Rattle.tw_recon.specs.declared.fault.ReconFault.TheVariants.{Leftover, Loose, Mismatch, NoMemory, TooDeep, TypeLevel, Unknown}
 
@@ -48,6 +49,7 @@ module _ (es : List Entry) (rows : Rows) (w : WrittenBody) where
     pub made : IsMade es (skeletons_of rows) w frees state body
     pub after : metas.State
     pub outcome : Left (signature_of es) (store_of state) (whole [] after)
+    pub consistent : IsConsistent after
     pub order : List ℕ
     pub in_order : AreFreesInOrder w (length rows) order
     pub naming : Naming
@@ -56,19 +58,20 @@ module _ (es : List Entry) (rows : Rows) (w : WrittenBody) where
     pub is_first : slice_get after.equations 0 ≡ Some first
     pub shows : Shows after first (named_from 0 naming.names) (map shown_type_of left.metas.items) left.names.items (equation_of left.equation)
 
-  -- Where something deeper than 4,096 is reached: in elaboration, in its equations, in the value of a free variable, in the equation that is left, in what is read off, or in the principal completion.
+  -- Where something deeper than 4,096 is reached: in elaboration, in its equations, in the value of a free variable, in the equation that is left, in what is read off, or in what is completed.
   pub data ReachesDeep : Type 0 where
     in_elaboration : FromNothingDeep es (skeletons_of rows) w → ReachesDeep
     in_equations : {frees : List ℕ} {s : State} {b : Body} → IsMade es (skeletons_of rows) w frees s b → AreDeep depth_limit (signature_of es) [] (store_of s) → ReachesDeep
-    in_frees : {frees : List ℕ} {s : State} {b : Body} (after : metas.State) →
+    in_frees : {frees : List ℕ} {s : State} {b : Body} (after : metas.State) → IsConsistent after →
         IsMade es (skeletons_of rows) w frees s b → Solved (signature_of es) (store_of s) (whole [] after) ⊎ Left (signature_of es) (store_of s) (whole [] after) → FreeIsDeep after frees → ReachesDeep
-    in_left : {frees : List ℕ} {s : State} {b : Body} (after : metas.State) (e : Equation) (names : List (ℕ × List ℕ)) →
-        IsMade es (skeletons_of rows) w frees s b → Left (signature_of es) (store_of s) (whole [] after) → slice_get after.equations 0 ≡ Some e → BlamesShown unify.TooDeep after e names → ReachesDeep
-    in_quantifiers : {frees : List ℕ} {s : State} {b : Body} (sites : List ℕ) (after : metas.State) →
-        IsMade es (skeletons_of rows) w frees s b → Solved (signature_of es) (store_of s) (whole [] after) → BlamesQuantifiers reading.TooDeep after sites → ReachesDeep
+    in_left : {frees order : List ℕ} {s : State} {b : Body} (after : metas.State) (e : Equation) (naming : Naming) → IsConsistent after →
+        IsMade es (skeletons_of rows) w frees s b → Left (signature_of es) (store_of s) (whole [] after) → AreFreesInOrder w (length rows) order → AreNames after frees rows order naming → slice_get after.equations 0 ≡ Some e →
+        BlamesShown unify.TooDeep after e (named_from 0 naming.names) → ReachesDeep
+    in_quantifiers : {frees : List ℕ} {s : State} {b : Body} (sites : List ℕ) (after : metas.State) → IsConsistent after →
+        IsMade es (skeletons_of rows) w frees s b → Solved (signature_of es) (store_of s) (whole [] after) → AreSites es (skeletons_of rows) w sites → BlamesQuantifiers reading.TooDeep after sites → ReachesDeep
     in_body : {frees : List ℕ} {s : State} {b : Body} (after : metas.State) →
         IsMade es (skeletons_of rows) w frees s b → Solved (signature_of es) (store_of s) (whole [] after) → BodyIsDeep after b → ReachesDeep
-    in_entry : {c : Completion} → IsPrincipal es (skeletons_of rows) w c → BodyReachesDeep (signature_of es) (body_over c.quantifiers c.body) → ReachesDeep
+    in_entry : {G : List LfType} {hints : List (Option (List ℕ))} {shown : List ℕ} {b : Body} → IsCompletedTo es rows w G hints shown b → BodyReachesDeep (signature_of es) (body_over G b) → ReachesDeep
 
   -- why it isn't completed
   abbrev pub Stops : ReconFault → Type 0

@@ -1,7 +1,7 @@
 -- The names by which the leading quantifiers of what is declared are shown.
 use Rattle.std.specs.Prelude.{ℕ, zero, suc, List, [], ◌∷◌, Option, None, Some}
-use Rattle.tw_explicit.specs.Completion.{hints}
-use Rattle.tw_explicit.specs.Scope.{binder_name}
+use Rattle.tw_names.specs.Texts.{hints}
+use Rattle.tw_names.specs.Scope.{binder_name}
 use Rattle.tw_parse.specs.Syntax.{Declaration, Term, declare, define, give, lambda, prefer}
 
 -- of the binders of a written term

@@ -15,7 +15,7 @@ use Rattle.tw_metas.specs.State as metas
 use Rattle.tw_parse.specs.Syntax.{Declaration, declare, define, give, prefer}
 use Rattle.tw_readoff.specs.Quantifiers.{AreQuantifiers}
 use Rattle.tw_resolve.specs.Resolved.{resolved_body, skeletons_of}
-use Rattle.tw_unify.specs.View.{whole}
+use Rattle.tw_unify.specs.View.{IsConsistent, whole}
 use Rattle.tw_recon.specs.Hints.{fitted, written_hints}
 use Rattle.tw_recon.specs.Names.{AreNames, Naming, names_of, variables_of}
 use Rattle.tw_recon.specs.Reading.{IsBodyReadAs}
@@ -53,6 +53,7 @@ pub record AreReadOff (es : List Entry) (rows : Rows) (w : WrittenBody) (G : Lis
   pub made : IsMade es (skeletons_of rows) w frees state open_body
   pub after : metas.State
   pub solved : Solved (signature_of es) (store_of state) (whole [] after)
+  pub consistent : IsConsistent after
   pub sites : List ℕ
   pub are_sites : AreSites es (skeletons_of rows) w sites
   pub quantifiers : List ℕ

@@ -7,8 +7,8 @@ ghost use Rattle.tw_terms.specs.View.{kind_of, type_of};
 ghost use Rattle.tw_recon.specs.Hints.{fitted, lambda_hints, written_hints};
 
 use std::alloc::{AllocError, Global};
-use tw_explicit::{binder_name, hints};
 use tw_fixity::Name;
+use tw_names::{binder_name, hints};
 use tw_parse::{ExtDecl, ExtTerm};
 use tw_signature::Body;
 use tw_terms::{Kind, Ty};

@@ -25,6 +25,3 @@ mod solving;
 pub use fault::ReconFault;
 pub use query::{Goal, reconstruct_query};
 pub use reconstruction::reconstruct;
-
-#[cfg(test)]
-mod tests;

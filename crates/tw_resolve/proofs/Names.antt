@@ -9,8 +9,8 @@ use Rattle.elaboration.specs.Written.{Place, Written, free, bound, declared, fam
 use Rattle.elaboration.specs.WrittenSkeletons.{LeavesSkeleton, type_in_terms, NameHasSkeleton, FamilyNameLeaves, WrittenHasSkeleton}
 use Rattle.tw_approx.specs.Answer.{Rows, frees_of, HasRow}
 use Rattle.tw_approx.specs.Skeletons.{behind, object_skeleton, entry_skeleton, name_skeleton, Family, known, due, family_of_body, family_of_entry, family_named}
-use Rattle.tw_explicit.specs.Scope.{head_named}
-use Rattle.tw_explicit.specs.Unknown.{is_uppercase}
+use Rattle.tw_names.specs.Scope.{head_named}
+use Rattle.tw_names.specs.Unknown.{is_uppercase}
 use Rattle.tw_scope.specs.Names.{Names, variable_of}
 use Rattle.tw_approx.proofs.Naming.{is_name}
 use Rattle.tw_resolve.specs.Resolving.{resolved_name, resolved_family}

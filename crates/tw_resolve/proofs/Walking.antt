@@ -10,7 +10,7 @@ use Rattle.tw_approx.specs.Names.{IsFreeIn, IsFreeInDomain}
 use Rattle.tw_approx.specs.Readings.{take, found, and_then}
 use Rattle.tw_approx.specs.Skeletons.{Family, known, unknown, name_skeleton, family_named, applied, ascribed, family_applied, family_ascribed, whole, term_skeleton, family_skeleton, type_skeleton, domain_skeleton, kind_due}
 use Rattle.tw_approx.proofs.Sequences.{given, parts_of, and_then_parts}
-use Rattle.tw_explicit.specs.Scope.{binder_name, named}
+use Rattle.tw_names.specs.Scope.{binder_name, named}
 use Rattle.tw_parse.specs.Syntax.{Term, Domain, identifier, hole, star, arrow, pi, lambda, application, ascription, untyped, typed}
 use Rattle.tw_scope.specs.Names.{Names, variable_of}
 use Rattle.tw_signature.specs.Names.{number_of}

@@ -10,7 +10,7 @@ use Rattle.tw_approx.specs.Readings.{and_then}
 use Rattle.tw_approx.specs.Skeletons.{FitsClassifier, ascribed, whole, term_skeleton, family_skeleton, type_skeleton, kind_due, definition_skeleton, same_skeleton}
 use Rattle.tw_approx.proofs.Sequences.{and_then_parts}
 use Rattle.tw_approx.proofs.Unifying.{equal_skeletons, passed, if_passed}
-use Rattle.tw_explicit.specs.Answer.{ends_in_type}
+use Rattle.tw_names.specs.Texts.{ends_in_type}
 use Rattle.tw_parse.specs.Syntax.{Term, Declaration, declare, define, prefer, give}
 use Rattle.tw_resolve.specs.Resolving.{resolved_term, resolved_type, resolved_kind}
 use Rattle.tw_resolve.specs.Resolved.{names_of, skeletons_of, untyped_term, typed_term, resolved_definition, DefinitionHasSkeleton, ClassifierResolves, IsResolved, SkeletonsAreResolved}

@@ -7,7 +7,7 @@ use Rattle.elaboration.specs.Written.{Written, WrittenType}
 use Rattle.tw_approx.specs.Answer.{Rows}
 use Rattle.tw_approx.specs.Readings.{Reading, and_then}
 use Rattle.tw_approx.proofs.Sequences.{parts_of}
-use Rattle.tw_explicit.specs.Answer.{ends_in_type}
+use Rattle.tw_names.specs.Texts.{ends_in_type}
 use Rattle.tw_parse.specs.Syntax.{Term, Declaration, declare, define, prefer, give}
 use Rattle.tw_resolve.specs.Resolving.{resolved_term, resolved_type, with_both, made}
 use Rattle.tw_resolve.specs.Resolved.{names_of, skeletons_of, untyped_term, typed_term, resolved_definition, DefinitionHasSkeleton, ClassifierResolves, IsResolved, with_one, taken_whole, classifier_read, resolved_body, BodyHasSkeletons, BodiesAreResolved, GoalsAreConstants}

@@ -8,7 +8,7 @@ use Rattle.elaboration.specs.WrittenSkeletons.{AllDeclared, WrittenHasSkeleton, 
 use Rattle.tw_approx.specs.Answer.{Rows, frees_of, HasSkeletons}
 use Rattle.tw_approx.specs.Readings.{Reading, and_then}
 use Rattle.tw_approx.specs.Skeletons.{type_skeleton, kind_due, definition_skeleton}
-use Rattle.tw_explicit.specs.Answer.{ends_in_type}
+use Rattle.tw_names.specs.Texts.{ends_in_type}
 use Rattle.tw_lexer.specs.declared.place.Place.{Place}
 use Rattle.tw_parse.specs.Syntax.{Term, Declaration, declare, define, prefer, give}
 use Rattle.tw_scope.specs.Names.{Names}

@@ -2,7 +2,7 @@
 ghost use Rattle.std.specs.Prelude.{◌≡◌, map, true, false, Some, IfOk, option_map};
 ghost use Rattle.tw_approx.specs.Answer.{rows_of};
 ghost use Rattle.tw_approx.specs.Readings.{found};
-ghost use Rattle.tw_explicit.specs.Answer.{ends_in_type};
+ghost use Rattle.tw_names.specs.Texts.{ends_in_type};
 ghost use Rattle.tw_parse.specs.View.{term_of, declaration_of};
 ghost use Rattle.tw_resolve.specs.Resolved.{classifier_read, definition_read, body_read, taken_whole, resolved_body, resolved_goal};
 ghost use Rattle.tw_resolve.specs.Rest.{rest_of};
@@ -13,7 +13,7 @@ use crate::resolving::Resolving;
 use crate::texts::{resolve_kind, resolve_term, resolve_type};
 use std::alloc::{AllocError, Global};
 use tw_approx::Row;
-use tw_explicit::ends_in_type;
+use tw_names::ends_in_type;
 use tw_parse::{ExtDecl, ExtTerm};
 use tw_signature::Signature;
 use tw_terms::Skeleton;

@@ -13,6 +13,3 @@ mod texts;
 pub use bodies::{resolve, resolve_goal};
 pub use resolving::Resolving;
 pub use texts::{resolve_kind, resolve_term, resolve_type};
-
-#[cfg(test)]
-mod tests;

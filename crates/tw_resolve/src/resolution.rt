@@ -11,9 +11,9 @@ ghost use Rattle.tw_written.specs.View.{place_of, written_of, written_domain_of 
 
 use crate::resolving::Resolving;
 use std::alloc::{AllocError, Global};
-use tw_explicit::{binder_name, nested};
 use tw_fixity::Name;
 use tw_lexer::Place;
+use tw_names::{binder_name, nested};
 use tw_parse::ExtTerm;
 use tw_signature::Signature;
 use tw_written::{Written, WrittenDomain, WrittenKind, WrittenType};

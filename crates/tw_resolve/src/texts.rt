@@ -13,8 +13,8 @@ use tw_parse::ExtTerm;
 use tw_signature::Signature;
 use tw_written::{Written, WrittenKind, WrittenType};
 
-/// How many calls the walk nests at most; past these it wants memory.
-const FRAMES: u32 = 5_000;
+/// How many calls the walk nests at most; past these it wants memory. What nests 4,096 deep takes a call a level, so what is somewhat deeper is still told to be too deep.
+const FRAMES: u32 = 5_300;
 
 /// A written term with its names resolved. What isn't written takes its skeletons from what is left of the list. There is none where a name is unknown, where the
 /// list is too short, or where a hole stands for a family. Fails for want of memory alone.

@@ -1,7 +1,7 @@
 use Rattle.std.proofs.Common.{Some, None, sym, ap, ◌∙◌}
 use Rattle.tw_parse.specs.View.{declaration_of}
-use Rattle.tw_explicit.specs.Unknown.{unknown_in}
-use Rattle.tw_explicit.proofs.Order.{earliest_is_first, none_is_empty}
+use Rattle.tw_names.specs.Unknown.{unknown_in}
+use Rattle.tw_names.proofs.Order.{earliest_is_first, none_is_empty}
 use Rattle.tw_approx.proofs.approximation.known.Goals as goal
 
 pub returns-in-Some-clause-refused : goal.returns-in-Some-clause-refused

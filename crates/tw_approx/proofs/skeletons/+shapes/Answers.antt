@@ -4,7 +4,7 @@ use Rattle.tw_approx.specs.Names.{IsFreeIn, IsFreeInDomain}
 use Rattle.tw_approx.specs.Reading.{state_of, due_of, family_at, ReadsDue, ReadsFamily, TermIsRead, FamilyIsRead, TypeIsRead, DomainIsRead, KindIsRead, RangeIsRead, RestIsRead, IsApplied, IsAscribed, IsFamilyApplied, IsFamilyAscribed, IsWhole}
 use Rattle.tw_approx.specs.Skeletons.{type_skeleton, domain_skeleton}
 use Rattle.tw_approx.specs.Walks.{filled_all}
-use Rattle.tw_explicit.specs.Scope.{binder_name, named}
+use Rattle.tw_names.specs.Scope.{binder_name, named}
 use Rattle.tw_parse.proofs.Views.{term_of-Ident, term_of-Hole, term_of-Star, term_of-Arrow}
 use Rattle.tw_parse.specs.Syntax.{identifier, hole, star, arrow, pi, lambda, ascription, typed}
 use Rattle.tw_parse.specs.View.{term_of, boxed_domain}

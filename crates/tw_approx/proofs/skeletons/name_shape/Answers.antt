@@ -1,6 +1,6 @@
 use Rattle.std.proofs.Common.{Some, option_map, map, reverse, slice_get, sym, ap, ◌∙◌}
 use Rattle.tw_approx.specs.Reading.{state_of}
-use Rattle.tw_explicit.specs.Scope.{named}
+use Rattle.tw_names.specs.Scope.{named}
 use Rattle.tw_shapes.specs.View.{shape_of}
 use Rattle.tw_terms.specs.View.{head_of}
 use Rattle.tw_terms.proofs.Views.{head_of-Const, head_of-Var}

@@ -4,7 +4,7 @@ use Rattle.tw_approx.specs.Skeletons.{due, family_of_entry, family_of_body}
 use Rattle.tw_signature.specs.View.{body_of, entry_of}
 use Rattle.tw_terms.specs.View.{head_of, kind_of}
 use Rattle.tw_terms.proofs.Views.{head_of-Const}
-use Rattle.tw_explicit.specs.Scope.{named}
+use Rattle.tw_names.specs.Scope.{named}
 use Rattle.tw_shapes.proofs.Views.{shape_of-Base}
 use Rattle.tw_shapes.specs.declared.shape.Shape.TheVariants.{Base}
 use Rattle.tw_approx.proofs.Known.{family_name_reads}

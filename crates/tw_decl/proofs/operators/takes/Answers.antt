@@ -1,4 +1,4 @@
-use Rattle.std.proofs.Common.{◌≡◌, ◌-◌, ◌∙◌, ap, length, rules}
+use Rattle.std.proofs.Common.{◌≡◌, ◌-◌, length, rules}
 use Rattle.tw_signature.specs.View.{entry_of}
 use Rattle.tw_decl.proofs.Arguments.{takes_entry}
 use Rattle.tw_decl.proofs.operators.takes.Goals as goal

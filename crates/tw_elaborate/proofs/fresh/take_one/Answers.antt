@@ -11,8 +11,8 @@ use Rattle.tw_elaborate.proofs.Steps.{steps}
 use Rattle.tw_elaborate.proofs.Taking.{keeps_same}
 use Rattle.tw_elaborate.proofs.fresh.take_one.Goals as goal
 
-pub instantiate-requires : goal.instantiate-requires
-instantiate-requires c =
+pub instantiated-requires : goal.instantiated-requires
+instantiated-requires c =
     let D = c.args.state.now.locals in
     let s = made c.args.state.now in
     let A = open_type_of c.deref-in-Pi-2.result.now in

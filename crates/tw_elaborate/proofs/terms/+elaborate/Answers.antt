@@ -1,4 +1,5 @@
-use Rattle.std.proofs.Common.{◌≡◌, ◌∷◌, IfOk, refl, sym, ap, ap₂, ◌∙◌, subst, arith, rules}
+use Rattle.std.proofs.Common.{◌≡◌, [], ◌∷◌, ◌++◌, map, IfOk, inl, inr, refl, sym, ap, ap₂, ◌∙◌, subst, arith, rules}
+use Rattle.std.proofs.lemmas.List.{map-append}
 use Rattle.lf.specs.Entries.{signature_of}
 use Rattle.lf.specs.Substitution.{single}
 use Rattle.lf.specs.Syntax.{kind_pi, pi, skeleton}
@@ -11,18 +12,21 @@ use Rattle.tw_terms.proofs.OpenViews.{open_type_of-Atom, open_type_of-Pi}
 use Rattle.tw_written.specs.View.{place_of, written_domain_of, written_kind_of, written_of, written_type_of}
 use Rattle.tw_written.proofs.Views.{written_domain_of-OfSkeleton, written_domain_of-OfType, written_kind_of-Arrow, written_kind_of-Quantified, written_kind_of-Star, written_of-Ascribed, written_of-Bound, written_of-Declared, written_of-Free, written_of-Function, written_of-Hole, written_type_of-Applied, written_type_of-Arrow, written_type_of-Ascribed, written_type_of-Family, written_type_of-Hole, written_type_of-Quantified}
 use Rattle.tw_elaborate.specs.Comparing.{ChecksDomain}
-use Rattle.tw_elaborate.specs.Deep.{ChecksDeep, DomainDeep, FamilyDeep, InfersDeep, KindDeep, TypeDeep, deep_applied_family, deep_arrow_domain, deep_arrow_range, deep_ascribed, deep_ascribed_family, deep_ascription, deep_body, deep_domain, deep_family, deep_family_kind, deep_index, deep_inferred, deep_kind_domain, deep_kind_range, deep_quantified_domain, deep_quantified_kind_domain, deep_quantified_kind_range, deep_quantified_range, deep_type_ascribed, deep_written_domain}
+use Rattle.tw_elaborate.specs.Deep.{ChecksDeep, DomainDeep, FamilyDeep, InfersDeep, KindDeep, TypeDeep, deep_applied_family, deep_ascribed, deep_ascribed_family, deep_ascription, deep_body, deep_domain, deep_family, deep_family_kind, deep_index, deep_inferred, deep_quantified_domain, deep_quantified_kind_domain, deep_quantified_kind_range, deep_quantified_range, deep_type_ascribed, deep_written_domain}
 use Rattle.tw_elaborate.specs.Fits.{KindFits}
 use Rattle.tw_elaborate.specs.Operators.{operator_of, written_terms}
+use Rattle.tw_elaborate.specs.Rows.{Reached}
 use Rattle.tw_elaborate.specs.View.{made, numbers_of, open_kind_of}
 use Rattle.tw_elaborate.specs.declared.fault.ElaborateFault.TheVariants.{TooDeep}
 use Rattle.tw_elaborate.specs.declared.state.OpenKind.{Star as OpenKind-Star}
-use Rattle.tw_elaborate.proofs.Answering.{arrow_elaborated, body_deep, domain_checked, domain_compared, domain_deep, family_compared, family_elaborated, family_on_argument, fault_of_call, function_checked, function_inferred, inferred_checked, is_inferred, kind_arrow_elaborated, kind_quantified_elaborated, quantified_elaborated}
+use Rattle.tw_elaborate.proofs.Answering.{body_deep, domain_checked, domain_compared, domain_deep, family_compared, family_elaborated, family_on_argument, fault_of_call, function_checked, function_inferred, inferred_checked, is_inferred, kind_quantified_elaborated, quantified_elaborated}
+use Rattle.tw_elaborate.proofs.Arrows.{domain_too_deep, kind_domain_too_deep, no_domains, no_kind_domains, one_more_domain, one_more_kind_domain}
 use Rattle.tw_elaborate.proofs.Following.{domain_found, domain_under, family_found, family_stands, in_scope, inferred_type, keeps_under, kind_range_fits, kind_stands, type_found, type_stands, under_stands}
-use Rattle.tw_elaborate.proofs.Rows.{all_reached, argument_deep, arguments_less, deep_row, next_applies, next_domain, next_range_fits, next_stands, none_left, put_deep, reached_next}
+use Rattle.tw_elaborate.proofs.Rows.{asked_applies, asked_deep, asked_domain, asked_put_deep, asked_range_fits, asked_stands, asks_next, deep_row, finished, none_left, resumed, row_asked, rows_stay}
 use Rattle.tw_elaborate.proofs.Taking.{keeps_same, keeps_then}
 use Rattle.tw_elaborate.proofs.Views.{open_kind_of-Pi, open_kind_of-Star}
 use Rattle.tw_elaborate.proofs.terms.+elaborate.Goals as goal
+use Rattle.tw_elaborate.proofs.terms.+elaborate.Goals.{infer_applied-in-Some+in_ok-outer-in-Some+in-Applied+in_ok-push_waiting-in-Applied+in_ok-begun-in-Applied, infer_applied-in-Some+in_ok-outer-in-Some+in-Free+in_ok-arg-in-Free+in_ok-begun-in-Free, infer_applied-in-None+in_ok-term-in-None+in-Some-pop+in_ok-compare_types-in-Some-pop+in_ok-begun-in-Some-pop+in-Pi-1, infer_applied-in-None+in_ok-term-in-None+in-Some-pop+in_ok-compare_types-in-Some-pop+in_ok-begun-in-Some-pop+in-Atom-1}
 
 pub infer-returns-in_err-frames-clause-keeps : goal.infer-returns-in_err-frames-clause-keeps
 infer-returns-in_err-frames-clause-keeps t c = keeps_same c.args.state.now
@@ -129,11 +133,11 @@ elaborate_type-elaborate_type-range-requires t c =
 
 pub elaborate_type-returns-in_err-range-in-Quantified-clause-too_deep : goal.elaborate_type-returns-in_err-range-in-Quantified-clause-too_deep
 elaborate_type-returns-in_err-range-in-Quantified-clause-too_deep t c = λ is.
-    let v = ap written_type_of c.in-Quantified.is ∙ written_type_of-Quantified c.in-Quantified.domain c.in-Quantified.range ∙ ap (quantified (written_domain_of c.in-Quantified.domain)) (ap written_type_of (sym c.deref-in-Quantified.ensures)) in
+    let v = ap written_type_of c.in-Quantified.is ∙ written_type_of-Quantified c.in-Quantified.domain c.in-Quantified.range ∙ ap (quantified (written_domain_of c.in-Quantified.domain)) (ap written_type_of (sym c.deref.ensures)) in
     let l = c.elaborate_domain.ensures.keeps.locals in
     let i = c.in_ok-domain-in-Quantified.ensures.ok in
     let e : c.push.new.self ≡ (open_type_of c.in_ok-domain-in-Quantified.domain) ∷ c.args.state.now.locals = in_scope c.args.state.now.locals c.push.new.self c.elaborate_domain.new.state.locals (open_type_of c.in_ok-domain-in-Quantified.domain) (open_type_of c.in_ok-copy-in-Quantified.field-0) c.in_ok-push-in-Quantified.ensures.ok c.in_ok-copy-in-Quantified.ensures l in
-    subst (λ W. TypeDeep c.args.signature.now (numbers_of c.args.frees.now) c.args.state.now.locals W (made c.args.state.now)) (sym v) (deep_quantified_range i (subst (λ F. TypeDeep c.args.signature.now (numbers_of c.args.frees.now) F (written_type_of c.deref-in-Quantified.result.now) (made c.elaborate_domain.new.state)) e (c.in_err-range-in-Quantified.ensures.too_deep (fault_of_call c.from_residual-in_err-range-in-Quantified.result c.in_err-range-in-Quantified.field-0.0 TooDeep (search rules) is))))
+    subst (λ W. TypeDeep c.args.signature.now (numbers_of c.args.frees.now) c.args.state.now.locals W (made c.args.state.now)) (sym v) (deep_quantified_range i (subst (λ F. TypeDeep c.args.signature.now (numbers_of c.args.frees.now) F (written_type_of c.deref.result.now) (made c.elaborate_domain.new.state)) e (c.in_err-range-in-Quantified.ensures.too_deep (fault_of_call c.from_residual-in_err-range-in-Quantified.result c.in_err-range-in-Quantified.field-0.0 TooDeep (search rules) is))))
 
 pub elaborate_type-returns-in_err-range-in-Quantified-clause-keeps : goal.elaborate_type-returns-in_err-range-in-Quantified-clause-keeps
 elaborate_type-returns-in_err-range-in-Quantified-clause-keeps t c =
@@ -152,45 +156,11 @@ elaborate_type-returns-in_ok-pi-in-Quantified-clause-keeps t c =
 
 pub elaborate_type-returns-in_ok-pi-in-Quantified-clause-ok : goal.elaborate_type-returns-in_ok-pi-in-Quantified-clause-ok
 elaborate_type-returns-in_ok-pi-in-Quantified-clause-ok t c =
-    let v = ap written_type_of c.in-Quantified.is ∙ written_type_of-Quantified c.in-Quantified.domain c.in-Quantified.range ∙ ap (quantified (written_domain_of c.in-Quantified.domain)) (ap written_type_of (sym c.deref-in-Quantified.ensures)) in
+    let v = ap written_type_of c.in-Quantified.is ∙ written_type_of-Quantified c.in-Quantified.domain c.in-Quantified.range ∙ ap (quantified (written_domain_of c.in-Quantified.domain)) (ap written_type_of (sym c.deref.ensures)) in
     let l = c.elaborate_domain.ensures.keeps.locals in
     let i = c.in_ok-domain-in-Quantified.ensures.ok in
     let e : c.push.new.self ≡ (open_type_of c.in_ok-domain-in-Quantified.domain) ∷ c.args.state.now.locals = in_scope c.args.state.now.locals c.push.new.self c.elaborate_domain.new.state.locals (open_type_of c.in_ok-domain-in-Quantified.domain) (open_type_of c.in_ok-copy-in-Quantified.field-0) c.in_ok-push-in-Quantified.ensures.ok c.in_ok-copy-in-Quantified.ensures l in
-    subst (λ W. ElaboratesType c.args.signature.now (numbers_of c.args.frees.now) c.args.state.now.locals W (made c.args.state.now) (made c.elaborate_type-range.new.state) (open_type_of c.in_ok-pi-in-Quantified.field-0)) (sym v) (quantified_elaborated c.args.signature.now (numbers_of c.args.frees.now) c.args.state.now.locals c.push.new.self (written_domain_of c.in-Quantified.domain) (written_type_of c.deref-in-Quantified.result.now) (made c.args.state.now) (made c.elaborate_domain.new.state) (made c.elaborate_type-range.new.state) (open_type_of c.in_ok-domain-in-Quantified.domain) (open_type_of c.in_ok-range-in-Quantified.field-0) _ e c.in_ok-pi-in-Quantified.ensures i c.in_ok-range-in-Quantified.ensures.ok)
-
-pub elaborate_type-returns-in_err-domain-in-Arrow-clause-too_deep : goal.elaborate_type-returns-in_err-domain-in-Arrow-clause-too_deep
-elaborate_type-returns-in_err-domain-in-Arrow-clause-too_deep t c = λ is.
-    let v = ap written_type_of c.in-Arrow.is ∙ written_type_of-Arrow c.in-Arrow.domain c.in-Arrow.range ∙ ap (λ U. arrow U (written_type_of c.in-Arrow.range.value)) (ap written_type_of (sym c.deref.ensures)) in
-    subst (λ W. TypeDeep c.args.signature.now (numbers_of c.args.frees.now) c.args.state.now.locals W (made c.args.state.now)) (sym v) (deep_arrow_domain (c.in_err-domain-in-Arrow.ensures.too_deep (fault_of_call c.from_residual-in_err-domain-in-Arrow.result c.in_err-domain-in-Arrow.field-0.0 TooDeep (search rules) is)))
-
-pub elaborate_type-elaborate_type-requires-in-Arrow : goal.elaborate_type-elaborate_type-requires-in-Arrow
-elaborate_type-elaborate_type-requires-in-Arrow t c =
-    let l = c.elaborate_type.ensures.keeps.locals in
-    let i = c.in_ok-domain-in-Arrow.ensures.ok in
-    (omega arith, (c.requires.canonical, type_stands c.args.signature.now c.requires.canonical (numbers_of c.args.frees.now) c.requires.stands i c.elaborate_type.new.state.locals l))
-
-pub elaborate_type-returns-in_err-range-in-Arrow-clause-too_deep : goal.elaborate_type-returns-in_err-range-in-Arrow-clause-too_deep
-elaborate_type-returns-in_err-range-in-Arrow-clause-too_deep t c = λ is.
-    let v = ap written_type_of c.in-Arrow.is ∙ written_type_of-Arrow c.in-Arrow.domain c.in-Arrow.range ∙ ap₂ arrow (ap written_type_of (sym c.deref.ensures)) (ap written_type_of (sym c.deref-in-Arrow.ensures)) in
-    let l = c.elaborate_type.ensures.keeps.locals in
-    let i = c.in_ok-domain-in-Arrow.ensures.ok in
-    subst (λ W. TypeDeep c.args.signature.now (numbers_of c.args.frees.now) c.args.state.now.locals W (made c.args.state.now)) (sym v) (deep_arrow_range i (subst (λ F. TypeDeep c.args.signature.now (numbers_of c.args.frees.now) F (written_type_of c.deref-in-Arrow.result.now) (made c.elaborate_type.new.state)) l (c.in_err-range-in-Arrow.ensures.too_deep (fault_of_call c.from_residual-in_err-range-in-Arrow.result c.in_err-range-in-Arrow.field-0.0 TooDeep (search rules) is))))
-
-pub elaborate_type-returns-in_err-range-in-Arrow-clause-keeps : goal.elaborate_type-returns-in_err-range-in-Arrow-clause-keeps
-elaborate_type-returns-in_err-range-in-Arrow-clause-keeps t c = keeps_then c.args.state.now c.elaborate_type.new.state c.elaborate_type-in-Arrow.new.state c.elaborate_type.ensures.keeps c.elaborate_type-in-Arrow.ensures.keeps
-
-pub elaborate_type-returns-in_err-arrow-in-Arrow-clause-keeps : goal.elaborate_type-returns-in_err-arrow-in-Arrow-clause-keeps
-elaborate_type-returns-in_err-arrow-in-Arrow-clause-keeps t c = keeps_then c.args.state.now c.elaborate_type.new.state c.elaborate_type-in-Arrow.new.state c.elaborate_type.ensures.keeps c.elaborate_type-in-Arrow.ensures.keeps
-
-pub elaborate_type-returns-in_ok-arrow-in-Arrow-clause-keeps : goal.elaborate_type-returns-in_ok-arrow-in-Arrow-clause-keeps
-elaborate_type-returns-in_ok-arrow-in-Arrow-clause-keeps t c = keeps_then c.args.state.now c.elaborate_type.new.state c.elaborate_type-in-Arrow.new.state c.elaborate_type.ensures.keeps c.elaborate_type-in-Arrow.ensures.keeps
-
-pub elaborate_type-returns-in_ok-arrow-in-Arrow-clause-ok : goal.elaborate_type-returns-in_ok-arrow-in-Arrow-clause-ok
-elaborate_type-returns-in_ok-arrow-in-Arrow-clause-ok t c =
-    let v = ap written_type_of c.in-Arrow.is ∙ written_type_of-Arrow c.in-Arrow.domain c.in-Arrow.range ∙ ap₂ arrow (ap written_type_of (sym c.deref.ensures)) (ap written_type_of (sym c.deref-in-Arrow.ensures)) in
-    let l = c.elaborate_type.ensures.keeps.locals in
-    let i = c.in_ok-domain-in-Arrow.ensures.ok in
-    subst (λ W. ElaboratesType c.args.signature.now (numbers_of c.args.frees.now) c.args.state.now.locals W (made c.args.state.now) (made c.elaborate_type-in-Arrow.new.state) (open_type_of c.in_ok-arrow-in-Arrow.field-0)) (sym v) (arrow_elaborated c.args.signature.now (numbers_of c.args.frees.now) c.args.state.now.locals (written_type_of c.deref.result.now) (written_type_of c.deref-in-Arrow.result.now) (made c.args.state.now) (made c.elaborate_type.new.state) (made c.elaborate_type-in-Arrow.new.state) (open_type_of c.in_ok-domain-in-Arrow.domain) (open_type_of c.in_ok-range-in-Arrow.range) _ c.in_ok-arrow-in-Arrow.ensures i (subst (λ F. ElaboratesType c.args.signature.now (numbers_of c.args.frees.now) F (written_type_of c.deref-in-Arrow.result.now) (made c.elaborate_type.new.state) (made c.elaborate_type-in-Arrow.new.state) (open_type_of c.in_ok-range-in-Arrow.range)) l c.in_ok-range-in-Arrow.ensures.ok))
+    subst (λ W. ElaboratesType c.args.signature.now (numbers_of c.args.frees.now) c.args.state.now.locals W (made c.args.state.now) (made c.elaborate_type-range.new.state) (open_type_of c.in_ok-pi-in-Quantified.field-0)) (sym v) (quantified_elaborated c.args.signature.now (numbers_of c.args.frees.now) c.args.state.now.locals c.push.new.self (written_domain_of c.in-Quantified.domain) (written_type_of c.deref.result.now) (made c.args.state.now) (made c.elaborate_domain.new.state) (made c.elaborate_type-range.new.state) (open_type_of c.in_ok-domain-in-Quantified.domain) (open_type_of c.in_ok-range-in-Quantified.field-0) _ e c.in_ok-pi-in-Quantified.ensures i c.in_ok-range-in-Quantified.ensures.ok)
 
 pub elaborate_type-returns-in_err-family-in-Family-clause-too_deep : goal.elaborate_type-returns-in_err-family-in-Family-clause-too_deep
 elaborate_type-returns-in_err-family-in-Family-clause-too_deep t c = λ is. deep_family (c.in_err-family-in-Family.ensures.too_deep (fault_of_call c.from_residual-in_err-family-in-Family.result c.in_err-family-in-Family.field-0.0 TooDeep (search rules) is))
@@ -203,12 +173,12 @@ elaborate_type-returns-in_ok-new_type-in-Hole-clause-ok t c =
 pub elaborate_type-returns-in-Star-clause-ok : goal.elaborate_type-returns-in-Star-clause-ok
 elaborate_type-returns-in-Star-clause-ok t c =
     let v = ap written_type_of c.in-Ascribed.is ∙ written_type_of-Ascribed c.in-Ascribed.ty c.in-Ascribed.kind ∙ ap₂ family_ascribed (ap written_type_of (sym c.deref-in-Star.ensures)) (ap written_kind_of (sym c.deref-in-Ascribed.ensures ∙ c.in-Star.is) ∙ written_kind_of-Star) in
-    if_ok c.elaborate_type-in-Star.result _ _ (λ a j. subst (λ W. ElaboratesType c.args.signature.now (numbers_of c.args.frees.now) c.args.state.now.locals W (made c.args.state.now) (made c.elaborate_type-in-Star.new.state) (open_type_of a)) (sym v) (at_type_ascribed j)) c.elaborate_type-in-Star.ensures.ok
+    if_ok c.elaborate_type.result _ _ (λ a j. subst (λ W. ElaboratesType c.args.signature.now (numbers_of c.args.frees.now) c.args.state.now.locals W (made c.args.state.now) (made c.elaborate_type.new.state) (open_type_of a)) (sym v) (at_type_ascribed j)) c.elaborate_type.ensures.ok
 
 pub elaborate_type-returns-in-Star-clause-too_deep : goal.elaborate_type-returns-in-Star-clause-too_deep
 elaborate_type-returns-in-Star-clause-too_deep t c = λ is.
     let v = ap written_type_of c.in-Ascribed.is ∙ written_type_of-Ascribed c.in-Ascribed.ty c.in-Ascribed.kind ∙ ap₂ family_ascribed (ap written_type_of (sym c.deref-in-Star.ensures)) (ap written_kind_of (sym c.deref-in-Ascribed.ensures ∙ c.in-Star.is) ∙ written_kind_of-Star) in
-    subst (λ W. TypeDeep c.args.signature.now (numbers_of c.args.frees.now) c.args.state.now.locals W (made c.args.state.now)) (sym v) (deep_type_ascribed (c.elaborate_type-in-Star.ensures.too_deep is))
+    subst (λ W. TypeDeep c.args.signature.now (numbers_of c.args.frees.now) c.args.state.now.locals W (made c.args.state.now)) (sym v) (deep_type_ascribed (c.elaborate_type.ensures.too_deep is))
 
 pub elaborate_type-returns-in-Arrow-deref-clause-keeps : goal.elaborate_type-returns-in-Arrow-deref-clause-keeps
 elaborate_type-returns-in-Arrow-deref-clause-keeps t c = keeps_same c.args.state.now
@@ -227,40 +197,6 @@ elaborate_kind-returns-in-Star-clause-ok t c =
     let v = ap written_kind_of c.in-Star.is ∙ written_kind_of-Star in
     subst (λ W. ElaboratesKind c.args.signature.now (numbers_of c.args.frees.now) c.args.state.now.locals W (made c.args.state.now) (made c.args.state.now) (open_kind_of OpenKind-Star)) (sym v) (subst (ElaboratesKind c.args.signature.now (numbers_of c.args.frees.now) c.args.state.now.locals written_star (made c.args.state.now) (made c.args.state.now)) (sym open_kind_of-Star) at_star)
 
-pub elaborate_kind-returns-in_err-domain-in-Arrow-clause-too_deep : goal.elaborate_kind-returns-in_err-domain-in-Arrow-clause-too_deep
-elaborate_kind-returns-in_err-domain-in-Arrow-clause-too_deep t c = λ is.
-    let v = ap written_kind_of c.in-Arrow.is ∙ written_kind_of-Arrow c.in-Arrow.domain c.in-Arrow.range ∙ ap (λ U. kind_arrow U (written_kind_of c.in-Arrow.range.value)) (ap written_type_of (sym c.deref.ensures)) in
-    subst (λ W. KindDeep c.args.signature.now (numbers_of c.args.frees.now) c.args.state.now.locals W (made c.args.state.now)) (sym v) (deep_kind_domain (c.in_err-domain-in-Arrow.ensures.too_deep (fault_of_call c.from_residual-in_err-domain-in-Arrow.result c.in_err-domain-in-Arrow.field-0.0 TooDeep (search rules) is)))
-
-pub elaborate_kind-elaborate_kind-requires : goal.elaborate_kind-elaborate_kind-requires
-elaborate_kind-elaborate_kind-requires t c =
-    let l = c.elaborate_type.ensures.keeps.locals in
-    let i = c.in_ok-domain-in-Arrow.ensures.ok in
-    (omega arith, (c.requires.canonical, type_stands c.args.signature.now c.requires.canonical (numbers_of c.args.frees.now) c.requires.stands i c.elaborate_type.new.state.locals l))
-
-pub elaborate_kind-returns-in_err-range-in-Arrow-clause-too_deep : goal.elaborate_kind-returns-in_err-range-in-Arrow-clause-too_deep
-elaborate_kind-returns-in_err-range-in-Arrow-clause-too_deep t c = λ is.
-    let v = ap written_kind_of c.in-Arrow.is ∙ written_kind_of-Arrow c.in-Arrow.domain c.in-Arrow.range ∙ ap₂ kind_arrow (ap written_type_of (sym c.deref.ensures)) (ap written_kind_of (sym c.deref-in-Arrow.ensures)) in
-    let l = c.elaborate_type.ensures.keeps.locals in
-    let i = c.in_ok-domain-in-Arrow.ensures.ok in
-    subst (λ W. KindDeep c.args.signature.now (numbers_of c.args.frees.now) c.args.state.now.locals W (made c.args.state.now)) (sym v) (deep_kind_range i (subst (λ F. KindDeep c.args.signature.now (numbers_of c.args.frees.now) F (written_kind_of c.deref-in-Arrow.result.now) (made c.elaborate_type.new.state)) l (c.in_err-range-in-Arrow.ensures.too_deep (fault_of_call c.from_residual-in_err-range-in-Arrow.result c.in_err-range-in-Arrow.field-0.0 TooDeep (search rules) is))))
-
-pub elaborate_kind-returns-in_err-range-in-Arrow-clause-keeps : goal.elaborate_kind-returns-in_err-range-in-Arrow-clause-keeps
-elaborate_kind-returns-in_err-range-in-Arrow-clause-keeps t c = keeps_then c.args.state.now c.elaborate_type.new.state c.elaborate_kind.new.state c.elaborate_type.ensures.keeps c.elaborate_kind.ensures.keeps
-
-pub elaborate_kind-returns-in_err-kind_arrow-in-Arrow-clause-keeps : goal.elaborate_kind-returns-in_err-kind_arrow-in-Arrow-clause-keeps
-elaborate_kind-returns-in_err-kind_arrow-in-Arrow-clause-keeps t c = keeps_then c.args.state.now c.elaborate_type.new.state c.elaborate_kind.new.state c.elaborate_type.ensures.keeps c.elaborate_kind.ensures.keeps
-
-pub elaborate_kind-returns-in_ok-kind_arrow-in-Arrow-clause-keeps : goal.elaborate_kind-returns-in_ok-kind_arrow-in-Arrow-clause-keeps
-elaborate_kind-returns-in_ok-kind_arrow-in-Arrow-clause-keeps t c = keeps_then c.args.state.now c.elaborate_type.new.state c.elaborate_kind.new.state c.elaborate_type.ensures.keeps c.elaborate_kind.ensures.keeps
-
-pub elaborate_kind-returns-in_ok-kind_arrow-in-Arrow-clause-ok : goal.elaborate_kind-returns-in_ok-kind_arrow-in-Arrow-clause-ok
-elaborate_kind-returns-in_ok-kind_arrow-in-Arrow-clause-ok t c =
-    let v = ap written_kind_of c.in-Arrow.is ∙ written_kind_of-Arrow c.in-Arrow.domain c.in-Arrow.range ∙ ap₂ kind_arrow (ap written_type_of (sym c.deref.ensures)) (ap written_kind_of (sym c.deref-in-Arrow.ensures)) in
-    let l = c.elaborate_type.ensures.keeps.locals in
-    let i = c.in_ok-domain-in-Arrow.ensures.ok in
-    subst (λ W. ElaboratesKind c.args.signature.now (numbers_of c.args.frees.now) c.args.state.now.locals W (made c.args.state.now) (made c.elaborate_kind.new.state) (open_kind_of c.in_ok-kind_arrow-in-Arrow.field-0)) (sym v) (kind_arrow_elaborated c.args.signature.now (numbers_of c.args.frees.now) c.args.state.now.locals (written_type_of c.deref.result.now) (written_kind_of c.deref-in-Arrow.result.now) (made c.args.state.now) (made c.elaborate_type.new.state) (made c.elaborate_kind.new.state) (open_type_of c.in_ok-domain-in-Arrow.domain) (open_kind_of c.in_ok-range-in-Arrow.range) _ c.in_ok-kind_arrow-in-Arrow.ensures i (subst (λ F. ElaboratesKind c.args.signature.now (numbers_of c.args.frees.now) F (written_kind_of c.deref-in-Arrow.result.now) (made c.elaborate_type.new.state) (made c.elaborate_kind.new.state) (open_kind_of c.in_ok-range-in-Arrow.range)) l c.in_ok-range-in-Arrow.ensures.ok))
-
 pub elaborate_kind-returns-in_err-domain-in-Quantified-clause-too_deep : goal.elaborate_kind-returns-in_err-domain-in-Quantified-clause-too_deep
 elaborate_kind-returns-in_err-domain-in-Quantified-clause-too_deep t c = λ is.
     let v = ap written_kind_of c.in-Quantified.is ∙ written_kind_of-Quantified c.in-Quantified.domain c.in-Quantified.range in
@@ -275,11 +211,11 @@ elaborate_kind-elaborate_kind-range-requires t c =
 
 pub elaborate_kind-returns-in_err-range-in-Quantified-clause-too_deep : goal.elaborate_kind-returns-in_err-range-in-Quantified-clause-too_deep
 elaborate_kind-returns-in_err-range-in-Quantified-clause-too_deep t c = λ is.
-    let v = ap written_kind_of c.in-Quantified.is ∙ written_kind_of-Quantified c.in-Quantified.domain c.in-Quantified.range ∙ ap (kind_quantified (written_domain_of c.in-Quantified.domain)) (ap written_kind_of (sym c.deref-in-Quantified.ensures)) in
+    let v = ap written_kind_of c.in-Quantified.is ∙ written_kind_of-Quantified c.in-Quantified.domain c.in-Quantified.range ∙ ap (kind_quantified (written_domain_of c.in-Quantified.domain)) (ap written_kind_of (sym c.deref.ensures)) in
     let l = c.elaborate_domain.ensures.keeps.locals in
     let i = c.in_ok-domain-in-Quantified.ensures.ok in
     let e : c.push.new.self ≡ (open_type_of c.in_ok-domain-in-Quantified.domain) ∷ c.args.state.now.locals = in_scope c.args.state.now.locals c.push.new.self c.elaborate_domain.new.state.locals (open_type_of c.in_ok-domain-in-Quantified.domain) (open_type_of c.in_ok-copy-in-Quantified.field-0) c.in_ok-push-in-Quantified.ensures.ok c.in_ok-copy-in-Quantified.ensures l in
-    subst (λ W. KindDeep c.args.signature.now (numbers_of c.args.frees.now) c.args.state.now.locals W (made c.args.state.now)) (sym v) (deep_quantified_kind_range i (subst (λ F. KindDeep c.args.signature.now (numbers_of c.args.frees.now) F (written_kind_of c.deref-in-Quantified.result.now) (made c.elaborate_domain.new.state)) e (c.in_err-range-in-Quantified.ensures.too_deep (fault_of_call c.from_residual-in_err-range-in-Quantified.result c.in_err-range-in-Quantified.field-0.0 TooDeep (search rules) is))))
+    subst (λ W. KindDeep c.args.signature.now (numbers_of c.args.frees.now) c.args.state.now.locals W (made c.args.state.now)) (sym v) (deep_quantified_kind_range i (subst (λ F. KindDeep c.args.signature.now (numbers_of c.args.frees.now) F (written_kind_of c.deref.result.now) (made c.elaborate_domain.new.state)) e (c.in_err-range-in-Quantified.ensures.too_deep (fault_of_call c.from_residual-in_err-range-in-Quantified.result c.in_err-range-in-Quantified.field-0.0 TooDeep (search rules) is))))
 
 pub elaborate_kind-returns-in_err-range-in-Quantified-clause-keeps : goal.elaborate_kind-returns-in_err-range-in-Quantified-clause-keeps
 elaborate_kind-returns-in_err-range-in-Quantified-clause-keeps t c =
@@ -298,11 +234,11 @@ elaborate_kind-returns-in_ok-kind_pi-in-Quantified-clause-keeps t c =
 
 pub elaborate_kind-returns-in_ok-kind_pi-in-Quantified-clause-ok : goal.elaborate_kind-returns-in_ok-kind_pi-in-Quantified-clause-ok
 elaborate_kind-returns-in_ok-kind_pi-in-Quantified-clause-ok t c =
-    let v = ap written_kind_of c.in-Quantified.is ∙ written_kind_of-Quantified c.in-Quantified.domain c.in-Quantified.range ∙ ap (kind_quantified (written_domain_of c.in-Quantified.domain)) (ap written_kind_of (sym c.deref-in-Quantified.ensures)) in
+    let v = ap written_kind_of c.in-Quantified.is ∙ written_kind_of-Quantified c.in-Quantified.domain c.in-Quantified.range ∙ ap (kind_quantified (written_domain_of c.in-Quantified.domain)) (ap written_kind_of (sym c.deref.ensures)) in
     let l = c.elaborate_domain.ensures.keeps.locals in
     let i = c.in_ok-domain-in-Quantified.ensures.ok in
     let e : c.push.new.self ≡ (open_type_of c.in_ok-domain-in-Quantified.domain) ∷ c.args.state.now.locals = in_scope c.args.state.now.locals c.push.new.self c.elaborate_domain.new.state.locals (open_type_of c.in_ok-domain-in-Quantified.domain) (open_type_of c.in_ok-copy-in-Quantified.field-0) c.in_ok-push-in-Quantified.ensures.ok c.in_ok-copy-in-Quantified.ensures l in
-    subst (λ W. ElaboratesKind c.args.signature.now (numbers_of c.args.frees.now) c.args.state.now.locals W (made c.args.state.now) (made c.elaborate_kind-range.new.state) (open_kind_of c.in_ok-kind_pi-in-Quantified.field-0)) (sym v) (kind_quantified_elaborated c.args.signature.now (numbers_of c.args.frees.now) c.args.state.now.locals c.push.new.self (written_domain_of c.in-Quantified.domain) (written_kind_of c.deref-in-Quantified.result.now) (made c.args.state.now) (made c.elaborate_domain.new.state) (made c.elaborate_kind-range.new.state) (open_type_of c.in_ok-domain-in-Quantified.domain) (open_kind_of c.in_ok-range-in-Quantified.field-0) _ e c.in_ok-kind_pi-in-Quantified.ensures i c.in_ok-range-in-Quantified.ensures.ok)
+    subst (λ W. ElaboratesKind c.args.signature.now (numbers_of c.args.frees.now) c.args.state.now.locals W (made c.args.state.now) (made c.elaborate_kind-range.new.state) (open_kind_of c.in_ok-kind_pi-in-Quantified.field-0)) (sym v) (kind_quantified_elaborated c.args.signature.now (numbers_of c.args.frees.now) c.args.state.now.locals c.push.new.self (written_domain_of c.in-Quantified.domain) (written_kind_of c.deref.result.now) (made c.args.state.now) (made c.elaborate_domain.new.state) (made c.elaborate_kind-range.new.state) (open_type_of c.in_ok-domain-in-Quantified.domain) (open_kind_of c.in_ok-range-in-Quantified.field-0) _ e c.in_ok-kind_pi-in-Quantified.ensures i c.in_ok-range-in-Quantified.ensures.ok)
 
 pub elaborate_domain-returns-in_err-frames-clause-keeps : goal.elaborate_domain-returns-in_err-frames-clause-keeps
 elaborate_domain-returns-in_err-frames-clause-keeps t c = keeps_same c.args.state.now
@@ -539,141 +475,12 @@ check_function-returns-in_ok-lambda-in-Pi-clause-ok t c =
     let e : c.push.new.self ≡ (open_type_of c.in-Pi.expected.value) ∷ c.args.state.now.locals = in_scope c.args.state.now.locals c.push.new.self c.check_domain.new.state.locals (open_type_of c.in-Pi.expected.value) (open_type_of c.in_ok-copy-in-Pi.field-0) c.in_ok-push-in-Pi.ensures.ok cp l in
     function_checked c.args.signature.now (numbers_of c.args.frees.now) c.args.state.now c.check_domain.new.state (written_domain_of c.args.domain.now) c.push.new.self (written_of c.args.body.now) (open_type_of c.in-Pi.expected.value) (open_type_of c.in-Pi.range.value) (open_type_of c.args.expected.now) (made c.check-checked.new.state) (open_term_of c.in_ok-checked-in-Pi.field-0) _ e x c.in_ok-lambda-in-Pi.ensures kd (subst (λ Z. Checks c.args.signature.now (numbers_of c.args.frees.now) c.push.new.self (written_of c.args.body.now) (open_type_of Z) (made c.check_domain.new.state) (made c.check-checked.new.state) (open_term_of c.in_ok-checked-in-Pi.field-0)) c.deref-in-Pi-2.ensures c.in_ok-checked-in-Pi.ensures.ok)
 
-pub infer_applied-returns-in_err-head-clause-keeps : goal.infer_applied-returns-in_err-head-clause-keeps
-infer_applied-returns-in_err-head-clause-keeps t c = keeps_same c.args.state.now
-
-pub infer_applied-returns-in_err-operator-clause-too_deep : goal.infer_applied-returns-in_err-operator-clause-too_deep
-infer_applied-returns-in_err-operator-clause-too_deep t c = λ is.
-    let es = c.args.signature.now in
-    let ns = numbers_of c.args.frees.now in
-    subst (λ F. InfersDeep es ns c.args.state.now.locals F (made c.args.state.now)) c.in_ok-head.ensures (deep_row es ns c.args.state.now.locals (written_of c.in_ok-head.head.now) (made c.args.state.now) (written_terms c.in_ok-head.args.items)
-    (c.in_err-operator.ensures.too_deep (fault_of_call c.from_residual-in_err-operator.result c.in_err-operator.field-0.0 TooDeep (search rules) is)))
-
-pub infer_applied-loop-arg-init : goal.infer_applied-loop-arg-init
-infer_applied-loop-arg-init t c = (record { so_far = written_of c.in_ok-head.head.now; is = c.in_ok-head.ensures; inferred = c.in_ok-operator.ensures.ok }, c.elaborate_operator.ensures.keeps)
-
-pub infer_applied-returns-in_err-domain-clause-keeps : goal.infer_applied-returns-in_err-domain-clause-keeps
-infer_applied-returns-in_err-domain-clause-keeps t c = c.loop-arg.invariant.1
-
-pub infer_applied-check-requires : goal.infer_applied-check-requires
-infer_applied-check-requires t c =
-    let es = c.args.signature.now in
-    let ns = numbers_of c.args.frees.now in
-    let r = c.loop-arg.invariant.0 in
-    let l = c.loop-arg.invariant.1.locals in
-    let P = written_of c.in-Some.arg.now in
-    let q = arguments_less c.loop-arg.args.items c.pop.new.self.items c.in-Some.arg c.in-Some.ensures.items in
-    let X = open_type_of c.in_ok-domain.domain in
-    let B = open_type_of c.in_ok-domain.range in
-    let e = c.in_ok-domain.ensures in
-    (omega arith, (c.requires.canonical, (next_stands es ns c.args.state.now.locals r (written_terms c.pop.new.self.items) P q X B e c.requires.canonical c.requires.stands c.loop-arg.state.locals l, next_domain es ns c.args.state.now.locals r (written_terms c.pop.new.self.items) P q X B e c.requires.canonical c.requires.stands c.loop-arg.state.locals l)))
-
-pub infer_applied-returns-in_err-arg-clause-too_deep : goal.infer_applied-returns-in_err-arg-clause-too_deep
-infer_applied-returns-in_err-arg-clause-too_deep t c = λ is.
-    let es = c.args.signature.now in
-    let ns = numbers_of c.args.frees.now in
-    let r = c.loop-arg.invariant.0 in
-    let l = c.loop-arg.invariant.1.locals in
-    let P = written_of c.in-Some.arg.now in
-    let q = arguments_less c.loop-arg.args.items c.pop.new.self.items c.in-Some.arg c.in-Some.ensures.items in
-    let X = open_type_of c.in_ok-domain.domain in
-    let B = open_type_of c.in_ok-domain.range in
-    let e = c.in_ok-domain.ensures in
-    argument_deep es ns c.args.state.now.locals r (written_terms c.pop.new.self.items) P q X B e c.requires.canonical c.requires.stands (subst (λ F. ChecksDeep es ns F P X (made c.loop-arg.state)) l (c.in_err-arg.ensures.too_deep (fault_of_call c.from_residual-in_err-arg.result c.in_err-arg.field-0.0 TooDeep (search rules) is)))
-
-pub infer_applied-returns-in_err-arg-clause-keeps : goal.infer_applied-returns-in_err-arg-clause-keeps
-infer_applied-returns-in_err-arg-clause-keeps t c = keeps_then c.args.state.now c.loop-arg.state c.check.new.state c.loop-arg.invariant.1 c.check.ensures.keeps
-
-pub infer_applied-put-requires-clause-applies : goal.infer_applied-put-requires-clause-applies
-infer_applied-put-requires-clause-applies t c =
-    let es = c.args.signature.now in
-    let ns = numbers_of c.args.frees.now in
-    let D = c.args.state.now.locals in
-    let r = c.loop-arg.invariant.0 in
-    let P = written_of c.in-Some.arg.now in
-    let q = arguments_less c.loop-arg.args.items c.pop.new.self.items c.in-Some.arg c.in-Some.ensures.items in
-    let X = open_type_of c.in_ok-domain.domain in
-    let B = open_type_of c.in_ok-domain.range in
-    let e = c.in_ok-domain.ensures in
-    let k : Checks es ns D P X (made c.loop-arg.state) (made c.check.new.state) (open_term_of c.in_ok-arg.arg) = subst (λ F. Checks es ns F P X (made c.loop-arg.state) (made c.check.new.state) (open_term_of c.in_ok-arg.arg)) c.loop-arg.invariant.1.locals c.in_ok-arg.ensures.ok in
-    next_applies es ns D r (written_terms c.pop.new.self.items) P q X B e c.requires.canonical c.requires.stands k
-
-pub infer_applied-put-requires-clause-range : goal.infer_applied-put-requires-clause-range
-infer_applied-put-requires-clause-range t c =
-    let es = c.args.signature.now in
-    let ns = numbers_of c.args.frees.now in
-    let D = c.args.state.now.locals in
-    let r = c.loop-arg.invariant.0 in
-    let P = written_of c.in-Some.arg.now in
-    let q = arguments_less c.loop-arg.args.items c.pop.new.self.items c.in-Some.arg c.in-Some.ensures.items in
-    let X = open_type_of c.in_ok-domain.domain in
-    let B = open_type_of c.in_ok-domain.range in
-    let e = c.in_ok-domain.ensures in
-    let k : Checks es ns D P X (made c.loop-arg.state) (made c.check.new.state) (open_term_of c.in_ok-arg.arg) = subst (λ F. Checks es ns F P X (made c.loop-arg.state) (made c.check.new.state) (open_term_of c.in_ok-arg.arg)) c.loop-arg.invariant.1.locals c.in_ok-arg.ensures.ok in
-    next_range_fits es ns D r (written_terms c.pop.new.self.items) P q X B e c.requires.canonical c.requires.stands k
-
-pub infer_applied-returns-in_err-longer-clause-too_deep : goal.infer_applied-returns-in_err-longer-clause-too_deep
-infer_applied-returns-in_err-longer-clause-too_deep t c = λ is.
-    let es = c.args.signature.now in
-    let ns = numbers_of c.args.frees.now in
-    let D = c.args.state.now.locals in
-    let r = c.loop-arg.invariant.0 in
-    let P = written_of c.in-Some.arg.now in
-    let q = arguments_less c.loop-arg.args.items c.pop.new.self.items c.in-Some.arg c.in-Some.ensures.items in
-    let X = open_type_of c.in_ok-domain.domain in
-    let B = open_type_of c.in_ok-domain.range in
-    let e = c.in_ok-domain.ensures in
-    let k : Checks es ns D P X (made c.loop-arg.state) (made c.check.new.state) (open_term_of c.in_ok-arg.arg) = subst (λ F. Checks es ns F P X (made c.loop-arg.state) (made c.check.new.state) (open_term_of c.in_ok-arg.arg)) c.loop-arg.invariant.1.locals c.in_ok-arg.ensures.ok in
-    put_deep es ns D r (written_terms c.pop.new.self.items) P q X B e k (c.in_err-longer.ensures.too_deep (fault_of_call c.from_residual-in_err-longer.result c.in_err-longer.field-0.0 TooDeep (search rules) is))
-
-pub infer_applied-returns-in_err-longer-clause-keeps : goal.infer_applied-returns-in_err-longer-clause-keeps
-infer_applied-returns-in_err-longer-clause-keeps t c = keeps_then c.args.state.now c.loop-arg.state c.check.new.state c.loop-arg.invariant.1 c.check.ensures.keeps
-
-pub infer_applied-loop-arg-preserved : goal.infer_applied-loop-arg-preserved
-infer_applied-loop-arg-preserved t c =
-    let es = c.args.signature.now in
-    let ns = numbers_of c.args.frees.now in
-    let D = c.args.state.now.locals in
-    let r = c.loop-arg.invariant.0 in
-    let P = written_of c.in-Some.arg.now in
-    let q = arguments_less c.loop-arg.args.items c.pop.new.self.items c.in-Some.arg c.in-Some.ensures.items in
-    let X = open_type_of c.in_ok-domain.domain in
-    let B = open_type_of c.in_ok-domain.range in
-    let e = c.in_ok-domain.ensures in
-    let k : Checks es ns D P X (made c.loop-arg.state) (made c.check.new.state) (open_term_of c.in_ok-arg.arg) = subst (λ F. Checks es ns F P X (made c.loop-arg.state) (made c.check.new.state) (open_term_of c.in_ok-arg.arg)) c.loop-arg.invariant.1.locals c.in_ok-arg.ensures.ok in
-    (reached_next es ns D r (written_terms c.pop.new.self.items) P q X B e c.in_ok-longer.longer (open_type_of c.in_ok-longer.rest) k c.in_ok-longer.ensures.ok.0 c.in_ok-longer.ensures.ok.1, keeps_then c.args.state.now c.loop-arg.state c.check.new.state c.loop-arg.invariant.1 c.check.ensures.keeps)
-
-pub infer_applied-loop-arg-preserved-in_ok-longer : goal.infer_applied-loop-arg-preserved-in_ok-longer
-infer_applied-loop-arg-preserved-in_ok-longer t c =
-    let es = c.args.signature.now in
-    let ns = numbers_of c.args.frees.now in
-    let D = c.args.state.now.locals in
-    let r = c.loop-arg.invariant.0 in
-    let P = written_of c.in-Some.arg.now in
-    let q = arguments_less c.loop-arg.args.items c.pop.new.self.items c.in-Some.arg c.in-Some.ensures.items in
-    let X = open_type_of c.in_ok-domain.domain in
-    let B = open_type_of c.in_ok-domain.range in
-    let e = c.in_ok-domain.ensures in
-    let k : Checks es ns D P X (made c.loop-arg.state) (made c.check.new.state) (open_term_of c.in_ok-arg.arg) = subst (λ F. Checks es ns F P X (made c.loop-arg.state) (made c.check.new.state) (open_term_of c.in_ok-arg.arg)) c.loop-arg.invariant.1.locals c.in_ok-arg.ensures.ok in
-    (reached_next es ns D r (written_terms c.pop.new.self.items) P q X B e c.in_ok-longer.longer (open_type_of c.in_ok-longer.rest) k c.in_ok-longer.ensures.ok.0 c.in_ok-longer.ensures.ok.1, keeps_then c.args.state.now c.loop-arg.state c.check.new.state c.loop-arg.invariant.1 c.check.ensures.keeps)
-
 pub elaborate_operator-returns-in_ok-free-in-Free-clause-ok : goal.elaborate_operator-returns-in_ok-free-in-Free-clause-ok
 elaborate_operator-returns-in_ok-free-in-Free-clause-ok t c =
     let v = ap written_of c.in-Free.is ∙ written_of-Free c.in-Free.variable c.in-Free.field-1 in
     let s = c.args.state.now in
     let p = c.in_ok-free-in-Free.field-0 in
     subst (λ W. Infers c.args.signature.now (numbers_of c.args.frees.now) s.locals W (made s) (made s) (operator_of (skeleton (open_type_of p.1)) p.0) (open_type_of p.1)) (sym v) (c.in_ok-free-in-Free.ensures c.args.signature.now (place_of c.in-Free.field-1))
-
-pub infer_applied-returns-clause-ok : goal.infer_applied-returns-clause-ok
-infer_applied-returns-clause-ok t c =
-    let none = none_left c.loop-arg.args.items (omega (arith, c.in_default.ensures.cases)) in
-    all_reached c.args.signature.now (numbers_of c.args.frees.now) c.args.state.now.locals (written_of c.args.written.now) (made c.args.state.now) (made c.loop-arg.state) (written_terms c.loop-arg.args.items) c.loop-arg.operator (open_type_of c.loop-arg.ty) (open_term_of c.in_ok-whole.field-0) none c.in_ok-whole.ensures c.loop-arg.invariant.0
-
-pub infer_applied-returns-in_err-whole-clause-keeps : goal.infer_applied-returns-in_err-whole-clause-keeps
-infer_applied-returns-in_err-whole-clause-keeps t c = c.loop-arg.invariant.1
-
-pub infer_applied-returns-clause-keeps : goal.infer_applied-returns-clause-keeps
-infer_applied-returns-clause-keeps t c = c.loop-arg.invariant.1
 
 pub elaborate_operator-returns-in_ok-bound-in-Bound-clause-ok : goal.elaborate_operator-returns-in_ok-bound-in-Bound-clause-ok
 elaborate_operator-returns-in_ok-bound-in-Bound-clause-ok t c =
@@ -703,3 +510,401 @@ elaborate_operator-returns-in_err-bound-in-Bound-clause-keeps t c = keeps_same c
 
 pub elaborate_operator-returns-in_ok-bound-in-Bound-clause-keeps : goal.elaborate_operator-returns-in_ok-bound-in-Bound-clause-keeps
 elaborate_operator-returns-in_ok-bound-in-Bound-clause-keeps t c = keeps_same c.args.state.now
+
+pub begin-returns-in_err-head-clause-keeps : goal.begin-returns-in_err-head-clause-keeps
+begin-returns-in_err-head-clause-keeps t c = keeps_same c.args.state.now
+
+pub begin-returns-in_err-operator-clause-too_deep : goal.begin-returns-in_err-operator-clause-too_deep
+begin-returns-in_err-operator-clause-too_deep t c = λ is.
+    let es = c.args.signature.now in
+    let ns = numbers_of c.args.frees.now in
+    subst (λ F. InfersDeep es ns c.args.state.now.locals F (made c.args.state.now)) c.in_ok-head.ensures (deep_row es ns c.args.state.now.locals (written_of c.in_ok-head.head.now) (made c.args.state.now) (written_terms c.in_ok-head.args.items) (c.in_err-operator.ensures.too_deep (fault_of_call c.from_residual-in_err-operator.result c.in_err-operator.field-0.0 TooDeep (search rules) is)))
+
+pub infer_applied-begin-requires-in-Applied : goal.infer_applied-begin-requires-in-Applied
+infer_applied-begin-requires-in-Applied t c =
+    let es = c.args.signature.now in
+    let ns = numbers_of c.args.frees.now in
+    let D = c.args.state.now.locals in
+    let p = c.in_ok-outer-in-Some.outer in
+    let e = c.in_ok-outer-in-Some.ensures in
+    let k = asks_next es ns D c.loop.begun.args.items c.pop.new.self c.in-Some.arg p c.loop.invariant.0 c.in-Some.ensures.items e.0 e.1 e.2 in
+    let l = c.loop.invariant.1.locals in
+    (omega arith, (c.requires.canonical, asked_stands es ns D k c.requires.canonical c.requires.stands c.loop.state.locals l))
+
+pub infer_applied-returns-in_err-begun-in-Applied-clause-too_deep : goal.infer_applied-returns-in_err-begun-in-Applied-clause-too_deep
+infer_applied-returns-in_err-begun-in-Applied-clause-too_deep t c = λ is.
+    let es = c.args.signature.now in
+    let ns = numbers_of c.args.frees.now in
+    let D = c.args.state.now.locals in
+    let p = c.in_ok-outer-in-Some.outer in
+    let e = c.in_ok-outer-in-Some.ensures in
+    let k = asks_next es ns D c.loop.begun.args.items c.pop.new.self c.in-Some.arg p c.loop.invariant.0 c.in-Some.ensures.items e.0 e.1 e.2 in
+    let l = c.loop.invariant.1.locals in
+    let n = is_inferred c.in-Some.arg.now (inr (inr (inr (inl (c.in-Applied.field-0, c.in-Applied.field-1, c.in-Applied.is))))) in
+    let P = written_of c.in-Some.arg.now in
+    asked_deep es ns D k c.requires.canonical c.requires.stands (deep_inferred n (subst (λ F. InfersDeep es ns F P (made c.loop.state)) l (c.in_err-begun-in-Applied.ensures.too_deep (fault_of_call c.from_residual-in_err-begun-in-Applied.result c.in_err-begun-in-Applied.field-0.0 TooDeep (search rules) is))))
+
+pub infer_applied-returns-in_err-begun-in-Applied-clause-keeps : goal.infer_applied-returns-in_err-begun-in-Applied-clause-keeps
+infer_applied-returns-in_err-begun-in-Applied-clause-keeps t c = keeps_then c.args.state.now c.loop.state c.begin-in-Applied.new.state c.loop.invariant.1 c.begin-in-Applied.ensures.keeps
+
+pub infer_applied-check-requires : goal.infer_applied-check-requires
+infer_applied-check-requires t c =
+    let es = c.args.signature.now in
+    let ns = numbers_of c.args.frees.now in
+    let D = c.args.state.now.locals in
+    let p = c.in_ok-outer-in-Some.outer in
+    let e = c.in_ok-outer-in-Some.ensures in
+    let k = asks_next es ns D c.loop.begun.args.items c.pop.new.self c.in-Some.arg p c.loop.invariant.0 c.in-Some.ensures.items e.0 e.1 e.2 in
+    let l = c.loop.invariant.1.locals in
+    (omega arith, (c.requires.canonical, (asked_stands es ns D k c.requires.canonical c.requires.stands c.loop.state.locals l, asked_domain es ns D k c.requires.canonical c.requires.stands c.loop.state.locals l)))
+
+pub infer_applied-returns-in_err-arg-in-Free-clause-too_deep : goal.infer_applied-returns-in_err-arg-in-Free-clause-too_deep
+infer_applied-returns-in_err-arg-in-Free-clause-too_deep t c = λ is.
+    let es = c.args.signature.now in
+    let ns = numbers_of c.args.frees.now in
+    let D = c.args.state.now.locals in
+    let p = c.in_ok-outer-in-Some.outer in
+    let e = c.in_ok-outer-in-Some.ensures in
+    let k = asks_next es ns D c.loop.begun.args.items c.pop.new.self c.in-Some.arg p c.loop.invariant.0 c.in-Some.ensures.items e.0 e.1 e.2 in
+    let l = c.loop.invariant.1.locals in
+    let P = written_of c.in-Some.arg.now in
+    asked_deep es ns D k c.requires.canonical c.requires.stands (subst (λ F. ChecksDeep es ns F P (open_type_of p.domain) (made c.loop.state)) l (c.in_err-arg-in-Free.ensures.too_deep (fault_of_call c.from_residual-in_err-arg-in-Free.result c.in_err-arg-in-Free.field-0.0 TooDeep (search rules) is)))
+
+pub infer_applied-returns-in_err-arg-in-Free-clause-keeps : goal.infer_applied-returns-in_err-arg-in-Free-clause-keeps
+infer_applied-returns-in_err-arg-in-Free-clause-keeps t c = keeps_then c.args.state.now c.loop.state c.check.new.state c.loop.invariant.1 c.check.ensures.keeps
+
+pub infer_applied-resume-requires-clause-applies : goal.infer_applied-resume-requires-clause-applies
+infer_applied-resume-requires-clause-applies t c =
+    let es = c.args.signature.now in
+    let ns = numbers_of c.args.frees.now in
+    let D = c.args.state.now.locals in
+    let p = c.in_ok-outer-in-Some.outer in
+    let e = c.in_ok-outer-in-Some.ensures in
+    let k = asks_next es ns D c.loop.begun.args.items c.pop.new.self c.in-Some.arg p c.loop.invariant.0 c.in-Some.ensures.items e.0 e.1 e.2 in
+    let l = c.loop.invariant.1.locals in
+    let P = written_of c.in-Some.arg.now in
+    let X = open_type_of p.domain in
+    let i : Checks es ns D P X (made c.loop.state) (made c.check.new.state) (open_term_of c.in_ok-arg-in-Free.arg) = subst (λ F. Checks es ns F P X (made c.loop.state) (made c.check.new.state) (open_term_of c.in_ok-arg-in-Free.arg)) l c.in_ok-arg-in-Free.ensures.ok in
+    asked_applies es ns D k c.requires.canonical c.requires.stands i
+
+pub infer_applied-resume-requires-clause-range : goal.infer_applied-resume-requires-clause-range
+infer_applied-resume-requires-clause-range t c =
+    let es = c.args.signature.now in
+    let ns = numbers_of c.args.frees.now in
+    let D = c.args.state.now.locals in
+    let p = c.in_ok-outer-in-Some.outer in
+    let e = c.in_ok-outer-in-Some.ensures in
+    let k = asks_next es ns D c.loop.begun.args.items c.pop.new.self c.in-Some.arg p c.loop.invariant.0 c.in-Some.ensures.items e.0 e.1 e.2 in
+    let l = c.loop.invariant.1.locals in
+    let P = written_of c.in-Some.arg.now in
+    let X = open_type_of p.domain in
+    let i : Checks es ns D P X (made c.loop.state) (made c.check.new.state) (open_term_of c.in_ok-arg-in-Free.arg) = subst (λ F. Checks es ns F P X (made c.loop.state) (made c.check.new.state) (open_term_of c.in_ok-arg-in-Free.arg)) l c.in_ok-arg-in-Free.ensures.ok in
+    asked_range_fits es ns D k c.requires.canonical c.requires.stands i
+
+pub infer_applied-returns-in_err-begun-in-Free-clause-too_deep : goal.infer_applied-returns-in_err-begun-in-Free-clause-too_deep
+infer_applied-returns-in_err-begun-in-Free-clause-too_deep t c = λ is.
+    let es = c.args.signature.now in
+    let ns = numbers_of c.args.frees.now in
+    let D = c.args.state.now.locals in
+    let p = c.in_ok-outer-in-Some.outer in
+    let e = c.in_ok-outer-in-Some.ensures in
+    let k = asks_next es ns D c.loop.begun.args.items c.pop.new.self c.in-Some.arg p c.loop.invariant.0 c.in-Some.ensures.items e.0 e.1 e.2 in
+    let l = c.loop.invariant.1.locals in
+    let P = written_of c.in-Some.arg.now in
+    let X = open_type_of p.domain in
+    let i : Checks es ns D P X (made c.loop.state) (made c.check.new.state) (open_term_of c.in_ok-arg-in-Free.arg) = subst (λ F. Checks es ns F P X (made c.loop.state) (made c.check.new.state) (open_term_of c.in_ok-arg-in-Free.arg)) l c.in_ok-arg-in-Free.ensures.ok in
+    asked_put_deep es ns D k c.requires.canonical c.requires.stands i (c.in_err-begun-in-Free.ensures.too_deep (fault_of_call c.from_residual-in_err-begun-in-Free.result c.in_err-begun-in-Free.field-0.0 TooDeep (search rules) is))
+
+pub infer_applied-returns-in_err-begun-in-Free-clause-keeps : goal.infer_applied-returns-in_err-begun-in-Free-clause-keeps
+infer_applied-returns-in_err-begun-in-Free-clause-keeps t c = keeps_then c.args.state.now c.loop.state c.check.new.state c.loop.invariant.1 c.check.ensures.keeps
+
+pub infer_applied-compare_types-requires-clause-found : goal.infer_applied-compare_types-requires-clause-found
+infer_applied-compare_types-requires-clause-found t c =
+    let es = c.args.signature.now in
+    let ns = numbers_of c.args.frees.now in
+    let D = c.args.state.now.locals in
+    let p = c.in-Some-pop.outer in
+    let M = open_term_of c.in_ok-term-in-None.term in
+    let Y = open_type_of c.in_ok-term-in-None.ty in
+    let none = none_left c.loop.begun.args.items (omega (arith, c.in-None.ensures.cases)) in
+    let f = finished es ns D c.loop.waiting.items c.pop-in-None.new.self.items p c.loop.begun.args.items M Y c.in-Some-pop.ensures.items none c.in_ok-term-in-None.ensures.0 (ap open_type_of c.in_ok-term-in-None.ensures.1) c.loop.invariant.0 in
+    inferred_type es c.requires.canonical ns (asked_stands es ns D f.asks c.requires.canonical c.requires.stands D refl) f.inferred c.loop.state.locals c.loop.invariant.1.locals
+
+pub infer_applied-returns-in_err-compare_types-in-Some-pop-clause-keeps : goal.infer_applied-returns-in_err-compare_types-in-Some-pop-clause-keeps
+infer_applied-returns-in_err-compare_types-in-Some-pop-clause-keeps t c = keeps_then c.args.state.now c.loop.state c.compare_types.new.state c.loop.invariant.1 c.compare_types.ensures.keeps
+
+pub infer_applied-resume-requires-in-Some-pop-clause-applies : goal.infer_applied-resume-requires-in-Some-pop-clause-applies
+infer_applied-resume-requires-in-Some-pop-clause-applies t c =
+    let es = c.args.signature.now in
+    let ns = numbers_of c.args.frees.now in
+    let D = c.args.state.now.locals in
+    let p = c.in-Some-pop.outer in
+    let M = open_term_of c.in_ok-term-in-None.term in
+    let Y = open_type_of c.in_ok-term-in-None.ty in
+    let none = none_left c.loop.begun.args.items (omega (arith, c.in-None.ensures.cases)) in
+    let f = finished es ns D c.loop.waiting.items c.pop-in-None.new.self.items p c.loop.begun.args.items M Y c.in-Some-pop.ensures.items none c.in_ok-term-in-None.ensures.0 (ap open_type_of c.in_ok-term-in-None.ensures.1) c.loop.invariant.0 in
+    let l = c.loop.invariant.1.locals in
+    let i = inferred_checked es ns D f.row M Y (open_type_of p.domain) f.begin c.loop.state c.compare_types.new.state f.is_inferred l f.inferred c.in_ok-compare_types-in-Some-pop.ensures.ok in
+    asked_applies es ns D f.asks c.requires.canonical c.requires.stands i
+
+pub infer_applied-resume-requires-in-Some-pop-clause-range : goal.infer_applied-resume-requires-in-Some-pop-clause-range
+infer_applied-resume-requires-in-Some-pop-clause-range t c =
+    let es = c.args.signature.now in
+    let ns = numbers_of c.args.frees.now in
+    let D = c.args.state.now.locals in
+    let p = c.in-Some-pop.outer in
+    let M = open_term_of c.in_ok-term-in-None.term in
+    let Y = open_type_of c.in_ok-term-in-None.ty in
+    let none = none_left c.loop.begun.args.items (omega (arith, c.in-None.ensures.cases)) in
+    let f = finished es ns D c.loop.waiting.items c.pop-in-None.new.self.items p c.loop.begun.args.items M Y c.in-Some-pop.ensures.items none c.in_ok-term-in-None.ensures.0 (ap open_type_of c.in_ok-term-in-None.ensures.1) c.loop.invariant.0 in
+    let l = c.loop.invariant.1.locals in
+    let i = inferred_checked es ns D f.row M Y (open_type_of p.domain) f.begin c.loop.state c.compare_types.new.state f.is_inferred l f.inferred c.in_ok-compare_types-in-Some-pop.ensures.ok in
+    asked_range_fits es ns D f.asks c.requires.canonical c.requires.stands i
+
+pub infer_applied-returns-in_err-begun-in-Some-pop-clause-too_deep : goal.infer_applied-returns-in_err-begun-in-Some-pop-clause-too_deep
+infer_applied-returns-in_err-begun-in-Some-pop-clause-too_deep t c = λ is.
+    let es = c.args.signature.now in
+    let ns = numbers_of c.args.frees.now in
+    let D = c.args.state.now.locals in
+    let p = c.in-Some-pop.outer in
+    let M = open_term_of c.in_ok-term-in-None.term in
+    let Y = open_type_of c.in_ok-term-in-None.ty in
+    let none = none_left c.loop.begun.args.items (omega (arith, c.in-None.ensures.cases)) in
+    let f = finished es ns D c.loop.waiting.items c.pop-in-None.new.self.items p c.loop.begun.args.items M Y c.in-Some-pop.ensures.items none c.in_ok-term-in-None.ensures.0 (ap open_type_of c.in_ok-term-in-None.ensures.1) c.loop.invariant.0 in
+    let l = c.loop.invariant.1.locals in
+    let i = inferred_checked es ns D f.row M Y (open_type_of p.domain) f.begin c.loop.state c.compare_types.new.state f.is_inferred l f.inferred c.in_ok-compare_types-in-Some-pop.ensures.ok in
+    asked_put_deep es ns D f.asks c.requires.canonical c.requires.stands i (c.in_err-begun-in-Some-pop.ensures.too_deep (fault_of_call c.from_residual-in_err-begun-in-Some-pop.result c.in_err-begun-in-Some-pop.field-0.0 TooDeep (search rules) is))
+
+pub infer_applied-returns-in_err-begun-in-Some-pop-clause-keeps : goal.infer_applied-returns-in_err-begun-in-Some-pop-clause-keeps
+infer_applied-returns-in_err-begun-in-Some-pop-clause-keeps t c = keeps_then c.args.state.now c.loop.state c.compare_types.new.state c.loop.invariant.1 c.compare_types.ensures.keeps
+
+pub infer_applied-loop-preserved : goal.infer_applied-loop-preserved
+infer_applied-loop-preserved t c =
+    let es = c.args.signature.now in
+    let ns = numbers_of c.args.frees.now in
+    let D = c.args.state.now.locals in
+    let l = c.loop.invariant.1.locals in
+    elim c.match-pop.branch [
+      | infer_applied-in-Some+in_ok-outer-in-Some+in-Applied+in_ok-push_waiting-in-Applied+in_ok-begun-in-Applied w ↦
+          let p = w.in_ok-outer-in-Some.outer in
+          let e = w.in_ok-outer-in-Some.ensures in
+          let k = asks_next es ns D c.loop.begun.args.items c.pop.new.self w.in-Some.arg p c.loop.invariant.0 w.in-Some.ensures.items e.0 e.1 e.2 in
+          let n = is_inferred w.in-Some.arg.now (inr (inr (inr (inl (w.in-Applied.field-0, w.in-Applied.field-1, w.in-Applied.is))))) in
+          let P = written_of w.in-Some.arg.now in
+          let b = w.in_ok-begun-in-Applied.begun in
+          let r = subst (λ F. Reached es ns F P (made c.loop.state) (written_terms b.args.items) (made w.begin-in-Applied.new.state) b.operator (open_type_of b.ty)) l w.in_ok-begun-in-Applied.ensures.ok in
+          rows_stay es ns D c.match-pop.waiting w.push_waiting.new.waiting c.match-pop.begun b c.args.state.now c.match-pop.state w.begin-in-Applied.new.state (written_of c.args.written.now) w.state-is w.waiting-is w.begun-is (row_asked es ns D k w.push_waiting.new.waiting.items w.in_ok-push_waiting-in-Applied.ensures n r, keeps_then c.args.state.now c.loop.state w.begin-in-Applied.new.state c.loop.invariant.1 w.begin-in-Applied.ensures.keeps)
+      | infer_applied-in-Some+in_ok-outer-in-Some+in-Free+in_ok-arg-in-Free+in_ok-begun-in-Free w ↦
+          let p = w.in_ok-outer-in-Some.outer in
+          let e = w.in_ok-outer-in-Some.ensures in
+          let k = asks_next es ns D c.loop.begun.args.items c.pop.new.self w.in-Some.arg p c.loop.invariant.0 w.in-Some.ensures.items e.0 e.1 e.2 in
+          let P = written_of w.in-Some.arg.now in
+          let X = open_type_of p.domain in
+          let i : Checks es ns D P X (made c.loop.state) (made w.check.new.state) (open_term_of w.in_ok-arg-in-Free.arg) = subst (λ F. Checks es ns F P X (made c.loop.state) (made w.check.new.state) (open_term_of w.in_ok-arg-in-Free.arg)) l w.in_ok-arg-in-Free.ensures.ok in
+          let b = w.in_ok-begun-in-Free.begun in
+          rows_stay es ns D c.match-pop.waiting c.loop.waiting c.match-pop.begun b c.args.state.now c.match-pop.state w.check.new.state (written_of c.args.written.now) w.state-is w.waiting-is w.begun-is (resumed es ns D k b.args b.operator (open_type_of b.ty) i w.in_ok-begun-in-Free.ensures.ok.0 w.in_ok-begun-in-Free.ensures.ok.1 w.in_ok-begun-in-Free.ensures.ok.2, keeps_then c.args.state.now c.loop.state w.check.new.state c.loop.invariant.1 w.check.ensures.keeps)
+      | infer_applied-in-None+in_ok-term-in-None+in-Some-pop+in_ok-compare_types-in-Some-pop+in_ok-begun-in-Some-pop+in-Pi-1 w ↦
+          let p = w.in-Some-pop.outer in
+          let M = open_term_of w.in_ok-term-in-None.term in
+          let Y = open_type_of w.in_ok-term-in-None.ty in
+          let none = none_left c.loop.begun.args.items (omega (arith, w.in-None.ensures.cases)) in
+          let f = finished es ns D c.loop.waiting.items w.pop-in-None.new.self.items p c.loop.begun.args.items M Y w.in-Some-pop.ensures.items none w.in_ok-term-in-None.ensures.0 (ap open_type_of w.in_ok-term-in-None.ensures.1) c.loop.invariant.0 in
+          let i = inferred_checked es ns D f.row M Y (open_type_of p.domain) f.begin c.loop.state w.compare_types.new.state f.is_inferred l f.inferred w.in_ok-compare_types-in-Some-pop.ensures.ok in
+          let b = w.in_ok-begun-in-Some-pop.begun in
+          rows_stay es ns D c.match-pop.waiting w.pop-in-None.new.self c.match-pop.begun b c.args.state.now c.match-pop.state w.compare_types.new.state (written_of c.args.written.now) w.state-is w.waiting-is w.begun-is (resumed es ns D f.asks b.args b.operator (open_type_of b.ty) i w.in_ok-begun-in-Some-pop.ensures.ok.0 w.in_ok-begun-in-Some-pop.ensures.ok.1 w.in_ok-begun-in-Some-pop.ensures.ok.2, keeps_then c.args.state.now c.loop.state w.compare_types.new.state c.loop.invariant.1 w.compare_types.ensures.keeps)
+      | infer_applied-in-None+in_ok-term-in-None+in-Some-pop+in_ok-compare_types-in-Some-pop+in_ok-begun-in-Some-pop+in-Atom-1 w ↦
+          let p = w.in-Some-pop.outer in
+          let M = open_term_of w.in_ok-term-in-None.term in
+          let Y = open_type_of w.in_ok-term-in-None.ty in
+          let none = none_left c.loop.begun.args.items (omega (arith, w.in-None.ensures.cases)) in
+          let f = finished es ns D c.loop.waiting.items w.pop-in-None.new.self.items p c.loop.begun.args.items M Y w.in-Some-pop.ensures.items none w.in_ok-term-in-None.ensures.0 (ap open_type_of w.in_ok-term-in-None.ensures.1) c.loop.invariant.0 in
+          let i = inferred_checked es ns D f.row M Y (open_type_of p.domain) f.begin c.loop.state w.compare_types.new.state f.is_inferred l f.inferred w.in_ok-compare_types-in-Some-pop.ensures.ok in
+          let b = w.in_ok-begun-in-Some-pop.begun in
+          rows_stay es ns D c.match-pop.waiting w.pop-in-None.new.self c.match-pop.begun b c.args.state.now c.match-pop.state w.compare_types.new.state (written_of c.args.written.now) w.state-is w.waiting-is w.begun-is (resumed es ns D f.asks b.args b.operator (open_type_of b.ty) i w.in_ok-begun-in-Some-pop.ensures.ok.0 w.in_ok-begun-in-Some-pop.ensures.ok.1 w.in_ok-begun-in-Some-pop.ensures.ok.2, keeps_then c.args.state.now c.loop.state w.compare_types.new.state c.loop.invariant.1 w.compare_types.ensures.keeps)
+    ]
+
+pub elaborate_arrows-loop-rest-init : goal.elaborate_arrows-loop-rest-init
+elaborate_arrows-loop-rest-init t c =
+    let es = c.args.signature.now in
+    let ns = numbers_of c.args.frees.now in
+    let D = c.args.state.now.locals in
+    let W = written_type_of c.args.written.now in
+    let s = made c.args.state.now in
+    (no_domains es ns D W s (map open_type_of c.new-domains.result.items) (ap (map open_type_of) c.new-domains.ensures.items) c.requires.stands, keeps_same c.args.state.now)
+
+pub elaborate_arrows-returns-in_err-domain-clause-too_deep : goal.elaborate_arrows-returns-in_err-domain-clause-too_deep
+elaborate_arrows-returns-in_err-domain-clause-too_deep t c =
+    let es = c.args.signature.now in
+    let ns = numbers_of c.args.frees.now in
+    let D = c.args.state.now.locals in
+    let W = written_type_of c.args.written.now in
+    let s = made c.args.state.now in
+    let r = c.loop-rest.invariant.0 in
+    let l = c.loop-rest.invariant.1.locals in
+    let X = written_type_of c.loop-rest.rest.now in
+    let t' = made c.loop-rest.state in
+    let U = written_type_of c.deref.result.now in
+    let As = map open_type_of c.loop-rest.domains.items in
+    let x : X ≡ arrow U (written_type_of c.in-Arrow.range.value) = ap written_type_of c.in-Arrow.is ∙ written_type_of-Arrow c.in-Arrow.domain c.in-Arrow.range ∙ ap (λ Z. arrow Z (written_type_of c.in-Arrow.range.value)) (ap written_type_of (sym c.deref.ensures)) in
+    λ is. domain_too_deep es ns D W U (written_type_of c.in-Arrow.range.value) X s t' As x (subst (λ F. TypeDeep es ns F U t') l (c.in_err-domain.ensures.too_deep (fault_of_call c.from_residual.result c.in_err-domain.field-0.0 TooDeep (search rules) is))) r
+
+pub elaborate_arrows-returns-in_err-domain-clause-keeps : goal.elaborate_arrows-returns-in_err-domain-clause-keeps
+elaborate_arrows-returns-in_err-domain-clause-keeps t c = keeps_then c.args.state.now c.loop-rest.state c.elaborate_type.new.state c.loop-rest.invariant.1 c.elaborate_type.ensures.keeps
+
+pub elaborate_arrows-returns-in_err-push_domain-clause-keeps : goal.elaborate_arrows-returns-in_err-push_domain-clause-keeps
+elaborate_arrows-returns-in_err-push_domain-clause-keeps t c = keeps_then c.args.state.now c.loop-rest.state c.elaborate_type.new.state c.loop-rest.invariant.1 c.elaborate_type.ensures.keeps
+
+pub elaborate_arrows-loop-rest-preserved : goal.elaborate_arrows-loop-rest-preserved
+elaborate_arrows-loop-rest-preserved t c =
+    let es = c.args.signature.now in
+    let ns = numbers_of c.args.frees.now in
+    let D = c.args.state.now.locals in
+    let W = written_type_of c.args.written.now in
+    let s = made c.args.state.now in
+    let r = c.loop-rest.invariant.0 in
+    let l = c.loop-rest.invariant.1.locals in
+    let X = written_type_of c.loop-rest.rest.now in
+    let t' = made c.loop-rest.state in
+    let U = written_type_of c.deref.result.now in
+    let As = map open_type_of c.loop-rest.domains.items in
+    let V = written_type_of c.deref-rest.result.now in
+    let u = made c.elaborate_type.new.state in
+    let A = open_type_of c.in_ok-domain.domain in
+    let Bs = map open_type_of c.push_domain.new.domains.items in
+    let x : X ≡ arrow U V = ap written_type_of c.in-Arrow.is ∙ written_type_of-Arrow c.in-Arrow.domain c.in-Arrow.range ∙ ap₂ arrow (ap written_type_of (sym c.deref.ensures)) (ap written_type_of (sym c.deref-rest.ensures)) in
+    let b : Bs ≡ As ++ A ∷ [] = ap (map open_type_of) c.in_ok-push_domain.ensures ∙ map-append open_type_of c.loop-rest.domains.items (c.in_ok-domain.domain ∷ []) in
+    let i = subst (λ F. ElaboratesType es ns F U t' u A) l c.in_ok-domain.ensures.ok in
+    (one_more_domain es ns D c.requires.canonical W U (V) X s t' u As Bs A x b i r, keeps_then c.args.state.now c.loop-rest.state c.elaborate_type.new.state c.loop-rest.invariant.1 c.elaborate_type.ensures.keeps)
+
+pub elaborate_arrows-returns-in_err-end : goal.elaborate_arrows-returns-in_err-end
+elaborate_arrows-returns-in_err-end t c =
+    let es = c.args.signature.now in
+    let ns = numbers_of c.args.frees.now in
+    let D = c.args.state.now.locals in
+    let W = written_type_of c.args.written.now in
+    let s = made c.args.state.now in
+    let r = c.loop-rest.invariant.0 in
+    let l = c.loop-rest.invariant.1.locals in
+    let X = written_type_of c.loop-rest.rest.now in
+    let t' = made c.loop-rest.state in
+    record {
+      ok = search rules;
+      too_deep = λ is. r.deep (subst (λ F. TypeDeep es ns F X t') l (c.in_err-end.ensures.too_deep (fault_of_call c.from_residual-in_err-end.result c.in_err-end.field-0.0 TooDeep (search rules) is)));
+      keeps = keeps_then c.args.state.now c.loop-rest.state c.elaborate_type-2.new.state c.loop-rest.invariant.1 c.elaborate_type-2.ensures.keeps;
+    }
+
+pub elaborate_arrows-returns-in_err-arrows : goal.elaborate_arrows-returns-in_err-arrows
+elaborate_arrows-returns-in_err-arrows t c =
+    record { ok = search rules; too_deep = search rules; keeps = keeps_then c.args.state.now c.loop-rest.state c.elaborate_type-2.new.state c.loop-rest.invariant.1 c.elaborate_type-2.ensures.keeps }
+
+pub elaborate_arrows-returns : goal.elaborate_arrows-returns
+elaborate_arrows-returns t c =
+    let es = c.args.signature.now in
+    let ns = numbers_of c.args.frees.now in
+    let D = c.args.state.now.locals in
+    let W = written_type_of c.args.written.now in
+    let s = made c.args.state.now in
+    let r = c.loop-rest.invariant.0 in
+    let l = c.loop-rest.invariant.1.locals in
+    let X = written_type_of c.loop-rest.rest.now in
+    let t' = made c.loop-rest.state in
+    let u = made c.elaborate_type-2.new.state in
+    let B = open_type_of c.in_ok-end.end in
+    record {
+      ok = subst (ElaboratesType es ns D W s u) (sym c.in_ok-arrows.ensures) (r.elaborated u B (subst (λ F. ElaboratesType es ns F X t' u B) l c.in_ok-end.ensures.ok));
+      too_deep = search rules;
+      keeps = keeps_then c.args.state.now c.loop-rest.state c.elaborate_type-2.new.state c.loop-rest.invariant.1 c.elaborate_type-2.ensures.keeps;
+    }
+
+pub elaborate_kind_arrows-loop-rest-init : goal.elaborate_kind_arrows-loop-rest-init
+elaborate_kind_arrows-loop-rest-init t c =
+    let es = c.args.signature.now in
+    let ns = numbers_of c.args.frees.now in
+    let D = c.args.state.now.locals in
+    let W = written_kind_of c.args.written.now in
+    let s = made c.args.state.now in
+    (no_kind_domains es ns D W s (map open_type_of c.new-domains.result.items) (ap (map open_type_of) c.new-domains.ensures.items) c.requires.stands, keeps_same c.args.state.now)
+
+pub elaborate_kind_arrows-returns-in_err-domain-clause-too_deep : goal.elaborate_kind_arrows-returns-in_err-domain-clause-too_deep
+elaborate_kind_arrows-returns-in_err-domain-clause-too_deep t c =
+    let es = c.args.signature.now in
+    let ns = numbers_of c.args.frees.now in
+    let D = c.args.state.now.locals in
+    let W = written_kind_of c.args.written.now in
+    let s = made c.args.state.now in
+    let r = c.loop-rest.invariant.0 in
+    let l = c.loop-rest.invariant.1.locals in
+    let X = written_kind_of c.loop-rest.rest.now in
+    let t' = made c.loop-rest.state in
+    let U = written_type_of c.deref.result.now in
+    let As = map open_type_of c.loop-rest.domains.items in
+    let x : X ≡ kind_arrow U (written_kind_of c.in-Arrow.range.value) = ap written_kind_of c.in-Arrow.is ∙ written_kind_of-Arrow c.in-Arrow.domain c.in-Arrow.range ∙ ap (λ Z. kind_arrow Z (written_kind_of c.in-Arrow.range.value)) (ap written_type_of (sym c.deref.ensures)) in
+    λ is. kind_domain_too_deep es ns D W (written_kind_of c.in-Arrow.range.value) X U s t' As x (subst (λ F. TypeDeep es ns F U t') l (c.in_err-domain.ensures.too_deep (fault_of_call c.from_residual.result c.in_err-domain.field-0.0 TooDeep (search rules) is))) r
+
+pub elaborate_kind_arrows-returns-in_err-domain-clause-keeps : goal.elaborate_kind_arrows-returns-in_err-domain-clause-keeps
+elaborate_kind_arrows-returns-in_err-domain-clause-keeps t c = keeps_then c.args.state.now c.loop-rest.state c.elaborate_type.new.state c.loop-rest.invariant.1 c.elaborate_type.ensures.keeps
+
+pub elaborate_kind_arrows-returns-in_err-push_domain-clause-keeps : goal.elaborate_kind_arrows-returns-in_err-push_domain-clause-keeps
+elaborate_kind_arrows-returns-in_err-push_domain-clause-keeps t c = keeps_then c.args.state.now c.loop-rest.state c.elaborate_type.new.state c.loop-rest.invariant.1 c.elaborate_type.ensures.keeps
+
+pub elaborate_kind_arrows-loop-rest-preserved : goal.elaborate_kind_arrows-loop-rest-preserved
+elaborate_kind_arrows-loop-rest-preserved t c =
+    let es = c.args.signature.now in
+    let ns = numbers_of c.args.frees.now in
+    let D = c.args.state.now.locals in
+    let W = written_kind_of c.args.written.now in
+    let s = made c.args.state.now in
+    let r = c.loop-rest.invariant.0 in
+    let l = c.loop-rest.invariant.1.locals in
+    let X = written_kind_of c.loop-rest.rest.now in
+    let t' = made c.loop-rest.state in
+    let U = written_type_of c.deref.result.now in
+    let As = map open_type_of c.loop-rest.domains.items in
+    let V = written_kind_of c.deref-rest.result.now in
+    let u = made c.elaborate_type.new.state in
+    let A = open_type_of c.in_ok-domain.domain in
+    let Bs = map open_type_of c.push_domain.new.domains.items in
+    let x : X ≡ kind_arrow U V = ap written_kind_of c.in-Arrow.is ∙ written_kind_of-Arrow c.in-Arrow.domain c.in-Arrow.range ∙ ap₂ kind_arrow (ap written_type_of (sym c.deref.ensures)) (ap written_kind_of (sym c.deref-rest.ensures)) in
+    let b : Bs ≡ As ++ A ∷ [] = ap (map open_type_of) c.in_ok-push_domain.ensures ∙ map-append open_type_of c.loop-rest.domains.items (c.in_ok-domain.domain ∷ []) in
+    let i = subst (λ F. ElaboratesType es ns F U t' u A) l c.in_ok-domain.ensures.ok in
+    (one_more_kind_domain es ns D c.requires.canonical W (V) X U s t' u As Bs A x b i r, keeps_then c.args.state.now c.loop-rest.state c.elaborate_type.new.state c.loop-rest.invariant.1 c.elaborate_type.ensures.keeps)
+
+pub elaborate_kind_arrows-returns-in_err-end : goal.elaborate_kind_arrows-returns-in_err-end
+elaborate_kind_arrows-returns-in_err-end t c =
+    let es = c.args.signature.now in
+    let ns = numbers_of c.args.frees.now in
+    let D = c.args.state.now.locals in
+    let W = written_kind_of c.args.written.now in
+    let s = made c.args.state.now in
+    let r = c.loop-rest.invariant.0 in
+    let l = c.loop-rest.invariant.1.locals in
+    let X = written_kind_of c.loop-rest.rest.now in
+    let t' = made c.loop-rest.state in
+    record {
+      ok = search rules;
+      too_deep = λ is. r.deep (subst (λ F. KindDeep es ns F X t') l (c.in_err-end.ensures.too_deep (fault_of_call c.from_residual-in_err-end.result c.in_err-end.field-0.0 TooDeep (search rules) is)));
+      keeps = keeps_then c.args.state.now c.loop-rest.state c.elaborate_kind.new.state c.loop-rest.invariant.1 c.elaborate_kind.ensures.keeps;
+    }
+
+pub elaborate_kind_arrows-returns-in_err-kind_arrows : goal.elaborate_kind_arrows-returns-in_err-kind_arrows
+elaborate_kind_arrows-returns-in_err-kind_arrows t c =
+    record { ok = search rules; too_deep = search rules; keeps = keeps_then c.args.state.now c.loop-rest.state c.elaborate_kind.new.state c.loop-rest.invariant.1 c.elaborate_kind.ensures.keeps }
+
+pub elaborate_kind_arrows-returns : goal.elaborate_kind_arrows-returns
+elaborate_kind_arrows-returns t c =
+    let es = c.args.signature.now in
+    let ns = numbers_of c.args.frees.now in
+    let D = c.args.state.now.locals in
+    let W = written_kind_of c.args.written.now in
+    let s = made c.args.state.now in
+    let r = c.loop-rest.invariant.0 in
+    let l = c.loop-rest.invariant.1.locals in
+    let X = written_kind_of c.loop-rest.rest.now in
+    let t' = made c.loop-rest.state in
+    let u = made c.elaborate_kind.new.state in
+    let B = open_kind_of c.in_ok-end.end in
+    record {
+      ok = subst (ElaboratesKind es ns D W s u) (sym c.in_ok-kind_arrows.ensures) (r.elaborated u B (subst (λ F. ElaboratesKind es ns F X t' u B) l c.in_ok-end.ensures.ok));
+      too_deep = search rules;
+      keeps = keeps_then c.args.state.now c.loop-rest.state c.elaborate_kind.new.state c.loop-rest.invariant.1 c.elaborate_kind.ensures.keeps;
+    }

@@ -15,7 +15,8 @@ use Rattle.tw_recon.proofs.completing.read.Goals as goal
 pub returns-in-Err-clause-refused : goal.returns-in-Err-clause-refused
 returns-in-Err-clause-refused c =
     subst (Stops c.args.signature.now (rows_of c.args.solution.now.rows.items) (written_body_of c.args.solution.now.written)) (sym c.of_reading.ensures)
-    (quantifiers_blamed c.args.signature.now c.is_settled.ensures.canonical (rows_of c.args.solution.now.rows.items) (written_body_of c.args.solution.now.written) (numbers_of c.args.solution.now.frees.items) (open_body_of c.args.solution.now.body) c.args.solution.now.store.now c.requires.solved c.in-Err.fault (numbers_of c.deref.result.now) c.in-Err.ensures)
+    (quantifiers_blamed c.args.signature.now c.is_settled.ensures.canonical (rows_of c.args.solution.now.rows.items) (written_body_of c.args.solution.now.written) (numbers_of c.args.solution.now.frees.items) (open_body_of c.args.solution.now.body) c.args.solution.now.store.now c.requires.solved c.in-Err.fault (numbers_of c.deref.result.now)
+    (subst (λ x. AreSites c.args.signature.now (skeletons_of (rows_of c.args.solution.now.rows.items)) (written_body_of c.args.solution.now.written) (numbers_of x)) (sym c.deref.ensures.value) c.requires.sites) c.in-Err.ensures)
 
 pub read_body-requires-clause-stands : goal.read_body-requires-clause-stands
 read_body-requires-clause-stands c = stands c.args.signature.now c.is_settled.ensures.canonical (rows_of c.args.solution.now.rows.items) (written_body_of c.args.solution.now.written) (numbers_of c.args.solution.now.frees.items) (open_body_of c.args.solution.now.body) c.args.solution.now.store.now c.requires.solved

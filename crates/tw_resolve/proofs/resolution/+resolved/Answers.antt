@@ -2,7 +2,7 @@ use Rattle.std.proofs.Common.{◌∷◌, Some, sym, ap, ◌∙◌}
 use Rattle.elaboration.specs.Written as plain
 use Rattle.tw_approx.specs.Applied.{written_terms}
 use Rattle.tw_approx.proofs.Answering.{if_ok}
-use Rattle.tw_explicit.specs.Scope.{binder_name}
+use Rattle.tw_names.specs.Scope.{binder_name}
 use Rattle.tw_parse.proofs.Views.{term_of-Arrow, term_of-Ascribe}
 use Rattle.tw_parse.specs.View.{term_of, boxed_domain}
 use Rattle.tw_written.proofs.Views.{written_of-Applied, written_of-Ascribed, written_of-Function, written_type_of-Arrow, written_type_of-Quantified, written_kind_of-Arrow, written_kind_of-Quantified}

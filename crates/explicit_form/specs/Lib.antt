@@ -1,0 +1,4 @@
+pub mod Form
+pub mod Completion
+pub mod Explicit
+pub mod Laws

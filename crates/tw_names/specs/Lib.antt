@@ -1,0 +1,5 @@
+pub mod Scope
+pub mod Unknown
+pub mod Earliest
+pub mod Domains
+pub mod Texts
