@@ -302,8 +302,8 @@ fn deep(alloc: Global, depth: u32) -> Result<Written, AllocError> {
 #[test]
 fn the_stack_is_enough(rt: HostRuntime) -> Result<(), Fail> {
     let alloc = rt.alloc();
-    let written = WrittenBody::Definition(deep(alloc, 4_990)?, false);
-    assert_eq!(rt; numbers(alloc, &[NAT], &written)?.len(), 4_991);
+    let written = WrittenBody::Definition(deep(alloc, 10_000)?, false);
+    assert_eq!(rt; numbers(alloc, &[NAT], &written)?.len(), 10_001);
     assert_eq!(rt;
         frees_in_text_order(alloc, &written, 1)?.as_slice(),
         [0].as_slice()
@@ -314,7 +314,7 @@ fn the_stack_is_enough(rt: HostRuntime) -> Result<(), Fail> {
 #[test]
 fn past_it_memory_counts_as_used_up(rt: HostRuntime) -> Result<(), Fail> {
     let alloc = rt.alloc();
-    let written = WrittenBody::Definition(deep(alloc, 5_010)?, false);
+    let written = WrittenBody::Definition(deep(alloc, 20_010)?, false);
     assert!(rt; frees_in_text_order(alloc, &written, 1).is_err());
     Ok(())
 }
