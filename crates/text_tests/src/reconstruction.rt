@@ -522,7 +522,7 @@ fn declared(alloc: Global, signature: &Signature, text: &str) -> Result<String, 
 #[test]
 fn deep_texts(rt: HostRuntime) -> Result<(), Fail> {
     let alloc = rt.alloc();
-    let open = repeated(alloc, "q : ((", "nat -> ", 2_000, "nat) -> nat) -> nat.")?;
+    let open = repeated(alloc, "q : ((", "nat -> ", 1_000, "nat) -> nat) -> nat.")?;
     let signature = signature_of(
         alloc,
         &[
@@ -538,7 +538,7 @@ fn deep_texts(rt: HostRuntime) -> Result<(), Fail> {
     let wide = repeated(alloc, "c : p (", "(g ", 990, "z")?;
     let wide = repeated(alloc, wide.as_str(), " z z z z z z z)", 990, ").")?;
     let long = repeated(alloc, "c : p (", "suc ", 4_080, "(q ([x:")?;
-    let long = repeated(alloc, long.as_str(), "nat -> ", 2_000, "nat] z))).")?;
+    let long = repeated(alloc, long.as_str(), "nat -> ", 1_000, "nat] z))).")?;
     let rows = [
         (
             repeated(alloc, "c : ", "nat -> ", 4_000, "nat.")?,
