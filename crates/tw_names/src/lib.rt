@@ -12,6 +12,3 @@ pub use frames::{FRAMES, nested};
 pub use scope::{binder_name, named};
 pub use texts::{ends_in_type, first_mention, hints};
 pub use unknown::{Mention, is_no_later, is_uppercase};
-
-#[cfg(test)]
-mod tests;
