@@ -68,12 +68,12 @@ arrow_parts e = (cc, cc)
 lambda_part : {R R' : LfTerm} → lf_lambda R ≡ lf_lambda R' → R ≡ R'
 lambda_part e = cc
 
-point_is : (o : Option Shape) → is_point o ≡ true → (c : ℕ) × (o ≡ Some (base c))
+pub point_is : (o : Option Shape) → is_point o ≡ true → (c : ℕ) × (o ≡ Some (base c))
 point_is None e = absurd cc
 point_is (Some (base c)) e = (c, refl)
 point_is (Some (shape_arrow s t)) e = absurd cc
 
-behind_is : (fits : Shape → Bool) (o : Option Shape) (t : Shape) → shape_behind fits o ≡ Some t → (s : Shape) × (o ≡ Some (shape_arrow s t)) × (fits s ≡ true)
+pub behind_is : (fits : Shape → Bool) (o : Option Shape) (t : Shape) → shape_behind fits o ≡ Some t → (s : Shape) × (o ≡ Some (shape_arrow s t)) × (fits s ≡ true)
 behind_is fits None t e = absurd cc
 behind_is fits (Some (base c)) t e = absurd cc
 behind_is fits (Some (shape_arrow s u)) t e = by (fits s) refl e

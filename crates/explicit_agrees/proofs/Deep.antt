@@ -1,4 +1,4 @@
--- What can be deep of an explicit declaration that gives an entry: elaboration, its equations, or the entry.
+-- What can be deep of an explicit declaration that gives an entry: the equations of its elaboration, or the entry.
 use Rattle.std.proofs.Common.{◌≡◌, ℕ, ◌<◌, zero, suc, List, [], Option, Some, inl, inr, refl, sym, ap, ap₂, ◌∙◌, subst, arith}
 use Rattle.std.proofs.Math.Nat.{le-max_left, le-max_right}
 use Rattle.lf.specs.Depth.{depth, depth_limit, kind_depth, type_depth}
@@ -23,10 +23,9 @@ use Rattle.elaboration.specs.State.{State, nothing_yet, store_of}
 use Rattle.elaboration.proofs.Principal.{BodyIsMade, body_made, read_off_principal}
 use Rattle.tw_approx.specs.Answer.{Rows}
 use Rattle.tw_approx.specs.Names.{IsFreeVariable}
-use Rattle.tw_elaborate.specs.Bodies.{FromNothingDeep}
 use Rattle.tw_lexer.specs.declared.place.Place.{Place}
 use Rattle.tw_metas.specs.State as metas
-use Rattle.tw_parse.specs.Syntax.{Term, declare}
+use Rattle.tw_parse.specs.Syntax.{Term, declare, define, give, prefer}
 use Rattle.tw_putting.specs.Stores.{PutsDeepType, bindings_of, types_of}
 use Rattle.tw_recon.specs.Causes.{BodyReachesDeep, HasCause}
 use Rattle.tw_recon.specs.Reading.{BodyIsDeep, KindIsDeep}
@@ -38,9 +37,11 @@ use Rattle.explicit_form.specs.Completion.{BodyGiven, Completes}
 use Rattle.explicit_form.specs.Explicit.{IsExplicit}
 use Rattle.explicit_form.proofs.Gives.{kind_typed, type_typed}
 use Rattle.explicit_agrees.specs.Agreement.{IsPrincipallyCompleted}
+use Rattle.explicit_agrees.specs.Shallow.{ExplicitIsDeepOnlySo}
 use Rattle.explicit_agrees.proofs.Bare.{type_closed, whole_bare}
 use Rattle.explicit_agrees.proofs.Fitting.{some_is}
 use Rattle.explicit_agrees.proofs.Nothing.{body_none, made_none, none_is_not_some}
+use Rattle.explicit_agrees.proofs.PlainTexts.{no_elaboration_deep}
 use Rattle.explicit_agrees.proofs.Shallow.{IsShallow, nothing_deep}
 use Rattle.explicit_agrees.proofs.Whole.{completed_principal}
 
@@ -155,14 +156,23 @@ module _ (es : List Entry) (canonical : IsCanonicalSignature es) (c : List ℕ) 
       open_body_deep : (after : metas.State) → Solved (signature_of es) (store_of s) (whole [] after) → BodyIsDeep after b → BodyReachesDeep (signature_of es) e.body
       open_body_deep after z h = subst (BodyReachesDeep (signature_of es)) (open_body_is after z) (put_body_deep (Declares s.metavariables) none_made (signature_of es) after b body_none_in h)
 
-    explicit_shallow : (FromNothingDeep es [] w → ⊥) → ((frees : List ℕ) (s : State) (b : Body) → IsMade es [] w frees s b → AreDeep depth_limit (signature_of es) [] (store_of s) → ⊥) → (BodyReachesDeep (signature_of es) e.body → ⊥) → IsShallow es w
-    explicit_shallow elaboration equations entry = record {
-      elaboration = elaboration;
+    explicit_shallow : ((frees : List ℕ) (s : State) (b : Body) → IsMade es [] w frees s b → AreDeep depth_limit (signature_of es) [] (store_of s) → ⊥) → (BodyReachesDeep (signature_of es) e.body → ⊥) → IsShallow es w
+    explicit_shallow equations entry = record {
+      elaboration = no_elaboration_deep es c at U w x r;
       equations = equations;
       body = λ frees s b after made z h. entry (open_body_deep frees s b made after z h);
       completion = λ frees b p h. entry (subst (BodyReachesDeep (signature_of es)) (completion_body (record { quantifiers = []; frees = frees; body = b }) p.completion) h);
     }
 
-    -- Where none of these is deep, nothing is.
-    pub nothing_deep_explicit : (FromNothingDeep es [] w → ⊥) → ((frees : List ℕ) (s : State) (b : Body) → IsMade es [] w frees s b → AreDeep depth_limit (signature_of es) [] (store_of s) → ⊥) → (BodyReachesDeep (signature_of es) e.body → ⊥) → HasCause es (declare c at U) TooDeep → ⊥
-    nothing_deep_explicit elaboration equations entry = nothing_deep es (declare c at U) not_free makes_none principal.skeletons w r (explicit_shallow elaboration equations entry)
+    -- Where neither of these is deep, nothing is.
+    pub nothing_deep_explicit : ((frees : List ℕ) (s : State) (b : Body) → IsMade es [] w frees s b → AreDeep depth_limit (signature_of es) [] (store_of s) → ⊥) → (BodyReachesDeep (signature_of es) e.body → ⊥) → HasCause es (declare c at U) TooDeep → ⊥
+    nothing_deep_explicit equations entry = nothing_deep es (declare c at U) not_free makes_none principal.skeletons w r (explicit_shallow equations entry)
+
+pub explicit_deep_only_so : ExplicitIsDeepOnlySo
+explicit_deep_only_so es canonical (declare c at U) e x g equations entry =
+    let p = completed_principal es canonical c at U e x g in
+    nothing_deep_explicit es canonical c at U e x g p.written p.resolved
+    (λ frees s b made deep. equations (record { written = p.written; resolved = p.resolved; frees = frees; state = s; body = b; made = made; deep = deep })) entry
+explicit_deep_only_so es canonical (define c A M b) e x g equations entry = absurd g
+explicit_deep_only_so es canonical (prefer a y z) e x g equations entry = absurd g
+explicit_deep_only_so es canonical (give fix names) e x g equations entry = absurd g

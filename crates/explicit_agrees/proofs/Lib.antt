@@ -14,4 +14,6 @@ pub mod Full
 pub mod Only
 pub mod OnlyDefinitions
 pub mod Shallow
+pub mod Plain
+pub mod PlainTexts
 pub mod Deep

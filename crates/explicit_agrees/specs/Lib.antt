@@ -1,3 +1,4 @@
 pub mod Agreement
 pub mod Reconstructed
 pub mod Definitions
+pub mod Shallow

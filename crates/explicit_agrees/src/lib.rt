@@ -4,6 +4,7 @@
 ghost use Rattle.explicit_agrees.specs.Agreement.{ExplicitIsPrincipal, ExplicitMismatchHasNoCompletion};
 ghost use Rattle.explicit_agrees.specs.Definitions.{DefinitionHasNoOtherCause, DefinitionIsReconstructedAlone, ExplicitDefinitionIsPrincipal, ExplicitDefinitionIsReconstructed};
 ghost use Rattle.explicit_agrees.specs.Reconstructed.{ExplicitHasNoOtherCause, ExplicitIsReconstructed, ExplicitMismatchIsMismatch, ReconstructedIsCompleted};
+ghost use Rattle.explicit_agrees.specs.Shallow.{ExplicitIsDeepOnlySo};
 
 /// What an explicit declaration is completed to is its principal completion.
 pub fn explicit_is_principal()
@@ -43,6 +44,11 @@ pub fn reconstructed_is_completed()
 /// And reconstruction refuses it for nothing else, but for what is too deep and for want of memory.
 pub fn explicit_has_no_other_cause()
     ensures { ExplicitHasNoOtherCause }
+{}
+
+/// An explicit declaration that gives an entry is too deep only where the equations of its elaboration are, or the entry or its typing.
+pub fn explicit_is_deep_only_so()
+    ensures { ExplicitIsDeepOnlySo }
 {}
 
 /// A definition would be reconstructed to nothing else than what its type and its term give.

@@ -7,7 +7,6 @@ use Rattle.elaboration.specs.Principal.{written_family}
 use Rattle.elaboration.specs.PrincipalLaws.{ElaboratesBody}
 use Rattle.elaboration.specs.State.{State}
 use Rattle.elaboration.specs.Written.{written_star}
-use Rattle.tw_elaborate.specs.Bodies.{BodyDeep, deep_family_body}
 use Rattle.tw_lexer.proofs.Pieces.{pieces-at, pieces-end}
 use Rattle.tw_lexer.specs.Characters.{first_piece, pieces_from}
 use Rattle.tw_lexer.specs.Tokens.{first_token, find, between, ThroughDot}
@@ -115,16 +114,13 @@ body_made frees s s' (declare_family K) x = star_made x
 body_made frees s s' (declare_constant A) x = absurd x
 body_made frees s s' (declare_definition M A d) x = absurd x
 
-no_elaboration : {frees : List ℕ} {s : State} → BodyDeep [] frees (written_family written_star) s → ⊥
-no_elaboration (deep_family_body k) = elim k [ ]
-
 star_shallow : BodyReachesDeep (signature_of []) (declare_family lf_star) → ⊥
 star_shallow (inl deep) = omega (arith, deep)
 star_shallow (inr deep) = omega (arith, deep)
 
 no_deep : HasCause [] o_is_a_type TooDeep → ⊥
 no_deep =
-    nothing_deep_explicit [] tt (codes "o") (place 1) star o_entry (refl, refl) completed (written_family written_star) refl (λ x. no_elaboration x.deep)
+    nothing_deep_explicit [] tt (codes "o") (place 1) star o_entry (refl, refl) completed (written_family written_star) refl
     (λ frees s b made deep. unmade_shallow [] frees made.with_frees s made.frees_made (body_made frees made.with_frees s b made.body_made) deep) star_shallow
 
 reads_star : ReadsOnce (atom star ∷ []) star

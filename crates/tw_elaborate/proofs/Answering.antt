@@ -11,11 +11,13 @@ use Rattle.elaboration.specs.Written.{Written, WrittenDomain, WrittenKind, Writt
 use Rattle.tw_lexer.specs.declared.place.Place.{Place}
 use Rattle.tw_terms.specs.declared.canonical.ConstId.{ConstId}
 use Rattle.tw_written.specs.View.{written_of}
-use Rattle.tw_written.specs.declared.written.Written.{Written as Syntax, Applied, Ascribed, Bound, Declared, Free}
+use Rattle.tw_written.specs.declared.written.Written.{Written as Syntax, Applied, Ascribed, Bound, Declared, Free, Function, Hole}
+use Rattle.tw_written.specs.declared.written.WrittenDomain.{WrittenDomain as WrittenDomainSyntax}
 use Rattle.tw_written.specs.declared.written.WrittenType.{WrittenType as WrittenTypeSyntax}
-use Rattle.tw_written.proofs.Views.{written_of-Applied, written_of-Ascribed, written_of-Bound, written_of-Declared, written_of-Free}
+use Rattle.tw_terms.specs.declared.canonical.Skeleton.{Skeleton as SkeletonSyntax}
+use Rattle.tw_written.proofs.Views.{written_of-Applied, written_of-Ascribed, written_of-Bound, written_of-Declared, written_of-Free, written_of-Function, written_of-Hole}
 use Rattle.tw_elaborate.specs.Comparing.{ChecksDomain, ComparesKinds, ComparesTypes, IsProduct}
-use Rattle.tw_elaborate.specs.Deep.{ChecksDeep, DomainDeep, deep_checked_domain, deep_under_domain}
+use Rattle.tw_elaborate.specs.Deep.{ChecksDeep, DomainDeep, IsReducible, deep_checked_domain, deep_under_domain}
 use Rattle.tw_elaborate.specs.Fits.{Stands}
 use Rattle.tw_elaborate.specs.View.{made}
 use Rattle.tw_elaborate.specs.declared.state.Elaboration.{Elaboration}
@@ -92,3 +94,9 @@ is_inferred W (inr (inl (i, e))) = subst IsInferred (sym (ap written_of e ∙ wr
 is_inferred W (inr (inr (inl (c, p, e)))) = subst IsInferred (sym (ap written_of e ∙ written_of-Declared c p)) tt
 is_inferred W (inr (inr (inr (inl (M, P, e))))) = subst IsInferred (sym (ap written_of e ∙ written_of-Applied M P)) tt
 is_inferred W (inr (inr (inr (inr (M, U, e))))) = subst IsInferred (sym (ap written_of e ∙ written_of-Ascribed M U)) tt
+
+-- a hole, a function or an ascription
+pub is_reducible : (es : List Entry) (W : Syntax) → ((t : SkeletonSyntax) × (p : Place) × (W ≡ Hole t p)) ⊎ (((d : WrittenDomainSyntax) × (M : Box Syntax Global) × (W ≡ Function d M)) ⊎ ((M : Box Syntax Global) × (U : Box WrittenTypeSyntax Global) × (W ≡ Ascribed M U))) → IsReducible es (written_of W)
+is_reducible es W (inl (t, p, e)) = subst (IsReducible es) (sym (ap written_of e ∙ written_of-Hole t p)) tt
+is_reducible es W (inr (inl (d, M, e))) = subst (IsReducible es) (sym (ap written_of e ∙ written_of-Function d M)) tt
+is_reducible es W (inr (inr (M, U, e))) = subst (IsReducible es) (sym (ap written_of e ∙ written_of-Ascribed M U)) tt

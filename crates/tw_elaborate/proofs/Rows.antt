@@ -24,7 +24,7 @@ use Rattle.tw_written.specs.declared.written.Written.{Written as Syntax}
 use Rattle.tw_elaborate.specs.Deep.{ChecksDeep, InfersDeep, deep_application, deep_argument, deep_function, deep_inferred}
 use Rattle.tw_elaborate.specs.Fits.{Stands}
 use Rattle.tw_elaborate.specs.Fresh.{Keeps}
-use Rattle.tw_elaborate.specs.Operators.{Applies, PutsIn, PutsInDeep, applied_to, operator_of, written_terms}
+use Rattle.tw_elaborate.specs.Operators.{Applies, IsTerm, PutsIn, PutsInDeep, applied_to, operator_of, written_terms}
 use Rattle.tw_elaborate.specs.Rows.{Reached}
 use Rattle.tw_elaborate.specs.declared.operators.Operator.{Operator}
 use Rattle.tw_elaborate.specs.View.{made}
@@ -100,18 +100,19 @@ module _ (es : List Entry) (ns : List ℕ) (D : List LfType) where
     next_is : applied_to (applied r.so_far P) Ps ≡ W
     next_is = sym (applied_to-push r.so_far P Ps) ∙ ap (applied_to r.so_far) (sym q) ∙ r.is
 
-    pub reached_next : {u : State} {Q : Term} (o' : Operator) (Y : LfType) → Checks es ns D P X t u Q → PutsIn (skeleton X) (operator_of (arrow (skeleton X) (skeleton B)) o) Q (operator_of (skeleton B) o') → Y ≡ instantiate_type X Q B → Reached es ns D W s Ps u o' Y
-    reached_next {u = u} {Q = Q} o' Y c p y =
+    pub reached_next : {u : State} {Q : Term} (o' : Operator) (Y : LfType) → Checks es ns D P X t u Q → PutsIn (skeleton X) (operator_of (arrow (skeleton X) (skeleton B)) o) Q (operator_of (skeleton B) o') → Y ≡ instantiate_type X Q B → (IsTerm o' → IsTerm o) → Reached es ns D W s Ps u o' Y
+    reached_next {u = u} {Q = Q} o' Y c p y stays =
         let k : skeleton Y ≡ skeleton B = ap skeleton y ∙ skeleton_substituted reduce (single (skeleton X) Q) B in
         let i : Infers es ns D (applied r.so_far P) s u (substitute reduce (single (skeleton X) Q) p.body) (instantiate_type X Q B) = at_applied (subst (λ M. Infers es ns D r.so_far s t M (pi X B)) p.is next_inferred) c in
         record {
           so_far = applied r.so_far P;
           is = next_is;
+          reducible = λ i. r.reducible (stays i);
           inferred = subst (λ a. Infers es ns D (applied r.so_far P) s u (operator_of a o') Y) (sym k) (subst (λ Z. Infers es ns D (applied r.so_far P) s u (operator_of (skeleton B) o') Z) (sym y) (subst (λ M. Infers es ns D (applied r.so_far P) s u M (instantiate_type X Q B)) (sym p.result) i));
         }
 
-    pub put_deep : {u : State} {Q : Term} → Checks es ns D P X t u Q → PutsInDeep (skeleton X) (operator_of (arrow (skeleton X) (skeleton B)) o) Q → InfersDeep es ns D W s
-    put_deep c p = subst (λ F. InfersDeep es ns D F s) next_is (deep_row (applied r.so_far P) s Ps (deep_application (subst (λ M. Infers es ns D r.so_far s t M (pi X B)) p.is next_inferred) c p.deep))
+    pub put_deep : {u : State} {Q : Term} → Checks es ns D P X t u Q → PutsInDeep (skeleton X) (operator_of (arrow (skeleton X) (skeleton B)) o) Q → IsTerm o → InfersDeep es ns D W s
+    put_deep c p i = subst (λ F. InfersDeep es ns D F s) next_is (deep_row (applied r.so_far P) s Ps (deep_application (r.reducible i) (subst (λ M. Infers es ns D r.so_far s t M (pi X B)) p.is next_inferred) c p.deep))
 
     module _ (canonical : IsCanonicalSignature es) (w : Stands (signature_of es) s D) where
       next_typed : TermHasSkeleton (signature_of es) t D (operator_of (arrow (skeleton X) (skeleton B)) o) (pi X B)
@@ -198,13 +199,6 @@ module _ (es : List Entry) (ns : List ℕ) (D : List LfType) where
         asks = subst (λ Y. Reached es ns D r.inner r.begin (written_terms p.args.items ++ P ∷ []) t p.operator Y) a (subst (λ u. Reached es ns D r.inner r.begin (written_terms p.args.items ++ P ∷ []) t u A) (sym e) (subst (λ Qs. Reached es ns D r.inner r.begin Qs t o A) l r.reached));
       }
 
-  -- no argument is left
-  pub none_reached : {W : Written} {s t : State} {o : Operator} {A : LfType} (ps : List Waiting) (xs : List (Bor Syntax)) (M : Term) → ps ≡ [] → written_terms xs ≡ [] → M ≡ operator_of (skeleton A) o → AllReached ps W s (written_terms xs) t o A → Infers es ns D W s t M A
-  none_reached {W = W} {s = s} {t = t} {o = o} {A = A} ps xs M e n m r =
-      let (f, g) : Waits [] W s r.inner r.begin = subst (λ qs. Waits qs W s r.inner r.begin) e r.waits in
-      let i : Infers es ns D r.inner r.begin t M A = all_reached es ns D r.inner r.begin t (written_terms xs) o A M n m r.reached in
-      subst (λ F. Infers es ns D F s t M A) (sym f) (subst (λ v. Infers es ns D r.inner v t M A) (sym g) i)
-
   -- and a row waits for this one
   pub record Finished (ps : List Waiting) (p : Waiting) (W : Written) (s t : State) (M : Term) (A : LfType) : Type 0 where
     pub row : Written
@@ -245,9 +239,9 @@ module _ (es : List Entry) (ns : List ℕ) (D : List LfType) where
     -- the argument is put in
     pub resumed : {u : State} {Q : Term} (args : Vec (Bor Syntax) Global) (o : Operator) (Y : LfType) → Checks es ns D P (open_type_of p.domain) t u Q →
         PutsIn (skeleton (open_type_of p.domain)) (operator_of (arrow (skeleton (open_type_of p.domain)) (skeleton (open_type_of p.range))) p.operator) Q (operator_of (skeleton (open_type_of p.range)) o) →
-        Y ≡ instantiate_type (open_type_of p.domain) Q (open_type_of p.range) → args ≡ p.args → AllReached ps W s (written_terms args.items) u o Y
-    resumed {u = u} args o Y c i y x =
-        let r = reached_next es ns D k.asks (written_terms p.args.items) P refl (open_type_of p.domain) (open_type_of p.range) refl o Y c i y in
+        Y ≡ instantiate_type (open_type_of p.domain) Q (open_type_of p.range) → args ≡ p.args → (IsTerm o → IsTerm p.operator) → AllReached ps W s (written_terms args.items) u o Y
+    resumed {u = u} args o Y c i y x stays =
+        let r = reached_next es ns D k.asks (written_terms p.args.items) P refl (open_type_of p.domain) (open_type_of p.range) refl o Y c i y stays in
         record {
           inner = k.inner;
           begin = k.begin;
@@ -275,7 +269,7 @@ module _ (es : List Entry) (ns : List ℕ) (D : List LfType) where
         pub asked_range_fits : TypeFits (single (skeleton (open_type_of p.domain)) Q) (open_type_of p.range)
         asked_range_fits = next_range_fits es ns D k.asks (written_terms p.args.items) P refl (open_type_of p.domain) (open_type_of p.range) refl canonical begin_stands c
 
-        pub asked_put_deep : PutsInDeep (skeleton (open_type_of p.domain)) (operator_of (arrow (skeleton (open_type_of p.domain)) (skeleton (open_type_of p.range))) p.operator) Q → InfersDeep es ns D W s
-        asked_put_deep d = waiting_deep canonical ps W k.inner s k.begin k.waits w (put_deep es ns D k.asks (written_terms p.args.items) P refl (open_type_of p.domain) (open_type_of p.range) refl c d)
+        pub asked_put_deep : PutsInDeep (skeleton (open_type_of p.domain)) (operator_of (arrow (skeleton (open_type_of p.domain)) (skeleton (open_type_of p.range))) p.operator) Q → IsTerm p.operator → InfersDeep es ns D W s
+        asked_put_deep d i = waiting_deep canonical ps W k.inner s k.begin k.waits w (put_deep es ns D k.asks (written_terms p.args.items) P refl (open_type_of p.domain) (open_type_of p.range) refl c d i)
 
 pub ruleset rows = (types_and_skeletons, written_views, applied_to-push)

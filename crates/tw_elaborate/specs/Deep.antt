@@ -7,7 +7,26 @@ use Rattle.lf.specs.Substitution.{reduce, single, substitute}
 use Rattle.lf.specs.Syntax.{Kind, LfType, Skeleton, Spine, Term, app, arrow as arrow_skeleton, kind_pi, lambda, pi, skeleton}
 use Rattle.elaboration.specs.Elaboration.{Checks, ElaboratesDomain, ElaboratesFamily, ElaboratesKind, ElaboratesType, Infers, IsInferred, TakesNew}
 use Rattle.elaboration.specs.State.{State, type_equations, with_equations}
-use Rattle.elaboration.specs.Written.{Place, Written, WrittenDomain, WrittenKind, WrittenType, applied, arrow, ascribed, declared, family_applied, family_ascribed, function, kind_arrow, kind_quantified, of_type, quantified, written_star}
+use Rattle.elaboration.specs.Written.{Place, Written, WrittenDomain, WrittenKind, WrittenType, applied, arrow, ascribed, bound, declared, family_applied, family_ascribed, free, function, hole, kind_arrow, kind_quantified, of_type, quantified, written_star}
+
+-- a definition
+pub record IsDefined (es : List Entry) (c : ℕ) : Type 0 where
+  pub declared_as : Entry
+  pub is_entry : entry es c ≡ Some declared_as
+  pub term : Term
+  pub type : LfType
+  pub abbreviates : Bool
+  pub is_definition : declared_as.body ≡ declare_definition term type abbreviates
+
+-- What stands before the arguments isn't a name that stays before them, so that each argument is put into a term. A free variable, one in scope and a constant stay.
+abbrev pub IsReducible : List Entry → Written → Type 0
+IsReducible es (free i at) = ⊥
+IsReducible es (bound i) = ⊥
+IsReducible es (declared c at) = IsDefined es c
+IsReducible es (hole t at) = Unit {0}
+IsReducible es (function d M) = Unit {0}
+IsReducible es (applied M P) = IsReducible es M
+IsReducible es (ascribed M U) = Unit {0}
 
 -- of the arguments that a term takes one after another, one is put in with a term deeper than the limit
 pub data TakesDeep : ℕ → Skeleton → Term → Spine → Type 0 where
@@ -25,7 +44,7 @@ module _ (es : List Entry) (frees : List ℕ) where
       deep_function : {D : List LfType} {M P : Written} {s : State} → InfersDeep D M s → InfersDeep D (applied M P) s
       deep_argument : {D : List LfType} {M P : Written} {A B : LfType} {R : Term} {s s' : State} → Infers es frees D M s s' (lambda R) (pi A B) → ChecksDeep D P A s' → InfersDeep D (applied M P) s
       deep_application : {D : List LfType} {M P : Written} {A B : LfType} {R Q : Term} {s s' s'' : State} →
-          Infers es frees D M s s' (lambda R) (pi A B) → Checks es frees D P A s' s'' Q → DeepSubstitution depth_limit (single (skeleton A) Q) R → InfersDeep D (applied M P) s
+          IsReducible es M → Infers es frees D M s s' (lambda R) (pi A B) → Checks es frees D P A s' s'' Q → DeepSubstitution depth_limit (single (skeleton A) Q) R → InfersDeep D (applied M P) s
       deep_ascription : {D : List LfType} {M : Written} {U : WrittenType} {s : State} → TypeDeep D U s → InfersDeep D (ascribed M U) s
       deep_ascribed : {D : List LfType} {M : Written} {U : WrittenType} {A : LfType} {s s' : State} → ElaboratesType es frees D U s s' A → ChecksDeep D M A s' → InfersDeep D (ascribed M U) s
 

@@ -19,6 +19,11 @@ abbrev pub operator_of : lf.Skeleton → Operator → lf.Term
 operator_of a (Head h S) = eta_expand a (open_head_of h) (open_spine_of S)
 operator_of a (Term M) = open_term_of M
 
+-- a term that arguments are put into
+abbrev pub IsTerm : Operator → Type 0
+IsTerm (Head h S) = ⊥
+IsTerm (Term M) = Unit {0}
+
 -- M has the skeleton a → b, and N has a
 pub record Applies (a b : lf.Skeleton) (M N : lf.Term) : Type 0 where
   pub heads : HeadSkeletons

@@ -5,7 +5,8 @@ use Rattle.lf.specs.Syntax.{LfType, skeleton}
 use Rattle.elaboration.specs.Elaboration.{Infers}
 use Rattle.elaboration.specs.State.{State}
 use Rattle.elaboration.specs.Written.{Written}
-use Rattle.tw_elaborate.specs.Operators.{applied_to, operator_of}
+use Rattle.tw_elaborate.specs.Deep.{IsReducible}
+use Rattle.tw_elaborate.specs.Operators.{IsTerm, applied_to, operator_of}
 use Rattle.tw_elaborate.specs.declared.operators.Operator.{Operator}
 
 -- of W, all but the arguments Ps is elaborated: the operator o, of the type A
@@ -13,3 +14,4 @@ pub record Reached (es : List Entry) (frees : List ℕ) (D : List LfType) (W : W
   pub so_far : Written
   pub is : applied_to so_far Ps ≡ W
   pub inferred : Infers es frees D so_far s s' (operator_of (skeleton A) o) A
+  pub reducible : IsTerm o → IsReducible es so_far

@@ -7,10 +7,10 @@ ghost use Rattle.lf.specs.Syntax.{skeleton};
 ghost use Rattle.elaboration.specs.Elaboration.{ElaboratesFamily, Infers};
 ghost use Rattle.elaboration.specs.Written.{Place, bound as bound_variable, declared as declared_name, family as family_name, free as free_name};
 ghost use Rattle.tw_terms.specs.OpenView.{open_spine_of, open_term_of, open_type_of};
-ghost use Rattle.tw_elaborate.specs.Deep.{InfersDeep, TakesDeep};
+ghost use Rattle.tw_elaborate.specs.Deep.{InfersDeep, IsDefined, TakesDeep};
 ghost use Rattle.tw_elaborate.specs.Fits.{GivesArguments, Stands};
 ghost use Rattle.tw_elaborate.specs.Fresh.{Keeps};
-ghost use Rattle.tw_elaborate.specs.Operators.{operator_of};
+ghost use Rattle.tw_elaborate.specs.Operators.{IsTerm, operator_of};
 ghost use Rattle.tw_elaborate.specs.View.{made, numbers_of, open_kind_of};
 
 use crate::fault::ElaborateFault;
@@ -31,7 +31,8 @@ pub fn free(
     state: &Elaboration,
     variable: u64,
 ) -> Result<(Operator, OpenTy), AllocError>
-    ensures { IfOk result (λ p. (es : List Entered) (at : Place) → Infers es (numbers_of frees.now) state.now.locals (free_name variable at) (made state.now) (made state.now) (operator_of (skeleton (open_type_of p.1)) p.0) (open_type_of p.1)) }
+    ensures ok { IfOk result (λ p. (es : List Entered) (at : Place) → Infers es (numbers_of frees.now) state.now.locals (free_name variable at) (made state.now) (made state.now) (operator_of (skeleton (open_type_of p.1)) p.0) (open_type_of p.1)) }
+    ensures stays { IfOk result (λ p. IsTerm p.0 → ⊥) }
 {
     let Some(meta) = frees.get(variable as usize) else {
         return Err(AllocError);
@@ -53,7 +54,8 @@ pub fn bound(
     state: &Elaboration,
     variable: u64,
 ) -> Result<(Operator, OpenTy), AllocError>
-    ensures { IfOk result (λ p. (es : List Entered) (numbers : List ℕ) → Infers es numbers state.now.locals (bound_variable variable) (made state.now) (made state.now) (operator_of (skeleton (open_type_of p.1)) p.0) (open_type_of p.1)) }
+    ensures ok { IfOk result (λ p. (es : List Entered) (numbers : List ℕ) → Infers es numbers state.now.locals (bound_variable variable) (made state.now) (made state.now) (operator_of (skeleton (open_type_of p.1)) p.0) (open_type_of p.1)) }
+    ensures stays { IfOk result (λ p. IsTerm p.0 → ⊥) }
 {
     let Some(ty) = state.locals.get(variable) else {
         return Err(AllocError);
@@ -77,6 +79,7 @@ pub fn declared(
     requires canonical { IsCanonicalSignature signature.now }
     requires stands { Stands (signature_of signature.now) (made state.old) state.old.locals }
     ensures ok { IfOk result (λ p. (numbers : List ℕ) (at : Place) → Infers signature.now numbers state.old.locals (declared_name id.0 at) (made state.old) (made state.new) (operator_of (skeleton (open_type_of p.1)) p.0) (open_type_of p.1)) }
+    ensures defined { IfOk result (λ p. IsTerm p.0 → IsDefined signature.now id.0) }
     ensures too_deep { IsErrOf result ElaborateFault.TooDeep → (numbers : List ℕ) (at : Place) → InfersDeep signature.now numbers state.old.locals (declared_name id.0 at) (made state.old) }
     ensures keeps { Keeps state.old state.new }
 {

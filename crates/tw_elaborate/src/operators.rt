@@ -6,7 +6,7 @@ ghost use Rattle.lf.specs.Typing.{instantiate_type};
 ghost use Rattle.tw_hered.specs.Fits.{TermFits, TypeFits};
 ghost use Rattle.tw_terms.specs.OpenView.{open_term_of, open_type_of};
 ghost use Rattle.tw_written.specs.View.{written_of};
-ghost use Rattle.tw_elaborate.specs.Operators.{Applies, PutsIn, PutsInDeep, applied_to, operator_of, written_terms};
+ghost use Rattle.tw_elaborate.specs.Operators.{Applies, IsTerm, PutsIn, PutsInDeep, applied_to, operator_of, written_terms};
 
 use crate::expand::{expanded, with_argument};
 use crate::fault::ElaborateFault;
@@ -85,7 +85,9 @@ pub fn resume<'a>(alloc: Global, row: Waiting<'a>, arg: Open) -> Result<Begun<'a
     requires applies { Applies (skeleton (open_type_of row.domain)) (skeleton (open_type_of row.range)) (operator_of (arrow (skeleton (open_type_of row.domain)) (skeleton (open_type_of row.range))) row.operator) (open_term_of arg) }
     requires range { TypeFits (single (skeleton (open_type_of row.domain)) (open_term_of arg)) (open_type_of row.range) }
     ensures ok { IfOk result (λ r. let a = skeleton (open_type_of row.entry.domain) in let b = skeleton (open_type_of row.entry.range) in PutsIn a (operator_of (arrow a b) row.entry.operator) (open_term_of arg) (operator_of b r.operator) × (open_type_of r.ty ≡ instantiate_type (open_type_of row.entry.domain) (open_term_of arg) (open_type_of row.entry.range)) × (r.args ≡ row.entry.args)) }
+    ensures stays { IfOk result (λ r. IsTerm r.operator → IsTerm row.entry.operator) }
     ensures too_deep { IsErrOf result ElaborateFault.TooDeep → let a = skeleton (open_type_of row.entry.domain) in PutsInDeep a (operator_of (arrow a (skeleton (open_type_of row.entry.range))) row.entry.operator) (open_term_of arg) }
+    ensures in_term { IsErrOf result ElaborateFault.TooDeep → IsTerm row.entry.operator }
 {
     let domain = row.domain;
     let (operator, ty) = put(alloc, row.operator, &domain, row.range, arg)?;
@@ -127,7 +129,9 @@ fn put(
     requires applies { Applies (skeleton (open_type_of domain.now)) (skeleton (open_type_of range)) (operator_of (arrow (skeleton (open_type_of domain.now)) (skeleton (open_type_of range))) operator) (open_term_of arg) }
     requires range { TypeFits (single (skeleton (open_type_of domain.now)) (open_term_of arg)) (open_type_of range) }
     ensures ok { IfOk result (λ p. let a = skeleton (open_type_of domain.now) in let b = skeleton (open_type_of range) in PutsIn a (operator_of (arrow a b) operator) (open_term_of arg) (operator_of b p.0) × (open_type_of p.1 ≡ instantiate_type (open_type_of domain.now) (open_term_of arg) (open_type_of range))) }
+    ensures stays { IfOk result (λ p. IsTerm p.0 → IsTerm operator) }
     ensures too_deep { IsErrOf result ElaborateFault.TooDeep → let a = skeleton (open_type_of domain.now) in PutsInDeep a (operator_of (arrow a (skeleton (open_type_of range))) operator) (open_term_of arg) }
+    ensures in_term { IsErrOf result ElaborateFault.TooDeep → IsTerm operator }
 {
     let rest = left_over(alloc, domain, range, &arg)?;
     match operator {

@@ -7,10 +7,10 @@ ghost use Rattle.elaboration.specs.Skeletons.{TypeHasSkeletons};
 ghost use Rattle.elaboration.specs.Written.{function as function_of};
 ghost use Rattle.tw_terms.specs.OpenView.{open_spine_of, open_term_of, open_type_of};
 ghost use Rattle.tw_elaborate.specs.Comparing.{ChecksDomain};
-ghost use Rattle.tw_elaborate.specs.Deep.{ChecksDeep, DomainDeep, FamilyDeep, InfersDeep, KindDeep, TypeDeep};
+ghost use Rattle.tw_elaborate.specs.Deep.{ChecksDeep, DomainDeep, FamilyDeep, InfersDeep, IsReducible, KindDeep, TypeDeep};
 ghost use Rattle.tw_elaborate.specs.Fits.{Stands};
 ghost use Rattle.tw_elaborate.specs.Fresh.{Keeps};
-ghost use Rattle.tw_elaborate.specs.Operators.{operator_of, written_terms};
+ghost use Rattle.tw_elaborate.specs.Operators.{IsTerm, operator_of, written_terms};
 ghost use Rattle.tw_elaborate.specs.Rows.{Reached};
 ghost use Rattle.tw_elaborate.specs.View.{made, numbers_of, open_kind_of};
 ghost use Rattle.tw_written.specs.View.{written_domain_of, written_kind_of, written_of, written_type_of};
@@ -179,7 +179,7 @@ fn begin<'a>(
     Ok(Begun { operator, ty, args })
 }
 
-/// What stands before arguments, and its type.
+/// What stands before arguments, and its type. A row itself stands before none, and memory counts as used up.
 #[cycle(elaborate)]
 #[inline(never)]
 fn elaborate_operator(
@@ -193,6 +193,7 @@ fn elaborate_operator(
     requires canonical { IsCanonicalSignature signature.now }
     requires stands { Stands (signature_of signature.now) (made state.old) state.old.locals }
     ensures ok { IfOk result (λ p. Infers signature.now (numbers_of frees.now) state.old.locals (written_of written.now) (made state.old) (made state.new) (operator_of (skeleton_of_type (open_type_of p.1)) p.0) (open_type_of p.1)) }
+    ensures reducible { IfOk result (λ p. IsTerm p.0 → IsReducible signature.now (written_of written.now)) }
     ensures too_deep { IsErrOf result ElaborateFault.TooDeep → InfersDeep signature.now (numbers_of frees.now) state.old.locals (written_of written.now) (made state.old) }
     ensures keeps { Keeps state.old state.new }
 {
@@ -200,13 +201,11 @@ fn elaborate_operator(
         Written::Free(variable, _) => Ok(free(alloc, frees, state, *variable)?),
         Written::Bound(variable) => Ok(bound(alloc, state, *variable)?),
         Written::Declared(id, _) => declared(alloc, signature, state, *id),
-        Written::Hole(_, _)
-        | Written::Function(_, _)
-        | Written::Applied(_, _)
-        | Written::Ascribed(_, _) => {
+        Written::Hole(_, _) | Written::Function(_, _) | Written::Ascribed(_, _) => {
             let (term, ty) = infer(alloc, signature, frees, state, written, frames)?;
             Ok((Operator::Term(term), ty))
         }
+        Written::Applied(_, _) => Err(ElaborateFault::NoMemory),
     }
 }
 

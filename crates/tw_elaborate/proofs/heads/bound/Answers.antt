@@ -9,8 +9,8 @@ use Rattle.tw_elaborate.specs.View.{made}
 use Rattle.tw_elaborate.proofs.Naming.{bound_inferred}
 use Rattle.tw_elaborate.proofs.heads.bound.Goals as goal
 
-pub returns : goal.returns
-returns c = λ es ns.
+pub returns-clause-ok : goal.returns-clause-ok
+returns-clause-ok c = λ es ns.
     let B = open_type_of c.in-Some.ty.now in
     let A = open_type_of c.in_ok-ty.ty in
     let e : Some B ≡ slice_get c.args.state.now.locals c.args.variable = c.in-Some.ensures in

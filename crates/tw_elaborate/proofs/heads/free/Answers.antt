@@ -12,8 +12,8 @@ use Rattle.tw_elaborate.specs.View.{made, numbers_of}
 use Rattle.tw_elaborate.proofs.Naming.{at_index, at_mapped, free_inferred}
 use Rattle.tw_elaborate.proofs.heads.free.Goals as goal
 
-pub returns : goal.returns
-returns c = λ es at.
+pub returns-clause-ok : goal.returns-clause-ok
+returns-clause-ok c = λ es at.
     let m = c.in-Some.meta.now in
     let B = open_type_of c.in-Some-about.ty.now in
     let A = open_type_of c.in_ok-ty.ty in

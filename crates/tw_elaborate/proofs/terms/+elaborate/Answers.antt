@@ -12,14 +12,14 @@ use Rattle.tw_terms.proofs.OpenViews.{open_type_of-Atom, open_type_of-Pi}
 use Rattle.tw_written.specs.View.{place_of, written_domain_of, written_kind_of, written_of, written_type_of}
 use Rattle.tw_written.proofs.Views.{written_domain_of-OfSkeleton, written_domain_of-OfType, written_kind_of-Arrow, written_kind_of-Quantified, written_kind_of-Star, written_of-Ascribed, written_of-Bound, written_of-Declared, written_of-Free, written_of-Function, written_of-Hole, written_type_of-Applied, written_type_of-Arrow, written_type_of-Ascribed, written_type_of-Family, written_type_of-Hole, written_type_of-Quantified}
 use Rattle.tw_elaborate.specs.Comparing.{ChecksDomain}
-use Rattle.tw_elaborate.specs.Deep.{ChecksDeep, DomainDeep, FamilyDeep, InfersDeep, KindDeep, TypeDeep, deep_applied_family, deep_ascribed, deep_ascribed_family, deep_ascription, deep_body, deep_domain, deep_family, deep_family_kind, deep_index, deep_inferred, deep_quantified_domain, deep_quantified_kind_domain, deep_quantified_kind_range, deep_quantified_range, deep_type_ascribed, deep_written_domain}
+use Rattle.tw_elaborate.specs.Deep.{ChecksDeep, DomainDeep, FamilyDeep, InfersDeep, IsReducible, KindDeep, TypeDeep, deep_applied_family, deep_ascribed, deep_ascribed_family, deep_ascription, deep_body, deep_domain, deep_family, deep_family_kind, deep_index, deep_inferred, deep_quantified_domain, deep_quantified_kind_domain, deep_quantified_kind_range, deep_quantified_range, deep_type_ascribed, deep_written_domain}
 use Rattle.tw_elaborate.specs.Fits.{KindFits}
 use Rattle.tw_elaborate.specs.Operators.{operator_of, written_terms}
 use Rattle.tw_elaborate.specs.Rows.{Reached}
 use Rattle.tw_elaborate.specs.View.{made, numbers_of, open_kind_of}
 use Rattle.tw_elaborate.specs.declared.fault.ElaborateFault.TheVariants.{TooDeep}
 use Rattle.tw_elaborate.specs.declared.state.OpenKind.{Star as OpenKind-Star}
-use Rattle.tw_elaborate.proofs.Answering.{body_deep, domain_checked, domain_compared, domain_deep, family_compared, family_elaborated, family_on_argument, fault_of_call, function_checked, function_inferred, inferred_checked, is_inferred, kind_quantified_elaborated, quantified_elaborated}
+use Rattle.tw_elaborate.proofs.Answering.{body_deep, domain_checked, domain_compared, domain_deep, family_compared, family_elaborated, family_on_argument, fault_of_call, function_checked, function_inferred, inferred_checked, is_inferred, is_reducible, kind_quantified_elaborated, quantified_elaborated}
 use Rattle.tw_elaborate.proofs.Arrows.{domain_too_deep, kind_domain_too_deep, no_domains, no_kind_domains, one_more_domain, one_more_kind_domain}
 use Rattle.tw_elaborate.proofs.Following.{domain_found, domain_under, family_found, family_stands, in_scope, inferred_type, keeps_under, kind_range_fits, kind_stands, type_found, type_stands, under_stands}
 use Rattle.tw_elaborate.proofs.Rows.{asked_applies, asked_deep, asked_domain, asked_put_deep, asked_range_fits, asked_stands, asks_next, deep_row, finished, none_left, resumed, row_asked, rows_stay}
@@ -480,19 +480,30 @@ elaborate_operator-returns-in_ok-free-in-Free-clause-ok t c =
     let v = ap written_of c.in-Free.is ∙ written_of-Free c.in-Free.variable c.in-Free.field-1 in
     let s = c.args.state.now in
     let p = c.in_ok-free-in-Free.field-0 in
-    subst (λ W. Infers c.args.signature.now (numbers_of c.args.frees.now) s.locals W (made s) (made s) (operator_of (skeleton (open_type_of p.1)) p.0) (open_type_of p.1)) (sym v) (c.in_ok-free-in-Free.ensures c.args.signature.now (place_of c.in-Free.field-1))
+    subst (λ W. Infers c.args.signature.now (numbers_of c.args.frees.now) s.locals W (made s) (made s) (operator_of (skeleton (open_type_of p.1)) p.0) (open_type_of p.1)) (sym v) (c.in_ok-free-in-Free.ensures.ok c.args.signature.now (place_of c.in-Free.field-1))
 
 pub elaborate_operator-returns-in_ok-bound-in-Bound-clause-ok : goal.elaborate_operator-returns-in_ok-bound-in-Bound-clause-ok
 elaborate_operator-returns-in_ok-bound-in-Bound-clause-ok t c =
     let v = ap written_of c.in-Bound.is ∙ written_of-Bound c.in-Bound.variable in
     let s = c.args.state.now in
     let p = c.in_ok-bound-in-Bound.field-0 in
-    subst (λ W. Infers c.args.signature.now (numbers_of c.args.frees.now) s.locals W (made s) (made s) (operator_of (skeleton (open_type_of p.1)) p.0) (open_type_of p.1)) (sym v) (c.in_ok-bound-in-Bound.ensures c.args.signature.now (numbers_of c.args.frees.now))
+    subst (λ W. Infers c.args.signature.now (numbers_of c.args.frees.now) s.locals W (made s) (made s) (operator_of (skeleton (open_type_of p.1)) p.0) (open_type_of p.1)) (sym v) (c.in_ok-bound-in-Bound.ensures.ok c.args.signature.now (numbers_of c.args.frees.now))
 
 pub elaborate_operator-returns-in-Declared-clause-ok : goal.elaborate_operator-returns-in-Declared-clause-ok
 elaborate_operator-returns-in-Declared-clause-ok t c =
     let v = ap written_of c.in-Declared.is ∙ written_of-Declared c.in-Declared.id c.in-Declared.field-1 in
     if_ok c.declared.result _ _ (λ p j. subst (λ W. Infers c.args.signature.now (numbers_of c.args.frees.now) c.args.state.now.locals W (made c.args.state.now) (made c.declared.new.state) (operator_of (skeleton (open_type_of p.1)) p.0) (open_type_of p.1)) (sym v) (j (numbers_of c.args.frees.now) (place_of c.in-Declared.field-1))) c.declared.ensures.ok
+
+pub elaborate_operator-returns-in-Declared-clause-reducible : goal.elaborate_operator-returns-in-Declared-clause-reducible
+elaborate_operator-returns-in-Declared-clause-reducible t c =
+    let v = ap written_of c.in-Declared.is ∙ written_of-Declared c.in-Declared.id c.in-Declared.field-1 in
+    if_ok c.declared.result _ _ (λ p j i. subst (IsReducible c.args.signature.now) (sym v) (j i)) c.declared.ensures.defined
+
+pub elaborate_operator-returns-in_ok-term-in-Hole-clause-reducible : goal.elaborate_operator-returns-in_ok-term-in-Hole-clause-reducible
+elaborate_operator-returns-in_ok-term-in-Hole-clause-reducible t c = λ i. is_reducible c.args.signature.now c.args.written.now c.in-Hole.is
+
+pub elaborate_operator-returns-in-Applied-clause-keeps : goal.elaborate_operator-returns-in-Applied-clause-keeps
+elaborate_operator-returns-in-Applied-clause-keeps t c = keeps_same c.args.state.now
 
 pub elaborate_operator-returns-in-Declared-clause-too_deep : goal.elaborate_operator-returns-in-Declared-clause-too_deep
 elaborate_operator-returns-in-Declared-clause-too_deep t c = λ is.
@@ -613,7 +624,7 @@ infer_applied-returns-in_err-begun-in-Free-clause-too_deep t c = λ is.
     let P = written_of c.in-Some.arg.now in
     let X = open_type_of p.domain in
     let i : Checks es ns D P X (made c.loop.state) (made c.check.new.state) (open_term_of c.in_ok-arg-in-Free.arg) = subst (λ F. Checks es ns F P X (made c.loop.state) (made c.check.new.state) (open_term_of c.in_ok-arg-in-Free.arg)) l c.in_ok-arg-in-Free.ensures.ok in
-    asked_put_deep es ns D k c.requires.canonical c.requires.stands i (c.in_err-begun-in-Free.ensures.too_deep (fault_of_call c.from_residual-in_err-begun-in-Free.result c.in_err-begun-in-Free.field-0.0 TooDeep (search rules) is))
+    asked_put_deep es ns D k c.requires.canonical c.requires.stands i (c.in_err-begun-in-Free.ensures.too_deep (fault_of_call c.from_residual-in_err-begun-in-Free.result c.in_err-begun-in-Free.field-0.0 TooDeep (search rules) is)) (c.in_err-begun-in-Free.ensures.in_term (fault_of_call c.from_residual-in_err-begun-in-Free.result c.in_err-begun-in-Free.field-0.0 TooDeep (search rules) is))
 
 pub infer_applied-returns-in_err-begun-in-Free-clause-keeps : goal.infer_applied-returns-in_err-begun-in-Free-clause-keeps
 infer_applied-returns-in_err-begun-in-Free-clause-keeps t c = keeps_then c.args.state.now c.loop.state c.check.new.state c.loop.invariant.1 c.check.ensures.keeps
@@ -673,7 +684,7 @@ infer_applied-returns-in_err-begun-in-Some-pop-clause-too_deep t c = λ is.
     let f = finished es ns D c.loop.waiting.items c.pop-in-None.new.self.items p c.loop.begun.args.items M Y c.in-Some-pop.ensures.items none c.in_ok-term-in-None.ensures.0 (ap open_type_of c.in_ok-term-in-None.ensures.1) c.loop.invariant.0 in
     let l = c.loop.invariant.1.locals in
     let i = inferred_checked es ns D f.row M Y (open_type_of p.domain) f.begin c.loop.state c.compare_types.new.state f.is_inferred l f.inferred c.in_ok-compare_types-in-Some-pop.ensures.ok in
-    asked_put_deep es ns D f.asks c.requires.canonical c.requires.stands i (c.in_err-begun-in-Some-pop.ensures.too_deep (fault_of_call c.from_residual-in_err-begun-in-Some-pop.result c.in_err-begun-in-Some-pop.field-0.0 TooDeep (search rules) is))
+    asked_put_deep es ns D f.asks c.requires.canonical c.requires.stands i (c.in_err-begun-in-Some-pop.ensures.too_deep (fault_of_call c.from_residual-in_err-begun-in-Some-pop.result c.in_err-begun-in-Some-pop.field-0.0 TooDeep (search rules) is)) (c.in_err-begun-in-Some-pop.ensures.in_term (fault_of_call c.from_residual-in_err-begun-in-Some-pop.result c.in_err-begun-in-Some-pop.field-0.0 TooDeep (search rules) is))
 
 pub infer_applied-returns-in_err-begun-in-Some-pop-clause-keeps : goal.infer_applied-returns-in_err-begun-in-Some-pop-clause-keeps
 infer_applied-returns-in_err-begun-in-Some-pop-clause-keeps t c = keeps_then c.args.state.now c.loop.state c.compare_types.new.state c.loop.invariant.1 c.compare_types.ensures.keeps
@@ -702,7 +713,7 @@ infer_applied-loop-preserved t c =
           let X = open_type_of p.domain in
           let i : Checks es ns D P X (made c.loop.state) (made w.check.new.state) (open_term_of w.in_ok-arg-in-Free.arg) = subst (λ F. Checks es ns F P X (made c.loop.state) (made w.check.new.state) (open_term_of w.in_ok-arg-in-Free.arg)) l w.in_ok-arg-in-Free.ensures.ok in
           let b = w.in_ok-begun-in-Free.begun in
-          rows_stay es ns D c.match-pop.waiting c.loop.waiting c.match-pop.begun b c.args.state.now c.match-pop.state w.check.new.state (written_of c.args.written.now) w.state-is w.waiting-is w.begun-is (resumed es ns D k b.args b.operator (open_type_of b.ty) i w.in_ok-begun-in-Free.ensures.ok.0 w.in_ok-begun-in-Free.ensures.ok.1 w.in_ok-begun-in-Free.ensures.ok.2, keeps_then c.args.state.now c.loop.state w.check.new.state c.loop.invariant.1 w.check.ensures.keeps)
+          rows_stay es ns D c.match-pop.waiting c.loop.waiting c.match-pop.begun b c.args.state.now c.match-pop.state w.check.new.state (written_of c.args.written.now) w.state-is w.waiting-is w.begun-is (resumed es ns D k b.args b.operator (open_type_of b.ty) i w.in_ok-begun-in-Free.ensures.ok.0 w.in_ok-begun-in-Free.ensures.ok.1 w.in_ok-begun-in-Free.ensures.ok.2 w.in_ok-begun-in-Free.ensures.stays, keeps_then c.args.state.now c.loop.state w.check.new.state c.loop.invariant.1 w.check.ensures.keeps)
       | infer_applied-in-None+in_ok-term-in-None+in-Some-pop+in_ok-compare_types-in-Some-pop+in_ok-begun-in-Some-pop+in-Pi-1 w ↦
           let p = w.in-Some-pop.outer in
           let M = open_term_of w.in_ok-term-in-None.term in
@@ -711,7 +722,7 @@ infer_applied-loop-preserved t c =
           let f = finished es ns D c.loop.waiting.items w.pop-in-None.new.self.items p c.loop.begun.args.items M Y w.in-Some-pop.ensures.items none w.in_ok-term-in-None.ensures.0 (ap open_type_of w.in_ok-term-in-None.ensures.1) c.loop.invariant.0 in
           let i = inferred_checked es ns D f.row M Y (open_type_of p.domain) f.begin c.loop.state w.compare_types.new.state f.is_inferred l f.inferred w.in_ok-compare_types-in-Some-pop.ensures.ok in
           let b = w.in_ok-begun-in-Some-pop.begun in
-          rows_stay es ns D c.match-pop.waiting w.pop-in-None.new.self c.match-pop.begun b c.args.state.now c.match-pop.state w.compare_types.new.state (written_of c.args.written.now) w.state-is w.waiting-is w.begun-is (resumed es ns D f.asks b.args b.operator (open_type_of b.ty) i w.in_ok-begun-in-Some-pop.ensures.ok.0 w.in_ok-begun-in-Some-pop.ensures.ok.1 w.in_ok-begun-in-Some-pop.ensures.ok.2, keeps_then c.args.state.now c.loop.state w.compare_types.new.state c.loop.invariant.1 w.compare_types.ensures.keeps)
+          rows_stay es ns D c.match-pop.waiting w.pop-in-None.new.self c.match-pop.begun b c.args.state.now c.match-pop.state w.compare_types.new.state (written_of c.args.written.now) w.state-is w.waiting-is w.begun-is (resumed es ns D f.asks b.args b.operator (open_type_of b.ty) i w.in_ok-begun-in-Some-pop.ensures.ok.0 w.in_ok-begun-in-Some-pop.ensures.ok.1 w.in_ok-begun-in-Some-pop.ensures.ok.2 w.in_ok-begun-in-Some-pop.ensures.stays, keeps_then c.args.state.now c.loop.state w.compare_types.new.state c.loop.invariant.1 w.compare_types.ensures.keeps)
       | infer_applied-in-None+in_ok-term-in-None+in-Some-pop+in_ok-compare_types-in-Some-pop+in_ok-begun-in-Some-pop+in-Atom-1 w ↦
           let p = w.in-Some-pop.outer in
           let M = open_term_of w.in_ok-term-in-None.term in
@@ -720,7 +731,7 @@ infer_applied-loop-preserved t c =
           let f = finished es ns D c.loop.waiting.items w.pop-in-None.new.self.items p c.loop.begun.args.items M Y w.in-Some-pop.ensures.items none w.in_ok-term-in-None.ensures.0 (ap open_type_of w.in_ok-term-in-None.ensures.1) c.loop.invariant.0 in
           let i = inferred_checked es ns D f.row M Y (open_type_of p.domain) f.begin c.loop.state w.compare_types.new.state f.is_inferred l f.inferred w.in_ok-compare_types-in-Some-pop.ensures.ok in
           let b = w.in_ok-begun-in-Some-pop.begun in
-          rows_stay es ns D c.match-pop.waiting w.pop-in-None.new.self c.match-pop.begun b c.args.state.now c.match-pop.state w.compare_types.new.state (written_of c.args.written.now) w.state-is w.waiting-is w.begun-is (resumed es ns D f.asks b.args b.operator (open_type_of b.ty) i w.in_ok-begun-in-Some-pop.ensures.ok.0 w.in_ok-begun-in-Some-pop.ensures.ok.1 w.in_ok-begun-in-Some-pop.ensures.ok.2, keeps_then c.args.state.now c.loop.state w.compare_types.new.state c.loop.invariant.1 w.compare_types.ensures.keeps)
+          rows_stay es ns D c.match-pop.waiting w.pop-in-None.new.self c.match-pop.begun b c.args.state.now c.match-pop.state w.compare_types.new.state (written_of c.args.written.now) w.state-is w.waiting-is w.begun-is (resumed es ns D f.asks b.args b.operator (open_type_of b.ty) i w.in_ok-begun-in-Some-pop.ensures.ok.0 w.in_ok-begun-in-Some-pop.ensures.ok.1 w.in_ok-begun-in-Some-pop.ensures.ok.2 w.in_ok-begun-in-Some-pop.ensures.stays, keeps_then c.args.state.now c.loop.state w.compare_types.new.state c.loop.invariant.1 w.compare_types.ensures.keeps)
     ]
 
 pub elaborate_arrows-loop-rest-init : goal.elaborate_arrows-loop-rest-init
