@@ -51,7 +51,7 @@ fn functions(alloc: Global, count: u64) -> Result<Ty, AllocError> {
 fn add(alloc: Global, signature: &mut Signature, name: &str, count: u64) -> Result<(), AllocError> {
     let name = Name::from_text(alloc, name)?;
     let ty = functions(alloc, count)?;
-    if add_constant(alloc, signature, name, ty)? {
+    if add_constant(alloc, signature, name, ty, 0)? {
         Ok(())
     } else {
         Err(AllocError)
@@ -59,10 +59,10 @@ fn add(alloc: Global, signature: &mut Signature, name: &str, count: u64) -> Resu
 }
 
 /// The signature: n, z, s, and where the kind is `spine` a constant that takes so many numbers.
-pub fn signature(alloc: Global, kind: &str, size: u64) -> Result<Signature, AllocError> {
+pub(crate) fn signature(alloc: Global, kind: &str, size: u64) -> Result<Signature, AllocError> {
     let mut signature = Signature::new(alloc);
     let name = Name::from_text(alloc, "n")?;
-    if !add_family(alloc, &mut signature, name, Kind::Star)? {
+    if !add_family(alloc, &mut signature, name, Kind::Star, 0)? {
         return Err(AllocError);
     }
     add(alloc, &mut signature, "z", 0)?;
@@ -194,7 +194,7 @@ fn single(alloc: Global, left: Open, right: Open) -> Result<Vec<Equation>, Alloc
 }
 
 /// The problem of this kind; an unknown kind has no equation.
-pub fn problem_of(alloc: Global, kind: &str, size: u64) -> Result<Problem, AllocError> {
+pub(crate) fn problem_of(alloc: Global, kind: &str, size: u64) -> Result<Problem, AllocError> {
     match kind {
         "spine" => Ok(Problem {
             types: numbers(alloc, size)?,

@@ -8,7 +8,7 @@ use tw_recon::reconstruct;
 use tw_signature::Signature;
 
 /// The declaration that the text is, with these operators.
-pub fn read_with(alloc: Global, fixities: &FixTable, text: &str) -> Option<ExtDecl> {
+pub(crate) fn read_with(alloc: Global, fixities: &FixTable, text: &str) -> Option<ExtDecl> {
     let bytes = text.as_bytes();
     if bytes.len() >= 1_000_000 {
         return None;
@@ -18,12 +18,12 @@ pub fn read_with(alloc: Global, fixities: &FixTable, text: &str) -> Option<ExtDe
 }
 
 /// The same without operators.
-pub fn read(alloc: Global, text: &str) -> Option<ExtDecl> {
+pub(crate) fn read(alloc: Global, text: &str) -> Option<ExtDecl> {
     read_with(alloc, &FixTable::new(alloc), text)
 }
 
 /// The query that the text is.
-pub fn read_query(alloc: Global, text: &str) -> Option<ExtQuery> {
+pub(crate) fn read_query(alloc: Global, text: &str) -> Option<ExtQuery> {
     let bytes = text.as_bytes();
     if bytes.len() >= 1_000_000 {
         return None;
@@ -34,7 +34,7 @@ pub fn read_query(alloc: Global, text: &str) -> Option<ExtQuery> {
 }
 
 /// Declares what the text says.
-pub fn declare(alloc: Global, signature: &mut Signature, text: &str) -> Result<(), Fail> {
+pub(crate) fn declare(alloc: Global, signature: &mut Signature, text: &str) -> Result<(), Fail> {
     let Some(decl) = read(alloc, text) else {
         return Err(Fail::from("what is declared in front isn't read"));
     };
@@ -48,7 +48,7 @@ pub fn declare(alloc: Global, signature: &mut Signature, text: &str) -> Result<(
 }
 
 /// What these texts declare.
-pub fn signature_of(alloc: Global, texts: &[&str]) -> Result<Signature, Fail> {
+pub(crate) fn signature_of(alloc: Global, texts: &[&str]) -> Result<Signature, Fail> {
     let mut signature = Signature::new(alloc);
     for text in texts {
         declare(alloc, &mut signature, text)?;
@@ -57,7 +57,7 @@ pub fn signature_of(alloc: Global, texts: &[&str]) -> Result<Signature, Fail> {
 }
 
 /// The part so many times between the others.
-pub fn repeated(
+pub(crate) fn repeated(
     alloc: Global,
     before: &str,
     part: &str,
@@ -73,9 +73,17 @@ pub fn repeated(
 }
 
 /// `+` to the left, and `suc` in front of what it binds more closely.
-pub fn sums(alloc: Global) -> Result<FixTable, AllocError> {
+pub(crate) fn sums(alloc: Global) -> Result<FixTable, AllocError> {
     let mut fixities = FixTable::new(alloc);
     fixities.set(Name::from_text(alloc, "+")?, Fix::Infix(Assoc::Left, 10))?;
     fixities.set(Name::from_text(alloc, "suc")?, Fix::Prefix(20))?;
     Ok(fixities)
+}
+
+/// Puts the name behind the line.
+pub(crate) fn push_name(line: &mut String, name: &Name) -> Result<(), AllocError> {
+    for byte in name.as_bytes() {
+        line.push(char::from(*byte))?;
+    }
+    Ok(())
 }

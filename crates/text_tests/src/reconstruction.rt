@@ -1,5 +1,7 @@
 //! Declarations, and what they are reconstructed to. Expected values are worked out by hand.
-use crate::reading::{declare, read, read_query, read_with, repeated, signature_of, sums};
+use crate::reading::{
+    declare, push_name, read, read_query, read_with, repeated, signature_of, sums,
+};
 use std::alloc::{AllocError, Global};
 use std::process::Abort;
 use std::test::Fail;
@@ -45,13 +47,6 @@ fn behind(alloc: Global, before: &str) -> Result<Signature, Fail> {
         }
     }
     Ok(signature)
-}
-
-fn push_name(line: &mut String, name: &Name) -> Result<(), AllocError> {
-    for byte in name.as_bytes() {
-        line.push(char::from(*byte))?;
-    }
-    Ok(())
 }
 
 fn fault_line(alloc: Global, fault: &ReconFault) -> Result<String, AllocError> {
@@ -590,6 +585,41 @@ fn deep_texts(rt: HostRuntime) -> Result<(), Fail> {
     for (text, want) in &rows {
         let line = declared(alloc, &signature, text.as_str())?;
         assert_eq!(rt; line.as_str(), *want, "{text}");
+    }
+    Ok(())
+}
+
+// What is put into a type may be 4,096 deep below as many ascriptions as elaboration takes; more of them want memory before the stack is used up.
+#[test]
+fn deep_leaves(rt: HostRuntime) -> Result<(), Fail> {
+    let alloc = rt.alloc();
+    let mut signature = signature_of(
+        alloc,
+        &[
+            "nat : type.",
+            "z : nat.",
+            "suc : nat -> nat.",
+            "v : nat -> type.",
+            "w : {n:nat} v n.",
+            "q : {n:nat} v n -> nat.",
+        ],
+    )?;
+    let numbers = [
+        ("d1 : nat = ", "z"),
+        ("d2 : nat = ", "d1"),
+        ("d3 : nat = ", "d2"),
+        ("d4 : nat = ", "d3"),
+    ];
+    for (before, number) in numbers {
+        let text = repeated(alloc, before, "suc (", 900, number)?;
+        let text = repeated(alloc, text.as_str(), ")", 900, ".")?;
+        declare(alloc, &mut signature, text.as_str())?;
+    }
+    for (count, wanted) in [(480, "declared"), (900, "no memory")] {
+        let text = repeated(alloc, "c : nat = ", "suc (", count, "q d4 (w d4)")?;
+        let text = repeated(alloc, text.as_str(), " : nat)", count, ".")?;
+        let line = declared(alloc, &signature, text.as_str())?;
+        assert_eq!(rt; line.as_str(), wanted, "{count}");
     }
     Ok(())
 }

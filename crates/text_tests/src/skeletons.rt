@@ -1,18 +1,10 @@
 //! The skeletons of what isn't written. Expected values are worked out by hand.
-use crate::reading::{read, read_query, repeated, signature_of};
+use crate::reading::{push_name, read, read_query, repeated, signature_of};
 use std::alloc::{AllocError, Global};
 use std::test::Fail;
 use tw_approx::{Approx, ApproxFault, approximate, approximate_query};
-use tw_fixity::Name;
 use tw_signature::Signature;
 use tw_terms::Skeleton;
-
-fn push_name(line: &mut String, name: &Name) -> Result<(), AllocError> {
-    for byte in name.as_bytes() {
-        line.push(char::from(*byte))?;
-    }
-    Ok(())
-}
 
 // a skeleton in prefix form: `>` is an arrow
 fn push_skeleton(

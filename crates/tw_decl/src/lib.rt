@@ -17,6 +17,3 @@ pub use laws::{
 pub use parameters::Parameters;
 pub use refusal::{Refusal, show_refusal};
 pub use session::Session;
-
-#[cfg(test)]
-mod tests;

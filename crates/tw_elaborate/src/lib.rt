@@ -32,7 +32,3 @@ pub use fault::ElaborateFault;
 pub use frames::FRAMES;
 pub use state::{Elaboration, OpenKind};
 pub use terms::{check, elaborate_kind, elaborate_type, infer};
-
-#[cfg(test)]
-#[tactic(auto, using(tw_terms::proofs::Args::types))]
-mod tests;

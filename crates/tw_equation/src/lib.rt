@@ -13,9 +13,3 @@ mod locals;
 mod naming;
 
 pub use equation::show_equation;
-
-#[cfg(test)]
-#[tactic(auto, using(tw_terms::proofs::Args::types))]
-mod entries;
-#[cfg(test)]
-mod tests;

@@ -6,6 +6,3 @@ mod table;
 
 pub use name::Name;
 pub use table::{Assoc, Fix, FixTable};
-
-#[cfg(test)]
-mod tests;

@@ -22,6 +22,3 @@ pub use laws::{
 pub use occurrences::{note_spine, note_term, note_type};
 pub use order::{Candidate, quantifier_order};
 pub use positions::Positions;
-
-#[cfg(test)]
-mod tests;

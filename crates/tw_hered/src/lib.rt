@@ -23,9 +23,3 @@ mod normal;
 pub use expand::eta;
 pub use fault::HeredFault;
 pub use hereditary::{apply_spine, instantiate, substitute, substitute_ty};
-
-#[cfg(test)]
-mod tests;
-#[cfg(test)]
-#[tactic(auto, using(crate::proofs::Environments::environments))]
-mod typed;

@@ -11,6 +11,3 @@ mod terms;
 mod types;
 
 pub use calls::{Verdict, check_context, check_kind, check_term, check_type};
-
-#[cfg(test)]
-mod tests;

@@ -20,6 +20,3 @@ pub use laws::{
 pub use lexer::{LexFault, lex, next_token};
 pub use place::Place;
 pub use token::{Token, TokenKind, Tokens};
-
-#[cfg(test)]
-mod tests;

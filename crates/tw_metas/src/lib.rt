@@ -9,6 +9,3 @@ mod store;
 pub use equation::Equation;
 pub use laws::mark_is_kept;
 pub use store::{Mark, Store};
-
-#[cfg(test)]
-mod tests;

@@ -27,6 +27,3 @@ pub use laws::{one_outline, one_query, one_reading, readings_are_decided};
 pub use parse::parse_decl;
 pub use query::{ExtQuery, parse_query};
 pub use term::ExtTerm;
-
-#[cfg(test)]
-mod tests;

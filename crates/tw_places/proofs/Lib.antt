@@ -1,4 +1,3 @@
 pub mod Steps
 pub mod Growing
 pub mod Ordering
-pub mod Signatures

@@ -19,7 +19,3 @@ mod spots;
 
 pub use frames::FRAMES;
 pub use places::{frees_in_text_order, sites};
-
-#[cfg(test)]
-#[tactic(auto, using(crate::proofs::Signatures::signatures))]
-mod tests;

@@ -22,7 +22,3 @@ mod show;
 pub use marks::{mark_term, mark_type};
 pub use names::{Names, Preference};
 pub use show::{ShowEnv, show_decl, show_entry, show_equal, show_term, show_type};
-
-#[cfg(test)]
-#[tactic(auto, using(tw_terms::proofs::Args::types))]
-mod tests;

@@ -35,6 +35,3 @@ pub use laws::drops_variable_of_place;
 pub use occurs::occurs_inside;
 pub use patterns::pattern_of;
 pub use prune::{Pruned, prune_type};
-
-#[cfg(test)]
-mod tests;

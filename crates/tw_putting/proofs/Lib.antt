@@ -3,8 +3,6 @@ pub mod PutTotal
 pub mod Frames
 pub mod Walks
 pub mod Calls
-pub mod CaseLemmas
-pub mod ChainLemmas
 pub mod ForCallers
 pub mod FromTyping
 pub mod Kept

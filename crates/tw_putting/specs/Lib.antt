@@ -1,4 +1,3 @@
-pub mod Cases
 pub mod Stores
 pub mod Laws
 pub mod Fits

@@ -41,9 +41,3 @@ pub use plain::{is_all_in, is_spine_all_in, is_type_all_in};
 pub use put::{put_in, put_in_spine, put_in_type};
 pub use shifting::{shift, shift_spine, shift_type};
 pub use tw_hered::HeredFault;
-
-#[cfg(test)]
-#[tactic(auto, using(crate::proofs::Environments::environments))]
-mod cases;
-#[cfg(test)]
-mod tests;

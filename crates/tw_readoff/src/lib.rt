@@ -18,6 +18,3 @@ pub use laws::{quantifiers_are_reordered, reading_is_filling};
 pub use naming::sole_metavariable;
 pub use quantifiers::{Quantifiers, read_quantifiers};
 pub use reading::{read_term, read_type};
-
-#[cfg(test)]
-mod tests;

@@ -11,14 +11,15 @@ use tw_terms::{Context, Kind, Ty};
 
 const DEPTH_LIMIT: u32 = 4096;
 
-/// Declares a family, where the kind is one and not deeper than 4,096. Otherwise nothing changes.
+/// Declares a family whose first arguments are implicit, where the kind is one, not deeper than 4,096 and takes that many. Otherwise nothing changes.
 pub fn add_family(
     alloc: Global,
     signature: &mut Signature,
     name: Name,
     kind: Kind,
+    implicit: u32,
 ) -> Result<bool, AllocError>
-    ensures { IfOk result (λ b. MatchBool b ((e : Entered) × (e.name ≡ name) × (e.body ≡ declare_family (kind_of kind)) × (e.implicit ≡ 0) × (signature.new ≡ e ∷ signature.old)) (signature.new ≡ signature.old)) }
+    ensures { IfOk result (λ b. MatchBool b ((e : Entered) × (e.name ≡ name) × (e.body ≡ declare_family (kind_of kind)) × (e.implicit ≡ implicit) × (signature.new ≡ e ∷ signature.old)) (signature.new ≡ signature.old)) }
 {
     let context = Context::new(alloc);
     match check_kind(alloc, signature, &context, &kind)? {
@@ -29,10 +30,13 @@ pub fn add_family(
         return Ok(false);
     }
     let hints = kind_hints(alloc, &kind)?;
+    if implicit as usize > hints.len() {
+        return Ok(false);
+    }
     signature.add(Entry {
         name,
         body: Body::Family(kind),
-        implicit: 0,
+        implicit,
         hints,
     })?;
     Ok(true)
@@ -44,8 +48,9 @@ pub fn add_constant(
     signature: &mut Signature,
     name: Name,
     ty: Ty,
+    implicit: u32,
 ) -> Result<bool, AllocError>
-    ensures { IfOk result (λ b. MatchBool b ((e : Entered) × (e.name ≡ name) × (e.body ≡ declare_constant (type_of ty)) × (e.implicit ≡ 0) × (signature.new ≡ e ∷ signature.old)) (signature.new ≡ signature.old)) }
+    ensures { IfOk result (λ b. MatchBool b ((e : Entered) × (e.name ≡ name) × (e.body ≡ declare_constant (type_of ty)) × (e.implicit ≡ implicit) × (signature.new ≡ e ∷ signature.old)) (signature.new ≡ signature.old)) }
 {
     let context = Context::new(alloc);
     match check_type(alloc, signature, &context, &ty)? {
@@ -56,10 +61,13 @@ pub fn add_constant(
         return Ok(false);
     }
     let hints = type_hints(alloc, &ty)?;
+    if implicit as usize > hints.len() {
+        return Ok(false);
+    }
     signature.add(Entry {
         name,
         body: Body::Constant(ty),
-        implicit: 0,
+        implicit,
         hints,
     })?;
     Ok(true)

@@ -17,8 +17,3 @@ mod types;
 
 pub use entries::{add_constant, add_family};
 pub use readiness::{are_ready, declared};
-
-#[cfg(test)]
-mod reader;
-#[cfg(test)]
-mod rows;

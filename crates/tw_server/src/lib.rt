@@ -19,6 +19,3 @@ pub use laws::{faultless_is_done, one_reading, short_is_not_long, step_keeps_sou
 pub use server::serve;
 pub use status::{Status, exit_code};
 pub use tw_decl::{Refusal, Session, show_refusal};
-
-#[cfg(test)]
-mod tests;

@@ -16,7 +16,3 @@ mod store;
 pub use laws::{skeleton_stays, stays_within, unifying_narrows};
 pub use shape::{Shape, ShapeId};
 pub use store::Shapes;
-
-#[cfg(test)]
-#[tactic(auto, using(crate::proofs::Views::shapes))]
-mod tests;

@@ -18,10 +18,3 @@ mod walk;
 pub use laws::texts_show_what_is_listed;
 pub use naming::{name_shown, outside, shown_marks};
 pub use shown::{shown_in_term, shown_in_type};
-
-#[cfg(test)]
-#[tactic(auto, using(tw_terms::proofs::Args::types))]
-mod entries;
-#[cfg(test)]
-#[tactic(auto, using(tw_terms::proofs::Args::types))]
-mod tests;

@@ -6,6 +6,3 @@ mod signature;
 
 pub use entry::{Body, Entry};
 pub use signature::Signature;
-
-#[cfg(test)]
-mod tests;

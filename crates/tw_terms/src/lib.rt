@@ -24,6 +24,3 @@ pub use open_context::OpenContext;
 pub use open_terms::{Open, OpenHead, OpenSpine, OpenTy};
 pub use skeletons::skeleton;
 pub use weakening::weaken;
-
-#[cfg(test)]
-mod tests;

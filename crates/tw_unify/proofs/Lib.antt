@@ -16,4 +16,3 @@ pub mod Endings
 pub mod Postponing
 pub mod Ordering
 pub mod Shown
-pub mod Sampling

@@ -10,4 +10,3 @@ pub mod Sides
 pub mod Answers
 pub mod Showing
 pub mod Named
-pub mod Samples

@@ -43,7 +43,3 @@ mod work;
 pub use fault::UnifyFault;
 pub use left::{LeftEquation, left_equation};
 pub use solving::{Unified, solve};
-
-#[cfg(test)]
-#[tactic(auto, using(tw_terms::proofs::OpenArgs::open_types))]
-mod tests;

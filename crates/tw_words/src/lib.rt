@@ -2,8 +2,6 @@
 #![tactic(auto)]
 
 mod read;
-#[cfg(test)]
-mod tests;
 mod words;
 
 pub use read::read_words;
