@@ -62,21 +62,11 @@ fn from_vec(alloc: Global) -> Result<Ty, AllocError> {
 
 fn signature(alloc: Global) -> Result<Signature, AllocError> {
     let mut signature = Signature::new(alloc);
-    add_family(
-        alloc,
-        &mut signature,
-        Name::from_text(alloc, "exp")?,
-        Kind::Star,
-        0,
-    )?;
+    let name = Name::from_text(alloc, "exp")?;
+    add_family(alloc, &mut signature, name, Kind::Star, 0)?;
     let kind = Kind::Pi(Box::new(alloc, exp(alloc))?, Box::new(alloc, Kind::Star)?);
-    add_family(
-        alloc,
-        &mut signature,
-        Name::from_text(alloc, "vec")?,
-        kind,
-        0,
-    )?;
+    let name = Name::from_text(alloc, "vec")?;
+    add_family(alloc, &mut signature, name, kind, 0)?;
     let binary = pi(alloc, exp(alloc), pi(alloc, exp(alloc), exp(alloc))?)?;
     let higher = pi(alloc, pi(alloc, exp(alloc), exp(alloc))?, exp(alloc))?;
     let dependent = pi(alloc, exp(alloc), from_vec(alloc)?)?;

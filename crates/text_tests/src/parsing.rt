@@ -1,4 +1,4 @@
-//! Expected values are worked out by hand.
+//! Declarations and queries as they are read. Expected values are worked out by hand.
 use crate::reading::{push_name, repeated};
 use std::alloc::{AllocError, Global};
 use std::test::Fail;

@@ -1,4 +1,4 @@
-//! Expected values are worked out by hand.
+//! The tokens of texts. Expected values are worked out by hand.
 use std::alloc::{AllocError, Global};
 use tw_lexer::{
     Class, Cut, LexFault, Place, Token, TokenKind, Tokens, class_of, cut_piece, is_done, lex,
