@@ -9,8 +9,8 @@ use crate::problems::{Problem, problem_of, signature};
 use crate::tree::walk;
 use std::alloc::{AllocError, Global};
 use std::env;
+use tests_ready::{are_ready, declared};
 use tw_metas::Store;
-use tw_ready::{are_ready, declared};
 use tw_unify::{Unified, UnifyFault, solve};
 
 // what came of a problem

@@ -1,8 +1,8 @@
 //! The problems, over numbers n with z and s.
 use std::alloc::{AllocError, Global};
+use tests_ready::{add_constant, add_family};
 use tw_fixity::Name;
 use tw_metas::Equation;
-use tw_ready::{add_constant, add_family};
 use tw_signature::Signature;
 use tw_terms::{ConstId, Kind, MetaId, Open, OpenContext, OpenHead, OpenSpine, OpenTy, Spine, Ty};
 

@@ -5,6 +5,7 @@ use Rattle.std.proofs.Math.Nat.{max-eq_left}
 use Rattle.lf.specs.Depth.{depth, spine_depth}
 use Rattle.lf.specs.Syntax.{constant, variable, Term, Spine, lambda, root, nil, app, LfType, Kind, pi, atom, kind_pi, star}
 use Rattle.lf.specs.Typing.{Signature, IsSignature}
+use Rattle.lf.specs.Constants.{constants_of}
 use Rattle.lf.specs.Entries.{Entry, Body, declare_family, declare_constant, declare_definition, signature_of, IsCanonicalSignature}
 use Rattle.lf.proofs.Entries.{canonical_is_signature}
 use Rattle.lf.proofs.EntryChecker.{check_entries_sound, entries_refused}
@@ -104,6 +105,16 @@ abbrev pub Σ₀ : Signature
 -- it is canonical LF
 pub entries_canonical : IsCanonicalSignature example_entries
 entries_canonical = check_entries_sound example_entries refl
+
+-- the constants of a family are those whose type ends in it, the oldest first; a definition isn't among them
+pub numbers_constants : constants_of example_entries 0 ≡ 3 ∷ 4 ∷ 12 ∷ []
+numbers_constants = refl
+
+pub vectors_constants : constants_of example_entries 1 ≡ 5 ∷ 6 ∷ []
+vectors_constants = refl
+
+pub constants_out_of_order : constants_of example_entries 1 ≡ 6 ∷ 5 ∷ [] → ⊥
+constants_out_of_order e = cc
 
 -- Entries that may not come next.
 

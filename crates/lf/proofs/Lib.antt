@@ -6,6 +6,7 @@ pub mod SkeletonTypes
 pub mod ToSkeletons
 pub mod Closed
 pub mod Weakening
+pub mod SubstitutionLemma
 pub mod Substitution
 pub mod Eta
 pub mod Agreement

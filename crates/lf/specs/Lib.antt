@@ -14,4 +14,5 @@ pub mod AtOnce
 pub mod Deep
 pub mod DeepTyping
 pub mod Entries
+pub mod Constants
 pub mod Laws

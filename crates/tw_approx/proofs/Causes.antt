@@ -13,7 +13,7 @@ use Rattle.tw_approx.specs.declared.fault.ApproxFault.TheVariants.{Unknown, Type
 use Rattle.tw_names.specs.Texts.{ends_in_type}
 use Rattle.tw_names.specs.Scope.{binder_name}
 use Rattle.tw_parse.specs.Syntax.{Term, identifier, hole, star, arrow, pi, lambda, application, ascription, Declaration}
-use Rattle.tw_scope.specs.Names.{Names}
+use Rattle.tw_fixity.specs.Names.{Names}
 use Rattle.tw_approx.proofs.Fitting.{open_twice}
 
 pub if_err : {T E : Type 0} (r : Result T E) (P Q : E → Type 0) → ((x : E) → P x → Q x) → IfErr r P → IfErr r Q

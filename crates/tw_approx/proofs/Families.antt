@@ -14,7 +14,7 @@ use Rattle.tw_approx.specs.declared.family.Due.{Due}
 use Rattle.tw_approx.specs.declared.family.Due.TheVariants.{Nothing as nothing_due}
 use Rattle.tw_approx.proofs.Views.{due_of-Nothing}
 use Rattle.tw_parse.specs.Syntax.{Term, star, application, ascription}
-use Rattle.tw_scope.specs.Names.{Names}
+use Rattle.tw_fixity.specs.Names.{Names}
 use Rattle.tw_shapes.specs.Shapes as plain
 use Rattle.tw_shapes.specs.Shapes.{Shape, filled, IsWithin, count_of}
 use Rattle.tw_shapes.specs.View.{shape_of}

@@ -12,7 +12,7 @@ use Rattle.tw_approx.specs.declared.family.FamilyShape.{FamilyShape}
 use Rattle.tw_names.specs.Scope.{binder_name}
 use Rattle.tw_lexer.specs.declared.place.Place.{Place}
 use Rattle.tw_parse.specs.Syntax.{Term, Domain, identifier, hole, star, arrow, pi, lambda, application, ascription, untyped, typed}
-use Rattle.tw_scope.specs.Names.{Names}
+use Rattle.tw_fixity.specs.Names.{Names}
 use Rattle.tw_shapes.specs.Shapes as plain
 use Rattle.tw_shapes.specs.Shapes.{Shape, filled, IsWithin, count_of}
 use Rattle.tw_approx.proofs.Assigning.{filled_below, all_below, fewer_below, shape_more, shapes_more}

@@ -8,7 +8,7 @@ use Rattle.tw_approx.specs.Readings.{Reading, found}
 use Rattle.tw_approx.specs.Skeletons.{Frees, name_skeleton}
 use Rattle.tw_approx.specs.Walks.{Assignment, Readings, State, Variables, variable_named, HasVariable, NamesDiffer, Agrees, SameBelow, VariablesWithin, filled_all, IsSound, Reads, ReadsShape, Refuses}
 use Rattle.tw_names.specs.Unknown.{is_uppercase}
-use Rattle.tw_scope.specs.Names.{Names, variable_of}
+use Rattle.tw_fixity.specs.Names.{Names, variable_of}
 use Rattle.tw_shapes.specs.Shapes.{Shape, variable, filled, Store, count_of, Solves}
 use Rattle.tw_approx.proofs.Assigning.{agrees_below, updated, updated_at, updated_below}
 use Rattle.tw_approx.proofs.Sequences.{given, parts_of}

@@ -4,7 +4,7 @@ use Rattle.lf.specs.Syntax.{Skeleton}
 use Rattle.tw_approx.specs.Readings.{Reading}
 use Rattle.tw_approx.specs.Skeletons.{Frees}
 use Rattle.tw_approx.specs.Walks.{Assignment, Readings, State, ShapesWithin, filled_all, IsSound, Reads, Refuses, inside, outside}
-use Rattle.tw_scope.specs.Names.{Names}
+use Rattle.tw_fixity.specs.Names.{Names}
 use Rattle.tw_shapes.specs.Shapes.{Shape, filled, IsWithin, count_of}
 
 -- what is read where these variables are in scope

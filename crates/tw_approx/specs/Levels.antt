@@ -7,7 +7,7 @@ use Rattle.tw_names.specs.Scope.{binder_name, named}
 use Rattle.tw_names.specs.Unknown.{is_no_later}
 use Rattle.tw_lexer.specs.declared.place.Place.{Place}
 use Rattle.tw_parse.specs.Syntax.{Term, Domain, identifier, hole, star, arrow, pi, lambda, application, ascription, untyped, typed, Declaration, declare, define, prefer, give}
-use Rattle.tw_scope.specs.Names.{Names}
+use Rattle.tw_fixity.specs.Names.{Names}
 
 abbrev mutual
   -- the places of the lambdas of a written term that stand where a type, a family or a kind is due, in some order

@@ -5,7 +5,7 @@ use Rattle.lf.specs.Syntax.{Head}
 use Rattle.tw_names.specs.Scope.{binder_name, named}
 use Rattle.tw_names.specs.Unknown.{is_uppercase}
 use Rattle.tw_parse.specs.Syntax.{Term, Domain, identifier, hole, star, arrow, pi, lambda, application, ascription, untyped, typed, Declaration, declare, define, prefer, give}
-use Rattle.tw_scope.specs.Names.{Names}
+use Rattle.tw_fixity.specs.Names.{Names}
 
 module _ (es : List Entry) (x : List ℕ) where
   abbrev mutual

@@ -4,7 +4,7 @@ use Rattle.std.specs.Str.{bytes_eq}
 use Rattle.lf.specs.Syntax.{Skeleton}
 use Rattle.tw_approx.specs.Readings.{Reading}
 use Rattle.tw_approx.specs.Skeletons.{Frees}
-use Rattle.tw_scope.specs.Names.{Names}
+use Rattle.tw_fixity.specs.Names.{Names}
 use Rattle.tw_shapes.specs.Shapes.{Shape, filled, IsWithin, Store, empty_store, count_of, Solves}
 
 -- the skeleton of each shape variable

@@ -5,11 +5,10 @@ ghost use Rattle.tw_approx.specs.Levels.{earlier, earliest, is_family, is_writte
 ghost use Rattle.tw_names.specs.Scope.{named};
 
 use std::alloc::{AllocError, Global};
-use tw_fixity::Name;
+use tw_fixity::{Name, Scope};
 use tw_lexer::Place;
 use tw_names::{binder_name, ends_in_type, is_no_later, named, nested};
 use tw_parse::ExtTerm;
-use tw_scope::Scope;
 use tw_signature::{Body, Signature};
 use tw_terms::Head;
 

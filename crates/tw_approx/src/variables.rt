@@ -4,8 +4,7 @@ ghost use Rattle.tw_approx.specs.Walks.{variable_named};
 
 use std::alloc::{AllocError, Global};
 use std::marker::Model;
-use tw_fixity::Name;
-use tw_scope::Scope;
+use tw_fixity::{Name, Scope};
 use tw_shapes::ShapeId;
 
 /// A free variable with the shape variable of its skeleton.

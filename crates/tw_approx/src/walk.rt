@@ -7,8 +7,7 @@ ghost use Rattle.tw_approx.specs.Walks.{IsSound, empty_state, inside, outside};
 
 use crate::variables::FreeVariables;
 use std::alloc::{AllocError, Global};
-use tw_fixity::Name;
-use tw_scope::Scope;
+use tw_fixity::{Name, Scope};
 use tw_shapes::{Shape, ShapeId, Shapes};
 
 /// What is known on the way over a text.

@@ -15,7 +15,7 @@ use Rattle.tw_recon.specs.Causes as reconstruction
 use Rattle.tw_recon.specs.Reconstruction.{IsReconstructed}
 use Rattle.tw_recon.specs.declared.fault.ReconFault.{ReconFault}
 use Rattle.tw_recon.specs.declared.fault.ReconFault.TheVariants as reconstructions
-use Rattle.tw_unify.specs.declared.left.LeftEquation.{LeftEquation}
+use Rattle.tw_metas.specs.declared.left.LeftEquation.{LeftEquation}
 use Rattle.tw_parse.specs.declared.fault.SyntaxFault.{SyntaxFault}
 use Rattle.tw_parse.specs.declared.fault.SyntaxFault.TheVariants as faults
 use Rattle.tw_decl.specs.View.{View}

@@ -16,9 +16,9 @@ use Rattle.tw_approx.specs.Answer.{frees_of}
 use Rattle.tw_recon.specs.Causes as reconstruction
 use Rattle.tw_recon.specs.declared.fault.ReconFault.{ReconFault}
 use Rattle.tw_recon.specs.declared.fault.ReconFault.TheVariants as reconstructions
-use Rattle.explicit_agrees.specs.Reconstructed.{MayBeRefused}
-use Rattle.explicit_agrees.proofs.Full.{no_lambda, no_name, no_type}
-use Rattle.explicit_agrees.proofs.Only.{no_other_cause}
+use Rattle.law_explicit_agrees.specs.Reconstructed.{MayBeRefused}
+use Rattle.law_explicit_agrees.proofs.Full.{no_lambda, no_name, no_type}
+use Rattle.law_explicit_agrees.proofs.Only.{no_other_cause}
 use Rattle.tw_decl.specs.View.{View, IsSound}
 use Rattle.tw_decl.specs.Declaration.{IsWritten, IsWrittenAlone, IsReadAs, IsFaultBehind, HasObstacle, IsNotMade, IsFirstCause, IsFollowed, IsLastCause, IsCause, IsCauseAlone, HasNoMore}
 use Rattle.tw_decl.specs.Laws.{IsWellTyped, IsCompletable, IsGoodDeclaration, IsGood, IsGoodFrom, GoodIsAccepted, GoodFromIsAccepted}

@@ -5,17 +5,17 @@ use Rattle.lf.specs.Depth.{depth, depth_limit, kind_depth, type_depth}
 use Rattle.lf.specs.Entries.{Body, Entry, declare_constant, declare_definition, declare_family, entry, signature_of}
 use Rattle.lf.specs.Eta.{eta_expand}
 use Rattle.lf.specs.Syntax.{Kind, LfType, Skeleton, Spine, Term as LfTerm, atom as lf_atom, base, constant, nil, root, skeleton, star as lf_star}
-use Rattle.unification.specs.Putting.{PutsIn, PutsInSpine, PutsInType, put_at_rigid, put_in_atom, put_nowhere}
-use Rattle.unification.specs.Unifiers.{Binding}
-use Rattle.elaboration.specs.Completions.{Completes, FreeValue, TakesAny, any_next, any_none, constant_completed, definition_completed}
-use Rattle.elaboration.specs.Elaboration.{Infers, TakesNew, at_constant, at_definition, takes_next, takes_none}
-use Rattle.elaboration.specs.Principal.{Completion, CompletesBody, IsCompletion, WrittenBody, written_definition}
-use Rattle.elaboration.specs.PrincipalLaws.{ElaboratesBody}
-use Rattle.elaboration.specs.SiteLaws.{total}
-use Rattle.elaboration.specs.Sites.{body_spots}
-use Rattle.elaboration.specs.State.{State}
-use Rattle.elaboration.specs.Written.{Written}
-use Rattle.elaboration.specs.Written as forms
+use Rattle.lf_unification.specs.Putting.{PutsIn, PutsInSpine, PutsInType, put_at_rigid, put_in_atom, put_nowhere}
+use Rattle.lf_unification.specs.Unifiers.{Binding}
+use Rattle.lf_elaboration.specs.Completions.{Completes, FreeValue, TakesAny, any_next, any_none, constant_completed, definition_completed}
+use Rattle.lf_elaboration.specs.Elaboration.{Infers, TakesNew, at_constant, at_definition, takes_next, takes_none}
+use Rattle.lf_elaboration.specs.Principal.{Completion, CompletesBody, IsCompletion, WrittenBody, written_definition}
+use Rattle.lf_elaboration.specs.PrincipalLaws.{ElaboratesBody}
+use Rattle.lf_elaboration.specs.SiteLaws.{total}
+use Rattle.lf_elaboration.specs.Sites.{body_spots}
+use Rattle.lf_elaboration.specs.State.{State}
+use Rattle.lf_elaboration.specs.Written.{Written}
+use Rattle.lf_elaboration.specs.Written as forms
 use Rattle.tw_approx.specs.Answer.{HasSkeletons, Rows}
 use Rattle.tw_approx.specs.Names.{IsFreeVariable}
 use Rattle.tw_approx.proofs.Sequences.{parts_of}
@@ -41,10 +41,10 @@ use Rattle.tw_recon.specs.Causes.{BodyReachesDeep}
 use Rattle.tw_recon.specs.Reading.{BodyIsDeep}
 use Rattle.tw_recon.specs.Reconstruction.{IsWrittenAs}
 use Rattle.tw_resolve.specs.Resolved.{resolved_body, skeletons_of}
-use Rattle.explicit_agrees.proofs.Fitting.{some_is}
-use Rattle.explicit_agrees.proofs.Full.{no_equation, written_once}
-use Rattle.explicit_agrees.proofs.Nothing.{none_is_not_some}
-use Rattle.explicit_agrees.proofs.Shallow.{IsShallow, nothing_deep, unmade_shallow}
+use Rattle.law_explicit_agrees.proofs.Fitting.{some_is}
+use Rattle.law_explicit_agrees.proofs.Full.{no_equation, written_once}
+use Rattle.law_explicit_agrees.proofs.Nothing.{none_is_not_some}
+use Rattle.law_explicit_agrees.proofs.Shallow.{IsShallow, nothing_deep, unmade_shallow}
 use Rattle.tw_decl.specs.View.{IsSound}
 use Rattle.tw_decl.specs.Laws.{IsCompletable, IsGood}
 use Rattle.tw_decl.specs.Examples.{DefinitionIsGood, c_entry, o_entry, with_constant}

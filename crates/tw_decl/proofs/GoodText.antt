@@ -2,11 +2,11 @@
 use Rattle.std.proofs.Common.{◌≡◌, ℕ, List, [], ◌∷◌, None, Ok, codes, drop, refl, ap, ◌∙◌, lit<, lit≤, arith, inl, inr}
 use Rattle.lf.specs.Entries.{Body, declare_constant, declare_definition, declare_family, signature_of}
 use Rattle.lf.specs.Syntax.{Kind, star as lf_star}
-use Rattle.elaboration.specs.Elaboration.{ElaboratesKind, at_star}
-use Rattle.elaboration.specs.Principal.{written_family}
-use Rattle.elaboration.specs.PrincipalLaws.{ElaboratesBody}
-use Rattle.elaboration.specs.State.{State}
-use Rattle.elaboration.specs.Written.{written_star}
+use Rattle.lf_elaboration.specs.Elaboration.{ElaboratesKind, at_star}
+use Rattle.lf_elaboration.specs.Principal.{written_family}
+use Rattle.lf_elaboration.specs.PrincipalLaws.{ElaboratesBody}
+use Rattle.lf_elaboration.specs.State.{State}
+use Rattle.lf_elaboration.specs.Written.{written_star}
 use Rattle.tw_lexer.proofs.Pieces.{pieces-at, pieces-end}
 use Rattle.tw_lexer.specs.Characters.{first_piece, pieces_from}
 use Rattle.tw_lexer.specs.Tokens.{first_token, find, between, ThroughDot}
@@ -23,9 +23,9 @@ use Rattle.tw_parse.specs.declared.sign.Level.TheVariants as levels
 use Rattle.tw_parse.specs.declared.words.Word.TheVariants as words
 use Rattle.tw_recon.specs.Causes.{BodyReachesDeep, HasCause}
 use Rattle.tw_recon.specs.declared.fault.ReconFault.TheVariants.{TooDeep}
-use Rattle.explicit_form.specs.Completion.{Completes}
-use Rattle.explicit_agrees.proofs.Deep.{nothing_deep_explicit}
-use Rattle.explicit_agrees.proofs.Shallow.{unmade_shallow}
+use Rattle.law_explicit_form.specs.Completion.{Completes}
+use Rattle.law_explicit_agrees.proofs.Deep.{nothing_deep_explicit}
+use Rattle.law_explicit_agrees.proofs.Shallow.{unmade_shallow}
 use Rattle.tw_decl.specs.Examples.{FamilyIsGood, o_entry}
 
 abbrev text : List ℕ

@@ -21,8 +21,8 @@ use Rattle.tw_recon.specs.Causes as reconstruction
 use Rattle.tw_recon.specs.Reconstruction.{IsReconstructed}
 use Rattle.tw_recon.specs.declared.fault.ReconFault.{ReconFault}
 use Rattle.tw_recon.specs.declared.fault.ReconFault.TheVariants as reconstructions
-use Rattle.tw_unify.specs.Named.{shown_type_of}
-use Rattle.tw_unify.specs.declared.left.LeftEquation.{LeftEquation}
+use Rattle.tw_metas.specs.Named.{shown_type_of}
+use Rattle.tw_metas.specs.declared.left.LeftEquation.{LeftEquation}
 use Rattle.tw_decl.specs.View.{View, scene_of, told, with_entry}
 use Rattle.tw_signature.specs.Names.{number_of}
 use Rattle.tw_decl.specs.Operators.{newest, operand_count, all_take, first_undeclared, with_rows, fixity_line}

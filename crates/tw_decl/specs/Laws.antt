@@ -6,15 +6,15 @@ use Rattle.tw_lexer.specs.declared.token.Token.{Token}
 use Rattle.tw_lexer.specs.declared.token.TokenKind.TheVariants.{End}
 use Rattle.tw_parse.specs.Syntax.{Declaration}
 use Rattle.tw_parse.specs.Words.{Lexeme}
-use Rattle.explicit_form.specs.Completion.{Completes}
-use Rattle.explicit_form.specs.Explicit.{IsExplicit}
-use Rattle.elaboration.specs.Principal.{Completion, IsCompletion, WrittenBody}
+use Rattle.law_explicit_form.specs.Completion.{Completes}
+use Rattle.law_explicit_form.specs.Explicit.{IsExplicit}
+use Rattle.lf_elaboration.specs.Principal.{Completion, IsCompletion, WrittenBody}
 use Rattle.tw_approx.specs.Answer.{Rows}
 use Rattle.tw_recon.specs.Causes as reconstruction
 use Rattle.tw_recon.specs.Reconstruction.{IsWrittenAs}
 use Rattle.tw_recon.specs.declared.fault.ReconFault.TheVariants.{Leftover, TooDeep}
 use Rattle.tw_resolve.specs.Resolved.{skeletons_of}
-use Rattle.tw_unify.specs.declared.left.LeftEquation.{LeftEquation}
+use Rattle.tw_metas.specs.declared.left.LeftEquation.{LeftEquation}
 use Rattle.tw_decl.specs.View.{View, IsSound}
 use Rattle.tw_decl.specs.Declaration.{IsWritten, IsWrittenAlone, IsReadAs, Accepts, AcceptsFrom, HasCause, HasCauseFrom}
 use Rattle.tw_decl.specs.declared.refusal.Refusal.{Refusal}

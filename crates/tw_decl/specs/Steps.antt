@@ -16,7 +16,7 @@ use Rattle.tw_parse.specs.Syntax.{Declaration, declare, define, prefer, give}
 use Rattle.tw_parse.specs.declared.decl.ExtName.{ExtName}
 use Rattle.tw_recon.specs.declared.fault.ReconFault.{ReconFault}
 use Rattle.tw_recon.specs.declared.fault.ReconFault.TheVariants as reconstructions
-use Rattle.tw_unify.specs.declared.left.LeftEquation.{LeftEquation}
+use Rattle.tw_metas.specs.declared.left.LeftEquation.{LeftEquation}
 use Rattle.tw_decl.specs.View.{View}
 use Rattle.tw_decl.specs.Declaration.{IsReadAs, left_text}
 use Rattle.tw_decl.specs.declared.refusal.Refusal.{Refusal}

@@ -23,11 +23,11 @@ use std::alloc::{AllocError, Global};
 use tw_equation::show_equation;
 use tw_fixity::{Fix, Name};
 use tw_lexer::{LexFault, Place, Token, TokenKind, Tokens, lex, next_token};
+use tw_metas::LeftEquation;
 use tw_parse::{ExtDecl, ExtName, SyntaxFault, parse_decl};
 use tw_print::{ShowEnv, show_entry};
 use tw_recon::{ReconFault, reconstruct};
 use tw_signature::Entry;
-use tw_unify::LeftEquation;
 
 /// From how much chatter on accepted declarations are reported.
 const REPORTS_FROM: u8 = 3;

@@ -5,7 +5,7 @@ ghost use Rattle.tw_print.specs.View.{preferences_of};
 ghost use Rattle.tw_decl.specs.Preferences.{is_family, lower_word, preference_line};
 
 use std::alloc::{AllocError, Global};
-use tw_fixity::Name;
+use tw_fixity::{Name, copy_option};
 use tw_print::Preference;
 use tw_signature::{Body, Signature};
 use tw_terms::ConstId;
@@ -49,15 +49,6 @@ pub fn preference_line(
     Ok(line)
 }
 
-fn copy_lower(alloc: Global, lower: &Option<Name>) -> Result<Option<Name>, AllocError>
-    ensures { IfOk result (λ copy. copy ≡ lower.now) }
-{
-    match lower {
-        Some(lower) => Ok(Some(lower.copy(alloc)?)),
-        None => Ok(None),
-    }
-}
-
 /// The row of these names. Fails only for want of memory.
 pub fn preference(
     alloc: Global,
@@ -68,6 +59,6 @@ pub fn preference(
 {
     Ok(Preference {
         upper: upper.copy(alloc)?,
-        lower: copy_lower(alloc, lower)?,
+        lower: copy_option(alloc, lower)?,
     })
 }

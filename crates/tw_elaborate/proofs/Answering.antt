@@ -4,10 +4,10 @@ use Rattle.lf.specs.Entries.{Entry, IsCanonicalSignature, signature_of}
 use Rattle.lf.specs.Eta.{add_last}
 use Rattle.lf.specs.Syntax.{Kind, LfType, Spine, Term, atom, kind_pi, kind_skeleton, lambda, pi, star}
 use Rattle.lf.specs.Typing.{instantiate_kind}
-use Rattle.elaboration.specs.Elaboration.{Checks, ElaboratesDomain, ElaboratesFamily, ElaboratesKind, ElaboratesType, Infers, IsInferred, at_family, at_family_applied, at_family_ascribed, at_function, at_kind_quantified, at_quantified, checks_function, checks_inferred}
-use Rattle.elaboration.specs.Skeletons.{TypeHasSkeletons}
-use Rattle.elaboration.specs.State.{State, kind_equations, type_equations, with_equations}
-use Rattle.elaboration.specs.Written.{Written, WrittenDomain, WrittenKind, WrittenType, family_applied, family_ascribed, function, kind_quantified, quantified}
+use Rattle.lf_elaboration.specs.Elaboration.{Checks, ElaboratesDomain, ElaboratesFamily, ElaboratesKind, ElaboratesType, Infers, IsInferred, at_family, at_family_applied, at_family_ascribed, at_function, at_kind_quantified, at_quantified, checks_function, checks_inferred}
+use Rattle.lf_elaboration.specs.Skeletons.{TypeHasSkeletons}
+use Rattle.lf_elaboration.specs.State.{State, kind_equations, type_equations, with_equations}
+use Rattle.lf_elaboration.specs.Written.{Written, WrittenDomain, WrittenKind, WrittenType, family_applied, family_ascribed, function, kind_quantified, quantified}
 use Rattle.tw_lexer.specs.declared.place.Place.{Place}
 use Rattle.tw_terms.specs.declared.canonical.ConstId.{ConstId}
 use Rattle.tw_written.specs.View.{written_of}

@@ -8,9 +8,9 @@ use Rattle.lf.specs.Substitution.{keep, reduce}
 use Rattle.lf.specs.Syntax.{Kind, LfType, kind_pi, lift_renaming, pi, rename_kind, rename_type, weaken}
 use Rattle.lf.proofs.AtOnce.{shift_by_nothing}
 use Rattle.lf.proofs.TypeLaws.{renamings_compose_type, substitute_identity_kind, substitute_identity_type, substitute_renamed_kind, substitution_as_renaming_kind, substitution_as_renaming_type}
-use Rattle.elaboration.specs.Elaboration.{ElaboratesKind, ElaboratesType, at_arrow, at_kind_arrow}
-use Rattle.elaboration.specs.State.{State}
-use Rattle.elaboration.specs.Written.{WrittenKind, WrittenType, arrow, kind_arrow}
+use Rattle.lf_elaboration.specs.Elaboration.{ElaboratesKind, ElaboratesType, at_arrow, at_kind_arrow}
+use Rattle.lf_elaboration.specs.State.{State}
+use Rattle.lf_elaboration.specs.Written.{WrittenKind, WrittenType, arrow, kind_arrow}
 use Rattle.tw_terms.specs.OpenView.{open_type_of}
 use Rattle.tw_terms.specs.declared.open_terms.OpenTy.{OpenTy}
 use Rattle.tw_elaborate.specs.Arrows.{arrows_to, kind_arrows_to}

@@ -5,12 +5,12 @@ use Rattle.lf.specs.Entries.{Entry, IsCanonicalSignature, signature_of}
 use Rattle.lf.specs.Syntax.{LfType, Skeleton}
 use Rattle.lf.specs.Typing.{IsSignature}
 use Rattle.lf.proofs.Entries.{canonical_is_signature}
-use Rattle.elaboration.specs.Elaboration.{ElaboratesType, NewFrees}
-use Rattle.elaboration.specs.Skeletons.{TypeHasSkeletons}
-use Rattle.elaboration.specs.State.{State, nothing_yet}
-use Rattle.elaboration.proofs.Adds.{type_adds}
-use Rattle.elaboration.proofs.Skeletons.{frees_skeletons, local_grows, nothing_has_skeletons, type_skeletons}
-use Rattle.elaboration.specs.Written.{WrittenType as LfWrittenType}
+use Rattle.lf_elaboration.specs.Elaboration.{ElaboratesType, NewFrees}
+use Rattle.lf_elaboration.specs.Skeletons.{TypeHasSkeletons}
+use Rattle.lf_elaboration.specs.State.{State, nothing_yet}
+use Rattle.lf_elaboration.proofs.Adds.{type_adds}
+use Rattle.lf_elaboration.proofs.Skeletons.{frees_skeletons, local_grows, nothing_has_skeletons, type_skeletons}
+use Rattle.lf_elaboration.specs.Written.{WrittenType as LfWrittenType}
 use Rattle.tw_written.specs.View.{written_body_of, written_kind_of, written_of, written_type_of}
 use Rattle.tw_written.specs.declared.written.Written.{Written}
 use Rattle.tw_written.specs.declared.written.WrittenBody.{WrittenBody}

@@ -8,12 +8,12 @@ use Rattle.lf.specs.Substitution.{reduce}
 use Rattle.lf.specs.Syntax.{Kind, LfType, Spine, Term, constant, skeleton}
 use Rattle.lf.specs.Typing.{IsSignature, Signature}
 use Rattle.lf.proofs.Entries.{canonical_is_signature}
-use Rattle.elaboration.specs.Elaboration.{ElaboratesFamily, Infers, KindTakesNew, TakesNew, at_constant, at_definition, at_family_name}
-use Rattle.elaboration.specs.Skeletons.{heads_of}
-use Rattle.elaboration.specs.State.{State}
-use Rattle.elaboration.specs.Written.{Place, declared, family}
-use Rattle.unification.specs.Patterns.{local_skeletons}
-use Rattle.elaboration.proofs.Skeletons.{closed_term_skeleton, constant_type, entry_typed, kind_closed, kind_declared, takes_skeletons, type_declared}
+use Rattle.lf_elaboration.specs.Elaboration.{ElaboratesFamily, Infers, KindTakesNew, TakesNew, at_constant, at_definition, at_family_name}
+use Rattle.lf_elaboration.specs.Skeletons.{heads_of}
+use Rattle.lf_elaboration.specs.State.{State}
+use Rattle.lf_elaboration.specs.Written.{Place, declared, family}
+use Rattle.lf_unification.specs.Patterns.{local_skeletons}
+use Rattle.lf_elaboration.proofs.Skeletons.{closed_term_skeleton, constant_type, entry_typed, kind_closed, kind_declared, takes_skeletons, type_declared}
 use Rattle.tw_elaborate.specs.Deep.{InfersDeep, TakesDeep, deep_definition}
 use Rattle.tw_elaborate.specs.Fits.{GivesArguments, KindStands, Stands, TypeStands}
 

@@ -12,20 +12,20 @@ use Rattle.lf.proofs.Entries.{canonical_is_signature}
 use Rattle.lf.proofs.SkeletonTypes.{single_kind_by_skeletons}
 use Rattle.lf.proofs.SkeletonTyping.{single_by_skeletons}
 use Rattle.lf.proofs.ToSkeletons.{kind_skeleton_substituted}
-use Rattle.elaboration.specs.Skeletons.{KindHasSkeletons, TypeHasSkeletons, heads_of}
-use Rattle.elaboration.specs.State.{State, index_equations, kind_equations, type_equations, with_equations}
-use Rattle.elaboration.proofs.Skeletons.{kind_closed}
-use Rattle.unification.specs.Lists.{followed}
-use Rattle.unification.specs.Offering.{spine_equations}
-use Rattle.unification.specs.Patterns.{local_skeletons}
-use Rattle.unification.specs.Unifiers.{Equation}
+use Rattle.lf_elaboration.specs.Skeletons.{KindHasSkeletons, TypeHasSkeletons, heads_of}
+use Rattle.lf_elaboration.specs.State.{State, index_equations, kind_equations, type_equations, with_equations}
+use Rattle.lf_elaboration.proofs.Skeletons.{kind_closed}
+use Rattle.lf_unification.specs.Lists.{followed}
+use Rattle.lf_unification.specs.Offering.{spine_equations}
+use Rattle.lf_unification.specs.Patterns.{local_skeletons}
+use Rattle.lf_unification.specs.Unifiers.{Equation}
 use Rattle.tw_hered.specs.Fits.{put_at}
 use Rattle.tw_metas.specs.View.{equation_of}
 use Rattle.tw_metas.specs.declared.equation.Equation.{Equation as TwEquation}
 use Rattle.tw_terms.specs.OpenView.{open_args_of, open_term_of}
 use Rattle.tw_terms.specs.declared.open_terms.Open.{Open}
 use Rattle.tw_elaborate.specs.Comparing.{SpineStands, TakesBoth}
-use Rattle.tw_elaborate.specs.Fits.{KindFits}
+use Rattle.tw_hered.specs.Fits.{KindFits}
 use Rattle.tw_elaborate.specs.View.{made}
 use Rattle.tw_elaborate.specs.declared.state.Elaboration.{Elaboration}
 

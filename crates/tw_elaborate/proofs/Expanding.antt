@@ -7,8 +7,8 @@ use Rattle.lf.specs.Eta.{add_last, append, arity, eta_arguments, eta_expand, lam
 use Rattle.lf.specs.Syntax.{Head, LfType, Skeleton, Spine, Term, app, arrow, base, lambda, nil, pi, rename_head, rename_spine, root, skeleton, variable}
 use Rattle.lf.proofs.AtOnce.{eta_expand_at_once}
 use Rattle.lf.proofs.Eta.{rename_eta_expand}
-use Rattle.unification.specs.Offering.{local_arguments, pi_over}
-use Rattle.unification.specs.Patterns.{eta_variable, lambdas_of}
+use Rattle.lf_unification.specs.Offering.{local_arguments, pi_over}
+use Rattle.lf_unification.specs.Patterns.{eta_variable, lambdas_of}
 use Rattle.tw_terms.specs.OpenView.{open_args_of, open_head_of, open_term_of}
 use Rattle.tw_terms.specs.declared.open_terms.Open.{Open, Root}
 use Rattle.tw_terms.specs.declared.open_terms.OpenHead.{OpenHead}

@@ -6,15 +6,15 @@ use Rattle.lf.specs.Syntax.{Kind, LfType, Spine, Term, kind_pi, pi, skeleton}
 use Rattle.lf.specs.Typing.{IsSignature, Signature}
 use Rattle.lf.proofs.Entries.{canonical_is_signature}
 use Rattle.lf.proofs.SkeletonTyping.{single_by_skeletons}
-use Rattle.elaboration.specs.Elaboration.{Checks, ElaboratesDomain, ElaboratesFamily, ElaboratesKind, ElaboratesType, Infers}
-use Rattle.elaboration.specs.Skeletons.{KindHasSkeletons, StateHasSkeletons, TermHasSkeleton, TypeHasSkeletons, heads_of}
-use Rattle.elaboration.specs.State.{State, type_equations, with_equations}
-use Rattle.elaboration.specs.Written.{Written, WrittenDomain, WrittenKind, WrittenType}
-use Rattle.unification.specs.Patterns.{local_skeletons}
-use Rattle.elaboration.proofs.Adds.{Grows, adds_equations, checks_adds, domain_adds, family_adds, infers_adds, kind_adds, type_adds}
-use Rattle.elaboration.proofs.Skeletons.{checks_skeletons, domain_skeletons, family_skeletons_of, infers_skeletons, kind_grows, kind_skeletons, local_grows, more_equations, term_grows, type_equations_have, type_grows, type_skeletons}
-use Rattle.tw_hered.specs.Fits.{TypeFits}
-use Rattle.tw_elaborate.specs.Fits.{KindFits, Stands}
+use Rattle.lf_elaboration.specs.Elaboration.{Checks, ElaboratesDomain, ElaboratesFamily, ElaboratesKind, ElaboratesType, Infers}
+use Rattle.lf_elaboration.specs.Skeletons.{KindHasSkeletons, StateHasSkeletons, TermHasSkeleton, TypeHasSkeletons, heads_of}
+use Rattle.lf_elaboration.specs.State.{State, type_equations, with_equations}
+use Rattle.lf_elaboration.specs.Written.{Written, WrittenDomain, WrittenKind, WrittenType}
+use Rattle.lf_unification.specs.Patterns.{local_skeletons}
+use Rattle.lf_elaboration.proofs.Adds.{Grows, adds_equations, checks_adds, domain_adds, family_adds, infers_adds, kind_adds, type_adds}
+use Rattle.lf_elaboration.proofs.Skeletons.{checks_skeletons, domain_skeletons, family_skeletons_of, infers_skeletons, kind_grows, kind_skeletons, local_grows, more_equations, term_grows, type_equations_have, type_grows, type_skeletons}
+use Rattle.tw_hered.specs.Fits.{KindFits, TypeFits}
+use Rattle.tw_elaborate.specs.Fits.{Stands}
 use Rattle.tw_elaborate.specs.Fresh.{Keeps}
 use Rattle.tw_elaborate.specs.Operators.{Applies}
 use Rattle.tw_elaborate.specs.declared.state.Elaboration.{Elaboration}

@@ -4,9 +4,9 @@ use Rattle.std.proofs.lemmas.List.{drop_all, map-append}
 use Rattle.lf.specs.Entries.{Entry, IsCanonicalSignature, signature_of}
 use Rattle.lf.specs.Syntax.{LfType, Skeleton}
 use Rattle.lf.proofs.Entries.{canonical_is_signature}
-use Rattle.elaboration.specs.Elaboration.{NewFrees, NewType, next_free, no_frees}
-use Rattle.elaboration.specs.State.{State, with_metavariable}
-use Rattle.elaboration.proofs.Skeletons.{new_state, new_type_skeletons}
+use Rattle.lf_elaboration.specs.Elaboration.{NewFrees, NewType, next_free, no_frees}
+use Rattle.lf_elaboration.specs.State.{State, with_metavariable}
+use Rattle.lf_elaboration.proofs.Skeletons.{new_state, new_type_skeletons}
 use Rattle.std.specs.declared.alloc.AllocError.{AllocError}
 use Rattle.tw_metas.specs.State.{Story, changed, with_declared}
 use Rattle.tw_metas.specs.View.{equation_of}

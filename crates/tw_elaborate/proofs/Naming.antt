@@ -13,21 +13,17 @@ use Rattle.lf.specs.Variables.{onto}
 use Rattle.lf.proofs.Eta.{reduce_nil}
 use Rattle.lf.proofs.Renaming.{reduction_beta}
 use Rattle.lf.proofs.TypeLaws.{renamings_compose_type, skeleton_renamed}
-use Rattle.unification.proofs.Eta.{rename_id_type}
+use Rattle.lf_unification.proofs.Eta.{rename_id_type}
 use Rattle.lf.proofs.SkeletonTyping.{single_by_skeletons, substitution_keeps_skeletons}
-use Rattle.elaboration.specs.Elaboration.{Infers, at_bound, at_free}
-use Rattle.elaboration.specs.State.{State}
-use Rattle.elaboration.specs.Written.{Place, bound, free}
-use Rattle.unification.specs.OpenTyping.{weaken_past}
+use Rattle.lf_elaboration.specs.Elaboration.{Infers, at_bound, at_free}
+use Rattle.lf_elaboration.specs.State.{State}
+use Rattle.lf_elaboration.specs.Written.{Place, bound, free}
+use Rattle.lf_unification.specs.OpenTyping.{weaken_past}
 use Rattle.tw_hered.specs.Fits.{TermFits, put_at}
-use Rattle.tw_hered.specs.declared.fault.HeredFault.{HeredFault}
-use Rattle.tw_hered.specs.declared.fault.HeredFault.TheVariants as hered
 use Rattle.tw_terms.specs.OpenView.{open_args_of, open_term_of}
 use Rattle.tw_terms.specs.declared.open_terms.Open.{Open}
 use Rattle.tw_elaborate.specs.Deep.{TakesDeep, deep_first, deep_later}
-use Rattle.tw_elaborate.specs.Faults.{fault_of}
 use Rattle.tw_elaborate.specs.Fits.{GivesArguments}
-use Rattle.tw_elaborate.specs.declared.fault.ElaborateFault.TheVariants.{TooDeep}
 use Rattle.std.proofs.lemmas.List.{drop_all}
 
 -- a variable in scope
@@ -116,10 +112,6 @@ next_spine ts i t h e = ap open_args_of (drop-cons ts i t h) ∙ ap (λ u. app (
 -- all are taken
 pub taken_all : (limit : ℕ) (a : Skeleton) (P : Term) (S : Spine) (b : Skeleton) (M : Term) (ts : List Open) (i : ℕ) → length ts ≤ i → Taken limit a P S b M (open_args_of (drop i ts)) → M ≡ reduce a P S
 taken_all limit a P S b M ts i h t = sym (reduce_nil b M) ∙ ap (reduce b M) (sym (ap open_args_of (drop_all i ts h))) ∙ t.same
-
-pub fault_back : (f : HeredFault) → fault_of f ≡ TooDeep → f ≡ hered.TooDeep
-fault_back hered.TooDeep e = refl
-fault_back hered.NoMemory e = absurd cc
 
 pub at_index : {X : Type 0} (xs : List X) (i : ℕ) (x : X) → i < length xs → x ≡ get_or xs i x → slice_get xs i ≡ Some x
 at_index [] i x h e = absurd (omega arith)

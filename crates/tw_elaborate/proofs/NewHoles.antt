@@ -2,10 +2,10 @@
 use Rattle.std.proofs.Common.{◌≡◌, ℕ, List, sym, ap, ◌∙◌, subst}
 use Rattle.lf.specs.Entries.{Entry}
 use Rattle.lf.specs.Syntax.{LfType, Skeleton, Term, skeleton}
-use Rattle.elaboration.specs.Elaboration.{Checks, Infers, NewType, at_hole, checks_hole}
-use Rattle.elaboration.specs.State.{with_metavariable}
-use Rattle.elaboration.specs.Written.{Place, hole}
-use Rattle.unification.specs.Offering.{raised}
+use Rattle.lf_elaboration.specs.Elaboration.{Checks, Infers, NewType, at_hole, checks_hole}
+use Rattle.lf_elaboration.specs.State.{with_metavariable}
+use Rattle.lf_elaboration.specs.Written.{Place, hole}
+use Rattle.lf_unification.specs.Offering.{raised}
 use Rattle.tw_elaborate.specs.Fresh.{IsNew}
 use Rattle.tw_elaborate.specs.View.{made}
 use Rattle.tw_elaborate.specs.declared.state.Elaboration.{Elaboration}

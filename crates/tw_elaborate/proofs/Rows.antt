@@ -11,10 +11,10 @@ use Rattle.lf.proofs.Eta.{single_eta, substitute_eta_expand}
 use Rattle.lf.proofs.Renaming.{substitute_identity_spine, substitute_renamed_spine}
 use Rattle.lf.proofs.SkeletonTyping.{single_by_skeletons}
 use Rattle.lf.proofs.TypeLaws.{skeleton_substituted}
-use Rattle.elaboration.specs.Elaboration.{Checks, Infers, IsInferred, at_applied}
-use Rattle.elaboration.specs.Skeletons.{TermHasSkeleton, TypeHasSkeletons}
-use Rattle.elaboration.specs.State.{State}
-use Rattle.elaboration.specs.Written.{Written, applied}
+use Rattle.lf_elaboration.specs.Elaboration.{Checks, Infers, IsInferred, at_applied}
+use Rattle.lf_elaboration.specs.Skeletons.{TermHasSkeleton, TypeHasSkeletons}
+use Rattle.lf_elaboration.specs.State.{State}
+use Rattle.lf_elaboration.specs.Written.{Written, applied}
 use Rattle.tw_hered.specs.Fits.{TermFits, TypeFits}
 use Rattle.tw_terms.specs.OpenView.{open_type_of}
 use Rattle.tw_terms.proofs.Args.{types_and_skeletons}

@@ -4,10 +4,10 @@ use Rattle.lf.specs.Entries.{Entry, IsCanonicalSignature, signature_of}
 use Rattle.lf.specs.Syntax.{Kind, LfType, Skeleton, Spine, arrow, atom, base, pi}
 use Rattle.lf.specs.Typing.{IsSignature}
 use Rattle.lf.proofs.Entries.{canonical_is_signature}
-use Rattle.elaboration.specs.Elaboration.{NewType, TakesAllNew, new_atom, new_pi}
-use Rattle.elaboration.specs.State.{State}
-use Rattle.elaboration.proofs.Adds.{new_type_adds}
-use Rattle.elaboration.proofs.Skeletons.{kind_closed, local_grows, new_type_skeletons}
+use Rattle.lf_elaboration.specs.Elaboration.{NewType, TakesAllNew, new_atom, new_pi}
+use Rattle.lf_elaboration.specs.State.{State}
+use Rattle.lf_elaboration.proofs.Adds.{new_type_adds}
+use Rattle.lf_elaboration.proofs.Skeletons.{kind_closed, local_grows, new_type_skeletons}
 use Rattle.tw_elaborate.specs.Fits.{KindStands, Stands}
 use Rattle.tw_elaborate.specs.Fresh.{Keeps, OnlyDeclares}
 use Rattle.tw_elaborate.specs.declared.state.Elaboration.{Elaboration}

@@ -7,14 +7,14 @@ use Rattle.lf.specs.Syntax.{Kind, LfType, Skeleton, Term, kind_pi, pi, skeleton}
 use Rattle.lf.specs.Typing.{IsSignature, Signature, instantiate_kind, instantiate_type}
 use Rattle.lf.proofs.SkeletonTypes.{single_kind_by_skeletons, single_type_by_skeletons}
 use Rattle.lf.proofs.SkeletonTyping.{lift_by_skeletons, single_by_skeletons}
-use Rattle.unification.specs.Offering.{raised}
-use Rattle.unification.specs.Patterns.{local_skeletons}
-use Rattle.elaboration.specs.Skeletons.{TypeHasSkeletons, heads_of}
-use Rattle.elaboration.specs.State.{State, with_metavariable}
-use Rattle.elaboration.proofs.Adds.{adds_metavariable}
-use Rattle.elaboration.proofs.Skeletons.{kind_grows, local_grows, new_state, raised_skeleton, type_grows}
-use Rattle.tw_hered.specs.Fits.{TypeFits, put_at}
-use Rattle.tw_elaborate.specs.Fits.{KindFits, KindStands, Stands, TypeStands}
+use Rattle.lf_unification.specs.Offering.{raised}
+use Rattle.lf_unification.specs.Patterns.{local_skeletons}
+use Rattle.lf_elaboration.specs.Skeletons.{TypeHasSkeletons, heads_of}
+use Rattle.lf_elaboration.specs.State.{State, with_metavariable}
+use Rattle.lf_elaboration.proofs.Adds.{adds_metavariable}
+use Rattle.lf_elaboration.proofs.Skeletons.{kind_grows, local_grows, new_state, raised_skeleton, type_grows}
+use Rattle.tw_hered.specs.Fits.{KindFits, TypeFits, put_at}
+use Rattle.tw_elaborate.specs.Fits.{KindStands, Stands, TypeStands}
 
 module _ (s : State) (D : List LfType) (A : LfType) where
   abbrev next : State

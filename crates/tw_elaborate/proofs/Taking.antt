@@ -6,11 +6,11 @@ use mathlib.Core.Path.{fun_ext}
 use Rattle.lf.specs.Eta.{append}
 use Rattle.lf.specs.Syntax.{Kind, LfType, Spine, Term, app, kind_pi, nil, pi, star}
 use Rattle.lf.specs.Typing.{instantiate_kind, instantiate_type}
-use Rattle.elaboration.specs.Elaboration.{KindTakesNew, TakesAllNew, TakesNew, kind_takes_next, kind_takes_none, takes_all, takes_first, takes_next, takes_none}
-use Rattle.elaboration.specs.State.{State, with_metavariable}
-use Rattle.unification.specs.Offering.{pi_over, raised}
-use Rattle.unification.specs.OpenTyping.{set_at}
-use Rattle.unification.specs.Unifiers.{Equation}
+use Rattle.lf_elaboration.specs.Elaboration.{KindTakesNew, TakesAllNew, TakesNew, kind_takes_next, kind_takes_none, takes_all, takes_first, takes_next, takes_none}
+use Rattle.lf_elaboration.specs.State.{State, with_metavariable}
+use Rattle.lf_unification.specs.Offering.{pi_over, raised}
+use Rattle.lf_unification.specs.OpenTyping.{set_at}
+use Rattle.lf_unification.specs.Unifiers.{Equation}
 use Rattle.tw_metas.specs.State.{Declaration, Story, changed, with_declared}
 use Rattle.tw_metas.specs.State as metas
 use Rattle.tw_putting.specs.Stores.{types_of}

@@ -2,11 +2,11 @@
 use Rattle.std.specs.Prelude.{◌≡◌, ℕ, List, [], Bool}
 use Rattle.lf.specs.Entries.{Body, Entry, declare_constant, declare_definition, declare_family}
 use Rattle.lf.specs.Syntax.{LfType, Skeleton}
-use Rattle.elaboration.specs.Elaboration.{ElaboratesType, NewFrees}
-use Rattle.elaboration.specs.Principal.{WrittenBody, written_constant, written_definition, written_definition_of, written_family}
-use Rattle.elaboration.specs.PrincipalLaws.{ElaboratesBody}
-use Rattle.elaboration.specs.State.{State, nothing_yet}
-use Rattle.elaboration.specs.Written.{Written, WrittenKind, WrittenType}
+use Rattle.lf_elaboration.specs.Elaboration.{ElaboratesType, NewFrees}
+use Rattle.lf_elaboration.specs.Principal.{WrittenBody, written_constant, written_definition, written_definition_of, written_family}
+use Rattle.lf_elaboration.specs.PrincipalLaws.{ElaboratesBody}
+use Rattle.lf_elaboration.specs.State.{State, nothing_yet}
+use Rattle.lf_elaboration.specs.Written.{Written, WrittenKind, WrittenType}
 use Rattle.tw_metas.specs.State.{empty_story}
 use Rattle.tw_terms.specs.OpenView.{open_term_of, open_type_of}
 use Rattle.tw_elaborate.specs.Deep.{ChecksDeep, InfersDeep, KindDeep, TypeDeep}

@@ -4,10 +4,10 @@ use Rattle.lf.specs.Entries.{Entry, signature_of}
 use Rattle.lf.specs.SkeletonTyping.{HeadSkeletons, KindBySkeletons, SpineSkeleton}
 use Rattle.lf.specs.Syntax.{Kind, LfType, Skeleton, Spine, Term, kind_pi, kind_skeleton, skeleton}
 use Rattle.lf.specs.Typing.{Signature, instantiate_kind}
-use Rattle.elaboration.specs.Elaboration.{ElaboratesDomain}
-use Rattle.elaboration.specs.State.{State, kind_equations, type_equations, with_equations}
-use Rattle.elaboration.specs.Written.{WrittenDomain}
-use Rattle.unification.specs.Patterns.{local_skeletons}
+use Rattle.lf_elaboration.specs.Elaboration.{ElaboratesDomain}
+use Rattle.lf_elaboration.specs.State.{State, kind_equations, type_equations, with_equations}
+use Rattle.lf_elaboration.specs.Written.{WrittenDomain}
+use Rattle.lf_unification.specs.Patterns.{local_skeletons}
 use Rattle.tw_elaborate.specs.declared.state.Elaboration.{Elaboration}
 use Rattle.tw_elaborate.specs.View.{made}
 

@@ -5,9 +5,9 @@ use Rattle.lf.specs.Depth.{depth_limit}
 use Rattle.lf.specs.Entries.{Entry, declare_definition, entry, signature_of}
 use Rattle.lf.specs.Substitution.{reduce, single, substitute}
 use Rattle.lf.specs.Syntax.{Kind, LfType, Skeleton, Spine, Term, app, arrow as arrow_skeleton, kind_pi, lambda, pi, skeleton}
-use Rattle.elaboration.specs.Elaboration.{Checks, ElaboratesDomain, ElaboratesFamily, ElaboratesKind, ElaboratesType, Infers, IsInferred, TakesNew}
-use Rattle.elaboration.specs.State.{State, type_equations, with_equations}
-use Rattle.elaboration.specs.Written.{Place, Written, WrittenDomain, WrittenKind, WrittenType, applied, arrow, ascribed, bound, declared, family_applied, family_ascribed, free, function, hole, kind_arrow, kind_quantified, of_type, quantified, written_star}
+use Rattle.lf_elaboration.specs.Elaboration.{Checks, ElaboratesDomain, ElaboratesFamily, ElaboratesKind, ElaboratesType, Infers, IsInferred, TakesNew}
+use Rattle.lf_elaboration.specs.State.{State, type_equations, with_equations}
+use Rattle.lf_elaboration.specs.Written.{Place, Written, WrittenDomain, WrittenKind, WrittenType, applied, arrow, ascribed, bound, declared, family_applied, family_ascribed, free, function, hole, kind_arrow, kind_quantified, of_type, quantified, written_star}
 
 -- a definition
 pub record IsDefined (es : List Entry) (c : ℕ) : Type 0 where

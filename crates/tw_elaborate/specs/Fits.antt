@@ -1,11 +1,10 @@
 -- What elaboration asks of what was made so far: that skeletons type it.
-use Rattle.std.specs.Prelude.{ℕ, List, Option}
-use Rattle.lf.specs.SkeletonTyping.{HeadSkeletons, KindBySkeletons, SpineSkeleton, SubstitutionBySkeletons, TermSkeleton}
-use Rattle.lf.specs.Substitution.{Image}
+use Rattle.std.specs.Prelude.{List}
+use Rattle.lf.specs.SkeletonTyping.{HeadSkeletons, SpineSkeleton, TermSkeleton}
 use Rattle.lf.specs.Syntax.{Kind, LfType, Skeleton, Spine, Term}
 use Rattle.lf.specs.Typing.{IsSignature, Signature}
-use Rattle.elaboration.specs.Skeletons.{KindHasSkeletons, LocalHasSkeletons, StateHasSkeletons, TypeHasSkeletons}
-use Rattle.elaboration.specs.State.{State}
+use Rattle.lf_elaboration.specs.Skeletons.{KindHasSkeletons, LocalHasSkeletons, StateHasSkeletons, TypeHasSkeletons}
+use Rattle.lf_elaboration.specs.State.{State}
 
 -- what was made, and the local context
 pub record Stands (Σ : Signature) (s : State) (D : List LfType) : Type 0 where
@@ -25,15 +24,6 @@ pub record KindStands (s : State) (D : List LfType) (K : Kind) : Type 0 where
   pub typed_signature : IsSignature signature
   pub stands : Stands signature s D
   pub of_kind : KindHasSkeletons signature s D K
-
--- the kind has skeletons in a context that σ takes to another one
-pub record KindFits (σ : ℕ → Image) (K : Kind) : Type 0 where
-  pub families : ℕ → Option Skeleton
-  pub heads : HeadSkeletons
-  pub context : List Skeleton
-  pub target : List Skeleton
-  pub substitution_typed : SubstitutionBySkeletons heads context target σ
-  pub kind_typed : KindBySkeletons families heads context K
 
 -- the term has this skeleton, and the spine gives it some of its arguments
 pub record GivesArguments (a : Skeleton) (N : Term) (S : Spine) : Type 0 where

@@ -2,8 +2,8 @@
 use Rattle.std.specs.Prelude.{◌≡◌, ℕ, List, []}
 use Rattle.lf.specs.Entries.{Entry}
 use Rattle.lf.specs.Syntax.{LfType, Skeleton}
-use Rattle.elaboration.specs.Elaboration.{NewType}
-use Rattle.elaboration.specs.State.{State, with_metavariable}
+use Rattle.lf_elaboration.specs.Elaboration.{NewType}
+use Rattle.lf_elaboration.specs.State.{State, with_metavariable}
 use Rattle.tw_elaborate.specs.declared.state.Elaboration.{Elaboration}
 use Rattle.tw_elaborate.specs.View.{made}
 

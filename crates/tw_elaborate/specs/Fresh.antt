@@ -2,8 +2,8 @@
 use Rattle.std.specs.Prelude.{◌≡◌, []}
 use Rattle.lf.specs.Syntax.{Kind, LfType, Term, kind_pi, pi}
 use Rattle.lf.specs.Typing.{instantiate_kind, instantiate_type}
-use Rattle.elaboration.specs.State.{with_metavariable}
-use Rattle.unification.specs.Offering.{raised}
+use Rattle.lf_elaboration.specs.State.{with_metavariable}
+use Rattle.lf_unification.specs.Offering.{raised}
 use Rattle.tw_metas.specs.State.{Story, changed, with_declared}
 use Rattle.tw_elaborate.specs.declared.state.Elaboration.{Elaboration}
 use Rattle.tw_elaborate.specs.View.{made}

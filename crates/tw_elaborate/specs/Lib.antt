@@ -1,5 +1,4 @@
 pub mod View
-pub mod Faults
 pub mod Fits
 pub mod Fresh
 pub mod Operators

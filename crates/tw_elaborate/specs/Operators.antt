@@ -7,7 +7,7 @@ use Rattle.lf.specs.Eta.{eta_expand}
 use Rattle.lf.specs.SkeletonTyping.{HeadSkeletons, TermSkeleton}
 use Rattle.lf.specs.Substitution.{reduce, single, substitute}
 use Rattle.lf.specs.Syntax as lf
-use Rattle.elaboration.specs.Written as theory
+use Rattle.lf_elaboration.specs.Written as theory
 use Rattle.tw_terms.specs.OpenView.{open_head_of, open_spine_of, open_term_of}
 use Rattle.tw_written.specs.View.{written_of}
 use Rattle.tw_written.specs.declared.written.Written.{Written}

@@ -2,9 +2,9 @@
 use Rattle.std.specs.Prelude.{◌≡◌, ℕ, List}
 use Rattle.lf.specs.Entries.{Entry}
 use Rattle.lf.specs.Syntax.{LfType, skeleton}
-use Rattle.elaboration.specs.Elaboration.{Infers}
-use Rattle.elaboration.specs.State.{State}
-use Rattle.elaboration.specs.Written.{Written}
+use Rattle.lf_elaboration.specs.Elaboration.{Infers}
+use Rattle.lf_elaboration.specs.State.{State}
+use Rattle.lf_elaboration.specs.Written.{Written}
 use Rattle.tw_elaborate.specs.Deep.{IsReducible}
 use Rattle.tw_elaborate.specs.Operators.{IsTerm, applied_to, operator_of}
 use Rattle.tw_elaborate.specs.declared.operators.Operator.{Operator}

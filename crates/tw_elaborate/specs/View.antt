@@ -1,7 +1,7 @@
 -- What the values of the program stand for.
 use Rattle.std.specs.Prelude.{ℕ, List, length, map}
 use Rattle.lf.specs.Syntax as lf
-use Rattle.elaboration.specs.State.{State}
+use Rattle.lf_elaboration.specs.State.{State}
 use Rattle.tw_metas.specs.View.{equation_of}
 use Rattle.tw_putting.specs.Stores.{types_of}
 use Rattle.tw_terms.specs.OpenView.{open_type_of}

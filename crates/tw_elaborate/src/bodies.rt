@@ -1,7 +1,7 @@
 //! What a declaration is written with, elaborated from nothing.
 ghost use Rattle.std.specs.Prelude.{◌≡◌, [], map, IfOk, IsErrOf};
 ghost use Rattle.lf.specs.Entries.{signature_of, IsCanonicalSignature};
-ghost use Rattle.elaboration.specs.PrincipalLaws.{ElaboratesBody};
+ghost use Rattle.lf_elaboration.specs.PrincipalLaws.{ElaboratesBody};
 ghost use Rattle.tw_terms.specs.View.{skeleton_of};
 ghost use Rattle.tw_elaborate.specs.Bodies.{BodyDeep, FromNothingDeep, IsElaborated, open_body_of};
 ghost use Rattle.tw_elaborate.specs.Fits.{Stands};
@@ -9,12 +9,12 @@ ghost use Rattle.tw_elaborate.specs.Fresh.{Keeps};
 ghost use Rattle.tw_elaborate.specs.View.{made, numbers_of};
 ghost use Rattle.tw_written.specs.View.{written_body_of};
 
-use crate::fault::ElaborateFault;
 use crate::frames::FRAMES;
 use crate::frees::new_frees;
 use crate::state::{Elaboration, OpenKind};
 use crate::terms::{check, elaborate_kind, elaborate_type, infer};
 use std::alloc::Global;
+use tw_hered::HeredFault;
 use tw_signature::Signature;
 use tw_terms::{MetaId, Open, OpenTy, Skeleton};
 use tw_written::WrittenBody;
@@ -46,10 +46,10 @@ pub fn elaborate(
     signature: &Signature,
     skeletons: &[Skeleton],
     body: &WrittenBody,
-) -> Result<Elaborated, ElaborateFault>
+) -> Result<Elaborated, HeredFault>
     requires { IsCanonicalSignature signature.now }
     ensures ok { IfOk result (λ e. IsElaborated signature.now (map skeleton_of skeletons.now) (written_body_of body.now) e) }
-    ensures too_deep { IsErrOf result ElaborateFault.TooDeep → FromNothingDeep signature.now (map skeleton_of skeletons.now) (written_body_of body.now) }
+    ensures too_deep { IsErrOf result HeredFault.TooDeep → FromNothingDeep signature.now (map skeleton_of skeletons.now) (written_body_of body.now) }
 {
     let mut state = Elaboration::new(alloc);
     let frees = new_frees(alloc, signature, &mut state, skeletons)?;
@@ -64,12 +64,12 @@ fn elaborate_body(
     frees: &[MetaId],
     state: &mut Elaboration,
     written: &WrittenBody,
-) -> Result<OpenBody, ElaborateFault>
+) -> Result<OpenBody, HeredFault>
     requires canonical { IsCanonicalSignature signature.now }
     requires stands { Stands (signature_of signature.now) (made state.old) state.old.locals }
     requires no_locals { state.old.locals ≡ [] }
     ensures ok { IfOk result (λ b. ElaboratesBody signature.now (numbers_of frees.now) (written_body_of written.now) (made state.old) (made state.new) (open_body_of b)) }
-    ensures too_deep { IsErrOf result ElaborateFault.TooDeep → BodyDeep signature.now (numbers_of frees.now) (written_body_of written.now) (made state.old) }
+    ensures too_deep { IsErrOf result HeredFault.TooDeep → BodyDeep signature.now (numbers_of frees.now) (written_body_of written.now) (made state.old) }
     ensures keeps { Keeps state.old state.new }
 {
     match written {

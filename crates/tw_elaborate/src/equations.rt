@@ -2,22 +2,21 @@
 ghost use Rattle.std.specs.Prelude.{◌≡◌, ◌↔◌, IfOk, IsTrue, MatchOption, OnOk};
 ghost use Rattle.lf.specs.Entries.{signature_of, IsCanonicalSignature};
 ghost use Rattle.lf.specs.Syntax.{app, atom, nil, star, skeleton as skeleton_of_type};
-ghost use Rattle.elaboration.specs.Skeletons.{KindHasSkeletons, TypeHasSkeletons};
-ghost use Rattle.elaboration.specs.State.{index_equations, with_equations};
-ghost use Rattle.unification.specs.Offering.{spine_equations};
+ghost use Rattle.lf_elaboration.specs.Skeletons.{KindHasSkeletons, TypeHasSkeletons};
+ghost use Rattle.lf_elaboration.specs.State.{index_equations, with_equations};
+ghost use Rattle.lf_unification.specs.Offering.{spine_equations};
 ghost use Rattle.tw_terms.specs.OpenView.{open_spine_of, open_term_of, open_type_of};
 ghost use Rattle.tw_terms.specs.View.{skeleton_of};
 ghost use Rattle.tw_elaborate.specs.Comparing.{ComparesKinds, ComparesTypes, SpineStands, TakesBoth};
 ghost use Rattle.tw_elaborate.specs.Fresh.{Keeps};
 ghost use Rattle.tw_elaborate.specs.View.{made, open_kind_of};
 
-use crate::frames::nested;
-use crate::fresh::family_kind;
 use crate::kinds::{instantiate_kind, open_kind};
 use crate::state::{Elaboration, OpenKind};
 use std::alloc::{AllocError, Global};
 use tw_metas::Equation;
 use tw_signature::Signature;
+use tw_terms::numbers::nested;
 use tw_terms::{ConstId, Open, OpenSpine, OpenTy, Skeleton};
 
 /// Whether the type has this skeleton.
@@ -81,7 +80,7 @@ fn compare_indices(
     ensures ok { OnOk result (made state.new ≡ with_equations (index_equations (signature_of signature.now) ((signature_of signature.now).kinds family.0) state.old.locals (open_spine_of left.now) (open_spine_of right.now)) (made state.old)) }
     ensures keeps { Keeps state.old state.new }
 {
-    match family_kind(signature, family) {
+    match signature.family_kind(family) {
         Some(kind) => compare_arguments(alloc, state, open_kind(alloc, kind)?, left, right),
         None => Ok(()),
     }

@@ -3,7 +3,7 @@ ghost use Rattle.std.specs.Prelude.{◌≡◌, IfOk};
 ghost use Rattle.lf.specs.AtOnce.{shift_by};
 ghost use Rattle.lf.specs.Eta.{add_last, eta_expand};
 ghost use Rattle.lf.specs.Syntax.{rename_head, skeleton, lambda as lambda_of, pi as pi_of};
-ghost use Rattle.unification.specs.Offering.{local_arguments as local_arguments_of, pi_over};
+ghost use Rattle.lf_unification.specs.Offering.{local_arguments as local_arguments_of, pi_over};
 ghost use Rattle.tw_terms.specs.OpenView.{open_head_of, open_term_of, open_spine_of, open_type_of};
 
 use std::alloc::{AllocError, Global};

@@ -1,7 +1,7 @@
 //! The free variables, which are metavariables in the empty context.
 ghost use Rattle.std.specs.Prelude.{◌≡◌, [], map, IfOk};
 ghost use Rattle.lf.specs.Entries.{signature_of, IsCanonicalSignature};
-ghost use Rattle.elaboration.specs.Elaboration.{NewFrees};
+ghost use Rattle.lf_elaboration.specs.Elaboration.{NewFrees};
 ghost use Rattle.tw_terms.specs.View.{skeleton_of};
 ghost use Rattle.tw_elaborate.specs.Fits.{Stands};
 ghost use Rattle.tw_elaborate.specs.Frees.{IsNewFree};

@@ -1,22 +1,22 @@
 //! New metavariables: one, for the arguments of a type or a kind, and the most general types of skeletons.
-ghost use Rattle.std.specs.Prelude.{◌≡◌, IfOk, option_map};
+ghost use Rattle.std.specs.Prelude.{◌≡◌, IfOk};
 ghost use Rattle.lf.specs.Entries.{signature_of, IsCanonicalSignature};
 ghost use Rattle.lf.specs.Syntax.{base};
-ghost use Rattle.elaboration.specs.Elaboration.{KindTakesNew, NewType, TakesAllNew, TakesNew};
+ghost use Rattle.lf_elaboration.specs.Elaboration.{KindTakesNew, NewType, TakesAllNew, TakesNew};
 ghost use Rattle.tw_terms.specs.OpenView.{open_spine_of, open_term_of, open_type_of};
-ghost use Rattle.tw_terms.specs.View.{kind_of, skeleton_of};
+ghost use Rattle.tw_terms.specs.View.{skeleton_of};
 ghost use Rattle.tw_elaborate.specs.Fits.{KindStands, Stands, TypeStands};
 ghost use Rattle.tw_elaborate.specs.Fresh.{IsNew, Keeps, KindTakesOne, TakesOne};
 ghost use Rattle.tw_elaborate.specs.View.{made, open_kind_of};
 
 use crate::expand::{closed_over, expanded, local_arguments, pi};
-use crate::frames::nested;
 use crate::kinds::{instantiate_kind, open_kind};
 use crate::operators::instantiated;
 use crate::state::{Elaboration, OpenKind};
 use std::alloc::{AllocError, Global};
-use tw_signature::{Body, Signature};
-use tw_terms::{ConstId, Kind, Open, OpenContext, OpenHead, OpenSpine, OpenTy, Skeleton};
+use tw_signature::Signature;
+use tw_terms::numbers::nested;
+use tw_terms::{ConstId, Open, OpenContext, OpenHead, OpenSpine, OpenTy, Skeleton};
 
 /// A new metavariable for a term of this type, at the variables in scope. Fails only for want of memory.
 pub fn new_term(alloc: Global, state: &mut Elaboration, ty: &OpenTy) -> Result<Open, AllocError>
@@ -137,16 +137,6 @@ pub fn take_all_new(
     Err(AllocError)
 }
 
-/// The kind of a declared family.
-pub fn family_kind(signature: &Signature, id: ConstId) -> Option<&Kind>
-    ensures { option_map (λ k. kind_of k.now) result ≡ (signature_of signature.now).kinds id.0 }
-{
-    match &signature.entry(id)?.body {
-        Body::Family(kind) => Some(kind),
-        Body::Constant(_) | Body::Defined { .. } => None,
-    }
-}
-
 /// The most general type of the skeleton: its families on new metavariables. Where one isn't declared, memory counts as used up.
 pub fn new_type(
     alloc: Global,
@@ -185,7 +175,7 @@ fn new_atom(
     ensures ok { IfOk result (λ a. NewType signature.now state.old.locals (base family.0) (made state.old) (made state.new) (open_type_of a)) }
     ensures keeps { Keeps state.old state.new }
 {
-    match family_kind(signature, family) {
+    match signature.family_kind(family) {
         Some(kind) => {
             let spine = take_all_new(alloc, state, open_kind(alloc, kind)?)?;
             Ok(OpenTy::Atom(family, spine))

@@ -4,8 +4,8 @@ ghost use Rattle.lf.specs.Depth.{depth_limit};
 ghost use Rattle.lf.specs.Entries.{Entry as Entered, signature_of, IsCanonicalSignature};
 ghost use Rattle.lf.specs.Substitution.{reduce};
 ghost use Rattle.lf.specs.Syntax.{skeleton};
-ghost use Rattle.elaboration.specs.Elaboration.{ElaboratesFamily, Infers};
-ghost use Rattle.elaboration.specs.Written.{Place, bound as bound_variable, declared as declared_name, family as family_name, free as free_name};
+ghost use Rattle.lf_elaboration.specs.Elaboration.{ElaboratesFamily, Infers};
+ghost use Rattle.lf_elaboration.specs.Written.{Place, bound as bound_variable, declared as declared_name, family as family_name, free as free_name};
 ghost use Rattle.tw_terms.specs.OpenView.{open_spine_of, open_term_of, open_type_of};
 ghost use Rattle.tw_elaborate.specs.Deep.{InfersDeep, IsDefined, TakesDeep};
 ghost use Rattle.tw_elaborate.specs.Fits.{GivesArguments, Stands};
@@ -13,12 +13,12 @@ ghost use Rattle.tw_elaborate.specs.Fresh.{Keeps};
 ghost use Rattle.tw_elaborate.specs.Operators.{IsTerm, operator_of};
 ghost use Rattle.tw_elaborate.specs.View.{made, numbers_of, open_kind_of};
 
-use crate::fault::ElaborateFault;
 use crate::fresh::{kind_take_new, take_new};
 use crate::kinds::open_kind;
 use crate::operators::Operator;
 use crate::state::{Elaboration, OpenKind};
 use std::alloc::{AllocError, Global};
+use tw_hered::HeredFault;
 use tw_putting::{open_term, open_type, shift_type, substitute};
 use tw_signature::{Body, Signature};
 use tw_terms::{ConstId, MetaId, Open, OpenHead, OpenSpine, OpenTy};
@@ -75,16 +75,16 @@ pub fn declared(
     signature: &Signature,
     state: &mut Elaboration,
     id: ConstId,
-) -> Result<(Operator, OpenTy), ElaborateFault>
+) -> Result<(Operator, OpenTy), HeredFault>
     requires canonical { IsCanonicalSignature signature.now }
     requires stands { Stands (signature_of signature.now) (made state.old) state.old.locals }
     ensures ok { IfOk result (λ p. (numbers : List ℕ) (at : Place) → Infers signature.now numbers state.old.locals (declared_name id.0 at) (made state.old) (made state.new) (operator_of (skeleton (open_type_of p.1)) p.0) (open_type_of p.1)) }
     ensures defined { IfOk result (λ p. IsTerm p.0 → IsDefined signature.now id.0) }
-    ensures too_deep { IsErrOf result ElaborateFault.TooDeep → (numbers : List ℕ) (at : Place) → InfersDeep signature.now numbers state.old.locals (declared_name id.0 at) (made state.old) }
+    ensures too_deep { IsErrOf result HeredFault.TooDeep → (numbers : List ℕ) (at : Place) → InfersDeep signature.now numbers state.old.locals (declared_name id.0 at) (made state.old) }
     ensures keeps { Keeps state.old state.new }
 {
     let Some(entry) = signature.entry(id) else {
-        return Err(ElaborateFault::NoMemory);
+        return Err(HeredFault::NoMemory);
     };
     let implicit = entry.implicit as u64;
     match &entry.body {
@@ -103,7 +103,7 @@ pub fn declared(
             let term = on_arguments(alloc, open_term(alloc, term)?, &spine, &whole)?;
             Ok((Operator::Term(term), rest))
         }
-        Body::Family(_) => Err(ElaborateFault::NoMemory),
+        Body::Family(_) => Err(HeredFault::NoMemory),
     }
 }
 
@@ -113,10 +113,10 @@ fn on_arguments(
     term: Open,
     spine: &OpenSpine,
     ty: &OpenTy,
-) -> Result<Open, ElaborateFault>
+) -> Result<Open, HeredFault>
     requires { GivesArguments (skeleton (open_type_of ty.now)) (open_term_of term) (open_spine_of spine.now) }
     ensures ok { IfOk result (λ m. open_term_of m ≡ reduce (skeleton (open_type_of ty.now)) (open_term_of term) (open_spine_of spine.now)) }
-    ensures too_deep { IsErrOf result ElaborateFault.TooDeep → TakesDeep depth_limit (skeleton (open_type_of ty.now)) (open_term_of term) (open_spine_of spine.now) }
+    ensures too_deep { IsErrOf result HeredFault.TooDeep → TakesDeep depth_limit (skeleton (open_type_of ty.now)) (open_term_of term) (open_spine_of spine.now) }
 {
     let mut body = term;
     let mut rest = ty;
@@ -126,7 +126,7 @@ fn on_arguments(
                 body = substitute(alloc, &inner, 0, arg, domain)?;
                 rest = range;
             }
-            _ => return Err(ElaborateFault::NoMemory),
+            _ => return Err(HeredFault::NoMemory),
         }
     }
     Ok(body)

@@ -1,8 +1,8 @@
 //! Holes, for which metavariables stand.
 ghost use Rattle.std.specs.Prelude.{List, ℕ, IfOk, ◌≡◌};
 ghost use Rattle.lf.specs.Entries.{Entry as Entered, signature_of, IsCanonicalSignature};
-ghost use Rattle.elaboration.specs.Elaboration.{Checks, Infers};
-ghost use Rattle.elaboration.specs.Written.{Place, hole};
+ghost use Rattle.lf_elaboration.specs.Elaboration.{Checks, Infers};
+ghost use Rattle.lf_elaboration.specs.Written.{Place, hole};
 ghost use Rattle.tw_terms.specs.OpenView.{open_term_of, open_type_of};
 ghost use Rattle.tw_terms.specs.View.{skeleton_of};
 ghost use Rattle.tw_elaborate.specs.Fits.{Stands};

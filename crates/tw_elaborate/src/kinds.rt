@@ -6,7 +6,7 @@ ghost use Rattle.lf.specs.Syntax.{kind_pi as kind_pi_of, rename_kind, skeleton};
 ghost use Rattle.tw_hered.specs.Fits.{put_at};
 ghost use Rattle.tw_terms.specs.OpenView.{open_term_of, open_type_of};
 ghost use Rattle.tw_terms.specs.View.{kind_of};
-ghost use Rattle.tw_elaborate.specs.Fits.{KindFits};
+ghost use Rattle.tw_hered.specs.Fits.{KindFits};
 ghost use Rattle.tw_elaborate.specs.View.{open_kind_of};
 
 use crate::state::OpenKind;

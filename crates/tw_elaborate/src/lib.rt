@@ -7,7 +7,6 @@ mod bodies;
 mod equations;
 #[tactic(auto, using(crate::proofs::Steps::steps))]
 mod expand;
-mod fault;
 mod frames;
 #[tactic(auto, using(crate::proofs::Steps::steps))]
 mod frees;
@@ -28,7 +27,7 @@ mod state;
 mod terms;
 
 pub use bodies::{Elaborated, OpenBody, elaborate};
-pub use fault::ElaborateFault;
 pub use frames::FRAMES;
 pub use state::{Elaboration, OpenKind};
 pub use terms::{check, elaborate_kind, elaborate_type, infer};
+pub use tw_hered::HeredFault;

@@ -9,8 +9,8 @@ ghost use Rattle.tw_written.specs.View.{written_of};
 ghost use Rattle.tw_elaborate.specs.Operators.{Applies, IsTerm, PutsIn, PutsInDeep, applied_to, operator_of, written_terms};
 
 use crate::expand::{expanded, with_argument};
-use crate::fault::ElaborateFault;
 use std::alloc::{AllocError, Global};
+use tw_hered::HeredFault;
 use tw_putting::{substitute, substitute_type};
 use tw_terms::{Open, OpenHead, OpenSpine, OpenTy};
 use tw_written::Written;
@@ -81,13 +81,13 @@ pub fn finish<'a>(alloc: Global, begun: Begun<'a>) -> Result<(Open, OpenTy), All
 
 /// The row with the argument that it waits for.
 #[inline(never)]
-pub fn resume<'a>(alloc: Global, row: Waiting<'a>, arg: Open) -> Result<Begun<'a>, ElaborateFault>
+pub fn resume<'a>(alloc: Global, row: Waiting<'a>, arg: Open) -> Result<Begun<'a>, HeredFault>
     requires applies { Applies (skeleton (open_type_of row.domain)) (skeleton (open_type_of row.range)) (operator_of (arrow (skeleton (open_type_of row.domain)) (skeleton (open_type_of row.range))) row.operator) (open_term_of arg) }
     requires range { TypeFits (single (skeleton (open_type_of row.domain)) (open_term_of arg)) (open_type_of row.range) }
     ensures ok { IfOk result (λ r. let a = skeleton (open_type_of row.entry.domain) in let b = skeleton (open_type_of row.entry.range) in PutsIn a (operator_of (arrow a b) row.entry.operator) (open_term_of arg) (operator_of b r.operator) × (open_type_of r.ty ≡ instantiate_type (open_type_of row.entry.domain) (open_term_of arg) (open_type_of row.entry.range)) × (r.args ≡ row.entry.args)) }
     ensures stays { IfOk result (λ r. IsTerm r.operator → IsTerm row.entry.operator) }
-    ensures too_deep { IsErrOf result ElaborateFault.TooDeep → let a = skeleton (open_type_of row.entry.domain) in PutsInDeep a (operator_of (arrow a (skeleton (open_type_of row.entry.range))) row.entry.operator) (open_term_of arg) }
-    ensures in_term { IsErrOf result ElaborateFault.TooDeep → IsTerm row.entry.operator }
+    ensures too_deep { IsErrOf result HeredFault.TooDeep → let a = skeleton (open_type_of row.entry.domain) in PutsInDeep a (operator_of (arrow a (skeleton (open_type_of row.entry.range))) row.entry.operator) (open_term_of arg) }
+    ensures in_term { IsErrOf result HeredFault.TooDeep → IsTerm row.entry.operator }
 {
     let domain = row.domain;
     let (operator, ty) = put(alloc, row.operator, &domain, row.range, arg)?;
@@ -125,13 +125,13 @@ fn put(
     domain: &OpenTy,
     range: OpenTy,
     arg: Open,
-) -> Result<(Operator, OpenTy), ElaborateFault>
+) -> Result<(Operator, OpenTy), HeredFault>
     requires applies { Applies (skeleton (open_type_of domain.now)) (skeleton (open_type_of range)) (operator_of (arrow (skeleton (open_type_of domain.now)) (skeleton (open_type_of range))) operator) (open_term_of arg) }
     requires range { TypeFits (single (skeleton (open_type_of domain.now)) (open_term_of arg)) (open_type_of range) }
     ensures ok { IfOk result (λ p. let a = skeleton (open_type_of domain.now) in let b = skeleton (open_type_of range) in PutsIn a (operator_of (arrow a b) operator) (open_term_of arg) (operator_of b p.0) × (open_type_of p.1 ≡ instantiate_type (open_type_of domain.now) (open_term_of arg) (open_type_of range))) }
     ensures stays { IfOk result (λ p. IsTerm p.0 → IsTerm operator) }
-    ensures too_deep { IsErrOf result ElaborateFault.TooDeep → let a = skeleton (open_type_of domain.now) in PutsInDeep a (operator_of (arrow a (skeleton (open_type_of range))) operator) (open_term_of arg) }
-    ensures in_term { IsErrOf result ElaborateFault.TooDeep → IsTerm operator }
+    ensures too_deep { IsErrOf result HeredFault.TooDeep → let a = skeleton (open_type_of domain.now) in PutsInDeep a (operator_of (arrow a (skeleton (open_type_of range))) operator) (open_term_of arg) }
+    ensures in_term { IsErrOf result HeredFault.TooDeep → IsTerm operator }
 {
     let rest = left_over(alloc, domain, range, &arg)?;
     match operator {
@@ -146,19 +146,14 @@ fn put(
 }
 
 /// The body of a function with the argument put in.
-fn reduced(
-    alloc: Global,
-    function: &Open,
-    domain: &OpenTy,
-    arg: &Open,
-) -> Result<Open, ElaborateFault>
+fn reduced(alloc: Global, function: &Open, domain: &OpenTy, arg: &Open) -> Result<Open, HeredFault>
     requires { (R : LfTerm) → open_term_of function.now ≡ lambda R → TermFits (single (skeleton (open_type_of domain.now)) (open_term_of arg.now)) R }
     ensures ok { IfOk result (λ m. PutsIn (skeleton (open_type_of domain.now)) (open_term_of function.now) (open_term_of arg.now) (open_term_of m)) }
-    ensures too_deep { IsErrOf result ElaborateFault.TooDeep → PutsInDeep (skeleton (open_type_of domain.now)) (open_term_of function.now) (open_term_of arg.now) }
+    ensures too_deep { IsErrOf result HeredFault.TooDeep → PutsInDeep (skeleton (open_type_of domain.now)) (open_term_of function.now) (open_term_of arg.now) }
 {
     match function {
         Open::Lam(body) => Ok(substitute(alloc, body, 0, arg, domain)?),
-        Open::Root(_, _) => Err(ElaborateFault::NoMemory),
+        Open::Root(_, _) => Err(HeredFault::NoMemory),
     }
 }
 

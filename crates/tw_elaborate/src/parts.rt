@@ -5,11 +5,11 @@ ghost use Rattle.lf.specs.Eta.{add_last};
 ghost use Rattle.lf.specs.Substitution.{single};
 ghost use Rattle.lf.specs.Syntax.{lambda as lambda_of, pi as pi_of, skeleton};
 ghost use Rattle.lf.specs.Typing.{instantiate_kind as instantiate_kind_of};
-ghost use Rattle.elaboration.specs.Skeletons.{KindHasSkeletons};
+ghost use Rattle.lf_elaboration.specs.Skeletons.{KindHasSkeletons};
 ghost use Rattle.tw_terms.specs.OpenView.{open_spine_of, open_term_of, open_type_of};
 ghost use Rattle.tw_elaborate.specs.Arrows.{arrows_to, kind_arrows_to};
 ghost use Rattle.tw_elaborate.specs.Comparing.{ComparesKinds, IsProduct};
-ghost use Rattle.tw_elaborate.specs.Fits.{KindFits};
+ghost use Rattle.tw_hered.specs.Fits.{KindFits};
 ghost use Rattle.tw_elaborate.specs.Fresh.{Keeps};
 ghost use Rattle.tw_elaborate.specs.View.{made, open_kind_of};
 

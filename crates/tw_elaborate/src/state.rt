@@ -1,6 +1,6 @@
 //! What elaboration has made so far, and open kinds.
 ghost use Rattle.std.specs.Prelude.{◌≡◌, []};
-ghost use Rattle.elaboration.specs.State.{nothing_yet};
+ghost use Rattle.lf_elaboration.specs.State.{nothing_yet};
 ghost use Rattle.tw_metas.specs.State.{empty_story};
 ghost use Rattle.tw_elaborate.specs.View.{made};
 

@@ -2,9 +2,9 @@
 ghost use Rattle.std.specs.Prelude.{IfOk, IsErrOf, OnOk};
 ghost use Rattle.lf.specs.Entries.{signature_of, IsCanonicalSignature};
 ghost use Rattle.lf.specs.Syntax.{skeleton as skeleton_of_type};
-ghost use Rattle.elaboration.specs.Elaboration.{Checks, ElaboratesDomain, ElaboratesFamily, ElaboratesKind, ElaboratesType, Infers};
-ghost use Rattle.elaboration.specs.Skeletons.{TypeHasSkeletons};
-ghost use Rattle.elaboration.specs.Written.{function as function_of};
+ghost use Rattle.lf_elaboration.specs.Elaboration.{Checks, ElaboratesDomain, ElaboratesFamily, ElaboratesKind, ElaboratesType, Infers};
+ghost use Rattle.lf_elaboration.specs.Skeletons.{TypeHasSkeletons};
+ghost use Rattle.lf_elaboration.specs.Written.{function as function_of};
 ghost use Rattle.tw_terms.specs.OpenView.{open_spine_of, open_term_of, open_type_of};
 ghost use Rattle.tw_elaborate.specs.Comparing.{ChecksDomain};
 ghost use Rattle.tw_elaborate.specs.Deep.{ChecksDeep, DomainDeep, FamilyDeep, InfersDeep, IsReducible, KindDeep, TypeDeep};
@@ -17,8 +17,6 @@ ghost use Rattle.tw_written.specs.View.{written_domain_of, written_kind_of, writ
 
 use crate::equations::compare_types;
 use crate::expand::{lambda, pi};
-use crate::fault::ElaborateFault;
-use crate::frames::nested;
 use crate::fresh::new_type;
 use crate::heads::{bound, declared, free, named_family};
 use crate::holes::{checked_hole, term_hole};
@@ -29,7 +27,9 @@ use crate::parts::{
 };
 use crate::state::{Elaboration, OpenKind};
 use std::alloc::Global;
+use tw_hered::HeredFault;
 use tw_signature::Signature;
+use tw_terms::numbers::nested;
 use tw_terms::{ConstId, MetaId, Open, OpenSpine, OpenTy};
 use tw_written::{Written, WrittenDomain, WrittenKind, WrittenType};
 
@@ -44,11 +44,11 @@ pub fn infer(
     state: &mut Elaboration,
     written: &Written,
     frames: u32,
-) -> Result<(Open, OpenTy), ElaborateFault>
+) -> Result<(Open, OpenTy), HeredFault>
     requires canonical { IsCanonicalSignature signature.now }
     requires stands { Stands (signature_of signature.now) (made state.old) state.old.locals }
     ensures ok { IfOk result (λ p. Infers signature.now (numbers_of frees.now) state.old.locals (written_of written.now) (made state.old) (made state.new) (open_term_of p.0) (open_type_of p.1)) }
-    ensures too_deep { IsErrOf result ElaborateFault.TooDeep → InfersDeep signature.now (numbers_of frees.now) state.old.locals (written_of written.now) (made state.old) }
+    ensures too_deep { IsErrOf result HeredFault.TooDeep → InfersDeep signature.now (numbers_of frees.now) state.old.locals (written_of written.now) (made state.old) }
     ensures keeps { Keeps state.old state.new }
 {
     let frames = nested(frames)?;
@@ -80,11 +80,11 @@ fn infer_function(
     domain: &WrittenDomain,
     body: &Written,
     frames: u32,
-) -> Result<(Open, OpenTy), ElaborateFault>
+) -> Result<(Open, OpenTy), HeredFault>
     requires canonical { IsCanonicalSignature signature.now }
     requires stands { Stands (signature_of signature.now) (made state.old) state.old.locals }
     ensures ok { IfOk result (λ p. Infers signature.now (numbers_of frees.now) state.old.locals (function_of (written_domain_of domain.now) (written_of body.now)) (made state.old) (made state.new) (open_term_of p.0) (open_type_of p.1)) }
-    ensures too_deep { IsErrOf result ElaborateFault.TooDeep → InfersDeep signature.now (numbers_of frees.now) state.old.locals (function_of (written_domain_of domain.now) (written_of body.now)) (made state.old) }
+    ensures too_deep { IsErrOf result HeredFault.TooDeep → InfersDeep signature.now (numbers_of frees.now) state.old.locals (function_of (written_domain_of domain.now) (written_of body.now)) (made state.old) }
     ensures keeps { Keeps state.old state.new }
 {
     let domain = elaborate_domain(alloc, signature, frees, state, domain, frames)?;
@@ -105,11 +105,11 @@ fn infer_applied(
     state: &mut Elaboration,
     written: &Written,
     frames: u32,
-) -> Result<(Open, OpenTy), ElaborateFault>
+) -> Result<(Open, OpenTy), HeredFault>
     requires canonical { IsCanonicalSignature signature.now }
     requires stands { Stands (signature_of signature.now) (made state.old) state.old.locals }
     ensures ok { IfOk result (λ p. Infers signature.now (numbers_of frees.now) state.old.locals (written_of written.now) (made state.old) (made state.new) (open_term_of p.0) (open_type_of p.1)) }
-    ensures too_deep { IsErrOf result ElaborateFault.TooDeep → InfersDeep signature.now (numbers_of frees.now) state.old.locals (written_of written.now) (made state.old) }
+    ensures too_deep { IsErrOf result HeredFault.TooDeep → InfersDeep signature.now (numbers_of frees.now) state.old.locals (written_of written.now) (made state.old) }
     ensures keeps { Keeps state.old state.new }
 {
     let mut waiting = Vec::new(alloc);
@@ -154,7 +154,7 @@ fn infer_applied(
             }
         }
     }
-    Err(ElaborateFault::NoMemory)
+    Err(HeredFault::NoMemory)
 }
 
 /// A row of which what stands before the arguments is elaborated.
@@ -167,11 +167,11 @@ fn begin<'a>(
     state: &mut Elaboration,
     written: &'a Written,
     frames: u32,
-) -> Result<Begun<'a>, ElaborateFault>
+) -> Result<Begun<'a>, HeredFault>
     requires canonical { IsCanonicalSignature signature.now }
     requires stands { Stands (signature_of signature.now) (made state.old) state.old.locals }
     ensures ok { IfOk result (λ r. Reached signature.now (numbers_of frees.now) state.old.locals (written_of written.now) (made state.old) (written_terms r.args.items) (made state.new) r.operator (open_type_of r.ty)) }
-    ensures too_deep { IsErrOf result ElaborateFault.TooDeep → InfersDeep signature.now (numbers_of frees.now) state.old.locals (written_of written.now) (made state.old) }
+    ensures too_deep { IsErrOf result HeredFault.TooDeep → InfersDeep signature.now (numbers_of frees.now) state.old.locals (written_of written.now) (made state.old) }
     ensures keeps { Keeps state.old state.new }
 {
     let (head, args) = row(alloc, written)?;
@@ -189,12 +189,12 @@ fn elaborate_operator(
     state: &mut Elaboration,
     written: &Written,
     frames: u32,
-) -> Result<(Operator, OpenTy), ElaborateFault>
+) -> Result<(Operator, OpenTy), HeredFault>
     requires canonical { IsCanonicalSignature signature.now }
     requires stands { Stands (signature_of signature.now) (made state.old) state.old.locals }
     ensures ok { IfOk result (λ p. Infers signature.now (numbers_of frees.now) state.old.locals (written_of written.now) (made state.old) (made state.new) (operator_of (skeleton_of_type (open_type_of p.1)) p.0) (open_type_of p.1)) }
     ensures reducible { IfOk result (λ p. IsTerm p.0 → IsReducible signature.now (written_of written.now)) }
-    ensures too_deep { IsErrOf result ElaborateFault.TooDeep → InfersDeep signature.now (numbers_of frees.now) state.old.locals (written_of written.now) (made state.old) }
+    ensures too_deep { IsErrOf result HeredFault.TooDeep → InfersDeep signature.now (numbers_of frees.now) state.old.locals (written_of written.now) (made state.old) }
     ensures keeps { Keeps state.old state.new }
 {
     match written {
@@ -205,7 +205,7 @@ fn elaborate_operator(
             let (term, ty) = infer(alloc, signature, frees, state, written, frames)?;
             Ok((Operator::Term(term), ty))
         }
-        Written::Applied(_, _) => Err(ElaborateFault::NoMemory),
+        Written::Applied(_, _) => Err(HeredFault::NoMemory),
     }
 }
 
@@ -219,12 +219,12 @@ pub fn check(
     written: &Written,
     expected: &OpenTy,
     frames: u32,
-) -> Result<Open, ElaborateFault>
+) -> Result<Open, HeredFault>
     requires canonical { IsCanonicalSignature signature.now }
     requires stands { Stands (signature_of signature.now) (made state.old) state.old.locals }
     requires expected { TypeHasSkeletons (signature_of signature.now) (made state.old) state.old.locals (open_type_of expected.now) }
     ensures ok { IfOk result (λ m. Checks signature.now (numbers_of frees.now) state.old.locals (written_of written.now) (open_type_of expected.now) (made state.old) (made state.new) (open_term_of m)) }
-    ensures too_deep { IsErrOf result ElaborateFault.TooDeep → ChecksDeep signature.now (numbers_of frees.now) state.old.locals (written_of written.now) (open_type_of expected.now) (made state.old) }
+    ensures too_deep { IsErrOf result HeredFault.TooDeep → ChecksDeep signature.now (numbers_of frees.now) state.old.locals (written_of written.now) (open_type_of expected.now) (made state.old) }
     ensures keeps { Keeps state.old state.new }
 {
     let frames = nested(frames)?;
@@ -257,12 +257,12 @@ fn check_function(
     body: &Written,
     expected: &OpenTy,
     frames: u32,
-) -> Result<Open, ElaborateFault>
+) -> Result<Open, HeredFault>
     requires canonical { IsCanonicalSignature signature.now }
     requires stands { Stands (signature_of signature.now) (made state.old) state.old.locals }
     requires expected { TypeHasSkeletons (signature_of signature.now) (made state.old) state.old.locals (open_type_of expected.now) }
     ensures ok { IfOk result (λ m. Checks signature.now (numbers_of frees.now) state.old.locals (function_of (written_domain_of domain.now) (written_of body.now)) (open_type_of expected.now) (made state.old) (made state.new) (open_term_of m)) }
-    ensures too_deep { IsErrOf result ElaborateFault.TooDeep → ChecksDeep signature.now (numbers_of frees.now) state.old.locals (function_of (written_domain_of domain.now) (written_of body.now)) (open_type_of expected.now) (made state.old) }
+    ensures too_deep { IsErrOf result HeredFault.TooDeep → ChecksDeep signature.now (numbers_of frees.now) state.old.locals (function_of (written_domain_of domain.now) (written_of body.now)) (open_type_of expected.now) (made state.old) }
     ensures keeps { Keeps state.old state.new }
 {
     match expected {
@@ -273,7 +273,7 @@ fn check_function(
             state.locals.pop();
             Ok(lambda(alloc, checked?)?)
         }
-        OpenTy::Atom(_, _) => Err(ElaborateFault::NoMemory),
+        OpenTy::Atom(_, _) => Err(HeredFault::NoMemory),
     }
 }
 
@@ -288,12 +288,12 @@ fn check_domain(
     written: &WrittenDomain,
     expected: &OpenTy,
     frames: u32,
-) -> Result<(), ElaborateFault>
+) -> Result<(), HeredFault>
     requires canonical { IsCanonicalSignature signature.now }
     requires stands { Stands (signature_of signature.now) (made state.old) state.old.locals }
     requires expected { TypeHasSkeletons (signature_of signature.now) (made state.old) state.old.locals (open_type_of expected.now) }
     ensures ok { OnOk result (ChecksDomain signature.now (numbers_of frees.now) (written_domain_of written.now) (open_type_of expected.now) state.old state.new) }
-    ensures too_deep { IsErrOf result ElaborateFault.TooDeep → DomainDeep signature.now (numbers_of frees.now) state.old.locals (written_domain_of written.now) (made state.old) }
+    ensures too_deep { IsErrOf result HeredFault.TooDeep → DomainDeep signature.now (numbers_of frees.now) state.old.locals (written_domain_of written.now) (made state.old) }
     ensures keeps { Keeps state.old state.new }
 {
     let found = elaborate_domain(alloc, signature, frees, state, written, frames)?;
@@ -309,11 +309,11 @@ pub fn elaborate_type(
     state: &mut Elaboration,
     written: &WrittenType,
     frames: u32,
-) -> Result<OpenTy, ElaborateFault>
+) -> Result<OpenTy, HeredFault>
     requires canonical { IsCanonicalSignature signature.now }
     requires stands { Stands (signature_of signature.now) (made state.old) state.old.locals }
     ensures ok { IfOk result (λ a. ElaboratesType signature.now (numbers_of frees.now) state.old.locals (written_type_of written.now) (made state.old) (made state.new) (open_type_of a)) }
-    ensures too_deep { IsErrOf result ElaborateFault.TooDeep → TypeDeep signature.now (numbers_of frees.now) state.old.locals (written_type_of written.now) (made state.old) }
+    ensures too_deep { IsErrOf result HeredFault.TooDeep → TypeDeep signature.now (numbers_of frees.now) state.old.locals (written_type_of written.now) (made state.old) }
     ensures keeps { Keeps state.old state.new }
 {
     let frames = nested(frames)?;
@@ -331,9 +331,7 @@ pub fn elaborate_type(
         }
         WrittenType::Ascribed(ty, kind) => match &**kind {
             WrittenKind::Star => elaborate_type(alloc, signature, frees, state, ty, frames),
-            WrittenKind::Arrow(_, _) | WrittenKind::Quantified(_, _) => Err(
-                ElaborateFault::NoMemory,
-            ),
+            WrittenKind::Arrow(_, _) | WrittenKind::Quantified(_, _) => Err(HeredFault::NoMemory),
         },
         WrittenType::Family(_, _) | WrittenType::Applied(_, _) => {
             let (family, spine, kind) = elaborate_family(
@@ -341,7 +339,7 @@ pub fn elaborate_type(
             )?;
             match kind {
                 OpenKind::Star => Ok(OpenTy::Atom(family, spine)),
-                OpenKind::Pi(_, _) => Err(ElaborateFault::NoMemory),
+                OpenKind::Pi(_, _) => Err(HeredFault::NoMemory),
             }
         }
     }
@@ -357,11 +355,11 @@ fn elaborate_arrows(
     state: &mut Elaboration,
     written: &WrittenType,
     frames: u32,
-) -> Result<OpenTy, ElaborateFault>
+) -> Result<OpenTy, HeredFault>
     requires canonical { IsCanonicalSignature signature.now }
     requires stands { Stands (signature_of signature.now) (made state.old) state.old.locals }
     ensures ok { IfOk result (λ a. ElaboratesType signature.now (numbers_of frees.now) state.old.locals (written_type_of written.now) (made state.old) (made state.new) (open_type_of a)) }
-    ensures too_deep { IsErrOf result ElaborateFault.TooDeep → TypeDeep signature.now (numbers_of frees.now) state.old.locals (written_type_of written.now) (made state.old) }
+    ensures too_deep { IsErrOf result HeredFault.TooDeep → TypeDeep signature.now (numbers_of frees.now) state.old.locals (written_type_of written.now) (made state.old) }
     ensures keeps { Keeps state.old state.new }
 {
     let mut domains = Vec::new(alloc);
@@ -385,11 +383,11 @@ fn elaborate_domain(
     state: &mut Elaboration,
     written: &WrittenDomain,
     frames: u32,
-) -> Result<OpenTy, ElaborateFault>
+) -> Result<OpenTy, HeredFault>
     requires canonical { IsCanonicalSignature signature.now }
     requires stands { Stands (signature_of signature.now) (made state.old) state.old.locals }
     ensures ok { IfOk result (λ a. ElaboratesDomain signature.now (numbers_of frees.now) state.old.locals (written_domain_of written.now) (made state.old) (made state.new) (open_type_of a)) }
-    ensures too_deep { IsErrOf result ElaborateFault.TooDeep → DomainDeep signature.now (numbers_of frees.now) state.old.locals (written_domain_of written.now) (made state.old) }
+    ensures too_deep { IsErrOf result HeredFault.TooDeep → DomainDeep signature.now (numbers_of frees.now) state.old.locals (written_domain_of written.now) (made state.old) }
     ensures keeps { Keeps state.old state.new }
 {
     let frames = nested(frames)?;
@@ -410,11 +408,11 @@ fn elaborate_family(
     state: &mut Elaboration,
     written: &WrittenType,
     frames: u32,
-) -> Result<(ConstId, OpenSpine, OpenKind), ElaborateFault>
+) -> Result<(ConstId, OpenSpine, OpenKind), HeredFault>
     requires canonical { IsCanonicalSignature signature.now }
     requires stands { Stands (signature_of signature.now) (made state.old) state.old.locals }
     ensures ok { IfOk result (λ f. ElaboratesFamily signature.now (numbers_of frees.now) state.old.locals (written_type_of written.now) (made state.old) (made state.new) f.0.0 (open_spine_of f.1) (open_kind_of f.2)) }
-    ensures too_deep { IsErrOf result ElaborateFault.TooDeep → FamilyDeep signature.now (numbers_of frees.now) state.old.locals (written_type_of written.now) (made state.old) }
+    ensures too_deep { IsErrOf result HeredFault.TooDeep → FamilyDeep signature.now (numbers_of frees.now) state.old.locals (written_type_of written.now) (made state.old) }
     ensures keeps { Keeps state.old state.new }
 {
     let frames = nested(frames)?;
@@ -433,7 +431,7 @@ fn elaborate_family(
                     let (spine, rest) = family_application(alloc, spine, &domain, &range, arg)?;
                     Ok((family, spine, rest))
                 }
-                OpenKind::Star => Err(ElaborateFault::NoMemory),
+                OpenKind::Star => Err(HeredFault::NoMemory),
             }
         }
         WrittenType::Ascribed(family, kind) => {
@@ -445,7 +443,7 @@ fn elaborate_family(
             Ok((family, spine, found))
         }
         WrittenType::Hole(_, _) | WrittenType::Arrow(_, _) | WrittenType::Quantified(_, _) => {
-            Err(ElaborateFault::NoMemory)
+            Err(HeredFault::NoMemory)
         }
     }
 }
@@ -459,11 +457,11 @@ pub fn elaborate_kind(
     state: &mut Elaboration,
     written: &WrittenKind,
     frames: u32,
-) -> Result<OpenKind, ElaborateFault>
+) -> Result<OpenKind, HeredFault>
     requires canonical { IsCanonicalSignature signature.now }
     requires stands { Stands (signature_of signature.now) (made state.old) state.old.locals }
     ensures ok { IfOk result (λ k. ElaboratesKind signature.now (numbers_of frees.now) state.old.locals (written_kind_of written.now) (made state.old) (made state.new) (open_kind_of k)) }
-    ensures too_deep { IsErrOf result ElaborateFault.TooDeep → KindDeep signature.now (numbers_of frees.now) state.old.locals (written_kind_of written.now) (made state.old) }
+    ensures too_deep { IsErrOf result HeredFault.TooDeep → KindDeep signature.now (numbers_of frees.now) state.old.locals (written_kind_of written.now) (made state.old) }
     ensures keeps { Keeps state.old state.new }
 {
     let frames = nested(frames)?;
@@ -492,11 +490,11 @@ fn elaborate_kind_arrows(
     state: &mut Elaboration,
     written: &WrittenKind,
     frames: u32,
-) -> Result<OpenKind, ElaborateFault>
+) -> Result<OpenKind, HeredFault>
     requires canonical { IsCanonicalSignature signature.now }
     requires stands { Stands (signature_of signature.now) (made state.old) state.old.locals }
     ensures ok { IfOk result (λ k. ElaboratesKind signature.now (numbers_of frees.now) state.old.locals (written_kind_of written.now) (made state.old) (made state.new) (open_kind_of k)) }
-    ensures too_deep { IsErrOf result ElaborateFault.TooDeep → KindDeep signature.now (numbers_of frees.now) state.old.locals (written_kind_of written.now) (made state.old) }
+    ensures too_deep { IsErrOf result HeredFault.TooDeep → KindDeep signature.now (numbers_of frees.now) state.old.locals (written_kind_of written.now) (made state.old) }
     ensures keeps { Keeps state.old state.new }
 {
     let mut domains = Vec::new(alloc);

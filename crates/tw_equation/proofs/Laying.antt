@@ -3,10 +3,10 @@ use Rattle.std.proofs.Common.{◌≡◌, ℕ, zero, suc, ◌-◌, ◌+◌, ◌<�
 use Rattle.std.proofs.Math.ListN.{drop_of_length-le}
 use Rattle.std.specs.Option.{option_map}
 use Rattle.lf.specs.Syntax.{LfType}
-use Rattle.tw_generalize.specs.Positions.{first_of}
+use Rattle.tw_abstract.specs.Positions.{first_of}
 use Rattle.tw_terms.specs.OpenView.{open_type_of}
 use Rattle.tw_terms.specs.declared.open_terms.OpenTy.{OpenTy}
-use Rattle.tw_unify.specs.Named.{shown_type_of}
+use Rattle.tw_metas.specs.Named.{shown_type_of}
 use Rattle.tw_equation.specs.Text.{Laid, ready_type, next_one, with_one, laid_out}
 
 module _ (order : List ℕ) where

@@ -3,10 +3,10 @@ use Rattle.std.proofs.Common.{◌≡◌, ℕ, zero, suc, ◌-◌, ◌<◌, ◌�
 use Rattle.std.proofs.Math.ListN.{drop_of_length-le}
 use Rattle.std.specs.List.{slice_get}
 use Rattle.lf.specs.Syntax.{LfType}
-use Rattle.tw_generalize.specs.Generalizing.{both, generalized_type}
+use Rattle.tw_abstract.specs.Generalizing.{both, generalized_type}
 use Rattle.tw_print.specs.Names.{Scene, lower_base}
 use Rattle.tw_print.specs.Shown.{quantifier_name}
-use Rattle.tw_scope.specs.Names.{Names as Scope}
+use Rattle.tw_fixity.specs.Names.{Names as Scope}
 use Rattle.tw_shown.specs.Naming.{MarksShown}
 use Rattle.tw_shown.specs.Shown.{is_shown, outer, outside}
 use Rattle.tw_shown.proofs.Lists.{outer_outside, shown_outside}

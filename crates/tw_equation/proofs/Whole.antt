@@ -1,13 +1,13 @@
 -- The parts of the text, put together.
 use Rattle.std.proofs.Common.{◌≡◌, ℕ, ◌≤◌, List, [], ◌∷◌, ◌++◌, length, take, Option, Some, refl, ap, ap₂, ◌∙◌, arith, length-append}
 use Rattle.lf.specs.Syntax.{LfType, Term}
-use Rattle.tw_generalize.specs.Generalizing.{generalized, generalized_type}
-use Rattle.tw_generalize.specs.Positions.{index}
+use Rattle.tw_abstract.specs.Generalizing.{generalized, generalized_type}
+use Rattle.tw_abstract.specs.Positions.{index}
 use Rattle.tw_print.specs.Names.{Scene}
 use Rattle.tw_print.specs.Shown.{equal_text}
-use Rattle.tw_scope.specs.Names.{Names as Scope}
+use Rattle.tw_fixity.specs.Names.{Names as Scope}
 use Rattle.tw_shown.specs.Shown.{outside}
-use Rattle.unification.specs.Unifiers.{Equation}
+use Rattle.lf_unification.specs.Unifiers.{Equation}
 use Rattle.tw_equation.specs.Text.{Laid, laid_out, local_types, shown_in_sides, with_locals, meta_names, or_nothing, text_of, equation_text}
 
 taken : (E G : List LfType) → take (length E) (E ++ G) ≡ E

@@ -3,10 +3,10 @@ use Rattle.std.specs.Prelude.{◌≡◌, ℕ, List, length, Option, Some}
 use Rattle.lf.specs.Syntax.{LfType, skeleton}
 use Rattle.lf.specs.Typing.{Signature}
 use Rattle.tw_equation.specs.declared.equation.Sides.{Sides}
-use Rattle.tw_generalize.specs.Generalizing.{generalized, generalized_type}
+use Rattle.tw_abstract.specs.Generalizing.{generalized, generalized_type}
 use Rattle.tw_print.specs.Showable.{HasSkeleton, IsShowableType}
 use Rattle.tw_terms.specs.View.{term_of, type_of}
-use Rattle.unification.specs.Unifiers.{Equation}
+use Rattle.lf_unification.specs.Unifiers.{Equation}
 
 pub record AreGeneralized (f : ℕ → Option ℕ) (e : Equation) (s : Sides) : Type 0 where
   pub left : generalized f (length e.local) e.left ≡ Some (term_of s.left)

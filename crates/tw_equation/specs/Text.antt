@@ -2,14 +2,14 @@
 use Rattle.std.specs.Prelude.{ℕ, zero, suc, List, [], ◌∷◌, ◌++◌, length, map, Option, Some, None, is_some, cond, slice_get}
 use Rattle.std.specs.Option.{option_map}
 use Rattle.lf.specs.Syntax.{LfType, Term}
-use Rattle.tw_generalize.specs.Generalizing.{both, generalized, generalized_type}
-use Rattle.tw_generalize.specs.Positions.{first_of, index}
+use Rattle.tw_abstract.specs.Generalizing.{both, generalized, generalized_type}
+use Rattle.tw_abstract.specs.Positions.{first_of, index}
 use Rattle.tw_print.specs.Names.{Scene, lower_base}
 use Rattle.tw_print.specs.Shown.{equal_text, hint_in, quantifier_name}
-use Rattle.tw_scope.specs.Names.{Names as Scope}
+use Rattle.tw_fixity.specs.Names.{Names as Scope}
 use Rattle.tw_shown.specs.Naming.{named}
 use Rattle.tw_shown.specs.Shown.{is_shown, outer, outside, shown_in_term}
-use Rattle.unification.specs.Unifiers.{Equation}
+use Rattle.lf_unification.specs.Unifiers.{Equation}
 
 -- metavariables as variables: their numbers, the outermost first, and their types, the innermost first
 pub record Laid : Type 0 where

@@ -1,12 +1,12 @@
 //! The text of an equation that is left.
 ghost use Rattle.std.specs.Prelude.{◌≡◌, IfOk, OnOk, map};
 ghost use Rattle.lf.specs.Entries.{signature_of};
-ghost use Rattle.tw_generalize.specs.Positions.{index};
+ghost use Rattle.tw_abstract.specs.Positions.{index};
 ghost use Rattle.tw_metas.specs.View.{equation_of};
 ghost use Rattle.tw_print.specs.ShowEnv.{scene_of};
 ghost use Rattle.tw_print.specs.Showable.{IsShowableContext};
 ghost use Rattle.tw_terms.specs.View.{term_of, type_of};
-ghost use Rattle.tw_unify.specs.Named.{shown_type_of};
+ghost use Rattle.tw_metas.specs.Named.{shown_type_of};
 ghost use Rattle.tw_equation.specs.Sides.{AreGeneralized, AreShowable};
 ghost use Rattle.tw_equation.specs.Text.{equation_text, shown_in_sides};
 
@@ -15,13 +15,12 @@ use crate::laid::lay_out;
 use crate::locals::{enter_locals, name_locals};
 use crate::naming::meta_names;
 use std::alloc::{AllocError, Global};
-use tw_generalize::{Positions, generalized_term, generalized_type};
-use tw_metas::Equation;
+use tw_abstract::{Positions, generalized_term, generalized_type};
+use tw_metas::{Equation, LeftEquation};
 use tw_print::{ShowEnv, show_equal};
 use tw_shown::{outside, shown_in_term};
 use tw_signature::Signature;
 use tw_terms::{Context, Term, Ty};
-use tw_unify::LeftEquation;
 
 /// The sides of an equation and their type, with variables for metavariables.
 #[derive(Drop)]

@@ -8,7 +8,7 @@ ghost use Rattle.tw_print.specs.Showable.{HasSkeleton, IsShowableContext, IsShow
 ghost use Rattle.tw_terms.specs.View.{head_of, kind_of, skeleton_of, spine_of, term_of, type_of};
 
 use std::alloc::{AllocError, Global};
-use tw_signature::{Body, Signature};
+use tw_signature::Signature;
 use tw_terms::{ConstId, Context, Head, Kind, Skeleton, Spine, Term, Ty, skeleton};
 
 /// Adds a variable of this type to a context. Where skeletons don't type it, memory counts as used up.
@@ -86,26 +86,6 @@ fn under(
     Ok(inside)
 }
 
-/// The type of a declared constant.
-fn constant_type(signature: &Signature, id: ConstId) -> Option<&Ty>
-    ensures { option_map (λ a. type_of a.now) result ≡ (signature_of signature.now).types id.0 }
-{
-    match &signature.entry(id)?.body {
-        Body::Constant(ty) => Some(ty),
-        Body::Family(_) | Body::Defined { .. } => None,
-    }
-}
-
-/// The kind of a declared family.
-fn family_kind(signature: &Signature, id: ConstId) -> Option<&Kind>
-    ensures { option_map (λ k. kind_of k.now) result ≡ (signature_of signature.now).kinds id.0 }
-{
-    match &signature.entry(id)?.body {
-        Body::Family(kind) => Some(kind),
-        Body::Constant(_) | Body::Defined { .. } => None,
-    }
-}
-
 /// The skeleton of a family of this kind.
 fn kind_skeleton(alloc: Global, family: ConstId, kind: &Kind) -> Result<Skeleton, AllocError>
     ensures { IfOk result (λ s. skeleton_of s ≡ skeleton_of_kind family.0 (kind_of kind.now)) }
@@ -147,7 +127,7 @@ fn head_skeleton(
     ensures { IfOk result (λ o. (t : PlainSkeleton) → (option_map skeleton_of o ≡ Some t) ↔ HeadSkeleton (constant_skeletons (signature_of signature.now)) (map skeleton_of variables.now) (head_of head) t) }
 {
     match head {
-        Head::Const(id) => match constant_type(signature, id) {
+        Head::Const(id) => match signature.constant_type(id) {
             Some(ty) => Ok(Some(skeleton(alloc, ty)?)),
             None => Ok(None),
         },
@@ -163,7 +143,7 @@ fn family_skeleton(
 ) -> Result<Option<Skeleton>, AllocError>
     ensures { IfOk result (λ o. option_map skeleton_of o ≡ family_skeletons (signature_of signature.now) family.0) }
 {
-    match family_kind(signature, family) {
+    match signature.family_kind(family) {
         Some(kind) => Ok(Some(kind_skeleton(alloc, family, kind)?)),
         None => Ok(None),
     }

@@ -6,11 +6,11 @@ ghost use Rattle.tw_equation.specs.Text.{laid_out, next_one, ready_type};
 ghost use Rattle.tw_print.specs.Showable.{IsShowableContext};
 ghost use Rattle.tw_terms.specs.OpenView.{open_type_of};
 ghost use Rattle.tw_terms.specs.View.{type_of};
-ghost use Rattle.tw_unify.specs.Named.{shown_type_of};
+ghost use Rattle.tw_metas.specs.Named.{shown_type_of};
 
 use crate::fits::enter;
 use std::alloc::{AllocError, Global};
-use tw_generalize::{Positions, generalized_type};
+use tw_abstract::{Positions, generalized_type};
 use tw_signature::Signature;
 use tw_terms::{Context, MetaId, OpenContext, OpenTy, Ty};
 

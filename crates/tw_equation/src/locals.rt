@@ -3,7 +3,7 @@ ghost use Rattle.std.specs.Prelude.{◌≡◌, ◌≤◌, OnOk, IfOk, length, ta
 ghost use Rattle.lf.specs.Entries.{signature_of};
 ghost use Rattle.tw_equation.specs.Text.{with_locals};
 ghost use Rattle.tw_equation.specs.Locals.{Entered};
-ghost use Rattle.tw_generalize.specs.Positions.{index};
+ghost use Rattle.tw_abstract.specs.Positions.{index};
 ghost use Rattle.tw_print.specs.Showable.{IsShowableContext};
 ghost use Rattle.tw_print.specs.ShowEnv.{scene_of};
 ghost use Rattle.tw_print.specs.Names.{lower_base};
@@ -12,10 +12,9 @@ ghost use Rattle.tw_terms.specs.View.{type_of};
 
 use crate::fits::enter;
 use std::alloc::{AllocError, Global};
-use tw_fixity::Name;
-use tw_generalize::{Positions, generalized_type};
+use tw_abstract::{Positions, generalized_type};
+use tw_fixity::{Name, Scope};
 use tw_print::ShowEnv;
-use tw_scope::Scope;
 use tw_shown::shown_marks;
 use tw_signature::Signature;
 use tw_terms::{Context, OpenContext, Ty};

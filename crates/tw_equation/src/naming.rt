@@ -7,20 +7,10 @@ ghost use Rattle.tw_print.specs.Shown.{hint_in};
 
 use crate::laid::Laid;
 use std::alloc::{AllocError, Global};
-use tw_fixity::Name;
+use tw_fixity::{Name, Scope, copy_option};
 use tw_print::ShowEnv;
-use tw_scope::Scope;
 use tw_shown::name_shown;
 use tw_terms::MetaId;
-
-fn copy_name(alloc: Global, name: &Option<Name>) -> Result<Option<Name>, AllocError>
-    ensures { IfOk result (λ n. n ≡ name.now) }
-{
-    match name {
-        Some(name) => Ok(Some(name.copy(alloc)?)),
-        None => Ok(None),
-    }
-}
 
 /// The scope of these names, each in front of those before it.
 fn taken_names(alloc: Global, names: &[Option<Name>]) -> Result<Scope, AllocError>
@@ -28,7 +18,7 @@ fn taken_names(alloc: Global, names: &[Option<Name>]) -> Result<Scope, AllocErro
 {
     let mut scope = Scope::new(alloc);
     for name in names {
-        scope.push(copy_name(alloc, name)?)?;
+        scope.push(copy_option(alloc, name)?)?;
     }
     Ok(scope)
 }
@@ -42,7 +32,7 @@ fn given_name(
     ensures { IfOk result (λ n. n ≡ hint_in (slice_get names.now meta.0)) }
 {
     match names.get(meta.0 as usize) {
-        Some(name) => copy_name(alloc, name),
+        Some(name) => copy_option(alloc, name),
         None => Ok(None),
     }
 }
@@ -68,7 +58,7 @@ fn scope_of(alloc: Global, names: &[Option<Name>]) -> Result<Scope, AllocError>
 {
     let mut scope = Scope::new(alloc);
     for place in (0..names.len()).rev() {
-        scope.push(copy_name(alloc, &names[place])?)?;
+        scope.push(copy_option(alloc, &names[place])?)?;
     }
     Ok(scope)
 }

@@ -62,3 +62,24 @@ impl Name {
         self.as_bytes() == other.as_bytes()
     }
 }
+
+/// An equal optional name. Fails only for want of memory.
+pub fn copy_option(alloc: Global, name: &Option<Name>) -> Result<Option<Name>, AllocError>
+    ensures { IfOk result (λ n. n ≡ name.now) }
+{
+    match name {
+        Some(name) => Ok(Some(name.copy(alloc)?)),
+        None => Ok(None),
+    }
+}
+
+/// Equal optional names in the same order. Fails only for want of memory.
+pub fn copy_options(alloc: Global, names: &[Option<Name>]) -> Result<Vec<Option<Name>>, AllocError>
+    ensures { IfOk result (λ copies. copies.items ≡ names.now) }
+{
+    let mut copies = Vec::with_capacity(alloc, names.len())?;
+    for name in names {
+        copies.push(copy_option(alloc, name)?)?;
+    }
+    Ok(copies)
+}

@@ -3,8 +3,8 @@ ghost use Rattle.std.specs.Prelude.{◌≡◌, OnOk, OnErr, None};
 ghost use Rattle.std.specs.FinMap as map;
 
 use crate::name::Name;
+use indexmap::IndexMap;
 use std::alloc::{AllocError, Global};
-use std::collections::BTreeMap;
 use std::marker::Model;
 
 /// To which side an infix operator associates.
@@ -26,7 +26,7 @@ pub enum Fix {
 /// The operators. Contracts see it as a finite map from names to rows.
 #[derive(Drop)]
 pub struct FixTable {
-    rows: BTreeMap<Vec<u8>, Fix>,
+    rows: IndexMap<Vec<u8>, Fix>,
 }
 
 impl Model for FixTable {
@@ -47,7 +47,7 @@ impl FixTable {
         ensures { result ≡ map.empty }
     {
         FixTable {
-            rows: BTreeMap::new(alloc),
+            rows: IndexMap::new(alloc),
         }
     }
 
@@ -80,6 +80,6 @@ impl FixTable {
     pub fn remove(&mut self, name: &Name)
         ensures { self.new ≡ map.remove self.old name.now }
     {
-        self.rows.remove(name.as_bytes());
+        self.rows.swap_remove(name.as_bytes());
     }
 }

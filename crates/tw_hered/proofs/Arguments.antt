@@ -4,9 +4,9 @@ use Rattle.std.proofs.lemmas.Grind.{common_steps}
 use Rattle.lf.specs.Syntax.{Spine, app}
 use Rattle.lf.specs.Depth.{depth, spine_depth}
 use Rattle.lf.proofs.Depth.{deep_first, deep_rest}
-use Rattle.closures.specs.Environments.{Environment, value_in, spine_value_in}
-use Rattle.closures.specs.Typing.{ClosureFits, SpineClosureFits}
-use Rattle.closures.proofs.Steps.{first_fits, rest_fits}
+use Rattle.lf_closures.specs.Environments.{Environment, value_in, spine_value_in}
+use Rattle.lf_closures.specs.Typing.{ClosureFits, SpineClosureFits}
+use Rattle.lf_closures.proofs.Steps.{first_fits, rest_fits}
 use Rattle.tw_terms.specs.View.{term_of, args_of, spine_from}
 use Rattle.tw_terms.specs.declared.canonical.Term.{Term}
 

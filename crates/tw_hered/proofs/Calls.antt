@@ -5,9 +5,9 @@ use Rattle.lf.specs.Substitution.{single, substitute, substitute_type, reduce}
 use Rattle.lf.specs.Depth.{depth, type_depth}
 use Rattle.lf.specs.Deep.{DeepSubstitution, DeepTypeSubstitution, DeepReduction}
 use Rattle.lf.proofs.Deep.{deep_result, deep_type_result, deep_reduct}
-use Rattle.closures.specs.Environments.{Environment, outside, move_by, value_in, type_value_in, applied_in}
-use Rattle.closures.specs.Typing.{ClosureFits, TypeClosureFits, ClosureApplies}
-use Rattle.closures.proofs.Steps.{put_alone, put_alone_value, put_alone_fits, outside_applies, outside_value}
+use Rattle.lf_closures.specs.Environments.{Environment, outside, move_by, value_in, type_value_in, applied_in}
+use Rattle.lf_closures.specs.Typing.{ClosureFits, TypeClosureFits, ClosureApplies}
+use Rattle.lf_closures.proofs.Steps.{put_alone, put_alone_value, put_alone_fits, outside_applies, outside_value}
 use Rattle.tw_hered.specs.Fits.{put_at, TermFits, TypeFits, Applies}
 
 module _ (n : ℕ) (a : Skeleton) (N : Term) (e : Environment) (is : e ≡ put_alone n a N) where

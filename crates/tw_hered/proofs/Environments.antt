@@ -1,11 +1,11 @@
 -- The environment of a value, level by level.
 use Rattle.std.proofs.Common.{◌≡◌, ℕ, Bor, rules}
-use Rattle.closures.specs.Environments as pure
+use Rattle.lf_closures.specs.Environments as pure
 use Rattle.tw_terms.specs.View.{term_of, skeleton_of}
 use Rattle.tw_terms.specs.declared.canonical.Term.{Term}
 use Rattle.tw_terms.specs.declared.canonical.Skeleton.{Skeleton}
 use Rattle.tw_terms.proofs.Args.{types, skeletons}
-use Rattle.closures.proofs.Values.{lookups}
+use Rattle.lf_closures.proofs.Values.{lookups}
 use Rattle.tw_hered.specs.View.{environment_of}
 use Rattle.tw_hered.specs.declared.environment.Environment.{Environment, Outside, Under, Moved, Extended, the_lemmas}
 

@@ -1,9 +1,9 @@
 -- What the calls need of their arguments: that skeletons type them.
 use Rattle.std.specs.Prelude.{ℕ, List, Option, drop}
-use Rattle.lf.specs.Syntax.{Term, Spine, LfType, Skeleton, base}
+use Rattle.lf.specs.Syntax.{Term, Spine, LfType, Kind, Skeleton, base}
 use Rattle.lf.specs.Substitution.{Image, single}
 use Rattle.lf.specs.AtOnce.{lift_by}
-use Rattle.lf.specs.SkeletonTyping.{HeadSkeletons, TermSkeleton, SpineSkeleton, TypeBySkeletons, SubstitutionBySkeletons}
+use Rattle.lf.specs.SkeletonTyping.{HeadSkeletons, TermSkeleton, SpineSkeleton, TypeBySkeletons, KindBySkeletons, SubstitutionBySkeletons}
 
 -- N, which stands outside the n newest variables, for variable n: these stay, and each variable past n comes one nearer
 abbrev pub put_at : ℕ → Skeleton → Term → ℕ → Image
@@ -36,6 +36,15 @@ pub record TypeFits (σ : ℕ → Image) (A : LfType) : Type 0 where
   pub target : List Skeleton
   pub substitution_typed : SubstitutionBySkeletons heads context target σ
   pub type_typed : TypeBySkeletons families heads context A
+
+-- the same of a kind
+pub record KindFits (σ : ℕ → Image) (K : Kind) : Type 0 where
+  pub families : ℕ → Option Skeleton
+  pub heads : HeadSkeletons
+  pub context : List Skeleton
+  pub target : List Skeleton
+  pub substitution_typed : SubstitutionBySkeletons heads context target σ
+  pub kind_typed : KindBySkeletons families heads context K
 
 -- the term has this skeleton, and the spine gives it all its arguments
 pub record Applies (a : Skeleton) (N : Term) (S : Spine) : Type 0 where

@@ -1,8 +1,8 @@
 -- The environments that values of the program stand for.
 use Rattle.lf.specs.Syntax as lf
-use Rattle.closures.specs.Environments as pure
-use Rattle.closures.specs.Environments.{stays, closure, value_in, spine_value_in}
-use Rattle.closures.specs.Typing.{ClosureFits, SpineClosureFits}
+use Rattle.lf_closures.specs.Environments as pure
+use Rattle.lf_closures.specs.Environments.{stays, closure, value_in, spine_value_in}
+use Rattle.lf_closures.specs.Typing.{ClosureFits, SpineClosureFits}
 use Rattle.tw_terms.specs.View.{head_of, term_of, spine_of, skeleton_of}
 use Rattle.tw_hered.specs.declared.environment.Environment.{Environment, fold-Environment}
 use Rattle.tw_hered.specs.declared.environment.Environment.TheOpen.{Environment-F}

@@ -7,12 +7,9 @@ ghost use Rattle.lf.specs.Eta.{eta_long, eta_arguments, arity as arity_of, lambd
 ghost use Rattle.tw_terms.specs.View.{head_of, term_of, spine_of, skeleton_of};
 
 use crate::fault::HeredFault;
-use crate::normal::push;
+use crate::normal::{LEVELS, push};
 use std::alloc::{AllocError, Global};
 use tw_terms::{Head, Skeleton, Spine, Term};
-
-/// The greatest depth of a result.
-const DEPTH_LIMIT: u64 = 4_096;
 
 /// The eta-long form of a variable or constant of the skeleton `skel`.
 ///
@@ -22,7 +19,7 @@ pub fn eta(alloc: Global, head: Head, skel: &Skeleton) -> Result<Term, HeredFaul
     ensures shallow { IfOk result (λ m. depth (term_of m) ≤ depth_limit) }
     ensures too_deep { IsErrOf result HeredFault.TooDeep → depth_limit < depth (eta_long (skeleton_of skel.now) (head_of head)) }
 {
-    expand_head(alloc, head, skel, DEPTH_LIMIT)
+    expand_head(alloc, head, skel, LEVELS)
 }
 
 /// The eta-long form. Answers `TooDeep` where it is deeper than `levels`.

@@ -1,14 +1,14 @@
-//! Why a call has no result.
+//! Why a term isn't made.
 ghost use Rattle.tw_hered.specs.declared.fault.HeredFault.TheVariants.{NoMemory};
 ghost use Rattle.std.specs.Prelude.{◌≡◌};
 
 use std::alloc::AllocError;
 use thiserror::Error;
 
-/// Why a substitution has no result.
+/// Why a term isn't made, or a call that makes terms has no answer.
 #[derive(Clone, Copy, PartialEq, Eq, Debug, Error)]
 pub enum HeredFault {
-    /// A canonical term of the derivation is deeper than 4,096.
+    /// A term that is made, or one that is met in making it, is deeper than 4,096.
     #[error("a term is deeper than 4,096")]
     TooDeep,
     /// Memory is wanting, the machine's stack included.

@@ -1,7 +1,7 @@
 //! The head of a term in an environment: closures are entered one after another, and nothing is copied.
 ghost use Rattle.std.specs.Prelude.{◌≡◌, IfOk};
-ghost use Rattle.closures.specs.Environments.{move_by, value_in, applied_in};
-ghost use Rattle.closures.specs.Typing.{ClosureFits, ClosureApplies};
+ghost use Rattle.lf_closures.specs.Environments.{move_by, value_in, applied_in};
+ghost use Rattle.lf_closures.specs.Typing.{ClosureFits, ClosureApplies};
 ghost use Rattle.tw_terms.specs.View.{term_of, args_of, skeleton_of};
 ghost use Rattle.tw_hered.specs.View.{environment_of, value_of_step, StepFits, value_of_exposed, ExposedFits};
 

@@ -4,20 +4,17 @@ ghost use Rattle.lf.specs.Substitution.{single, substitute as put_in, substitute
 ghost use Rattle.lf.specs.Depth.{depth, type_depth, depth_limit};
 ghost use Rattle.lf.specs.Deep.{DeepSubstitution, DeepTypeSubstitution, DeepReduction};
 ghost use Rattle.tw_terms.specs.View.{term_of, spine_of, type_of, skeleton_of};
-ghost use Rattle.closures.specs.Environments.{outside, under, extended};
+ghost use Rattle.lf_closures.specs.Environments.{outside, under, extended};
 ghost use Rattle.tw_hered.specs.Fits.{put_at, TermFits, TypeFits, Applies};
 ghost use Rattle.tw_hered.specs.View.{environment_of};
 
 use crate::environment::{Closure, Environment, placed};
 use crate::fault::HeredFault;
 use crate::head::enter;
-use crate::normal::{normal_term, normal_type};
+use crate::normal::{LEVELS, normal_term, normal_type};
 use bumpalo::Bump;
 use std::alloc::{AllocError, Global};
 use tw_terms::{Skeleton, Spine, Term, Ty};
-
-/// The greatest depth of a result.
-const DEPTH_LIMIT: u64 = 4_096;
 
 /// The greatest depth of what `instantiate` gives: past it, the machine's stack counts as used up.
 /// A level of a walk takes some 690 bytes of the stack, so that all take 6 of the usual 8 MiB.
@@ -41,7 +38,7 @@ pub fn substitute(
 {
     let arena = Bump::new(alloc);
     let environment = environment_for(&arena, index, arg, skel)?;
-    normal_term(alloc, &arena, body, environment, DEPTH_LIMIT)
+    normal_term(alloc, &arena, body, environment, LEVELS)
 }
 
 /// The same in a type.
@@ -59,7 +56,7 @@ pub fn substitute_ty(
 {
     let arena = Bump::new(alloc);
     let environment = environment_for(&arena, index, arg, skel)?;
-    normal_type(alloc, &arena, body, environment, DEPTH_LIMIT)
+    normal_type(alloc, &arena, body, environment, LEVELS)
 }
 
 /// The type with `arg` put in for its newest variable, as deep as it comes. Fails only for want of memory.
@@ -98,13 +95,7 @@ pub fn apply_spine(
         binders: 0,
     };
     let entered = enter(&arena, closure, &spine.args, outside)?;
-    normal_term(
-        alloc,
-        &arena,
-        entered.body,
-        entered.environment,
-        DEPTH_LIMIT,
-    )
+    normal_term(alloc, &arena, entered.body, entered.environment, LEVELS)
 }
 
 /// The environment that puts `arg` in for the variable `index`.

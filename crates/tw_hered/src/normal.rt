@@ -2,8 +2,8 @@
 ghost use Rattle.std.specs.Prelude.{◌≡◌, ◌≤◌, ◌<◌, ◌++◌, ◌∷◌, [], IfOk, IsErrOf};
 ghost use Rattle.lf.specs.Syntax.{lambda as lambda_of, pi as pi_of};
 ghost use Rattle.lf.specs.Depth.{depth, spine_depth, type_depth};
-ghost use Rattle.closures.specs.Environments.{value_in, spine_value_in, type_value_in};
-ghost use Rattle.closures.specs.Typing.{ClosureFits, SpineClosureFits, TypeClosureFits};
+ghost use Rattle.lf_closures.specs.Environments.{value_in, spine_value_in, type_value_in};
+ghost use Rattle.lf_closures.specs.Typing.{ClosureFits, SpineClosureFits, TypeClosureFits};
 ghost use Rattle.tw_terms.specs.View.{term_of, spine_of, type_of};
 ghost use Rattle.tw_hered.specs.View.{environment_of};
 
@@ -12,7 +12,10 @@ use crate::fault::HeredFault;
 use crate::head::{Exposed, expose};
 use bumpalo::Bump;
 use std::alloc::{AllocError, Global};
-use tw_terms::{Spine, Term, Ty};
+use tw_terms::{DEPTH_LIMIT, Spine, Term, Ty};
+
+/// The greatest depth of a result.
+pub const LEVELS: u64 = DEPTH_LIMIT as u64;
 
 /// The canonical form of the term in the environment. Answers `TooDeep` where it is deeper than `levels`.
 #[cycle(normal)]

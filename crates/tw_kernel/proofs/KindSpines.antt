@@ -14,8 +14,8 @@ use Rattle.lf.proofs.Rules.{rules_total_type, rules_total_kind}
 use Rattle.lf.proofs.SkeletonTyping.{single_by_skeletons, lift_by_skeletons}
 use Rattle.lf.proofs.Substitution.{skeleton_context_of, single_substitution_typed}
 use Rattle.lf.proofs.ToSkeletons.{typed_has_skeleton, type_by_skeletons, kind_by_skeletons}
-use Rattle.tw_hered.specs.Fits.{TypeFits}
-use Rattle.tw_kernel.specs.Outcome.{Blames, KindTakesArgument, KindFits}
+use Rattle.tw_hered.specs.Fits.{KindFits, TypeFits}
+use Rattle.tw_kernel.specs.Outcome.{Blames, KindTakesArgument}
 use Rattle.tw_kernel.specs.declared.fault.Fault.{Fault}
 use Rattle.tw_kernel.proofs.Spines.{blames_map}
 

@@ -1,8 +1,6 @@
 -- What the outcomes of the kernel's functions say.
-use Rattle.std.specs.Prelude.{◌≡◌, ℕ, List, Option, Result, MatchResult}
-use Rattle.lf.specs.Syntax.{Term, LfType, Kind, pi, atom, kind_pi, star, Skeleton}
-use Rattle.lf.specs.Substitution.{Image}
-use Rattle.lf.specs.SkeletonTyping.{HeadSkeletons, KindBySkeletons, SubstitutionBySkeletons}
+use Rattle.std.specs.Prelude.{◌≡◌, List, Result, MatchResult}
+use Rattle.lf.specs.Syntax.{Term, LfType, Kind, pi, atom, kind_pi, star}
 use Rattle.lf.specs.Typing.{Signature, instantiate_type, instantiate_kind, HasType}
 use Rattle.tw_hered.specs.declared.fault.HeredFault.{HeredFault}
 use Rattle.tw_hered.specs.declared.fault.HeredFault.TheVariants as hered
@@ -33,12 +31,3 @@ TakesArgument Σ G (atom a T) M C = ⊥
 abbrev pub KindTakesArgument : Signature → List LfType → Kind → Term → Kind → Type 0
 KindTakesArgument Σ G (kind_pi A K) M L = HasType Σ G M A × (L ≡ instantiate_kind A M K)
 KindTakesArgument Σ G star M L = ⊥
-
--- skeletons type the kind, and the substitution takes its context to another one
-pub record KindFits (σ : ℕ → Image) (K : Kind) : Type 0 where
-  pub families : ℕ → Option Skeleton
-  pub heads : HeadSkeletons
-  pub context : List Skeleton
-  pub target : List Skeleton
-  pub substitution_typed : SubstitutionBySkeletons heads context target σ
-  pub kind_typed : KindBySkeletons families heads context K

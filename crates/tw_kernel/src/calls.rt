@@ -9,12 +9,11 @@ ghost use Rattle.tw_kernel.specs.Outcome.{Decides};
 ghost use Rattle.tw_kernel.specs.Verdicts.{verdict_of};
 
 use crate::fault::Fault;
-use crate::heads::DEPTH_LIMIT;
 use crate::terms::has_type;
 use crate::types::{is_kind, is_type};
 use std::alloc::{AllocError, Global};
 use tw_signature::Signature;
-use tw_terms::{Context, Kind, Term, Ty};
+use tw_terms::{Context, DEPTH_LIMIT, Kind, Term, Ty};
 
 /// What is known of a judgement of LF typing.
 #[derive(Clone, Copy, PartialEq, Eq, Debug)]

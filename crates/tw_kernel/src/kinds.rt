@@ -9,7 +9,8 @@ ghost use Rattle.lf.specs.Substitution.{single, substitute_kind, reduce};
 ghost use Rattle.lf.specs.Syntax.{Kind as LfKind, Spine as LfSpine, app, kind_pi};
 ghost use Rattle.lf.specs.Typing.{SpineFitsKind, IsKind, IsContext};
 ghost use Rattle.tw_terms.specs.View.{term_of, spine_of, type_of, kind_of, skeleton_of};
-ghost use Rattle.tw_kernel.specs.Outcome.{Blames, Decides, KindTakesArgument, KindFits};
+ghost use Rattle.tw_hered.specs.Fits.{KindFits};
+ghost use Rattle.tw_kernel.specs.Outcome.{Blames, Decides, KindTakesArgument};
 
 use crate::fault::Fault;
 use crate::terms::has_type;

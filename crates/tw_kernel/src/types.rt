@@ -8,7 +8,6 @@ ghost use Rattle.tw_terms.specs.View.{type_of, kind_of};
 ghost use Rattle.tw_kernel.specs.Outcome.{Decides};
 
 use crate::fault::Fault;
-use crate::heads::family_kind;
 use crate::kinds::fits_kind;
 use std::alloc::Global;
 use tw_signature::Signature;
@@ -34,7 +33,7 @@ pub fn is_type(
             let _ = context.pop();
             Ok(())
         }
-        Ty::Atom(family, spine) => match family_kind(signature, *family) {
+        Ty::Atom(family, spine) => match signature.family_kind(*family) {
             Some(kind) => {
                 let kind = kind.copy(alloc)?;
                 fits_kind(alloc, signature, context, spine, kind)

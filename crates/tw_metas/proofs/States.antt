@@ -3,7 +3,7 @@ use Rattle.std.proofs.Common.{◌≡◌, ℕ, List, [], ◌∷◌, ◌++◌, len
 use Rattle.std.specs.List.{insert, remove, slice_get}
 use Rattle.std.proofs.lemmas.List.{map-set, reverse-append}
 use Rattle.lf.specs.Syntax.{Term}
-use Rattle.unification.specs.Unifiers.{Equation}
+use Rattle.lf_unification.specs.Unifiers.{Equation}
 use Rattle.tw_terms.specs.OpenView.{open_term_of}
 use Rattle.tw_terms.specs.declared.open_terms.Open.{Open}
 use Rattle.tw_metas.specs.State.{Declaration, State}

@@ -3,7 +3,7 @@ use Rattle.std.specs.Prelude.{ℕ, List, Option, refl}
 use Rattle.std.specs.Coded.{Coded, code_by, coded×, coded_ℕ, coded_list, coded_option}
 use Rattle.lf.specs.Syntax.{Term, LfType}
 use Rattle.tw_terms.specs.Codes.{term_code, type_code}
-use Rattle.unification.specs.Unifiers as unifiers
+use Rattle.lf_unification.specs.Unifiers as unifiers
 use Rattle.tw_metas.specs.State.{Declaration, State, Story}
 
 abbrev pub declaration_code : Coded Declaration

@@ -3,3 +3,4 @@ pub mod View
 pub mod Undoing
 pub mod Codes
 pub mod Laws
+pub mod Named

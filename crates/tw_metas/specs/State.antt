@@ -2,7 +2,7 @@
 use Rattle.std.specs.Prelude.{◌≡◌, ℕ, List, [], ◌∷◌, ◌++◌, Option, Some, None, slice_get, slice_set}
 use Rattle.std.specs.List.{remove}
 use Rattle.lf.specs.Syntax.{Term, LfType}
-use Rattle.unification.specs.Unifiers as unifiers
+use Rattle.lf_unification.specs.Unifiers as unifiers
 
 -- a metavariable as it was declared: the context that it stands in, and its type there
 pub record Declaration : Type 0 where

@@ -2,7 +2,7 @@
 use Rattle.std.specs.Prelude.{map, reverse}
 use Rattle.std.specs.Option.{option_map}
 use Rattle.tw_terms.specs.OpenView.{open_term_of, open_type_of}
-use Rattle.unification.specs.Unifiers as unifiers
+use Rattle.lf_unification.specs.Unifiers as unifiers
 use Rattle.tw_metas.specs.State.{Declaration, State}
 use Rattle.tw_metas.specs.declared.contents.Declared.{Declared}
 use Rattle.tw_metas.specs.declared.contents.Contents.{Contents}

@@ -4,8 +4,10 @@
 mod contents;
 mod equation;
 mod laws;
+mod left;
 mod store;
 
 pub use equation::Equation;
 pub use laws::mark_is_kept;
+pub use left::LeftEquation;
 pub use store::{Mark, Store};

@@ -4,7 +4,7 @@ use Rattle.std.specs.Option.{option_map}
 use Rattle.std.specs.Str.{bytes_eq}
 use Rattle.lf.specs.Entries.{Entry}
 use Rattle.lf.specs.Syntax.{Head, constant, variable}
-use Rattle.tw_scope.specs.Names.{Names, variable_of}
+use Rattle.tw_fixity.specs.Names.{Names, variable_of}
 use Rattle.tw_signature.specs.Names.{number_of}
 
 -- the name that a binder gives to its variable; `_` gives none

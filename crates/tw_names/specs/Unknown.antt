@@ -2,7 +2,7 @@
 use Rattle.std.specs.Prelude.{◌≡◌, ℕ, List, [], ◌∷◌, ◌++◌, Bool, true, false, ◌==◌, ◌&&◌, ◌||◌, Option, None, Some, nat_lt, nat_le, if◌then◌else◌, ◌⊎◌}
 use Rattle.lf.specs.Entries.{Entry}
 use Rattle.lf.specs.Syntax.{Head}
-use Rattle.tw_scope.specs.Names.{Names}
+use Rattle.tw_fixity.specs.Names.{Names}
 use Rattle.tw_names.specs.Scope.{binder_name, named}
 use Rattle.tw_names.specs.declared.unknown.Mention.{Mention}
 use Rattle.tw_lexer.specs.declared.place.Place.{Place}

@@ -8,7 +8,8 @@ mod texts;
 #[tactic(auto, using(crate::proofs::Unknowns::unknowns))]
 mod unknown;
 
-pub use frames::{FRAMES, nested};
+pub use frames::FRAMES;
 pub use scope::{binder_name, named};
 pub use texts::{ends_in_type, first_mention, hints};
+pub use tw_terms::numbers::nested;
 pub use unknown::{Mention, is_no_later, is_uppercase};

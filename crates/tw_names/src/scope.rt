@@ -4,8 +4,7 @@ ghost use Rattle.tw_terms.specs.View.{head_of};
 ghost use Rattle.tw_names.specs.Scope.{binder_name, named};
 
 use std::alloc::{AllocError, Global};
-use tw_fixity::Name;
-use tw_scope::Scope;
+use tw_fixity::{Name, Scope};
 use tw_signature::Signature;
 use tw_terms::Head;
 

@@ -9,9 +9,8 @@ use crate::frames::FRAMES;
 use crate::scope::binder_name;
 use crate::unknown::{Mention, first_unknown};
 use std::alloc::{AllocError, Global};
-use tw_fixity::Name;
+use tw_fixity::{Name, Scope};
 use tw_parse::ExtTerm;
-use tw_scope::Scope;
 use tw_signature::Signature;
 
 /// The first lowercase name in the type, if there is one, and the term that is neither bound nor declared.

@@ -6,14 +6,13 @@ ghost use Rattle.tw_names.specs.Domains.{written_domain};
 ghost use Rattle.tw_names.specs.Unknown.{is_uppercase, is_no_later, unless_named, unknown_names, unknown_under};
 ghost use Rattle.tw_names.specs.Earliest.{earlier, earliest};
 
-use crate::frames::nested;
 use crate::scope::{binder_name, named};
 use std::alloc::{AllocError, Global};
-use tw_fixity::Name;
+use tw_fixity::{Name, Scope};
 use tw_lexer::Place;
 use tw_parse::ExtTerm;
-use tw_scope::Scope;
 use tw_signature::Signature;
+use tw_terms::numbers::nested;
 
 /// A name where it stands.
 #[derive(Drop)]

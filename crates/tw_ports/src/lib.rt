@@ -8,8 +8,6 @@ mod ports;
 mod real;
 mod slices;
 mod sure;
-#[cfg(test)]
-mod tests;
 
 pub use disk::DiskFiles;
 pub use files::{FileAnswer, Files, MemFiles, SureFiles};

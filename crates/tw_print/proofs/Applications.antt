@@ -9,7 +9,7 @@ use Rattle.tw_fixity.specs.declared.table.Assoc.{Assoc}
 use Rattle.tw_fixity.specs.declared.table.Fix.{Fix}
 use Rattle.tw_fixity.specs.declared.table.Fix.TheVariants.{Infix, Prefix, Postfix}
 use Rattle.tw_print.specs.Pieces.{Piece, token, space, in_parentheses, render}
-use Rattle.tw_scope.specs.Names.{Names as Scope}
+use Rattle.tw_fixity.specs.Names.{Names as Scope}
 use Rattle.tw_print.specs.Names.{Scene}
 use Rattle.tw_print.specs.Arguments as spec
 use Rattle.tw_print.specs.ArgumentView.{argument_of}

@@ -1,7 +1,7 @@
 -- The first name that isn't taken.
 use Rattle.std.proofs.Common.{◌≡◌, ℕ, suc, ◌+◌, ◌-◌, ◌<◌, ◌^◌, List, Bool, true, false, cond, refl, sym, ap, ◌∙◌, arith}
 use Rattle.std.proofs.lemmas.Bool.{cond-true, cond-false}
-use Rattle.tw_scope.specs.Names.{Names as Scope}
+use Rattle.tw_fixity.specs.Names.{Names as Scope}
 use Rattle.tw_print.specs.Names.{Scene, is_taken, candidate, candidates, candidates_is, first_free}
 
 left : (n : ℕ) → n < 2 ^ 64 → candidates - n ≡ suc (candidates - suc n)

@@ -10,7 +10,7 @@ use Rattle.tw_fixity.specs.declared.table.Assoc.{Assoc}
 use Rattle.tw_fixity.specs.declared.table.Fix.{Fix}
 use Rattle.tw_fixity.specs.declared.table.Fix.TheVariants.{Infix, Prefix, Postfix}
 use Rattle.tw_print.specs.Pieces.{Piece, token, space, render, in_parentheses}
-use Rattle.tw_scope.specs.Names.{Names as Scope}
+use Rattle.tw_fixity.specs.Names.{Names as Scope}
 use Rattle.tw_print.specs.Names.{Scene, fresh_name, lower_base}
 use Rattle.tw_print.specs.Page.{Writes, Binds}
 use Rattle.tw_print.specs.Arguments as spec

@@ -2,7 +2,7 @@
 use Rattle.std.proofs.Common.{◌≡◌, ℕ, List, [], ◌∷◌, ◌++◌, Option, refl, sym, ap, ◌∙◌, subst, append_assoc, drop}
 use Rattle.lf.specs.Syntax.{LfType}
 use Rattle.tw_print.specs.Pieces.{Piece, token, space, render}
-use Rattle.tw_scope.specs.Names.{Names as Scope}
+use Rattle.tw_fixity.specs.Names.{Names as Scope}
 use Rattle.tw_print.specs.Page.{Writes, Binds}
 use Rattle.tw_print.specs.declared.page.Page.{Page}
 

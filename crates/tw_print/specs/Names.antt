@@ -6,7 +6,7 @@ use Rattle.std.specs.FinMap as map
 use Rattle.lf.specs.Syntax.{Head, constant, variable, metavariable, LfType}
 use Rattle.lf.specs.Entries.{Entry, entry}
 use Rattle.lf.specs.Variables.{target}
-use Rattle.tw_scope.specs.Names.{Names as Scope, is_in_scope}
+use Rattle.tw_fixity.specs.Names.{Names as Scope, is_in_scope}
 use Rattle.tw_signature.specs.Names.{number_of}
 use Rattle.tw_fixity.specs.Rows.{name_order}
 use Rattle.tw_fixity.specs.declared.table.Fix.{Fix}

@@ -7,7 +7,7 @@ use Rattle.lf.specs.Entries.{Entry, Body, entry, declare_family, declare_constan
 use Rattle.tw_fixity.specs.declared.table.Fix.{Fix}
 use Rattle.tw_fixity.specs.declared.table.Fix.TheVariants.{Infix, Prefix, Postfix}
 use Rattle.tw_print.specs.Pieces.{Piece, token, space, in_parentheses, render}
-use Rattle.tw_scope.specs.Names.{Names as Scope}
+use Rattle.tw_fixity.specs.Names.{Names as Scope}
 use Rattle.tw_print.specs.Names.{Scene, name_in, is_plain, constant_word, head_word, fresh_name, upper_base, lower_base}
 use Rattle.tw_print.specs.Variables.{occurs, occurs_in_type, occurs_in_kind}
 use Rattle.tw_print.specs.Arguments.{Argument, arguments, head_type, family_type, hidden, head_hidden, spine_length}

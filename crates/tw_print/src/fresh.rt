@@ -5,8 +5,7 @@ ghost use Rattle.tw_print.specs.SceneView.{scene_in};
 
 use crate::scene::Scene;
 use std::alloc::{AllocError, Global};
-use tw_fixity::Name;
-use tw_scope::Scope;
+use tw_fixity::{Name, Scope};
 use tw_terms::numbers::one_more;
 
 /// The first of the base and the base followed by 1, 2, 3 and so on that isn't taken. Each is looked up in the scope, the signature and the table.

@@ -5,8 +5,7 @@ ghost use Rattle.tw_print.specs.Page.{Writes, Binds};
 ghost use Rattle.tw_print.specs.Pieces.{token, space};
 
 use std::alloc::{AllocError, Global};
-use tw_fixity::Name;
-use tw_scope::Scope;
+use tw_fixity::{Name, Scope};
 use tw_terms::{Context, Ty};
 
 /// What is written so far, and the types and names of the variables in scope.

@@ -49,7 +49,7 @@ pub fn print_term(
             Some(Ty::Pi(domain, range)) => {
                 print_lambda(alloc, scene, page, body, domain, range, inner)
             }
-            _ => Err(AllocError),
+            Some(Ty::Atom(_, _)) | None => unreachable!(),
         },
     }
 }

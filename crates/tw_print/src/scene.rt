@@ -2,7 +2,6 @@
 ghost use Rattle.std.specs.Prelude.{◌≡◌, IfOk, option_map, length};
 ghost use Rattle.std.specs.FinMap as map;
 ghost use Rattle.lf.specs.Entries.{entry as entry_numbered, IsCanonicalSignature};
-ghost use Rattle.lf.specs.Variables.{target as target_of};
 ghost use Rattle.tw_fixity.specs.Rows.{name_order};
 ghost use Rattle.tw_signature.specs.Names.{number_of};
 ghost use Rattle.tw_signature.specs.View.{entry_of};
@@ -16,7 +15,7 @@ use crate::names::Names;
 use std::alloc::{AllocError, Global};
 use tw_fixity::{Fix, FixTable, Name};
 use tw_signature::{Entry, Signature};
-use tw_terms::{ConstId, Ty};
+use tw_terms::{ConstId, Ty, target};
 
 /// The signature with the entry that is about to be added, the table of operators without its name, and the preferences for names.
 #[derive(Clone, Copy)]
@@ -172,15 +171,5 @@ fn is_newest(newest: Option<ConstId>, id: ConstId) -> bool
     match newest {
         Some(newest) => newest.0 == id.0,
         None => false,
-    }
-}
-
-/// The family at the end of a type.
-fn target(ty: &Ty) -> ConstId
-    ensures { result.0 ≡ target_of (type_of ty.now) }
-{
-    match ty {
-        Ty::Pi(_, range) => target(range),
-        Ty::Atom(family, _) => *family,
     }
 }

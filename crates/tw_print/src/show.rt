@@ -20,8 +20,7 @@ use crate::page::Page;
 use crate::print::{print_term, print_type};
 use crate::scene::Scene;
 use std::alloc::{AllocError, Global};
-use tw_fixity::{FixTable, Name};
-use tw_scope::Scope;
+use tw_fixity::{FixTable, Name, Scope};
 use tw_signature::{Entry, Signature};
 use tw_terms::{ConstId, Context, Term, Ty};
 

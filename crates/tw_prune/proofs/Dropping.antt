@@ -4,10 +4,10 @@ use Rattle.std.specs.Prelude.{is_none, if◌then◌else◌}
 use Rattle.lf.specs.SkeletonTyping.{SpineSkeleton, TermSkeleton}
 use Rattle.lf.specs.Subordination.{Member}
 use Rattle.lf.specs.Syntax.{LfType, Skeleton, Spine, Term, app, arrow, atom, base, constant, lambda, metavariable, nil, pi, root, skeleton, variable}
-use Rattle.unification.specs.Inversion.{ElementAt, IsPattern, IsUnderBinders}
-use Rattle.unification.specs.OpenTyping.{skeletons_of}
-use Rattle.unification.specs.Patterns.{InImage, local_skeletons, pattern}
-use Rattle.unification.specs.Rigid.{LiftedSetBy, Rigid, RigidInSpine, first, here, in_constant, in_lambda, in_variable, later}
+use Rattle.lf_unification.specs.Inversion.{ElementAt, IsPattern, IsUnderBinders}
+use Rattle.lf_unification.specs.OpenTyping.{skeletons_of}
+use Rattle.lf_unification.specs.Patterns.{InImage, local_skeletons, pattern}
+use Rattle.lf_unification.specs.Rigid.{LiftedSetBy, Rigid, RigidInSpine, first, here, in_constant, in_lambda, in_variable, later}
 use Rattle.tw_prune.specs.Standing.{skeletons_over}
 use Rattle.tw_prune.specs.Walks.{Table, behind, distinct_variables, last_lacking, loss_at, loss_on, losses_in, losses_in_spine}
 use Rattle.tw_prune.proofs.Escaping.{is_missing}

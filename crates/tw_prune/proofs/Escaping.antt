@@ -2,8 +2,8 @@
 use Rattle.std.proofs.Common.{◌≡◌, ℕ, suc, ◌+◌, Some, None, ◌⊎◌, inl, inr, refl, sym, ap, ◌∙◌, subst, arith, add-one}
 use Rattle.std.specs.Prelude.{Bool, true, false, is_none, ◌||◌}
 use Rattle.lf.specs.Syntax.{Spine, Term, app, constant, lambda, metavariable, nil, root, variable}
-use Rattle.unification.specs.Patterns.{InImage}
-use Rattle.unification.specs.Rigid.{LiftedSetBy, Rigid, RigidInSpine, first, here, in_constant, in_lambda, in_variable, later}
+use Rattle.lf_unification.specs.Patterns.{InImage}
+use Rattle.lf_unification.specs.Rigid.{LiftedSetBy, Rigid, RigidInSpine, first, here, in_constant, in_lambda, in_variable, later}
 use Rattle.tw_prune.specs.Walks.{Table, behind, escapes, escapes_in_spine}
 use Rattle.tw_prune.proofs.Options.{some_or_none}
 use Rattle.tw_prune.proofs.Tables.{IsInverse, behind_allowed, behind_lacking}

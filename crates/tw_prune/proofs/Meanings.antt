@@ -8,11 +8,11 @@ use Rattle.std.proofs.lemmas.Bool.Decides.{eqb_tells}
 use Rattle.lf.specs.Eta.{arity}
 use Rattle.lf.specs.Subordination.{Member}
 use Rattle.lf.specs.Syntax.{LfType, Skeleton, Spine, Term, arrow, base, metavariable, root}
-use Rattle.unification.specs.Inversion.{ElementAt, Inversion, Inverted as HasInversion, IsPattern, IsUnderBinders, MustDrop, NeverInverted, is_flexible, is_inverted, is_never}
-use Rattle.unification.specs.OpenTyping.{skeletons_of}
-use Rattle.unification.specs.Patterns.{FreeVariablesInSpine, InImage, Injective, PatternFits, beyond, local_skeletons, pattern, pattern_renaming}
-use Rattle.unification.specs.Rigid.{LiftedSetBy, Rigid, past_binders}
-use Rattle.unification.proofs.Total.{inversion_total, must_drop}
+use Rattle.lf_unification.specs.Inversion.{ElementAt, Inversion, Inverted as HasInversion, IsPattern, IsUnderBinders, MustDrop, NeverInverted, is_flexible, is_inverted, is_never}
+use Rattle.lf_unification.specs.OpenTyping.{skeletons_of}
+use Rattle.lf_unification.specs.Patterns.{FreeVariablesInSpine, InImage, Injective, PatternFits, beyond, local_skeletons, pattern, pattern_renaming}
+use Rattle.lf_unification.specs.Rigid.{LiftedSetBy, Rigid, past_binders}
+use Rattle.lf_unification.proofs.Total.{inversion_total, must_drop}
 use Rattle.tw_prune.specs.Losing.{AreDifferences, DropsVariableOfPlace}
 use Rattle.tw_prune.specs.Meaning.{AreLosses, HasEachLoss, HoldsBad, IsHindered, IsInversion}
 use Rattle.tw_prune.specs.Recognition.{HasEachPattern, IsPatternOf}

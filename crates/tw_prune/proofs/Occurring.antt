@@ -5,10 +5,10 @@ use Rattle.std.specs.Bool.{OnFalse, OnTrue}
 use Rattle.std.proofs.lemmas.Bool.{eqb-true, eq-eqb}
 use Rattle.lf.specs.SkeletonTyping.{SpineSkeleton, TermSkeleton}
 use Rattle.lf.specs.Syntax.{LfType, Skeleton, Spine, Term, app, arrow, base, constant, lambda, metavariable, nil, root, skeleton, variable}
-use Rattle.unification.specs.Inversion.{IsPattern, IsUnderBinders}
-use Rattle.unification.specs.OpenTyping.{skeletons_of}
-use Rattle.unification.specs.Patterns.{local_skeletons, pattern}
-use Rattle.unification.specs.Rigid.{Rigid, RigidInSpine, first, here, in_constant, in_lambda, in_variable, later}
+use Rattle.lf_unification.specs.Inversion.{IsPattern, IsUnderBinders}
+use Rattle.lf_unification.specs.OpenTyping.{skeletons_of}
+use Rattle.lf_unification.specs.Patterns.{local_skeletons, pattern}
+use Rattle.lf_unification.specs.Rigid.{Rigid, RigidInSpine, first, here, in_constant, in_lambda, in_variable, later}
 use Rattle.tw_prune.specs.Occurrence.{NeverOccursInside, OccursInside}
 use Rattle.tw_prune.specs.Standing.{skeletons_over}
 use Rattle.tw_prune.specs.Walks.{distinct_variables, stands_in, stands_in_spine, stands_inside}

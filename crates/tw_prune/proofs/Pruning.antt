@@ -9,13 +9,13 @@ use Rattle.lf.specs.Typing.{TypeAt}
 use Rattle.lf.specs.Variables.{binders, onto, target, target_arguments}
 use Rattle.lf.proofs.Decidability.{variable_type_unique}
 use Rattle.lf.proofs.TypeLaws.{rename_weakened, renamings_compose_type, skeleton_renamed}
-use Rattle.unification.specs.Offering.{pi_over}
-use Rattle.unification.specs.Patterns.{FreeVariablesInSpine, InImage, Injective, LiftedSet, PatternFits, beyond, context_under, pattern, pattern_renaming, past}
-use Rattle.unification.specs.Pruning.{IsPartOf, PrunedType, kept_renaming, pruned_type}
-use Rattle.unification.proofs.BindTyped.{at_or_outer, at_outer}
-use Rattle.unification.proofs.Eta.{rename_id_type}
-use Rattle.unification.proofs.Inverse.{FreeVariablesInSpine-weaker, only_back_spine, only_rename_spine, unrename_spine}
-use Rattle.unification.proofs.Within.{FreeVariablesInType, only_weaker_type}
+use Rattle.lf_unification.specs.Offering.{pi_over}
+use Rattle.lf_unification.specs.Patterns.{FreeVariablesInSpine, InImage, Injective, LiftedSet, PatternFits, beyond, context_under, pattern, pattern_renaming, past}
+use Rattle.lf_unification.specs.Pruning.{IsPartOf, PrunedType, kept_renaming, pruned_type}
+use Rattle.lf_unification.proofs.BindTyped.{at_or_outer, at_outer}
+use Rattle.lf_unification.proofs.Eta.{rename_id_type}
+use Rattle.lf_unification.proofs.Inverse.{FreeVariablesInSpine-weaker, only_back_spine, only_rename_spine, unrename_spine}
+use Rattle.lf_unification.proofs.Within.{FreeVariablesInType, only_weaker_type}
 use Rattle.tw_prune.proofs.Options.{lt_tells}
 use Rattle.tw_prune.proofs.Tables.{beyond_is, lift_high, lift_injective, lift_low}
 use Rattle.tw_prune.proofs.Without.{IsWithout, kept_fit, kept_of, kept_renaming_is, skeleton_without, without_skeleton}

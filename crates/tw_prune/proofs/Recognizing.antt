@@ -7,9 +7,9 @@ use Rattle.lf.specs.Eta.{arity, eta_arguments, eta_long, lambdas}
 use Rattle.lf.specs.SkeletonTyping.{HeadSkeletons, SkeletonAt, SpineSkeleton, TermSkeleton}
 use Rattle.lf.specs.Syntax.{LfType, Skeleton, Spine, Term, app, arrow, base, constant, lambda, metavariable, nil, root, variable}
 use Rattle.lf.proofs.AtOnce.{eta_at_once}
-use Rattle.unification.specs.Inversion.{IsPattern}
-use Rattle.unification.specs.Patterns.{InImage, Injective, PatternFits, beyond, context_under, eta_variable, extend_renaming, local_skeletons, pattern, pattern_renaming, skeleton_target}
-use Rattle.unification.proofs.ToSkeletons.{SkeletonAt-once}
+use Rattle.lf_unification.specs.Inversion.{IsPattern}
+use Rattle.lf_unification.specs.Patterns.{InImage, Injective, PatternFits, beyond, context_under, eta_variable, extend_renaming, local_skeletons, pattern, pattern_renaming, skeleton_target}
+use Rattle.lf_unification.proofs.ToSkeletons.{SkeletonAt-once}
 use Rattle.tw_prune.specs.Walks.{are_new, are_newest, both, distinct_variables, eta_variable_under, is_variable, kept_if, variables_in}
 use Rattle.tw_prune.proofs.Options.{both_some, lt_tells}
 use Rattle.tw_prune.proofs.Tables.{beyond_is, past_pattern}

@@ -3,9 +3,9 @@ use Rattle.std.proofs.Common.{◌≡◌, ℕ, zero, suc, ◌+◌, ◌-◌, ◌<�
 use Rattle.std.specs.Prelude.{slice_get, option_map, nat_lt, true, false, if◌then◌else◌}
 use Rattle.lf.specs.AtOnce.{lift_renaming_by}
 use Rattle.lf.specs.Syntax.{LfType, Skeleton, arrow, base}
-use Rattle.unification.specs.Patterns.{InImage, Injective, LiftedSet, PatternFits, beyond, extend_renaming, local_skeletons, pattern_renaming}
-use Rattle.unification.specs.Rigid.{LiftedSetBy}
-use Rattle.unification.proofs.Inverse.{up_injective}
+use Rattle.lf_unification.specs.Patterns.{InImage, Injective, LiftedSet, PatternFits, beyond, extend_renaming, local_skeletons, pattern_renaming}
+use Rattle.lf_unification.specs.Rigid.{LiftedSetBy}
+use Rattle.lf_unification.proofs.Inverse.{up_injective}
 use Rattle.tw_prune.specs.Standing.{StandsIn}
 use Rattle.tw_prune.specs.Tables.{IsTableOf}
 use Rattle.tw_prune.specs.Walks.{Table, behind, place_of, place_or}

@@ -3,7 +3,7 @@ use Rattle.std.proofs.Common.{◌≡◌, ℕ, suc, ◌+◌, Some, refl, sym, ap,
 use Rattle.std.specs.Prelude.{option_map}
 use Rattle.lf.specs.AtOnce.{lift_renaming_by}
 use Rattle.lf.specs.Syntax.{Head, LfType, Spine, Term, app, atom, constant, lambda, metavariable, nil, pi, rename, rename_head, rename_spine, rename_type, root, variable}
-use Rattle.unification.specs.Patterns.{Injective}
+use Rattle.lf_unification.specs.Patterns.{Injective}
 use Rattle.tw_prune.specs.Walks.{Table, behind, both, head_behind, unrenamed, unrenamed_spine, unrenamed_type}
 use Rattle.tw_prune.proofs.Options.{both_some, map_some}
 use Rattle.tw_prune.proofs.Tables.{IsInverse, behind_back, behind_found}

@@ -12,7 +12,7 @@ use Rattle.tw_terms.specs.declared.open_terms.Open.{Open, Root}
 use Rattle.tw_terms.specs.declared.open_terms.OpenHead.TheVariants.{Var}
 use Rattle.tw_terms.specs.declared.open_terms.OpenSpine.{roll-OpenSpine}
 use Rattle.tw_terms.proofs.OpenArgs.{open_types}
-use Rattle.unification.specs.Patterns.{eta_variable, lambdas_of}
+use Rattle.lf_unification.specs.Patterns.{eta_variable, lambdas_of}
 use Rattle.tw_prune.specs.Kept.{kept_arguments}
 use Rattle.tw_prune.specs.Walks.{Table, both, unrenamed}
 

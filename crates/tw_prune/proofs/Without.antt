@@ -8,7 +8,7 @@ use Rattle.lf.specs.Eta.{arity, eta_arguments}
 use Rattle.lf.specs.SkeletonTyping.{SkeletonAt}
 use Rattle.lf.specs.Syntax.{LfType, Skeleton, app, arrow, atom, base, pi, rename_type, skeleton}
 use Rattle.lf.proofs.TypeLaws.{skeleton_renamed}
-use Rattle.unification.specs.Patterns.{InImage, Injective, PatternFits, context_under, eta_variable, extend_renaming, past, pattern, pattern_renaming}
+use Rattle.lf_unification.specs.Patterns.{InImage, Injective, PatternFits, context_under, eta_variable, extend_renaming, past, pattern, pattern_renaming}
 use Rattle.tw_prune.specs.Kept.{kept_arguments}
 use Rattle.tw_prune.specs.Tables.{IsTableOf}
 use Rattle.tw_prune.specs.Walks.{Table, place_of, place_or, unrenamed_type, without_argument}

@@ -2,7 +2,7 @@
 use Rattle.std.specs.Prelude.{ℕ, ◌-◌, nat_eq, if◌then◌else◌}
 use Rattle.lf.specs.Eta.{arity, eta_arguments}
 use Rattle.lf.specs.Syntax.{LfType, Spine, app, atom, nil, pi, skeleton}
-use Rattle.unification.specs.Patterns.{eta_variable}
+use Rattle.lf_unification.specs.Patterns.{eta_variable}
 
 -- the variables of the lambdas of a term of the type, without that of the argument at the place, each eta-long
 abbrev pub kept_arguments : ℕ → LfType → Spine

@@ -2,11 +2,11 @@
 use Rattle.std.specs.Prelude.{◌≡◌, ◌↔◌, ℕ, List, Option, Some}
 use Rattle.lf.specs.Subordination.{Member}
 use Rattle.lf.specs.Syntax.{LfType, Skeleton, Spine, Term, skeleton}
-use Rattle.unification.specs.Inversion.{IsPattern, MustDrop}
-use Rattle.unification.specs.OpenTyping.{skeletons_of}
-use Rattle.unification.specs.Patterns.{beyond, pattern, pattern_renaming}
-use Rattle.unification.specs.Pruning.{PrunedType, pruned_type}
-use Rattle.unification.specs.Rigid.{past_binders}
+use Rattle.lf_unification.specs.Inversion.{IsPattern, MustDrop}
+use Rattle.lf_unification.specs.OpenTyping.{skeletons_of}
+use Rattle.lf_unification.specs.Patterns.{beyond, pattern, pattern_renaming}
+use Rattle.lf_unification.specs.Pruning.{PrunedType, pruned_type}
+use Rattle.lf_unification.specs.Rigid.{past_binders}
 use Rattle.tw_prune.specs.Standing.{IsVariableOfPlace}
 
 -- The type X without its argument at the place is Y, and S are the arguments that stay, under the lambdas of the old value.

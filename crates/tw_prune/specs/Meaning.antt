@@ -2,10 +2,10 @@
 use Rattle.std.specs.Prelude.{◌≡◌, ℕ, List, Option}
 use Rattle.lf.specs.Subordination.{Member}
 use Rattle.lf.specs.Syntax.{LfType, Skeleton, Spine, Term, metavariable, rename, root}
-use Rattle.unification.specs.Inversion.{Allowed, Inverted as HasInversion, IsPattern, IsUnderBinders, MustDrop, NeverInverted}
-use Rattle.unification.specs.OpenTyping.{skeletons_of}
-use Rattle.unification.specs.Patterns.{FreeVariablesInSpine, beyond, pattern, pattern_renaming}
-use Rattle.unification.specs.Rigid.{Rigid}
+use Rattle.lf_unification.specs.Inversion.{Allowed, Inverted as HasInversion, IsPattern, IsUnderBinders, MustDrop, NeverInverted}
+use Rattle.lf_unification.specs.OpenTyping.{skeletons_of}
+use Rattle.lf_unification.specs.Patterns.{FreeVariablesInSpine, beyond, pattern, pattern_renaming}
+use Rattle.lf_unification.specs.Rigid.{Rigid}
 use Rattle.tw_terms.specs.OpenView.{open_term_of}
 use Rattle.tw_prune.specs.Standing.{HasSkeleton, StandsIn}
 use Rattle.tw_prune.specs.declared.inversion.Inverted.{Inverted as Answer}

@@ -1,7 +1,7 @@
 -- Occurrences of a metavariable on a pattern, in no argument of a metavariable, properly inside a term.
 use Rattle.std.specs.Prelude.{◌≡◌, ℕ, List, length, Option}
 use Rattle.lf.specs.Syntax.{LfType, Term}
-use Rattle.unification.specs.Inversion.{OccursRigid}
+use Rattle.lf_unification.specs.Inversion.{OccursRigid}
 use Rattle.tw_prune.specs.Standing.{HasSkeleton}
 
 -- In each local context of `inner` variables in which the term has a skeleton, the metavariable occurs so.

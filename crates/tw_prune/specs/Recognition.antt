@@ -2,7 +2,7 @@
 use Rattle.std.specs.Prelude.{◌≡◌, ℕ, List, length, Option, Some}
 use Rattle.lf.specs.SkeletonTyping.{HeadSkeletons, SpineSkeleton}
 use Rattle.lf.specs.Syntax.{LfType, Skeleton, Spine, base}
-use Rattle.unification.specs.Patterns.{local_skeletons, pattern}
+use Rattle.lf_unification.specs.Patterns.{local_skeletons, pattern}
 use Rattle.tw_prune.specs.Standing.{StandsIn}
 
 -- In each local context of `inner` variables, where the spine takes a skeleton to a base, it is a pattern of the variables xs.

@@ -3,9 +3,9 @@ use Rattle.std.specs.Prelude.{◌≡◌, ℕ, ◌+◌, List, length, Option, Som
 use Rattle.lf.specs.Eta.{arity}
 use Rattle.lf.specs.SkeletonTyping.{HeadSkeletons, TermSkeleton}
 use Rattle.lf.specs.Syntax.{LfType, Skeleton, Term}
-use Rattle.unification.specs.Inversion.{IsPattern}
-use Rattle.unification.specs.OpenTyping.{skeletons_of}
-use Rattle.unification.specs.Patterns.{local_skeletons}
+use Rattle.lf_unification.specs.Inversion.{IsPattern}
+use Rattle.lf_unification.specs.OpenTyping.{skeletons_of}
+use Rattle.lf_unification.specs.Patterns.{local_skeletons}
 
 -- D is a local context of `inner` variables, and xs is a pattern in it at the skeleton t
 pub record StandsIn (inner : ℕ) (D : List LfType) (t : Skeleton) (xs : List ℕ) : Type 0 where

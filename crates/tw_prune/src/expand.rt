@@ -3,7 +3,7 @@ ghost use Rattle.std.specs.Prelude.{◌≡◌, IfOk, ◌+◌};
 ghost use Rattle.lf.specs.Eta.{append, arity as arity_of, eta_arguments};
 ghost use Rattle.lf.specs.Syntax.{skeleton};
 ghost use Rattle.tw_terms.specs.OpenView.{open_term_of, open_args_of, open_type_of};
-ghost use Rattle.unification.specs.Patterns.{eta_variable as eta_variable_of, lambdas_of};
+ghost use Rattle.lf_unification.specs.Patterns.{eta_variable as eta_variable_of, lambdas_of};
 
 use std::alloc::{AllocError, Global};
 use tw_terms::{Open, OpenHead, OpenSpine, OpenTy};

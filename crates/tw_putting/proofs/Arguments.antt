@@ -4,7 +4,7 @@ use Rattle.std.proofs.lemmas.Grind.{common_steps}
 use Rattle.lf.specs.Syntax.{Spine, app, rename, rename_spine}
 use Rattle.lf.specs.Depth.{depth, spine_depth}
 use Rattle.lf.proofs.Depth.{deep_first, deep_rest}
-use Rattle.closures.specs.Environments.{Environment}
+use Rattle.lf_closures.specs.Environments.{Environment}
 use Rattle.tw_metas.specs.State.{State}
 use Rattle.tw_terms.specs.View.{spine_from}
 use Rattle.tw_terms.specs.OpenView.{open_term_of, open_args_of}

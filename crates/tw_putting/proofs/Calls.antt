@@ -9,18 +9,18 @@ use Rattle.lf.proofs.AtOnce.{drop_by_skeletons}
 use Rattle.lf.proofs.Deep.{deep_reduct, deep_result, deep_type_result}
 use Rattle.lf.proofs.Renaming.{substitute_identity, substitute_identity_spine}
 use Rattle.lf.proofs.TypeLaws.{substitute_identity_type}
-use Rattle.closures.specs.Environments.{Environment, outside, move_by, applied_in, type_value_in, value_in}
-use Rattle.closures.specs.Typing.{TakesAll}
-use Rattle.closures.proofs.Steps.{put_alone, put_alone_fits, put_alone_value, outside_value}
-use Rattle.unification.specs.Filling.{fill, fill_spine, fill_type}
-use Rattle.unification.specs.OpenTyping.{skeletons_of}
-use Rattle.unification.specs.Skeletons.{as_head_skeletons, total_skeletons}
+use Rattle.lf_closures.specs.Environments.{Environment, outside, move_by, applied_in, type_value_in, value_in}
+use Rattle.lf_closures.specs.Typing.{TakesAll}
+use Rattle.lf_closures.proofs.Steps.{put_alone, put_alone_fits, put_alone_value, outside_value}
+use Rattle.lf_unification.specs.Filling.{fill, fill_spine, fill_type}
+use Rattle.lf_unification.specs.OpenTyping.{skeletons_of}
+use Rattle.lf_unification.specs.Skeletons.{as_head_skeletons, total_skeletons}
 use Rattle.tw_hered.specs.Fits.{Applies, TermFits, TypeFits, put_at}
 use Rattle.tw_metas.specs.State.{State, Story, empty_state, empty_story, value_of}
 use Rattle.tw_putting.specs.Fits.{PutFits, PutSpineFits, PutTypeFits, declared_skeletons}
 use Rattle.tw_putting.specs.Frames.{AppliesInFrame, Enters, Frame, StoreInFrame, WalkFits, WalkSpineFits, WalkTypeFits}
 use Rattle.tw_putting.specs.Stores.{Puts, PutsDeep, PutsDeepSpine, PutsDeepType, PutsSpine, PutsType, bindings_of, types_of}
-use Rattle.tw_putting.specs.Values.{put_spine_value, put_type_value, put_value, values_after, values_under}
+use Rattle.tw_putting.specs.Values.{put_spine_value, put_type_value, put_value, values_to, values_under}
 use Rattle.tw_putting.proofs.Filled.{declared_heads, fill_none, fill_none_type, more_heads, more_heads_spine, more_heads_type}
 use Rattle.tw_putting.proofs.Frames.{takes_all_in_frame}
 use Rattle.tw_putting.proofs.PutTotal.{puts_once, puts_spine_total, puts_total, puts_type_total}
@@ -31,15 +31,15 @@ if_ok (Ok x) f p = f x p
 if_ok (Err e) f p = p
 
 -- A store that holds nothing.
-nothing_there : (f : Frame) (k : ℕ) (m : ℕ) (N : Term) → value_of empty_state m ≡ Some N → StoreInFrame empty_state k f
+pub nothing_there : (f : Frame) (k : ℕ) (m : ℕ) (N : Term) → value_of empty_state m ≡ Some N → StoreInFrame empty_state k f
 nothing_there f k m N e = absurd (let q : None ≡ Some N = e in cc)
 
-empty_value : (k : ℕ) (e : Environment) (M : Term) → put_value empty_state k e M ≡ value_in e M
-unfolding put_value values_under values_after
+pub empty_value : (k : ℕ) (e : Environment) (M : Term) → put_value empty_state k e M ≡ value_in e M
+unfolding put_value values_under values_to
 empty_value k e M = fill_none (skeletons_of (types_of empty_state)) (value_in e M)
 
 empty_type_value : (k : ℕ) (e : Environment) (A : LfType) → put_type_value empty_state k e A ≡ type_value_in e A
-unfolding put_type_value values_under values_after
+unfolding put_type_value values_under values_to
 empty_type_value k e A = fill_none_type (skeletons_of (types_of empty_state)) (type_value_in e A)
 
 -- Substitution for one variable.
@@ -161,19 +161,19 @@ module _ (s : State) (k : ℕ) (e : Environment) (is : e ≡ outside) where
   term_put : (M : Term) → PutFits s k M → Puts s k M (put_value s k outside M)
   unfolding put_value values_under
   term_put M f = subst (λ X. Puts s k M (fill (skeletons_of (types_of s)) (values_under s k) X)) (sym (substitute_identity reduce M))
-      (puts_total f.signature (types_of s) (drop k f.context) (bindings_of s) f.store_typed.values k f.context M f.term_skeleton (drop_by_skeletons k f.context)
+      (puts_total f.signature (types_of s) (drop k f.context) (bindings_of s) f.store_typed.values f.store_typed.ordered k f.context M f.term_skeleton (drop_by_skeletons k f.context)
       (more_heads (declared_skeletons f.signature (types_of s)) (as_head_skeletons (total_skeletons f.signature (skeletons_of (types_of s)))) (declared_heads f.signature (types_of s)) f.context M f.term_skeleton f.term_typed))
 
   spine_put : (S : Spine) → PutSpineFits s k S → PutsSpine s k S (put_spine_value s k outside S)
   unfolding put_spine_value values_under
   spine_put S f = subst (λ X. PutsSpine s k S (fill_spine (skeletons_of (types_of s)) (values_under s k) X)) (sym (substitute_identity_spine reduce S))
-      (puts_spine_total f.signature (types_of s) (drop k f.context) (bindings_of s) f.store_typed.values k f.context S f.head_skeleton f.result_skeleton (drop_by_skeletons k f.context)
+      (puts_spine_total f.signature (types_of s) (drop k f.context) (bindings_of s) f.store_typed.values f.store_typed.ordered k f.context S f.head_skeleton f.result_skeleton (drop_by_skeletons k f.context)
       (more_heads_spine (declared_skeletons f.signature (types_of s)) (as_head_skeletons (total_skeletons f.signature (skeletons_of (types_of s)))) (declared_heads f.signature (types_of s)) f.context S f.head_skeleton f.result_skeleton f.spine_typed))
 
   type_put : (A : LfType) → PutTypeFits s k A → PutsType s k A (put_type_value s k outside A)
   unfolding put_type_value values_under
   type_put A f = subst (λ X. PutsType s k A (fill_type (skeletons_of (types_of s)) (values_under s k) X)) (sym (substitute_identity_type reduce A))
-      (puts_type_total f.signature (types_of s) (drop k f.context) (bindings_of s) f.store_typed.values f.families k f.context A (drop_by_skeletons k f.context)
+      (puts_type_total f.signature (types_of s) (drop k f.context) (bindings_of s) f.store_typed.values f.store_typed.ordered f.families k f.context A (drop_by_skeletons k f.context)
       (more_heads_type f.families (declared_skeletons f.signature (types_of s)) (as_head_skeletons (total_skeletons f.signature (skeletons_of (types_of s)))) (declared_heads f.signature (types_of s)) f.context A f.type_typed))
 
   pub put_result : (M R : Term) → PutFits s k M → R ≡ put_value s k e M → Puts s k M R
@@ -199,5 +199,5 @@ pub one_result : (s : State) (k : ℕ) (M : Term) → PutFits s k M → (R : Ter
 unfolding put_value values_under
 one_result s k M f =
     let typed = more_heads (declared_skeletons f.signature (types_of s)) (as_head_skeletons (total_skeletons f.signature (skeletons_of (types_of s)))) (declared_heads f.signature (types_of s)) f.context M f.term_skeleton f.term_typed in
-    let once : (R : Term) → Puts s k M R → R ≡ fill (skeletons_of (types_of s)) (values_under s k) M = λ R d. puts_once f.signature (types_of s) (drop k f.context) (bindings_of s) f.store_typed.values k f.context M f.term_skeleton (drop_by_skeletons k f.context) typed R d in
-    (fill (skeletons_of (types_of s)) (values_under s k) M, puts_total f.signature (types_of s) (drop k f.context) (bindings_of s) f.store_typed.values k f.context M f.term_skeleton (drop_by_skeletons k f.context) typed, once)
+    let once : (R : Term) → Puts s k M R → R ≡ fill (skeletons_of (types_of s)) (values_under s k) M = λ R d. puts_once f.signature (types_of s) (drop k f.context) (bindings_of s) f.store_typed.values f.store_typed.ordered k f.context M f.term_skeleton (drop_by_skeletons k f.context) typed R d in
+    (fill (skeletons_of (types_of s)) (values_under s k) M, puts_total f.signature (types_of s) (drop k f.context) (bindings_of s) f.store_typed.values f.store_typed.ordered k f.context M f.term_skeleton (drop_by_skeletons k f.context) typed, once)

@@ -1,8 +1,8 @@
 -- The environment of a value, level by level.
 use Rattle.std.proofs.Common.{◌≡◌, ℕ, Bor, rules}
 use Rattle.lf.specs.Syntax.{skeleton}
-use Rattle.closures.specs.Environments as pure
-use Rattle.closures.proofs.Values.{lookups}
+use Rattle.lf_closures.specs.Environments as pure
+use Rattle.lf_closures.proofs.Values.{lookups}
 use Rattle.tw_terms.specs.OpenView.{open_term_of, open_type_of}
 use Rattle.tw_terms.specs.declared.open_terms.Open.{Open}
 use Rattle.tw_terms.specs.declared.open_terms.OpenTy.{OpenTy}

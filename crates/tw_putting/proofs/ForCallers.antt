@@ -3,9 +3,9 @@ use Rattle.std.proofs.Common.{ℕ, ◌<◌, ◌⊎◌, inl, inr, arith}
 use Rattle.lf.specs.Depth.{depth, depth_limit, spine_depth}
 use Rattle.lf.specs.Syntax.{Spine, Term, LfType, atom, pi}
 use Rattle.lf.proofs.Depth.{below_max}
-use Rattle.unification.specs.DeepEquations.{IsDeepSpine, IsDeepTerm, IsDeepType, PutHasDeep}
-use Rattle.unification.specs.Putting.{PutsIn, PutsInSpine, put_at_bound, put_at_rigid, put_at_unbound, put_in_argument, put_nowhere, put_under_lambda}
-use Rattle.unification.specs.Unifiers.{Store}
+use Rattle.lf_unification.specs.DeepEquations.{IsDeepSpine, IsDeepTerm, IsDeepType, PutHasDeep}
+use Rattle.lf_unification.specs.Putting.{PutsIn, PutsInSpine, put_at_bound, put_at_rigid, put_at_unbound, put_in_argument, put_nowhere, put_under_lambda}
+use Rattle.lf_unification.specs.Unifiers.{Store}
 use Rattle.tw_metas.specs.State.{State}
 use Rattle.tw_putting.specs.Stores.{PutsDeep, PutsDeepSpine, PutsDeepType, store_of}
 

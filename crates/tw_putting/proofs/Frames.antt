@@ -2,10 +2,10 @@
 use Rattle.std.proofs.Common.{◌≡◌, ℕ, suc, ◌+◌, List, ◌∷◌, refl, sym, ap, ◌∙◌, subst, add-one}
 use Rattle.lf.specs.SkeletonTyping.{TermSkeleton, SpineSkeleton}
 use Rattle.lf.specs.Syntax.{Head, variable, Term, Spine, lambda, root, nil, app, LfType, pi, atom, Skeleton, base, arrow, skeleton}
-use Rattle.closures.specs.Environments.{Environment, extended, under_one_more, move_by, closure, found, applied_in}
-use Rattle.closures.specs.Typing.{FoundFits, ClosureApplies, TakesAll}
-use Rattle.closures.proofs.Steps.{argument_value, nothing_value}
-use Rattle.closures.proofs.Values.{found_fits, move_by_fits, under_one_more_fits}
+use Rattle.lf_closures.specs.Environments.{Environment, extended, under_one_more, move_by, closure, found, applied_in}
+use Rattle.lf_closures.specs.Typing.{FoundFits, ClosureApplies, TakesAll}
+use Rattle.lf_closures.proofs.Steps.{argument_value, nothing_value}
+use Rattle.lf_closures.proofs.Values.{found_fits, move_by_fits, under_one_more_fits}
 use Rattle.tw_metas.specs.State.{State}
 use Rattle.tw_putting.specs.Frames.{Frame, InFrame, SpineInFrame, AppliesInFrame, Enters, StoreInFrame, WalkFits, WalkSpineFits, WalkTypeFits}
 

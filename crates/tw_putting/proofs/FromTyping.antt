@@ -8,8 +8,8 @@ use Rattle.lf.specs.Typing.{Signature, instantiate_type}
 use Rattle.lf.specs.Variables.{onto}
 use Rattle.lf.proofs.ToSkeletons.{variable_has_skeleton}
 use Rattle.lf.proofs.TypeLaws.{skeleton_substituted}
-use Rattle.unification.specs.OpenTyping.{OpenHasType, OpenHeadHasType, OpenSpineType}
-use Rattle.unification.proofs.OpenSound.{skeleton_raise}
+use Rattle.lf_unification.specs.OpenTyping.{OpenHasType, OpenHeadHasType, OpenSpineType}
+use Rattle.lf_unification.proofs.OpenSound.{skeleton_raise}
 use Rattle.tw_putting.specs.Fits.{declared_skeletons}
 
 module _ (Σ : Signature) (G : List LfType) (Ψ : ℕ → Option LfType) (U : (ℕ → Option Term) → Type 0) where

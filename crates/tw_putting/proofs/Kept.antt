@@ -1,18 +1,18 @@
 -- A store that skeletons type stays so when a metavariable is declared or bound.
-use Rattle.std.proofs.Common.{◌≡◌, ℕ, zero, suc, List, [], ◌∷◌, ◌++◌, Option, Some, None, slice_get, slice_set, ◌⊎◌, inl, inr, refl, sym, ap, ◌∙◌, subst}
+use Rattle.std.proofs.Common.{◌≡◌, ℕ, zero, suc, ◌+◌, List, [], ◌∷◌, ◌++◌, length, length-append, arith, Option, Some, None, slice_get, slice_set, ◌⊎◌, inl, inr, refl, sym, ap, ◌∙◌, subst}
 use Rattle.std.specs.Option.{option_map}
 use Rattle.lf.specs.SkeletonTyping.{TermSkeleton}
 use Rattle.lf.specs.Skeletons.{type_skeleton}
 use Rattle.lf.specs.Subordination.{Member}
 use Rattle.lf.specs.Syntax.{LfType, Skeleton, Term, constant, metavariable, skeleton, variable}
 use Rattle.lf.specs.Typing.{Signature}
-use Rattle.unification.specs.OpenTyping.{MetavariablesIn}
-use Rattle.unification.specs.Putting.{Unbound}
-use Rattle.unification.specs.Unifiers.{Binding}
-use Rattle.unification.proofs.Offer.{decide}
-use Rattle.unification.proofs.Scope.{in_weaker}
+use Rattle.lf_unification.specs.OpenTyping.{MetavariablesIn}
+use Rattle.lf_unification.specs.Putting.{Unbound}
+use Rattle.lf_unification.specs.Unifiers.{Binding}
+use Rattle.lf_unification.proofs.Offer.{decide}
+use Rattle.lf_unification.proofs.Scope.{in_weaker}
 use Rattle.tw_metas.specs.State.{Declaration, IsUnbound, State, empty_state, joined, value_of, with_declared, with_value}
-use Rattle.tw_putting.specs.Fits.{BindingsBySkeletons, StoreBySkeletons, declared_skeletons}
+use Rattle.tw_putting.specs.Fits.{BindingsBySkeletons, GoesDown, HaveOrder, IsBoundBy, StoreBySkeletons, declared_skeletons}
 use Rattle.tw_putting.specs.Stores.{BoundHaveValues, bindings_from, bindings_of, types_of, with_binding}
 use Rattle.tw_putting.proofs.Filled.{MoreHeads, more_heads}
 
@@ -41,19 +41,14 @@ joined_grown (z ∷ zs) zero = refl
 joined_grown (z ∷ zs) (suc n) = joined_grown zs n
 
 -- Bindings.
-by_more : (Σ : Signature) (Ψ Ψ' : ℕ → Option LfType) (Γ : List Skeleton) (V W : ℕ → Type 0) → ((m : ℕ) → V m → W m) → ((m : ℕ) (A : LfType) → Ψ m ≡ Some A → Ψ' m ≡ Some A) → (bs : List Binding) → BindingsBySkeletons Σ Ψ Γ V bs → BindingsBySkeletons Σ Ψ' Γ W bs
-by_more Σ Ψ Ψ' Γ V W h g [] w = tt
-by_more Σ Ψ Ψ' Γ V W h g (b ∷ bs) (o, (A, e, t), u, w) = (
-  in_weaker V W h b.value o,
+by_more : (Σ : Signature) (Ψ Ψ' : ℕ → Option LfType) (Γ : List Skeleton) → ((m : ℕ) (A : LfType) → Ψ m ≡ Some A → Ψ' m ≡ Some A) → (bs : List Binding) → BindingsBySkeletons Σ Ψ Γ bs → BindingsBySkeletons Σ Ψ' Γ bs
+by_more Σ Ψ Ψ' Γ g [] w = tt
+by_more Σ Ψ Ψ' Γ g (b ∷ bs) ((A, e, t), u, w) = (
   (A, g b.of A e, more_heads (declared_skeletons Σ Ψ) (declared_skeletons Σ Ψ') more Γ b.value (skeleton A) t),
   u,
-  by_more Σ Ψ Ψ' Γ (λ m. V m ⊎ (m ≡ b.of)) (λ m. W m ⊎ (m ≡ b.of)) one_more g bs w,
+  by_more Σ Ψ Ψ' Γ g bs w,
 )
   where
-    one_more : (m : ℕ) → V m ⊎ (m ≡ b.of) → W m ⊎ (m ≡ b.of)
-    one_more m (inl v) = inl (h m v)
-    one_more m (inr e) = inr e
-
     grown : (x y : Option LfType) (t : Skeleton) → ((A : LfType) → x ≡ Some A → y ≡ Some A) → type_skeleton x ≡ Some t → type_skeleton y ≡ Some t
     grown None y t f q = cc
     grown (Some A) y t f q = ap type_skeleton (f A refl) ∙ q
@@ -69,7 +64,11 @@ bindings_same (m ∷ ms) vs ws h = ap (λ x. with_binding m x (bindings_from ms 
 
 -- A store that holds nothing.
 pub empty_by_skeletons : (Σ : Signature) (Γ : List Skeleton) → StoreBySkeletons Σ Γ empty_state
-empty_by_skeletons Σ Γ = record { bound = λ m N e. (let q : None ≡ Some N = e in cc); values = tt }
+empty_by_skeletons Σ Γ = record {
+  bound = λ m N e. (let q : None ≡ Some N = e in cc);
+  values = tt;
+  ordered = record { order = []; count = omega arith; within = λ b i. i; all = λ b i. i; down = tt };
+}
 
 -- One metavariable more.
 declared_values : (s : State) (G : List LfType) (A : LfType) (n : ℕ) → value_of (with_declared s G A) n ≡ value_of s n
@@ -88,7 +87,8 @@ declared_types s G A m B e = go (slice_get s.declared m) refl e
 pub declare_keeps : (Σ : Signature) (Γ : List Skeleton) (s : State) (G : List LfType) (A : LfType) → StoreBySkeletons Σ Γ s → StoreBySkeletons Σ Γ (with_declared s G A)
 declare_keeps Σ Γ s G A w = record {
   bound = λ m N e. w.bound m N (sym (declared_values s G A m) ∙ e);
-  values = subst (λ bs. BindingsBySkeletons Σ (types_of (with_declared s G A)) Γ (Unbound bs) bs) (sym (declared_bindings s G A)) (by_more Σ (types_of s) (types_of (with_declared s G A)) Γ (Unbound (bindings_of s)) (Unbound (bindings_of s)) (λ m u. u) (declared_types s G A) (bindings_of s) w.values);
+  values = subst (BindingsBySkeletons Σ (types_of (with_declared s G A)) Γ) (sym (declared_bindings s G A)) (by_more Σ (types_of s) (types_of (with_declared s G A)) Γ (declared_types s G A) (bindings_of s) w.values);
+  ordered = subst HaveOrder (sym (declared_bindings s G A)) w.ordered;
 }
 
 pub declare_keeps_bound : (s : State) (G : List LfType) (A : LfType) → BoundHaveValues s → BoundHaveValues (with_declared s G A)
@@ -117,24 +117,74 @@ unbound_in s m u (x ∷ ms) = go (joined (slice_get s.values x)) refl (unbound_i
     go None q v = v
     go (Some N) q v = ((λ w. let r : None ≡ Some N = sym (ap joined u) ∙ ap (λ j. joined (slice_get s.values j)) w ∙ q in cc), v)
 
+member_before : (b : Binding) (xs ys : List Binding) → Member b xs → Member b (xs ++ ys)
+member_before b [] ys i = absurd i
+member_before b (x ∷ xs) ys (inl e) = inl e
+member_before b (x ∷ xs) ys (inr i) = inr (member_before b xs ys i)
+
+member_at_end : (b : Binding) (xs : List Binding) → Member b (xs ++ b ∷ [])
+member_at_end b [] = inl refl
+member_at_end b (x ∷ xs) = inr (member_at_end b xs)
+
+before_or_end : (b c : Binding) (xs : List Binding) → Member b (xs ++ c ∷ []) → Member b xs ⊎ (b ≡ c)
+before_or_end b c [] (inl e) = inr e
+before_or_end b c [] (inr z) = absurd z
+before_or_end b c (x ∷ xs) (inl e) = inl (inl e)
+before_or_end b c (x ∷ xs) (inr i) = go (before_or_end b c xs i)
+  where
+    go : Member b xs ⊎ (b ≡ c) → Member b (x ∷ xs) ⊎ (b ≡ c)
+    go (inl j) = inl (inr j)
+    go (inr e) = inr e
+
+bound_before : (m : ℕ) (xs ys : List Binding) → IsBoundBy xs m → IsBoundBy (xs ++ ys) m
+bound_before m [] ys i = absurd i
+bound_before m (x ∷ xs) ys (inl e) = inl e
+bound_before m (x ∷ xs) ys (inr i) = inr (bound_before m xs ys i)
+
+bound_at_end : (c : Binding) (xs : List Binding) → IsBoundBy (xs ++ c ∷ []) c.of
+bound_at_end c [] = inl refl
+bound_at_end c (x ∷ xs) = inr (bound_at_end c xs)
+
+-- a value that mentions only what is not bound comes last
+goes_down_to : (bs : List Binding) (c : Binding) → MetavariablesIn (λ n. (n ≡ c.of → ⊥) × Unbound bs n) c.value → (cs : List Binding) → GoesDown bs cs → GoesDown (c ∷ bs) (cs ++ c ∷ [])
+goes_down_to bs c o [] d = (in_weaker (λ n. (n ≡ c.of → ⊥) × Unbound bs n) (λ n. Unbound (c ∷ bs) n ⊎ IsBoundBy [] n) (λ n u. inl u) c.value o, tt)
+goes_down_to bs c o (x ∷ xs) (v, d) = (in_weaker (λ n. Unbound bs n ⊎ IsBoundBy xs n) (λ n. Unbound (c ∷ bs) n ⊎ IsBoundBy (xs ++ c ∷ []) n) further x.value v, goes_down_to bs c o xs d)
+  where
+    other : (n : ℕ) → Unbound bs n → (n ≡ c.of) ⊎ (n ≡ c.of → ⊥) → Unbound (c ∷ bs) n ⊎ IsBoundBy (xs ++ c ∷ []) n
+    other n u (inl e) = inr (subst (IsBoundBy (xs ++ c ∷ [])) (sym e) (bound_at_end c xs))
+    other n u (inr h) = inl (h, u)
+
+    further : (n : ℕ) → Unbound bs n ⊎ IsBoundBy xs n → Unbound (c ∷ bs) n ⊎ IsBoundBy (xs ++ c ∷ []) n
+    further n (inl u) = other n u (decide n c.of)
+    further n (inr i) = inr (bound_before n xs (c ∷ []) i)
+
+last_in_order : (bs : List Binding) (c : Binding) → HaveOrder bs → MetavariablesIn (λ n. (n ≡ c.of → ⊥) × Unbound bs n) c.value → HaveOrder (c ∷ bs)
+last_in_order bs c w o = record {
+  order = w.order ++ c ∷ [];
+  count = let l : length (w.order ++ c ∷ []) ≡ length w.order + 1 = length-append w.order (c ∷ []) in omega (arith, l, w.count);
+  within = λ b i. in_all b (before_or_end b c w.order i);
+  all = λ b i. in_order b i;
+  down = goes_down_to bs c o w.order w.down;
+}
+  where
+    in_all : (b : Binding) → Member b w.order ⊎ (b ≡ c) → Member b (c ∷ bs)
+    in_all b (inl i) = inr (w.within b i)
+    in_all b (inr e) = inl e
+
+    in_order : (b : Binding) → Member b (c ∷ bs) → Member b (w.order ++ c ∷ [])
+    in_order b (inl e) = subst (λ x. Member x (w.order ++ c ∷ [])) (sym e) (member_at_end c w.order)
+    in_order b (inr i) = member_before b w.order (c ∷ []) (w.all b i)
+
 pub bind_keeps : (Σ : Signature) (Γ : List Skeleton) (s : State) (m : ℕ) (N : Term) (A : LfType) → StoreBySkeletons Σ Γ s → BoundHaveValues s → IsUnbound s m → types_of s m ≡ Some A → TermSkeleton (declared_skeletons Σ (types_of s)) Γ N (skeleton A) → MetavariablesIn (λ n. (n ≡ m → ⊥) × Unbound (bindings_of s) n) N → StoreBySkeletons Σ Γ (with_value s m N)
 bind_keeps Σ Γ s m N A w h u y t o = record {
   bound = λ n K e. from n K e (decide n m);
-  values = subst (λ bs. BindingsBySkeletons Σ (types_of s) Γ (Unbound bs) bs) (sym (bound_bindings s m N u h)) (
-    o,
-    (A, y, t),
-    unbound_in s m u s.bound,
-    by_more Σ (types_of s) (types_of s) Γ (Unbound (bindings_of s)) (λ n. ((n ≡ m → ⊥) × Unbound (bindings_of s) n) ⊎ (n ≡ m)) (λ n v. split n v (decide n m)) (λ n B e. e) (bindings_of s) w.values,
-  );
+  values = subst (BindingsBySkeletons Σ (types_of s) Γ) (sym (bound_bindings s m N u h)) ((A, y, t), unbound_in s m u s.bound, w.values);
+  ordered = subst HaveOrder (sym (bound_bindings s m N u h)) (last_in_order (bindings_of s) (record { of = m; value = N }) w.ordered o);
 }
   where
     from : (n : ℕ) (K : Term) → value_of (with_value s m N) n ≡ Some K → (n ≡ m) ⊎ (n ≡ m → ⊥) → Member n (m ∷ s.bound)
     from n K e (inl q) = inl q
     from n K e (inr g) = inr (w.bound n K (sym (value_elsewhere s m N n g) ∙ e))
-
-    split : (n : ℕ) → Unbound (bindings_of s) n → (n ≡ m) ⊎ (n ≡ m → ⊥) → ((n ≡ m → ⊥) × Unbound (bindings_of s) n) ⊎ (n ≡ m)
-    split n v (inl q) = inr q
-    split n v (inr g) = inl (g, v)
 
 pub bind_keeps_bound : (s : State) (m : ℕ) (N : Term) → IsUnbound s m → BoundHaveValues s → BoundHaveValues (with_value s m N)
 bind_keeps_bound s m N u h n i = go (decide n m) i

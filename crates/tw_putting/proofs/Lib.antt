@@ -11,3 +11,9 @@ pub mod Environments
 pub mod Arguments
 pub mod Openings
 pub mod Shifts
+pub mod HeadValues
+pub mod Views
+pub mod Changes
+pub mod Skeletons
+pub mod Ordered
+pub mod Readiness

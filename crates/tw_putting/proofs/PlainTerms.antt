@@ -2,9 +2,9 @@
 use Rattle.std.proofs.Common.{◌≡◌, ℕ, List, [], ◌∷◌, Some, None, ◌↔◌, inl, inr, sym, ap, subst}
 use Rattle.lf.specs.Subordination.{Member}
 use Rattle.lf.specs.Syntax.{Spine, Term, LfType, app, atom, constant, lambda, metavariable, nil, pi, root, variable}
-use Rattle.unification.specs.OpenTyping.{MetavariablesIn, MetavariablesInSpine, MetavariablesInType}
-use Rattle.unification.specs.Putting.{Unbound, put_at_rigid, put_at_unbound, put_in_argument, put_in_atom, put_in_pi, put_nowhere, put_under_lambda}
-use Rattle.unification.specs.Unifiers.{Binding}
+use Rattle.lf_unification.specs.OpenTyping.{MetavariablesIn, MetavariablesInSpine, MetavariablesInType}
+use Rattle.lf_unification.specs.Putting.{Unbound, put_at_rigid, put_at_unbound, put_in_argument, put_in_atom, put_in_pi, put_nowhere, put_under_lambda}
+use Rattle.lf_unification.specs.Unifiers.{Binding}
 use Rattle.tw_metas.specs.State.{State, value_of}
 use Rattle.tw_putting.specs.Stores.{AllIn, Puts, PutsSpine, PutsType, SpineAllIn, TypeAllIn, ValuesAreBound, bindings_of}
 use Rattle.tw_putting.proofs.Walks.{member_from, unbound_from}

@@ -1,5 +1,5 @@
 -- Putting the bindings in by the rules always gives a result on what skeletons type, which is what filling gives.
-use Rattle.std.proofs.Common.{◌≡◌, ℕ, zero, suc, ◌+◌, List, [], ◌∷◌, Option, Some, None, ◌⊎◌, inl, inr, refl, sym, ap, ◌∙◌, subst, arith}
+use Rattle.std.proofs.Common.{◌≡◌, ℕ, zero, suc, ◌+◌, List, [], ◌∷◌, length, Option, Some, None, ◌⊎◌, inl, inr, refl, sym, ap, ◌∙◌, subst, arith}
 use Rattle.lf.specs.AtOnce.{shift_by}
 use Rattle.lf.specs.Rules.{Reduces}
 use Rattle.lf.specs.SkeletonTyping.{SkeletonAt, TermSkeleton, SpineSkeleton, TypeBySkeletons, RenamingBySkeletons}
@@ -9,20 +9,20 @@ use Rattle.lf.specs.Syntax.{Skeleton, Spine, Term, LfType, app, arrow, atom, bas
 use Rattle.lf.specs.Typing.{Signature}
 use Rattle.lf.proofs.Rules.{rules_total_reduction}
 use Rattle.lf.proofs.SkeletonTyping.{reduction_keeps_skeletons, renaming_keeps_skeletons}
-use Rattle.unification.specs.Filling.{fill, fill_metavariable, fill_spine, fill_type, moved, rename_value}
-use Rattle.unification.specs.OpenTyping.{MetavariablesIn, MetavariablesInSpine, skeletons_of}
-use Rattle.unification.specs.Putting.{PutsIn, PutsInSpine, PutsInType, Unbound, put_at_bound, put_at_rigid, put_at_unbound, put_in_argument, put_in_atom, put_in_pi, put_nowhere, put_under_lambda}
-use Rattle.unification.specs.Rigid.{past_binders}
-use Rattle.unification.specs.Skeletons.{TotalSkeletons, as_head_skeletons, total_skeletons}
-use Rattle.unification.specs.Unifiers.{Binding}
-use Rattle.unification.proofs.Agree.{fill_agree, fill_agree_spine}
-use Rattle.unification.proofs.Filling.{SkeletonsFill, SpineSkeleton-fill, ValueHasSkeleton, fill_rename, reduced_fill}
-use Rattle.unification.proofs.Offer.{decide}
-use Rattle.unification.proofs.Putting.{Ready, put_fill, put_unbound}
-use Rattle.unification.proofs.Scope.{in_reduced, in_rename, in_weaker_spine}
-use Rattle.tw_putting.specs.Fits.{BindingsBySkeletons}
-use Rattle.tw_putting.specs.Values.{values_after}
-use Rattle.tw_putting.proofs.Filled.{after_bound, after_skeletons, after_unbound, fill_none, fill_none_spine, moved_once_more, moved_unbound, past_is_shift, value_at}
+use Rattle.lf_unification.specs.Filling.{fill, fill_metavariable, fill_spine, fill_type, moved, rename_value}
+use Rattle.lf_unification.specs.OpenTyping.{MetavariablesIn, MetavariablesInSpine, skeletons_of}
+use Rattle.lf_unification.specs.Putting.{PutsIn, PutsInSpine, PutsInType, Unbound, put_at_bound, put_at_rigid, put_at_unbound, put_in_argument, put_in_atom, put_in_pi, put_nowhere, put_under_lambda}
+use Rattle.lf_unification.specs.Rigid.{past_binders}
+use Rattle.lf_unification.specs.Skeletons.{TotalSkeletons, as_head_skeletons, total_skeletons}
+use Rattle.lf_unification.specs.Unifiers.{Binding}
+use Rattle.lf_unification.proofs.Agree.{fill_agree, fill_agree_spine}
+use Rattle.lf_unification.proofs.Filling.{SkeletonsFill, SpineSkeleton-fill, ValueHasSkeleton, fill_rename, reduced_fill}
+use Rattle.lf_unification.proofs.Offer.{decide}
+use Rattle.lf_unification.proofs.Putting.{Ready, put_fill, put_unbound}
+use Rattle.lf_unification.proofs.Scope.{in_reduced, in_rename, in_weaker_spine}
+use Rattle.tw_putting.specs.Fits.{BindingsBySkeletons, GoesDown, HaveOrder, IsBoundBy}
+use Rattle.tw_putting.specs.Values.{values_to}
+use Rattle.tw_putting.proofs.Filled.{bound_filled_in, filled_skeletons, fill_none, fill_none_spine, member_bound, moved_once_more, moved_unbound, past_is_shift, unbound_has_none, value_at}
 
 mutual
   in_any : (M : Term) → MetavariablesIn (λ m. Unit {0}) M
@@ -39,7 +39,7 @@ some_skeleton : {a t : Skeleton} → Some a ≡ Some t → a ≡ t
 some_skeleton e = cc
 
 -- a metavariable is bound or not
-bound_or_not : (m : ℕ) (bs : List Binding) → Unbound bs m ⊎ ((b : Binding) × Member b bs × (b.of ≡ m))
+pub bound_or_not : (m : ℕ) (bs : List Binding) → Unbound bs m ⊎ ((b : Binding) × Member b bs × (b.of ≡ m))
 bound_or_not m [] = inl tt
 bound_or_not m (b ∷ bs) = go (decide m b.of) (bound_or_not m bs)
   where
@@ -55,7 +55,7 @@ Outside k Γ Δ = RenamingBySkeletons Γ Δ (shift_by k)
 outside_more : (k : ℕ) (Γ Δ : List Skeleton) (a : Skeleton) → Outside k Γ Δ → Outside (suc k) Γ (a ∷ Δ)
 outside_more k Γ Δ a p i t g = let e : i + suc k ≡ suc (i + k) = omega arith in subst (λ j. SkeletonAt (a ∷ Δ) j t) (sym e) (p i t g)
 
-module _ (Σ : Signature) (Ψ : ℕ → Option LfType) (Γ : List Skeleton) (bs : List Binding) (w : BindingsBySkeletons Σ Ψ Γ (Unbound bs) bs) where
+module _ (Σ : Signature) (Ψ : ℕ → Option LfType) (Γ : List Skeleton) (bs : List Binding) (w : BindingsBySkeletons Σ Ψ Γ bs) (o : HaveOrder bs) where
   abbrev μ : ℕ → Skeleton
   μ = skeletons_of Ψ
 
@@ -64,27 +64,27 @@ module _ (Σ : Signature) (Ψ : ℕ → Option LfType) (Γ : List Skeleton) (bs 
 
   -- all values, and the same under k binders
   abbrev β : ℕ → Option Term
-  β = values_after μ bs (λ m. None)
+  β = values_to μ bs (length bs)
 
   abbrev under : ℕ → ℕ → Option Term
   under k = moved (shift_by k) β
 
   pub under_fills : (k : ℕ) (Δ : List Skeleton) → Outside k Γ Δ → SkeletonsFill κ Δ (under k)
-  under_fills k Δ p m = go (β m) (after_skeletons Σ Ψ Γ (Unbound bs) bs (λ n. None) (λ n. tt) w m)
+  under_fills k Δ p m = go (β m) (filled_skeletons Σ Ψ Γ bs w (length bs) m)
     where
       go : (x : Option Term) → ValueHasSkeleton κ Γ x (μ m) → ValueHasSkeleton κ Δ (rename_value (shift_by k) x) (μ m)
       go None g = tt
       go (Some N) g = renaming_keeps_skeletons (as_head_skeletons κ) Γ Δ (shift_by k) N (μ m) p g
 
   unbound_under : (k m : ℕ) → Unbound bs m → under k m ≡ None
-  unbound_under k m u = moved_unbound k m β (after_unbound μ bs (λ n. None) m u)
+  unbound_under k m u = moved_unbound k m β (unbound_has_none μ bs (length bs) m u)
 
   pub bound_under : (k : ℕ) (b : Binding) → Member b bs → under k b.of ≡ Some (fill μ (under k) (rename (shift_by k) b.value))
-  bound_under k b i = ap (rename_value (shift_by k)) (after_bound Σ Ψ Γ (Unbound bs) bs (λ n. None) (λ m u. u) w b i) ∙ ap Some (fill_rename μ (shift_by k) β b.value)
+  bound_under k b i = ap (rename_value (shift_by k)) (bound_filled_in Σ Ψ Γ bs w o b i) ∙ ap Some (fill_rename μ (shift_by k) β b.value)
 
   -- a value under k binders
   pub value_under : (k : ℕ) (Δ : List Skeleton) → Outside k Γ Δ → (b : Binding) → Member b bs → TermSkeleton (as_head_skeletons κ) Δ (rename (shift_by k) b.value) (μ b.of)
-  value_under k Δ p b i = renaming_keeps_skeletons (as_head_skeletons κ) Γ Δ (shift_by k) b.value (μ b.of) p (value_at Σ Ψ Γ (Unbound bs) bs w b i)
+  value_under k Δ p b i = renaming_keeps_skeletons (as_head_skeletons κ) Γ Δ (shift_by k) b.value (μ b.of) p (value_at Σ Ψ Γ bs w b i)
 
   -- the value applied to the arguments, and the metavariable on them, are the same when filled
   pub bound_filled : (k : ℕ) (Δ : List Skeleton) → Outside k Γ Δ → (b : Binding) → Member b bs → (S : Spine) (c : ℕ) → SpineSkeleton (as_head_skeletons κ) Δ S (μ b.of) (base c) → fill μ (under k) (reduce (μ b.of) (rename (shift_by k) b.value) S) ≡ fill μ (under k) (root (metavariable b.of) S)
@@ -119,7 +119,7 @@ module _ (Σ : Signature) (Ψ : ℕ → Option LfType) (Γ : List Skeleton) (bs 
   arguments_unbound k S S' d = put_unbound (let e : PutsIn Ψ bs k (root (constant zero) S) (root (constant zero) S') = put_at_rigid (constant zero) tt d in e)
 
   bound_puttable : (b : Binding) → Member b bs → (V : ℕ → Type 0) → ((m : ℕ) → V m → Puttable m) → ((m : ℕ) → Unbound bs m → V m) → MetavariablesIn V b.value → Puttable b.of
-  bound_puttable b i V h more o k Δ S c p d s =
+  bound_puttable b i V h more v' k Δ S c p d s =
       let N : Term = rename (shift_by k) b.value in
       let S' : Spine = fill_spine μ (under k) S in
       let a : Skeleton = μ b.of in
@@ -129,28 +129,28 @@ module _ (Σ : Signature) (Ψ : ℕ → Option LfType) (Γ : List Skeleton) (bs 
       let free : MetavariablesInSpine (Unbound bs) S' = arguments_unbound k S S' d in
       let r : Reduces a N S' (reduce a N S') = rules_total_reduction (as_head_skeletons κ) a Δ N S' c v s' in
       let r' : Reduces a (rename (past_binders k) b.value) S' (reduce a N S') = subst (λ f. Reduces a (rename f b.value) S' (reduce a N S')) (sym (past_is_shift k)) r in
-      let inside : MetavariablesIn V (reduce a N S') = in_reduced V a N S' (in_rename V (shift_by k) b.value o) (in_weaker_spine (Unbound bs) V more S' free) in
+      let inside : MetavariablesIn V (reduce a N S') = in_reduced V a N S' (in_rename V (shift_by k) b.value v') (in_weaker_spine (Unbound bs) V more S' free) in
       let e : PutsIn Ψ bs k (reduce a N S') (fill μ (under k) (reduce a N S')) = puts_where V h k Δ (reduce a N S') (base c) p inside (reduction_keeps_skeletons (as_head_skeletons κ) a Δ N S' (base c) v s') in
       let again : fill_spine μ (under k) S' ≡ S' = fill_agree_spine (Unbound bs) μ μ (λ m u. refl) (under k) (λ m. None) S' (λ m u. unbound_under k m u) free ∙ fill_none_spine μ S' in
       let same : fill μ (under k) (reduce a N S') ≡ fill μ (under k) (root (metavariable b.of) S) =
       bound_filled k Δ p b i S' c s' ∙ ap (fill_metavariable a b.of (under k b.of)) again in
       subst (PutsIn Ψ bs k (root (metavariable b.of) S)) same (put_at_bound b i d r' e)
 
-  bindings_puttable : (V : ℕ → Type 0) (cs : List Binding) → ((b : Binding) → Member b cs → Member b bs) → ((m : ℕ) → V m → Puttable m) → ((m : ℕ) → Unbound bs m → V m) → BindingsBySkeletons Σ Ψ Γ V cs → (b : Binding) → Member b cs → Puttable b.of
-  bindings_puttable V [] sub h more x b i = absurd i
-  bindings_puttable V (c ∷ cs) sub h more (o, t, u, x) b (inl q) = subst (λ y. Puttable y.of) (sym q) (bound_puttable c (sub c (inl refl)) V h more o)
-  bindings_puttable V (c ∷ cs) sub h more (o, t, u, x) b (inr i) = bindings_puttable (λ m. V m ⊎ (m ≡ c.of)) cs (λ y j. sub y (inr j)) both (λ m v. inl (more m v)) x b i
-    where
-      both : (m : ℕ) → V m ⊎ (m ≡ c.of) → Puttable m
-      both m (inl v) = h m v
-      both m (inr e) = subst Puttable (sym e) (bound_puttable c (sub c (inl refl)) V h more o)
+  -- along the order, each metavariable after those that its value mentions
+  order_puttable : (cs : List Binding) → ((b : Binding) → Member b cs → Member b bs) → GoesDown bs cs → (m : ℕ) → Unbound bs m ⊎ IsBoundBy cs m → Puttable m
+  order_puttable [] sub d m (inl u) = unbound_puttable m u
+  order_puttable [] sub d m (inr z) = absurd z
+  order_puttable (c ∷ cs) sub (v, d) m (inl u) = unbound_puttable m u
+  order_puttable (c ∷ cs) sub (v, d) m (inr (inl e)) =
+      subst Puttable (sym e) (bound_puttable c (sub c (inl refl)) (λ n. Unbound bs n ⊎ IsBoundBy cs n) (order_puttable cs (λ y j. sub y (inr j)) d) (λ n u. inl u) v)
+  order_puttable (c ∷ cs) sub (v, d) m (inr (inr i)) = order_puttable cs (λ y j. sub y (inr j)) d m (inr i)
 
   each_puttable : (m : ℕ) → Puttable m
   each_puttable m = go (bound_or_not m bs)
     where
       go : Unbound bs m ⊎ ((b : Binding) × Member b bs × (b.of ≡ m)) → Puttable m
       go (inl u) = unbound_puttable m u
-      go (inr (b, i, e)) = subst Puttable e (bindings_puttable (Unbound bs) bs (λ y j. j) unbound_puttable (λ n u. u) w b i)
+      go (inr (b, i, e)) = order_puttable o.order o.within o.down m (inr (subst (IsBoundBy o.order) e (member_bound o.order b (o.all b i))))
 
   -- THE theorem: the bindings can be put in, and what comes is the term filled
   pub puts_total : (k : ℕ) (Δ : List Skeleton) (M : Term) (t : Skeleton) → Outside k Γ Δ → TermSkeleton (as_head_skeletons κ) Δ M t → PutsIn Ψ bs k M (fill μ (under k) M)

@@ -1,5 +1,5 @@
 -- Terms in environments with the values put in: what stands at a head.
-use Rattle.std.proofs.Common.{◌≡◌, ℕ, suc, ◌+◌, ◌-◌, ◌<◌, List, [], ◌∷◌, drop, Option, Some, None, slice_get, inl, inr, refl, sym, ap, ap₂, ◌∙◌, subst, add-one, arith}
+use Rattle.std.proofs.Common.{◌≡◌, ℕ, suc, ◌+◌, ◌-◌, ◌<◌, List, [], ◌∷◌, length, drop, Option, Some, None, slice_get, inl, inr, refl, sym, ap, ap₂, ◌∙◌, subst, add-one, arith}
 use Rattle.std.proofs.lemmas.Grind.{common_steps}
 use Rattle.lf.specs.AtOnce.{shift_by}
 use Rattle.lf.specs.Depth.{depth, spine_depth, type_depth}
@@ -10,25 +10,25 @@ use Rattle.lf.specs.Syntax.{constant, variable, metavariable, Skeleton, Spine, T
 use Rattle.lf.proofs.AtOnce.{drop_by_skeletons}
 use Rattle.lf.proofs.Renaming.{substitute_identity}
 use Rattle.lf.proofs.SkeletonTyping.{substitution_keeps_spine_skeletons}
-use Rattle.closures.specs.Environments.{Environment, substitution_in, outside, under_one_more, move_by, stays, closure, found, value_in, spine_value_in, type_value_in, applied_in}
-use Rattle.closures.proofs.Steps.{body_value, closure_value, moved_value, range_value, variable_value}
-use Rattle.closures.proofs.Values.{environment_by_skeletons, move_by_fits}
-use Rattle.unification.specs.Filling.{fill, fill_metavariable, fill_type, moved}
-use Rattle.unification.specs.OpenTyping.{skeletons_of}
-use Rattle.unification.specs.Putting.{Unbound}
-use Rattle.unification.specs.Skeletons.{TotalSkeletons, as_head_skeletons, skeleton_or_default, total_skeletons}
-use Rattle.unification.specs.Unifiers.{Binding}
+use Rattle.lf_closures.specs.Environments.{Environment, substitution_in, outside, under_one_more, move_by, stays, closure, found, value_in, spine_value_in, type_value_in, applied_in}
+use Rattle.lf_closures.proofs.Steps.{body_value, closure_value, moved_value, range_value, variable_value}
+use Rattle.lf_closures.proofs.Values.{environment_by_skeletons, move_by_fits}
+use Rattle.lf_unification.specs.Filling.{fill, fill_metavariable, fill_type, moved}
+use Rattle.lf_unification.specs.OpenTyping.{skeletons_of}
+use Rattle.lf_unification.specs.Putting.{Unbound}
+use Rattle.lf_unification.specs.Skeletons.{TotalSkeletons, as_head_skeletons, skeleton_or_default, total_skeletons}
+use Rattle.lf_unification.specs.Unifiers.{Binding}
 use Rattle.tw_metas.specs.State.{State, joined, value_of}
 use Rattle.tw_putting.specs.Frames.{Frame, InFrame, AppliesInFrame, Enters, StoreInFrame, WalkFits}
 use Rattle.tw_putting.specs.Stores.{bindings_from, bindings_of, types_of, with_binding}
-use Rattle.tw_putting.specs.Values.{put_spine_value, put_type_value, put_value, values_after, values_under}
-use Rattle.tw_putting.proofs.Filled.{after_unbound, declared_at, moved_once_more, moved_unbound, value_at}
+use Rattle.tw_putting.specs.Values.{put_spine_value, put_type_value, put_value, values_to, values_under}
+use Rattle.tw_putting.proofs.Filled.{declared_at, moved_once_more, moved_unbound, unbound_has_none, value_at}
 use Rattle.tw_putting.proofs.Frames.{closure_in_frame}
 use Rattle.tw_putting.proofs.PutTotal.{bound_filled}
 
 values_once_more : (s : State) (k : ℕ) → moved suc (values_under s k) ≡ values_under s (suc k)
 unfolding values_under
-values_once_more s k = moved_once_more k (values_after (skeletons_of (types_of s)) (bindings_of s) (λ m. None))
+values_once_more s k = moved_once_more k (values_to (skeletons_of (types_of s)) (bindings_of s) (length (bindings_of s)))
 
 -- Under a lambda.
 lambda_value : (s : State) (k : ℕ) (e : Environment) (M : Term) → lambda (put_value s (suc k) (under_one_more e) M) ≡ put_value s k e (lambda M)
@@ -64,8 +64,8 @@ unbound_value : (s : State) (k : ℕ) (e : Environment) (m : ℕ) (S : Spine) �
 unfolding put_value put_spine_value values_under
 unbound_value s k e m S q =
     let μ = skeletons_of (types_of s) in
-    let n : values_after μ (bindings_of s) (λ x. None) m ≡ None = after_unbound μ (bindings_of s) (λ x. None) m (unbound_from s.values m q s.bound) in
-    sym (ap (λ x. fill_metavariable (μ m) m x (put_spine_value s k e S)) (moved_unbound k m (values_after μ (bindings_of s) (λ x. None)) n))
+    let n : values_to μ (bindings_of s) (length (bindings_of s)) m ≡ None = unbound_has_none μ (bindings_of s) (length (bindings_of s)) m (unbound_from s.values m q s.bound) in
+    sym (ap (λ x. fill_metavariable (μ m) m x (put_spine_value s k e S)) (moved_unbound k m (values_to μ (bindings_of s) (length (bindings_of s))) n))
 
 pub unbound_value_by : (s : State) (k : ℕ) (e : Environment) (M : Term) (m : ℕ) (S : Spine) → M ≡ root (metavariable m) S → value_of s m ≡ None → root (metavariable m) (put_spine_value s k e S) ≡ put_value s k e M
 unbound_value_by s k e M m S p q = unbound_value s k e m S q ∙ sym (ap (put_value s k e) p)
@@ -109,7 +109,7 @@ meta_in_frame s k f e m S A N v y h x = go x.term_skeleton x.term_typed
     typed : TermSkeleton f.heads (drop k f.target) N (skeleton A)
     typed =
         let κ : TotalSkeletons = total_skeletons h.signature (skeletons_of (types_of s)) in
-        subst (λ H. TermSkeleton H (drop k f.target) N (skeleton A)) (sym h.same_heads) (subst (TermSkeleton (as_head_skeletons κ) (drop k f.target) N) same (value_at h.signature (types_of s) (drop k f.target) (Unbound (bindings_of s)) (bindings_of s) h.store_typed.values (record { of = m; value = N }) (member_from s.values m N v s.bound (h.store_typed.bound m N v))))
+        subst (λ H. TermSkeleton H (drop k f.target) N (skeleton A)) (sym h.same_heads) (subst (TermSkeleton (as_head_skeletons κ) (drop k f.target) N) same (value_at h.signature (types_of s) (drop k f.target) (bindings_of s) h.store_typed.values (record { of = m; value = N }) (member_from s.values m N v s.bound (h.store_typed.bound m N v))))
 
     head : (t : Skeleton) → f.heads.metavariable_skeleton m ≡ Some t → skeleton A ≡ t
     head t g = sym same ∙ some_skeleton (sym (ap (λ H. H.metavariable_skeleton m) h.same_heads) ∙ g)
@@ -131,7 +131,7 @@ meta_applies_in s k e c M m S T A N p q r v y w =
     subst (λ E. AppliesInFrame w.frame (skeleton A) N (move_by k E) T e) (sym r)
     (subst (λ X. AppliesInFrame w.frame (skeleton A) N (move_by k outside) X e) q (meta_in_frame s k w.frame e m S A N v y (w.store_fits m N v) (subst (InFrame w.frame e) p w.term_fits)))
 
-moved_out : (k : ℕ) (N : Term) → value_in (move_by k outside) N ≡ rename (shift_by k) N
+pub moved_out : (k : ℕ) (N : Term) → value_in (move_by k outside) N ≡ rename (shift_by k) N
 moved_out k N = sym (moved_value k outside N) ∙ ap (rename (shift_by k)) (substitute_identity reduce N)
 
 meta_value : (s : State) (k : ℕ) (e : Environment) (m : ℕ) (S : Spine) (A : LfType) (N B : Term) (d : Environment) → value_of s m ≡ Some N → types_of s m ≡ Some A → (f : Frame) → StoreInFrame s k f → AppliesInFrame f (skeleton A) N (move_by k outside) S e → value_in d B ≡ applied_in (skeleton A) N (move_by k outside) S e → put_value s k d B ≡ put_value s k e (root (metavariable m) S)
@@ -145,7 +145,7 @@ meta_value s k e m S A N B d v y f h x q =
     let t : SpineSkeleton f.heads f.target S' (skeleton A) (base x.family) = substitution_keeps_spine_skeletons f.heads x.arguments_context f.target (substitution_in e) S (skeleton A) (base x.family) (environment_by_skeletons f.heads e x.arguments_context f.target x.arguments_fit) x.spine_typed in
     let t' : SpineSkeleton (as_head_skeletons (total_skeletons h.signature μ)) f.target S' (μ m) (base x.family) = subst (λ H. SpineSkeleton H f.target S' (μ m) (base x.family)) h.same_heads (subst (λ u. SpineSkeleton f.heads f.target S' u (base x.family)) (sym same) t) in
     ap (fill μ (values_under s k)) (q ∙ ap (λ X. reduce (skeleton A) X S') (moved_out k N) ∙ ap (λ u. reduce u (rename (shift_by k) N) S') (sym same))
-    ∙ bound_filled h.signature (types_of s) (drop k f.target) (bindings_of s) h.store_typed.values k f.target (drop_by_skeletons k f.target) b i S' x.family t'
+    ∙ bound_filled h.signature (types_of s) (drop k f.target) (bindings_of s) h.store_typed.values h.store_typed.ordered k f.target (drop_by_skeletons k f.target) b i S' x.family t'
 
 pub meta_value_by : (s : State) (k : ℕ) (e c : Environment) (M : Term) (m : ℕ) (S T : Spine) (A : LfType) (N B : Term) (d : Environment) → M ≡ root (metavariable m) S → S ≡ T → c ≡ outside → value_of s m ≡ Some N → types_of s m ≡ Some A → WalkFits s k e M → Enters (skeleton A) N (move_by k c) T e B d → put_value s k d B ≡ put_value s k e M
 meta_value_by s k e c M m S T A N B d p q r v y w z =
@@ -160,7 +160,7 @@ meta_walk_by s k e c M m S T A N B d p q r v y w z = record { frame = w.frame; s
 pub value_is_declared : (s : State) (k : ℕ) (e : Environment) (M : Term) (m : ℕ) (N : Term) → value_of s m ≡ Some N → WalkFits s k e M → types_of s m ≡ None → ⊥
 value_is_declared s k e M m N v w n =
     let h : StoreInFrame s k w.frame = w.store_fits m N v in
-    let (A, q) = declared_at h.signature (types_of s) (drop k w.frame.target) (Unbound (bindings_of s)) (bindings_of s) h.store_typed.values (record { of = m; value = N }) (member_from s.values m N v s.bound (h.store_typed.bound m N v)) in
+    let (A, q) = declared_at h.signature (types_of s) (drop k w.frame.target) (bindings_of s) h.store_typed.values (record { of = m; value = N }) (member_from s.values m N v s.bound (h.store_typed.bound m N v)) in
     let r : Some A ≡ None = sym q ∙ n in cc
 
 -- Depths, and the range of a type.

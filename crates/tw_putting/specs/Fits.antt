@@ -1,12 +1,13 @@
 -- What the calls need of their arguments: that skeletons type them.
-use Rattle.std.specs.Prelude.{◌≡◌, ℕ, List, [], ◌∷◌, drop, Option, Some, ◌⊎◌}
+use Rattle.std.specs.Prelude.{◌≡◌, ℕ, ◌≤◌, List, [], ◌∷◌, drop, length, Option, Some, ◌⊎◌}
 use Rattle.lf.specs.SkeletonTyping.{HeadSkeletons, TermSkeleton, SpineSkeleton, TypeBySkeletons}
 use Rattle.lf.specs.Skeletons.{signature_skeletons, type_skeleton}
+use Rattle.lf.specs.Subordination.{Member}
 use Rattle.lf.specs.Syntax.{Term, Spine, LfType, Skeleton, skeleton}
 use Rattle.lf.specs.Typing.{Signature}
-use Rattle.unification.specs.OpenTyping.{MetavariablesIn}
-use Rattle.unification.specs.Putting.{Unbound}
-use Rattle.unification.specs.Unifiers.{Binding}
+use Rattle.lf_unification.specs.OpenTyping.{MetavariablesIn}
+use Rattle.lf_unification.specs.Putting.{Unbound}
+use Rattle.lf_unification.specs.Unifiers.{Binding}
 use Rattle.tw_metas.specs.State.{State}
 use Rattle.tw_putting.specs.Stores.{types_of, bindings_of, ValuesAreBound}
 
@@ -14,20 +15,37 @@ use Rattle.tw_putting.specs.Stores.{types_of, bindings_of, ValuesAreBound}
 abbrev pub declared_skeletons : Signature → (ℕ → Option LfType) → HeadSkeletons
 declared_skeletons Σ Ψ = signature_skeletons Σ (λ m. type_skeleton (Ψ m))
 
--- The values, the newest first, have the skeletons of their metavariables in the outer context Γ. Each mentions only metavariables of V,
--- which are those that no binding of the list is for, and those that were bound after it; and nothing is bound twice.
-abbrev pub BindingsBySkeletons : Signature → (ℕ → Option LfType) → List Skeleton → (ℕ → Type 0) → List Binding → Type 0
-BindingsBySkeletons Σ Ψ Γ V [] = Unit {0}
-BindingsBySkeletons Σ Ψ Γ V (b ∷ bs) =
-    MetavariablesIn V b.value
-    × ((A : LfType) × (Ψ b.of ≡ Some A) × TermSkeleton (declared_skeletons Σ Ψ) Γ b.value (skeleton A))
+-- The values have the skeletons of their metavariables in the outer context Γ, and nothing is bound twice.
+abbrev pub BindingsBySkeletons : Signature → (ℕ → Option LfType) → List Skeleton → List Binding → Type 0
+BindingsBySkeletons Σ Ψ Γ [] = Unit {0}
+BindingsBySkeletons Σ Ψ Γ (b ∷ bs) =
+    ((A : LfType) × (Ψ b.of ≡ Some A) × TermSkeleton (declared_skeletons Σ Ψ) Γ b.value (skeleton A))
     × Unbound bs b.of
-    × BindingsBySkeletons Σ Ψ Γ (λ m. V m ⊎ (m ≡ b.of)) bs
+    × BindingsBySkeletons Σ Ψ Γ bs
+
+-- one of the bindings is for the metavariable
+abbrev pub IsBoundBy : List Binding → ℕ → Type 0
+IsBoundBy [] m = ⊥
+IsBoundBy (b ∷ bs) m = (m ≡ b.of) ⊎ IsBoundBy bs m
+
+-- each value mentions only metavariables that no binding of bs is for, and those that a later binding of the list is for
+abbrev pub GoesDown : List Binding → List Binding → Type 0
+GoesDown bs [] = Unit {0}
+GoesDown bs (c ∷ cs) = MetavariablesIn (λ m. Unbound bs m ⊎ IsBoundBy cs m) c.value × GoesDown bs cs
+
+-- The bindings can be put into each other: they have an order in which each value mentions only what is bound behind it, or not at all.
+pub record HaveOrder (bs : List Binding) : Type 0 where
+  pub order : List Binding
+  pub count : length order ≤ length bs
+  pub within : (b : Binding) → Member b order → Member b bs
+  pub all : (b : Binding) → Member b bs → Member b order
+  pub down : GoesDown bs order
 
 -- the bindings of a state, in the outer context Γ
 pub record StoreBySkeletons (Σ : Signature) (Γ : List Skeleton) (s : State) : Type 0 where
   pub bound : ValuesAreBound s
-  pub values : BindingsBySkeletons Σ (types_of s) Γ (Unbound (bindings_of s)) (bindings_of s)
+  pub values : BindingsBySkeletons Σ (types_of s) Γ (bindings_of s)
+  pub ordered : HaveOrder (bindings_of s)
 
 -- the term has a skeleton under k binders, and the values outside them have theirs
 pub record PutFits (s : State) (k : ℕ) (M : Term) : Type 0 where
@@ -53,3 +71,7 @@ pub record PutTypeFits (s : State) (k : ℕ) (A : LfType) : Type 0 where
   pub context : List Skeleton
   pub type_typed : TypeBySkeletons families (declared_skeletons signature (types_of s)) context A
   pub store_typed : StoreBySkeletons signature (drop k context) s
+
+-- the types of all metavariables can take the values
+abbrev pub TypesCanTake : State → Type 0
+TypesCanTake s = (m : ℕ) (A : LfType) → types_of s m ≡ Some A → PutTypeFits s 0 A

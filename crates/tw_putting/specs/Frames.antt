@@ -3,10 +3,10 @@ use Rattle.std.specs.Prelude.{◌≡◌, ℕ, List, drop, Option, Some}
 use Rattle.lf.specs.SkeletonTyping.{HeadSkeletons, TermSkeleton, SpineSkeleton, TypeBySkeletons}
 use Rattle.lf.specs.Syntax.{Term, Spine, LfType, Skeleton, base}
 use Rattle.lf.specs.Typing.{Signature}
-use Rattle.closures.specs.Environments.{Environment, value_in, applied_in}
-use Rattle.closures.specs.Typing.{EnvironmentFits}
-use Rattle.unification.specs.OpenTyping.{skeletons_of}
-use Rattle.unification.specs.Skeletons.{as_head_skeletons, total_skeletons}
+use Rattle.lf_closures.specs.Environments.{Environment, value_in, applied_in}
+use Rattle.lf_closures.specs.Typing.{EnvironmentFits}
+use Rattle.lf_unification.specs.OpenTyping.{skeletons_of}
+use Rattle.lf_unification.specs.Skeletons.{as_head_skeletons, total_skeletons}
 use Rattle.tw_metas.specs.State.{State, value_of}
 use Rattle.tw_putting.specs.Fits.{StoreBySkeletons}
 use Rattle.tw_putting.specs.Stores.{types_of}

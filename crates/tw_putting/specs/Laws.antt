@@ -6,9 +6,9 @@ use Rattle.lf.specs.Skeletons.{context_skeletons}
 use Rattle.lf.specs.Syntax.{Term, Spine, LfType, Skeleton, skeleton}
 use Rattle.lf.specs.Typing.{Signature}
 use Rattle.lf.specs.Variables.{onto}
-use Rattle.unification.specs.DeepEquations.{IsDeepSpine, IsDeepTerm, IsDeepType}
-use Rattle.unification.specs.OpenTyping.{MetavariablesIn, OpenHasType}
-use Rattle.unification.specs.Putting.{Unbound}
+use Rattle.lf_unification.specs.DeepEquations.{IsDeepSpine, IsDeepTerm, IsDeepType}
+use Rattle.lf_unification.specs.OpenTyping.{MetavariablesIn, OpenHasType}
+use Rattle.lf_unification.specs.Putting.{Unbound}
 use Rattle.tw_metas.specs.State.{IsUnbound, State, empty_state, with_declared, with_value}
 use Rattle.tw_putting.specs.Fits.{PutFits, StoreBySkeletons, declared_skeletons}
 use Rattle.tw_putting.specs.Stores.{AllIn, BoundHaveValues, Puts, PutsDeep, PutsDeepSpine, PutsDeepType, PutsSpine, PutsType, SpineAllIn, TypeAllIn, bindings_of, store_of, types_of}

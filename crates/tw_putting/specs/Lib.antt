@@ -5,3 +5,6 @@ pub mod Values
 pub mod Frames
 pub mod View
 pub mod Closed
+pub mod Unfolding
+pub mod Whole
+pub mod Ready

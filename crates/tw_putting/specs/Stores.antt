@@ -4,9 +4,9 @@ use Rattle.std.specs.Option.{option_map}
 use Rattle.lf.specs.Depth.{depth, spine_depth, type_depth, depth_limit}
 use Rattle.lf.specs.Subordination.{Member}
 use Rattle.lf.specs.Syntax.{Term, Spine, LfType}
-use Rattle.unification.specs.OpenTyping.{MetavariablesIn, MetavariablesInSpine, MetavariablesInType}
-use Rattle.unification.specs.Putting.{PutsIn, PutsInSpine, PutsInType, Unbound}
-use Rattle.unification.specs.Unifiers.{Binding, Store}
+use Rattle.lf_unification.specs.OpenTyping.{MetavariablesIn, MetavariablesInSpine, MetavariablesInType}
+use Rattle.lf_unification.specs.Putting.{PutsIn, PutsInSpine, PutsInType, Unbound}
+use Rattle.lf_unification.specs.Unifiers.{Binding, Store}
 use Rattle.tw_metas.specs.State.{State, joined, value_of}
 
 -- the types of the metavariables

@@ -2,8 +2,8 @@
 use Rattle.std.specs.Prelude.{ℕ}
 use Rattle.lf.specs.Syntax as lf
 use Rattle.lf.specs.Syntax.{skeleton}
-use Rattle.closures.specs.Environments as pure
-use Rattle.closures.specs.Environments.{stays, closure}
+use Rattle.lf_closures.specs.Environments as pure
+use Rattle.lf_closures.specs.Environments.{stays, closure}
 use Rattle.tw_metas.specs.State.{State}
 use Rattle.tw_terms.specs.OpenView.{open_head_of, open_term_of, open_spine_of, open_type_of}
 use Rattle.tw_putting.specs.Frames.{WalkFits, WalkSpineFits}

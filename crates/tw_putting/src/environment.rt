@@ -1,6 +1,6 @@
 //! Environments: what stands for the variables of a term, without putting it in.
 ghost use Rattle.std.specs.Prelude.{◌≡◌, IfOk};
-ghost use Rattle.closures.specs.Environments.{under_one_more, move_by, found};
+ghost use Rattle.lf_closures.specs.Environments.{under_one_more, move_by, found};
 ghost use Rattle.tw_putting.specs.View.{environment_of, found_of};
 
 use bumpalo::Bump;

@@ -1,8 +1,8 @@
 //! The head of a term in an environment: closures and values of metavariables are entered one after another, and nothing is copied.
 ghost use Rattle.std.specs.Prelude.{◌≡◌, IfOk};
 ghost use Rattle.lf.specs.Syntax.{skeleton};
-ghost use Rattle.closures.specs.Environments.{move_by};
-ghost use Rattle.closures.specs.Typing.{TakesAll};
+ghost use Rattle.lf_closures.specs.Environments.{move_by};
+ghost use Rattle.lf_closures.specs.Typing.{TakesAll};
 ghost use Rattle.tw_terms.specs.OpenView.{open_term_of, open_args_of, open_type_of};
 ghost use Rattle.tw_putting.specs.Frames.{Enters, WalkFits};
 ghost use Rattle.tw_putting.specs.Values.{put_value};

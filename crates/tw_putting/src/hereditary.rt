@@ -4,7 +4,7 @@ ghost use Rattle.lf.specs.Syntax.{skeleton};
 ghost use Rattle.lf.specs.Substitution.{single, substitute as put_in, substitute_type as put_in_type, reduce};
 ghost use Rattle.lf.specs.Depth.{depth, type_depth, depth_limit};
 ghost use Rattle.lf.specs.Deep.{DeepSubstitution, DeepTypeSubstitution, DeepReduction};
-ghost use Rattle.closures.specs.Environments.{outside, under, extended};
+ghost use Rattle.lf_closures.specs.Environments.{outside, under, extended};
 ghost use Rattle.tw_hered.specs.Fits.{put_at, TermFits, TypeFits, Applies};
 ghost use Rattle.tw_terms.specs.OpenView.{open_term_of, open_spine_of, open_type_of};
 ghost use Rattle.tw_putting.specs.View.{environment_of};

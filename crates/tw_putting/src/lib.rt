@@ -29,6 +29,8 @@ mod plain;
 mod put;
 #[tactic(auto, using(crate::proofs::Shifts::shifts))]
 mod shifting;
+#[tactic(auto, using(crate::proofs::Environments::environments))]
+mod unfolding;
 
 pub use closing::{closed_spine, closed_term, closed_type};
 pub use hereditary::{apply, instantiate, substitute, substitute_type};
@@ -41,3 +43,4 @@ pub use plain::{is_all_in, is_spine_all_in, is_type_all_in};
 pub use put::{put_in, put_in_spine, put_in_type};
 pub use shifting::{shift, shift_spine, shift_type};
 pub use tw_hered::HeredFault;
+pub use unfolding::{constant_head, unfold};

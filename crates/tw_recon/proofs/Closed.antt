@@ -3,8 +3,8 @@ use Rattle.std.proofs.Common.{◌≡◌, ℕ, zero, suc, ◌+◌, ◌<◌, List,
 use Rattle.std.specs.List.{slice_get}
 use Rattle.std.proofs.lemmas.List.{drop_all}
 use Rattle.lf.specs.Syntax.{Kind, LfType, Term, kind_pi, lambda, pi}
-use Rattle.elaboration.specs.Kinds.{kind_over}
-use Rattle.unification.specs.Offering.{lambda_over, pi_over}
+use Rattle.lf_elaboration.specs.Kinds.{kind_over}
+use Rattle.lf_unification.specs.Offering.{lambda_over, pi_over}
 use Rattle.tw_recon.proofs.Steps.{steps}
 
 -- what is left, and its first

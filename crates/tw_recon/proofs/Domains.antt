@@ -2,7 +2,7 @@
 use Rattle.std.proofs.Common.{◌≡◌, ℕ, suc, List, [], ◌∷◌, ◌++◌, length, map, refl, sym, ap, ◌∙◌, subst, inr, arith, length-append}
 use Rattle.lf.specs.Syntax.{Kind, LfType, kind_pi, star}
 use Rattle.tw_metas.specs.State.{State}
-use Rattle.tw_readoff.specs.Reading.{IsTypeReadAs}
+use Rattle.tw_abstract.specs.Reading.{IsTypeReadAs}
 use Rattle.tw_terms.specs.View.{type_of}
 use Rattle.tw_terms.specs.declared.canonical.Ty.{Ty}
 use Rattle.tw_recon.specs.Reading.{IsKindReadAs, KindIsDeep, KindStands, kind_of_types}

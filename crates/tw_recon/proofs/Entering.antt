@@ -5,17 +5,18 @@ use Rattle.lf.specs.Entries.{Body, BodyIsTyped, BodyIsWithin, Entry, IsCanonical
 use Rattle.lf.specs.Syntax.{LfType}
 use Rattle.lf.specs.Typing.{Signature}
 use Rattle.lf.proofs.Entries.{canonical_is_signature}
-use Rattle.elaboration.specs.Completions.{FreeValue}
-use Rattle.elaboration.specs.Principal.{IsPrincipal, WrittenBody, body_over}
-use Rattle.elaboration.specs.Sites.{AreFreesInOrder, AreSites}
+use Rattle.lf_elaboration.specs.Completions.{FreeValue}
+use Rattle.lf_elaboration.specs.Principal.{IsPrincipal, WrittenBody, body_over}
+use Rattle.lf_elaboration.specs.Sites.{AreFreesInOrder, AreSites}
+use Rattle.lf_elaboration.proofs.Bodies.{principal_stands}
 use Rattle.tw_approx.specs.Answer.{Rows}
 use Rattle.tw_metas.specs.State as metas
 use Rattle.tw_parse.specs.Syntax.{Declaration, Term}
-use Rattle.tw_readoff.specs.Causes.{BlamesQuantifiers}
-use Rattle.tw_readoff.specs.Quantifiers.{AreQuantifiers, IsContextOf, no_quantifiers, one_inside}
-use Rattle.tw_readoff.specs.Reading.{IsSettled}
-use Rattle.tw_readoff.specs.declared.fault.ReadFault.{ReadFault}
-use Rattle.tw_readoff.specs.declared.fault.ReadFault.TheVariants as reading
+use Rattle.tw_abstract.specs.Causes.{BlamesQuantifiers}
+use Rattle.tw_abstract.specs.Quantifiers.{AreQuantifiers, IsContextOf, no_quantifiers, one_inside}
+use Rattle.tw_abstract.specs.Reading.{IsSettled}
+use Rattle.tw_hered.specs.declared.fault.HeredFault.{HeredFault}
+use Rattle.tw_hered.specs.declared.fault.HeredFault.TheVariants as reading
 use Rattle.tw_resolve.specs.Resolved.{skeletons_of}
 use Rattle.tw_recon.specs.Begun.{IsSolved}
 use Rattle.tw_recon.specs.Causes.{BodyReachesDeep, HasCause, Stops, in_body, in_entry, in_frees, in_quantifiers, of_reading}
@@ -26,7 +27,7 @@ use Rattle.tw_recon.specs.Reading.{BodyIsDeep, BodyStands, IsBodyReadAs}
 use Rattle.tw_recon.specs.Reconstruction.{AreReadOff, LeavesNothingOut, IsCompletedTo, IsEntryOf, IsReconstructed, IsWrittenAs}
 use Rattle.tw_recon.specs.declared.fault.ReconFault.{ReconFault}
 use Rattle.tw_recon.specs.declared.fault.ReconFault.TheVariants.{Leftover, Loose, Mismatch, NoMemory, TooDeep, TypeLevel, Unknown}
-use Rattle.tw_readoff.proofs.Contexts.{quantifiers_law, reading_law}
+use Rattle.tw_abstract.proofs.Contexts.{quantifiers_law, reading_law}
 use Rattle.tw_recon.proofs.Naming.{names_each}
 use Rattle.tw_recon.proofs.Principals.{fitted_length, quantifiers_over, read_is_principal}
 use Rattle.tw_recon.proofs.Settling.{body_stands}
@@ -45,15 +46,15 @@ module _ (es : List Entry) (canonical : IsCanonicalSignature es) (rows : Rows) (
   stands = body_stands es canonical (skeletons_of rows) w frees z.state b after z.made z.solved z.ready
 
   -- what reading off blames
-  pub quantifiers_blamed : (f : ReadFault) (sites : List ℕ) → AreSites es (skeletons_of rows) w sites → BlamesQuantifiers f after sites → Stops es rows w (of_reading f)
+  pub quantifiers_blamed : (f : HeredFault) (sites : List ℕ) → AreSites es (skeletons_of rows) w sites → BlamesQuantifiers f after sites → Stops es rows w (of_reading f)
   quantifiers_blamed reading.TooDeep sites s h = in_quantifiers sites after z.ready.consistent z.made z.solved s h
   quantifiers_blamed reading.NoMemory sites s h = tt
 
-  pub body_blamed : (f : ReadFault) → (f ≡ reading.TooDeep → BodyIsDeep after b) → Stops es rows w (of_reading f)
+  pub body_blamed : (f : HeredFault) → (f ≡ reading.TooDeep → BodyIsDeep after b) → Stops es rows w (of_reading f)
   body_blamed reading.TooDeep h = in_body after z.made z.solved (h refl)
   body_blamed reading.NoMemory h = tt
 
-  pub names_blamed : (f : ReadFault) → (f ≡ reading.TooDeep → FreeIsDeep after frees) → Stops es rows w (of_reading f)
+  pub names_blamed : (f : HeredFault) → (f ≡ reading.TooDeep → FreeIsDeep after frees) → Stops es rows w (of_reading f)
   names_blamed reading.TooDeep h = in_frees after z.ready.consistent z.made (inl z.solved) (h refl)
   names_blamed reading.NoMemory h = tt
 
@@ -96,6 +97,11 @@ hint_each es rows w G hints shown b c = from c.in_order
     from (inr r) = ap length r.hints_are ∙ names_each r.naming.names r.quantifiers ∙ context_each r.after r.quantifiers G r.are_quantifiers.context
 
 -- the whole is deep
+-- what is completed is typed once it is closed over its quantifiers
+pub completed_typed : (es : List Entry) (rows : Rows) (w : WrittenBody) (G : List LfType) (hints : List (Option (List ℕ))) (shown : List ℕ) (b : Body) → IsCompletedTo es rows w G hints shown b
+    → BodyIsTyped (signature_of es) (body_over G b)
+completed_typed es rows w G hints shown b c = (principal_stands es (skeletons_of rows) w (record { quantifiers = G; frees = c.frees; body = b }) c.principal).0
+
 pub entry_refused : (es : List Entry) (rows : Rows) (w : WrittenBody) (G : List LfType) (hints : List (Option (List ℕ))) (shown : List ℕ) (b : Body) (f : ReconFault) → IsCompletedTo es rows w G hints shown b → (f ≡ TooDeep) ⊎ (f ≡ NoMemory) → (f ≡ TooDeep → BodyReachesDeep (signature_of es) (body_over G b)) → Stops es rows w f
 entry_refused es rows w G hints shown b f c (inl t) h = subst (Stops es rows w) (sym t) (in_entry c (h t))
 entry_refused es rows w G hints shown b f c (inr n) h = subst (Stops es rows w) (sym n) tt

@@ -6,23 +6,23 @@ use Rattle.lf.specs.Substitution.{keep, reduce}
 use Rattle.lf.specs.Syntax.{Kind, LfType, Skeleton, Term, kind_pi, rename_kind, star}
 use Rattle.lf.specs.Typing.{IsSignature, Signature}
 use Rattle.lf.proofs.TypeLaws.{substitution_as_renaming, substitution_as_renaming_kind, substitution_as_renaming_type}
-use Rattle.unification.specs.Dependency.{values}
-use Rattle.unification.specs.Filling.{fill, fill_type}
-use Rattle.unification.specs.OpenTyping.{OpenHasType, OpenIsType, skeletons_of, under_locals}
-use Rattle.unification.specs.PartialInstance.{IsFilling}
-use Rattle.unification.specs.Putting.{binders}
-use Rattle.unification.specs.Solving.{IsWellFormed}
-use Rattle.elaboration.specs.Kinds.{OpenIsKind, fill_kind}
-use Rattle.elaboration.specs.Principal.{substitute_body}
-use Rattle.elaboration.specs.PrincipalLaws.{fill_body}
-use Rattle.tw_generalize.specs.Free.{free_metavariables}
-use Rattle.tw_generalize.specs.Positions.{index}
-use Rattle.tw_generalize.specs.Reordered.{TakesIndices}
+use Rattle.lf_unification.specs.Dependency.{values}
+use Rattle.lf_unification.specs.Filling.{fill, fill_type}
+use Rattle.lf_unification.specs.OpenTyping.{OpenHasType, OpenIsType, skeletons_of, under_locals}
+use Rattle.lf_unification.specs.PartialInstance.{IsFilling}
+use Rattle.lf_unification.specs.Putting.{binders}
+use Rattle.lf_unification.specs.Solving.{IsWellFormed}
+use Rattle.lf_elaboration.specs.Kinds.{OpenIsKind, fill_kind}
+use Rattle.lf_elaboration.specs.Principal.{substitute_body}
+use Rattle.lf_elaboration.specs.PrincipalLaws.{fill_body}
+use Rattle.tw_abstract.specs.Free.{free_metavariables}
+use Rattle.tw_abstract.specs.Positions.{index}
+use Rattle.tw_abstract.specs.Reordered.{TakesIndices}
 use Rattle.tw_metas.specs.State as metas
 use Rattle.tw_putting.specs.Stores.{types_of}
-use Rattle.tw_readoff.specs.Laws.{ReadingIsFilling}
-use Rattle.tw_unify.specs.Ready.{IsReady}
-use Rattle.tw_unify.specs.View.{whole}
+use Rattle.tw_abstract.specs.ReadingLaws.{ReadingIsFilling}
+use Rattle.tw_putting.specs.Ready.{IsReady}
+use Rattle.tw_putting.specs.Whole.{whole}
 use Rattle.tw_recon.specs.Reading.{IsBodyReadAs, IsKindReadAs}
 
 -- the body is typed up to the fillings of the store

@@ -12,7 +12,7 @@ use Rattle.lf.specs.Syntax.{Skeleton, Term, metavariable}
 use Rattle.tw_approx.specs.Answer.{Rows, rows_of}
 use Rattle.tw_approx.specs.declared.approximation.Row.{Row}
 use Rattle.tw_elaborate.specs.View.{numbers_of}
-use Rattle.tw_generalize.specs.Positions.{index}
+use Rattle.tw_abstract.specs.Positions.{index}
 use Rattle.tw_metas.specs.State.{State, joined, value_of}
 use Rattle.tw_putting.specs.Fits.{PutFits}
 use Rattle.tw_putting.specs.Stores.{Puts}

@@ -4,7 +4,7 @@ use Rattle.std.specs.Prelude.{is_some, if◌then◌else◌}
 use Rattle.std.specs.List.{slice_get}
 use Rattle.lf.specs.Entries.{Body, Entry}
 use Rattle.lf.specs.Syntax.{LfType, Skeleton}
-use Rattle.elaboration.specs.Principal.{WrittenBody}
+use Rattle.lf_elaboration.specs.Principal.{WrittenBody}
 use Rattle.tw_approx.specs.Answer.{HasRow, Rows}
 use Rattle.tw_metas.specs.State.{State, joined}
 use Rattle.tw_recon.specs.Names.{Naming, NamesAll, NamesOne, names_of, nothing_named, with_name, with_sole}

@@ -6,28 +6,28 @@ use Rattle.lf.specs.Depth.{depth_limit}
 use Rattle.lf.specs.Entries.{Body, Entry, IsCanonicalSignature, signature_of}
 use Rattle.lf.specs.Syntax.{Skeleton}
 use Rattle.lf.proofs.Entries.{canonical_is_signature}
-use Rattle.elaboration.specs.Principal.{WrittenBody}
-use Rattle.elaboration.specs.Sites.{AreFreesInOrder}
-use Rattle.elaboration.specs.State.{store_of}
-use Rattle.unification.specs.DeepEquations.{AreDeep}
-use Rattle.unification.specs.Solving.{Left, Never, Solved}
-use Rattle.unification.specs.Unifiers.{Equation, Store}
+use Rattle.lf_elaboration.specs.Principal.{WrittenBody}
+use Rattle.lf_elaboration.specs.Sites.{AreFreesInOrder}
+use Rattle.lf_elaboration.specs.State.{store_of}
+use Rattle.lf_unification.specs.DeepEquations.{AreDeep}
+use Rattle.lf_unification.specs.Solving.{Left, Never, Solved}
+use Rattle.lf_unification.specs.Unifiers.{Equation, Store}
 use Rattle.tw_approx.specs.Answer.{Rows, rows_of}
 use Rattle.tw_elaborate.specs.Bodies.{open_body_of}
 use Rattle.tw_elaborate.specs.View.{made, numbers_of}
 use Rattle.tw_metas.specs.State as metas
 use Rattle.tw_metas.specs.View.{equation_of}
-use Rattle.tw_readoff.specs.Reading.{IsSettled}
+use Rattle.tw_abstract.specs.Reading.{IsSettled}
 use Rattle.tw_resolve.specs.Resolved.{skeletons_of}
 use Rattle.tw_unify.specs.Answers.{Answers, StaysReady}
-use Rattle.tw_unify.specs.Named.{shown_type_of}
+use Rattle.tw_metas.specs.Named.{shown_type_of}
 use Rattle.tw_unify.specs.Outcomes.{Explains}
-use Rattle.tw_unify.specs.Ready.{IsReady}
+use Rattle.tw_putting.specs.Ready.{IsReady}
 use Rattle.tw_unify.specs.Showing.{BlamesShown, Shows}
-use Rattle.tw_unify.specs.View.{AreDistinct, whole}
+use Rattle.tw_putting.specs.Whole.{AreDistinct, whole}
 use Rattle.tw_unify.specs.declared.fault.UnifyFault.{UnifyFault}
 use Rattle.tw_unify.specs.declared.fault.UnifyFault.TheVariants as unify
-use Rattle.tw_unify.specs.declared.left.LeftEquation.{LeftEquation}
+use Rattle.tw_metas.specs.declared.left.LeftEquation.{LeftEquation}
 use Rattle.tw_unify.specs.declared.solving.Unified.{Unified}
 use Rattle.tw_unify.specs.declared.solving.Unified.TheVariants as answer
 use Rattle.tw_written.specs.View.{written_body_of}
@@ -92,7 +92,7 @@ module _ (es : List Entry) (canonical : IsCanonicalSignature es) (b : Begun) (z 
   never_at after a e h = no_completion es canonical ts w frees (made b.elaborated.state) body is_made (subst (Never (signature_of es) []) same (subst (λ x. Answers x (signature_of es) store after) e h))
 
   pub deep_at : (f : UnifyFault) → f ≡ unify.TooDeep → Explains f (signature_of es) store → Stops es rows w TooDeep
-  deep_at f e h = in_equations is_made (subst (AreDeep depth_limit (signature_of es) []) same (subst (λ x. Explains x (signature_of es) store) e h))
+  deep_at f e h = in_equations is_made (subst (AreDeep depth_limit (signature_of es)) same (subst (λ x. Explains x (signature_of es) store) e h))
 
 -- The first of the equations that are left.
 first_left : (qs : List Equation) → (qs ≡ [] → ⊥) → (e : Equation) × (slice_get qs 0 ≡ Some e)

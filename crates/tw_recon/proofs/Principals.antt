@@ -4,23 +4,23 @@ use Rattle.lf.specs.Entries.{Body, Entry, IsCanonicalSignature, body_quantifiers
 use Rattle.lf.specs.Substitution.{keep}
 use Rattle.lf.specs.Syntax.{Kind, LfType, Skeleton, kind_pi, pi}
 use Rattle.lf.proofs.Entries.{canonical_is_signature}
-use Rattle.unification.specs.Dependency.{free_context, values}
-use Rattle.unification.specs.Offering.{pi_over}
-use Rattle.unification.specs.OpenTyping.{skeletons_of}
-use Rattle.unification.specs.Solving.{Never, Solved}
-use Rattle.elaboration.specs.Completions.{FreeValue}
-use Rattle.elaboration.specs.Kinds.{kind_over}
-use Rattle.elaboration.specs.Principal.{Completion, IsCompletion, IsPrincipal, WrittenBody, body_over, substitute_body, substitute_frees}
-use Rattle.elaboration.specs.PrincipalLaws.{fill_body}
-use Rattle.elaboration.specs.State.{State, store_of}
-use Rattle.elaboration.proofs.Principal.{never_completion, read_off_principal}
-use Rattle.elaboration.proofs.Reordered.{reordered_is_principal}
+use Rattle.lf_unification.specs.Dependency.{free_context, values}
+use Rattle.lf_unification.specs.Offering.{pi_over}
+use Rattle.lf_unification.specs.OpenTyping.{skeletons_of}
+use Rattle.lf_unification.specs.Solving.{Never, Solved}
+use Rattle.lf_elaboration.specs.Completions.{FreeValue}
+use Rattle.lf_elaboration.specs.Kinds.{kind_over}
+use Rattle.lf_elaboration.specs.Principal.{Completion, IsCompletion, IsPrincipal, WrittenBody, body_over, substitute_body, substitute_frees}
+use Rattle.lf_elaboration.specs.PrincipalLaws.{fill_body}
+use Rattle.lf_elaboration.specs.State.{State, store_of}
+use Rattle.lf_elaboration.proofs.Principal.{never_completion, read_off_principal}
+use Rattle.lf_elaboration.proofs.Reordered.{reordered_is_principal}
 use Rattle.tw_metas.specs.State as metas
 use Rattle.tw_putting.specs.Stores.{types_of}
-use Rattle.tw_readoff.specs.Laws.{QuantifiersAreReordered, ReadingIsFilling}
-use Rattle.tw_readoff.specs.Quantifiers.{AreQuantifiers}
-use Rattle.tw_unify.specs.Ready.{IsReady}
-use Rattle.tw_unify.specs.View.{whole}
+use Rattle.tw_abstract.specs.ReadingLaws.{QuantifiersAreReordered, ReadingIsFilling}
+use Rattle.tw_abstract.specs.Quantifiers.{AreQuantifiers}
+use Rattle.tw_putting.specs.Ready.{IsReady}
+use Rattle.tw_putting.specs.Whole.{whole}
 use Rattle.tw_recon.specs.Hints.{fitted}
 use Rattle.tw_recon.specs.Reading.{IsBodyReadAs}
 use Rattle.tw_recon.specs.Reconstruction.{IsMade}

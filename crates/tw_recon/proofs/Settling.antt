@@ -3,35 +3,37 @@ use Rattle.std.proofs.Common.{◌≡◌, ℕ, zero, suc, ◌≤◌, List, [], �
 use Rattle.std.specs.Prelude.{slice_get}
 use Rattle.lf.specs.Entries.{Body, Entry, IsCanonicalSignature, declare_constant, declare_definition, declare_family, signature_of}
 use Rattle.lf.specs.Subordination.{Member}
-use Rattle.lf.specs.Syntax.{Kind, LfType, Skeleton, Term, kind_pi, metavariable, root, star}
+use Rattle.lf.specs.Syntax.{Kind, LfType, Skeleton, Term, kind_pi, star}
 use Rattle.lf.specs.Typing.{IsSignature, Signature}
 use Rattle.lf.proofs.Entries.{canonical_is_signature}
-use Rattle.unification.specs.Lists.{followed}
-use Rattle.unification.specs.Offering.{MetavariablesInLocals}
-use Rattle.unification.specs.OpenTyping.{Declares, MetavariablesInType, OpenHasType, OpenIsType, skeletons_of}
-use Rattle.unification.specs.PartialInstance.{IsFilling, IsTypedStore}
-use Rattle.unification.specs.Putting.{Unbound, binders}
-use Rattle.unification.specs.Solving.{IsWellFormed, Solved}
-use Rattle.unification.specs.Steps.{Run, Step, bind, drop_equal, equal_heads, next_equation, no_step, open_lambdas, prune_both, prune_inside, put_bindings, store_at, then_run, turn_sides}
-use Rattle.unification.specs.Unifiers.{Equation, Store}
-use Rattle.unification.specs.Patterns.{pattern}
-use Rattle.unification.specs.Pruning.{PrunedType, pruned_store}
-use Rattle.unification.specs.Scope.{IsScoped}
-use Rattle.unification.proofs.Grow.{OpenHasType-grow, OpenIsType-grow}
-use Rattle.unification.proofs.PruneTyped.{pruned_fewer}
-use Rattle.unification.proofs.Runs.{step_form}
-use Rattle.unification.proofs.Sound.{restrict, restrict_same}
-use Rattle.unification.proofs.StepTyping.{step_fewer}
-use Rattle.unification.proofs.Steps.{step_keeps_unifiers}
-use Rattle.elaboration.specs.Elaboration.{NewFrees, next_free, no_frees}
-use Rattle.elaboration.specs.Kinds.{MetavariablesInKind, OpenIsKind}
-use Rattle.elaboration.specs.Principal.{WrittenBody, written_constant, written_definition, written_definition_of, written_family}
-use Rattle.elaboration.specs.PrincipalLaws.{ElaboratesBody}
-use Rattle.elaboration.specs.Skeletons.{EquationsHaveSkeletons, IsNumbered, LocalHasSkeletons, StateHasSkeletons}
-use Rattle.elaboration.specs.State.{State, nothing_yet, store_of}
-use Rattle.elaboration.proofs.Adds.{adds_metavariable, new_type_adds}
-use Rattle.elaboration.proofs.Made.{elaborated_skeletons, nothing_skeletons, state_scoped}
-use Rattle.elaboration.proofs.Principal.{BodyIsMade, body_made}
+use Rattle.lf_unification.specs.Lists.{followed}
+use Rattle.lf_unification.specs.Offering.{MetavariablesInLocals}
+use Rattle.lf_unification.specs.OpenTyping.{Declares, MetavariablesInType, OpenHasType, OpenIsType}
+use Rattle.lf_unification.specs.PartialInstance.{IsFilling, IsTypedStore}
+use Rattle.lf_unification.specs.Putting.{PutsInType, binders}
+use Rattle.lf_unification.specs.Renewing.{renewed_store}
+use Rattle.lf_unification.specs.Solving.{IsWellFormed, Solved}
+use Rattle.lf_unification.specs.Steps.{Run, Step, bind, drop_equal, equal_heads, next_equation, no_step, on_pattern, open_lambdas, prune_both, prune_inside, put_bindings, renew, store_at, then_run}
+use Rattle.lf_unification.specs.Unifiers.{Equation, Store}
+use Rattle.lf_unification.specs.Pruning.{PrunedType, pruned_store}
+use Rattle.lf_unification.specs.Scope.{IsScoped}
+use Rattle.lf_unification.proofs.Declare.{fewer as declared_fewer, kept_values}
+use Rattle.lf_unification.proofs.Grow.{OpenHasType-grow, OpenIsType-grow}
+use Rattle.lf_unification.proofs.PruneTyped.{pruned_fewer}
+use Rattle.lf_unification.proofs.Renew.{renewed_in}
+use Rattle.lf_unification.proofs.Runs.{step_form}
+use Rattle.lf_unification.proofs.Sound.{restrict, restrict_same}
+use Rattle.lf_unification.proofs.StepTyping.{step_fewer}
+use Rattle.lf_unification.proofs.Steps.{step_keeps_unifiers}
+use Rattle.lf_elaboration.specs.Elaboration.{NewFrees, next_free, no_frees}
+use Rattle.lf_elaboration.specs.Kinds.{MetavariablesInKind, OpenIsKind}
+use Rattle.lf_elaboration.specs.Principal.{WrittenBody, written_constant, written_definition, written_definition_of, written_family}
+use Rattle.lf_elaboration.specs.PrincipalLaws.{ElaboratesBody}
+use Rattle.lf_elaboration.specs.Skeletons.{EquationsHaveSkeletons, IsNumbered, LocalHasSkeletons, StateHasSkeletons}
+use Rattle.lf_elaboration.specs.State.{State, nothing_yet, store_of}
+use Rattle.lf_elaboration.proofs.Adds.{adds_metavariable, new_type_adds}
+use Rattle.lf_elaboration.proofs.Made.{elaborated_skeletons, nothing_skeletons, state_scoped}
+use Rattle.lf_elaboration.proofs.Principal.{BodyIsMade, body_made}
 use Rattle.tw_elaborate.specs.Bodies.{IsElaborated, open_body_of}
 use Rattle.tw_elaborate.specs.Fresh.{OnlyDeclares, declares_nothing, declares_one}
 use Rattle.tw_elaborate.specs.View.{made, numbers_of}
@@ -40,9 +42,9 @@ use Rattle.tw_metas.specs.State as metas
 use Rattle.tw_metas.specs.State.{Story, joined}
 use Rattle.tw_metas.specs.View.{equation_of}
 use Rattle.tw_putting.specs.Stores.{bindings_from, types_of}
-use Rattle.tw_readoff.specs.Reading.{IsSettled}
-use Rattle.tw_unify.specs.Ready.{IsReady, LocalsBySkeletons, TypesBySkeletons}
-use Rattle.tw_unify.specs.View.{AreDistinct, IsConsistent, whole}
+use Rattle.tw_abstract.specs.Reading.{IsSettled}
+use Rattle.tw_putting.specs.Ready.{IsReady, LocalsBySkeletons, TypesBySkeletons}
+use Rattle.tw_putting.specs.Whole.{AreDistinct, IsConsistent, whole}
 use Rattle.tw_unify.proofs.Orders.{followed_nothing}
 use Rattle.tw_recon.specs.Reading.{BodyStands, KindStands}
 use Rattle.tw_recon.specs.Reconstruction.{IsMade}
@@ -169,26 +171,31 @@ module _ (Σ : Signature) (ok : IsSignature Σ) where
   abbrev pub HasPart : Store → Store → Type 0
   HasPart s s' = (β' : ℕ → Option Term) → IsFilling Σ [] s' β' → (β : ℕ → Option Term) × IsFilling Σ [] s β × ((m : ℕ) → Declares s.metavariables m → β m ≡ β' m)
 
-  part_of_pruned : (s : Store) (n d n' : ℕ) (p : PrunedType s.metavariables n d) → IsScoped s.metavariables n' s.bindings s.equations → IsTypedStore Σ [] (Unbound s.bindings) s → HasPart s (pruned_store s n d p n')
+  part_of_pruned : (s : Store) (n d n' : ℕ) (p : PrunedType s.metavariables n d) → IsScoped s.metavariables n' s.bindings s.equations → IsTypedStore Σ [] s → HasPart s (pruned_store s n d p n')
   part_of_pruned s n d n' p scoped w β' u = (restrict s.metavariables β', pruned_fewer Σ ok s n d n' p scoped w β' u, λ m e. sym (restrict_same s.metavariables β' m e.0 e.1))
 
-  part_of_step : {s s' : Store} → IsWellFormed Σ s → Step Σ [] s s' → HasPart s s'
+  part_of_renewed : (s : Store) (m n : ℕ) (A A' : LfType) → s.metavariables m ≡ Some A → PutsInType s.metavariables s.bindings 0 A A' → IsScoped s.metavariables n s.bindings s.equations → HasPart s (renewed_store s m A A' n)
+  part_of_renewed s m n A A' d p scoped β' (F, v, ((e, r), q)) =
+      let within : MetavariablesInType (Declares s.metavariables) A' = renewed_in Σ ok s m n A A' d p scoped in
+      (restrict s.metavariables β', declared_fewer Σ ok s n scoped A' within β' (F, v, (r, q)), λ k g. sym (kept_values Σ ok s n scoped A' within β' k g))
+
+  part_of_step : {s s' : Store} → IsWellFormed Σ s → Step Σ s s' → HasPart s s'
   part_of_step w (next_equation es e fs) β' u = (β', step_fewer Σ ok w.typed (next_equation es e fs) (λ x. x) β' u, λ m e. refl)
-  part_of_step w turn_sides β' u = (β', step_fewer Σ ok w.typed turn_sides (λ x. x) β' u, λ m e. refl)
   part_of_step w (put_bindings f g) β' u = (β', step_fewer Σ ok w.typed (put_bindings f g) (λ x. x) β' u, λ m e. refl)
   part_of_step w drop_equal β' u = (β', step_fewer Σ ok w.typed drop_equal (λ x. x) β' u, λ m e. refl)
   part_of_step w open_lambdas β' u = (β', step_fewer Σ ok w.typed open_lambdas (λ x. x) β' u, λ m e. refl)
   part_of_step w (equal_heads h A r t) β' u = (β', step_fewer Σ ok w.typed (equal_heads h A r t) (λ x. x) β' u, λ m e. refl)
-  part_of_step w (bind m xs d u i p b) β' v = (β', step_fewer Σ ok w.typed (bind m xs d u i p b) (λ x. x) β' v, λ m e. refl)
-  part_of_step w (prune_inside {Ψ = Ψ} {bs = bs} {es = es} {D = D} {N = N} {C = C} m xs d p c u n g x) β' v = part_of_pruned (store_at Ψ bs es D (root (metavariable m) (pattern (skeletons_of Ψ m) xs)) N C) c.drop.m c.dropped n c.pruned x w.typed β' v
-  part_of_step w (prune_both {Ψ = Ψ} {bs = bs} {es = es} {D = D} {N = N} {C = C} m xs d p c u n g x) β' v = part_of_pruned (store_at Ψ bs es D (root (metavariable m) (pattern (skeletons_of Ψ m) xs)) N C) m c.dropped n c.pruned x w.typed β' v
+  part_of_step w (bind side D m xs N C d u p b) β' v = (β', step_fewer Σ ok w.typed (bind side D m xs N C d u p b) (λ x. x) β' v, λ m e. refl)
+  part_of_step w (prune_inside {Ψ = Ψ} {bs = bs} {es = es} side D m xs N C d p c u n x) β' v = part_of_pruned (store_at side Ψ bs es D (on_pattern Ψ m xs) N C) c.drop.m c.dropped n c.pruned x w.typed β' v
+  part_of_step w (prune_both {Ψ = Ψ} {bs = bs} {es = es} side D m xs N C d p c u n x) β' v = part_of_pruned (store_at side Ψ bs es D (on_pattern Ψ m xs) N C) m c.dropped n c.pruned x w.typed β' v
+  part_of_step w (renew {Ψ = Ψ} {bs = bs} {es = es} m A A' d u b p n x) β' v = part_of_renewed (record { metavariables = Ψ; bindings = bs; equations = es }) m n A A' d p x β' v
 
-  pub part_of_run : {s s' : Store} → IsWellFormed Σ s → Run Σ [] s s' → HasPart s s'
+  pub part_of_run : {s s' : Store} → IsWellFormed Σ s → Run Σ s s' → HasPart s s'
   part_of_run w no_step β' u = (β', u, λ m e. refl)
   part_of_run w (then_run {s = s} {s' = s'} {s'' = s''} p r) β' u =
       let (γ, v, h) = part_of_run (step_form Σ ok w p) r β' u in
       let (β, x, g) = part_of_step w p γ v in
-      (β, x, λ m e. g m e ∙ h m (e.0, (step_keeps_unifiers Σ ok [] w.typed p).grows m e.0 e.1))
+      (β, x, λ m e. g m e ∙ h m (e.0, (step_keeps_unifiers Σ ok w.typed p).grows m e.0 e.1))
 
 -- What elaboration typed up to the fillings of its store is typed up to those of the solved one.
 module _ (es : List Entry) (canonical : IsCanonicalSignature es) (ts : List Skeleton) (frees : List ℕ) (s s' : State) (f : NewFrees es ts nothing_yet s frees) (w : WrittenBody) (b : Body) (x : ElaboratesBody es frees w s s' b) (after : metas.State) (z : Solved (signature_of es) (store_of s') (whole [] after)) where

@@ -1,17 +1,17 @@
 -- What the values of the program stand for between two steps.
 use Rattle.std.specs.Prelude.{ℕ, List, [], length}
 use Rattle.lf.specs.Entries.{Body, Entry, signature_of}
-use Rattle.elaboration.specs.Principal.{WrittenBody}
-use Rattle.elaboration.specs.Sites.{AreFreesInOrder, AreSites}
-use Rattle.elaboration.specs.State.{State, store_of}
-use Rattle.unification.specs.Solving.{Left, Solved}
+use Rattle.lf_elaboration.specs.Principal.{WrittenBody}
+use Rattle.lf_elaboration.specs.Sites.{AreFreesInOrder, AreSites}
+use Rattle.lf_elaboration.specs.State.{State, store_of}
+use Rattle.lf_unification.specs.Solving.{Left, Solved}
 use Rattle.tw_approx.specs.Answer.{Rows, rows_of}
 use Rattle.tw_elaborate.specs.Bodies.{IsElaborated, open_body_of}
 use Rattle.tw_elaborate.specs.View.{numbers_of}
 use Rattle.tw_metas.specs.State as metas
 use Rattle.tw_resolve.specs.Resolved.{skeletons_of}
-use Rattle.tw_unify.specs.Ready.{IsReady}
-use Rattle.tw_unify.specs.View.{whole}
+use Rattle.tw_putting.specs.Ready.{IsReady}
+use Rattle.tw_putting.specs.Whole.{whole}
 use Rattle.tw_written.specs.View.{written_body_of}
 use Rattle.tw_recon.specs.Reconstruction.{IsMade}
 use Rattle.tw_recon.specs.declared.begun.Begun.{Begun}

@@ -5,12 +5,12 @@ use Rattle.lf.specs.Depth.{depth, depth_limit, kind_depth, type_depth}
 use Rattle.lf.specs.Entries.{Body, Entry, declare_constant, declare_definition, declare_family, signature_of}
 use Rattle.lf.specs.Syntax.{LfType}
 use Rattle.lf.specs.Typing.{Signature}
-use Rattle.elaboration.specs.Principal.{Completion, IsCompletion, WrittenBody, body_over}
-use Rattle.elaboration.specs.Sites.{AreFreesInOrder, AreSites}
-use Rattle.elaboration.specs.State.{State, store_of}
-use Rattle.unification.specs.DeepEquations.{AreDeep}
-use Rattle.unification.specs.Solving.{Left, Solved}
-use Rattle.unification.specs.Unifiers.{Equation}
+use Rattle.lf_elaboration.specs.Principal.{Completion, IsCompletion, WrittenBody, body_over}
+use Rattle.lf_elaboration.specs.Sites.{AreFreesInOrder, AreSites}
+use Rattle.lf_elaboration.specs.State.{State, store_of}
+use Rattle.lf_unification.specs.DeepEquations.{AreDeep}
+use Rattle.lf_unification.specs.Solving.{Left, Solved}
+use Rattle.lf_unification.specs.Unifiers.{Equation}
 use Rattle.tw_approx.specs.Answer as skeletons
 use Rattle.tw_approx.specs.Answer.{Rows}
 use Rattle.tw_approx.specs.declared.fault.ApproxFault.TheVariants as approx
@@ -18,15 +18,15 @@ use Rattle.tw_elaborate.specs.Bodies.{FromNothingDeep}
 use Rattle.tw_metas.specs.State as metas
 use Rattle.tw_metas.specs.View.{equation_of}
 use Rattle.tw_parse.specs.Syntax.{Declaration}
-use Rattle.tw_readoff.specs.Causes.{BlamesQuantifiers}
-use Rattle.tw_readoff.specs.declared.fault.ReadFault.{ReadFault}
-use Rattle.tw_readoff.specs.declared.fault.ReadFault.TheVariants as reading
+use Rattle.tw_abstract.specs.Causes.{BlamesQuantifiers}
+use Rattle.tw_hered.specs.declared.fault.HeredFault.{HeredFault}
+use Rattle.tw_hered.specs.declared.fault.HeredFault.TheVariants as reading
 use Rattle.tw_resolve.specs.Resolved.{skeletons_of}
-use Rattle.tw_unify.specs.Named.{shown_type_of}
+use Rattle.tw_metas.specs.Named.{shown_type_of}
 use Rattle.tw_unify.specs.Showing.{BlamesShown, Shows}
-use Rattle.tw_unify.specs.View.{IsConsistent, whole}
+use Rattle.tw_putting.specs.Whole.{IsConsistent, whole}
 use Rattle.tw_unify.specs.declared.fault.UnifyFault.TheVariants as unify
-use Rattle.tw_unify.specs.declared.left.LeftEquation.{LeftEquation}
+use Rattle.tw_metas.specs.declared.left.LeftEquation.{LeftEquation}
 use Rattle.tw_recon.specs.Names.{AreNames, FreeIsDeep, Naming, named_from}
 use Rattle.tw_recon.specs.Reading.{BodyIsDeep}
 use Rattle.tw_recon.specs.Reconstruction.{IsCompletedTo, IsMade, IsWrittenAs}
@@ -61,7 +61,7 @@ module _ (es : List Entry) (rows : Rows) (w : WrittenBody) where
   -- Where something deeper than 4,096 is reached: in elaboration, in its equations, in the value of a free variable, in the equation that is left, in what is read off, or in what is completed.
   pub data ReachesDeep : Type 0 where
     in_elaboration : FromNothingDeep es (skeletons_of rows) w → ReachesDeep
-    in_equations : {frees : List ℕ} {s : State} {b : Body} → IsMade es (skeletons_of rows) w frees s b → AreDeep depth_limit (signature_of es) [] (store_of s) → ReachesDeep
+    in_equations : {frees : List ℕ} {s : State} {b : Body} → IsMade es (skeletons_of rows) w frees s b → AreDeep depth_limit (signature_of es) (store_of s) → ReachesDeep
     in_frees : {frees : List ℕ} {s : State} {b : Body} (after : metas.State) → IsConsistent after →
         IsMade es (skeletons_of rows) w frees s b → Solved (signature_of es) (store_of s) (whole [] after) ⊎ Left (signature_of es) (store_of s) (whole [] after) → FreeIsDeep after frees → ReachesDeep
     in_left : {frees order : List ℕ} {s : State} {b : Body} (after : metas.State) (e : Equation) (naming : Naming) → IsConsistent after →
@@ -98,6 +98,6 @@ HasCause es d TooDeep = DeclarationStops es d TooDeep
 HasCause es d NoMemory = Unit {0}
 
 -- a fault of reading off
-abbrev pub of_reading : ReadFault → ReconFault
+abbrev pub of_reading : HeredFault → ReconFault
 of_reading reading.TooDeep = TooDeep
 of_reading reading.NoMemory = NoMemory

@@ -4,7 +4,7 @@ use Rattle.lf.specs.Eta.{eta_long}
 use Rattle.lf.specs.Subordination.{Member}
 use Rattle.lf.specs.Syntax.{Skeleton, Term, metavariable}
 use Rattle.tw_approx.specs.Answer.{Rows}
-use Rattle.tw_generalize.specs.Positions.{index}
+use Rattle.tw_abstract.specs.Positions.{index}
 use Rattle.tw_metas.specs.State.{State, joined, value_of}
 use Rattle.tw_putting.specs.Stores.{Puts, PutsDeep}
 

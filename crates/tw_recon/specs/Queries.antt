@@ -1,31 +1,19 @@
 -- What a query is reconstructed to.
-use Rattle.std.specs.Prelude.{◌≡◌, ℕ, List, Option, Some, reverse, ◌⊎◌}
+use Rattle.std.specs.Prelude.{◌≡◌, List, Some, reverse, ◌⊎◌}
 use Rattle.lf.specs.Entries.{Entry, declare_constant}
-use Rattle.lf.specs.Syntax.{LfType, Skeleton}
-use Rattle.elaboration.specs.Principal.{WrittenBody}
+use Rattle.lf.specs.Syntax.{Skeleton}
+use Rattle.lf_elaboration.specs.Principal.{WrittenBody}
 use Rattle.tw_approx.specs.Answer as skeletons
 use Rattle.tw_approx.specs.Answer.{HasQuerySkeletons, IsQueryOfObjects, Rows}
 use Rattle.tw_approx.specs.declared.fault.ApproxFault.TheVariants as approx
 use Rattle.tw_parse.specs.Queries.{Query}
 use Rattle.tw_parse.specs.Syntax.{Term}
 use Rattle.tw_resolve.specs.Resolved.{resolved_goal}
-use Rattle.tw_terms.specs.View.{type_of}
+use Rattle.tw_signature.specs.Goal.{Goal}
 use Rattle.tw_recon.specs.Causes.{Stops}
 use Rattle.tw_recon.specs.Reconstruction.{IsCompletedTo}
 use Rattle.tw_recon.specs.declared.fault.ReconFault.{ReconFault}
 use Rattle.tw_recon.specs.declared.fault.ReconFault.TheVariants.{Leftover, Loose, Mismatch, NoMemory, TooDeep, TypeLevel, Unknown}
-use Rattle.tw_recon.specs.declared.query.Goal.{Goal as AskedGoal}
-
--- the variables of a query, the newest in front, with their names; those that are shown, in the order of the text; the name of the proof; and the goal over the variables
-pub record Goal : Type 0 where
-  pub variables : List LfType
-  pub names : List (Option (List ℕ))
-  pub shown : List ℕ
-  pub proof : Option (List ℕ)
-  pub goal : LfType
-
-abbrev pub goal_of : AskedGoal → Goal
-goal_of g = record { variables = g.variables; names = g.names.items; shown = g.shown.items; proof = g.proof; goal = type_of g.goal }
 
 -- What isn't written has skeletons in just one way, with these rows for the free variables; told these and with its names resolved the goal is written so.
 pub record IsGoalWrittenAs (es : List Entry) (A : Term) (rows : Rows) (w : WrittenBody) : Type 0 where

@@ -4,7 +4,7 @@ use Rattle.lf.specs.Entries.{Body, declare_constant, declare_definition, declare
 use Rattle.lf.specs.Syntax.{Kind, LfType, kind_pi, star}
 use Rattle.tw_metas.specs.State.{State}
 use Rattle.tw_putting.specs.Stores.{PutsDeep, PutsDeepType}
-use Rattle.tw_readoff.specs.Reading.{IsReadAs, IsTypeReadAs, TermStands, TypeStands}
+use Rattle.tw_abstract.specs.Reading.{IsReadAs, IsTypeReadAs, TermStands, TypeStands}
 
 -- `ms` are the quantifiers, the outermost first, and k counts the binders that were passed
 module _ (s : State) (ms : List ℕ) where

@@ -2,20 +2,20 @@
 use Rattle.std.specs.Prelude.{◌≡◌, ℕ, zero, List, [], ◌++◌, Option, None, Some, codes, length, ◌⊎◌}
 use Rattle.lf.specs.Entries.{Body, Entry, body_quantifiers, signature_of}
 use Rattle.lf.specs.Syntax.{LfType, Skeleton}
-use Rattle.elaboration.specs.Completions.{FreeValue}
-use Rattle.elaboration.specs.Elaboration.{NewFrees}
-use Rattle.elaboration.specs.Principal.{IsPrincipal, WrittenBody, body_over}
-use Rattle.elaboration.specs.PrincipalLaws.{ElaboratesBody}
-use Rattle.elaboration.specs.SiteLaws.{total}
-use Rattle.elaboration.specs.Sites.{AreFreesInOrder, AreSites, spots}
-use Rattle.elaboration.specs.State.{State, nothing_yet, store_of}
-use Rattle.unification.specs.Solving.{Solved}
+use Rattle.lf_elaboration.specs.Completions.{FreeValue}
+use Rattle.lf_elaboration.specs.Elaboration.{NewFrees}
+use Rattle.lf_elaboration.specs.Principal.{IsPrincipal, WrittenBody, body_over}
+use Rattle.lf_elaboration.specs.PrincipalLaws.{ElaboratesBody}
+use Rattle.lf_elaboration.specs.SiteLaws.{total}
+use Rattle.lf_elaboration.specs.Sites.{AreFreesInOrder, AreSites, spots}
+use Rattle.lf_elaboration.specs.State.{State, nothing_yet, store_of}
+use Rattle.lf_unification.specs.Solving.{Solved}
 use Rattle.tw_approx.specs.Answer.{HasSkeletons, IsOfObjects, Rows}
 use Rattle.tw_metas.specs.State as metas
 use Rattle.tw_parse.specs.Syntax.{Declaration, declare, define, give, prefer}
-use Rattle.tw_readoff.specs.Quantifiers.{AreQuantifiers}
+use Rattle.tw_abstract.specs.Quantifiers.{AreQuantifiers}
 use Rattle.tw_resolve.specs.Resolved.{resolved_body, skeletons_of}
-use Rattle.tw_unify.specs.View.{IsConsistent, whole}
+use Rattle.tw_putting.specs.Whole.{IsConsistent, whole}
 use Rattle.tw_recon.specs.Hints.{fitted, written_hints}
 use Rattle.tw_recon.specs.Names.{AreNames, Naming, names_of, variables_of}
 use Rattle.tw_recon.specs.Reading.{IsBodyReadAs}

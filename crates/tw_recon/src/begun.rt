@@ -15,7 +15,7 @@ ghost use Rattle.tw_recon.specs.Reconstruction.{IsWrittenAs};
 use crate::fault::ReconFault;
 use std::alloc::{AllocError, Global};
 use tw_approx::{Approx, ApproxFault, Row, approximate};
-use tw_elaborate::{ElaborateFault, Elaborated, elaborate};
+use tw_elaborate::{Elaborated, HeredFault, elaborate};
 use tw_parse::ExtDecl;
 use tw_resolve::resolve;
 use tw_signature::Signature;
@@ -71,8 +71,8 @@ pub fn begin(alloc: Global, signature: &Signature, told: Told) -> Result<Begun, 
             written,
             elaborated,
         }),
-        Err(ElaborateFault::TooDeep) => Err(ReconFault::TooDeep),
-        Err(ElaborateFault::NoMemory) => Err(ReconFault::NoMemory),
+        Err(HeredFault::TooDeep) => Err(ReconFault::TooDeep),
+        Err(HeredFault::NoMemory) => Err(ReconFault::NoMemory),
     }
 }
 

@@ -4,13 +4,14 @@ ghost use Rattle.tw_elaborate.specs.Bodies.{open_body_of};
 ghost use Rattle.tw_elaborate.specs.View.{open_kind_of};
 ghost use Rattle.tw_signature.specs.View.{body_of};
 ghost use Rattle.tw_terms.specs.View.{kind_of, type_of};
-ghost use Rattle.tw_readoff.specs.Quantifiers.{AreQuantifiers};
+ghost use Rattle.tw_abstract.specs.Quantifiers.{AreQuantifiers};
 ghost use Rattle.tw_recon.specs.Reading.{BodyIsDeep, BodyStands, IsBodyReadAs, IsKindReadAs, KindIsDeep, KindStands, kind_of_types};
 
 use std::alloc::{AllocError, Global};
+use tw_abstract::{Quantifiers, read_term, read_type};
 use tw_elaborate::{OpenBody, OpenKind};
+use tw_hered::HeredFault;
 use tw_metas::Store;
-use tw_readoff::{Quantifiers, ReadFault, read_term, read_type};
 use tw_signature::Body;
 use tw_terms::{Kind, OpenTy, Ty};
 
@@ -20,11 +21,11 @@ pub fn read_body(
     store: &Store,
     quantifiers: &Quantifiers,
     body: &OpenBody,
-) -> Result<Body, ReadFault>
+) -> Result<Body, HeredFault>
     requires quantifiers { (sites : List ℕ) × AreQuantifiers store.now.now sites quantifiers.now.positions quantifiers.now.context }
     requires stands { BodyStands store.now.now (open_body_of body.now) }
     ensures read { IfOk result (λ b. IsBodyReadAs store.now.now quantifiers.now.positions (open_body_of body.now) (body_of b)) }
-    ensures too_deep { IsErrOf result ReadFault.TooDeep → BodyIsDeep store.now.now (open_body_of body.now) }
+    ensures too_deep { IsErrOf result HeredFault.TooDeep → BodyIsDeep store.now.now (open_body_of body.now) }
 {
     match body {
         OpenBody::Family(kind) => Ok(Body::Family(read_kind(alloc, store, quantifiers, kind)?)),
@@ -47,11 +48,11 @@ fn read_kind(
     store: &Store,
     quantifiers: &Quantifiers,
     kind: &OpenKind,
-) -> Result<Kind, ReadFault>
+) -> Result<Kind, HeredFault>
     requires quantifiers { (sites : List ℕ) × AreQuantifiers store.now.now sites quantifiers.now.positions quantifiers.now.context }
     requires stands { KindStands store.now.now 0 (open_kind_of kind.now) }
     ensures read { IfOk result (λ k. IsKindReadAs store.now.now quantifiers.now.positions 0 (open_kind_of kind.now) (kind_of k)) }
-    ensures too_deep { IsErrOf result ReadFault.TooDeep → KindIsDeep store.now.now 0 (open_kind_of kind.now) }
+    ensures too_deep { IsErrOf result HeredFault.TooDeep → KindIsDeep store.now.now 0 (open_kind_of kind.now) }
 {
     let mut domains = Vec::new(alloc);
     let mut rest = kind;

@@ -1,9 +1,9 @@
 //! Types, terms and kinds closed over a context.
 ghost use Rattle.std.specs.Prelude.{◌≡◌, IfOk};
 ghost use Rattle.lf.specs.Syntax.{kind_pi};
-ghost use Rattle.elaboration.specs.Kinds.{kind_over};
-ghost use Rattle.elaboration.specs.Principal.{body_over};
-ghost use Rattle.unification.specs.Offering.{lambda_over, pi_over};
+ghost use Rattle.lf_elaboration.specs.Kinds.{kind_over};
+ghost use Rattle.lf_elaboration.specs.Principal.{body_over};
+ghost use Rattle.lf_unification.specs.Offering.{lambda_over, pi_over};
 ghost use Rattle.tw_signature.specs.View.{body_of};
 ghost use Rattle.tw_terms.specs.View.{kind_of, term_of, type_of};
 

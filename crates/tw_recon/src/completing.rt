@@ -2,7 +2,7 @@
 ghost use Rattle.std.specs.Prelude.{◌≡◌, IfErr, IfOk};
 ghost use Rattle.lf.specs.Entries.{IsCanonicalSignature};
 ghost use Rattle.tw_approx.specs.Answer.{rows_of};
-ghost use Rattle.tw_readoff.specs.Reading.{IsSettled};
+ghost use Rattle.tw_abstract.specs.Reading.{IsSettled};
 ghost use Rattle.tw_signature.specs.View.{body_of};
 ghost use Rattle.tw_written.specs.View.{written_body_of};
 ghost use Rattle.tw_recon.specs.Begun.{IsSolution};
@@ -15,8 +15,9 @@ use crate::fault::ReconFault;
 use crate::names::{hints, names, shown};
 use crate::solving::{Solution, settle};
 use std::alloc::Global;
+use tw_abstract::read_quantifiers;
 use tw_fixity::Name;
-use tw_readoff::{ReadFault, read_quantifiers};
+use tw_hered::HeredFault;
 use tw_signature::{Body, Signature};
 use tw_terms::Context;
 
@@ -90,11 +91,11 @@ fn read(alloc: Global, signature: &Signature, solution: &Solution) -> Result<Com
 }
 
 /// A fault of reading off.
-fn of_reading(fault: ReadFault) -> ReconFault
+fn of_reading(fault: HeredFault) -> ReconFault
     ensures { result ≡ of_reading fault }
 {
     match fault {
-        ReadFault::TooDeep => ReconFault::TooDeep,
-        ReadFault::NoMemory => ReconFault::NoMemory,
+        HeredFault::TooDeep => ReconFault::TooDeep,
+        HeredFault::NoMemory => ReconFault::NoMemory,
     }
 }

@@ -2,7 +2,7 @@
 ghost use Rattle.std.specs.Prelude.{◌≡◌, ◌++◌, ◌⊎◌, IfErr, IfOk, IsErrOf, length};
 ghost use Rattle.lf.specs.Depth.{depth_limit};
 ghost use Rattle.lf.specs.Entries.{body_quantifiers, signature_of, BodyIsTyped, BodyIsWithin};
-ghost use Rattle.elaboration.specs.Principal.{body_over};
+ghost use Rattle.lf_elaboration.specs.Principal.{body_over};
 ghost use Rattle.tw_parse.specs.View.{declaration_of};
 ghost use Rattle.tw_signature.specs.View.{body_of, entry_of};
 ghost use Rattle.tw_recon.specs.Causes.{BodyReachesDeep};
@@ -19,13 +19,14 @@ use tw_parse::ExtDecl;
 use tw_signature::{Entry, Signature};
 use tw_terms::Context;
 
-/// The entry: what is completed is closed over its implicit quantifiers, and the kernel says yes to it.
+/// The entry: what is completed, and typed, is closed over its implicit quantifiers, and the kernel says yes to it.
 pub fn entry(
     alloc: Global,
     signature: &Signature,
     decl: &ExtDecl,
     completed: Completed,
 ) -> Result<Entry, ReconFault>
+    requires { BodyIsTyped (signature_of signature.now) (body_over completed.quantifiers (body_of completed.body)) }
     ensures entry { IfOk result (λ e. IsEntryOf (declaration_of decl.now) completed.quantifiers completed.hints.items (body_of completed.body) (entry_of e)) }
     ensures typed { IfOk result (λ e. BodyIsTyped (signature_of signature.now) (body_of e.body)) }
     ensures within { IfOk result (λ e. BodyIsWithin depth_limit (body_of e.body)) }

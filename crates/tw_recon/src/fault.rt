@@ -6,7 +6,7 @@ use std::alloc::AllocError;
 use thiserror::Error;
 use tw_fixity::Name;
 use tw_lexer::Place;
-use tw_unify::LeftEquation;
+use tw_metas::LeftEquation;
 
 /// Why a declaration isn't reconstructed.
 #[derive(Debug, Drop, Error)]

@@ -12,13 +12,11 @@ use crate::fault::ReconFault;
 use std::alloc::Global;
 use tw_kernel::{Verdict, check_kind, check_term, check_type};
 use tw_signature::{Body, Signature};
-use tw_terms::{Context, Kind, Term, Ty};
+use tw_terms::{Context, DEPTH_LIMIT, Kind, Term, Ty};
 
-/// The greatest depth of a term, type or kind.
-const DEPTH_LIMIT: u32 = 4096;
-
-/// Whether the body may stand over the signature. It is typed, since it is a principal completion: another answer of the kernel counts as want of memory.
+/// Whether the kernel says yes to a typed body: it may say that it is too deep.
 pub fn approve(alloc: Global, signature: &Signature, body: &Body) -> Result<(), ReconFault>
+    requires { BodyIsTyped (signature_of signature.now) (body_of body.now) }
     ensures typed { OnOk result (BodyIsTyped (signature_of signature.now) (body_of body.now)) }
     ensures within { OnOk result (BodyIsWithin depth_limit (body_of body.now)) }
     ensures fault { IfErr result (λ f. (f ≡ ReconFault.TooDeep) ⊎ (f ≡ ReconFault.NoMemory)) }
@@ -35,6 +33,7 @@ pub fn approve(alloc: Global, signature: &Signature, body: &Body) -> Result<(), 
 }
 
 fn approve_kind(alloc: Global, signature: &Signature, kind: &Kind) -> Result<(), ReconFault>
+    requires { IsKind (signature_of signature.now) [] (kind_of kind.now) }
     ensures typed { OnOk result (IsKind (signature_of signature.now) [] (kind_of kind.now)) }
     ensures within { OnOk result (kind_depth (kind_of kind.now) ≤ depth_limit) }
     ensures fault { IfErr result (λ f. (f ≡ ReconFault.TooDeep) ⊎ (f ≡ ReconFault.NoMemory)) }
@@ -47,6 +46,7 @@ fn approve_kind(alloc: Global, signature: &Signature, kind: &Kind) -> Result<(),
 }
 
 fn approve_type(alloc: Global, signature: &Signature, ty: &Ty) -> Result<(), ReconFault>
+    requires { IsType (signature_of signature.now) [] (type_of ty.now) }
     ensures typed { OnOk result (IsType (signature_of signature.now) [] (type_of ty.now)) }
     ensures within { OnOk result (type_depth (type_of ty.now) ≤ depth_limit) }
     ensures fault { IfErr result (λ f. (f ≡ ReconFault.TooDeep) ⊎ (f ≡ ReconFault.NoMemory)) }
@@ -64,7 +64,8 @@ fn approve_term(
     term: &Term,
     ty: &Ty,
 ) -> Result<(), ReconFault>
-    requires { IsType (signature_of signature.now) [] (type_of ty.now) }
+    requires ty { IsType (signature_of signature.now) [] (type_of ty.now) }
+    requires typed { HasType (signature_of signature.now) [] (term_of term.now) (type_of ty.now) }
     ensures typed { OnOk result (HasType (signature_of signature.now) [] (term_of term.now) (type_of ty.now)) }
     ensures within { OnOk result (depth (term_of term.now) ≤ depth_limit) }
     ensures fault { IfErr result (λ f. (f ≡ ReconFault.TooDeep) ⊎ (f ≡ ReconFault.NoMemory)) }
@@ -76,15 +77,16 @@ fn approve_term(
     verdict(check_term(alloc, signature, &Context::new(alloc), term, ty)?)
 }
 
-/// What an answer of the kernel comes to.
+/// What an answer of the kernel to a judgement that holds comes to.
 fn verdict(verdict: Verdict) -> Result<(), ReconFault>
+    requires { verdict ≡ Verdict.IllTyped → ⊥ }
     ensures typed { OnOk result (verdict ≡ Verdict.Typed) }
     ensures fault { IfErr result (λ f. (f ≡ ReconFault.TooDeep) ⊎ (f ≡ ReconFault.NoMemory)) }
     ensures too_deep { IsErrOf result ReconFault.TooDeep → verdict ≡ Verdict.TooDeep }
 {
     match verdict {
         Verdict::Typed => Ok(()),
-        Verdict::IllTyped => Err(ReconFault::NoMemory),
+        Verdict::IllTyped => unreachable!(),
         Verdict::TooDeep => Err(ReconFault::TooDeep),
     }
 }

@@ -1,7 +1,7 @@
 //! The equation that is told where some are left.
 ghost use Rattle.std.specs.Prelude.{◌≡◌, IfOk, length, map};
 ghost use Rattle.lf.specs.Entries.{IsCanonicalSignature};
-ghost use Rattle.elaboration.specs.Sites.{AreFreesInOrder};
+ghost use Rattle.lf_elaboration.specs.Sites.{AreFreesInOrder};
 ghost use Rattle.tw_approx.specs.Answer.{rows_of};
 ghost use Rattle.tw_elaborate.specs.View.{numbers_of};
 ghost use Rattle.tw_written.specs.View.{written_body_of};
@@ -12,8 +12,8 @@ use crate::fault::ReconFault;
 use crate::names::{named, names};
 use std::alloc::Global;
 use tw_approx::Row;
+use tw_hered::HeredFault;
 use tw_metas::Store;
-use tw_readoff::ReadFault;
 use tw_signature::Signature;
 use tw_terms::MetaId;
 use tw_unify::{UnifyFault, left_equation};
@@ -37,8 +37,8 @@ pub fn leftover(
 {
     let naming = match names(alloc, store, rows, frees, order) {
         Ok(naming) => naming,
-        Err(ReadFault::TooDeep) => return ReconFault::TooDeep,
-        Err(ReadFault::NoMemory) => return ReconFault::NoMemory,
+        Err(HeredFault::TooDeep) => return ReconFault::TooDeep,
+        Err(HeredFault::NoMemory) => return ReconFault::NoMemory,
     };
     let Ok(named) = named(alloc, &naming.names) else {
         return ReconFault::NoMemory;

@@ -1,7 +1,7 @@
 //! Reconstruction: what a declaration leaves out is completed in the most general way.
 //!
 //! The passes: the skeletons of what isn't written (`tw_approx`), names (`tw_resolve`), metavariables and equations (`tw_elaborate`), where these stand in the
-//! text (`tw_places`), most general bindings (`tw_unify`), and what is read off (`tw_readoff`), which the kernel checks once more.
+//! text (`tw_written`), most general bindings (`tw_unify`), and what is read off (`tw_abstract`), which the kernel checks once more.
 #![tactic(auto)]
 
 #[tactic(auto, using(crate::proofs::Steps::steps))]
@@ -23,5 +23,6 @@ mod reconstruction;
 mod solving;
 
 pub use fault::ReconFault;
-pub use query::{Goal, reconstruct_query};
+pub use query::reconstruct_query;
 pub use reconstruction::reconstruct;
+pub use tw_signature::Goal;

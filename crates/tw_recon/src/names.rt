@@ -5,18 +5,18 @@ ghost use Rattle.tw_approx.specs.Answer.{rows_of};
 ghost use Rattle.tw_elaborate.specs.View.{numbers_of};
 ghost use Rattle.tw_metas.specs.State.{joined, value_of};
 ghost use Rattle.tw_putting.specs.Stores.{PutsDeep};
-ghost use Rattle.tw_readoff.specs.Reading.{IsSettled};
-ghost use Rattle.tw_unify.specs.Named.{named_of};
+ghost use Rattle.tw_abstract.specs.Reading.{IsSettled};
+ghost use Rattle.tw_metas.specs.Named.{named_of};
 ghost use Rattle.tw_recon.specs.Names.{AreNames, FreeIsDeep, IsSole, named_from, names_of, variables_of, with_name, with_sole};
 ghost use Rattle.tw_recon.specs.NamingView.{naming_of};
 
 use std::alloc::{AllocError, Global};
+use tw_abstract::{Positions, sole_metavariable};
 use tw_approx::Row;
 use tw_fixity::Name;
-use tw_generalize::Positions;
+use tw_hered::HeredFault;
 use tw_metas::Store;
 use tw_putting::put_in;
-use tw_readoff::{ReadFault, sole_metavariable};
 use tw_terms::MetaId;
 
 /// The names of metavariables, by number, where those behind the last one have none; and the metavariables that have one, as they got them.
@@ -35,10 +35,10 @@ pub fn names(
     rows: &[Row],
     frees: &[MetaId],
     order: &[usize],
-) -> Result<Naming, ReadFault>
+) -> Result<Naming, HeredFault>
     requires { IsSettled store.now.now }
     ensures named { IfOk result (λ n. AreNames store.now.now (numbers_of frees.now) (rows_of rows.now) order.now (naming_of n)) }
-    ensures too_deep { IsErrOf result ReadFault.TooDeep → FreeIsDeep store.now.now (numbers_of frees.now) }
+    ensures too_deep { IsErrOf result HeredFault.TooDeep → FreeIsDeep store.now.now (numbers_of frees.now) }
 {
     let mut naming = Naming {
         names: Vec::new(alloc),
@@ -64,10 +64,10 @@ fn name_one(
     naming: &mut Naming,
     meta: MetaId,
     name: &Name,
-) -> Result<(), ReadFault>
+) -> Result<(), HeredFault>
     requires { IsSettled store.now.now }
     ensures named { OnOk result ((n : Option ℕ) × IsSole store.now.now meta.0 n × (naming_of naming.new ≡ with_sole n name.now (naming_of naming.old))) }
-    ensures too_deep { IsErrOf result ReadFault.TooDeep → (N : Term) × (value_of store.now.now meta.0 ≡ Some N) × PutsDeep store.now.now 0 N }
+    ensures too_deep { IsErrOf result HeredFault.TooDeep → (N : Term) × (value_of store.now.now meta.0 ≡ Some N) × PutsDeep store.now.now 0 N }
 {
     if let Some(sole) = sole_of(alloc, store, meta)? {
         add_name(alloc, naming, sole, name)?;
@@ -76,10 +76,10 @@ fn name_one(
 }
 
 /// The metavariable that another one stands for alone, with all values put in.
-fn sole_of(alloc: Global, store: &Store, meta: MetaId) -> Result<Option<MetaId>, ReadFault>
+fn sole_of(alloc: Global, store: &Store, meta: MetaId) -> Result<Option<MetaId>, HeredFault>
     requires { IsSettled store.now.now }
     ensures sole { IfOk result (λ o. IsSole store.now.now meta.0 (option_map (λ m. m.0) o)) }
-    ensures too_deep { IsErrOf result ReadFault.TooDeep → (N : Term) × (value_of store.now.now meta.0 ≡ Some N) × PutsDeep store.now.now 0 N }
+    ensures too_deep { IsErrOf result HeredFault.TooDeep → (N : Term) × (value_of store.now.now meta.0 ≡ Some N) × PutsDeep store.now.now 0 N }
 {
     match store.value(meta) {
         None => Ok(Some(meta)),

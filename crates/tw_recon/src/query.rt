@@ -6,30 +6,18 @@ ghost use Rattle.tw_parse.specs.Queries.{query_of};
 ghost use Rattle.tw_parse.specs.Syntax.{Term};
 ghost use Rattle.tw_parse.specs.View.{term_of};
 ghost use Rattle.tw_written.specs.View.{written_body_of};
-ghost use Rattle.tw_recon.specs.Queries.{HasGoalCause, IsGoalOf, IsGoalWrittenAs, goal_of};
+ghost use Rattle.tw_recon.specs.Queries.{HasGoalCause, IsGoalOf, IsGoalWrittenAs};
+ghost use Rattle.tw_signature.specs.Goal.{goal_of};
 
 use crate::begun::Told;
 use crate::completing::{Completed, complete};
 use crate::fault::ReconFault;
-use std::alloc::{AllocError, Global};
+use std::alloc::Global;
 use tw_approx::{Approx, ApproxFault, approximate_query};
-use tw_fixity::Name;
+use tw_fixity::copy_option;
 use tw_parse::ExtQuery;
 use tw_resolve::resolve_goal;
-use tw_signature::{Body, Signature};
-use tw_terms::{Context, Ty};
-
-/// A query after reconstruction: its variables, each with the name of the first free variable of the text that it alone stands for, if there is one; the
-/// variables with names, in the order of the text; the name of the proof, if one is asked for; and the goal over the variables. Variables are numbered from
-/// the newest.
-#[derive(Drop)]
-pub struct Goal {
-    pub variables: Context,
-    pub names: Vec<Option<Name>>,
-    pub shown: Vec<u64>,
-    pub proof: Option<Name>,
-    pub goal: Ty,
-}
+use tw_signature::{Body, Goal, Signature};
 
 /// The goal that a query asks for, with all that it leaves out filled in the most general way.
 pub fn reconstruct_query(
@@ -63,7 +51,7 @@ pub fn reconstruct_query(
         variables: quantifiers,
         names,
         shown,
-        proof: copy_name(alloc, &query.proof)?,
+        proof: copy_option(alloc, &query.proof)?,
         goal,
     })
 }
@@ -96,15 +84,5 @@ fn of_skeletons(fault: ApproxFault) -> ReconFault
         ApproxFault::Clash => ReconFault::Mismatch,
         ApproxFault::Loose => ReconFault::Loose,
         ApproxFault::NoMemory => ReconFault::NoMemory,
-    }
-}
-
-/// An equal name.
-fn copy_name(alloc: Global, name: &Option<Name>) -> Result<Option<Name>, AllocError>
-    ensures { IfOk result (λ n. n ≡ name.now) }
-{
-    match name {
-        Some(name) => Ok(Some(name.copy(alloc)?)),
-        None => Ok(None),
     }
 }

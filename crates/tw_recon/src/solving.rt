@@ -12,11 +12,10 @@ use std::alloc::Global;
 use tw_approx::Row;
 use tw_elaborate::{Elaborated, Elaboration, OpenBody};
 use tw_metas::Store;
-use tw_places::{frees_in_text_order, sites};
 use tw_signature::Signature;
 use tw_terms::MetaId;
 use tw_unify::{Unified, UnifyFault, solve};
-use tw_written::WrittenBody;
+use tw_written::{WrittenBody, frees_in_text_order, sites};
 
 /// What is written, with the solved store: the metavariables of its free variables, those at the places of its text, its free variables as the text has them
 /// first, and its open body.

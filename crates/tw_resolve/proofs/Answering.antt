@@ -2,13 +2,13 @@
 use Rattle.std.proofs.Common.{◌≡◌, List, [], ◌∷◌, ◌++◌, Option, None, Some, option_map, Bor, refl, sym, ap, ◌∙◌}
 use Rattle.lf.specs.Entries.{Entry}
 use Rattle.lf.specs.Syntax.{Skeleton}
-use Rattle.elaboration.specs.Written.{Written, WrittenType, applied}
+use Rattle.lf_elaboration.specs.Written.{Written, WrittenType, applied}
 use Rattle.tw_approx.specs.Applied.{applied_to, written_terms}
 use Rattle.tw_approx.specs.Readings.{Reading, found, and_then}
 use Rattle.tw_parse.specs.Syntax.{Term}
 use Rattle.tw_parse.specs.View.{term_of}
 use Rattle.tw_parse.specs.declared.term.ExtTerm.{ExtTerm}
-use Rattle.tw_scope.specs.Names.{Names}
+use Rattle.tw_fixity.specs.Names.{Names}
 use Rattle.tw_resolve.specs.Resolving.{with_both, made, on_argument, resolved_term, resolved_type}
 use Rattle.tw_resolve.proofs.Spines.{on_arguments, applied_resolved, first_argument, no_function, on_family_arguments, applied_family_resolved, first_family_argument, no_family, arguments_less}
 

@@ -3,7 +3,7 @@ use Rattle.std.proofs.Common.{◌≡◌, ℕ, List, [], ◌∷◌, Bool, true, f
 use Rattle.std.specs.Str.{bytes_eq}
 use Rattle.lf.specs.Entries.{Entry}
 use Rattle.lf.specs.Syntax.{Skeleton}
-use Rattle.elaboration.specs.WrittenSkeletons.{AllDeclared, SkeletonIsDeclared}
+use Rattle.lf_elaboration.specs.WrittenSkeletons.{AllDeclared, SkeletonIsDeclared}
 use Rattle.tw_approx.specs.Answer.{Rows, frees_of, HasRow, AreDistinct}
 use Rattle.tw_approx.proofs.Naming.{name_is, is_name}
 use Rattle.tw_resolve.specs.Resolved.{skeletons_of, FoundAreDeclared}

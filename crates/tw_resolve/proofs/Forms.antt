@@ -2,8 +2,8 @@
 use Rattle.std.proofs.Common.{◌≡◌, ℕ, List, [], ◌∷◌, Bool, true, false, ◌&&◌, None, Some, if◌then◌else◌, refl, sym, ap, subst}
 use Rattle.lf.specs.Entries.{Entry}
 use Rattle.lf.specs.Syntax.{Skeleton, base, arrow as arrow_skeleton}
-use Rattle.elaboration.specs.Written.{Place, Written, WrittenDomain, WrittenType, WrittenKind, applied, ascribed, family, family_applied, family_ascribed, written_star}
-use Rattle.elaboration.specs.WrittenSkeletons.{WrittenHasSkeleton, WrittenTypeHasSkeleton, DomainHasSkeleton, FamilyHasSkeleton, KindHasSkeleton, FamilyNameLeaves}
+use Rattle.lf_elaboration.specs.Written.{Place, Written, WrittenDomain, WrittenType, WrittenKind, applied, ascribed, family, family_applied, family_ascribed, written_star}
+use Rattle.lf_elaboration.specs.WrittenSkeletons.{WrittenHasSkeleton, WrittenTypeHasSkeleton, DomainHasSkeleton, FamilyHasSkeleton, KindHasSkeleton, FamilyNameLeaves}
 use Rattle.tw_approx.specs.Readings.{Reading, and_then}
 use Rattle.tw_approx.specs.Skeletons.{Family, known, unknown, same_skeleton, same_skeletons, applied as applied_skeleton, ascribed as ascribed_skeleton, family_applied as applied_family, family_ascribed as ascribed_family, whole}
 use Rattle.tw_approx.proofs.Sequences.{given, parts_of}

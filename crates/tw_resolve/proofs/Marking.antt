@@ -5,7 +5,7 @@ use Rattle.lf.specs.Syntax.{Head, constant, variable, metavariable, Skeleton, ba
 use Rattle.lf.specs.Typing.{IsType, IsKind}
 use Rattle.lf.specs.Variables.{same_number}
 use Rattle.lf.proofs.Entries.{kinds_kept}
-use Rattle.elaboration.specs.WrittenSkeletons.{AllDeclared, SkeletonIsDeclared}
+use Rattle.lf_elaboration.specs.WrittenSkeletons.{AllDeclared, SkeletonIsDeclared}
 use Rattle.tw_approx.specs.Readings.{take, found, and_then}
 use Rattle.tw_approx.specs.Skeletons.{Frees, Family, known, unknown, behind, object_skeleton, entry_skeleton, name_skeleton, due, family_of_body, family_of_entry, family_named, same_skeleton, same_skeletons, applied, ascribed, family_applied, family_ascribed, whole, term_skeleton, family_skeleton, type_skeleton, domain_skeleton, kind_due, definition_skeleton, FitsClassifier, Fits}
 use Rattle.tw_approx.proofs.Sequences.{given, parts_of, and_then_parts}
@@ -14,7 +14,7 @@ use Rattle.tw_names.specs.Texts.{ends_in_type}
 use Rattle.tw_names.specs.Scope.{binder_name, named}
 use Rattle.tw_names.specs.Unknown.{is_uppercase}
 use Rattle.tw_parse.specs.Syntax.{Term, Domain, identifier, hole, star, arrow, pi, lambda, application, ascription, untyped, typed, Declaration, declare, define, prefer, give}
-use Rattle.tw_scope.specs.Names.{Names}
+use Rattle.tw_fixity.specs.Names.{Names}
 
 -- the skeletons of an entry are of declared families
 abbrev BodyIsDeclared : List Entry → Body → Type 0

@@ -5,13 +5,13 @@ use Rattle.lf.specs.Entries.{Entry, Body, declare_family, declare_constant, decl
 use Rattle.lf.specs.SkeletonTyping.{SkeletonAt}
 use Rattle.lf.specs.Syntax.{Skeleton, base, arrow, skeleton, Kind, kind_pi, star, kind_skeleton}
 use Rattle.lf.specs.Variables.{same_number}
-use Rattle.elaboration.specs.Written.{Place, Written, free, bound, declared, family}
-use Rattle.elaboration.specs.WrittenSkeletons.{LeavesSkeleton, type_in_terms, NameHasSkeleton, FamilyNameLeaves, WrittenHasSkeleton}
+use Rattle.lf_elaboration.specs.Written.{Place, Written, free, bound, declared, family}
+use Rattle.lf_elaboration.specs.WrittenSkeletons.{LeavesSkeleton, type_in_terms, NameHasSkeleton, FamilyNameLeaves, WrittenHasSkeleton}
 use Rattle.tw_approx.specs.Answer.{Rows, frees_of, HasRow}
 use Rattle.tw_approx.specs.Skeletons.{behind, object_skeleton, entry_skeleton, name_skeleton, Family, known, due, family_of_body, family_of_entry, family_named}
 use Rattle.tw_names.specs.Scope.{head_named}
 use Rattle.tw_names.specs.Unknown.{is_uppercase}
-use Rattle.tw_scope.specs.Names.{Names, variable_of}
+use Rattle.tw_fixity.specs.Names.{Names, variable_of}
 use Rattle.tw_approx.proofs.Naming.{is_name}
 use Rattle.tw_resolve.specs.Resolving.{resolved_name, resolved_family}
 use Rattle.tw_resolve.specs.Resolved.{names_of, skeletons_of, due_skeleton}

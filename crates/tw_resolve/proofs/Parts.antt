@@ -2,7 +2,7 @@
 use Rattle.std.proofs.Common.{◌≡◌, List, [], ◌∷◌, ◌++◌, Some, ◌⊎◌, inl, inr, append_assoc, refl, sym, ap, ◌∙◌, subst}
 use Rattle.lf.specs.Entries.{Entry}
 use Rattle.lf.specs.Syntax.{Skeleton, base, arrow}
-use Rattle.elaboration.specs.WrittenSkeletons.{AllDeclared, SkeletonIsDeclared}
+use Rattle.lf_elaboration.specs.WrittenSkeletons.{AllDeclared, SkeletonIsDeclared}
 use Rattle.tw_approx.specs.Readings.{Reading, take, and_then}
 use Rattle.tw_approx.proofs.Sequences.{given, parts_of}
 use Rattle.tw_resolve.specs.Resolving.{with_both}

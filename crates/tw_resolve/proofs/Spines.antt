@@ -3,14 +3,14 @@ use Rattle.std.proofs.Common.{◌≡◌, List, [], ◌∷◌, ◌++◌, Bor, Non
 use Rattle.std.proofs.lemmas.List.{map-append}
 use Rattle.lf.specs.Entries.{Entry}
 use Rattle.lf.specs.Syntax.{Skeleton}
-use Rattle.elaboration.specs.Written.{Written, WrittenType, applied}
+use Rattle.lf_elaboration.specs.Written.{Written, WrittenType, applied}
 use Rattle.tw_approx.specs.Applied.{applied_to, written_terms}
 use Rattle.tw_approx.specs.Readings.{Reading}
 use Rattle.tw_parse.proofs.Views.{views}
 use Rattle.tw_parse.specs.Syntax.{Term}
 use Rattle.tw_parse.specs.View.{term_of}
 use Rattle.tw_parse.specs.declared.term.ExtTerm.{ExtTerm}
-use Rattle.tw_scope.specs.Names.{Names}
+use Rattle.tw_fixity.specs.Names.{Names}
 use Rattle.tw_terms.proofs.Args.{types_and_skeletons}
 use Rattle.tw_approx.proofs.Spines.{applied_to-push}
 use Rattle.tw_written.proofs.Views.{written_views}

@@ -2,9 +2,9 @@
 use Rattle.std.proofs.Common.{◌≡◌, ℕ, List, [], ◌∷◌, Option, None, Some, inl, inr, refl, sym, ap, subst}
 use Rattle.lf.specs.Entries.{Entry, IsCanonicalSignature}
 use Rattle.lf.specs.Syntax.{Head, Skeleton, arrow as arrow_skeleton}
-use Rattle.elaboration.specs.Written as written
-use Rattle.elaboration.specs.Written.{Place, Written, WrittenType, family, type_hole, written_star}
-use Rattle.elaboration.specs.WrittenSkeletons.{WrittenHasSkeleton}
+use Rattle.lf_elaboration.specs.Written as written
+use Rattle.lf_elaboration.specs.Written.{Place, Written, WrittenType, family, type_hole, written_star}
+use Rattle.lf_elaboration.specs.WrittenSkeletons.{WrittenHasSkeleton}
 use Rattle.tw_approx.specs.Answer.{Rows, frees_of, HasRow}
 use Rattle.tw_approx.specs.Names.{IsFreeIn, IsFreeInDomain}
 use Rattle.tw_approx.specs.Readings.{take, found, and_then}
@@ -12,7 +12,7 @@ use Rattle.tw_approx.specs.Skeletons.{Family, known, unknown, name_skeleton, fam
 use Rattle.tw_approx.proofs.Sequences.{given, parts_of, and_then_parts}
 use Rattle.tw_names.specs.Scope.{binder_name, named}
 use Rattle.tw_parse.specs.Syntax.{Term, Domain, identifier, hole, star, arrow, pi, lambda, application, ascription, untyped, typed}
-use Rattle.tw_scope.specs.Names.{Names, variable_of}
+use Rattle.tw_fixity.specs.Names.{Names, variable_of}
 use Rattle.tw_signature.specs.Names.{number_of}
 use Rattle.tw_written.specs.View.{place_of}
 use Rattle.tw_resolve.specs.Resolving.{resolved_name, resolved_family, resolved_term, resolved_type, resolved_domain, resolved_kind}

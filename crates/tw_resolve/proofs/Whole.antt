@@ -2,8 +2,8 @@
 use Rattle.std.proofs.Common.{◌≡◌, ℕ, List, [], Bool, true, false, Option, None, Some, ◌⊎◌, inl, inr, refl, sym, subst}
 use Rattle.lf.specs.Entries.{Entry, IsCanonicalSignature}
 use Rattle.lf.specs.Syntax.{Skeleton}
-use Rattle.elaboration.specs.Written.{Written, WrittenType}
-use Rattle.elaboration.specs.WrittenSkeletons.{AllDeclared}
+use Rattle.lf_elaboration.specs.Written.{Written, WrittenType}
+use Rattle.lf_elaboration.specs.WrittenSkeletons.{AllDeclared}
 use Rattle.tw_approx.specs.Answer.{Rows, frees_of, HasRow, HasSkeletons}
 use Rattle.tw_approx.specs.Names.{IsFreeIn, IsFreeInType}
 use Rattle.tw_approx.specs.Readings.{and_then}

@@ -2,8 +2,8 @@
 use Rattle.std.proofs.Common.{◌≡◌, ℕ, List, [], Bool, true, false, Option, None, Some, sym, ap, ◌∙◌}
 use Rattle.lf.specs.Entries.{Entry}
 use Rattle.lf.specs.Syntax.{Skeleton}
-use Rattle.elaboration.specs.Principal.{WrittenBody, written_family, written_constant, written_definition, written_definition_of}
-use Rattle.elaboration.specs.Written.{Written, WrittenType}
+use Rattle.lf_elaboration.specs.Principal.{WrittenBody, written_family, written_constant, written_definition, written_definition_of}
+use Rattle.lf_elaboration.specs.Written.{Written, WrittenType}
 use Rattle.tw_approx.specs.Answer.{Rows}
 use Rattle.tw_approx.specs.Readings.{Reading, and_then}
 use Rattle.tw_approx.proofs.Sequences.{parts_of}

@@ -2,16 +2,16 @@
 use Rattle.std.specs.Prelude.{◌≡◌, ℕ, List, [], ◌∷◌, map, Bool, true, false, Option, None, Some}
 use Rattle.lf.specs.Entries.{Entry, IsCanonicalSignature}
 use Rattle.lf.specs.Syntax.{Skeleton, base, arrow}
-use Rattle.elaboration.specs.Principal.{WrittenBody, written_family, written_constant, written_definition, written_definition_of}
-use Rattle.elaboration.specs.Written.{Written, WrittenType, WrittenKind}
-use Rattle.elaboration.specs.WrittenSkeletons.{AllDeclared, WrittenHasSkeleton, WrittenTypeHasSkeleton, KindHasSkeleton}
+use Rattle.lf_elaboration.specs.Principal.{WrittenBody, written_family, written_constant, written_definition, written_definition_of}
+use Rattle.lf_elaboration.specs.Written.{Written, WrittenType, WrittenKind}
+use Rattle.lf_elaboration.specs.WrittenSkeletons.{AllDeclared, WrittenHasSkeleton, WrittenTypeHasSkeleton, KindHasSkeleton}
 use Rattle.tw_approx.specs.Answer.{Rows, frees_of, HasSkeletons}
 use Rattle.tw_approx.specs.Readings.{Reading, and_then}
 use Rattle.tw_approx.specs.Skeletons.{type_skeleton, kind_due, definition_skeleton}
 use Rattle.tw_names.specs.Texts.{ends_in_type}
 use Rattle.tw_lexer.specs.declared.place.Place.{Place}
 use Rattle.tw_parse.specs.Syntax.{Term, Declaration, declare, define, prefer, give}
-use Rattle.tw_scope.specs.Names.{Names}
+use Rattle.tw_fixity.specs.Names.{Names}
 use Rattle.tw_resolve.specs.Resolving.{with_both, made, resolved_term, resolved_type, resolved_kind}
 
 -- the names and the skeletons of the free variables

@@ -5,12 +5,12 @@ use Rattle.std.specs.Prelude.{ℕ, List, ◌∷◌, Bool, true, false, ◌&&◌,
 use Rattle.std.specs.Option.{option_map}
 use Rattle.lf.specs.Entries.{Entry}
 use Rattle.lf.specs.Syntax.{Head, constant, variable, metavariable, Skeleton}
-use Rattle.elaboration.specs.Written as written
-use Rattle.elaboration.specs.Written.{Place, Written, WrittenDomain, WrittenType, WrittenKind, type_hole, written_star}
+use Rattle.lf_elaboration.specs.Written as written
+use Rattle.lf_elaboration.specs.Written.{Place, Written, WrittenDomain, WrittenType, WrittenKind, type_hole, written_star}
 use Rattle.tw_approx.specs.Readings.{Reading, take, found, and_then}
 use Rattle.tw_names.specs.Scope.{binder_name, named}
 use Rattle.tw_parse.specs.Syntax.{Term, Domain, identifier, hole, star, arrow, pi, lambda, application, ascription, untyped, typed}
-use Rattle.tw_scope.specs.Names.{Names, variable_of}
+use Rattle.tw_fixity.specs.Names.{Names, variable_of}
 use Rattle.tw_written.specs.View.{place_of}
 
 -- a name at this place, which names this, or else is this one of the free variables

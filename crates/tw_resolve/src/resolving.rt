@@ -8,15 +8,14 @@ ghost use Rattle.tw_resolve.specs.Resolved.{names_of};
 ghost use Rattle.tw_resolve.specs.Resolving.{resolved_name, resolved_family};
 ghost use Rattle.tw_names.specs.Scope.{named};
 ghost use Rattle.tw_written.specs.View.{place_of, written_of, written_type_of as type_of};
-ghost use Rattle.tw_scope.specs.Names.{variable_of};
+ghost use Rattle.tw_fixity.specs.Names.{variable_of};
 ghost use Rattle.tw_terms.specs.View.{skeleton_of};
 
 use std::alloc::{AllocError, Global};
 use tw_approx::Row;
-use tw_fixity::Name;
+use tw_fixity::{Name, Scope};
 use tw_lexer::Place;
 use tw_names::named;
-use tw_scope::Scope;
 use tw_signature::Signature;
 use tw_terms::{Head, Skeleton};
 use tw_written::{Written, WrittenType};

@@ -3,6 +3,7 @@ pub mod Seen
 pub mod Counted
 pub mod Showing
 pub mod Loads
+pub mod Steps
 pub mod Sound
 pub mod Readings
 pub mod Turned

@@ -1,5 +1,5 @@
 -- How the reply to a file is put together of what is written for it.
-use Rattle.std.proofs.Common.{◌≡◌, ℕ, ◌+◌, ◌<◌, ◌≤◌, ◌^◌, List, [], ◌∷◌, ◌++◌, length, refl, sym, ap, ◌∙◌, arith, subst, append-nil, append_assoc, None, Some, Ok, Err, inl, inr}
+use Rattle.std.proofs.Common.{◌≡◌, ℕ, ◌+◌, ◌<◌, ◌≤◌, List, [], ◌∷◌, ◌++◌, length, refl, sym, ap, ◌∙◌, arith, subst, append-nil, append_assoc, None, Some, Ok, Err, inl, inr}
 use Rattle.std.specs.declared.option.Option.{Option}
 use Rattle.std.specs.declared.result.Result.{Result}
 use Rattle.tw_decl.specs.Declaration.{AcceptsFrom, Comes, HasCauseFrom, HasNoMore}
@@ -12,11 +12,12 @@ use Rattle.tw_decl.specs.declared.refusal.Refusal.{Refusal}
 use Rattle.tw_decl.specs.declared.refusal.Refusal.TheVariants.{Memory}
 use Rattle.tw_lexer.specs.Places.{place_of}
 use Rattle.tw_lexer.specs.declared.place.Place.{Place}
-use Rattle.tw_ports.specs.Files.{Held, HoldsOn, Tells, FileCounts}
+use Rattle.tw_ports.specs.Files.{Held, HoldsOn, Tells, Within, FileCounts}
 use Rattle.tw_ports.specs.Ports.{Gains}
 use Rattle.tw_ports.proofs.Gained.{Gains-nil, Gains-same, Gains-trans}
 use Rattle.tw_ports.specs.declared.files.FileAnswer.{FileAnswer}
 use Rattle.tw_server.specs.Loading.{AnswersFile, Declares, no_more, one_more, EndsFile, Opens}
+use Rattle.tw_server.specs.Limits.{text_limit}
 use Rattle.tw_server.specs.Loaded.{IsLoaded, IsOpened, IsRefusedWith, LoadedSoFar}
 use Rattle.tw_server.specs.Replies.{accepted, refused, no_memory, opening, closing}
 use Rattle.tw_server.specs.State.{State}
@@ -104,16 +105,16 @@ tells_before None h name limit answer e t = tt
 tells_before (Some files) h name limit answer e t = subst (λ (x : Option Held). Tells x name limit answer) e t
 
 -- a file was asked for, and its answer replied to
-pub loaded : {E : Type 0} (held h : Option Held) (name : List ℕ) (v w : State) (a b : Option (List ℕ)) (reply : List ℕ) (answer : FileAnswer) (r : Result (Unit {0}) E) → HoldsOn held h → Tells h name (2 ^ 24) answer → FileCounts v.faults w.faults answer
+pub loaded : {E : Type 0} (held h : Option Held) (name : List ℕ) (v w : State) (a b : Option (List ℕ)) (reply : List ℕ) (answer : FileAnswer) (r : Result (Unit {0}) E) → HoldsOn held h → Tells h name text_limit answer → Within text_limit answer → FileCounts v.faults w.faults answer
     → AnswersFile v.view name answer reply w.view → GainsReply a b reply r → IsLoaded held name v a b w r
-loaded held h name v w a b reply answer r e t n f g =
-    (reply, record { answer = answer; tells = tells_before held h name (2 ^ 24) answer e t; counts = n; replies = f }, g)
+loaded held h name v w a b reply answer r e t m n f g =
+    (reply, record { answer = answer; tells = tells_before held h name text_limit answer e t; within = m; counts = n; replies = f }, g)
 
 -- the reply is a line with the file's name
-pub loaded_line : {E : Type 0} (held h : Option Held) (name word : List ℕ) (v w : State) (a b : Option (List ℕ)) (line : List ℕ → List ℕ) (answer : FileAnswer) (r : Result (Unit {0}) E) → HoldsOn held h → Tells h name (2 ^ 24) answer → FileCounts v.faults w.faults answer
+pub loaded_line : {E : Type 0} (held h : Option Held) (name word : List ℕ) (v w : State) (a b : Option (List ℕ)) (line : List ℕ → List ℕ) (answer : FileAnswer) (r : Result (Unit {0}) E) → HoldsOn held h → Tells h name text_limit answer → Within text_limit answer → FileCounts v.faults w.faults answer
     → AnswersFile v.view name answer (line name ++ refused) w.view → word ≡ name → GainsReply a b (line word ++ refused) r → IsLoaded held name v a b w r
-loaded_line held h name word v w a b line answer r e t n f same g =
-    loaded held h name v w a b (line name ++ refused) answer r e t n f (subst (λ (x : List ℕ). GainsReply a b (line x ++ refused) r) same g)
+loaded_line held h name word v w a b line answer r e t m n f same g =
+    loaded held h name v w a b (line name ++ refused) answer r e t m n f (subst (λ (x : List ℕ). GainsReply a b (line x ++ refused) r) same g)
 
 -- what comes next in a file: no declaration, or one with its report
 pub comes_end : (u w : View) (text : List ℕ) (from : ℕ) (next : Next) → next ≡ nexts.End → Comes u text from next w → HasNoMore text from × (w ≡ u)

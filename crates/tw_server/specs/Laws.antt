@@ -9,16 +9,17 @@ use Rattle.tw_server.specs.Machine.{Step}
 use Rattle.tw_server.specs.Outcome.{Serves, AreGoodWords}
 use Rattle.tw_server.specs.declared.status.Status.{Status}
 use Rattle.tw_server.specs.declared.status.Status.TheVariants.{Done, NoMemory, InputLong}
+use Rattle.tw_server.specs.Limits.{input_limit}
 
--- an input of no more than 2 ^ 40 bytes is never too long
+-- an input of no more than input_limit bytes is never too long
 abbrev pub ShortIsNotLong : Type 0
 ShortIsNotLong = (held : Option Held) (words : List (List ℕ)) (input : List ℕ) (left' written written' : Option (List ℕ)) (v w : State) (status : Status)
-    → length input ≤ 2 ^ 40 → Serves held words (Some input) left' written written' v status w → status ≢ InputLong
+    → length input ≤ input_limit → Serves held words (Some input) left' written written' v status w → status ≢ InputLong
 
--- with good words, unchanged counts of faults below their last value and no more than 2 ^ 40 bytes, a run is done, or memory is wanting before it
+-- with good words, unchanged counts of faults below their last value and no more than input_limit bytes, a run is done, or memory is wanting before it
 abbrev pub FaultlessIsDone : Type 0
 FaultlessIsDone = (held : Option Held) (words : List (List ℕ)) (input : List ℕ) (left' written written' : Option (List ℕ)) (v w : State) (status : Status) (read_faults write_faults : ℕ)
-    → AreGoodWords words → length input ≤ 2 ^ 40 → read_faults < 2 ^ 64 - 1 → write_faults < 2 ^ 64 - 1 → StatusCounts read_faults read_faults write_faults write_faults status
+    → AreGoodWords words → length input ≤ input_limit → read_faults < 2 ^ 64 - 1 → write_faults < 2 ^ 64 - 1 → StatusCounts read_faults read_faults write_faults write_faults status
     → Serves held words (Some input) left' written written' v status w → (status ≡ Done) ⊎ (status ≡ NoMemory)
 
 -- two commands on whole lines at the front of one input take the same bytes

@@ -1,17 +1,18 @@
 -- What the commands that load files and show declarations reply.
-use Rattle.std.specs.Prelude.{◌≡◌, ◌⊎◌, ℕ, zero, suc, ◌+◌, ◌^◌, ◌≤◌, ◌<◌, List, [], ◌∷◌, ◌++◌, length, codes, None, Some}
+use Rattle.std.specs.Prelude.{◌≡◌, ◌⊎◌, ℕ, zero, suc, ◌+◌, ◌≤◌, ◌<◌, List, [], ◌∷◌, ◌++◌, length, codes, None, Some}
 use Rattle.std.specs.declared.option.Option.{Option}
 use Rattle.tw_decl.specs.Declaration.{AcceptsFrom, HasCauseFrom, HasNoMore}
 use Rattle.tw_decl.specs.Refusals.{refusal_line}
 use Rattle.tw_decl.specs.View.{View, scene_of}
 use Rattle.tw_decl.specs.declared.refusal.Refusal.{Refusal}
-use Rattle.tw_ports.specs.Files.{Held, Tells, FileCounts}
+use Rattle.tw_ports.specs.Files.{Held, Tells, Within, FileCounts}
 use Rattle.tw_ports.specs.declared.files.FileAnswer.{FileAnswer}
 use Rattle.tw_ports.specs.declared.files.FileAnswer.TheVariants.{Found, Absent, TooLong, Failed, NoMemory}
 use Rattle.tw_print.specs.Shown.{line_of}
 use Rattle.tw_server.specs.Replies.{accepted, refused, no_memory, no_file, file_fault, file_long, unknown_name, opening, closing}
 use Rattle.tw_server.specs.State.{State}
 use Rattle.tw_signature.specs.Names.{number_of}
+use Rattle.tw_server.specs.Limits.{text_limit}
 
 -- Want of memory may be the reply in place of another, and changes nothing.
 pub record WantsMemory (v : View) (reply : List ℕ) (w : View) : Type 0 where
@@ -52,11 +53,12 @@ AnswersFile v name TooLong reply w = RefusesWith (file_long name) v reply w
 AnswersFile v name Failed reply w = RefusesWith (file_fault name) v reply w
 AnswersFile v name NoMemory reply w = WantsMemory v reply w
 
--- A file is loaded: the files are asked for it once, for no more bytes than a text may have, and their count of faults rises where they failed.
--- `held` is what they held at first, where they told it.
+-- A file is loaded: the files are asked for it once, for no more bytes than a file may have, and none with more is found; their count of faults rises
+-- where they failed. `held` is what they held at first, where they told it.
 pub record LoadsFile (held : Option Held) (name : List ℕ) (v : State) (reply : List ℕ) (w : State) : Type 0 where
   pub answer : FileAnswer
-  pub tells : Tells held name (2 ^ 24) answer
+  pub tells : Tells held name text_limit answer
+  pub within : Within text_limit answer
   pub counts : FileCounts v.faults w.faults answer
   pub replies : AnswersFile v.view name answer reply w.view
 

@@ -1,5 +1,5 @@
 -- The machine of commands: what a command may reply, and the state after it, by the lines that are read for it.
-use Rattle.std.specs.Prelude.{◌≡◌, ◌⊎◌, ℕ, ◌^◌, ◌≤◌, ◌<◌, List, [], ◌∷◌, ◌++◌, length, Bool, true, false, codes}
+use Rattle.std.specs.Prelude.{◌≡◌, ◌⊎◌, ℕ, ◌≤◌, ◌<◌, List, [], ◌∷◌, ◌++◌, length, Bool, true, false, codes}
 use Rattle.tw_server.specs.Lines.{IsLine, IsText}
 use Rattle.tw_command.specs.Meaning.{Meaning, blank, unknown, bad_parameter, read_declaration, load_file, show_entry, show_signature, reset, set, get, version, quit}
 use Rattle.tw_command.specs.declared.command.Setting.{Setting}
@@ -12,6 +12,7 @@ use Rattle.tw_server.specs.Loading.{WantsMemory, LoadsFile, ShowsEntry, ShowsSig
 use Rattle.tw_decl.specs.View.{View, reset_view, with_chatter, with_implicit, with_steps}
 use Rattle.tw_server.specs.State.{State}
 use Rattle.tw_decl.specs.Declaration.{Accepts, Refuses}
+use Rattle.tw_server.specs.Limits.{text_limit}
 
 -- The text behind a command's line, where the line ended with its line feed or not. There is none where the input ends with that line.
 abbrev pub TextAfter : Bool → Bool → List ℕ → Type 0
@@ -35,20 +36,20 @@ pub record Takes (whole : Bool) (took : List ℕ) (said : Said) (text : List ℕ
 
 -- A text may have 16,777,216 bytes, its last line feed with them.
 pub record IsTextLong (v : View) (text reply : List ℕ) (w : View) : Type 0 where
-  pub long : 2 ^ 24 < length text
+  pub long : text_limit < length text
   pub says : reply ≡ codes "C4 TextLong\n" ++ refused
   pub same : w ≡ v
 
 -- the declaration is made, and its report is the reply
 pub record IsMade (v : View) (text reply : List ℕ) (w : View) : Type 0 where
-  pub short : length text ≤ 2 ^ 24
+  pub short : length text ≤ text_limit
   pub report : List ℕ
   pub accepts : Accepts v text report w
   pub says : reply ≡ report ++ accepted
 
 -- the declaration is refused, for the cause that the reply's line shows
 pub record IsRefused (v : View) (text reply : List ℕ) (w : View) : Type 0 where
-  pub short : length text ≤ 2 ^ 24
+  pub short : length text ≤ text_limit
   pub line : List ℕ
   pub refuses : Refuses v (codes "stdin") text line
   pub says : reply ≡ line ++ refused

@@ -1,5 +1,5 @@
 -- What a call of the server comes to.
-use Rattle.std.specs.Prelude.{◌≡◌, ◌≢◌, ◌⊎◌, ℕ, ◌^◌, ◌≤◌, List, [], ◌∷◌, ◌++◌, length, Bool, true, false, None, Some}
+use Rattle.std.specs.Prelude.{◌≡◌, ◌≢◌, ◌⊎◌, ℕ, ◌≤◌, List, [], ◌∷◌, ◌++◌, length, Bool, true, false, None, Some}
 use Rattle.std.specs.List.{flat_map, AllByRecursion}
 use Rattle.std.specs.Io.KnownBytes.{Consumes, IsAtEnd}
 use Rattle.std.specs.declared.option.Option.{Option}
@@ -15,6 +15,7 @@ use Rattle.tw_server.specs.State.{State, state_at}
 use Rattle.tw_server.specs.Machine.{Step, Turn, Run, Loads, Opening}
 use Rattle.tw_server.specs.declared.status.Status.{Status}
 use Rattle.tw_server.specs.declared.status.Status.TheVariants.{Done, BadWords, ReadFault, WriteFault, NoMemory, InputLong}
+use Rattle.tw_server.specs.Limits.{input_limit}
 
 -- the words of the program are good: they say how many steps a search may make, if they say it, and which files are to be loaded
 abbrev pub AreGoodWords : List (List ℕ) → Type 0
@@ -67,7 +68,7 @@ Ends held left Done v tail last w ahead looked =
     (IsQuit left ahead tail × (last ≡ []) × (w ≡ v)) ⊎ (Step held false v tail last w × HasEnded left ahead)
 -- all that was read is whole steps and less than one more
 Ends held left ReadFault v tail last w ahead looked = BreaksOff v tail last w × (ahead ≡ [])
-Ends held left InputLong v tail last w ahead looked = BreaksOff v tail last w × (ahead ≢ []) × (looked ≡ 2 ^ 40)
+Ends held left InputLong v tail last w ahead looked = BreaksOff v tail last w × (ahead ≢ []) × (looked ≡ input_limit)
 Ends held left WriteFault v tail last w ahead looked = IsCutShort held left v tail last w ahead
 Ends held left NoMemory v tail last w ahead looked = ⊥
 Ends held left BadWords v tail last w ahead looked = ⊥
@@ -86,7 +87,7 @@ pub record Ran (held : Option Held) (files : List (List ℕ)) (left : Option (Li
   pub ends : Ends held left status mid tail last w ahead (length (flat_map (λ t. t.took) turns ++ tail))
   pub read : taken ≡ (flat_map (λ t. t.took) turns ++ tail) ++ ahead
   pub wrote : gained ≡ ((banner ++ flat_map (λ t. t.reply) opened) ++ flat_map (λ t. t.reply) turns) ++ last
-  pub within : length (flat_map (λ t. t.took) turns ++ tail) ≤ 2 ^ 40
+  pub within : length (flat_map (λ t. t.took) turns ++ tail) ≤ input_limit
   -- the signature is canonical LF after each file and each command
   pub sound_opened : AllByRecursion (λ t. IsSound t.after.view) opened
   pub sound : AllByRecursion (λ t. IsSound t.after.view) turns

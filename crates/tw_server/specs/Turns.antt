@@ -1,5 +1,5 @@
 -- What one turn of the loop comes to. The proof of the loop needs these; the transcript theorem doesn't speak of them.
-use Rattle.std.specs.Prelude.{◌≡◌, ◌≢◌, ◌⊎◌, ℕ, ◌+◌, ◌^◌, ◌<◌, ◌≤◌, List, [], ◌∷◌, ◌++◌, length, Bool, true, false, Ok, Err}
+use Rattle.std.specs.Prelude.{◌≡◌, ◌≢◌, ◌⊎◌, ℕ, ◌+◌, ◌<◌, ◌≤◌, List, [], ◌∷◌, ◌++◌, length, Bool, true, false, Ok, Err}
 use Rattle.std.specs.List.{flat_map}
 use Rattle.std.specs.declared.option.Option.{Option}
 use Rattle.std.specs.declared.result.Result.{Result}
@@ -18,6 +18,7 @@ use Rattle.tw_server.specs.Machine.{Step, Turn, Run, RepliesTo, Loads, Opening}
 use Rattle.tw_server.specs.Outcome.{Ends, IsCut, HasEnded}
 use Rattle.tw_server.specs.declared.status.Status.{Status}
 use Rattle.tw_server.specs.declared.status.Status.TheVariants.{Done, BadWords, ReadFault, WriteFault, NoMemory, InputLong}
+use Rattle.tw_server.specs.Limits.{input_limit}
 
 -- some reply to the text was written
 abbrev pub Answered : {E : Type 0} → Option (List ℕ) → Option (List ℕ) → View → List ℕ → View → Result (Unit {0}) E → Type 0
@@ -37,7 +38,7 @@ abbrev pub DeclTurn : Option (List ℕ) → Pending → Result (Unit {0}) Status
 DeclTurn left feed (Ok done) v text last w = IsText true text × RepliesTo v text last w
 DeclTurn left feed (Err Done) v text last w = IsText false text × RepliesTo v text last w × HasEnded left feed.held
 DeclTurn left feed (Err ReadFault) v text last w = IsText false text × (last ≡ []) × (w ≡ v) × (feed.held ≡ [])
-DeclTurn left feed (Err InputLong) v text last w = IsText false text × (last ≡ []) × (w ≡ v) × (feed.held ≢ []) × (feed.seen ≡ 2 ^ 40)
+DeclTurn left feed (Err InputLong) v text last w = IsText false text × (last ≡ []) × (w ≡ v) × (feed.held ≢ []) × (feed.seen ≡ input_limit)
 DeclTurn left feed (Err WriteFault) v text last w = IsDeclCut left feed.held v text last w
 DeclTurn left feed (Err NoMemory) v text last w = ⊥
 DeclTurn left feed (Err BadWords) v text last w = ⊥
@@ -47,7 +48,7 @@ pub record Moves (old : Pending) (left : Option (List ℕ)) (new : Pending) (lef
   pub took : List ℕ
   pub last : List ℕ
   pub sees : Sees old left new left' took
-  pub within : new.seen ≤ 2 ^ 40
+  pub within : new.seen ≤ input_limit
   pub gains : Gains written written' last
   pub outcome : P took last
 
@@ -78,7 +79,7 @@ pub record Commanded (held : Option Held) (left left' written written' : Option 
   pub ends : Ends held left' status mid tail last w ahead (length (flat_map (λ t. t.took) turns ++ tail))
   pub consumed : Consumes left left' ((flat_map (λ t. t.took) turns ++ tail) ++ ahead)
   pub gains : Gains written written' (flat_map (λ t. t.reply) turns ++ last)
-  pub within : length (flat_map (λ t. t.took) turns ++ tail) ≤ 2 ^ 40
+  pub within : length (flat_map (λ t. t.took) turns ++ tail) ≤ input_limit
 
 -- files that were loaded, with their replies
 pub record OpenedSoFar (held : Option Held) (names : List (List ℕ)) (v : State) (old new : Option (List ℕ)) (w : State) : Type 0 where

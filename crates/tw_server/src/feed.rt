@@ -1,7 +1,8 @@
 //! The bytes of a source, one by one.
-ghost use Rattle.std.specs.Prelude.{◌≡◌, ◌≤◌, ◌<◌, ◌^◌, ◌+◌, ◌≢◌, [], ◌∷◌, length, take, drop, IfOk};
+ghost use Rattle.std.specs.Prelude.{◌≡◌, ◌≤◌, ◌<◌, ◌+◌, ◌≢◌, [], ◌∷◌, length, take, drop, IfOk};
 ghost use Rattle.tw_server.specs.Feed.{Pending, GivesByte, Fills};
 ghost use Rattle.tw_server.specs.Counts.{CountsReads};
+ghost use Rattle.tw_server.specs.Limits.{input_limit};
 
 use std::alloc::{AllocError, Global};
 use std::marker::Model;
@@ -38,7 +39,7 @@ impl Model for Feed {
 
     ghost view = { λ f. record { held = drop f.at (take f.upto f.piece.items); seen = f.seen } };
 
-    ghost invariant = { λ f. (f.at ≤ f.upto) × (f.upto ≤ length f.piece.items) × (0 < length f.piece.items) × (f.seen ≤ 2 ^ 40) };
+    ghost invariant = { λ f. (f.at ≤ f.upto) × (f.upto ≤ length f.piece.items) × (0 < length f.piece.items) × (f.seen ≤ input_limit) };
 }
 
 impl Feed {
@@ -77,7 +78,7 @@ impl Feed {
     // Takes the first of the bytes that are held.
     fn next(&mut self) -> u8
         requires held { self.old.held ≢ [] }
-        requires few { self.old.seen < 2 ^ 40 }
+        requires few { self.old.seen < input_limit }
         ensures first { self.old.held ≡ result ∷ self.new.held }
         ensures seen { self.new.seen ≡ self.old.seen + 1 }
     {
@@ -89,7 +90,7 @@ impl Feed {
 
     fn seen(&self) -> u64
         ensures value { result ≡ self.now.seen }
-        ensures within { result ≤ 2 ^ 40 }
+        ensures within { result ≤ input_limit }
     {
         self.seen
     }

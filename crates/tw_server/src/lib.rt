@@ -6,6 +6,7 @@ mod command;
 mod declaration;
 mod feed;
 mod laws;
+mod limits;
 mod line;
 mod load;
 mod reply;

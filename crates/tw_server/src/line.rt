@@ -4,14 +4,13 @@ ghost use Rattle.std.specs.Option.{option_copied};
 ghost use Rattle.std.specs.declared.option.Option.{Option};
 ghost use Rattle.tw_server.specs.Gather.{IsPushed, ReadsLine};
 ghost use Rattle.tw_server.specs.Counts.{CountsReads};
+ghost use Rattle.tw_server.specs.Limits.{line_limit};
 
 use crate::feed::{Feed, Stop};
+use crate::limits::LINE_MOST;
 use std::alloc::{AllocError, Global};
 use std::marker::Model;
 use tw_ports::Source;
-
-/// The most bytes of a line, without its line feed.
-const LINE_MOST: usize = 65536;
 
 /// A line's bytes, unless there are too many. It takes all its memory when it is made.
 #[derive(Drop)]
@@ -26,7 +25,7 @@ impl Model for Line {
 
     ghost view = { λ s. if s.long then None else Some (take s.len s.room.items) };
 
-    ghost invariant = { λ s. (s.len ≤ 65536) × (length s.room.items ≡ 65536) × (s.long ≡ true → s.len ≡ 65536) };
+    ghost invariant = { λ s. (s.len ≤ line_limit) × (length s.room.items ≡ line_limit) × (s.long ≡ true → s.len ≡ line_limit) };
 }
 
 impl Line {

@@ -1,12 +1,14 @@
 //! Loading files.
-ghost use Rattle.std.specs.Prelude.{◌≡◌, ◌≤◌, ◌^◌, ◌++◌, List, ℕ, length, IfOk};
+ghost use Rattle.std.specs.Prelude.{◌≡◌, ◌≤◌, ◌++◌, List, ℕ, length, IfOk};
 ghost use Rattle.std.specs.declared.option.Option.{Option};
 ghost use Rattle.tw_ports.specs.Files.{Held, HoldsOn};
 ghost use Rattle.tw_server.specs.Counts.{CountsWrites};
+ghost use Rattle.tw_server.specs.Limits.{text_limit};
 ghost use Rattle.tw_server.specs.Loaded.{IsLoaded, IsOpened, IsRefusedWith};
 ghost use Rattle.tw_server.specs.State.{state_at};
 ghost use Rattle.tw_server.specs.Written.{GainsReply};
 
+use crate::limits::TEXT_MOST;
 use crate::reply::{ABORT, MEMORY, OK, Reply, write_reply};
 use crate::show::refuse;
 use crate::write::{Unwritten, write_all, write_both};
@@ -14,9 +16,6 @@ use std::alloc::{AllocError, Global};
 use tw_decl::{Next, Refusal, Session, declare, show_refusal};
 use tw_lexer::Place;
 use tw_ports::{FileAnswer, Files, Sink};
-
-/// The most bytes of a file.
-const FILE_MOST: usize = 1 << 24;
 
 // Two texts with a name between them.
 fn around(alloc: Global, first: &[u8], name: &str, last: &[u8]) -> Result<Vec<u8>, AllocError>
@@ -64,7 +63,7 @@ fn load<K: Sink>(
     text: &[u8],
     sink: &mut K,
 ) -> Result<(), Unwritten>
-    requires { length text.now ≤ 2 ^ 24 }
+    requires { length text.now ≤ text_limit }
     ensures reply { IsOpened session.old name.now text.now (K.written sink.old) (K.written sink.new) session.new result }
     ensures counts { CountsWrites (K.faults sink.old) (K.faults sink.new) result }
 {
@@ -113,7 +112,7 @@ pub fn load_file<K: Sink, F: Files>(
     ensures counts { CountsWrites (K.faults sink.old) (K.faults sink.new) result }
     ensures files { HoldsOn (F.held files.old) (F.held files.new) }
 {
-    match files.read_file(alloc, name, FILE_MOST) {
+    match files.read_file(alloc, name, TEXT_MOST) {
         FileAnswer::Found(text) => load(alloc, session, name, &text, sink),
         FileAnswer::Absent => refuse(sink, b"C2 NoFile ", name.as_bytes()),
         FileAnswer::TooLong => refuse(sink, b"C4 TextLong ", name.as_bytes()),

@@ -1,5 +1,5 @@
 //! The command loop.
-ghost use Rattle.std.specs.Prelude.{◌≡◌, ◌≢◌, ◌≤◌, ◌^◌, ◌++◌, [], List, ℕ, ◌<◌, map, string_bytes, true, false, IfOk};
+ghost use Rattle.std.specs.Prelude.{◌≡◌, ◌≢◌, ◌≤◌, ◌++◌, [], List, ℕ, ◌<◌, map, string_bytes, true, false, IfOk};
 ghost use Rattle.std.specs.declared.option.Option.{Option};
 ghost use Rattle.tw_ports.specs.Files.{Held, HoldsOn};
 ghost use Rattle.tw_server.specs.Lines.{IsLine};
@@ -10,6 +10,7 @@ ghost use Rattle.tw_words.specs.Words.{AreWords};
 ghost use Rattle.tw_server.specs.Turns.{AreOpened, Commanded, DeclTurn, LastTurn, Moves, TurnOf};
 ghost use Rattle.tw_server.specs.Gather.{IsKept};
 ghost use Rattle.tw_server.specs.Counts.{CountsWrites, StatusCounts, TurnCounts};
+ghost use Rattle.tw_server.specs.Limits.{input_limit};
 
 use crate::answer::answer;
 use crate::command::say;
@@ -66,7 +67,7 @@ fn command<S: Source, K: Sink, F: Files>(
     sink: &mut K,
     files: &mut F,
 ) -> Result<(), Status>
-    requires { feed.old.seen ≤ 2 ^ 40 }
+    requires { feed.old.seen ≤ input_limit }
     ensures moves { (held : Option Held) (bytes body : List ℕ) → HoldsOn held (F.held files.old) → IsLine true bytes body → IsKept line.now body
         → Moves feed.old (S.left source.old) feed.new (S.left source.new) (K.written sink.old) (K.written sink.new)
         (λ rest last. TurnOf held (S.left source.new) feed.new result (state_at session.old (F.faults files.old)) (bytes ++ rest) last (state_at session.new (F.faults files.new))) }
@@ -121,7 +122,7 @@ fn turn<S: Source, K: Sink, F: Files>(
         (λ took last. TurnOf held (S.left source.new) feed.new result (state_at session.old (F.faults files.old)) took last (state_at session.new (F.faults files.new))) }
     ensures counts { TurnCounts (S.faults source.old) (S.faults source.new) (K.faults sink.old) (K.faults sink.new) result }
     ensures files { HoldsOn (F.held files.old) (F.held files.new) }
-    ensures within { IfOk result (λ _. feed.new.seen ≤ 2 ^ 40) }
+    ensures within { IfOk result (λ _. feed.new.seen ≤ input_limit) }
     ensures onward { IfOk result (λ _. feed.old.seen < feed.new.seen) }
 {
     match read_line(feed, line, source) {

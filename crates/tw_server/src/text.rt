@@ -1,15 +1,14 @@
 //! A declaration's text.
-ghost use Rattle.std.specs.Prelude.{◌≡◌, ◌++◌, [], ◌∷◌, List, ℕ, ◌<◌, ◌≤◌, ◌^◌, length};
+ghost use Rattle.std.specs.Prelude.{◌≡◌, ◌++◌, [], ◌∷◌, List, ℕ, ◌<◌, ◌≤◌, length};
 ghost use Rattle.tw_server.specs.Gather.{ReadsText, IsGathered};
 ghost use Rattle.tw_server.specs.Counts.{CountsReads};
+ghost use Rattle.tw_server.specs.Limits.{text_limit};
 
 use crate::feed::{Feed, Stop};
+use crate::limits::TEXT_MOST;
 use std::alloc::Global;
 use tw_lexer::{Cut, cut_piece, is_done};
 use tw_ports::Source;
-
-/// The most bytes of a text, its last line feed with them.
-const TEXT_MOST: usize = 1 << 24;
 
 /// What of a text was not kept.
 #[derive(Clone, Copy, Debug, PartialEq, Eq)]
@@ -24,7 +23,7 @@ pub enum Lost {
 pub struct Text {
     pub bytes: Vec<u8>,
     pub lost: Lost,
-    ghost short: { length bytes.items ≤ 2 ^ 24 },
+    ghost short: { length bytes.items ≤ text_limit },
 }
 
 impl Text {

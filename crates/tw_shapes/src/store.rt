@@ -100,7 +100,7 @@ impl Shapes {
         self.bindings.skeleton(self.alloc, shape)
     }
 
-    /// Does nothing: it says that each store has a solution.
+    /// Each store has a solution. A law: it has no code.
     pub fn has_solution(&self)
         ensures { HasSolution self.now }
     {

@@ -8,7 +8,7 @@ use Rattle.tw_print.specs.Names.{Scene, candidate, candidates, first_free, fresh
 use Rattle.tw_print.specs.Pieces.{Piece, token, space, in_parentheses}
 use Rattle.tw_print.specs.Shown.{Parts, parts, argument, operand, spaced, followed, operation, application, root_pieces, quantifier, quantified_test, quantifier_name, abstraction, in_parentheses_if, is_bare, is_operation, operator, head_operator, operand_count, term_layout, type_layout}
 use Rattle.tw_print.specs.Variables.{occurs_in_type}
-use Rattle.tw_scope.specs.Names.{Names as Scope, is_name}
+use Rattle.tw_fixity.specs.Names.{Names as Scope, is_name}
 use Rattle.tw_shown.specs.Shown.{Shown, outer, of_head, of_arguments, shown_within}
 use Rattle.tw_shown.specs.Laws.{AreNamedAlike, HaveSameNames, OnlyShownNamesMatter, TextsShowWhatIsListed}
 

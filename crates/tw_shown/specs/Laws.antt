@@ -3,7 +3,7 @@ use Rattle.std.specs.Prelude.{◌≡◌, ℕ, List, [], ◌∷◌, Option, slice
 use Rattle.lf.specs.Syntax.{Term, LfType}
 use Rattle.tw_print.specs.Names.{Scene}
 use Rattle.tw_print.specs.Shown.{parts}
-use Rattle.tw_scope.specs.Names.{Names as Scope, is_in_scope}
+use Rattle.tw_fixity.specs.Names.{Names as Scope, is_in_scope}
 use Rattle.tw_shown.specs.Shown.{shown_within}
 
 -- these variables have the same names in both scopes

@@ -4,7 +4,7 @@ use Rattle.std.specs.List.{slice_set}
 use Rattle.lf.specs.Syntax.{LfType}
 use Rattle.tw_print.specs.Arguments.{type_or}
 use Rattle.tw_print.specs.Names.{Scene, fresh_name, upper_base}
-use Rattle.tw_scope.specs.Names.{Names as Scope}
+use Rattle.tw_fixity.specs.Names.{Names as Scope}
 use Rattle.tw_shown.specs.Shown.{is_shown}
 
 -- the names of the context's variables, the innermost first, and the names that are taken

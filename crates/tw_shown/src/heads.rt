@@ -1,6 +1,5 @@
 //! Heads and families: how many of their arguments are hidden, and the types by which the others are shown.
-ghost use Rattle.std.specs.Prelude.{◌≡◌, IfOk, option_map};
-ghost use Rattle.lf.specs.Entries.{entry as entry_numbered, type_of as type_of_entry, kind_of as kind_of_entry};
+ghost use Rattle.std.specs.Prelude.{◌≡◌, IfOk};
 ghost use Rattle.tw_terms.specs.View.{args_of, head_of, kind_of, term_of, type_of};
 ghost use Rattle.tw_print.specs.Arguments as spec;
 ghost use Rattle.tw_print.specs.ArgumentView.{any_lambda, lambda_test};
@@ -8,7 +7,6 @@ ghost use Rattle.tw_print.specs.ShowEnv.{scene_of};
 
 use std::alloc::{AllocError, Global};
 use tw_print::ShowEnv;
-use tw_signature::{Body, Signature};
 use tw_terms::{ConstId, Context, Head, Kind, Spine, Term, Ty, weaken};
 
 /// Whether one of the arguments is a lambda.
@@ -65,7 +63,7 @@ pub fn head_type(
     ensures { IfOk result (λ a. type_of a ≡ spec.head_type (scene_of env.now) context.now (head_of head)) }
 {
     match head {
-        Head::Const(id) => match constant_type(env.sig, id) {
+        Head::Const(id) => match env.sig.constant_type(id) {
             Some(ty) => ty.copy(alloc),
             None => Err(AllocError),
         },
@@ -76,31 +74,11 @@ pub fn head_type(
     }
 }
 
-/// The type of a declared constant.
-fn constant_type(signature: &Signature, id: ConstId) -> Option<&Ty>
-    ensures { option_map (λ a. type_of a.now) result ≡ type_of_entry (entry_numbered signature.now id.0) }
-{
-    match &signature.entry(id)?.body {
-        Body::Constant(ty) => Some(ty),
-        Body::Family(_) | Body::Defined { .. } => None,
-    }
-}
-
-/// The kind of a declared family.
-fn family_kind(signature: &Signature, id: ConstId) -> Option<&Kind>
-    ensures { option_map (λ k. kind_of k.now) result ≡ kind_of_entry (entry_numbered signature.now id.0) }
-{
-    match &signature.entry(id)?.body {
-        Body::Family(kind) => Some(kind),
-        Body::Constant(_) | Body::Defined { .. } => None,
-    }
-}
-
 /// A type that has the quantifiers of a family's kind.
 pub fn family_type(alloc: Global, env: &ShowEnv, family: ConstId) -> Result<Ty, AllocError>
     ensures { IfOk result (λ a. type_of a ≡ spec.family_type (scene_of env.now) family.0) }
 {
-    match family_kind(env.sig, family) {
+    match env.sig.family_kind(family) {
         Some(kind) => kind_as_type(alloc, kind, ConstId(env.sig.len())),
         None => Err(AllocError),
     }

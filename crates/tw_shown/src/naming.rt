@@ -1,16 +1,13 @@
 //! Names for the variables of a context, in the order in which they are shown.
 ghost use Rattle.std.specs.Prelude.{◌≡◌, IfOk, OnOk, slice_get};
-ghost use Rattle.lf.specs.Variables.{target as target_of};
-ghost use Rattle.tw_terms.specs.View.{type_of};
 ghost use Rattle.tw_print.specs.ShowEnv.{scene_of};
 ghost use Rattle.tw_shown.specs.Naming.{MarksShown, lacks_name, name_one, named};
 ghost use Rattle.tw_shown.specs.Shown.{outside};
 
 use std::alloc::{AllocError, Global};
-use tw_fixity::Name;
+use tw_fixity::{Name, Scope};
 use tw_print::ShowEnv;
-use tw_scope::Scope;
-use tw_terms::{ConstId, Context, Ty};
+use tw_terms::{Context, Ty, target};
 
 /// The variables as seen from outside the innermost `count`, which aren't among them.
 pub fn outside(alloc: Global, shown: &[u64], count: u64) -> Result<Vec<u64>, AllocError>
@@ -87,15 +84,5 @@ fn lacks_name(names: &[Option<Name>], variable: u64) -> bool
     match names.get(variable as usize) {
         Some(None) => true,
         _ => false,
-    }
-}
-
-/// The family at the end of a type.
-fn target(ty: &Ty) -> ConstId
-    ensures { result.0 ≡ target_of (type_of ty.now) }
-{
-    match ty {
-        Ty::Pi(_, range) => target(range),
-        Ty::Atom(family, _) => *family,
     }
 }

@@ -40,7 +40,7 @@ pub fn walk_term(
             Some(Ty::Pi(domain, range)) => walk_lambda(
                 alloc, env, walk, body, domain, range, inner,
             ),
-            _ => Err(AllocError),
+            Some(Ty::Atom(_, _)) | None => unreachable!(),
         },
     }
 }

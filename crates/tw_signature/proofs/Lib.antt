@@ -1,3 +1,4 @@
 pub mod Numbers
 pub mod NewestNames
 pub mod Families
+pub mod FamilyConstants

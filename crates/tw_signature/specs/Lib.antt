@@ -1,4 +1,5 @@
 pub mod View
 pub mod Names
-pub mod Newest
 pub mod Codes
+pub mod Constants
+pub mod Goal

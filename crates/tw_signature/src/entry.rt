@@ -1,10 +1,11 @@
 //! The entries of a signature. Contracts see an entry as the plain one of the crate `lf`, through the views in `specs/View.antt`.
-ghost use Rattle.std.specs.Prelude.{◌≡◌, IfOk};
+ghost use Rattle.std.specs.Prelude.{◌≡◌, IfOk, option_map};
+ghost use Rattle.lf.specs.Constants.{family_of as family_of_body};
 ghost use Rattle.tw_signature.specs.View.{body_of, entry_of};
 
 use std::alloc::{AllocError, Global};
-use tw_fixity::Name;
-use tw_terms::{Kind, Term, Ty};
+use tw_fixity::{Name, copy_options};
+use tw_terms::{ConstId, Kind, Term, Ty, target};
 
 /// What an entry declares or defines.
 #[derive(Debug, Drop)]
@@ -30,6 +31,16 @@ pub struct Entry {
 
 #[tactic(auto, using(tw_terms::proofs::Args::types))]
 impl Body {
+    /// The family of a declared constant: the target of its type.
+    pub fn family(&self) -> Option<ConstId>
+        ensures { option_map (λ f. f.0) result ≡ family_of_body (body_of self.now) }
+    {
+        match self {
+            Body::Constant(ty) => Some(target(ty)),
+            Body::Family(_) | Body::Defined { .. } => None,
+        }
+    }
+
     /// An equal body. Fails only for want of memory.
     pub fn copy(&self, alloc: Global) -> Result<Body, AllocError>
         ensures { IfOk result (λ b. body_of b ≡ body_of self.now) }
@@ -55,27 +66,7 @@ impl Entry {
             name: self.name.copy(alloc)?,
             body: self.body.copy(alloc)?,
             implicit: self.implicit,
-            hints: copy_hints(alloc, &self.hints)?,
+            hints: copy_options(alloc, &self.hints)?,
         })
-    }
-}
-
-/// Equal hints. Fails only for want of memory.
-fn copy_hints(alloc: Global, hints: &[Option<Name>]) -> Result<Vec<Option<Name>>, AllocError>
-    ensures { IfOk result (λ h. h.items ≡ hints.now) }
-{
-    let mut copies = Vec::with_capacity(alloc, hints.len())?;
-    for hint in hints {
-        copies.push(copy_hint(alloc, hint)?)?;
-    }
-    Ok(copies)
-}
-
-fn copy_hint(alloc: Global, hint: &Option<Name>) -> Result<Option<Name>, AllocError>
-    ensures { IfOk result (λ h. h ≡ hint.now) }
-{
-    match hint {
-        Some(name) => Ok(Some(name.copy(alloc)?)),
-        None => Ok(None),
     }
 }

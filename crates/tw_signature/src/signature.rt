@@ -1,21 +1,26 @@
 //! The entries in order, with the newest of each name.
-ghost use Rattle.std.specs.Prelude.{◌≡◌, ◌∷◌, [], OnErr, OnOk, IfOk, option_map, length};
+ghost use Rattle.std.specs.Prelude.{◌≡◌, ◌∷◌, [], OnErr, OnOk, IfOk, option_map, length, map};
 ghost use Rattle.lf.specs.Entries.{entry as entry_numbered, signature_of, IsCanonicalEntry, IsCanonicalSignature};
+ghost use Rattle.lf.specs.Constants.{constants_of as constants_of_family};
+ghost use Rattle.tw_terms.specs.View.{type_of, kind_of};
 ghost use Rattle.tw_signature.specs.View.{entry_of};
 ghost use Rattle.tw_signature.specs.Names.{number_of};
 
-use crate::entry::Entry;
+use crate::constants::Constants;
+use crate::entry::{Body, Entry};
+use indexmap::IndexMap;
 use std::alloc::{AllocError, Global};
-use std::collections::HashMap;
 use std::marker::Model;
 use tw_fixity::Name;
-use tw_terms::ConstId;
+use tw_terms::{ConstId, Kind, Ty};
 
 /// The entries of canonical LF. An entry's number is how many stand before it. Contracts see the list of the entries, the newest first.
 #[derive(Drop)]
 pub struct Signature {
     entries: Vec<Entry>,
-    newest: HashMap<Vec<u8>, u64>,
+    /// The number of the newest entry of each name.
+    newest: IndexMap<Vec<u8>, u64>,
+    constants: Constants,
 }
 
 impl Model for Signature {
@@ -30,11 +35,13 @@ impl Model for Signature {
 
     ghost use Rattle.tw_signature.specs.View.{entries_of};
     ghost use Rattle.tw_signature.specs.Names.{number_of};
-    ghost use Rattle.tw_signature.specs.Newest.{number_at};
+    ghost use Rattle.tw_fixity.specs.Newest.{number_at};
 
     ghost view = { λ s. entries_of s.entries.items };
 
-    ghost invariant = { λ s. IsCanonicalSignature (entries_of s.entries.items) × ((name : List ℕ) → number_at s.newest name ≡ number_of (entries_of s.entries.items) name) };
+    ghost use Rattle.tw_signature.specs.Constants.{AreKept};
+
+    ghost invariant = { λ s. IsCanonicalSignature (entries_of s.entries.items) × ((name : List ℕ) → number_at s.newest name ≡ number_of (entries_of s.entries.items) name) × AreKept s.constants (entries_of s.entries.items) };
 }
 
 impl Signature {
@@ -44,7 +51,8 @@ impl Signature {
     {
         Signature {
             entries: Vec::new(alloc),
-            newest: HashMap::new(alloc),
+            newest: IndexMap::new(alloc),
+            constants: Constants::new(alloc),
         }
     }
 
@@ -60,6 +68,33 @@ impl Signature {
         ensures { option_map (λ e. entry_of e.now) result ≡ entry_numbered self.now id.0 }
     {
         self.entries.get(id.0 as usize)
+    }
+
+    /// The type of a declared constant. A definition has none.
+    pub fn constant_type(&self, id: ConstId) -> Option<&Ty>
+        ensures { option_map (λ a. type_of a.now) result ≡ (signature_of self.now).types id.0 }
+    {
+        match &self.entry(id)?.body {
+            Body::Constant(ty) => Some(ty),
+            Body::Family(_) | Body::Defined { .. } => None,
+        }
+    }
+
+    /// The kind of a declared family.
+    pub fn family_kind(&self, id: ConstId) -> Option<&Kind>
+        ensures { option_map (λ k. kind_of k.now) result ≡ (signature_of self.now).kinds id.0 }
+    {
+        match &self.entry(id)?.body {
+            Body::Family(kind) => Some(kind),
+            Body::Constant(_) | Body::Defined { .. } => None,
+        }
+    }
+
+    /// The declared constants whose types have this family as their target, the oldest first.
+    pub fn constants_of(&self, family: ConstId) -> &[ConstId]
+        ensures { map (λ c. c.0) result.now ≡ constants_of_family self.now family.0 }
+    {
+        self.constants.of(family)
     }
 
     /// The number of the newest entry of the name.
@@ -87,14 +122,17 @@ impl Signature {
         ensures unchanged { OnErr result (self.new ≡ self.old) }
     {
         let number = self.len();
+        let family = entry.body.family();
         self.entries.reserve(1)?;
+        self.constants.reserve(family)?;
         let name = Vec::from_slice(*self.entries.allocator(), entry.name.as_bytes())?;
         self.newest.insert(name, number)?;
         self.entries.push(entry)?;
+        self.constants.add(family, ConstId(number));
         Ok(ConstId(number))
     }
 
-    /// Each entry may stand over those before it.
+    /// Each entry may stand over those before it. A law: it has no code.
     pub fn is_canonical(&self)
         ensures { IsCanonicalSignature self.now }
     {

@@ -5,6 +5,9 @@ ghost use Rattle.tw_terms.specs.View.{term_of, spine_of, type_of, kind_of};
 
 use crate::canonical::{Kind, Spine, Term, Ty};
 
+/// The greatest depth of a term, type or kind that is kept or given.
+pub const DEPTH_LIMIT: u32 = 4_096;
+
 #[tactic(auto, using(crate::proofs::Args::spines))]
 impl Term {
     /// How many `Lam` and `Root` are nested, which is 1 for a head alone.

@@ -20,7 +20,8 @@ pub mod weakening;
 
 pub use canonical::{ConstId, Head, Kind, MetaId, Skeleton, Spine, Term, Ty};
 pub use context::Context;
+pub use depth::DEPTH_LIMIT;
 pub use open_context::OpenContext;
 pub use open_terms::{Open, OpenHead, OpenSpine, OpenTy};
-pub use skeletons::skeleton;
+pub use skeletons::{skeleton, target};
 pub use weakening::weaken;

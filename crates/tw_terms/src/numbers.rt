@@ -1,4 +1,4 @@
-//! Numbers of binders and of levels.
+//! Numbers of binders, of levels and of nested calls.
 ghost use Rattle.std.specs.Prelude.{◌≡◌, suc, IfOk};
 
 use std::alloc::AllocError;
@@ -15,4 +15,11 @@ pub fn one_less(levels: u64) -> Result<u64, AllocError>
     ensures { IfOk result (λ n. levels ≡ suc n) }
 {
     levels.checked_sub(1).ok_or(AllocError)
+}
+
+/// One nested call fewer. Fails where none is left: the machine's stack is memory too.
+pub fn nested(frames: u32) -> Result<u32, AllocError>
+    ensures { IfOk result (λ n. suc n ≡ frames) }
+{
+    frames.checked_sub(1).ok_or(AllocError)
 }

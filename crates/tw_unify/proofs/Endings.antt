@@ -2,36 +2,37 @@
 use Rattle.std.proofs.Common.{◌≡◌, List, [], ◌∷◌, Option, Some, None, sym, ap, subst}
 use Rattle.std.specs.Option.{MatchOption}
 use Rattle.lf.specs.Typing.{IsSignature, Signature}
-use Rattle.unification.specs.Solving as solving
-use Rattle.unification.specs.Steps.{Run}
-use Rattle.unification.specs.Unifiers.{Equation, Store}
-use Rattle.unification.proofs.Runs.{run_left, run_refuted, run_solved}
+use Rattle.lf_unification.specs.Solving as solving
+use Rattle.lf_unification.specs.Steps.{Run}
+use Rattle.lf_unification.specs.Unifiers.{Equation, Store}
+use Rattle.lf_unification.proofs.Runs.{run_left, run_refuted, run_solved}
+use Rattle.lf_unification.proofs.Sides.{run_origin}
 use Rattle.tw_metas.specs.State.{State, Story}
 use Rattle.tw_metas.specs.View.{equation_of}
 use Rattle.tw_metas.specs.declared.equation.Equation.{Equation as RustEquation}
-use Rattle.tw_unify.specs.Answers.{Answers, RestIs, StaysReady}
+use Rattle.tw_unify.specs.Answers.{Answers, KeepsSides, RestIs, StaysReady}
 use Rattle.tw_unify.specs.Outcomes.{CanRefute, Explains}
-use Rattle.tw_unify.specs.Ready.{IsReady}
+use Rattle.tw_putting.specs.Ready.{IsReady}
 use Rattle.tw_unify.specs.Sides.{AllLeft}
-use Rattle.tw_unify.specs.View.{IsConsistent, whole}
+use Rattle.tw_putting.specs.Whole.{IsConsistent, whole}
 use Rattle.tw_unify.specs.declared.fault.UnifyFault.{UnifyFault}
 use Rattle.tw_unify.specs.declared.fault.UnifyFault.TheVariants.{NoMemory, TooDeep}
 use Rattle.tw_unify.specs.declared.solving.Unified.{Unified}
 use Rattle.tw_unify.specs.declared.solving.Unified.TheVariants.{Left, Never, Solved}
 use Rattle.tw_unify.proofs.Leaving.{all_left_over}
 use Rattle.tw_unify.proofs.Orders.{both_runs}
-use Rattle.tw_unify.proofs.Readiness.{ready_after}
+use Rattle.tw_putting.proofs.Readiness.{ready_after}
 
 -- a fault after a run
-pub explains_after : (Σ : Signature) (f : UnifyFault) (s t : Store) → Run Σ [] s t → Explains f Σ t → Explains f Σ s
-explains_after Σ TooDeep s t p d = record { reached = d.reached; run = both_runs Σ [] p d.run; deep = d.deep }
+pub explains_after : (Σ : Signature) (f : UnifyFault) (s t : Store) → Run Σ s t → Explains f Σ t → Explains f Σ s
+explains_after Σ TooDeep s t p d = record { reached = d.reached; run = both_runs Σ p d.run; deep = d.deep }
 explains_after Σ NoMemory s t p d = tt
 
 module _ (Σ : Signature) (ok : IsSignature Σ) (given : List Equation) (s t : State) (r : IsReady Σ given s) (c : IsConsistent t) where
   -- nothing is at work any more
-  module _ (es : List Equation) (none : es ≡ []) (p : Run Σ [] (whole given s) (whole es t)) (l : AllLeft t t.equations) where
-    arrived : Run Σ [] (whole given s) (whole [] t)
-    arrived = subst (λ fs. Run Σ [] (whole given s) (whole fs t)) none p
+  module _ (es : List Equation) (none : es ≡ []) (p : Run Σ (whole given s) (whole es t)) (l : AllLeft t t.equations) where
+    arrived : Run Σ (whole given s) (whole [] t)
+    arrived = subst (λ fs. Run Σ (whole given s) (whole fs t)) none p
 
     ready : IsReady Σ [] t
     ready = ready_after Σ ok given [] s t r arrived c
@@ -46,23 +47,28 @@ module _ (Σ : Signature) (ok : IsSignature Σ) (given : List Equation) (s t : S
     rest_ready Never e = tt
     rest_ready Left n = ready
 
+    rest_sides : (a : Unified) → RestIs a t.equations → KeepsSides a (whole given s) (whole [] t)
+    rest_sides Solved e = tt
+    rest_sides Never e = tt
+    rest_sides Left n = λ e i. run_origin Σ ok r.well_formed arrived e i
+
     -- in the store as the call leaves it
-    pub rest_told : (t' : State) → t' ≡ t → (a : Unified) → RestIs a t'.equations → Answers a Σ (whole given s) (whole [] t') × StaysReady a Σ t'
+    pub rest_told : (t' : State) → t' ≡ t → (a : Unified) → RestIs a t'.equations → Answers a Σ (whole given s) (whole [] t') × StaysReady a Σ t' × KeepsSides a (whole given s) (whole [] t')
     rest_told t' e a h =
         let h' : RestIs a t.equations = subst (λ (u : State). RestIs a u.equations) e h in
-        (subst (λ (u : State). Answers a Σ (whole given s) (whole [] u)) (sym e) (rest_answers a h'), subst (λ (u : State). StaysReady a Σ u) (sym e) (rest_ready a h'))
+        (subst (λ (u : State). Answers a Σ (whole given s) (whole [] u)) (sym e) (rest_answers a h'), subst (λ (u : State). StaysReady a Σ u) (sym e) (rest_ready a h'), subst (λ (u : State). KeepsSides a (whole given s) (whole [] u)) (sym e) (rest_sides a h'))
 
   -- it is refuted
-  pub refuted_answers : (es : List Equation) → Run Σ [] (whole given s) (whole es t) → CanRefute Σ (whole es t) → solving.Never Σ [] (whole given s)
-  refuted_answers es p q = run_refuted Σ ok r.well_formed (both_runs Σ [] p q.run) q.refuted
+  pub refuted_answers : (es : List Equation) → Run Σ (whole given s) (whole es t) → CanRefute Σ (whole es t) → solving.Never Σ [] (whole given s)
+  refuted_answers es p q = run_refuted Σ ok r.well_formed (both_runs Σ p q.run) q.refuted
 
 -- what comes next, where nothing does, and where an equation does
 module _ (Σ : Signature) (es : List Equation) (old new : Story) (o : Option RustEquation) (fs : List Equation) where
   abbrev NextIs : Option RustEquation → Type 0
-  NextIs p = MatchOption p ((es ≡ []) × AllLeft old.now old.now.equations × (new ≡ old)) (λ d. Run Σ [] (whole es old.now) (whole (equation_of d ∷ fs) new.now))
+  NextIs p = MatchOption p ((es ≡ []) × AllLeft old.now old.now.equations × (new ≡ old)) (λ d. Run Σ (whole es old.now) (whole (equation_of d ∷ fs) new.now))
 
   pub none_next : o ≡ None → NextIs o → (es ≡ []) × AllLeft old.now old.now.equations × (new.now ≡ old.now)
   none_next e n = let m : NextIs None = subst NextIs e n in (m.0, m.1, ap (λ (x : Story). x.now) m.2)
 
-  pub some_next : (d : RustEquation) → o ≡ Some d → NextIs o → Run Σ [] (whole es old.now) (whole (equation_of d ∷ fs) new.now)
+  pub some_next : (d : RustEquation) → o ≡ Some d → NextIs o → Run Σ (whole es old.now) (whole (equation_of d ∷ fs) new.now)
   some_next d e n = subst NextIs e n

@@ -1,27 +1,31 @@
 -- The equations that are left: each is a left-over one, since each metavariable is a given one or stands in the value of one.
-use Rattle.std.proofs.Common.{◌≡◌, ℕ, List, [], ◌∷◌, Option, Some, inl, inr, refl, sym, ap, ◌∙◌, subst}
-use Rattle.lf.specs.Syntax.{LfType, Skeleton, Term, arrow, atom, base, metavariable, root, skeleton}
+use Rattle.std.proofs.Common.{◌≡◌, ℕ, zero, suc, List, [], ◌∷◌, Option, Some, inl, inr, refl, sym, ap, ◌∙◌, subst}
+use Rattle.lf.specs.Eta.{add_last, eta_expand, eta_long}
+use Rattle.lf.specs.Syntax.{LfType, Skeleton, Spine, Term, arrow, atom, base, metavariable, nil, rename_spine, root, skeleton, variable}
 use Rattle.lf.specs.Typing.{IsSignature, Signature}
-use Rattle.unification.specs.Lists.{followed}
-use Rattle.unification.specs.Offering.{pi_over}
-use Rattle.unification.specs.OpenTyping.{Declares, skeletons_of}
-use Rattle.unification.specs.Patterns.{lambdas_of, local_skeletons, pattern}
-use Rattle.unification.specs.PartialInstance.{IsFilling}
-use Rattle.unification.specs.Pruning.{PrunedType, pruned_store}
-use Rattle.unification.specs.Reach.{IsInside, Mentions, inside_value, is_given}
-use Rattle.unification.specs.Solving.{AllLeftOver, IsWellFormed}
-use Rattle.unification.specs.Steps.{Run, Step, bind, drop_equal, equal_heads, next_equation, no_step, open_lambdas, prune_both, prune_inside, put_bindings, then_run, turn_sides}
-use Rattle.unification.specs.Unifiers.{Binding, Equation, Store}
-use Rattle.unification.proofs.Agree.{set_cases}
-use Rattle.unification.proofs.Runs.{run_form}
-use Rattle.unification.proofs.Scope.{in_weaker}
+use Rattle.lf_unification.specs.Lists.{followed}
+use Rattle.lf_unification.specs.Offering.{pi_over}
+use Rattle.lf_unification.specs.OpenTyping.{Declares, skeletons_of}
+use Rattle.lf_unification.specs.Patterns.{lambdas_of, local_skeletons, pattern}
+use Rattle.lf_unification.specs.PartialInstance.{IsFilling}
+use Rattle.lf_unification.specs.Pruning.{PrunedType, pruned_store}
+use Rattle.lf_unification.specs.Reach.{IsInside, Mentions, inside_value, is_given}
+use Rattle.lf_unification.specs.Solving.{AllLeftOver, IsWellFormed}
+use Rattle.lf_unification.specs.Renewing.{renewed_store}
+use Rattle.lf_unification.specs.Steps.{Run, Step, bind, drop_equal, equal_heads, next_equation, no_step, on_pattern, open_lambdas, prune_both, prune_inside, put_bindings, renew, store_at, then_run}
+use Rattle.lf_unification.specs.Unifiers.{Binding, Equation, Store}
+use Rattle.lf_unification.proofs.Agree.{set_cases}
+use Rattle.lf_unification.proofs.Putting.{put_some}
+use Rattle.lf_unification.proofs.Runs.{run_form}
+use Rattle.lf_unification.proofs.Scope.{in_weaker}
 use Rattle.tw_metas.specs.State.{State}
 use Rattle.tw_putting.specs.Stores.{bindings_of, types_of}
-use Rattle.tw_unify.specs.Ready.{IsReady, TypesBySkeletons}
+use Rattle.tw_putting.specs.Ready.{IsReady, TypesBySkeletons}
 use Rattle.tw_unify.specs.Sides.{AllLeft, AllMayBeLeft, EquationFits, PutsBoth, with_sides}
-use Rattle.tw_unify.specs.View.{whole}
-use Rattle.tw_unify.proofs.Readiness.{can_take, ready_values}
-use Rattle.tw_unify.proofs.Skeletons.{run_types, term_declared, term_scoped}
+use Rattle.tw_putting.specs.Whole.{whole}
+use Rattle.tw_putting.proofs.Readiness.{ready_values}
+use Rattle.tw_unify.proofs.Fitting.{can_take}
+use Rattle.tw_putting.proofs.Skeletons.{run_types, term_declared, term_scoped}
 
 module _ (given : ℕ → Option LfType) where
   -- each declared metavariable is inside the given ones
@@ -46,21 +50,31 @@ module _ (given : ℕ → Option LfType) where
         | inr e ↦ inside_more b s.bindings (f m (A, sym e ∙ d))
       ]
 
+  mentions_expanded : (n : ℕ) (t : Skeleton) (S : Spine) → Mentions n (eta_expand t (metavariable n) S)
+  mentions_expanded n (base c) S = inl refl
+  mentions_expanded n (arrow a b) S = mentions_expanded n b (add_last (rename_spine suc S) (eta_expand a (variable zero) nil))
+
+  renewed_inside : (s : Store) (m : ℕ) (A A' : LfType) (n : ℕ) → s.metavariables m ≡ Some A → AllInside s → AllInside (renewed_store s m A A' n)
+  renewed_inside s m A A' n d f k (X, e) =
+      let b : Binding = record { of = m; value = eta_long (skeleton A) (metavariable n) } in
+      elim (set_cases n (Some A') s.metavariables k) [
+        | inl h ↦ inside_value b (inside_more b s.bindings (f m (A, d))) (inl refl) (subst (λ j. Mentions j (eta_long (skeleton A) (metavariable n))) (sym h) (mentions_expanded n (skeleton A) nil))
+        | inr h ↦ inside_more b s.bindings (f k (X, sym h ∙ e))
+      ]
+
   module _ (Σ : Signature) where
-    step_inside : {s s' : Store} → Step Σ [] s s' → AllInside s → AllInside s'
+    step_inside : {s s' : Store} → Step Σ s s' → AllInside s → AllInside s'
     step_inside (next_equation es e fs) f = f
-    step_inside turn_sides f = f
     step_inside (put_bindings p q) f = f
     step_inside drop_equal f = f
     step_inside open_lambdas f = f
     step_inside (equal_heads h A r g) f = f
-    step_inside (bind {Ψ = Ψ} {bs = bs} m xs d u i p b) f = λ k h. inside_more (record { of = m; value = lambdas_of (skeletons_of Ψ m) b.inverted.inversion }) bs (f k h)
-    step_inside (prune_inside {Ψ = Ψ} {bs = bs} {es = es} {D = D} {N = N} {C = C} m xs d p c u n g x) f =
-        pruned_inside (record { metavariables = Ψ; bindings = bs; equations = record { local = D; left = root (metavariable m) (pattern (skeletons_of Ψ m) xs); right = N; of_type = C } ∷ es }) c.drop.m c.dropped c.pruned n f
-    step_inside (prune_both {Ψ = Ψ} {bs = bs} {es = es} {D = D} {N = N} {C = C} m xs d p c u n g x) f =
-        pruned_inside (record { metavariables = Ψ; bindings = bs; equations = record { local = D; left = root (metavariable m) (pattern (skeletons_of Ψ m) xs); right = N; of_type = C } ∷ es }) m c.dropped c.pruned n f
+    step_inside (bind {Ψ = Ψ} {bs = bs} side D m xs N C d u p b) f = λ k h. inside_more (record { of = m; value = lambdas_of (skeletons_of Ψ m) b.inverted.inversion }) bs (f k h)
+    step_inside (prune_inside {Ψ = Ψ} {bs = bs} {es = es} side D m xs N C d p c u n x) f = pruned_inside (store_at side Ψ bs es D (on_pattern Ψ m xs) N C) c.drop.m c.dropped c.pruned n f
+    step_inside (prune_both {Ψ = Ψ} {bs = bs} {es = es} side D m xs N C d p c u n x) f = pruned_inside (store_at side Ψ bs es D (on_pattern Ψ m xs) N C) m c.dropped c.pruned n f
+    step_inside (renew {Ψ = Ψ} {bs = bs} {es = es} m A A' d u q p n x) f = renewed_inside (record { metavariables = Ψ; bindings = bs; equations = es }) m A A' n d f
 
-    pub run_inside : {s s' : Store} → Run Σ [] s s' → AllInside s → AllInside s'
+    pub run_inside : {s s' : Store} → Run Σ s s' → AllInside s → AllInside s'
     run_inside no_step f = f
     run_inside (then_run p r) f = run_inside r (step_inside p f)
 
@@ -78,8 +92,8 @@ module _ (Σ : Signature) (ok : IsSignature Σ) (s : State) (r : IsReady Σ [] s
     right_typed = term_declared Σ (types_of s) (IsFilling Σ [] (here_first e es)) e.local e.right e.of_type w.typed.equations_typed.0.right_typed;
   }
 
-  brought : (es : List Equation) (e : Equation) (fs : List Equation) → s.equations ≡ followed es (e ∷ fs) → Run Σ [] (whole [] s) (here_first e (followed es fs))
-  brought es e fs is = subst (λ gs. Run Σ [] (record { metavariables = types_of s; bindings = bindings_of s; equations = gs }) (here_first e (followed es fs))) (sym is) (then_run (next_equation es e fs) no_step)
+  brought : (es : List Equation) (e : Equation) (fs : List Equation) → s.equations ≡ followed es (e ∷ fs) → Run Σ (whole [] s) (here_first e (followed es fs))
+  brought es e fs is = subst (λ gs. Run Σ (record { metavariables = types_of s; bindings = bindings_of s; equations = gs }) (here_first e (followed es fs))) (sym is) (then_run (next_equation es e fs) no_step)
 
   at_place : (es : List Equation) (e : Equation) (fs : List Equation) → s.equations ≡ followed es (e ∷ fs) → EquationFits Σ s e
   at_place es e fs is = let p = brought es e fs is in first_fits e (followed es fs) (run_form Σ ok r.well_formed p) (run_types Σ ok p r.well_formed r.types)
@@ -88,7 +102,7 @@ module _ (Σ : Signature) (ok : IsSignature Σ) (s : State) (r : IsReady Σ [] s
   shown_at es e fs is M N (p, q) =
       let w = run_form Σ ok r.well_formed (brought es e fs is) in
       let t = run_types Σ ok (brought es e fs is) r.well_formed r.types in
-      let put : Run Σ [] (here_first e (followed es fs)) (here_first (with_sides e M N) (followed es fs)) = then_run (put_bindings p q) no_step in
+      let put : Run Σ (here_first e (followed es fs)) (here_first (with_sides e M N) (followed es fs)) = then_run (put_bindings (put_some p) (put_some q)) no_step in
       first_fits (with_sides e M N) (followed es fs) (run_form Σ ok w put) (run_types Σ ok put w t)
 
   next_place : (es : List Equation) (e : Equation) (fs : List Equation) → followed es (e ∷ fs) ≡ followed (followed es (e ∷ [])) fs
@@ -123,5 +137,5 @@ module _ (Σ : Signature) (ok : IsSignature Σ) (s : State) (r : IsReady Σ [] s
   )
 
   -- those that are left are left over
-  pub all_left_over : (before : Store) → Run Σ [] before (whole [] s) → AllLeft s s.equations → AllLeftOver before.metavariables (whole [] s) s.equations
+  pub all_left_over : (before : Store) → Run Σ before (whole [] s) → AllLeft s s.equations → AllLeftOver before.metavariables (whole [] s) s.equations
   all_left_over before p l = left_over_from before.metavariables (run_inside before.metavariables Σ p (λ m d. is_given d)) [] s.equations refl l

@@ -10,20 +10,20 @@ use Rattle.std.specs.declared.alloc.AllocError.{AllocError}
 use Rattle.lf.specs.SkeletonTyping.{SpineSkeleton, TermSkeleton}
 use Rattle.lf.specs.Skeletons.{type_skeleton}
 use Rattle.lf.specs.Subordination.{Member}
-use Rattle.lf.specs.Syntax.{LfType, Skeleton, Spine, Term, base, lambda, metavariable, root, skeleton}
+use Rattle.lf.specs.Syntax.{LfType, Skeleton, Spine, Term, base, constant, lambda, metavariable, root, skeleton, variable}
 use Rattle.lf.specs.Typing.{Signature}
-use Rattle.unification.specs.Inversion.{Inverted, IsPattern, MustDrop, NeverInverted}
-use Rattle.unification.specs.OpenTyping.{MetavariablesIn, MetavariablesInSpine, skeletons_of}
-use Rattle.unification.specs.Outside.{IsLambda, IsStuck, NoStep}
-use Rattle.unification.specs.Patterns.{FreeVariablesIn, FreeVariablesInSpine, InImage, LiftedSet, beyond, lambdas_of, local_skeletons, pattern, pattern_renaming}
-use Rattle.unification.specs.Pruning.{CanAgree, CanDrop}
-use Rattle.unification.specs.Putting.{Unbound}
-use Rattle.unification.specs.Reach.{IsReached}
-use Rattle.unification.specs.Rigid.{LiftedSetBy, Rigid, RigidInSpine, here, first, later, in_constant, in_lambda, in_variable}
-use Rattle.unification.specs.Skeletons.{skeleton_or_default}
-use Rattle.unification.specs.Steps.{IsRefuted, occurs_inside, store_at, variable_escapes}
-use Rattle.unification.specs.Unifiers.{Equation}
-use Rattle.unification.proofs.Inverse.{only_rename}
+use Rattle.lf_unification.specs.Inversion.{Inverted, IsPattern, MustDrop, NeverInverted}
+use Rattle.lf_unification.specs.OpenTyping.{MetavariablesIn, MetavariablesInSpine, skeletons_of}
+use Rattle.lf_unification.specs.Outside.{IsLambda, IsStuck}
+use Rattle.lf_unification.specs.Patterns.{FreeVariablesIn, FreeVariablesInSpine, InImage, LiftedSet, beyond, lambdas_of, local_skeletons, pattern, pattern_renaming}
+use Rattle.lf_unification.specs.Pruning.{CanAgree, CanDrop}
+use Rattle.lf_unification.specs.Putting.{Unbound}
+use Rattle.lf_unification.specs.Reach.{IsReached}
+use Rattle.lf_unification.specs.Rigid.{LiftedSetBy, Rigid, RigidInSpine, here, first, later, in_constant, in_lambda, in_variable}
+use Rattle.lf_unification.specs.Skeletons.{skeleton_or_default}
+use Rattle.lf_unification.specs.Steps.{IsRefuted, occurs_inside, store_at, variable_escapes}
+use Rattle.lf_unification.specs.Unifiers.{Equation, Side}
+use Rattle.lf_unification.proofs.Inverse.{only_rename}
 use Rattle.tw_metas.specs.State.{State}
 use Rattle.tw_putting.specs.Fits.{declared_skeletons}
 use Rattle.tw_putting.specs.Stores.{bindings_of, types_of}
@@ -37,10 +37,11 @@ use Rattle.tw_prune.specs.Recognition.{HasEachPattern, IsPatternOf}
 use Rattle.tw_prune.specs.Standing.{HasSkeleton, IsVariableOfPlace, StandsIn, skeletons_over}
 use Rattle.tw_prune.specs.declared.prune.Pruned.{Pruned}
 use Rattle.tw_terms.specs.OpenView.{open_spine_of, open_type_of}
-use Rattle.tw_unify.specs.Moving.{AgainstFits, BindsTo, IsSame, KeepsIt, LosesInBoth, LosesInside, LosesIt, NothingInside, SidesFit, on_pattern}
+use Rattle.tw_putting.specs.Unfolding.{HeadStays}
+use Rattle.tw_unify.specs.Moving.{AgainstFits, AreRenewed, BindsTo, HeadsFit, IsBlocked, IsSame, KeepsIt, LosesInBoth, LosesInside, LosesIt, NoMove, NothingInside, SidesFit, on_pattern}
 use Rattle.tw_unify.specs.Reaching.{IsAvoided}
 use Rattle.tw_unify.proofs.Reaching.{member_of_both}
-use Rattle.tw_unify.proofs.Skeletons.{term_with_more}
+use Rattle.tw_putting.proofs.Skeletons.{term_with_more}
 
 some_same : {A : Type 0} {x y : A} → Some x ≡ Some y → x ≡ y
 some_same e = cc
@@ -108,8 +109,8 @@ module _ (s : State) where
 
   module _ (D : List LfType) (m : ℕ) (xs : List ℕ) (N : Term) where
     -- a metavariable inside loses an argument
-    pub inside_loses : DropsVariableOfPlace → (n place : ℕ) (Y : LfType) (S : Spine) → MustLose (types_of s) D (skeletons_of (types_of s) m) xs N n place → LosesIt s n place Y S → LosesInside s D m xs N n Y S
-    inside_loses law n place Y S d l =
+    pub inside_loses : DropsVariableOfPlace → (n place : ℕ) (Y : LfType) (S : Spine) → MetavariablesIn (Unbound (bindings_of s)) N → MustLose (types_of s) D (skeletons_of (types_of s) m) xs N n place → LosesIt s n place Y S → LosesInside s D m xs N n Y S
+    inside_loses law n place Y S u d l =
         let there : LosesIt s d.drop.m d.drop.place Y S = subst (λ j. LosesIt s j d.drop.place Y S) (sym d.of) (subst (λ j. LosesIt s n j Y S) (sym d.at) l) in
         record {
           can = record {
@@ -118,6 +119,7 @@ module _ (s : State) where
             is_place = (law (types_of s) D (skeletons_of (types_of s) m) xs N d.drop there.dropped).1 there.at;
             pruned = there.pruned;
           };
+          unbound = dropped_unbound (Unbound (bindings_of s)) (types_of s) D (skeletons_of (types_of s) m) xs N u d.drop;
           of = d.of;
           gives = there.gives;
         }
@@ -171,7 +173,7 @@ module _ (s : State) where
 
     -- no step: the binding would be circular
     pub circular_stuck : (inner : ℕ) (B : Term) → StandsIn inner D (skeletons_of (types_of s) m) xs → IsInversion inner xs N B → IsReached (types_of s) (bindings_of s) N m → NothingInside s D m xs N → (CanAgree (types_of s) D m xs N → ⊥)
-        → NoStep (types_of s) (bindings_of s) D m xs N
+        → NoMove s D m xs N
     circular_stuck inner B i inversion r n a = record {
       circular = λ v. r;
       invertible = λ v. inverted_not_never (types_of s) D (skeletons_of (types_of s) m) xs N (inverted_by inner B i inversion) v;
@@ -181,7 +183,7 @@ module _ (s : State) where
     }
 
     -- no step: there is no inversion
-    pub hindered_stuck : (Inverted (types_of s) D (skeletons_of (types_of s) m) xs N → ⊥) → (NeverInverted (types_of s) D (skeletons_of (types_of s) m) xs N → ⊥) → NothingInside s D m xs N → (CanAgree (types_of s) D m xs N → ⊥) → NoStep (types_of s) (bindings_of s) D m xs N
+    pub hindered_stuck : (Inverted (types_of s) D (skeletons_of (types_of s) m) xs N → ⊥) → (NeverInverted (types_of s) D (skeletons_of (types_of s) m) xs N → ⊥) → NothingInside s D m xs N → (CanAgree (types_of s) D m xs N → ⊥) → NoMove s D m xs N
     hindered_stuck f g n a = record { circular = λ v. absurd (f v); invertible = g; not_inside = n.0; no_drop = n.1; no_agreement = a }
 
   no_lambda : (Σ : Signature) (Γ : List Skeleton) (N : Term) (c : ℕ) → TermSkeleton (declared_skeletons Σ (types_of s)) Γ N (base c) → IsLambda N → ⊥
@@ -189,12 +191,12 @@ module _ (s : State) where
   no_lambda Σ Γ (root h S) c t l = l
 
   module _ (D : List LfType) (m : ℕ) (xs : List ℕ) (N : Term) (f : AgainstFits s D m xs N) where
-    pub escape_refutes : NeverInverted (types_of s) D (skeletons_of (types_of s) m) xs N → (es : List Equation) (C : LfType) → IsRefuted (store_at (types_of s) (bindings_of s) es D (on_pattern s m xs) N C)
-    escape_refutes n es C = variable_escapes m xs f.declared f.is_pattern n
+    pub escape_refutes : NeverInverted (types_of s) D (skeletons_of (types_of s) m) xs N → (side : Side) (es : List Equation) (C : LfType) → IsRefuted (store_at side (types_of s) (bindings_of s) es D (on_pattern s m xs) N C)
+    escape_refutes n side es C = variable_escapes side D m xs N C f.declared f.is_pattern n
 
-    pub occurrence_refutes : (inner : ℕ) → length D ≡ inner → OccursInside m inner N → (es : List Equation) (C : LfType) → IsRefuted (store_at (types_of s) (bindings_of s) es D (on_pattern s m xs) N C)
-    occurrence_refutes inner e o es C =
-        occurs_inside m xs f.declared f.is_pattern (no_lambda f.signature (local_skeletons D []) N f.family f.right_typed)
+    pub occurrence_refutes : (inner : ℕ) → length D ≡ inner → OccursInside m inner N → (side : Side) (es : List Equation) (C : LfType) → IsRefuted (store_at side (types_of s) (bindings_of s) es D (on_pattern s m xs) N C)
+    occurrence_refutes inner e o side es C =
+        occurs_inside side D m xs N C f.declared f.is_pattern (no_lambda f.signature (local_skeletons D []) N f.family f.right_typed)
         (o (types_of s) D xs e (has_skeleton f.signature (types_of s) D N (base f.family) f.right_typed))
 
     pub stands : (inner : ℕ) → length D ≡ inner → StandsIn inner D (skeletons_of (types_of s) m) xs
@@ -203,7 +205,17 @@ module _ (s : State) where
     pub right_skeleton : HasSkeleton (types_of s) D N
     right_skeleton = has_skeleton f.signature (types_of s) D N (base f.family) f.right_typed
 
-  module _ (D : List LfType) (M N : Term) (f : SidesFit s D M N) (m : ℕ) (S : Spine) (is : M ≡ root (metavariable m) S) where
+  -- with the bindings put in no head is bound
+  head_stays : (M : Term) → MetavariablesIn (Unbound (bindings_of s)) M → HeadStays s M
+  head_stays (lambda M) u = tt
+  head_stays (root (constant c) S) u = tt
+  head_stays (root (variable i) S) u = tt
+  head_stays (root (metavariable m) S) u = u.0
+
+  pub heads_of : (D : List LfType) (M N : Term) → SidesFit s D M N → HeadsFit s D M N
+  heads_of D M N f = record { signature = f.signature; consistent = f.consistent; family = f.family; left_typed = f.left_typed; right_typed = f.right_typed; left_stays = head_stays M f.left_unbound }
+
+  module _ (D : List LfType) (M N : Term) (f : HeadsFit s D M N) (m : ℕ) (S : Spine) (is : M ≡ root (metavariable m) S) where
     declared_at : (x : Option LfType) (t : Skeleton) → type_skeleton x ≡ Some t → (X : LfType) × (x ≡ Some X) × (skeleton X ≡ t)
     declared_at None t e = absurd cc
     declared_at (Some X) t e = (X, refl, (let h : skeleton X ≡ t = cc in h))
@@ -227,10 +239,9 @@ module _ (s : State) where
             of_type = X;
             declared = d;
             is_pattern = i.is_pattern;
-            unbound = (subst (MetavariablesIn (Unbound (bindings_of s))) is f.left_unbound).0;
+            unbound = subst (HeadStays s) is f.left_stays;
             family = f.family;
             right_typed = f.right_typed;
-            right_unbound = f.right_unbound;
           },
           is ∙ ap (root (metavariable m)) q,
         )
@@ -239,19 +250,25 @@ module _ (s : State) where
     same_spine n T e = let h : root (metavariable m) S ≡ root (metavariable n) T = sym is ∙ e in ((let p : m ≡ n = cc in p), (let q : S ≡ T = cc in q))
 
     -- it is none
-    pub no_pattern_stuck : (inner : ℕ) → length D ≡ inner → HasEachPattern inner S None → IsStuck (types_of s) (bindings_of s) D M N
+    pub no_pattern_stuck : (inner : ℕ) → length D ≡ inner → HasEachPattern inner S None → IsBlocked s D M N
     no_pattern_stuck inner e h n ys p i =
         let (a, b) = same_spine n (pattern (skeletons_of (types_of s) n) ys) i in
         let no : None ≡ Some ys = h D (skeletons_of (types_of s) n) ys (record { count = e; is_pattern = p }) b in
         absurd cc
 
     -- no step is possible for the pattern that it is
-    pub pattern_stuck : (inner : ℕ) (xs : List ℕ) → length D ≡ inner → HasEachPattern inner S (Some xs) → NoStep (types_of s) (bindings_of s) D m xs N → IsStuck (types_of s) (bindings_of s) D M N
+    pub pattern_stuck : (inner : ℕ) (xs : List ℕ) → length D ≡ inner → HasEachPattern inner S (Some xs) → NoMove s D m xs N → IsBlocked s D M N
     pattern_stuck inner xs e h step n ys p i =
         let (a, b) = same_spine n (pattern (skeletons_of (types_of s) n) ys) i in
         let one : Some xs ≡ Some ys = h D (skeletons_of (types_of s) n) ys (record { count = e; is_pattern = p }) b in
         let two : xs ≡ ys = cc in
-        subst (λ zs. NoStep (types_of s) (bindings_of s) D n zs N) two (subst (λ j. NoStep (types_of s) (bindings_of s) D j xs N) a step)
+        subst (λ zs. NoMove s D n zs N) two (subst (λ j. NoMove s D j xs N) a step)
+
+  -- nothing can be done, and nothing that is reached needs to be renewed
+  pub blocked_stuck : (D : List LfType) (M N : Term) → IsBlocked s D M N → AreRenewed s N → IsStuck (types_of s) (bindings_of s) D M N
+  blocked_stuck D M N b r m xs p e =
+      let n = b m xs p e in
+      record { circular = n.circular; invertible = n.invertible; not_inside = n.not_inside; no_drop = n.no_drop; no_agreement = n.no_agreement; renewed = r }
 
   -- the other side is m on a pattern, if its arguments are one
   pub is_same : (D : List LfType) (m : ℕ) (xs : List ℕ) (N : Term) (f : AgainstFits s D m xs N) (S : Spine) → N ≡ root (metavariable m) S → (inner : ℕ) (ys : List ℕ) → length D ≡ inner → IsPatternOf inner S ys → HasEachPattern inner S (Some ys) → IsSame s D m ys N

@@ -4,11 +4,11 @@ use Rattle.std.specs.Prelude.{slice_get, unwrap_or}
 use Rattle.lf.specs.Eta.{add_last}
 use Rattle.lf.specs.Subordination.{Member}
 use Rattle.lf.specs.Syntax.{Head, LfType, Spine, Term, app, atom, constant, lambda, metavariable, nil, pi, root, variable}
-use Rattle.unification.specs.OpenTyping.{MetavariablesIn, MetavariablesInSpine, MetavariablesInType}
+use Rattle.lf_unification.specs.OpenTyping.{MetavariablesIn, MetavariablesInSpine, MetavariablesInType}
 use Rattle.tw_terms.specs.OpenView.{open_args_of, open_term_of}
 use Rattle.tw_terms.specs.declared.open_terms.Open.{Open}
 use Rattle.tw_unify.specs.Showing.{AllAmong, Grows, IsNumbered, IsNumberedHead, IsNumberedSpine, IsNumberedType, NeedsHead, NeedsSpine, NeedsTerm, NeedsType, at_place, numbered, numbered_spine, numbered_type}
-use Rattle.tw_unify.specs.View.{AreDistinct}
+use Rattle.tw_putting.specs.Whole.{AreDistinct}
 use Rattle.tw_unify.proofs.Reaching.{member_of_both}
 
 append_nothing : (ys : List ℕ) → ys ++ [] ≡ ys

@@ -2,9 +2,9 @@
 use Rattle.std.proofs.Common.{◌≡◌, ℕ, List, [], ◌∷◌, Option, refl, sym, ap, ◌∙◌, subst}
 use Rattle.lf.specs.Syntax.{LfType}
 use Rattle.lf.specs.Typing.{Signature}
-use Rattle.unification.specs.Lists.{followed}
-use Rattle.unification.specs.Steps.{Run, Step, next_equation, no_step, then_run}
-use Rattle.unification.specs.Unifiers.{Binding, Equation, Store}
+use Rattle.lf_unification.specs.Lists.{followed}
+use Rattle.lf_unification.specs.Steps.{Run, Step, next_equation, no_step, then_run}
+use Rattle.lf_unification.specs.Unifiers.{Binding, Equation, Store}
 
 pub followed_nothing : {A : Type 0} (xs : List A) → followed xs [] ≡ xs
 followed_nothing [] = refl
@@ -14,13 +14,13 @@ pub followed_twice : {A : Type 0} (xs ys zs : List A) → followed (followed xs 
 followed_twice [] ys zs = refl
 followed_twice (x ∷ xs) ys zs = ap (λ us. x ∷ us) (followed_twice xs ys zs)
 
-module _ (Σ : Signature) (G : List LfType) where
+module _ (Σ : Signature) where
   -- one run after another
-  pub both_runs : {s s' s'' : Store} → Run Σ G s s' → Run Σ G s' s'' → Run Σ G s s''
+  pub both_runs : {s s' s'' : Store} → Run Σ s s' → Run Σ s' s'' → Run Σ s s''
   both_runs no_step r = r
   both_runs (then_run p q) r = then_run p (both_runs q r)
 
-  pub one_step : {s s' : Store} → Step Σ G s s' → Run Σ G s s'
+  pub one_step : {s s' : Store} → Step Σ s s' → Run Σ s s'
   one_step p = then_run p no_step
 
   module _ (Ψ : ℕ → Option LfType) (bs : List Binding) where
@@ -28,19 +28,19 @@ module _ (Σ : Signature) (G : List LfType) where
     holding es = record { metavariables = Ψ; bindings = bs; equations = es }
 
     -- the equation behind es comes to the front
-    pub to_front : (es : List Equation) (e : Equation) (fs : List Equation) → Run Σ G (holding (followed es (e ∷ fs))) (holding (e ∷ followed es fs))
+    pub to_front : (es : List Equation) (e : Equation) (fs : List Equation) → Run Σ (holding (followed es (e ∷ fs))) (holding (e ∷ followed es fs))
     to_front es e fs = one_step (next_equation es e fs)
 
     -- two lists of equations change places
-    pub places_change : (xs ys zs : List Equation) → Run Σ G (holding (followed xs (followed ys zs))) (holding (followed ys (followed xs zs)))
+    pub places_change : (xs ys zs : List Equation) → Run Σ (holding (followed xs (followed ys zs))) (holding (followed ys (followed xs zs)))
     places_change xs [] zs = no_step
     places_change xs (y ∷ ys) zs =
-        let shifted : Run Σ G (holding (followed (followed xs (y ∷ [])) (followed ys zs))) (holding (followed ys (followed (followed xs (y ∷ [])) zs))) = places_change (followed xs (y ∷ [])) ys zs in
+        let shifted : Run Σ (holding (followed (followed xs (y ∷ [])) (followed ys zs))) (holding (followed ys (followed (followed xs (y ∷ [])) zs))) = places_change (followed xs (y ∷ [])) ys zs in
         let from : followed (followed xs (y ∷ [])) (followed ys zs) ≡ followed xs (y ∷ followed ys zs) = followed_twice xs (y ∷ []) (followed ys zs) in
         let to : followed ys (followed (followed xs (y ∷ [])) zs) ≡ followed (followed ys xs) (y ∷ zs) =
         ap (followed ys) (followed_twice xs (y ∷ []) zs) ∙ sym (followed_twice ys xs (y ∷ zs)) in
-        let moved : Run Σ G (holding (followed xs (y ∷ followed ys zs))) (holding (followed (followed ys xs) (y ∷ zs))) =
-        subst (λ es. Run Σ G (holding es) (holding (followed (followed ys xs) (y ∷ zs)))) from (subst (λ es. Run Σ G (holding (followed (followed xs (y ∷ [])) (followed ys zs))) (holding es)) to shifted) in
-        let front : Run Σ G (holding (followed (followed ys xs) (y ∷ zs))) (holding (y ∷ followed ys (followed xs zs))) =
-        subst (λ es. Run Σ G (holding (followed (followed ys xs) (y ∷ zs))) (holding (y ∷ es))) (followed_twice ys xs zs) (to_front (followed ys xs) y zs) in
+        let moved : Run Σ (holding (followed xs (y ∷ followed ys zs))) (holding (followed (followed ys xs) (y ∷ zs))) =
+        subst (λ es. Run Σ (holding es) (holding (followed (followed ys xs) (y ∷ zs)))) from (subst (λ es. Run Σ (holding (followed (followed xs (y ∷ [])) (followed ys zs))) (holding es)) to shifted) in
+        let front : Run Σ (holding (followed (followed ys xs) (y ∷ zs))) (holding (y ∷ followed ys (followed xs zs))) =
+        subst (λ es. Run Σ (holding (followed (followed ys xs) (y ∷ zs))) (holding (y ∷ es))) (followed_twice ys xs zs) (to_front (followed ys xs) y zs) in
         both_runs moved front

@@ -5,19 +5,19 @@ use Rattle.std.specs.List.{remove, slice_get}
 use Rattle.std.proofs.lemmas.List.{length-map, map-append, take_more}
 use Rattle.lf.specs.Subordination.{Member}
 use Rattle.lf.specs.Typing.{Signature}
-use Rattle.unification.specs.Lists.{followed}
-use Rattle.unification.specs.Steps.{Run, next_equation, no_step, then_run}
-use Rattle.unification.specs.Unifiers as unifiers
+use Rattle.lf_unification.specs.Lists.{followed}
+use Rattle.lf_unification.specs.Steps.{Run, next_equation, no_step, then_run}
+use Rattle.lf_unification.specs.Unifiers as unifiers
 use Rattle.tw_metas.specs.State.{State, without_equation}
 use Rattle.tw_metas.specs.View.{equation_of}
 use Rattle.tw_metas.specs.declared.equation.Equation.{Equation}
 use Rattle.tw_putting.specs.Stores.{bindings_of, types_of}
 use Rattle.tw_unify.specs.Outcomes.{Explains}
 use Rattle.tw_unify.specs.Sides.{AllLeft, AllMayBeLeft, BlamesDepth, BlamesSome, IsLeft, MayBeLeft}
-use Rattle.tw_unify.specs.View.{whole}
+use Rattle.tw_putting.specs.Whole.{whole}
 use Rattle.tw_unify.specs.declared.fault.UnifyFault.{UnifyFault}
 use Rattle.tw_unify.specs.declared.fault.UnifyFault.TheVariants.{NoMemory, TooDeep}
-use Rattle.tw_unify.proofs.Readiness.{deep_sides}
+use Rattle.tw_unify.proofs.Fitting.{deep_sides}
 
 pub still_on : (b : Bool) (P : Type 0) → b ≡ true → OnTrue b P → P
 still_on true P e p = p
@@ -76,14 +76,14 @@ abbrev holding : State → List unifiers.Equation → unifiers.Store
 holding s es = record { metavariables = types_of s; bindings = bindings_of s; equations = es }
 
 -- a postponed equation is woken
-pub wake_runs : (Σ : Signature) (s : State) (items : List Equation) (i : ℕ) (x : Equation) (d : unifiers.Equation) → map equation_of items ≡ s.equations → i < length items → x ≡ get_or items i x → d ≡ equation_of x → Run Σ [] (whole [] s) (whole (d ∷ []) (without_equation s i))
+pub wake_runs : (Σ : Signature) (s : State) (items : List Equation) (i : ℕ) (x : Equation) (d : unifiers.Equation) → map equation_of items ≡ s.equations → i < length items → x ≡ get_or items i x → d ≡ equation_of x → Run Σ (whole [] s) (whole (d ∷ []) (without_equation s i))
 wake_runs Σ s items i x d is h e k =
     let t = taken_out items i x h e in
-    let stepped : Run Σ [] (holding s (followed t.before (equation_of x ∷ t.behind))) (holding s (equation_of x ∷ followed t.before t.behind)) = then_run (next_equation t.before (equation_of x) t.behind) no_step in
-    let from : Run Σ [] (whole [] s) (holding s (equation_of x ∷ followed t.before t.behind)) =
-    subst (λ es. Run Σ [] (holding s es) (holding s (equation_of x ∷ followed t.before t.behind))) (sym t.whole_is ∙ is) stepped in
+    let stepped : Run Σ (holding s (followed t.before (equation_of x ∷ t.behind))) (holding s (equation_of x ∷ followed t.before t.behind)) = then_run (next_equation t.before (equation_of x) t.behind) no_step in
+    let from : Run Σ (whole [] s) (holding s (equation_of x ∷ followed t.before t.behind)) =
+    subst (λ es. Run Σ (holding s es) (holding s (equation_of x ∷ followed t.before t.behind))) (sym t.whole_is ∙ is) stepped in
     let to : followed t.before t.behind ≡ remove s.equations i = sym t.rest_is ∙ ap (λ es. remove es i) is in
-    subst (λ f. Run Σ [] (whole [] s) (whole (f ∷ []) (without_equation s i))) (sym k) (subst (λ es. Run Σ [] (whole [] s) (holding s (equation_of x ∷ es))) to from)
+    subst (λ f. Run Σ (whole [] s) (whole (f ∷ []) (without_equation s i))) (sym k) (subst (λ es. Run Σ (whole [] s) (holding s (equation_of x ∷ es))) to from)
 
 element_here : (items : List Equation) (i : ℕ) (x : Equation) → i < length items → x ≡ get_or items i x → slice_get (map equation_of items) i ≡ Some (equation_of x)
 element_here [] i x h e = absurd (omega arith)

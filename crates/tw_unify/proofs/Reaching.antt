@@ -1,15 +1,19 @@
 -- The walk to the metavariables that are reached.
-use Rattle.std.proofs.Common.{◌≡◌, ℕ, zero, suc, ◌<◌, List, [], ◌∷◌, ◌++◌, length, Bool, true, false, Option, ◌⊎◌, inl, inr, refl, sym, ap, ◌∙◌, subst, arith}
-use Rattle.std.specs.Prelude.{unwrap_or, slice_get, slice_set}
+use Rattle.std.proofs.Common.{◌≡◌, ℕ, List, [], ◌∷◌, ◌++◌, Bool, true, false, Option, Some, ◌⊎◌, inl, inr, refl, sym, ap, ◌∙◌, subst}
+use Rattle.std.specs.Prelude.{nat_eq, if◌then◌else◌}
+use Rattle.std.specs.HashSet.{HashSet, IsEmpty, contains}
+use Rattle.std.specs.List.{list_any}
+use Rattle.std.proofs.lemmas.Bool.{eq-eqb}
+use Rattle.std.proofs.lemmas.Bool.Decides.{eqb_tells}
 use Rattle.std.specs.Bool.{MatchBool}
 use Rattle.lf.specs.Subordination.{Member}
-use Rattle.lf.specs.Syntax.{Term, Spine, LfType, app, nil}
-use Rattle.unification.specs.OpenTyping.{MetavariablesIn, MetavariablesInSpine}
-use Rattle.unification.specs.Outside.{Holds, ValuesIn}
-use Rattle.unification.specs.Reach.{IsReached, Mentions, SpineMentions, in_term, in_type, in_value}
-use Rattle.unification.specs.Unifiers.{Binding}
-use Rattle.unification.proofs.Scope.{in_weaker, in_weaker_type}
-use Rattle.tw_unify.specs.Reaching.{IsAvoided, IsMarked, Marking, SameMarks, Spreads, StandsInType, StandsInValue, TypeIsMet, ValueIsMet}
+use Rattle.lf.specs.Syntax.{Term, Spine, LfType, app, atom, constant, lambda, metavariable, nil, pi, root, variable}
+use Rattle.lf_unification.specs.OpenTyping.{MetavariablesIn, MetavariablesInSpine, MetavariablesInType}
+use Rattle.lf_unification.specs.Outside.{Holds, ValuesIn}
+use Rattle.lf_unification.specs.Reach.{IsReached, Mentions, SpineMentions, TypeMentions, in_term, in_type, in_value}
+use Rattle.lf_unification.specs.Unifiers.{Binding}
+use Rattle.lf_unification.proofs.Scope.{in_weaker, in_weaker_type}
+use Rattle.tw_unify.specs.Reaching.{IsAvoided, IsMarked, Marking, Spreads, StandsInType, StandsInValue, TypeIsMet, ValueIsMet}
 
 pub member_front : {A : Type 0} (x : A) (xs ys : List A) → Member x xs → Member x (xs ++ ys)
 member_front x [] ys h = absurd h
@@ -25,60 +29,50 @@ member_of_both x [] ys h = inr h
 member_of_both x (y ∷ xs) ys (inl e) = inl (inl e)
 member_of_both x (y ∷ xs) ys (inr h) = elim (member_of_both x xs ys h) [ inl g ↦ inl (inr g) | inr g ↦ inr g ]
 
-pub pushed_mark : (xs : List Bool) (k : ℕ) → unwrap_or (slice_get (xs ++ false ∷ []) k) false ≡ unwrap_or (slice_get xs k) false
-pushed_mark [] zero = refl
-pushed_mark [] (suc k) = refl
-pushed_mark (x ∷ xs) zero = refl
-pushed_mark (x ∷ xs) (suc k) = pushed_mark xs k
+-- what a set of marks has after one is set
+abbrev pub IsSetAt : (ℕ → Bool) → (ℕ → Bool) → ℕ → Type 0
+IsSetAt old new m = (k : ℕ) → new k ≡ (if nat_eq m k then true else old k)
 
-pub room_so_far : (old now new : List Bool) → SameMarks old now → new ≡ now ++ false ∷ [] → SameMarks old new
-room_so_far old now new s e k = ap (λ ms. unwrap_or (slice_get ms k) false) e ∙ pushed_mark now k ∙ s k
+module _ (old new : Marking) (m : ℕ) (set : IsSetAt old.marks new.marks m) where
+  was_or_is : (k : ℕ) → IsMarked new k → IsMarked old k ⊎ (k ≡ m)
+  was_or_is k h = go (eqb_tells m k)
+    where
+      go : ((nat_eq m k ≡ true) × (m ≡ k)) ⊎ ((nat_eq m k ≡ false) × (m ≡ k → ⊥)) → IsMarked old k ⊎ (k ≡ m)
+      go (inl (e, q)) = inr (sym q)
+      go (inr (e, n)) = inl (subst Holds (set k ∙ ap (λ b. if b then true else old.marks k) e) h)
 
-set_marked : (xs : List Bool) (m k : ℕ) → Holds (unwrap_or (slice_get (slice_set xs m true) k) false) → (k ≡ m) ⊎ Holds (unwrap_or (slice_get xs k) false)
-set_marked [] m k h = inr h
-set_marked (x ∷ xs) zero zero h = inl refl
-set_marked (x ∷ xs) zero (suc k) h = inr h
-set_marked (x ∷ xs) (suc m) zero h = inr h
-set_marked (x ∷ xs) (suc m) (suc k) h = elim (set_marked xs m k h) [ inl e ↦ inl (ap suc e) | inr g ↦ inr g ]
+  stays_marked : (k : ℕ) → IsMarked old k → IsMarked new k
+  stays_marked k h = subst Holds (sym (set k)) (go (nat_eq m k))
+    where
+      go : (b : Bool) → Holds (if b then true else old.marks k)
+      go true = tt
+      go false = h
 
-set_keeps : (xs : List Bool) (m k : ℕ) → Holds (unwrap_or (slice_get xs k) false) → Holds (unwrap_or (slice_get (slice_set xs m true) k) false)
-set_keeps [] m k h = h
-set_keeps (x ∷ xs) zero zero h = tt
-set_keeps (x ∷ xs) zero (suc k) h = h
-set_keeps (x ∷ xs) (suc m) zero h = h
-set_keeps (x ∷ xs) (suc m) (suc k) h = set_keeps xs m k h
+  marked_now : IsMarked new m
+  marked_now = subst Holds (sym (set m ∙ ap (λ b. if b then true else old.marks m) (eq-eqb m m refl))) tt
 
-set_there : (xs : List Bool) (m : ℕ) → m < length xs → Holds (unwrap_or (slice_get (slice_set xs m true) m) false)
-set_there [] m h = absurd (omega arith)
-set_there (x ∷ xs) zero h = tt
-set_there (x ∷ xs) (suc m) h = set_there xs m (omega arith)
-
-module _ (old new : Marking) (room : List Bool) (m : ℕ) (same : SameMarks old.marks room) where
   -- m was met before
-  pub met_before : new.marks ≡ room → new.due ≡ old.due → Holds (unwrap_or (slice_get room m) false) → Spreads (λ k. k ≡ m) old new × IsMarked new m
-  met_before e d h = (
+  pub met_before : IsMarked old m → new.due ≡ old.due → Spreads (λ k. k ≡ m) old new × IsMarked new m
+  met_before h d = (
     record {
-      stay = λ k i. subst (λ ms. Holds (unwrap_or (slice_get ms k) false)) (sym e) (subst Holds (sym (same k)) i);
+      stay = stays_marked;
       due_stay = λ k i. subst (Member k) (sym d) i;
-      marked_are_due = λ k i. inl (subst Holds (same k) (subst (λ ms. Holds (unwrap_or (slice_get ms k) false)) e i));
+      marked_are_due = λ k i. elim (was_or_is k i) [ inl g ↦ inl g | inr e ↦ inl (subst (IsMarked old) (sym e) h) ];
       due_are_mentioned = λ k i. inl (subst (Member k) d i);
     },
-    subst (λ ms. Holds (unwrap_or (slice_get ms m) false)) (sym e) h,
+    marked_now,
   )
 
   -- m is met now
-  pub met_now : new.marks ≡ slice_set room m true → new.due ≡ old.due ++ m ∷ [] → m < length room → Spreads (λ k. k ≡ m) old new × IsMarked new m
-  met_now e d h = (
+  pub met_now : new.due ≡ old.due ++ m ∷ [] → Spreads (λ k. k ≡ m) old new × IsMarked new m
+  met_now d = (
     record {
-      stay = λ k i. subst (λ ms. Holds (unwrap_or (slice_get ms k) false)) (sym e) (set_keeps room m k (subst Holds (sym (same k)) i));
+      stay = stays_marked;
       due_stay = λ k i. subst (Member k) (sym d) (member_front k old.due (m ∷ []) i);
-      marked_are_due = λ k i. elim (set_marked room m k (subst (λ ms. Holds (unwrap_or (slice_get ms k) false)) e i)) [
-        | inl g ↦ inr (subst (λ j. Member j new.due) (sym g) (subst (Member m) (sym d) (member_last m old.due)))
-        | inr g ↦ inl (subst Holds (same k) g)
-      ];
-      due_are_mentioned = λ k i. elim (member_of_both k old.due (m ∷ []) (subst (Member k) d i)) [ inl g ↦ inl g | inr (inl g) ↦ inr g | inr (inr z) ↦ absurd z ];
+      marked_are_due = λ k i. elim (was_or_is k i) [ inl g ↦ inl g | inr e ↦ inr (subst (λ j. Member j new.due) (sym e) (subst (Member m) (sym d) (member_last m old.due))) ];
+      due_are_mentioned = λ k i. elim (member_of_both k old.due (m ∷ []) (subst (Member k) d i)) [ inl g ↦ inl g | inr (inl e) ↦ inr e | inr (inr z) ↦ absurd z ];
     },
-    subst (λ ms. Holds (unwrap_or (slice_get ms m) false)) (sym e) (set_there room m h),
+    marked_now,
   )
 
 module _ (P : ℕ → Type 0) (w : Marking) where
@@ -116,6 +110,25 @@ walk_step old v w S T M s p m = record {
 
 pub walk_met : (old now : Marking) (S : Spine) → SpineWalk old now S nil → MetavariablesInSpine (IsMarked now) S
 walk_met old now S s = s.met now (λ k h. h) tt
+
+-- what stands in a term of the set is in the set
+mutual
+  mentioned_in : (V : ℕ → Type 0) (k : ℕ) (M : Term) → MetavariablesIn V M → Mentions k M → V k
+  mentioned_in V k (lambda M) m h = mentioned_in V k M m h
+  mentioned_in V k (root (constant c) S) m h = mentioned_in_spine V k S m h
+  mentioned_in V k (root (variable i) S) m h = mentioned_in_spine V k S m h
+  mentioned_in V k (root (metavariable n) S) (v, m) (inl e) = subst V (sym e) v
+  mentioned_in V k (root (metavariable n) S) (v, m) (inr h) = mentioned_in_spine V k S m h
+
+  mentioned_in_spine : (V : ℕ → Type 0) (k : ℕ) (S : Spine) → MetavariablesInSpine V S → SpineMentions k S → V k
+  mentioned_in_spine V k nil m h = absurd h
+  mentioned_in_spine V k (app M S) (m, n) (inl h) = mentioned_in V k M m h
+  mentioned_in_spine V k (app M S) (m, n) (inr h) = mentioned_in_spine V k S n h
+
+mentioned_in_type : (V : ℕ → Type 0) (k : ℕ) (A : LfType) → MetavariablesInType V A → TypeMentions k A → V k
+mentioned_in_type V k (pi A B) (a, b) (inl h) = mentioned_in_type V k A a h
+mentioned_in_type V k (pi A B) (a, b) (inr h) = mentioned_in_type V k B b h
+mentioned_in_type V k (atom a S) m h = mentioned_in_spine V k S m h
 
 module _ (Ψ : ℕ → Option LfType) (bs : List Binding) where
   -- The search from N: what is marked is reached, and its type and value are met or due.
@@ -175,7 +188,7 @@ module _ (Ψ : ℕ → Option LfType) (bs : List Binding) where
   -- at the end, what isn't marked isn't reached
   pub search_avoids : (N : Term) (w : Marking) (m : ℕ) → IsSearch N w → w.due ≡ [] → (IsMarked w m → ⊥) → IsAvoided Ψ bs N m
   search_avoids N w m s e n = record {
-    reached = λ k. unwrap_or (slice_get w.marks k) false;
+    reached = w.marks;
     avoids = (
       λ k A h d. (none_due N w s e k h).0 A d,
       values_in (IsMarked w) bs (λ b g h. (none_due N w s e b.of h).1 b g refl),
@@ -188,5 +201,76 @@ module _ (Ψ : ℕ → Option LfType) (bs : List Binding) where
   search_answer N w m true s e h = s.marked_reached m h
   search_answer N w m false s e h = search_avoids N w m s e h
 
-pub none_marked : (w : Marking) → w.marks ≡ [] → ((k : ℕ) → IsMarked w k → ⊥) × Unit {0}
-none_marked w e = (λ k h. subst (λ ms. Holds (unwrap_or (slice_get ms k) false)) e h, tt)
+-- The search from two terms: what is marked is reached from one of them, its type and value are met or due, and what is not due any more passes the test.
+module _ (Ψ : ℕ → Option LfType) (bs : List Binding) (P : ℕ → Type 0) where
+  abbrev pub IsReachedFromOne : Term → Term → ℕ → Type 0
+  IsReachedFromOne M N k = IsReached Ψ bs M k ⊎ IsReached Ψ bs N k
+
+  pub record IsSearchOfTwo (M N : Term) (w : Marking) : Type 0 where
+    pub met_left : MetavariablesIn (IsMarked w) M
+    pub met_right : MetavariablesIn (IsMarked w) N
+    pub due_reached : (k : ℕ) → Member k w.due → IsReachedFromOne M N k
+    pub closed : (k : ℕ) → IsMarked w k → Member k w.due ⊎ (P k × TypeIsMet Ψ k w × ValueIsMet bs k w)
+
+  pub two_start : (M N : Term) (w u v : Marking) → ((k : ℕ) → IsMarked w k → ⊥) → ((k : ℕ) → Member k w.due → ⊥) → Spreads (λ k. Mentions k M) w u → MetavariablesIn (IsMarked u) M → Spreads (λ k. Mentions k N) u v → MetavariablesIn (IsMarked v) N → IsSearchOfTwo M N v
+  two_start M N w u v none no_due p m q n = record {
+    met_left = in_weaker (IsMarked u) (IsMarked v) q.stay M m;
+    met_right = n;
+    due_reached = λ k h. elim (q.due_are_mentioned k h) [ inl a ↦ elim (p.due_are_mentioned k a) [ inl b ↦ absurd (no_due k b) | inr b ↦ inl (in_term b) ] | inr a ↦ inr (in_term a) ];
+    closed = λ k h. elim (q.marked_are_due k h) [ inl a ↦ elim (p.marked_are_due k a) [ inl b ↦ absurd (none k b) | inr b ↦ inl (q.due_stay k b) ] | inr a ↦ inl a ];
+  }
+
+  from_type : (M N : Term) (k j : ℕ) (A : LfType) → Ψ k ≡ Some A → TypeMentions j A → IsReachedFromOne M N k → IsReachedFromOne M N j
+  from_type M N k j A d m (inl r) = inl (in_type r d m)
+  from_type M N k j A d m (inr r) = inr (in_type r d m)
+
+  from_value : (M N : Term) (k j : ℕ) → StandsInValue bs k j → IsReachedFromOne M N k → IsReachedFromOne M N j
+  from_value M N k j (b, h, e, m) (inl r) = inl (in_value b (subst (IsReached Ψ bs M) (sym e) r) h m)
+  from_value M N k j (b, h, e, m) (inr r) = inr (in_value b (subst (IsReached Ψ bs N) (sym e) r) h m)
+
+  -- metavariable k, which was due last and passes the test, is looked up
+  pub two_step : (M N : Term) (w w' u v : Marking) (k : ℕ) → w.marks ≡ w'.marks → w.due ≡ w'.due ++ k ∷ [] → IsSearchOfTwo M N w → P k → Spreads (StandsInType Ψ k) w' u → TypeIsMet Ψ k u → Spreads (StandsInValue bs k) u v → ValueIsMet bs k v → IsSearchOfTwo M N v
+  two_step M N w w' u v k same is s good p t q x =
+      let marked : (j : ℕ) → IsMarked w j → IsMarked w' j = λ j h. subst (λ ms. IsMarked (record { marks = ms; due = w.due }) j) same h in
+      let back : (j : ℕ) → IsMarked w' j → IsMarked w j = λ j h. subst (λ ms. IsMarked (record { marks = ms; due = w.due }) j) (sym same) h in
+      let k_reached : IsReachedFromOne M N k = s.due_reached k (subst (Member k) (sym is) (member_last k w'.due)) in
+      let stays : (j : ℕ) → IsMarked w j → IsMarked v j = λ j h. q.stay j (p.stay j (marked j h)) in
+      let due_w : (j : ℕ) → Member j w'.due → Member j w.due = λ j h. subst (Member j) (sym is) (member_front j w'.due (k ∷ []) h) in
+      let reached_u : (j : ℕ) → Member j u.due → IsReachedFromOne M N j = λ j h. elim (p.due_are_mentioned j h) [ inl a ↦ s.due_reached j (due_w j a) | inr (A, d, m) ↦ from_type M N k j A d m k_reached ] in
+      let reached_v : (j : ℕ) → Member j v.due → IsReachedFromOne M N j = λ j h. elim (q.due_are_mentioned j h) [ inl a ↦ reached_u j a | inr m ↦ from_value M N k j m k_reached ] in
+      let here : TypeIsMet Ψ k v × ValueIsMet bs k v = (λ A d. in_weaker_type (IsMarked u) (IsMarked v) (λ j h. q.stay j h) A (t A d), x) in
+      let from_w : (j : ℕ) → IsMarked w j → Member j v.due ⊎ (P j × TypeIsMet Ψ j v × ValueIsMet bs j v) = λ j h. elim (s.closed j h) [
+        | inl a ↦ elim (member_of_both j w'.due (k ∷ []) (subst (Member j) is a)) [
+          | inl b ↦ inl (q.due_stay j (p.due_stay j b))
+          | inr (inl e) ↦ inr (subst (λ i. P i × TypeIsMet Ψ i v × ValueIsMet bs i v) (sym e) (good, here.0, here.1))
+          | inr (inr z) ↦ absurd z
+        ]
+        | inr a ↦ inr (a.0, (λ A d. in_weaker_type (IsMarked w) (IsMarked v) stays A (a.1 A d)), (λ b g e. in_weaker (IsMarked w) (IsMarked v) stays b.value (a.2 b g e)))
+      ] in
+      record {
+        met_left = in_weaker (IsMarked w) (IsMarked v) stays M s.met_left;
+        met_right = in_weaker (IsMarked w) (IsMarked v) stays N s.met_right;
+        due_reached = reached_v;
+        closed = λ j h. elim (q.marked_are_due j h) [ inl a ↦ elim (p.marked_are_due j a) [ inl b ↦ from_w j (back j b) | inr b ↦ inl (q.due_stay j b) ] | inr a ↦ inl a ];
+      }
+
+  none_due_of_two : (M N : Term) (w : Marking) → IsSearchOfTwo M N w → w.due ≡ [] → (k : ℕ) → IsMarked w k → P k × TypeIsMet Ψ k w × ValueIsMet bs k w
+  none_due_of_two M N w s e k h = elim (s.closed k h) [ inl a ↦ absurd (subst (Member k) e a) | inr a ↦ a ]
+
+  reached_marked : (M N : Term) (w : Marking) → IsSearchOfTwo M N w → w.due ≡ [] → (L : Term) → MetavariablesIn (IsMarked w) L → (k : ℕ) → IsReached Ψ bs L k → IsMarked w k
+  reached_marked M N w s e L m k (in_term h) = mentioned_in (IsMarked w) k L m h
+  reached_marked M N w s e L m k (in_type {k = j} {A = A} r d h) = mentioned_in_type (IsMarked w) k A ((none_due_of_two M N w s e j (reached_marked M N w s e L m j r)).1 A d) h
+  reached_marked M N w s e L m k (in_value b r i h) = mentioned_in (IsMarked w) k b.value ((none_due_of_two M N w s e b.of (reached_marked M N w s e L m b.of r)).2 b i refl) h
+
+  -- at the end, all that is reached passes the test
+  pub two_end : (M N : Term) (w : Marking) → IsSearchOfTwo M N w → w.due ≡ [] → ((k : ℕ) → IsReached Ψ bs M k → P k) × ((k : ℕ) → IsReached Ψ bs N k → P k)
+  two_end M N w s e = (
+    λ k r. (none_due_of_two M N w s e k (reached_marked M N w s e M s.met_left k r)).0,
+    λ k r. (none_due_of_two M N w s e k (reached_marked M N w s e N s.met_right k r)).0,
+  )
+
+pub none_marked : (w : Marking) → ((k : ℕ) → w.marks k ≡ false) → (k : ℕ) → IsMarked w k → ⊥
+none_marked w e k h = subst Holds (e k) h
+
+pub nothing_in : {S : Type 0} (s : HashSet ℕ S) → IsEmpty s → (k : ℕ) → contains nat_eq s k ≡ false
+nothing_in s e k = ap (λ ks. list_any (nat_eq k) ks) e

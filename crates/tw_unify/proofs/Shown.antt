@@ -3,33 +3,31 @@ use Rattle.std.proofs.Common.{◌≡◌, ℕ, zero, suc, ◌<◌, ◌≤◌, Lis
 use Rattle.std.specs.Prelude.{Bool, true, false, if◌then◌else◌, nat_eq, slice_get, ◌-◌}
 use Rattle.std.proofs.lemmas.List.{length-map}
 use Rattle.std.proofs.lemmas.Bool.{eq-eqb, eqb-true}
-use Rattle.lf.specs.SkeletonTyping.{TypeBySkeletons}
-use Rattle.lf.specs.Skeletons.{family_skeletons}
 use Rattle.lf.specs.Subordination.{Member}
 use Rattle.lf.specs.Syntax.{LfType, Term}
 use Rattle.lf.specs.Typing.{Signature}
-use Rattle.unification.specs.PartialInstance.{EquationsAreTyped, IsFilling}
-use Rattle.unification.specs.Patterns.{local_skeletons}
-use Rattle.unification.specs.Putting.{binders}
-use Rattle.unification.specs.Unifiers.{Equation}
+use Rattle.lf_unification.specs.PartialInstance.{EquationsAreTyped, IsFilling}
+use Rattle.lf_unification.specs.Putting.{binders}
+use Rattle.lf_unification.specs.Unifiers.{Equation}
 use Rattle.tw_metas.specs.State.{State, value_of}
-use Rattle.tw_putting.specs.Fits.{PutTypeFits, StoreBySkeletons, declared_skeletons}
+use Rattle.tw_putting.specs.Fits.{PutTypeFits}
 use Rattle.tw_putting.specs.Stores.{PutsDeepType, PutsType, types_of}
 use Rattle.tw_terms.specs.declared.canonical.MetaId.{MetaId}
-use Rattle.tw_unify.specs.Named.{named_of, shown_type_of}
+use Rattle.tw_metas.specs.Named.{named_of, shown_type_of}
 use Rattle.tw_terms.specs.declared.open_terms.OpenTy.{OpenTy}
 use Rattle.tw_hered.specs.declared.fault.HeredFault.{HeredFault}
 use Rattle.tw_hered.specs.declared.fault.HeredFault.TheVariants as hered
 use Rattle.tw_unify.specs.Faults.{fault_of}
-use Rattle.tw_unify.specs.Ready.{IsReady, LocalsBySkeletons, TypesBySkeletons}
-use Rattle.tw_unify.specs.Showing.{AllAmong, BlamesEquation, BlamesLocals, BlamesShown, BlamesTypeOf, BlamesTypes, CanShow, DeepLocals, Grows, IsNumbered, IsNumberedType, LocalsCanTake, NeedsEquation, NeedsLocals, NeedsTerm, NeedsType, NeedsTypeOf, NeedsTypes, Shows, ShowsEquation, ShowsLocals, ShowsMetavariables, ShowsTerm, ShowsType, ShowsTypeOf, TypesCanTake, name_of, unbound_of, unless_bound}
+use Rattle.tw_putting.specs.Ready.{IsReady, LocalsBySkeletons, TypesBySkeletons}
+use Rattle.tw_unify.specs.Showing.{AllAmong, BlamesEquation, BlamesLocals, BlamesShown, BlamesTypeOf, BlamesTypes, CanShow, DeepLocals, Grows, IsNumbered, IsNumberedType, LocalsCanTake, NeedsEquation, NeedsLocals, NeedsTerm, NeedsType, NeedsTypeOf, NeedsTypes, Shows, ShowsEquation, ShowsLocals, ShowsMetavariables, ShowsTerm, ShowsType, ShowsTypeOf, name_of, unbound_of, unless_bound}
 use Rattle.tw_unify.specs.Sides.{BlamesDepth, PutsBoth}
-use Rattle.tw_unify.specs.View.{AreDistinct, whole}
+use Rattle.tw_putting.specs.Whole.{AreDistinct, whole}
 use Rattle.tw_unify.specs.declared.fault.UnifyFault.{UnifyFault}
 use Rattle.tw_unify.specs.declared.fault.UnifyFault.TheVariants.{TooDeep, NoMemory}
 use Rattle.tw_unify.proofs.Ordering.{drop_get, grows_for, grows_then, term_stays, type_stays}
-use Rattle.tw_unify.proofs.Readiness.{can_take, local_count, local_length, ready_values}
-use Rattle.tw_unify.proofs.Skeletons.{term_declared, type_declared}
+use Rattle.tw_putting.proofs.Readiness.{local_length, ready_values, type_takes, types_take}
+use Rattle.tw_unify.proofs.Fitting.{can_take}
+use Rattle.tw_putting.proofs.Skeletons.{term_declared}
 
 module _ (s : State) (N : List ℕ → Type 0) (xs ys : List ℕ) (g : Grows N xs ys) where
   pub shown_term_stays : (k : ℕ) (M M' : Term) → ShowsTerm s xs k M M' → ShowsTerm s ys k M M'
@@ -89,21 +87,9 @@ member_at (d ∷ es) zero e h = inl (let q : d ≡ e = cc in sym q)
 member_at (d ∷ es) (suc i) e h = inr (member_at es i e h)
 
 module _ (Σ : Signature) (s : State) (r : IsReady Σ [] s) where
-  type_takes : (D : List LfType) (A : LfType) → TypeBySkeletons (family_skeletons Σ) (declared_skeletons Σ (types_of s)) (local_skeletons D []) A → PutTypeFits s (binders D) A
-  type_takes D A a = record {
-    families = family_skeletons Σ;
-    signature = Σ;
-    context = local_skeletons D [];
-    type_typed = a;
-    store_typed = subst (λ Γ. StoreBySkeletons Σ Γ s) (sym (local_count D)) (ready_values Σ [] s r);
-  }
-
   locals_take : (D : List LfType) → LocalsBySkeletons Σ (types_of s) D → LocalsCanTake s D
   locals_take [] d = tt
-  locals_take (A ∷ D) (d, a) = (type_takes D A a, locals_take D d)
-
-  pub types_take : TypesCanTake s
-  types_take m A d = type_takes [] A (type_declared Σ (types_of s) (IsFilling Σ [] (whole [] s)) [] A (r.well_formed.typed.declarations_typed.metavariables_typed m A d))
+  locals_take (A ∷ D) (d, a) = (type_takes Σ [] s r D A a, locals_take D d)
 
   shows_one : (es : List Equation) (e : Equation) → EquationsAreTyped Σ [] (types_of s) (IsFilling Σ [] (whole [] s)) es → TypesBySkeletons Σ (types_of s) es → Member e es → CanShow s e
   shows_one [] e t u h = absurd h
@@ -116,8 +102,8 @@ module _ (Σ : Signature) (s : State) (r : IsReady Σ [] s) where
       left_typed = term_declared Σ (types_of s) (IsFilling Σ [] (whole [] s)) d.local d.left d.of_type t.left_typed;
       right_typed = term_declared Σ (types_of s) (IsFilling Σ [] (whole [] s)) d.local d.right d.of_type t.right_typed;
     });
-    of_type = type_takes d.local d.of_type a;
-    types = types_take;
+    of_type = type_takes Σ [] s r d.local d.of_type a;
+    types = types_take Σ [] s r;
   })
   shows_one (d ∷ es) e (t, ts) (u, us) (inr h) = shows_one es e ts us h
 

@@ -4,19 +4,19 @@ use Rattle.std.proofs.lemmas.List.{map-append, reverse-append}
 use Rattle.std.specs.List.{slice_get}
 use Rattle.std.specs.Option.{option_map}
 use Rattle.lf.specs.Syntax.{LfType, Spine, Term, metavariable, root}
-use Rattle.unification.specs.Lists.{followed}
-use Rattle.unification.specs.OpenTyping.{skeletons_of}
-use Rattle.unification.specs.Patterns.{lambdas_of}
-use Rattle.unification.specs.Skeletons.{skeleton_or_default}
+use Rattle.lf_unification.specs.Lists.{followed}
+use Rattle.lf_unification.specs.OpenTyping.{skeletons_of}
+use Rattle.lf_unification.specs.Patterns.{lambdas_of}
+use Rattle.lf_unification.specs.Skeletons.{skeleton_or_default}
 use Rattle.tw_metas.specs.State.{Declaration, IsUnbound, State, Story, changed, states, with_declared, with_value}
 use Rattle.tw_metas.specs.View.{equation_of}
 use Rattle.tw_metas.specs.declared.equation.Equation.{Equation}
 use Rattle.tw_putting.specs.Stores.{types_of}
 use Rattle.tw_unify.specs.Flexible.{pruned_state}
 use Rattle.tw_unify.specs.Outcomes.{stacked}
-use Rattle.tw_unify.specs.Ready.{IsLater}
-use Rattle.tw_unify.specs.View.{IsConsistent}
-use Rattle.tw_unify.proofs.Changes.{within}
+use Rattle.tw_putting.specs.Ready.{IsLater}
+use Rattle.tw_putting.specs.Whole.{IsConsistent}
+use Rattle.tw_putting.proofs.Changes.{within}
 
 pub later_nothing : (a b : Story) → b ≡ a → IsLater a b
 later_nothing a b e = ([], ap states e)

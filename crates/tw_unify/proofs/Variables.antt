@@ -12,15 +12,15 @@ use Rattle.lf.specs.Variables.{onto}
 use Rattle.lf.proofs.SkeletonTyping.{single_by_skeletons}
 use Rattle.lf.proofs.SkeletonTypes.{single_type_by_skeletons}
 use Rattle.lf.proofs.TypeLaws.{renamings_compose_type, skeleton_substituted}
-use Rattle.unification.specs.Lists.{followed}
-use Rattle.unification.specs.Offering.{argument_equations}
-use Rattle.unification.specs.Unifiers.{Equation}
-use Rattle.unification.specs.Patterns.{local_skeletons}
+use Rattle.lf_unification.specs.Lists.{followed}
+use Rattle.lf_unification.specs.Offering.{argument_equations}
+use Rattle.lf_unification.specs.Unifiers.{Equation}
+use Rattle.lf_unification.specs.Patterns.{local_skeletons}
 use Rattle.tw_hered.specs.Fits.{TypeFits}
 use Rattle.tw_putting.specs.Fits.{declared_skeletons}
 use Rattle.tw_unify.specs.Rigid.{ArgumentsFit, Decomposes, HasArguments, HasFunction, IsAtom, LeftFits, RigidHeadHasType, TakesBoth}
 use Rattle.tw_unify.proofs.Orders.{followed_nothing}
-use Rattle.tw_unify.proofs.Skeletons.{head_once, head_skeleton, rigid_by_skeletons}
+use Rattle.tw_putting.proofs.Skeletons.{head_once, head_skeleton, rigid_by_skeletons}
 
 one_is_suc : shift_by (suc zero) ≡ suc
 one_is_suc = fun_ext (λ i. omega arith)

@@ -1,10 +1,12 @@
 -- What solving answers.
 use Rattle.std.specs.Prelude.{◌≡◌, List, []}
+use Rattle.lf.specs.Subordination.{Member}
 use Rattle.lf.specs.Typing.{Signature}
-use Rattle.unification.specs.Solving as solving
-use Rattle.unification.specs.Unifiers.{Equation, Store}
+use Rattle.lf_unification.specs.Origins.{ComesFrom}
+use Rattle.lf_unification.specs.Solving as solving
+use Rattle.lf_unification.specs.Unifiers.{Equation, Store}
 use Rattle.tw_metas.specs.State.{State}
-use Rattle.tw_unify.specs.Ready.{IsReady}
+use Rattle.tw_putting.specs.Ready.{IsReady}
 use Rattle.tw_unify.specs.declared.solving.Unified.{Unified}
 use Rattle.tw_unify.specs.declared.solving.Unified.TheVariants.{Solved, Never, Left}
 
@@ -13,6 +15,16 @@ abbrev pub Answers : Unified → Signature → Store → Store → Type 0
 Answers Solved Σ before after = solving.Solved Σ before after
 Answers Never Σ before after = solving.Never Σ [] before
 Answers Left Σ before after = solving.Left Σ before after
+
+-- each equation that is left comes from one that was there or was given, the left side from the left one
+abbrev pub SidesStay : Store → Store → Type 0
+SidesStay before after = (e : Equation) → Member e after.equations → (given : Equation) × Member given before.equations × ComesFrom after.metavariables after.bindings given e
+
+-- where equations are left, their sides are where they were
+abbrev pub KeepsSides : Unified → Store → Store → Type 0
+KeepsSides Solved before after = Unit {0}
+KeepsSides Never before after = Unit {0}
+KeepsSides Left before after = SidesStay before after
 
 -- where there may be a typed unifier, the store can be solved again
 abbrev pub StaysReady : Unified → Signature → State → Type 0

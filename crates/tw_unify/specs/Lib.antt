@@ -1,5 +1,3 @@
-pub mod View
-pub mod Ready
 pub mod Reaching
 pub mod Moving
 pub mod Faults
@@ -9,4 +7,3 @@ pub mod Flexible
 pub mod Sides
 pub mod Answers
 pub mod Showing
-pub mod Named

@@ -1,10 +1,10 @@
 -- What a part of the work comes to, between the whole store before and after it.
-use Rattle.std.specs.Prelude.{List, [], map, reverse}
+use Rattle.std.specs.Prelude.{List, map, reverse}
 use Rattle.lf.specs.Depth.{depth_limit}
 use Rattle.lf.specs.Typing.{Signature}
-use Rattle.unification.specs.DeepEquations.{AreDeep}
-use Rattle.unification.specs.Steps.{IsRefuted, Run}
-use Rattle.unification.specs.Unifiers as unifiers
+use Rattle.lf_unification.specs.DeepEquations.{AreDeep}
+use Rattle.lf_unification.specs.Steps.{IsRefuted, Run}
+use Rattle.lf_unification.specs.Unifiers as unifiers
 use Rattle.tw_metas.specs.View.{equation_of}
 use Rattle.tw_metas.specs.declared.equation.Equation.{Equation}
 use Rattle.tw_unify.specs.declared.fault.UnifyFault.{UnifyFault}
@@ -19,15 +19,15 @@ stacked es = reverse (map equation_of es)
 -- steps lead to a store that is refuted
 pub record CanRefute (Σ : Signature) (s : unifiers.Store) : Type 0 where
   pub reached : unifiers.Store
-  pub run : Run Σ [] s reached
+  pub run : Run Σ s reached
   pub refuted : IsRefuted reached
 
 -- steps were made, or the store can be refuted
 abbrev pub Advances : Advance → Signature → unifiers.Store → unifiers.Store → Type 0
-Advances Went Σ before after = Run Σ [] before after
+Advances Went Σ before after = Run Σ before after
 Advances Refuted Σ before after = CanRefute Σ before
 
 -- the cause of a fault
 abbrev pub Explains : UnifyFault → Signature → unifiers.Store → Type 0
-Explains TooDeep Σ before = AreDeep depth_limit Σ [] before
+Explains TooDeep Σ before = AreDeep depth_limit Σ before
 Explains NoMemory Σ before = Unit {0}

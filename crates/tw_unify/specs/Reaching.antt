@@ -1,27 +1,24 @@
 -- The walk from a term to the metavariables that are reached from it: through its own, and through their types and values.
-use Rattle.std.specs.Prelude.{◌≡◌, ℕ, List, Bool, false, Option, Some, unwrap_or, slice_get, ◌⊎◌}
+use Rattle.std.specs.Prelude.{◌≡◌, ℕ, List, Bool, Option, Some, nat_eq, ◌⊎◌}
+use Rattle.std.specs.HashSet.{contains}
 use Rattle.lf.specs.Subordination.{Member}
 use Rattle.lf.specs.Syntax.{Term, LfType}
-use Rattle.unification.specs.OpenTyping.{MetavariablesIn, MetavariablesInType}
-use Rattle.unification.specs.Outside.{Avoids, Holds}
-use Rattle.unification.specs.Reach.{Mentions, TypeMentions}
-use Rattle.unification.specs.Unifiers.{Binding}
+use Rattle.lf_unification.specs.OpenTyping.{MetavariablesIn, MetavariablesInType}
+use Rattle.lf_unification.specs.Outside.{Avoids, Holds}
+use Rattle.lf_unification.specs.Reach.{Mentions, TypeMentions}
+use Rattle.lf_unification.specs.Unifiers.{Binding}
 use Rattle.tw_unify.specs.declared.reach.Walk.{Walk}
 
--- Which metavariables were met, by number, and those of them whose types and values are still to be walked.
+-- Which metavariables were met, and those of them whose types and values are still to be walked.
 pub record Marking : Type 0 where
-  pub marks : List Bool
+  pub marks : ℕ → Bool
   pub due : List ℕ
 
 abbrev pub marking_of : Walk → Marking
-marking_of w = record { marks = w.marks.items; due = w.due.items }
+marking_of w = record { marks = λ k. contains nat_eq w.marks k; due = w.due.items }
 
 abbrev pub IsMarked : Marking → ℕ → Type 0
-IsMarked w k = Holds (unwrap_or (slice_get w.marks k) false)
-
--- the same metavariables are marked
-abbrev pub SameMarks : List Bool → List Bool → Type 0
-SameMarks old new = (k : ℕ) → unwrap_or (slice_get new k) false ≡ unwrap_or (slice_get old k) false
+IsMarked w k = Holds (w.marks k)
 
 -- A walk through something that mentions the metavariables P: what was marked stays so, what is newly marked is due, and what is newly due is
 -- mentioned.

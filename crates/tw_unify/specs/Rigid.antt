@@ -4,14 +4,14 @@ use Rattle.lf.specs.SkeletonTyping.{SpineSkeleton, TermSkeleton, TypeBySkeletons
 use Rattle.lf.specs.Skeletons.{family_skeletons}
 use Rattle.lf.specs.Syntax.{Head, LfType, Skeleton, Spine, Term, atom, lambda, pi, root, skeleton}
 use Rattle.lf.specs.Typing.{Signature, instantiate_type}
-use Rattle.unification.specs.Lists.{followed}
-use Rattle.unification.specs.Offering.{argument_equations}
-use Rattle.unification.specs.OpenTyping.{OpenHeadHasType}
-use Rattle.unification.specs.Patterns.{local_skeletons}
-use Rattle.unification.specs.Putting.{IsRigidHead}
-use Rattle.unification.specs.Unifiers.{Equation}
+use Rattle.lf_unification.specs.Lists.{followed}
+use Rattle.lf_unification.specs.Offering.{argument_equations}
+use Rattle.lf_unification.specs.OpenTyping.{OpenHeadHasType}
+use Rattle.lf_unification.specs.Patterns.{local_skeletons}
+use Rattle.lf_unification.specs.Putting.{IsRigidHead}
+use Rattle.lf_unification.specs.Unifiers.{Equation}
 use Rattle.tw_putting.specs.Fits.{declared_skeletons}
-use Rattle.tw_unify.specs.Ready.{LocalsBySkeletons}
+use Rattle.tw_putting.specs.Ready.{LocalsBySkeletons}
 
 -- the head is a constant or variable of this type
 abbrev pub RigidHeadHasType : Signature → List LfType → Head → LfType → Type 0

@@ -2,14 +2,14 @@
 use Rattle.std.specs.Prelude.{◌≡◌, ◌<◌, ℕ, List, [], ◌∷◌, ◌++◌, length, map, Option, Some, None, ◌⊎◌, slice_get, unwrap_or, if◌then◌else◌, nat_eq}
 use Rattle.lf.specs.Subordination.{Member}
 use Rattle.lf.specs.Syntax.{Head, LfType, Spine, Term, app, atom, constant, lambda, metavariable, nil, pi, root, variable}
-use Rattle.unification.specs.OpenTyping.{MetavariablesIn, MetavariablesInSpine, MetavariablesInType}
-use Rattle.unification.specs.Putting.{binders}
-use Rattle.unification.specs.Unifiers.{Equation}
+use Rattle.lf_unification.specs.OpenTyping.{MetavariablesIn, MetavariablesInSpine, MetavariablesInType}
+use Rattle.lf_unification.specs.Putting.{binders}
+use Rattle.lf_unification.specs.Unifiers.{Equation}
 use Rattle.tw_metas.specs.State.{State, value_of}
-use Rattle.tw_putting.specs.Fits.{PutTypeFits}
+use Rattle.tw_putting.specs.Fits.{PutTypeFits, TypesCanTake}
 use Rattle.tw_putting.specs.Stores.{Puts, PutsDeep, PutsDeepType, PutsType, types_of}
 use Rattle.tw_unify.specs.Sides.{SidesCanTake}
-use Rattle.tw_unify.specs.View.{AreDistinct}
+use Rattle.tw_putting.specs.Whole.{AreDistinct}
 use Rattle.tw_unify.specs.declared.fault.UnifyFault.{UnifyFault}
 use Rattle.tw_unify.specs.declared.fault.UnifyFault.TheVariants.{TooDeep, NoMemory}
 
@@ -179,11 +179,7 @@ abbrev pub LocalsCanTake : State → List LfType → Type 0
 LocalsCanTake s [] = Unit {0}
 LocalsCanTake s (A ∷ D) = PutTypeFits s (binders D) A × LocalsCanTake s D
 
--- and into the types of all metavariables
-abbrev pub TypesCanTake : State → Type 0
-TypesCanTake s = (m : ℕ) (A : LfType) → types_of s m ≡ Some A → PutTypeFits s 0 A
-
--- and into all that is shown
+-- into all that is shown
 pub record CanShow (s : State) (e : Equation) : Type 0 where
   pub locals : LocalsCanTake s e.local
   pub sides : SidesCanTake s e

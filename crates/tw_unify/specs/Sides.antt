@@ -4,16 +4,17 @@ use Rattle.lf.specs.SkeletonTyping.{TermSkeleton}
 use Rattle.lf.specs.Subordination.{Member}
 use Rattle.lf.specs.Syntax.{Head, Spine, Term, constant, metavariable, root, skeleton, variable}
 use Rattle.lf.specs.Typing.{Signature}
-use Rattle.unification.specs.OpenTyping.{MetavariablesIn}
-use Rattle.unification.specs.Outside.{IsLambda, Outside}
-use Rattle.unification.specs.Patterns.{local_skeletons}
-use Rattle.unification.specs.Putting.{IsRigidHead, Unbound, binders}
-use Rattle.unification.specs.Unifiers.{Equation}
+use Rattle.lf_unification.specs.OpenTyping.{MetavariablesIn}
+use Rattle.lf_unification.specs.Outside.{IsLambda, Outside}
+use Rattle.lf_unification.specs.Patterns.{local_skeletons}
+use Rattle.lf_unification.specs.Putting.{IsRigidHead, Unbound, binders}
+use Rattle.lf_unification.specs.Unifiers.{Equation}
 use Rattle.tw_metas.specs.State.{State}
 use Rattle.tw_putting.specs.Fits.{PutFits, StoreBySkeletons, declared_skeletons}
 use Rattle.tw_putting.specs.Stores.{Puts, PutsDeep, bindings_of, types_of}
-use Rattle.tw_unify.specs.Ready.{LocalsBySkeletons}
-use Rattle.tw_unify.specs.View.{IsConsistent}
+use Rattle.tw_putting.specs.Unfolding.{BecomesConstant, HeadStays, PutsPart, UnfoldsDeep}
+use Rattle.tw_putting.specs.Ready.{LocalsBySkeletons}
+use Rattle.tw_putting.specs.Whole.{IsConsistent}
 use Rattle.tw_unify.specs.declared.fault.UnifyFault.{UnifyFault}
 use Rattle.tw_unify.specs.declared.fault.UnifyFault.TheVariants.{TooDeep, NoMemory}
 use Rattle.tw_unify.specs.declared.sides.Shape.{Shape}
@@ -91,6 +92,39 @@ pub record IsLeft (s : State) (e : Equation) : Type 0 where
 abbrev pub AllLeft : State → List Equation → Type 0
 AllLeft s [] = Unit {0}
 AllLeft s (e ∷ es) = IsLeft s e × AllLeft s es
+
+-- no head of a side is bound
+abbrev pub HeadsStay : State → Equation → Type 0
+HeadsStay s e = HeadStays s e.left × HeadStays s e.right
+
+-- with some values put in, the heads of the sides are different constants
+pub record BecomeApart (s : State) (e : Equation) : Type 0 where
+  pub left : ℕ
+  pub right : ℕ
+  pub left_becomes : BecomesConstant s (binders e.local) e.left left
+  pub right_becomes : BecomesConstant s (binders e.local) e.right right
+  pub differ : left ≡ right → ⊥
+
+-- f is the equation e with values put into its sides as far as their heads
+pub record UnfoldsBoth (s : State) (e f : Equation) : Type 0 where
+  pub left : PutsPart s (binders e.local) e.left f.left
+  pub right : PutsPart s (binders e.local) e.right f.right
+  pub is : f ≡ with_sides e f.left f.right
+  pub stay : HeadsStay s f
+
+-- f is the equation e with the bindings put into its sides
+pub record PutsAll (s : State) (e f : Equation) : Type 0 where
+  pub puts : PutsBoth s e f.left f.right
+  pub is : f ≡ with_sides e f.left f.right
+
+-- the sides are two roots, and the head of one is a metavariable
+abbrev pub IsFlexibleEquation : Equation → Type 0
+IsFlexibleEquation e = RootsHaveShape e.left e.right shape.Flexible
+
+-- what a side becomes so is deep
+abbrev pub BlamesUnfolding : UnifyFault → State → Equation → Type 0
+BlamesUnfolding TooDeep s e = UnfoldsDeep s (binders e.local) e.left ⊎ UnfoldsDeep s (binders e.local) e.right
+BlamesUnfolding NoMemory s e = Unit {0}
 
 -- no bound metavariable stands in the sides
 abbrev pub SidesUnbound : State → Equation → Type 0

@@ -1,80 +1,23 @@
 //! An equation that is left, as it can be shown.
-ghost use Rattle.std.specs.Prelude.{◌≡◌, ◌<◌, ◌++◌, [], ◌∷◌, IfOk, OnOk, IfSome, MatchOption, MatchResult, length, map, slice_get};
+ghost use Rattle.std.specs.Prelude.{◌≡◌, ◌<◌, ◌++◌, [], ◌∷◌, IfOk, OnOk, IfSome, MatchResult, length, map, slice_get};
 ghost use Rattle.lf.specs.Entries.{signature_of};
 ghost use Rattle.tw_terms.specs.OpenView.{open_type_of};
 ghost use Rattle.tw_metas.specs.View.{equation_of};
-ghost use Rattle.tw_unify.specs.View.{AreDistinct};
-ghost use Rattle.tw_unify.specs.Ready.{IsReady};
-ghost use Rattle.tw_unify.specs.Showing.{BlamesEquation, BlamesLocals, BlamesShown, BlamesTypeOf, BlamesTypes, CanShow, Grows, LocalsCanTake, NeedsEquation, NeedsLocals, NeedsTypeOf, NeedsTypes, Shows, ShowsEquation, ShowsLocals, ShowsMetavariables, ShowsTypeOf, TypesCanTake, name_of, unbound_of};
-ghost use Rattle.tw_unify.specs.Named.{named_of, shown_type_of};
+ghost use Rattle.tw_putting.specs.Whole.{AreDistinct};
+ghost use Rattle.tw_putting.specs.Fits.{TypesCanTake};
+ghost use Rattle.tw_putting.specs.Ready.{IsReady};
+ghost use Rattle.tw_unify.specs.Showing.{BlamesEquation, BlamesLocals, BlamesShown, BlamesTypeOf, BlamesTypes, CanShow, Grows, LocalsCanTake, NeedsEquation, NeedsLocals, NeedsTypeOf, NeedsTypes, Shows, ShowsEquation, ShowsLocals, ShowsMetavariables, ShowsTypeOf, name_of, unbound_of};
+ghost use Rattle.tw_metas.specs.Named.{named_of, shown_type_of};
 
 use crate::fault::UnifyFault;
 use crate::numbering::{number_term, number_type};
 use crate::sides::put_sides;
 use std::alloc::{AllocError, Global};
 use tw_fixity::Name;
-use tw_metas::{Equation, Store};
+use tw_metas::{Equation, LeftEquation, Store};
 use tw_putting::put_in_type;
 use tw_signature::Signature;
 use tw_terms::{MetaId, OpenContext, OpenTy};
-
-/// An equation that can be shown. In it `Meta(k)` is the metavariable `k` of `metas`, counted from 0, also in types.
-#[derive(Debug, Drop)]
-pub struct LeftEquation {
-    /// The contexts and types of the metavariables.
-    pub metas: Vec<(OpenContext, OpenTy)>,
-    /// For each metavariable the name to show it by, if it has one.
-    pub names: Vec<Option<Name>>,
-    pub equation: Equation,
-}
-
-impl LeftEquation {
-    /// An equal one. Fails only for want of memory.
-    pub fn copy(&self, alloc: Global) -> Result<LeftEquation, AllocError>
-        ensures metas { IfOk result (λ l. map shown_type_of l.metas.items ≡ map shown_type_of self.now.metas.items) }
-        ensures names { IfOk result (λ l. l.names.items ≡ self.now.names.items) }
-        ensures equation { IfOk result (λ l. equation_of l.equation ≡ equation_of self.now.equation) }
-    {
-        Ok(LeftEquation {
-            metas: copy_types(alloc, &self.metas)?,
-            names: copy_names(alloc, &self.names)?,
-            equation: self.equation.copy(alloc)?,
-        })
-    }
-}
-
-fn copy_types(
-    alloc: Global,
-    types: &[(OpenContext, OpenTy)],
-) -> Result<Vec<(OpenContext, OpenTy)>, AllocError>
-    ensures { IfOk result (λ v. map shown_type_of v.items ≡ map shown_type_of types.now) }
-{
-    let mut copies = Vec::with_capacity(alloc, types.len())?;
-    for (context, ty) in types {
-        let context = context.copy(alloc)?;
-        copies.push((context, ty.copy(alloc)?))?;
-    }
-    Ok(copies)
-}
-
-fn copy_names(alloc: Global, names: &[Option<Name>]) -> Result<Vec<Option<Name>>, AllocError>
-    ensures { IfOk result (λ v. v.items ≡ names.now) }
-{
-    let mut copies = Vec::with_capacity(alloc, names.len())?;
-    for name in names {
-        copies.push(copy_name(alloc, name)?)?;
-    }
-    Ok(copies)
-}
-
-fn copy_name(alloc: Global, name: &Option<Name>) -> Result<Option<Name>, AllocError>
-    ensures { IfOk result (λ n. n ≡ name.now) }
-{
-    match name {
-        Some(name) => Ok(Some(name.copy(alloc)?)),
-        None => Ok(None),
-    }
-}
 
 /// The postponed equation at this place, with the bindings put in. First come those of the named metavariables that are not bound, in their order, and then
 /// the others that occur. `TooDeep` only where putting the bindings in gives something deeper than 4,096.

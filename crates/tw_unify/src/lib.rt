@@ -5,17 +5,16 @@
 //! steps (`Run`) from the whole store before it to the one after it; so `solve` is one run, and the theory gives `Solved`, `Left` and `Never`. A change of
 //! order is a run too, since any equation may be taken first. A fault `TooDeep` is explained by a run to something deep. Nothing is taken back, so a mark from before leads back.
 //!
-//! **How it goes.** An equation from the stack has the bindings put into both sides (`step`). Lambdas are opened and equal constants or variables give the equations of their
-//! arguments, with types that are instantiated (`rigid`, `heads`). Where a metavariable is a head (`flexible`), each side in turn may be one on a pattern that allows a move
-//! against the other (`moves`): it is bound, a metavariable loses an argument, or there is no typed unifier. The occurs check goes through types and
-//! values (`reach`). Where neither side allows a move the equation is postponed. When the stack is empty, the postponed equations are gone over, and the first one that
-//! allows a step under the bindings of then is woken (`postponed`); when none does, all are outside the pattern fragment and the call answers.
+//! **How it goes.** An equation from the stack has values put into its sides as far as their heads (`step`), so that different constants or variables refute at once. Lambdas are opened
+//! and equal constants or variables give the equations of their arguments (`rigid`, `heads`). Where a metavariable is a head (`flexible`), each side in turn may be one on a pattern to which the
+//! other side is inverted as it stands: it is bound, and its value mentions what that side does. Else all values are put in, and each side in turn may allow a move against the other (`moves`): it is bound, a
+//! metavariable loses an argument, or there is no typed unifier. The occurs check goes through types and values (`reach`). Where neither side allows a move, a metavariable that is reached from
+//! the sides and whose type mentions a bound one is renewed at its type with the values put in (`stale`), and the equation is looked at again; else it is postponed. No side changes places with the other. When the stack is
+//! empty, the postponed equations are gone over, and the first one that allows a step under the bindings of then is woken (`postponed`); when none does, all are outside the pattern fragment and the call answers.
 //!
 //! An equation that is left is shown by `left_equation`: the bindings are put in, and the metavariables numbered by their places in an order that grows (`left`, `numbering`).
 //!
-//! **What is plain in this stage.** All postponed equations are gone over each time the stack is empty. At each step down the sides are looked through for bound metavariables, and copied with
-//! the values put in where there are any; at each argument of a constant the type that is left is copied. The occurs check clears a mark for each metavariable up to the greatest number that it meets.
-//! Typed sides are never mixed (a lambda and a root), and their heads have types; where a test finds otherwise, memory counts as used up.
+//! **What is plain in this stage.** All postponed equations are gone over each time the stack is empty.
 #![tactic(auto)]
 
 mod fault;
@@ -37,9 +36,13 @@ mod rigid;
 #[tactic(auto, using(tw_terms::proofs::OpenArgs::open_types))]
 mod sides;
 mod solving;
+#[tactic(auto, using(tw_terms::proofs::OpenArgs::open_types))]
+mod stale;
 mod step;
+#[tactic(auto, using(tw_terms::proofs::OpenArgs::open_types))]
+mod whole;
 mod work;
 
 pub use fault::UnifyFault;
-pub use left::{LeftEquation, left_equation};
+pub use left::left_equation;
 pub use solving::{Unified, solve};

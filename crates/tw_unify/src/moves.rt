@@ -1,12 +1,12 @@
 //! What can be done at a metavariable on a pattern.
-ghost use Rattle.std.specs.Prelude.{◌≡◌, IfOk, MatchOption};
-ghost use Rattle.unification.specs.OpenTyping.{skeletons_of};
-ghost use Rattle.unification.specs.Outside.{IsStuck, NoStep};
-ghost use Rattle.unification.specs.Pruning.{CanAgree, CanDrop};
-ghost use Rattle.unification.specs.Patterns.{lambdas_of};
+ghost use Rattle.std.specs.Prelude.{◌≡◌, IfOk, IfSome, MatchOption};
+ghost use Rattle.lf_unification.specs.OpenTyping.{MetavariablesIn, skeletons_of};
+ghost use Rattle.lf_unification.specs.Pruning.{CanAgree, CanDrop};
+ghost use Rattle.lf_unification.specs.Patterns.{lambdas_of};
+ghost use Rattle.lf_unification.specs.Putting.{Unbound};
 ghost use Rattle.tw_terms.specs.OpenView.{open_term_of, open_spine_of, open_type_of};
 ghost use Rattle.tw_putting.specs.Stores.{types_of, bindings_of};
-ghost use Rattle.tw_unify.specs.Moving.{SidesFit, AgainstFits, IsMoveAgainst, NothingInside, IsMove, IsSame, KeepsIt, LosesIt};
+ghost use Rattle.tw_unify.specs.Moving.{SidesFit, AgainstFits, HeadsFit, IsBlocked, IsMoveAgainst, NoMove, NothingInside, IsMove, IsSame, KeepsIt, LosesIt};
 
 use crate::reach::is_reached;
 use std::alloc::{AllocError, Global};
@@ -38,7 +38,7 @@ pub fn find_move(
     right: &Open,
 ) -> Result<Option<Move>, AllocError>
     requires { SidesFit store.now.now context.now (open_term_of left.now) (open_term_of right.now) }
-    ensures { IfOk result (λ r. MatchOption r (IsStuck (types_of store.now.now) (bindings_of store.now.now) context.now (open_term_of left.now) (open_term_of right.now)) (λ v. IsMove store.now.now context.now (open_term_of left.now) (open_term_of right.now) v)) }
+    ensures { IfOk result (λ r. MatchOption r (IsBlocked store.now.now context.now (open_term_of left.now) (open_term_of right.now)) (λ v. IsMove store.now.now context.now (open_term_of left.now) (open_term_of right.now) v)) }
 {
     match left {
         Open::Root(OpenHead::Meta(meta), spine) => {
@@ -51,6 +51,54 @@ pub fn find_move(
     }
 }
 
+/// A move where `left` is a metavariable on a pattern and the other side can be inverted, or can never be, as it stands. None where it is none, or where the other side has to be
+/// looked at with the bindings put in. Fails only for want of memory.
+pub fn find_at_once(
+    alloc: Global,
+    store: &Store,
+    context: &OpenContext,
+    left: &Open,
+    right: &Open,
+) -> Result<Option<Move>, AllocError>
+    requires { HeadsFit store.now.now context.now (open_term_of left.now) (open_term_of right.now) }
+    ensures { IfOk result (λ r. IfSome r (λ v. IsMove store.now.now context.now (open_term_of left.now) (open_term_of right.now) v)) }
+{
+    match left {
+        Open::Root(OpenHead::Meta(meta), spine) => {
+            match pattern_of(alloc, context.len() as u64, spine)? {
+                Some(pattern) => at_once_against(alloc, store, context, *meta, &pattern, right),
+                None => Ok(None),
+            }
+        }
+        _ => Ok(None),
+    }
+}
+
+/// Such a move of the metavariable on the pattern.
+fn at_once_against(
+    alloc: Global,
+    store: &Store,
+    context: &OpenContext,
+    meta: MetaId,
+    pattern: &[u64],
+    right: &Open,
+) -> Result<Option<Move>, AllocError>
+    requires { AgainstFits store.now.now context.now meta.0 pattern.now (open_term_of right.now) }
+    ensures { IfOk result (λ r. IfSome r (λ v. IsMoveAgainst store.now.now context.now meta.0 pattern.now (open_term_of right.now) v)) }
+{
+    match invert(alloc, pattern, context.len() as u64, right)? {
+        Inverted::Inverted(body) => {
+            if is_reached(alloc, store, right, meta)? {
+                Ok(None)
+            } else {
+                Ok(Some(Move::Bind(meta, value_over(alloc, store, meta, body)?)))
+            }
+        }
+        Inverted::Never => Ok(Some(Move::Refute)),
+        Inverted::Drop(_, _) | Inverted::Outside => Ok(None),
+    }
+}
+
 /// What can be done at the metavariable on the pattern.
 fn move_against(
     alloc: Global,
@@ -60,8 +108,9 @@ fn move_against(
     pattern: &[u64],
     right: &Open,
 ) -> Result<Option<Move>, AllocError>
-    requires { AgainstFits store.now.now context.now meta.0 pattern.now (open_term_of right.now) }
-    ensures { IfOk result (λ r. MatchOption r (NoStep (types_of store.now.now) (bindings_of store.now.now) context.now meta.0 pattern.now (open_term_of right.now)) (λ v. IsMoveAgainst store.now.now context.now meta.0 pattern.now (open_term_of right.now) v)) }
+    requires fits { AgainstFits store.now.now context.now meta.0 pattern.now (open_term_of right.now) }
+    requires unbound { MetavariablesIn (Unbound (bindings_of store.now.now)) (open_term_of right.now) }
+    ensures { IfOk result (λ r. MatchOption r (NoMove store.now.now context.now meta.0 pattern.now (open_term_of right.now)) (λ v. IsMoveAgainst store.now.now context.now meta.0 pattern.now (open_term_of right.now) v)) }
 {
     match agreement(alloc, store, context, meta, pattern, right)? {
         Some(found) => Ok(Some(found)),
@@ -137,7 +186,8 @@ fn by_inversion(
 ) -> Result<Option<Move>, AllocError>
     requires fits { AgainstFits store.now.now context.now meta.0 pattern.now (open_term_of right.now) }
     requires no_agreement { CanAgree (types_of store.now.now) context.now meta.0 pattern.now (open_term_of right.now) → ⊥ }
-    ensures { IfOk result (λ r. MatchOption r (NoStep (types_of store.now.now) (bindings_of store.now.now) context.now meta.0 pattern.now (open_term_of right.now)) (λ v. IsMoveAgainst store.now.now context.now meta.0 pattern.now (open_term_of right.now) v)) }
+    requires unbound { MetavariablesIn (Unbound (bindings_of store.now.now)) (open_term_of right.now) }
+    ensures { IfOk result (λ r. MatchOption r (NoMove store.now.now context.now meta.0 pattern.now (open_term_of right.now)) (λ v. IsMoveAgainst store.now.now context.now meta.0 pattern.now (open_term_of right.now) v)) }
 {
     match invert(alloc, pattern, context.len() as u64, right)? {
         Inverted::Inverted(body) => {
@@ -178,7 +228,8 @@ fn inside(
     pattern: &[u64],
     right: &Open,
 ) -> Result<Option<Move>, AllocError>
-    requires { AgainstFits store.now.now context.now meta.0 pattern.now (open_term_of right.now) }
+    requires fits { AgainstFits store.now.now context.now meta.0 pattern.now (open_term_of right.now) }
+    requires unbound { MetavariablesIn (Unbound (bindings_of store.now.now)) (open_term_of right.now) }
     ensures { IfOk result (λ r. MatchOption r (NothingInside store.now.now context.now meta.0 pattern.now (open_term_of right.now)) (λ v. IsMoveAgainst store.now.now context.now meta.0 pattern.now (open_term_of right.now) v)) }
 {
     if occurs_inside(alloc, meta, context.len() as u64, right)? {
@@ -197,7 +248,8 @@ fn losing(
     pattern: &[u64],
     right: &Open,
 ) -> Result<Option<Move>, AllocError>
-    requires { AgainstFits store.now.now context.now meta.0 pattern.now (open_term_of right.now) }
+    requires fits { AgainstFits store.now.now context.now meta.0 pattern.now (open_term_of right.now) }
+    requires unbound { MetavariablesIn (Unbound (bindings_of store.now.now)) (open_term_of right.now) }
     ensures { IfOk result (λ r. MatchOption r (CanDrop (types_of store.now.now) context.now (skeletons_of (types_of store.now.now) meta.0) pattern.now (open_term_of right.now) → ⊥) (λ v. IsMoveAgainst store.now.now context.now meta.0 pattern.now (open_term_of right.now) v)) }
 {
     let found = losses(alloc, pattern, context.len() as u64, right)?;

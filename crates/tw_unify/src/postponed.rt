@@ -2,10 +2,10 @@
 ghost use Rattle.std.specs.Prelude.{◌≡◌, ◌<◌, [], ◌∷◌, length, MatchOption, MatchResult};
 ghost use Rattle.std.specs.Bool.{OnTrue};
 ghost use Rattle.lf.specs.Entries.{signature_of, IsCanonicalSignature};
-ghost use Rattle.unification.specs.Steps.{Run};
+ghost use Rattle.lf_unification.specs.Steps.{Run};
 ghost use Rattle.tw_metas.specs.View.{equation_of};
-ghost use Rattle.tw_unify.specs.View.{IsConsistent, whole};
-ghost use Rattle.tw_unify.specs.Ready.{IsLater, IsReady};
+ghost use Rattle.tw_putting.specs.Whole.{IsConsistent, whole};
+ghost use Rattle.tw_putting.specs.Ready.{IsLater, IsReady};
 ghost use Rattle.tw_unify.specs.Outcomes.{Explains};
 ghost use Rattle.tw_unify.specs.Sides.{AllLeft, AllMayBeLeft, BlamesDepth, BlamesSome, IsLeft, MayBeLeft};
 
@@ -24,7 +24,7 @@ pub fn wake(
 ) -> Result<Option<Equation>, UnifyFault>
     requires canonical { IsCanonicalSignature signature.now }
     requires ready { IsReady (signature_of signature.now) [] store.old.now }
-    ensures woken { MatchResult result (λ r. MatchOption r (AllLeft store.old.now store.old.now.equations × (store.new ≡ store.old)) (λ e. Run (signature_of signature.now) [] (whole [] store.old.now) (whole (equation_of e ∷ []) store.new.now))) (λ f. Explains f (signature_of signature.now) (whole [] store.old.now)) }
+    ensures woken { MatchResult result (λ r. MatchOption r (AllLeft store.old.now store.old.now.equations × (store.new ≡ store.old)) (λ e. Run (signature_of signature.now) (whole [] store.old.now) (whole (equation_of e ∷ []) store.new.now))) (λ f. Explains f (signature_of signature.now) (whole [] store.old.now)) }
     ensures consistent { IsConsistent store.new.now }
     ensures story { IsLater store.old store.new }
 {
@@ -60,7 +60,7 @@ fn is_left(alloc: Global, store: &Store, equation: &Equation) -> Result<bool, Un
     match shape_of(&left, &right) {
         Shape::Flexible => match find_next(alloc, store, &equation.context, &left, &right)? {
             Next::Outside => Ok(true),
-            Next::Drop | Next::Left(_) | Next::Right(_) => Ok(false),
+            Next::Drop | Next::Left(_) | Next::Right(_) | Next::Renew(_) => Ok(false),
         },
         Shape::Lambdas | Shape::Alike | Shape::Apart | Shape::Mixed => Ok(false),
     }

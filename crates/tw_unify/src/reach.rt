@@ -1,20 +1,22 @@
 //! The occurs check, which goes through types and values.
-ghost use Rattle.std.specs.Prelude.{◌≡◌, OnOk, IfOk, MatchBool, ◌<◌, vec_len};
-ghost use Rattle.unification.specs.OpenTyping.{MetavariablesIn, MetavariablesInSpine, MetavariablesInType};
-ghost use Rattle.unification.specs.Reach.{Mentions, SpineMentions, TypeMentions, IsReached};
+ghost use Rattle.std.specs.Prelude.{◌≡◌, [], OnOk, IfOk, MatchBool};
+ghost use Rattle.std.specs.HashSet.{IsEmpty};
+ghost use Rattle.lf_unification.specs.OpenTyping.{MetavariablesIn, MetavariablesInSpine, MetavariablesInType};
+ghost use Rattle.lf_unification.specs.Reach.{Mentions, SpineMentions, TypeMentions, IsReached};
 ghost use Rattle.tw_terms.specs.OpenView.{open_term_of, open_spine_of, open_type_of};
 ghost use Rattle.tw_putting.specs.Stores.{types_of, bindings_of};
-ghost use Rattle.tw_unify.specs.View.{IsConsistent};
-ghost use Rattle.tw_unify.specs.Reaching.{marking_of, SameMarks, IsMarked, Spreads, StandsInType, StandsInValue, TypeIsMet, ValueIsMet, IsAvoided};
+ghost use Rattle.tw_putting.specs.Whole.{IsConsistent};
+ghost use Rattle.tw_unify.specs.Reaching.{marking_of, IsMarked, Spreads, StandsInType, StandsInValue, TypeIsMet, ValueIsMet, IsAvoided};
 
 use std::alloc::{AllocError, Global};
+use std::collections::HashSet;
 use tw_metas::Store;
 use tw_terms::{MetaId, Open, OpenHead, OpenSpine, OpenTy};
 
-/// The metavariables that were met, by number, and those of them whose types and values are still to be walked.
+/// The metavariables that were met, and those of them whose types and values are still to be walked.
 #[derive(Drop)]
 pub struct Walk {
-    pub marks: Vec<bool>,
+    pub marks: HashSet<u64>,
     pub due: Vec<u64>,
 }
 
@@ -29,10 +31,7 @@ pub fn is_reached(
     requires { IsConsistent store.now.now }
     ensures { IfOk result (λ b. MatchBool b (IsReached (types_of store.now.now) (bindings_of store.now.now) (open_term_of term.now) meta.0) (IsAvoided (types_of store.now.now) (bindings_of store.now.now) (open_term_of term.now) meta.0)) }
 {
-    let mut walk = Walk {
-        marks: Vec::new(alloc),
-        due: Vec::new(alloc),
-    };
+    let mut walk = Walk::new(alloc);
     walk.term(term)?;
     for _ in 0..u64::MAX {
         match walk.due.pop() {
@@ -47,18 +46,26 @@ pub fn is_reached(
 }
 
 impl Walk {
+    /// A walk that met nothing.
+    pub fn new(alloc: Global) -> Walk
+        ensures marks { IsEmpty result.marks }
+        ensures due { result.due.items ≡ [] }
+    {
+        Walk {
+            marks: HashSet::new(alloc),
+            due: Vec::new(alloc),
+        }
+    }
+
     /// Whether the metavariable was met.
     fn is_marked(&self, meta: MetaId) -> bool
         ensures { MatchBool result (IsMarked (marking_of self.now) meta.0) (IsMarked (marking_of self.now) meta.0 → ⊥) }
     {
-        match self.marks.get(meta.0 as usize) {
-            Some(mark) => *mark,
-            None => false,
-        }
+        self.marks.contains(&meta.0)
     }
 
     /// Goes through the type of a metavariable.
-    fn type_of(&mut self, store: &Store, meta: MetaId) -> Result<(), AllocError>
+    pub fn type_of(&mut self, store: &Store, meta: MetaId) -> Result<(), AllocError>
         ensures spread { OnOk result (Spreads (StandsInType (types_of store.now.now) meta.0) (marking_of self.old) (marking_of self.new)) }
         ensures met { OnOk result (TypeIsMet (types_of store.now.now) meta.0 (marking_of self.new)) }
     {
@@ -69,7 +76,7 @@ impl Walk {
     }
 
     /// Goes through the value of a metavariable.
-    fn value_of(&mut self, store: &Store, meta: MetaId) -> Result<(), AllocError>
+    pub fn value_of(&mut self, store: &Store, meta: MetaId) -> Result<(), AllocError>
         requires { IsConsistent store.now.now }
         ensures spread { OnOk result (Spreads (StandsInValue (bindings_of store.now.now) meta.0) (marking_of self.old) (marking_of self.new)) }
         ensures met { OnOk result (ValueIsMet (bindings_of store.now.now) meta.0 (marking_of self.new)) }
@@ -85,37 +92,15 @@ impl Walk {
         ensures spread { OnOk result (Spreads (λ k. k ≡ meta.0) (marking_of self.old) (marking_of self.new)) }
         ensures met { OnOk result (IsMarked (marking_of self.new) meta.0) }
     {
-        let place = meta.0 as usize;
-        self.make_room(place)?;
-        if self.marks[place] {
-            return Ok(());
+        if self.marks.insert(meta.0)? {
+            self.due.push(meta.0)?;
         }
-        self.marks[place] = true;
-        self.due.push(meta.0)?;
         Ok(())
-    }
-
-    /// Makes a place for the mark of this number.
-    fn make_room(&mut self, place: usize) -> Result<(), AllocError>
-        ensures room { OnOk result (place < vec_len self.new.marks) }
-        ensures same { OnOk result (SameMarks self.old.marks.items self.new.marks.items) }
-        ensures due { OnOk result (self.new.due ≡ self.old.due) }
-    {
-        if place < self.marks.len() {
-            return Ok(());
-        }
-        match place.checked_add(1) {
-            Some(count) => {
-                self.marks.resize(count, false)?;
-                Ok(())
-            }
-            None => Err(AllocError),
-        }
     }
 
     /// Goes through a term.
     #[cycle(walk)]
-    fn term(&mut self, term: &Open) -> Result<(), AllocError>
+    pub fn term(&mut self, term: &Open) -> Result<(), AllocError>
         ensures spread { OnOk result (Spreads (λ k. Mentions k (open_term_of term.now)) (marking_of self.old) (marking_of self.new)) }
         ensures met { OnOk result (MetavariablesIn (IsMarked (marking_of self.new)) (open_term_of term.now)) }
     {

@@ -2,7 +2,7 @@
 ghost use Rattle.std.specs.Prelude.{◌≡◌, IfOk, OnOk, map, MatchOption};
 ghost use Rattle.lf.specs.Entries.{signature_of, IsCanonicalSignature};
 ghost use Rattle.lf.specs.Syntax.{app, nil};
-ghost use Rattle.unification.specs.Offering.{argument_equations as equations_of_arguments};
+ghost use Rattle.lf_unification.specs.Offering.{argument_equations as equations_of_arguments};
 ghost use Rattle.tw_terms.specs.OpenView.{open_term_of, open_spine_of, open_type_of};
 ghost use Rattle.tw_metas.specs.View.{equation_of};
 ghost use Rattle.tw_unify.specs.Outcomes.{stacked};

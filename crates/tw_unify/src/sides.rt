@@ -1,16 +1,17 @@
 //! The sides of an equation, with the bindings put in.
 ghost use Rattle.std.specs.Prelude.{MatchBool, MatchResult};
-ghost use Rattle.unification.specs.Putting.{IsRigidHead};
+ghost use Rattle.std.specs.Bool.{OnTrue};
+ghost use Rattle.lf_unification.specs.Putting.{IsRigidHead};
 ghost use Rattle.tw_terms.specs.OpenView.{open_head_of, open_term_of};
 ghost use Rattle.tw_metas.specs.View.{equation_of};
 ghost use Rattle.tw_putting.specs.Fits.{PutFits};
 ghost use Rattle.tw_putting.specs.Stores.{Puts, ValuesAreBound};
-ghost use Rattle.tw_unify.specs.Sides.{BlamesDepth, BlamesSide, HaveShape, HeadsHaveShape, IsMetavariable, PutsBoth, SidesCanTake};
+ghost use Rattle.tw_unify.specs.Sides.{BecomeApart, BlamesDepth, BlamesSide, BlamesUnfolding, HaveShape, HeadsHaveShape, IsMetavariable, PutsAll, PutsBoth, SidesCanTake, UnfoldsBoth};
 
 use crate::fault::UnifyFault;
 use std::alloc::Global;
 use tw_metas::{Equation, Store};
-use tw_putting::{is_all_in, put_in};
+use tw_putting::{constant_head, is_all_in, put_in, unfold};
 use tw_terms::{Open, OpenHead};
 
 /// How the two sides of an equation begin.
@@ -62,6 +63,57 @@ fn is_meta(head: OpenHead) -> bool
     }
 }
 
+/// Whether the heads of the sides, with values put in as far as these, are seen to be different constants. It takes no memory.
+pub fn are_apart(store: &Store, equation: &Equation) -> bool
+    requires { SidesCanTake store.now.now (equation_of equation.now) }
+    ensures { OnTrue result (BecomeApart store.now.now (equation_of equation.now)) }
+{
+    match (
+        constant_head(store, &equation.left),
+        constant_head(store, &equation.right),
+    ) {
+        (Some(left), Some(right)) => left.0 != right.0,
+        _ => false,
+    }
+}
+
+/// The equation with values put into its sides as far as their heads. `TooDeep` only where what a side becomes so is deep.
+pub fn unfold_sides(
+    alloc: Global,
+    store: &Store,
+    equation: Equation,
+) -> Result<Equation, UnifyFault>
+    requires { SidesCanTake store.now.now (equation_of equation) }
+    ensures { MatchResult result (λ e. UnfoldsBoth store.now.now (equation_of equation) (equation_of e)) (λ f. BlamesUnfolding f store.now.now (equation_of equation)) }
+{
+    let binders = equation.context.len() as u64;
+    let left = unfold(alloc, store, binders, equation.left)?;
+    let right = unfold(alloc, store, binders, equation.right)?;
+    Ok(Equation {
+        context: equation.context,
+        left,
+        right,
+        ty: equation.ty,
+    })
+}
+
+/// The equation with the bindings put into its sides. `TooDeep` only where a side is deep then.
+pub fn put_both(alloc: Global, store: &Store, equation: Equation) -> Result<Equation, UnifyFault>
+    requires fits { SidesCanTake store.now.now (equation_of equation) }
+    requires bound { ValuesAreBound store.now.now }
+    ensures { MatchResult result (λ e. PutsAll store.now.now (equation_of equation) (equation_of e)) (λ f. BlamesDepth f store.now.now (equation_of equation)) }
+{
+    let binders = equation.context.len() as u64;
+    let left = put_side(alloc, store, binders, equation.left)?;
+    let right = put_side(alloc, store, binders, equation.right)?;
+    Ok(Equation {
+        context: equation.context,
+        left,
+        right,
+        ty: equation.ty,
+    })
+}
+
 /// Both sides with the bindings put in. `TooDeep` only where a side is deep then.
 pub fn put_sides(
     alloc: Global,
@@ -78,7 +130,7 @@ pub fn put_sides(
 }
 
 /// A side with the bindings put in. It stays as it is where there is nothing to put in. `TooDeep` only where it is deep then.
-pub fn put_side(alloc: Global, store: &Store, binders: u64, side: Open) -> Result<Open, UnifyFault>
+fn put_side(alloc: Global, store: &Store, binders: u64, side: Open) -> Result<Open, UnifyFault>
     requires fits { PutFits store.now.now binders (open_term_of side) }
     requires bound { ValuesAreBound store.now.now }
     ensures { MatchResult result (λ m. Puts store.now.now binders (open_term_of side) (open_term_of m)) (λ f. BlamesSide f store.now.now binders (open_term_of side)) }

@@ -2,12 +2,12 @@
 ghost use Rattle.std.specs.Prelude.{◌≡◌, [], ◌∷◌, map, IfOk, MatchOption, MatchResult};
 ghost use Rattle.lf.specs.Entries.{signature_of, IsCanonicalSignature};
 ghost use Rattle.tw_metas.specs.View.{equation_of};
-ghost use Rattle.tw_unify.specs.View.{IsConsistent, whole};
-ghost use Rattle.tw_unify.specs.Ready.{IsLater, IsReady};
+ghost use Rattle.tw_putting.specs.Whole.{IsConsistent, whole};
+ghost use Rattle.tw_putting.specs.Ready.{IsLater, IsReady};
 ghost use Rattle.tw_unify.specs.Outcomes.{Explains, stacked};
-ghost use Rattle.tw_unify.specs.Answers.{Answers, RestIs, StaysReady};
+ghost use Rattle.tw_unify.specs.Answers.{Answers, KeepsSides, RestIs, StaysReady};
 ghost use Rattle.tw_unify.specs.Sides.{AllLeft};
-ghost use Rattle.unification.specs.Steps.{Run};
+ghost use Rattle.lf_unification.specs.Steps.{Run};
 
 use crate::fault::UnifyFault;
 use crate::postponed::wake;
@@ -30,7 +30,7 @@ pub enum Unified {
 
 /// Solves the equations, and those that are postponed in the store.
 ///
-/// Answers `TooDeep` only where the equations are deep. After `Never` or a fault the store may hold new bindings; a mark taken before still leads back.
+/// An equation that is left has on its left side what came of the left side of one that was handed in or stood. Answers `TooDeep` only where the equations are deep. After `Never` or a fault the store may hold new bindings; a mark taken before still leads back.
 pub fn solve(
     alloc: Global,
     store: &mut Store,
@@ -39,6 +39,7 @@ pub fn solve(
 ) -> Result<Unified, UnifyFault>
     requires { IsReady (signature_of signature.now) (map equation_of equations.items) store.old.now }
     ensures answer { MatchResult result (λ a. Answers a (signature_of signature.now) (whole (map equation_of equations.items) store.old.now) (whole [] store.new.now)) (λ f. Explains f (signature_of signature.now) (whole (map equation_of equations.items) store.old.now)) }
+    ensures sides { IfOk result (λ a. KeepsSides a (whole (map equation_of equations.items) store.old.now) (whole [] store.new.now)) }
     ensures ready { IfOk result (λ a. StaysReady a (signature_of signature.now) store.new.now) }
     ensures consistent { IsConsistent store.new.now }
     ensures story { IsLater store.old store.new }
@@ -46,12 +47,15 @@ pub fn solve(
     signature.is_canonical();
     let mut work = equations;
     work.reverse();
+    let mut fresh = work.len();
     for _ in 0..u64::MAX {
         let next = next_equation(alloc, store, signature, &mut work)?;
         match next {
             None => return Ok(rest(store)),
             Some(equation) => {
-                let outcome = advance(alloc, store, signature, &mut work, equation)?;
+                let is_fresh = work.len() < fresh;
+                fresh = fresh.min(work.len());
+                let outcome = advance(alloc, store, signature, &mut work, equation, is_fresh)?;
                 match outcome {
                     Advance::Went => (),
                     Advance::Refuted => return Ok(Unified::Never),
@@ -71,7 +75,7 @@ fn next_equation(
 ) -> Result<Option<Equation>, UnifyFault>
     requires canonical { IsCanonicalSignature signature.now }
     requires ready { IsReady (signature_of signature.now) (stacked work.old.items) store.old.now }
-    ensures next { MatchResult result (λ r. MatchOption r ((stacked work.old.items ≡ []) × AllLeft store.old.now store.old.now.equations × (store.new ≡ store.old)) (λ e. Run (signature_of signature.now) [] (whole (stacked work.old.items) store.old.now) (whole (equation_of e ∷ stacked work.new.items) store.new.now))) (λ f. Explains f (signature_of signature.now) (whole (stacked work.old.items) store.old.now)) }
+    ensures next { MatchResult result (λ r. MatchOption r ((stacked work.old.items ≡ []) × AllLeft store.old.now store.old.now.equations × (store.new ≡ store.old)) (λ e. Run (signature_of signature.now) (whole (stacked work.old.items) store.old.now) (whole (equation_of e ∷ stacked work.new.items) store.new.now))) (λ f. Explains f (signature_of signature.now) (whole (stacked work.old.items) store.old.now)) }
     ensures consistent { IsConsistent store.new.now }
     ensures story { IsLater store.old store.new }
 {

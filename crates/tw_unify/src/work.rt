@@ -1,6 +1,6 @@
 //! The equations at work: a stack, the next one last.
-ghost use Rattle.std.specs.Prelude.{◌≡◌, OnOk, map};
-ghost use Rattle.unification.specs.Lists.{followed};
+ghost use Rattle.std.specs.Prelude.{◌≡◌, ◌∷◌, OnOk, map};
+ghost use Rattle.lf_unification.specs.Lists.{followed};
 ghost use Rattle.tw_metas.specs.View.{equation_of};
 ghost use Rattle.tw_unify.specs.Outcomes.{stacked};
 
@@ -14,6 +14,14 @@ pub enum Advance {
     Went,
     /// It has no typed unifier.
     Refuted,
+}
+
+/// Puts an equation on top of the stack.
+pub fn put_back(work: &mut Vec<Equation>, equation: Equation) -> Result<(), AllocError>
+    ensures { OnOk result (stacked work.new.items ≡ equation_of equation ∷ stacked work.old.items) }
+{
+    work.push(equation)?;
+    Ok(())
 }
 
 /// Puts the equations on the stack, the first one on top.

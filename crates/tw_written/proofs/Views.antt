@@ -1,6 +1,6 @@
 -- What a value of the program stands for, level by level.
 use Rattle.std.proofs.Common.{◌≡◌, ℕ, Box, Global, rules}
-use Rattle.elaboration.specs.Written as plain
+use Rattle.lf_elaboration.specs.Written as plain
 use Rattle.tw_lexer.specs.declared.place.Place.{Place}
 use Rattle.tw_terms.specs.View.{skeleton_of}
 use Rattle.tw_terms.specs.declared.canonical.ConstId.{ConstId}

@@ -1,6 +1,6 @@
 -- The written syntax of the theory that a value of the program stands for.
-use Rattle.elaboration.specs.Principal as theory_bodies
-use Rattle.elaboration.specs.Written as theory
+use Rattle.lf_elaboration.specs.Principal as theory_bodies
+use Rattle.lf_elaboration.specs.Written as theory
 use Rattle.tw_lexer.specs.declared.place.Place.{Place}
 use Rattle.tw_terms.specs.View.{skeleton_of}
 use Rattle.tw_written.specs.declared.written.Written.{Written, fold-Written}

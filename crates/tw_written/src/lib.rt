@@ -1,6 +1,24 @@
-//! What is written, with its names resolved: the values that resolving makes and elaboration reads.
+//! What is written, with its names resolved: the values that resolving makes and elaboration reads; and where the metavariables and the free variables of a
+//! declaration stand in its text.
 #![tactic(auto)]
 
+#[tactic(auto, using(crate::proofs::Steps::steps))]
+mod counts;
+#[tactic(auto, using(crate::proofs::Steps::steps))]
+mod first;
+mod frames;
+#[tactic(auto, using(crate::proofs::Steps::steps))]
+mod occurrences;
+#[tactic(auto, using(crate::proofs::Steps::steps))]
+mod order;
+#[tactic(auto, using(crate::proofs::Steps::steps))]
+mod places;
+#[tactic(auto, using(crate::proofs::Steps::steps))]
+mod site;
+#[tactic(auto, using(crate::proofs::Steps::steps))]
+mod spots;
 mod written;
 
+pub use frames::FRAMES;
+pub use places::{frees_in_text_order, sites};
 pub use written::{Written, WrittenBody, WrittenDomain, WrittenKind, WrittenType};

@@ -1,6 +1,6 @@
 use Rattle.std.proofs.Common.{map, subst, ◌∙◌}
-use Rattle.elaboration.specs.Elaboration.{NewFrees}
-use Rattle.elaboration.specs.PrincipalLaws.{ElaboratesBody}
+use Rattle.lf_elaboration.specs.Elaboration.{NewFrees}
+use Rattle.lf_elaboration.specs.PrincipalLaws.{ElaboratesBody}
 use Rattle.tw_written.specs.View.{written_body_of}
 use Rattle.tw_elaborate.specs.Bodies.{open_body_of}
 use Rattle.tw_terms.specs.View.{skeleton_of}

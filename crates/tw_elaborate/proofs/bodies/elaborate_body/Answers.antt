@@ -2,7 +2,7 @@ use Rattle.std.proofs.Common.{rules}
 use Rattle.tw_written.specs.View.{written_type_of}
 use Rattle.tw_terms.specs.OpenView.{open_type_of}
 use Rattle.tw_elaborate.specs.View.{made, numbers_of}
-use Rattle.tw_elaborate.specs.declared.fault.ElaborateFault.TheVariants.{TooDeep}
+use Rattle.tw_hered.specs.declared.fault.HeredFault.TheVariants.{TooDeep}
 use Rattle.tw_elaborate.proofs.Bodying.{deep_constant, deep_definition, deep_family, deep_type, deep_typed, handed_on, stands_with_type, type_has}
 use Rattle.tw_elaborate.proofs.Taking.{keeps_then}
 use Rattle.tw_elaborate.proofs.bodies.elaborate_body.Goals as goal

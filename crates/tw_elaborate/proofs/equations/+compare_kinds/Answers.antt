@@ -2,7 +2,7 @@ use Rattle.std.proofs.Common.{◌≡◌, ◌∷◌, ap, refl, sym, ◌∙◌, ar
 use Rattle.std.proofs.lemmas.Result.{on_ok_weaker}
 use Rattle.lf.specs.Entries.{signature_of}
 use Rattle.lf.specs.Syntax.{kind_pi}
-use Rattle.elaboration.specs.State.{type_equations}
+use Rattle.lf_elaboration.specs.State.{type_equations}
 use Rattle.tw_terms.specs.OpenView.{open_type_of}
 use Rattle.tw_elaborate.specs.Comparing.{ComparesKinds}
 use Rattle.tw_elaborate.specs.View.{made, open_kind_of}

@@ -1,8 +1,8 @@
 use Rattle.std.proofs.Common.{◌≡◌, ◌+◌, ◌≤◌, drop, length, sym, subst, ap₂}
 use Rattle.std.specs.Option.{MatchOption}
-use Rattle.elaboration.specs.State.{with_equations}
+use Rattle.lf_elaboration.specs.State.{with_equations}
 use Rattle.lf.specs.Syntax.{Spine, app, nil, star}
-use Rattle.unification.specs.Offering.{spine_equations}
+use Rattle.lf_unification.specs.Offering.{spine_equations}
 use Rattle.tw_terms.specs.OpenView.{open_args_of, open_term_of}
 use Rattle.tw_terms.proofs.OpenViews.{open_spine_of-args}
 use Rattle.tw_elaborate.specs.Comparing.{SpineStands, TakesBoth}

@@ -1,6 +1,6 @@
 use Rattle.std.proofs.Common.{◌≡◌, drop}
-use Rattle.elaboration.specs.State.{with_equations}
-use Rattle.unification.specs.Offering.{spine_equations}
+use Rattle.lf_elaboration.specs.State.{with_equations}
+use Rattle.lf_unification.specs.Offering.{spine_equations}
 use Rattle.tw_terms.specs.OpenView.{open_args_of, open_spine_of}
 use Rattle.tw_elaborate.specs.Comparing.{SpineStands}
 use Rattle.tw_elaborate.specs.Fresh.{Keeps}

@@ -1,5 +1,5 @@
 use Rattle.std.proofs.Common.{◌≡◌, drop}
-use Rattle.unification.specs.Offering.{pi_over}
+use Rattle.lf_unification.specs.Offering.{pi_over}
 use Rattle.tw_terms.specs.OpenView.{open_type_of}
 use Rattle.tw_elaborate.proofs.expand.closed_over.Given as goal
 

@@ -1,6 +1,6 @@
 use Rattle.std.proofs.Common.{◌≡◌, ◌+◌, ◌-◌, ap, sym, ◌∙◌, arith}
 use Rattle.lf.specs.Eta.{append}
-use Rattle.unification.specs.Offering.{local_arguments}
+use Rattle.lf_unification.specs.Offering.{local_arguments}
 use Rattle.tw_terms.specs.OpenView.{open_args_of, open_type_of}
 use Rattle.tw_terms.proofs.OpenViews.{open_spine_of-roll}
 use Rattle.tw_elaborate.proofs.Expanding.{newest_arguments, next_argument, no_more_arguments, start_arguments}

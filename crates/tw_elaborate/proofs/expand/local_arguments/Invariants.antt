@@ -1,6 +1,6 @@
 use Rattle.std.proofs.Common.{◌≡◌}
 use Rattle.lf.specs.Eta.{append}
-use Rattle.unification.specs.Offering.{local_arguments}
+use Rattle.lf_unification.specs.Offering.{local_arguments}
 use Rattle.tw_terms.specs.OpenView.{open_args_of}
 use Rattle.tw_elaborate.proofs.Expanding.{newest_arguments}
 use Rattle.tw_elaborate.proofs.expand.local_arguments.Given as goal

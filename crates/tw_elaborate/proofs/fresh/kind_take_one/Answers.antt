@@ -1,9 +1,10 @@
 use Rattle.std.proofs.Common.{◌≡◌, ap, arith, sym, subst, ◌∙◌}
 use Rattle.lf.specs.Syntax.{kind_pi, skeleton}
-use Rattle.unification.specs.Offering.{raised}
+use Rattle.lf_unification.specs.Offering.{raised}
 use Rattle.tw_hered.specs.Fits.{put_at}
 use Rattle.tw_terms.specs.OpenView.{open_term_of, open_type_of}
-use Rattle.tw_elaborate.specs.Fits.{KindFits, KindStands}
+use Rattle.tw_hered.specs.Fits.{KindFits}
+use Rattle.tw_elaborate.specs.Fits.{KindStands}
 use Rattle.tw_elaborate.specs.View.{made, open_kind_of}
 use Rattle.tw_elaborate.proofs.Standing.{kind_range_fits}
 use Rattle.tw_elaborate.proofs.Steps.{steps}

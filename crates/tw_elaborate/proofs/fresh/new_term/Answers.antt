@@ -1,7 +1,7 @@
 use Rattle.std.proofs.Common.{◌≡◌, ap, ap₂, length, map, refl, ◌∙◌}
 use Rattle.lf.specs.Eta.{eta_expand}
 use Rattle.lf.specs.Syntax.{metavariable, skeleton}
-use Rattle.unification.specs.Offering.{pi_over}
+use Rattle.lf_unification.specs.Offering.{pi_over}
 use Rattle.tw_metas.specs.State.{Story, with_declared}
 use Rattle.tw_metas.specs.View.{equation_of}
 use Rattle.tw_terms.specs.OpenView.{open_head_of, open_type_of}

@@ -1,7 +1,7 @@
 use Rattle.std.proofs.Common.{◌≡◌, ap, arith, sym, subst, ◌∙◌}
 use Rattle.lf.specs.Substitution.{single}
 use Rattle.lf.specs.Syntax.{pi, skeleton}
-use Rattle.unification.specs.Offering.{raised}
+use Rattle.lf_unification.specs.Offering.{raised}
 use Rattle.tw_hered.specs.Fits.{TypeFits}
 use Rattle.tw_terms.specs.OpenView.{open_term_of, open_type_of}
 use Rattle.tw_elaborate.specs.Fits.{TypeStands}

@@ -1,14 +1,14 @@
 use Rattle.std.proofs.Common.{sym, ap, subst, rules}
 use Rattle.lf.specs.Eta.{eta_expand}
 use Rattle.lf.specs.Syntax.{Head, skeleton}
-use Rattle.elaboration.specs.Elaboration.{TakesNew}
+use Rattle.lf_elaboration.specs.Elaboration.{TakesNew}
 use Rattle.tw_signature.specs.View.{body_of, entry_of}
 use Rattle.tw_terms.specs.OpenView.{open_head_of, open_spine_of, open_term_of, open_type_of}
 use Rattle.tw_terms.specs.View.{term_of, type_of}
 use Rattle.tw_terms.proofs.OpenViews.{open_head_of-Const}
 use Rattle.tw_terms.specs.declared.open_terms.OpenHead.TheVariants.{Const}
 use Rattle.tw_elaborate.specs.View.{made}
-use Rattle.tw_elaborate.specs.declared.fault.ElaborateFault.TheVariants.{TooDeep}
+use Rattle.tw_hered.specs.declared.fault.HeredFault.TheVariants.{TooDeep}
 use Rattle.tw_elaborate.proofs.Answering.{fault_of_call}
 use Rattle.tw_elaborate.proofs.Declaring.{constant_inferred, declared_type_stands, defined_deep, defined_gives, defined_inferred, defined_type_stands}
 use Rattle.tw_elaborate.proofs.Taking.{keeps_same}

@@ -2,9 +2,8 @@ use Rattle.std.proofs.Common.{◌≡◌, ◌+◌, ◌<◌, ◌≤◌, length, dr
 use Rattle.lf.specs.Depth.{depth_limit}
 use Rattle.lf.specs.Syntax.{arrow, lambda, skeleton}
 use Rattle.tw_terms.specs.OpenView.{open_args_of, open_spine_of, open_term_of, open_type_of}
-use Rattle.tw_elaborate.specs.Faults.{fault_of}
-use Rattle.tw_elaborate.specs.declared.fault.ElaborateFault.TheVariants.{TooDeep}
-use Rattle.tw_elaborate.proofs.Naming.{argument_fits, fault_back, next_spine, taken_all, taken_at, taken_deep, taken_next}
+use Rattle.tw_hered.specs.declared.fault.HeredFault.TheVariants.{TooDeep}
+use Rattle.tw_elaborate.proofs.Naming.{argument_fits, next_spine, taken_all, taken_at, taken_deep, taken_next}
 use Rattle.tw_elaborate.proofs.Steps.{steps}
 use Rattle.tw_elaborate.proofs.heads.on_arguments.Goals as goal
 
@@ -34,10 +33,10 @@ returns-in_err-body-in-Lam-Pi-clause-too_deep c = λ is.
     let h : i < length ts = omega arith in
     let s = next_spine ts i c.arg-item.result h (c.arg-item.is ∙ ap (λ l. get_or l i c.arg-item.result) c.deref-arg-items.ensures.value) in
     let t = taken_at depth_limit (skeleton (open_type_of c.args.ty.now)) (open_term_of c.args.term) (open_spine_of c.args.spine.now) _ _ _ _ _ _ a m s c.loop-arg.invariant in
-    let e : c.from_residual.result ≡ Err (fault_of c.in_err-body-in-Lam-Pi.field-0.0) = search rules in
-    let f : fault_of c.in_err-body-in-Lam-Pi.field-0.0 ≡ TooDeep = cc (e, is) in
+    let e : c.from_residual.result ≡ Err c.in_err-body-in-Lam-Pi.field-0.0 = search rules in
+    let f : c.in_err-body-in-Lam-Pi.field-0.0 ≡ TooDeep = cc (e, is) in
     taken_deep depth_limit (skeleton (open_type_of c.args.ty.now)) (open_term_of c.args.term) (open_spine_of c.args.spine.now) (skeleton A) (skeleton B) M (open_term_of c.arg-item.result) (open_args_of (drop (i + 1) ts)) t
-    (c.in_err-body-in-Lam-Pi.ensures.too_deep (ap Err (fault_back c.in_err-body-in-Lam-Pi.field-0.0 f)))
+    (c.in_err-body-in-Lam-Pi.ensures.too_deep (ap Err f))
 
 pub loop-arg-preserved : goal.loop-arg-preserved
 loop-arg-preserved c =

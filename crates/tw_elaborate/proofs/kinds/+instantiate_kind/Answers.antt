@@ -3,7 +3,7 @@ use Rattle.lf.specs.Syntax.{kind_pi, skeleton}
 use Rattle.tw_hered.specs.Fits.{put_at}
 use Rattle.tw_prune.proofs.Options.{if_ok}
 use Rattle.tw_terms.specs.OpenView.{open_term_of, open_type_of}
-use Rattle.tw_elaborate.specs.Fits.{KindFits}
+use Rattle.tw_hered.specs.Fits.{KindFits}
 use Rattle.tw_elaborate.specs.View.{open_kind_of}
 use Rattle.tw_elaborate.proofs.Standing.{inner_fits, put_in_kind}
 use Rattle.tw_elaborate.proofs.Steps.{steps}

@@ -3,9 +3,9 @@ use Rattle.std.proofs.lemmas.List.{map-append}
 use Rattle.lf.specs.Entries.{signature_of}
 use Rattle.lf.specs.Substitution.{single}
 use Rattle.lf.specs.Syntax.{kind_pi, pi, skeleton}
-use Rattle.elaboration.specs.Elaboration.{Checks, ElaboratesDomain, ElaboratesFamily, ElaboratesKind, ElaboratesType, Infers, at_ascribed, at_of_skeleton, at_of_type, at_star, at_type_ascribed, at_type_hole}
-use Rattle.elaboration.specs.Skeletons.{TypeHasSkeletons}
-use Rattle.elaboration.specs.Written.{arrow, ascribed, family_applied, family_ascribed, function, kind_arrow, kind_quantified, of_type, quantified, written_star}
+use Rattle.lf_elaboration.specs.Elaboration.{Checks, ElaboratesDomain, ElaboratesFamily, ElaboratesKind, ElaboratesType, Infers, at_ascribed, at_of_skeleton, at_of_type, at_star, at_type_ascribed, at_type_hole}
+use Rattle.lf_elaboration.specs.Skeletons.{TypeHasSkeletons}
+use Rattle.lf_elaboration.specs.Written.{arrow, ascribed, family_applied, family_ascribed, function, kind_arrow, kind_quantified, of_type, quantified, written_star}
 use Rattle.tw_prune.proofs.Options.{if_ok}
 use Rattle.tw_terms.specs.OpenView.{open_spine_of, open_term_of, open_type_of}
 use Rattle.tw_terms.proofs.OpenViews.{open_type_of-Atom, open_type_of-Pi}
@@ -13,11 +13,11 @@ use Rattle.tw_written.specs.View.{place_of, written_domain_of, written_kind_of, 
 use Rattle.tw_written.proofs.Views.{written_domain_of-OfSkeleton, written_domain_of-OfType, written_kind_of-Arrow, written_kind_of-Quantified, written_kind_of-Star, written_of-Ascribed, written_of-Bound, written_of-Declared, written_of-Free, written_of-Function, written_of-Hole, written_type_of-Applied, written_type_of-Arrow, written_type_of-Ascribed, written_type_of-Family, written_type_of-Hole, written_type_of-Quantified}
 use Rattle.tw_elaborate.specs.Comparing.{ChecksDomain}
 use Rattle.tw_elaborate.specs.Deep.{ChecksDeep, DomainDeep, FamilyDeep, InfersDeep, IsReducible, KindDeep, TypeDeep, deep_applied_family, deep_ascribed, deep_ascribed_family, deep_ascription, deep_body, deep_domain, deep_family, deep_family_kind, deep_index, deep_inferred, deep_quantified_domain, deep_quantified_kind_domain, deep_quantified_kind_range, deep_quantified_range, deep_type_ascribed, deep_written_domain}
-use Rattle.tw_elaborate.specs.Fits.{KindFits}
+use Rattle.tw_hered.specs.Fits.{KindFits}
 use Rattle.tw_elaborate.specs.Operators.{operator_of, written_terms}
 use Rattle.tw_elaborate.specs.Rows.{Reached}
 use Rattle.tw_elaborate.specs.View.{made, numbers_of, open_kind_of}
-use Rattle.tw_elaborate.specs.declared.fault.ElaborateFault.TheVariants.{TooDeep}
+use Rattle.tw_hered.specs.declared.fault.HeredFault.TheVariants.{TooDeep}
 use Rattle.tw_elaborate.specs.declared.state.OpenKind.{Star as OpenKind-Star}
 use Rattle.tw_elaborate.proofs.Answering.{body_deep, domain_checked, domain_compared, domain_deep, family_compared, family_elaborated, family_on_argument, fault_of_call, function_checked, function_inferred, inferred_checked, is_inferred, is_reducible, kind_quantified_elaborated, quantified_elaborated}
 use Rattle.tw_elaborate.proofs.Arrows.{domain_too_deep, kind_domain_too_deep, no_domains, no_kind_domains, one_more_domain, one_more_kind_domain}

@@ -7,7 +7,7 @@ use Rattle.tw_print.specs.ShowEnv.{scene_of}
 use Rattle.tw_shown.specs.Shown.{outside}
 use Rattle.tw_terms.specs.View.{term_of, type_of}
 use Rattle.tw_terms.specs.declared.open_terms.OpenTy.{OpenTy}
-use Rattle.tw_unify.specs.Named.{shown_type_of}
+use Rattle.tw_metas.specs.Named.{shown_type_of}
 use Rattle.tw_equation.specs.LaidView.{laid_of}
 use Rattle.tw_equation.specs.Text.{Laid, laid_out, meta_names, with_locals}
 use Rattle.tw_equation.proofs.LocalTypes.{entered_length}

@@ -1,6 +1,6 @@
 use Rattle.std.proofs.Common.{◌≡◌, ◌∙◌, Some, zero, length, map, refl, sym, ap, arith, rules}
 use Rattle.std.specs.Option.{option_map}
-use Rattle.tw_unify.specs.Named.{shown_type_of}
+use Rattle.tw_metas.specs.Named.{shown_type_of}
 use Rattle.tw_equation.specs.LaidView.{placed_of}
 use Rattle.tw_equation.specs.Text.{next_one}
 use Rattle.tw_equation.proofs.Laying.{laid_one}

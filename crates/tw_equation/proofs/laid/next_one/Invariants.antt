@@ -1,6 +1,6 @@
 use Rattle.std.proofs.Common.{◌≡◌, drop, map}
 use Rattle.tw_equation.specs.Text.{next_one}
-use Rattle.tw_unify.specs.Named.{shown_type_of}
+use Rattle.tw_metas.specs.Named.{shown_type_of}
 use Rattle.tw_equation.proofs.laid.next_one.Given as goal
 
 abbrev pub invariant-loop-place : goal.invariant-loop-place

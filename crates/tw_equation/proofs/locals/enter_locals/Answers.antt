@@ -1,8 +1,8 @@
 use Rattle.std.proofs.Common.{◌≡◌, ◌∙◌, ◌-◌, ◌+◌, ◌∷◌, Some, length, drop, sym, ap, arith, rules, length-drop}
 use Rattle.std.specs.List.{slice_get}
 use Rattle.std.specs.Option.{option_map}
-use Rattle.tw_generalize.specs.Generalizing.{generalized_type}
-use Rattle.tw_generalize.specs.Positions.{index}
+use Rattle.tw_abstract.specs.Generalizing.{generalized_type}
+use Rattle.tw_abstract.specs.Positions.{index}
 use Rattle.tw_print.proofs.Contexts.{outside_at}
 use Rattle.tw_terms.specs.OpenView.{open_type_of}
 use Rattle.tw_terms.specs.View.{type_of}

@@ -1,6 +1,6 @@
 use Rattle.std.proofs.Common.{◌-◌, length, drop}
 use Rattle.lf.specs.Entries.{signature_of}
-use Rattle.tw_generalize.specs.Positions.{index}
+use Rattle.tw_abstract.specs.Positions.{index}
 use Rattle.tw_print.specs.Showable.{IsShowableContext}
 use Rattle.tw_equation.specs.Locals.{Entered}
 use Rattle.tw_equation.proofs.locals.enter_locals.Given as goal

@@ -1,8 +1,8 @@
 use Rattle.std.proofs.Common.{◌≡◌, ◌+◌, drop, sym, ap, ◌∙◌, subst, arith}
 use Rattle.lf.specs.Syntax.{lambda, root, app, base, arrow}
-use Rattle.closures.specs.Environments.{extended, move_by, applied_in}
-use Rattle.closures.specs.Typing.{ClosureApplies}
-use Rattle.closures.proofs.Steps.{Taken, argument_taken, takes_all, not_at_base, not_at_root}
+use Rattle.lf_closures.specs.Environments.{extended, move_by, applied_in}
+use Rattle.lf_closures.specs.Typing.{ClosureApplies}
+use Rattle.lf_closures.proofs.Steps.{Taken, argument_taken, takes_all, not_at_base, not_at_root}
 use Rattle.tw_terms.specs.View.{head_of, term_of, spine_of, args_of, skeleton_of}
 use Rattle.tw_hered.specs.View.{environment_of}
 use Rattle.tw_hered.proofs.Environments.{environments}

@@ -1,6 +1,6 @@
 use Rattle.std.proofs.Common.{◌≡◌, drop}
-use Rattle.closures.specs.Environments.{move_by, applied_in}
-use Rattle.closures.specs.Typing.{ClosureApplies, TakesAll}
+use Rattle.lf_closures.specs.Environments.{move_by, applied_in}
+use Rattle.lf_closures.specs.Typing.{ClosureApplies, TakesAll}
 use Rattle.tw_terms.specs.View.{term_of, args_of, skeleton_of}
 use Rattle.tw_hered.specs.View.{environment_of}
 use Rattle.tw_hered.proofs.head.enter.Given as goal

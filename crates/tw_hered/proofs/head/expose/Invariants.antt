@@ -1,6 +1,6 @@
 use Rattle.std.proofs.Common.{◌≡◌}
-use Rattle.closures.specs.Environments.{value_in}
-use Rattle.closures.specs.Typing.{ClosureFits}
+use Rattle.lf_closures.specs.Environments.{value_in}
+use Rattle.lf_closures.specs.Typing.{ClosureFits}
 use Rattle.tw_terms.specs.View.{term_of}
 use Rattle.tw_hered.specs.View.{environment_of}
 use Rattle.tw_hered.proofs.head.expose.Given as goal

@@ -1,7 +1,7 @@
 use Rattle.std.proofs.Common.{◌≡◌, sym, ap, ◌∙◌, arith}
 use Rattle.lf.specs.Syntax.{variable, root}
-use Rattle.closures.specs.Environments.{found, stays, closure}
-use Rattle.closures.proofs.Steps.{closure_applies_by, closure_value_by, variable_value_by}
+use Rattle.lf_closures.specs.Environments.{found, stays, closure}
+use Rattle.lf_closures.proofs.Steps.{closure_applies_by, closure_value_by, variable_value_by}
 use Rattle.tw_terms.specs.View.{term_of, spine_of, args_of, skeleton_of}
 use Rattle.tw_hered.specs.View.{environment_of, found_of}
 use Rattle.tw_hered.proofs.Environments.{environments}

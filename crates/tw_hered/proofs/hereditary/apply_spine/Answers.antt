@@ -1,6 +1,6 @@
 use Rattle.std.proofs.Common.{◌≡◌, IfOk, ◌∙◌, subst, arith}
 use Rattle.lf.specs.Depth.{depth_limit}
-use Rattle.closures.specs.Environments.{outside, value_in}
+use Rattle.lf_closures.specs.Environments.{outside, value_in}
 use Rattle.tw_terms.specs.View.{term_of, spine_of, args_of, skeleton_of}
 use Rattle.tw_hered.specs.View.{environment_of}
 use Rattle.tw_hered.proofs.Environments.{environments}

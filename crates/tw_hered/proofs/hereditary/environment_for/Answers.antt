@@ -1,6 +1,6 @@
 use Rattle.std.proofs.Common.{◌≡◌, arith}
 use Rattle.std.proofs.lemmas.Grind.{common_steps}
-use Rattle.closures.specs.Environments.{outside, extended}
+use Rattle.lf_closures.specs.Environments.{outside, extended}
 use Rattle.tw_terms.specs.View.{term_of, skeleton_of}
 use Rattle.tw_hered.specs.View.{environment_of}
 use Rattle.tw_hered.proofs.Environments.{environments, environment_of-Under}

@@ -1,9 +1,9 @@
 use Rattle.std.proofs.Common.{rules, ◌≡◌, ◌-◌, ◌<◌, map, refl, sym, ap, ◌∙◌, subst, arith}
 use Rattle.lf.specs.Syntax.{lambda}
 use Rattle.lf.specs.Depth.{depth}
-use Rattle.closures.specs.Environments.{value_in, spine_value_in}
-use Rattle.closures.specs.Typing.{ClosureFits}
-use Rattle.closures.proofs.Steps.{body_fits_by, body_value_by, body_deep, depth_positive}
+use Rattle.lf_closures.specs.Environments.{value_in, spine_value_in}
+use Rattle.lf_closures.specs.Typing.{ClosureFits}
+use Rattle.lf_closures.proofs.Steps.{body_fits_by, body_value_by, body_deep, depth_positive}
 use Rattle.tw_terms.specs.View.{term_of, spine_of, args_of, spine_from}
 use Rattle.tw_hered.specs.View.{environment_of, value_of_exposed, ExposedFits}
 use Rattle.tw_hered.specs.declared.fault.HeredFault.TheVariants.{TooDeep}

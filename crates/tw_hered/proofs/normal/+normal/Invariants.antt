@@ -1,6 +1,6 @@
 use Rattle.std.proofs.Common.{◌≡◌, ◌*◌, ◌+◌, ◌≤◌, map, take}
 use Rattle.lf.specs.Depth.{spine_depth}
-use Rattle.closures.specs.Environments.{value_in}
+use Rattle.lf_closures.specs.Environments.{value_in}
 use Rattle.tw_terms.specs.View.{term_of, args_of}
 use Rattle.tw_hered.specs.View.{environment_of}
 use Rattle.tw_hered.proofs.normal.+normal.Given as goal

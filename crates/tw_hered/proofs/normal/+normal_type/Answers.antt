@@ -1,8 +1,8 @@
 use Rattle.std.proofs.Common.{rules, ◌≡◌, ◌<◌, sym, ap, ap₂, ◌∙◌, arith}
 use Rattle.lf.specs.Syntax.{pi}
 use Rattle.lf.specs.Depth.{type_depth}
-use Rattle.closures.specs.Environments.{type_value_in}
-use Rattle.closures.proofs.Steps.{range_fits, range_value, range_deep, type_depth_positive}
+use Rattle.lf_closures.specs.Environments.{type_value_in}
+use Rattle.lf_closures.proofs.Steps.{range_fits, range_value, range_deep, type_depth_positive}
 use Rattle.tw_terms.specs.View.{type_of}
 use Rattle.tw_hered.specs.View.{environment_of}
 use Rattle.tw_hered.proofs.Environments.{environments}

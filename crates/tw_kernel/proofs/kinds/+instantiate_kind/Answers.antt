@@ -6,7 +6,7 @@ use Rattle.lf.specs.Substitution.{single, substitute_type, substitute_kind, redu
 use Rattle.lf.specs.Syntax.{kind_pi}
 use Rattle.tw_terms.specs.View.{term_of, type_of, kind_of, skeleton_of}
 use Rattle.tw_terms.proofs.Views.{kind_of-Pi}
-use Rattle.tw_kernel.specs.Outcome.{KindFits}
+use Rattle.tw_hered.specs.Fits.{KindFits}
 use Rattle.tw_kernel.proofs.Rules.{kernel}
 use Rattle.tw_kernel.proofs.KindSpines.{rest_fits, deep_in_kind_domain, deep_in_kind_rest}
 use Rattle.tw_kernel.proofs.kinds.+instantiate_kind.Goals as goal

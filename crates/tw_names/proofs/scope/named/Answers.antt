@@ -1,5 +1,5 @@
 use Rattle.std.proofs.Common.{Some, None, ap, ◌∙◌}
-use Rattle.tw_scope.specs.Names.{variable_of}
+use Rattle.tw_fixity.specs.Names.{variable_of}
 use Rattle.tw_signature.specs.Names.{number_of}
 use Rattle.tw_terms.proofs.Views.{head_of-Const, head_of-Var}
 use Rattle.tw_names.specs.Scope.{head_named}

@@ -5,7 +5,7 @@ use Rattle.tw_terms.specs.OpenView.{open_args_of, open_term_of, open_type_of}
 use Rattle.tw_terms.specs.declared.open_terms.Open.{Root}
 use Rattle.tw_terms.specs.declared.open_terms.OpenHead.TheVariants.{Var}
 use Rattle.tw_terms.specs.declared.open_terms.OpenSpine.{roll-OpenSpine}
-use Rattle.unification.specs.Patterns.{eta_variable}
+use Rattle.lf_unification.specs.Patterns.{eta_variable}
 use Rattle.tw_prune.proofs.Options.{if_ok}
 use Rattle.tw_prune.proofs.Walking.{eta_parts, expanding, next_newest, root_of}
 use Rattle.tw_prune.proofs.expand.+eta.Goals as goal

@@ -2,7 +2,7 @@ use Rattle.std.proofs.Common.{◌≡◌, ◌-◌, ◌++◌, ◌∷◌, [], ◌�
 use Rattle.lf.specs.Eta.{append, arity}
 use Rattle.lf.specs.Syntax.{pi, skeleton}
 use Rattle.tw_terms.specs.OpenView.{open_args_of, open_term_of, open_type_of}
-use Rattle.unification.specs.Patterns.{eta_variable}
+use Rattle.lf_unification.specs.Patterns.{eta_variable}
 use Rattle.tw_prune.specs.Kept.{kept_arguments}
 use Rattle.tw_prune.proofs.Options.{if_ok}
 use Rattle.tw_prune.proofs.Walking.{expanding, next_kept}

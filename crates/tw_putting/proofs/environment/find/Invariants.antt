@@ -1,5 +1,5 @@
 use Rattle.std.proofs.Common.{◌≡◌}
-use Rattle.closures.specs.Environments.{found, found_under}
+use Rattle.lf_closures.specs.Environments.{found, found_under}
 use Rattle.tw_putting.specs.View.{environment_of}
 use Rattle.tw_putting.proofs.environment.find.Given as goal
 

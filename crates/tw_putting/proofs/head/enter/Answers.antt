@@ -1,6 +1,6 @@
 use Rattle.std.proofs.Common.{◌≡◌, ◌+◌, drop, refl, arith}
 use Rattle.lf.specs.Syntax.{lambda, app, arrow, nil, skeleton}
-use Rattle.closures.specs.Environments.{extended, move_by}
+use Rattle.lf_closures.specs.Environments.{extended, move_by}
 use Rattle.tw_terms.specs.OpenView.{open_term_of, open_args_of, open_type_of}
 use Rattle.tw_putting.specs.View.{environment_of}
 use Rattle.tw_putting.proofs.Environments.{environments}

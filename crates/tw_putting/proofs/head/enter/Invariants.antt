@@ -1,7 +1,7 @@
 use Rattle.std.proofs.Common.{drop}
 use Rattle.lf.specs.Syntax.{skeleton}
-use Rattle.closures.specs.Environments.{move_by}
-use Rattle.closures.specs.Typing.{TakesAll}
+use Rattle.lf_closures.specs.Environments.{move_by}
+use Rattle.lf_closures.specs.Typing.{TakesAll}
 use Rattle.tw_terms.specs.OpenView.{open_term_of, open_args_of, open_type_of}
 use Rattle.tw_putting.specs.View.{environment_of}
 use Rattle.tw_putting.proofs.Frames.{StillApplies}

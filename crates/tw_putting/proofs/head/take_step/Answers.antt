@@ -1,7 +1,7 @@
 use Rattle.std.proofs.Common.{◌≡◌, Some, None, slice_get, refl, sym, ap, ◌∙◌, arith}
 use Rattle.std.specs.Option.{option_map}
 use Rattle.lf.specs.Syntax.{metavariable, variable, root, skeleton}
-use Rattle.closures.specs.Environments.{closure, found, move_by, outside, stays}
+use Rattle.lf_closures.specs.Environments.{closure, found, move_by, outside, stays}
 use Rattle.tw_terms.specs.OpenView.{open_term_of, open_spine_of, open_args_of, open_type_of}
 use Rattle.tw_metas.specs.State.{value_of}
 use Rattle.tw_putting.specs.Stores.{types_of}

@@ -1,7 +1,7 @@
 use Rattle.std.proofs.Common.{◌≡◌, IfOk, subst, arith}
 use Rattle.lf.specs.Depth.{depth_limit}
 use Rattle.lf.specs.Syntax.{skeleton}
-use Rattle.closures.specs.Environments.{outside}
+use Rattle.lf_closures.specs.Environments.{outside}
 use Rattle.tw_terms.specs.OpenView.{open_args_of, open_spine_of, open_term_of, open_type_of}
 use Rattle.tw_putting.specs.View.{environment_of}
 use Rattle.tw_putting.proofs.Calls.{applied_takes, applied_value, applied_walk, deep_applied}

@@ -1,7 +1,7 @@
 use Rattle.std.proofs.Common.{◌≡◌, arith}
 use Rattle.std.proofs.lemmas.Grind.{common_steps}
 use Rattle.lf.specs.Syntax.{skeleton}
-use Rattle.closures.specs.Environments.{outside, extended}
+use Rattle.lf_closures.specs.Environments.{outside, extended}
 use Rattle.tw_terms.specs.OpenView.{open_term_of, open_type_of}
 use Rattle.tw_putting.specs.View.{environment_of}
 use Rattle.tw_putting.proofs.Environments.{environments, environment_of-Under}

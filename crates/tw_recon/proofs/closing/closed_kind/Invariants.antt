@@ -1,5 +1,5 @@
 use Rattle.std.proofs.Common.{◌≡◌, drop}
-use Rattle.elaboration.specs.Kinds.{kind_over}
+use Rattle.lf_elaboration.specs.Kinds.{kind_over}
 use Rattle.tw_terms.specs.View.{kind_of}
 use Rattle.tw_recon.proofs.closing.closed_kind.Given as goal
 

@@ -1,5 +1,5 @@
 use Rattle.std.proofs.Common.{◌≡◌, drop}
-use Rattle.unification.specs.Offering.{lambda_over}
+use Rattle.lf_unification.specs.Offering.{lambda_over}
 use Rattle.tw_terms.specs.View.{term_of}
 use Rattle.tw_recon.proofs.closing.closed_term.Given as goal
 

@@ -1,5 +1,5 @@
 use Rattle.std.proofs.Common.{Err, length, ap, ap₂, sym, subst, ◌∙◌}
-use Rattle.elaboration.specs.Sites.{AreFreesInOrder, AreSites}
+use Rattle.lf_elaboration.specs.Sites.{AreFreesInOrder, AreSites}
 use Rattle.tw_approx.specs.Answer.{rows_of}
 use Rattle.tw_elaborate.specs.Bodies.{open_body_of}
 use Rattle.tw_elaborate.specs.View.{numbers_of}

@@ -1,7 +1,7 @@
 use Rattle.std.proofs.Common.{Err, map, ap, ◌∙◌}
 use Rattle.tw_approx.specs.Answer.{rows_of}
 use Rattle.tw_elaborate.specs.View.{numbers_of}
-use Rattle.tw_unify.specs.Named.{named_of}
+use Rattle.tw_metas.specs.Named.{named_of}
 use Rattle.tw_written.specs.View.{written_body_of}
 use Rattle.tw_recon.specs.Names.{named_from}
 use Rattle.tw_recon.specs.NamingView.{naming_of}

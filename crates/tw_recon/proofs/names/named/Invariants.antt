@@ -1,5 +1,5 @@
 use Rattle.std.proofs.Common.{◌≡◌, map, take}
-use Rattle.tw_unify.specs.Named.{named_of}
+use Rattle.tw_metas.specs.Named.{named_of}
 use Rattle.tw_recon.specs.Names.{named_from}
 use Rattle.tw_recon.proofs.names.named.Given as goal
 

@@ -1,7 +1,7 @@
 use Rattle.std.proofs.Common.{◌≡◌, Err, get_or, ap, ◌∙◌, sym}
 use Rattle.tw_approx.specs.Answer.{rows_of}
 use Rattle.tw_elaborate.specs.View.{numbers_of}
-use Rattle.tw_readoff.specs.declared.fault.ReadFault.TheVariants as reading
+use Rattle.tw_hered.specs.declared.fault.HeredFault.TheVariants as reading
 use Rattle.tw_terms.specs.View.{skeleton_of}
 use Rattle.tw_recon.specs.Names.{nothing_named}
 use Rattle.tw_recon.specs.NamingView.{naming_of}

@@ -1,6 +1,6 @@
 use Rattle.std.proofs.Common.{sym}
 use Rattle.tw_terms.specs.OpenView.{open_term_of}
-use Rattle.tw_readoff.proofs.Standing.{settled_values}
+use Rattle.tw_abstract.proofs.Standing.{settled_values}
 use Rattle.tw_recon.proofs.Naming.{sole_found}
 use Rattle.tw_recon.proofs.names.sole_of.Goals as goal
 

@@ -4,8 +4,13 @@ use Rattle.tw_approx.specs.Answer.{rows_of}
 use Rattle.tw_parse.specs.View.{declaration_of}
 use Rattle.tw_signature.specs.View.{body_of, entry_of}
 use Rattle.tw_written.specs.View.{written_body_of}
-use Rattle.tw_recon.proofs.Entering.{canonical_entry, declaration_stops, entry_refused, hint_each}
+use Rattle.tw_recon.proofs.Entering.{canonical_entry, completed_typed, declaration_stops, entry_refused, hint_each}
 use Rattle.tw_recon.proofs.reconstruction.reconstruct.Goals as goal
+
+pub entry-requires : goal.entry-requires
+entry-requires c =
+    completed_typed c.args.signature.now (rows_of c.in-Ok.told.rows.items) (written_body_of c.in-Ok.told.written) c.in-Ok-complete.completed.quantifiers c.in-Ok-complete.completed.hints.items
+    c.in-Ok-complete.completed.shown.items (body_of c.in-Ok-complete.completed.body) c.in-Ok-complete.ensures.completed
 
 pub returns-in-Ok-entry-clause-canonical : goal.returns-in-Ok-entry-clause-canonical
 returns-in-Ok-entry-clause-canonical c =

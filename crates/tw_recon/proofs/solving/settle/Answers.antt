@@ -1,5 +1,5 @@
 use Rattle.std.proofs.Common.{[]}
-use Rattle.tw_unify.specs.View.{whole}
+use Rattle.tw_putting.specs.Whole.{whole}
 use Rattle.tw_recon.proofs.Outcomes.{begun_ready, deep_at, never_at}
 use Rattle.tw_recon.proofs.solving.settle.Goals as goal
 

@@ -1,5 +1,5 @@
 use Rattle.std.proofs.Common.{◌∙◌}
-use Rattle.elaboration.specs.Principal.{written_definition_of}
+use Rattle.lf_elaboration.specs.Principal.{written_definition_of}
 use Rattle.tw_parse.specs.View.{term_of}
 use Rattle.tw_written.specs.View.{written_of, written_type_of as type_of}
 use Rattle.tw_resolve.specs.Rest.{rest_of}

@@ -1,5 +1,5 @@
 use Rattle.std.proofs.Common.{◌∷◌, Some, sym, ap, ◌∙◌}
-use Rattle.elaboration.specs.Written as plain
+use Rattle.lf_elaboration.specs.Written as plain
 use Rattle.tw_approx.specs.Applied.{written_terms}
 use Rattle.tw_approx.proofs.Answering.{if_ok}
 use Rattle.tw_names.specs.Scope.{binder_name}

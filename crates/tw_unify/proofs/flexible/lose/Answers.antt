@@ -3,11 +3,11 @@ use Rattle.lf.specs.Syntax.{metavariable, root}
 use Rattle.tw_metas.specs.State.{IsUnbound, State, Story, with_declared, with_value}
 use Rattle.tw_terms.specs.OpenView.{open_spine_of, open_term_of, open_type_of}
 use Rattle.tw_terms.proofs.OpenArgs.{open_types}
-use Rattle.unification.specs.OpenTyping.{skeletons_of}
-use Rattle.unification.specs.Patterns.{lambdas_of}
+use Rattle.lf_unification.specs.OpenTyping.{skeletons_of}
+use Rattle.lf_unification.specs.Patterns.{lambdas_of}
 use Rattle.tw_putting.specs.Stores.{types_of}
-use Rattle.tw_unify.specs.View.{IsConsistent}
-use Rattle.tw_unify.proofs.Changes.{consistent_with_declared, consistent_with_value, still_unbound}
+use Rattle.tw_putting.specs.Whole.{IsConsistent}
+use Rattle.tw_putting.proofs.Changes.{consistent_with_declared, consistent_with_value, still_unbound}
 use Rattle.tw_unify.proofs.Stories.{later_changed, later_then, pruned_by}
 use Rattle.tw_unify.proofs.flexible.lose.Goals as goal
 

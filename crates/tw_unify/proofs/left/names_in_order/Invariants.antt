@@ -1,5 +1,5 @@
 use Rattle.std.proofs.Common.{◌≡◌, map, take}
-use Rattle.tw_unify.specs.Named.{named_of}
+use Rattle.tw_metas.specs.Named.{named_of}
 use Rattle.tw_unify.specs.Showing.{name_of}
 use Rattle.tw_unify.proofs.left.names_in_order.Given as goal
 

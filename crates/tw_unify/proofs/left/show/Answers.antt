@@ -1,6 +1,6 @@
 use Rattle.std.proofs.Common.{◌∙◌, ap, map}
 use Rattle.tw_metas.specs.View.{equation_of}
-use Rattle.tw_unify.specs.Named.{named_of, shown_type_of}
+use Rattle.tw_metas.specs.Named.{named_of, shown_type_of}
 use Rattle.tw_unify.specs.Showing.{name_of}
 use Rattle.tw_unify.proofs.Shown.{all_shown}
 use Rattle.tw_unify.proofs.left.show.Goals as goal

@@ -1,7 +1,7 @@
 use Rattle.std.proofs.Common.{rules}
 use Rattle.tw_terms.specs.OpenView.{open_type_of}
 use Rattle.tw_unify.proofs.Shown.{type_grown}
-use Rattle.tw_unify.proofs.Views.{type_told}
+use Rattle.tw_putting.proofs.Views.{type_told}
 use Rattle.tw_unify.proofs.left.show_type.Goals as goal
 
 pub put_in_type-requires : goal.put_in_type-requires

@@ -1,5 +1,5 @@
 use Rattle.std.proofs.Common.{◌≤◌, length, map, take}
-use Rattle.tw_unify.specs.Named.{shown_type_of}
+use Rattle.tw_metas.specs.Named.{shown_type_of}
 use Rattle.tw_unify.specs.Showing.{Grows, NeedsTypes, ShowsMetavariables}
 use Rattle.tw_unify.proofs.left.show_types.Given as goal
 

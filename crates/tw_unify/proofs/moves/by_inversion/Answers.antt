@@ -2,14 +2,13 @@ use Rattle.std.proofs.Common.{sym, subst, refl}
 use Rattle.std.specs.Bool.{MatchBool}
 use Rattle.std.specs.Option.{MatchOption}
 use Rattle.std.proofs.lemmas.Result.{IfOk-weaker}
-use Rattle.unification.specs.OpenTyping.{skeletons_of}
-use Rattle.unification.specs.Outside.{NoStep}
+use Rattle.lf_unification.specs.OpenTyping.{skeletons_of}
 use Rattle.tw_prune.specs.declared.inversion.Inverted.TheVariants.{Never}
-use Rattle.unification.specs.Reach.{IsReached}
+use Rattle.lf_unification.specs.Reach.{IsReached}
 use Rattle.tw_putting.specs.Stores.{bindings_of, types_of}
 use Rattle.tw_prune.specs.Meaning.{AnswerMeans, IsHindered, IsInversion}
 use Rattle.tw_terms.specs.OpenView.{open_term_of}
-use Rattle.tw_unify.specs.Moving.{IsMoveAgainst, NothingInside}
+use Rattle.tw_unify.specs.Moving.{IsMoveAgainst, NoMove, NothingInside}
 use Rattle.tw_unify.specs.Reaching.{IsAvoided}
 use Rattle.tw_unify.proofs.Moving.{binds_to, circular_stuck, escape_refutes, hindered_by, hindered_stuck, option_weaker, stands}
 use Rattle.tw_unify.proofs.moves.by_inversion.Goals as goal
@@ -24,7 +23,7 @@ returns-then-branch c =
     let inner = c.len.result in
     let inversion : IsInversion inner xs N (open_term_of c.in-Inverted.body) = subst (AnswerMeans inner xs N) c.in-Inverted.is c.in_ok-body.ensures in
     let reached : IsReached (types_of s) (bindings_of s) N m = subst (λ b. MatchBool b (IsReached (types_of s) (bindings_of s) N m) (IsAvoided (types_of s) (bindings_of s) N m)) c.if-branch.true c.in_ok-is_reached-in-Inverted.ensures in
-    IfOk-weaker c.inside.result (λ r. MatchOption r (NothingInside s D m xs N) (λ v. IsMoveAgainst s D m xs N v)) (λ r. MatchOption r (NoStep (types_of s) (bindings_of s) D m xs N) (λ v. IsMoveAgainst s D m xs N v))
+    IfOk-weaker c.inside.result (λ r. MatchOption r (NothingInside s D m xs N) (λ v. IsMoveAgainst s D m xs N v)) (λ r. MatchOption r (NoMove s D m xs N) (λ v. IsMoveAgainst s D m xs N v))
     (λ r h. option_weaker (λ v. IsMoveAgainst s D m xs N v) r (λ n. circular_stuck s D m xs N inner (open_term_of c.in-Inverted.body) (stands s D m xs N c.requires.fits inner (sym c.len.ensures)) inversion reached n c.requires.no_agreement) h)
     c.inside.ensures
 
@@ -60,6 +59,6 @@ returns-in-Drop c =
     let inner = c.len.result in
     let i = stands s D m xs N c.requires.fits inner (sym c.len.ensures) in
     let h : IsHindered inner xs N = hindered_by inner xs N c.in_ok-body.field-0 c.in_ok-body.ensures c.in-Drop.is in
-    IfOk-weaker c.inside-in-Drop.result (λ r. MatchOption r (NothingInside s D m xs N) (λ v. IsMoveAgainst s D m xs N v)) (λ r. MatchOption r (NoStep (types_of s) (bindings_of s) D m xs N) (λ v. IsMoveAgainst s D m xs N v))
+    IfOk-weaker c.inside-in-Drop.result (λ r. MatchOption r (NothingInside s D m xs N) (λ v. IsMoveAgainst s D m xs N v)) (λ r. MatchOption r (NoMove s D m xs N) (λ v. IsMoveAgainst s D m xs N v))
     (λ r o. option_weaker (λ v. IsMoveAgainst s D m xs N v) r (λ n. hindered_stuck s D m xs N (h.not_inverted (types_of s) D (skeletons_of (types_of s) m) i) (h.not_never (types_of s) D (skeletons_of (types_of s) m) i) n c.requires.no_agreement) o)
     c.inside-in-Drop.ensures

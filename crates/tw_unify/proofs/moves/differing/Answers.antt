@@ -3,7 +3,7 @@ use Rattle.std.specs.Option.{IfNone, IfSome}
 use Rattle.tw_prune.specs.Losing.{AreDifferences, KeepsArgument, LosesArgument}
 use Rattle.tw_terms.specs.OpenView.{open_spine_of, open_term_of, open_type_of}
 use Rattle.tw_unify.proofs.Moving.{PlacesKept, both_lose, element_of, keeps_it, loses_it, none_differs, places_kept_next, took_all}
-use Rattle.tw_unify.proofs.Views.{type_told}
+use Rattle.tw_putting.proofs.Views.{type_told}
 use Rattle.tw_unify.proofs.moves.differing.Goals as goal
 
 pub returns-in-Some-2 : goal.returns-in-Some-2

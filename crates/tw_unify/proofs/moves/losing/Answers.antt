@@ -1,7 +1,7 @@
 use Rattle.std.proofs.Common.{List, inl, sym, subst, map, get_or}
 use Rattle.std.specs.Option.{MatchOption}
 use Rattle.lf.specs.Subordination.{Member}
-use Rattle.unification.specs.OpenTyping.{skeletons_of}
+use Rattle.lf_unification.specs.OpenTyping.{skeletons_of}
 use Rattle.tw_prune.specs.Meaning.{HasEachLoss, MustLose}
 use Rattle.tw_prune.specs.View.{loss_of}
 use Rattle.tw_prune.specs.declared.drops.Loss.{Loss}
@@ -29,8 +29,8 @@ returns-in-Some c =
     let there : Member (loss_of loss) (map loss_of c.in_ok-found.found.items) =
     subst (λ (ls : List Loss). Member (loss_of loss) (map loss_of ls)) c.deref-loss-items.ensures.value (image_of loss_of items loss (element_of items c.loop-loss.loss-index no_loss c.loop-loss-test.true)) in
     let must : MustLose (types_of s) D (skeletons_of (types_of s) m) xs N loss.meta.0 loss.place =
-    c.in_ok-found.ensures.found (types_of s) D (skeletons_of (types_of s) m) (stands s D m xs N c.requires c.len.result (sym c.len.ensures)) (right_skeleton s D m xs N c.requires) loss.meta.0 loss.place there in
-    inl (inside_loses s D m xs N drops_variable loss.meta.0 loss.place (open_type_of c.in-Some.pruned.ty) (open_spine_of c.in-Some.pruned.spine) must l)
+    c.in_ok-found.ensures.found (types_of s) D (skeletons_of (types_of s) m) (stands s D m xs N c.requires.fits c.len.result (sym c.len.ensures)) (right_skeleton s D m xs N c.requires.fits) loss.meta.0 loss.place there in
+    inl (inside_loses s D m xs N drops_variable loss.meta.0 loss.place (open_type_of c.in-Some.pruned.ty) (open_spine_of c.in-Some.pruned.spine) c.requires.unbound must l)
 
 pub loop-loss-preserved : goal.loop-loss-preserved
 loop-loss-preserved c =
@@ -49,6 +49,6 @@ returns c =
     let xs = c.args.pattern.now in
     let N = open_term_of c.args.right.now in
     let items = c.deref-loss-items.result.now in
-    none_loses s D m xs N drops_variable c.len.result (map loss_of items) (stands s D m xs N c.requires c.len.result (sym c.len.ensures))
+    none_loses s D m xs N drops_variable c.len.result (map loss_of items) (stands s D m xs N c.requires.fits c.len.result (sym c.len.ensures))
     (subst (λ (ls : List Loss). HasEachLoss c.len.result xs N (map loss_of ls)) (sym c.deref-loss-items.ensures.value) c.in_ok-found.ensures.each)
     (subst (λ (ls : List Loss). AllKept s (map loss_of ls)) (took_all items c.loop-loss.loss-index c.loop-loss-test.false) c.loop-loss.invariant)

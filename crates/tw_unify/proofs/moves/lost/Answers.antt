@@ -1,7 +1,7 @@
 use Rattle.std.proofs.Common.{rules}
 use Rattle.tw_terms.specs.OpenView.{open_type_of}
 use Rattle.tw_unify.proofs.Moving.{lost_or_kept}
-use Rattle.tw_unify.proofs.Views.{type_told}
+use Rattle.tw_putting.proofs.Views.{type_told}
 use Rattle.tw_unify.proofs.moves.lost.Goals as goal
 
 pub returns-in-Some : goal.returns-in-Some

@@ -4,14 +4,15 @@ use Rattle.tw_terms.specs.OpenView.{open_term_of}
 use Rattle.tw_putting.specs.Stores.{bindings_of, types_of}
 use Rattle.tw_unify.specs.Reaching.{marking_of}
 use Rattle.tw_unify.proofs.Moving.{nil_of}
-use Rattle.tw_unify.proofs.Reaching.{none_marked, search_answer, search_start, search_step}
+use Rattle.tw_unify.proofs.Reaching.{none_marked, nothing_in, search_answer, search_start, search_step}
 use Rattle.tw_unify.proofs.reach.is_reached.Goals as goal
 
 pub loop-init : goal.loop-init
 loop-init c =
     let s = c.args.store.now.now in
-    search_start (types_of s) (bindings_of s) (open_term_of c.args.term.now) (marking_of (record { marks = c.new.result; due = c.new-2.result })) (marking_of c.term.new.self)
-    (none_marked (marking_of (record { marks = c.new.result; due = c.new-2.result })) c.new.ensures.items).0 (λ k h. subst (Member k) c.new-2.ensures.items h) c.in_ok-term.ensures.spread c.in_ok-term.ensures.met
+    let w = c.new-walk.result in
+    search_start (types_of s) (bindings_of s) (open_term_of c.args.term.now) (marking_of w) (marking_of c.term.new.self)
+    (none_marked (marking_of w) (nothing_in w.marks c.new-walk.ensures.marks)) (λ k h. subst (Member k) c.new-walk.ensures.due h) c.in_ok-term.ensures.spread c.in_ok-term.ensures.met
 
 pub loop-preserved : goal.loop-preserved
 loop-preserved c =

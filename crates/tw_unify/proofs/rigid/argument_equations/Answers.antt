@@ -2,8 +2,8 @@ use Rattle.std.proofs.Common.{[], ◌∷◌, map, reverse, ap, ◌∙◌, subst}
 use Rattle.std.specs.Option.{MatchOption}
 use Rattle.std.proofs.lemmas.List.{map-append}
 use Rattle.lf.specs.Syntax.{app}
-use Rattle.unification.specs.Lists.{followed}
-use Rattle.unification.specs.Offering.{argument_equations}
+use Rattle.lf_unification.specs.Lists.{followed}
+use Rattle.lf_unification.specs.Offering.{argument_equations}
 use Rattle.tw_metas.specs.View.{equation_of}
 use Rattle.tw_terms.specs.OpenView.{open_args_of, open_term_of, open_type_of}
 use Rattle.tw_unify.specs.Rigid.{IsAtom, TakesBoth}

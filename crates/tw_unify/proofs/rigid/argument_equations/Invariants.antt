@@ -1,6 +1,6 @@
 use Rattle.std.proofs.Common.{◌≡◌, map, reverse}
-use Rattle.unification.specs.Lists.{followed}
-use Rattle.unification.specs.Offering.{argument_equations}
+use Rattle.lf_unification.specs.Lists.{followed}
+use Rattle.lf_unification.specs.Offering.{argument_equations}
 use Rattle.tw_metas.specs.View.{equation_of}
 use Rattle.tw_terms.specs.OpenView.{open_args_of, open_spine_of, open_type_of}
 use Rattle.tw_unify.specs.Rigid.{ArgumentsFit}

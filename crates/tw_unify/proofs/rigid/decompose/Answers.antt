@@ -2,7 +2,7 @@ use Rattle.std.proofs.Common.{◌≡◌, map}
 use Rattle.std.proofs.lemmas.Result.{on_ok_weaker}
 use Rattle.lf.specs.Entries.{signature_of}
 use Rattle.lf.proofs.Entries.{canonical_is_signature}
-use Rattle.unification.specs.Lists.{followed}
+use Rattle.lf_unification.specs.Lists.{followed}
 use Rattle.tw_metas.specs.View.{equation_of}
 use Rattle.tw_terms.specs.OpenView.{open_spine_of, open_type_of}
 use Rattle.tw_unify.specs.Outcomes.{stacked}

@@ -1,14 +1,11 @@
 use Rattle.lf.specs.Entries.{signature_of}
 use Rattle.tw_metas.specs.View.{equation_of}
 use Rattle.tw_unify.specs.Outcomes.{stacked}
-use Rattle.tw_unify.proofs.Working.{apart_refutes, decomposes_runs, flexible_fits, left_fits, opens_runs}
+use Rattle.tw_unify.proofs.Working.{apart_refutes, decomposes_runs, left_fits, never_mixed, opens_runs}
 use Rattle.tw_unify.proofs.step.make_steps.Goals as goal
 
 pub decompose-requires-clause-fits : goal.decompose-requires-clause-fits
 decompose-requires-clause-fits c = left_fits (signature_of c.args.signature.now) c.args.store.now.now (equation_of c.args.equation) (stacked c.args.work.now.items) c.requires.ready
-
-pub do_flexible-requires : goal.do_flexible-requires
-do_flexible-requires c = flexible_fits (signature_of c.args.signature.now) c.args.store.now.now (equation_of c.args.equation) (stacked c.args.work.now.items) c.in-Flexible.ensures c.requires.ready c.requires.unbound
 
 pub returns-in_ok-open_lambdas-in-Lambdas-clause-done : goal.returns-in_ok-open_lambdas-in-Lambdas-clause-done
 returns-in_ok-open_lambdas-in-Lambdas-clause-done c =
@@ -20,3 +17,6 @@ returns-in_ok-decompose-in-Alike-clause-done c =
 
 pub returns-in-Apart-clause-done : goal.returns-in-Apart-clause-done
 returns-in-Apart-clause-done c = apart_refutes (signature_of c.args.signature.now) c.args.store.now.now (equation_of c.args.equation) (stacked c.args.work.now.items) c.in-Apart.ensures
+
+pub unreachable-requires : goal.unreachable-requires
+unreachable-requires c = never_mixed (signature_of c.args.signature.now) c.args.store.now.now (equation_of c.args.equation) (stacked c.args.work.now.items) c.requires.ready c.in-Mixed.ensures

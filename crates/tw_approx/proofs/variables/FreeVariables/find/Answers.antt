@@ -1,5 +1,5 @@
 use Rattle.std.proofs.Common.{◌≡◌, ◌∙◌, sym, ap}
-use Rattle.tw_scope.specs.Names.{variable_of}
+use Rattle.tw_fixity.specs.Names.{variable_of}
 use Rattle.tw_approx.proofs.Naming.{names_of, names_reversed, named_at, not_named}
 use Rattle.tw_approx.proofs.variables.FreeVariables.find.Goals as goal
 

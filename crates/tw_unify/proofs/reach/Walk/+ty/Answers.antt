@@ -1,9 +1,9 @@
 use Rattle.std.proofs.Common.{◌≡◌, inl, inr, sym, subst, arith}
 use Rattle.std.proofs.lemmas.Result.{on_ok_weaker}
 use Rattle.lf.specs.Syntax.{pi}
-use Rattle.unification.specs.OpenTyping.{MetavariablesInType}
-use Rattle.unification.specs.Reach.{TypeMentions}
-use Rattle.unification.proofs.Scope.{in_weaker_type}
+use Rattle.lf_unification.specs.OpenTyping.{MetavariablesInType}
+use Rattle.lf_unification.specs.Reach.{TypeMentions}
+use Rattle.lf_unification.proofs.Scope.{in_weaker_type}
 use Rattle.tw_terms.specs.OpenView.{open_type_of}
 use Rattle.tw_terms.proofs.OpenArgs.{open_types}
 use Rattle.tw_unify.specs.Reaching.{IsMarked, Spreads, marking_of}

@@ -1,7 +1,7 @@
 use Rattle.std.proofs.Common.{◌≡◌, ◌+◌, drop, inl, inr, sym, subst, arith}
 use Rattle.std.proofs.lemmas.Result.{on_ok_weaker}
 use Rattle.lf.specs.Syntax.{metavariable, root}
-use Rattle.unification.specs.Reach.{Mentions, SpineMentions}
+use Rattle.lf_unification.specs.Reach.{Mentions, SpineMentions}
 use Rattle.tw_terms.specs.OpenView.{open_args_of, open_spine_of, open_term_of}
 use Rattle.tw_terms.proofs.OpenArgs.{open_spines}
 use Rattle.tw_unify.specs.Reaching.{marking_of}

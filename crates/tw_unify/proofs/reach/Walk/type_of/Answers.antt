@@ -1,11 +1,11 @@
 use Rattle.std.proofs.Common.{rules}
 use Rattle.std.proofs.lemmas.Result.{on_ok_weaker}
-use Rattle.unification.specs.Reach.{TypeMentions}
+use Rattle.lf_unification.specs.Reach.{TypeMentions}
 use Rattle.tw_putting.specs.Stores.{types_of}
 use Rattle.tw_terms.specs.OpenView.{open_type_of}
 use Rattle.tw_unify.specs.Reaching.{StandsInType, marking_of}
 use Rattle.tw_unify.proofs.Reaching.{spread_wider}
-use Rattle.tw_unify.proofs.Views.{type_told}
+use Rattle.tw_putting.proofs.Views.{type_told}
 use Rattle.tw_unify.proofs.reach.Walk.type_of.Goals as goal
 
 pub returns-in-Some-clause-spread : goal.returns-in-Some-clause-spread

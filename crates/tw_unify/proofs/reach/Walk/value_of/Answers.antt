@@ -1,14 +1,14 @@
 use Rattle.std.proofs.Common.{◌≡◌, Some, None, sym, ap, subst, ◌∙◌, refl}
 use Rattle.std.specs.List.{slice_get}
 use Rattle.std.proofs.lemmas.Result.{on_ok_weaker}
-use Rattle.unification.specs.OpenTyping.{MetavariablesIn}
-use Rattle.unification.specs.Reach.{Mentions}
+use Rattle.lf_unification.specs.OpenTyping.{MetavariablesIn}
+use Rattle.lf_unification.specs.Reach.{Mentions}
 use Rattle.tw_metas.specs.State.{joined}
 use Rattle.tw_terms.specs.OpenView.{open_term_of}
 use Rattle.tw_unify.specs.Reaching.{IsMarked, StandsInValue, marking_of}
 use Rattle.tw_putting.specs.Stores.{bindings_of}
 use Rattle.tw_unify.proofs.Reaching.{spread_wider}
-use Rattle.tw_unify.proofs.Views.{binding_of_value, value_of_binding, same_value}
+use Rattle.tw_putting.proofs.Views.{binding_of_value, value_of_binding, same_value}
 use Rattle.tw_unify.proofs.reach.Walk.value_of.Goals as goal
 
 pub returns-in-Some-clause-spread : goal.returns-in-Some-clause-spread

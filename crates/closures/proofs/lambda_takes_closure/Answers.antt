@@ -1,5 +1,0 @@
-use Rattle.closures.proofs.Steps.{argument_applies, argument_value}
-use Rattle.closures.proofs.lambda_takes_closure.Goals as goal
-
-pub returns : goal.returns
-returns w a b M N e S c f = (argument_applies a b M N e S c f, argument_value a b M N e S c f)

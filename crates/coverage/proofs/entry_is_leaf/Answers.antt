@@ -1,5 +1,0 @@
-use Rattle.coverage.proofs.ExamplesLeaf.{entry_is_leaf}
-use Rattle.coverage.proofs.entry_is_leaf.Goals as goal
-
-pub returns : goal.returns
-returns c = entry_is_leaf

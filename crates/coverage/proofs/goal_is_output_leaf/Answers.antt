@@ -1,5 +1,0 @@
-use Rattle.coverage.proofs.ExamplesLeaf.{goal_is_output_leaf}
-use Rattle.coverage.proofs.goal_is_output_leaf.Goals as goal
-
-pub returns : goal.returns
-returns c = goal_is_output_leaf

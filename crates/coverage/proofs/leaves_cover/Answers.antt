@@ -1,5 +1,0 @@
-use Rattle.coverage.proofs.Leaves.{leaves_cover}
-use Rattle.coverage.proofs.leaves_cover.Goals as goal
-
-pub returns : goal.returns
-returns c = leaves_cover

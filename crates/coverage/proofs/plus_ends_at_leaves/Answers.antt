@@ -1,5 +1,0 @@
-use Rattle.coverage.proofs.ExamplesLeaves.{plus_ends_at_leaves}
-use Rattle.coverage.proofs.plus_ends_at_leaves.Goals as goal
-
-pub returns : goal.returns
-returns c = plus_ends_at_leaves

@@ -1,5 +1,0 @@
-use Rattle.coverage.proofs.ExamplesUnified.{plus_unified as proved}
-use Rattle.coverage.proofs.plus_is_split_by_unification.Goals as goal
-
-pub returns : goal.returns
-returns c = proved

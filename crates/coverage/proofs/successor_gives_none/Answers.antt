@@ -1,5 +1,0 @@
-use Rattle.coverage.proofs.ExamplesUnified.{successor_none as proved}
-use Rattle.coverage.proofs.successor_gives_none.Goals as goal
-
-pub returns : goal.returns
-returns c = proved

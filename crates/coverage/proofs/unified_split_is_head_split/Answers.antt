@@ -1,5 +1,0 @@
-use Rattle.coverage.proofs.Unified.{unified_split}
-use Rattle.coverage.proofs.unified_split_is_head_split.Goals as goal
-
-pub returns : goal.returns
-returns c = unified_split

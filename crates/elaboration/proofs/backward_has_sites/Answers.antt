@@ -1,5 +1,0 @@
-use Rattle.elaboration.proofs.Examples.{backward_sites as proved}
-use Rattle.elaboration.proofs.backward_has_sites.Goals as goal
-
-pub returns : goal.returns
-returns c = proved

@@ -1,5 +1,0 @@
-use Rattle.elaboration.proofs.Instances.{completion_instance as proved}
-use Rattle.elaboration.proofs.completion_is_instance.Goals as goal
-
-pub returns : goal.returns
-returns c = proved

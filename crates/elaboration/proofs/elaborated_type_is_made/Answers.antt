@@ -1,5 +1,0 @@
-use Rattle.elaboration.proofs.Made.{elaborated_type_made as proved}
-use Rattle.elaboration.proofs.elaborated_type_is_made.Goals as goal
-
-pub returns : goal.returns
-returns c = proved

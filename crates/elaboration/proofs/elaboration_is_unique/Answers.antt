@@ -1,5 +1,0 @@
-use Rattle.elaboration.proofs.Once.{unique as proved}
-use Rattle.elaboration.proofs.elaboration_is_unique.Goals as goal
-
-pub returns : goal.returns
-returns c = proved

@@ -1,5 +1,0 @@
-use Rattle.elaboration.proofs.Examples.{full_vector as proved}
-use Rattle.elaboration.proofs.full_is_elaborated.Goals as goal
-
-pub returns : goal.returns
-returns c = proved

@@ -1,5 +1,0 @@
-use Rattle.elaboration.proofs.Principal.{never_completion as proved}
-use Rattle.elaboration.proofs.never_has_no_completion.Goals as goal
-
-pub returns : goal.returns
-returns c = proved

@@ -1,5 +1,0 @@
-use Rattle.elaboration.proofs.Determined.{quantifiers_undetermined as proved}
-use Rattle.elaboration.proofs.quantifiers_are_undetermined.Goals as goal
-
-pub returns : goal.returns
-returns c = proved

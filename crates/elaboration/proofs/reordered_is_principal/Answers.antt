@@ -1,5 +1,0 @@
-use Rattle.elaboration.proofs.Reordered.{reordered_is_principal as proved}
-use Rattle.elaboration.proofs.reordered_is_principal.Goals as goal
-
-pub returns : goal.returns
-returns c = proved

@@ -1,5 +1,0 @@
-use Rattle.elaboration.proofs.Examples.{short_expanded as proved}
-use Rattle.elaboration.proofs.short_is_expanded.Goals as goal
-
-pub returns : goal.returns
-returns c = proved

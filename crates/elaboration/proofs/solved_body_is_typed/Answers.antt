@@ -1,5 +1,0 @@
-use Rattle.elaboration.proofs.Bodies.{solved_body as proved}
-use Rattle.elaboration.proofs.solved_body_is_typed.Goals as goal
-
-pub returns : goal.returns
-returns c = proved

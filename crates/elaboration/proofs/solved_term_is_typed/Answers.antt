@@ -1,5 +1,0 @@
-use Rattle.elaboration.proofs.SolvedTyped.{solved_term_typed as proved}
-use Rattle.elaboration.proofs.solved_term_is_typed.Goals as goal
-
-pub returns : goal.returns
-returns c = proved

@@ -1,5 +1,0 @@
-use Rattle.elaboration.proofs.Made.{state_scoped as proved}
-use Rattle.elaboration.proofs.state_is_scoped.Goals as goal
-
-pub returns : goal.returns
-returns c = proved

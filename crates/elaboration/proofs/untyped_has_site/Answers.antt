@@ -1,5 +1,0 @@
-use Rattle.elaboration.proofs.Examples.{untyped_site as proved}
-use Rattle.elaboration.proofs.untyped_has_site.Goals as goal
-
-pub returns : goal.returns
-returns c = proved

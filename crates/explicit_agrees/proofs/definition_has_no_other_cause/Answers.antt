@@ -1,5 +1,0 @@
-use Rattle.explicit_agrees.proofs.OnlyDefinitions.{definition_no_other as proved}
-use Rattle.explicit_agrees.proofs.definition_has_no_other_cause.Goals as goal
-
-pub returns : goal.returns
-returns c = proved

@@ -1,5 +1,0 @@
-use Rattle.explicit_agrees.proofs.OnlyDefinitions.{definition_alone as proved}
-use Rattle.explicit_agrees.proofs.definition_is_reconstructed_alone.Goals as goal
-
-pub returns : goal.returns
-returns c = proved

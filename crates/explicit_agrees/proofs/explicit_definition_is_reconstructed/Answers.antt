@@ -1,5 +1,0 @@
-use Rattle.explicit_agrees.proofs.Definitions.{explicit_definition_reconstructed as proved}
-use Rattle.explicit_agrees.proofs.explicit_definition_is_reconstructed.Goals as goal
-
-pub returns : goal.returns
-returns c = proved

@@ -1,5 +1,0 @@
-use Rattle.explicit_agrees.proofs.Only.{no_other_cause as proved}
-use Rattle.explicit_agrees.proofs.explicit_has_no_other_cause.Goals as goal
-
-pub returns : goal.returns
-returns c = proved

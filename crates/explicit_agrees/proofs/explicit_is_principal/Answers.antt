@@ -1,5 +1,0 @@
-use Rattle.explicit_agrees.proofs.Whole.{explicit_principal as proved}
-use Rattle.explicit_agrees.proofs.explicit_is_principal.Goals as goal
-
-pub returns : goal.returns
-returns c = proved

@@ -1,5 +1,0 @@
-use Rattle.explicit_agrees.proofs.Reconstructed.{explicit_reconstructed as proved}
-use Rattle.explicit_agrees.proofs.explicit_is_reconstructed.Goals as goal
-
-pub returns : goal.returns
-returns c = proved

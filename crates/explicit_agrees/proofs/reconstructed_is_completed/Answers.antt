@@ -1,5 +1,0 @@
-use Rattle.explicit_agrees.proofs.Only.{reconstructed_completed as proved}
-use Rattle.explicit_agrees.proofs.reconstructed_is_completed.Goals as goal
-
-pub returns : goal.returns
-returns c = proved

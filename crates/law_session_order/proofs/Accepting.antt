@@ -1,0 +1,207 @@
+-- A line that reads back is accepted.
+use Rattle.std.proofs.Common.{◌≡◌, ℕ, zero, suc, ◌+◌, ◌-◌, ◌≤◌, List, [], ◌∷◌, length, Bool, true, false, Option, Some, refl, sym, ap, ◌∙◌, subst, arith, append-nil, ◌++◌}
+use Rattle.std.specs.Bool.{MatchBool}
+use Rattle.lf.specs.Depth.{depth_limit}
+use Rattle.lf.specs.Syntax.{LfType, Term as LfTerm}
+use Rattle.lf.specs.Entries.{Body, Entry, body_quantifiers, declare_constant, declare_definition, declare_family, signature_of, BodyIsTyped, BodyIsWithin, IsCanonicalEntry, IsCanonicalSignature}
+use Rattle.law_explicit_form.specs.Completion.{IsCompletion}
+use Rattle.law_explicit_form.proofs.Hints.{body_hints}
+use Rattle.tw_lexer.specs.Places.{place_of}
+use Rattle.tw_lexer.specs.Tokens.{token, between, ends, ThroughDot, IsFew, token_count}
+use Rattle.tw_lexer.specs.declared.place.Place.{Place}
+use Rattle.tw_lexer.specs.declared.token.Token.{Token}
+use Rattle.tw_lexer.specs.declared.token.TokenKind.TheVariants.{End}
+use Rattle.tw_lexer.proofs.Finds.{seek-end}
+use Rattle.tw_lexer.proofs.Firsts.{IsToken, first_token-IsToken}
+use Rattle.tw_lexer.proofs.Lists.{count-more}
+use Rattle.tw_parse.specs.Faults.{IsKnown}
+use Rattle.tw_parse.specs.Keywords.{is_built}
+use Rattle.tw_parse.specs.Outlines.{Table, Shapes, Head, a_check, a_definition, an_abbreviation, declares, defines, defines_typed, prefers, prefers_both, gives}
+use Rattle.tw_parse.specs.Readings.{Declares, MeansAll, declared, defined, defined_typed, preferred, given}
+use Rattle.tw_parse.specs.Syntax.{Term, DeclarationOf, Declaration, declare, define}
+use Rattle.tw_parse.specs.Outlines.{Outline}
+use Rattle.tw_parse.specs.Words.{Lexeme, lexemes}
+use Rattle.tw_parse.specs.declared.words.Word.TheVariants.{Name, Keyword, Underscore}
+use Rattle.tw_print.specs.Shown.{declaration_line}
+use Rattle.tw_recon.specs.Hints.{fitted, written_hints}
+use Rattle.law_explicit_agrees.proofs.Definitions.{explicit_definition_reconstructed}
+use Rattle.law_explicit_agrees.proofs.Reconstructed.{explicit_reconstructed}
+use Rattle.tw_decl.specs.View.{View, IsSound, scene_of, with_entry}
+use Rattle.tw_decl.specs.Declaration.{IsWritten, entry_report, Makes}
+use Rattle.law_reading_back.specs.Laws.{ReadsAs, ReadsAsDefinition}
+use Rattle.law_session_order.specs.Laws.{ReadBackIsAccepted, KeptIsAccepted, OpenIsAccepted, NewIsAccepted}
+use Rattle.law_session_order.specs.Order.{IsViewInOrder, LineReadsBack, IsWithinLimits, AcceptsAgain, ReadsBody}
+use Rattle.law_session_order.proofs.Reading.{canonical_rest, kept_back, open_back, new_line_back}
+
+-- a text has no more tokens than bytes, and one more
+last_counted : (text : List ℕ) (from upto : ℕ) (t : Token) (ts : List Token) (b : Bool) → ends t.kind ≡ b → IsToken text from t → MatchBool b ((ts ≡ []) × (upto ≡ t.upto)) (ThroughDot text t.upto ts upto)
+    → (ThroughDot text t.upto ts upto → token_count ts ≤ length text - t.upto + 1) → token_count (t ∷ ts) ≤ length text - from + 1
+last_counted text from upto t ts true e i (none, q) next =
+    let c = count-more t [] in
+    let n : token_count (t ∷ []) ≤ length text - from + 1 = omega (arith, c) in
+    subst (λ us. token_count (t ∷ us) ≤ length text - from + 1) (sym none) n
+last_counted text from upto t ts false e i h next =
+    let c = count-more t ts in
+    let r = next h in
+    let l = i.long e in omega (arith, c, r, l, i.later, i.within)
+
+counted : (text : List ℕ) (from upto : ℕ) (ts : List Token) → from ≤ length text → ThroughDot text from ts upto → token_count ts ≤ length text - from + 1
+counted text from upto [] l h = absurd h
+counted text from upto (t ∷ ts) l (f, h) =
+    let i = first_token-IsToken text from t l f in last_counted text from upto t ts (ends t.kind) refl i h (λ k. counted text t.upto upto ts i.within k)
+
+-- a name with its kind or type begins with no keyword
+begins_known : (table : Table) (ws : List Lexeme) (name : List ℕ) (at : Place) (U : Term) → Declares table ws (declare name at U) → IsKnown ws
+begins_known table ws name at U (D, shapes, meaning) = by_shape shapes meaning refl
+  where
+    by_shape : {xs : List Lexeme} {E : DeclarationOf Outline} {d : Declaration} → Shapes table xs E → MeansAll E d → d ≡ declare name at U → IsKnown xs
+    by_shape (declares {x = x} w k s g) (declared m) e q = let clash : Name ≡ Keyword = sym w ∙ q in cc
+    by_shape (defines h w s g) (defined m) e q = cc
+    by_shape (defines_typed h w s v t g) (defined_typed m n) e q = cc
+    by_shape (prefers w f g h i j) preferred e q = cc
+    by_shape (prefers_both w f g h i j k l) preferred e q = cc
+    by_shape (gives words xs d w f g h i) given e q = cc
+
+-- a definition begins with no keyword but that of an abbreviation
+head_known : {xs rest : List Lexeme} {c : Option (List ℕ)} {b : Bool} → Head xs c b rest → IsKnown xs
+head_known (a_definition w) q = let clash : Name ≡ Keyword = sym w ∙ q in cc
+head_known (a_check w) q = let clash : Underscore ≡ Keyword = sym w ∙ q in cc
+head_known (an_abbreviation k f w) q = ap is_built f
+
+define_known : (table : Table) (ws : List Lexeme) (c : Option (List ℕ)) (A : Option Term) (M : Term) (b : Bool) → Declares table ws (define c A M b) → IsKnown ws
+define_known table ws c A M b (D, shapes, meaning) = by_shape shapes meaning refl
+  where
+    by_shape : {xs : List Lexeme} {E : DeclarationOf Outline} {d : Declaration} → Shapes table xs E → MeansAll E d → d ≡ define c A M b → IsKnown xs
+    by_shape (declares w k s g) (declared m) e q = cc
+    by_shape (defines h w s g) (defined m) e q = head_known h q
+    by_shape (defines_typed h w s v t g) (defined_typed m n) e q = head_known h q
+    by_shape (prefers w f g h i j) preferred e q = cc
+    by_shape (prefers_both w f g h i j k l) preferred e q = cc
+    by_shape (gives words xs d w f g h i) given e q = cc
+
+-- a completion of the same body may stand where the entry does
+stands_too : (es : List Entry) (c : List ℕ) (U : Term) (e f : Entry) → IsCanonicalEntry (signature_of es) e → IsCompletion es c U f → f.body ≡ e.body → IsCanonicalEntry (signature_of es) f
+stands_too es c U e f k h same = record {
+  typed = subst (BodyIsTyped (signature_of es)) (sym same) k.typed;
+  within = subst (BodyIsWithin depth_limit) (sym same) k.within;
+  implicit_lead = let i = h.implicit in omega (arith, i);
+  hint_each = ap length h.hint_each ∙ body_hints es U f.body h.body;
+}
+
+declared_accepted : (v : View) (e : Entry) (text : List ℕ) (upto : ℕ) → upto ≡ length text → IsSound v → ReadsAs v.signature v.fixities text 0 upto e.name e.body → IsCanonicalEntry (signature_of v.signature) e → IsWithinLimits text → AcceptsAgain v text e
+declared_accepted v e text upto all sound r k limits =
+    let words = lexemes text r.tokens in
+    let few : IsFew r.tokens = let c = counted text 0 upto r.tokens (omega arith) r.through in let l = limits.few in omega (arith, c, l) in
+    let written : IsWritten text 0 upto words (place_of text upto) = record { tokens = r.tokens; through = r.through; few = few; spelled = refl; behind = refl } in
+    let h : IsCompletion v.signature e.name r.written r.entry = r.completes in
+    let stands : IsCanonicalEntry (signature_of v.signature) r.entry = stands_too v.signature e.name r.written e r.entry k h r.same in
+    let makes : Makes v words (entry_report v r.entry) (with_entry v r.entry) = record {
+      declaration = declare e.name r.at r.written;
+      reads = record { begins = (begins_known v.fixities words e.name r.at r.written r.reads, limits.shallow r.tokens upto r.through); reads = r.reads };
+      does = record {
+        entry = r.entry;
+        reconstructs = explicit_reconstructed v.signature sound (declare e.name r.at r.written) r.entry r.explicit h stands;
+        stands = stands;
+        says = refl;
+        keeps = refl;
+      };
+    } in
+    record {
+      report = entry_report v r.entry;
+      entry = r.entry;
+      accepts = record {
+        words = words;
+        end = place_of text upto;
+        next = token text End upto upto;
+        written = record { upto = upto; written = written; follower = seek-end text between upto (omega (arith, all)) };
+        alone = refl;
+        makes = makes;
+      };
+      name = h.name;
+      body = r.same;
+    }
+
+length_fitted : (n : ℕ) (hs : List (Option (List ℕ))) → length (fitted n hs) ≡ n
+length_fitted zero hs = refl
+length_fitted (suc n) [] = ap suc (length_fitted n [])
+length_fitted (suc n) (h ∷ hs) = ap suc (length_fitted n hs)
+
+-- the entry of a definition that is read back
+module _ (v : View) (e : Entry) (text : List ℕ) (upto : ℕ) (M : LfTerm) (A : LfType) (b : Bool) (r : ReadsAsDefinition v.signature v.fixities text 0 upto e.name M A b) where
+  abbrev definition : Declaration
+  definition = define (Some e.name) (Some r.type_written) r.term_written b
+
+  abbrev again : Entry
+  again = record { name = e.name; implicit = zero; hints = fitted (body_quantifiers (declare_definition M A b)) (written_hints definition); body = declare_definition M A b }
+
+  definition_accepted : e.body ≡ declare_definition M A b → upto ≡ length text → IsSound v → IsCanonicalEntry (signature_of v.signature) e → IsWithinLimits text → AcceptsAgain v text e
+  definition_accepted is all sound k limits =
+      let words = lexemes text r.tokens in
+      let few : IsFew r.tokens = let c = counted text 0 upto r.tokens (omega arith) r.through in let l = limits.few in omega (arith, c, l) in
+      let written : IsWritten text 0 upto words (place_of text upto) = record { tokens = r.tokens; through = r.through; few = few; spelled = refl; behind = refl } in
+      let stands : IsCanonicalEntry (signature_of v.signature) again = record {
+        typed = subst (BodyIsTyped (signature_of v.signature)) is k.typed;
+        within = subst (BodyIsWithin depth_limit) is k.within;
+        implicit_lead = omega arith;
+        hint_each = length_fitted (body_quantifiers (declare_definition M A b)) (written_hints definition);
+      } in
+      let makes : Makes v words (entry_report v again) (with_entry v again) = record {
+        declaration = definition;
+        reads = record { begins = (define_known v.fixities words (Some e.name) (Some r.type_written) r.term_written b r.reads, limits.shallow r.tokens upto r.through); reads = r.reads };
+        does = record {
+          entry = again;
+          reconstructs = explicit_definition_reconstructed v.signature sound (Some e.name) r.type_written r.term_written b A M (record { type_form = r.type_form; term_form = r.term_form }) (r.type_gives, r.term_gives) again (record { name = refl; body = refl; implicit = refl; hints = refl });
+          stands = stands;
+          says = refl;
+          keeps = refl;
+        };
+      } in
+      record {
+        report = entry_report v again;
+        entry = again;
+        accepts = record {
+          words = words;
+          end = place_of text upto;
+          next = token text End upto upto;
+          written = record { upto = upto; written = written; follower = seek-end text between upto (omega (arith, all)) };
+          alone = refl;
+          makes = makes;
+        };
+        name = refl;
+        body = sym is;
+      }
+
+read_accepted : (v : View) (e : Entry) (text : List ℕ) (upto : ℕ) → upto ≡ length text → IsSound v → ReadsBody v.signature v.fixities text 0 upto e.name e.body → IsCanonicalEntry (signature_of v.signature) e → IsWithinLimits text → AcceptsAgain v text e
+read_accepted v e text upto all sound r k limits = by_body e.body refl r
+  where
+    declared_body : (d : Body) → e.body ≡ d → ReadsAs v.signature v.fixities text 0 upto e.name d → AcceptsAgain v text e
+    declared_body d q s = declared_accepted v e text upto all sound (subst (ReadsAs v.signature v.fixities text 0 upto e.name) (sym q) s) k limits
+
+    by_body : (d : Body) → e.body ≡ d → ReadsBody v.signature v.fixities text 0 upto e.name d → AcceptsAgain v text e
+    by_body (declare_family K) q s = declared_body (declare_family K) q s
+    by_body (declare_constant A) q s = declared_body (declare_constant A) q s
+    by_body (declare_definition M A b) q s = definition_accepted v e text upto M A b s q all sound k limits
+
+pub read_back_accepted : ReadBackIsAccepted
+read_back_accepted s v e sound back k limits =
+    let text = declaration_line s e in
+    let n : 0 + length text ≡ length text = omega arith in
+    read_accepted v e text (0 + length text) n sound (back text [] 0 (sym (append-nil text))) k limits
+
+-- a line that reads back over the entries before it is accepted by a session that has these and the same operators
+older_accepted : (v u : View) (newer older : List Entry) (e : Entry) → IsViewInOrder v → v.signature ≡ newer ++ e ∷ older → u.signature ≡ older → u.fixities ≡ v.fixities → IsWithinLimits (declaration_line (scene_of v) e)
+    → LineReadsBack (scene_of v) older v.fixities e → AcceptsAgain u (declaration_line (scene_of v) e) e
+older_accepted v u newer older e o split same rows limits back =
+    let canonical : IsCanonicalSignature (e ∷ older) = canonical_rest newer (e ∷ older) (subst IsCanonicalSignature split o.sound) in
+    read_back_accepted (scene_of v) u e (subst IsCanonicalSignature (sym same) canonical.0)
+    (subst (λ es. LineReadsBack (scene_of v) es u.fixities e) (sym same) (subst (λ t. LineReadsBack (scene_of v) older t e) (sym rows) back))
+    (subst (λ es. IsCanonicalEntry (signature_of es) e) (sym same) canonical.1) limits
+
+pub kept_accepted : KeptIsAccepted
+kept_accepted v u newer older e o i room none split plain same rows limits = older_accepted v u newer older e o split same rows limits (kept_back v o i room none newer older e split plain)
+
+pub open_accepted : OpenIsAccepted
+open_accepted v u newer older e o i room split open_line same rows limits = older_accepted v u newer older e o split same rows limits (open_back v newer older e o i room split open_line)
+
+pub new_accepted : NewIsAccepted
+new_accepted v e o i room none plain limits = read_back_accepted _ v e o.sound.0 (new_line_back v e o i room none plain) o.sound.1 limits

@@ -1,0 +1,89 @@
+-- A run of addition that ends at instances of clauses.
+use Rattle.std.proofs.Common.{◌≡◌, zero, suc, [], ◌∷◌, refl, sym, ◌∙◌, subst}
+use Rattle.std.specs.Prelude.{Some}
+use Rattle.lf.specs.Syntax.{Term, Spine, nil, app, Kind, base, arrow, skeleton, weaken}
+use Rattle.lf.specs.AtOnce.{in_front}
+use Rattle.lf.specs.Substitution.{keep, put, substitute_spine, reduce}
+use Rattle.lf.specs.Variables.{target_arguments, nothing}
+use Rattle.lf_checks.specs.Clause.{from_constant}
+use Rattle.lf_cases.specs.Case.{free_variable, as_term, HasArguments, covered_places}
+use Rattle.lf_checks.specs.Marks.{SamePlaces, MentionChosenOnly, input_places}
+use Rattle.lf_cases.specs.Reached.{IsInstanceOf, LeavesAll}
+use Rattle.lf_totality.specs.Examples.{Addition, addition_marks, var, nat, z, successor, plus_kind, plus_z, plus_s, plus_input_goal, plus_zero_case, plus_successor_case, first_below_second}
+use Rattle.lf_totality.proofs.Addition.{addition_ok, s_first, s_images, s_values, s_terms}
+use Rattle.lf_totality.proofs.ExamplesSplits.{instances_stand}
+use Rattle.lf_coverage.specs.Leaf.{HasClosedInputs, IsInstanceLeaf, EndsAtLeaves, at_leaf, by_unification, no_more_leaves, one_more_leaf}
+use Rattle.lf_coverage.specs.ExamplesLeaves.{PlusEndsAtLeaves}
+use Rattle.lf_coverage.proofs.Examples.{goal_typed, plus_subordination}
+use Rattle.lf_coverage.proofs.ExamplesUnified.{plus_unified}
+use Rattle.lf_coverage.proofs.Leaves.{leaves_cover}
+
+zero_leaf : IsInstanceLeaf Addition addition_marks [] plus_zero_case
+zero_leaf = record {
+  typed = record { items = (tt, (_, refl, tt)); given = tt; arguments = ((base 0, (base 0, refl, refl)), ((base 0, (base 0, refl, refl)), tt)) };
+  no_local = refl;
+  clause = record { clause = plus_z; comes = from_constant 2 plus_z.type refl };
+  of_family = refl;
+  strict_inputs = (tt, ((refl, tt), tt));
+  is_instance = instances_stand.0;
+}
+
+-- plus (s X) Y _ is what it shares with plus-s
+successor_instance : IsInstanceOf {Σ = Addition} {W = []} plus_successor_case (record { clause = plus_s; comes = from_constant 3 plus_s.type refl })
+successor_instance = (
+  record {
+    items = plus_successor_case.items;
+    typed_items = ((tt, (_, refl, tt)), (_, refl, tt));
+    case_values = in_front (put (base 0) (var 0)) (in_front (put (base 0) (var 1)) keep);
+    is_instance = (var 0, in_front (put (base 0) (var 1)) keep, (var 1, keep, tt, (nat, (nat, refl, refl), refl), refl), (nat, refl, refl), refl);
+    used = s_first;
+    clause_values = s_images (var 1) (var 0);
+    typed_values = s_values Addition (nat ∷ nat ∷ []) (var 1) (var 0) (nat, (nat, refl, refl), refl) (nat, refl, refl);
+    uses = (((refl, tt), tt), ((refl, tt), tt));
+    terms = s_terms (var 1) (var 0);
+    stands = tt;
+    tuple = app (successor (var 1)) (app (var 0) (app z nil));
+    of_case = (refl, (refl, tt));
+    of_clause = (refl, (refl, tt));
+  },
+  refl,
+  all,
+)
+  where
+    all : LeavesAll (free_variable nat ∷ free_variable nat ∷ []) (in_front (put (base 0) (var 0)) (in_front (put (base 0) (var 1)) keep))
+    all zero A q = subst (λ X. var 0 ≡ as_term (skeleton X) (keep 0)) (sym q) refl
+    all (suc zero) A (B, q, r) = subst (λ X. var 1 ≡ as_term (skeleton X) (keep 1)) (sym r) (subst (λ X. var 1 ≡ as_term (skeleton (weaken X)) (keep 1)) (sym q) refl)
+    all (suc (suc i)) A (B, (C, g, r), r') = absurd g
+
+successor_leaf : IsInstanceLeaf Addition addition_marks [] plus_successor_case
+successor_leaf = record {
+  typed = record { items = ((tt, (_, refl, tt)), (_, refl, tt)); given = tt; arguments = ((base 0, (arrow (base 0) (base 0), refl, ((base 0, refl, refl), refl))), ((base 0, (base 0, refl, refl)), tt)) };
+  no_local = refl;
+  clause = record { clause = plus_s; comes = from_constant 3 plus_s.type refl };
+  of_family = refl;
+  strict_inputs = (((refl, tt), tt), ((refl, tt), tt));
+  is_instance = successor_instance;
+}
+
+some_kind : {A B : Kind} → Some A ≡ Some B → A ≡ B
+some_kind e = cc
+
+marked : HasClosedInputs Addition addition_marks 1
+marked K e = subst (MentionChosenOnly nothing (input_places (addition_marks 1))) (some_kind e) (tt, (tt, tt))
+
+ends : EndsAtLeaves Addition addition_marks [] (first_below_second 1) first_below_second plus_input_goal
+ends = by_unification 1 (plus_zero_case ∷ plus_successor_case ∷ []) goal_typed refl plus_unified (one_more_leaf refl refl refl refl (at_leaf zero_leaf) (one_more_leaf refl refl refl refl (at_leaf successor_leaf) no_more_leaves))
+
+-- s X isn't z
+no_zero : IsInstanceOf {Σ = Addition} {W = []} plus_successor_case (record { clause = plus_z; comes = from_constant 2 plus_z.type refl }) → ⊥
+no_zero (s, i, v) = by s.tuple s.of_case s.of_clause
+  where
+    by : (T : Spine) → HasArguments s.case_values plus_successor_case.arguments T → SamePlaces (covered_places plus_successor_case.arguments) T (substitute_spine reduce s.clause_values (target_arguments plus_z.type)) → ⊥
+    by nil h p = absurd h
+    by (app M T) (e, h) (q, p) = apart (sym e ∙ q)
+      where
+        apart : {N : Term} → successor N ≡ z → ⊥
+        apart e = cc
+
+pub plus_ends_at_leaves : PlusEndsAtLeaves
+plus_ends_at_leaves = (ends, leaves_cover Addition addition_ok addition_marks [] (λ B m. absurd m) first_below_second plus_subordination 1 (plus_kind, refl) plus_input_goal refl refl tt marked refl ends, no_zero)

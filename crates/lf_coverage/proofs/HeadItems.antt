@@ -1,0 +1,114 @@
+-- The new variables of a head have values that give its arguments.
+use Rattle.std.proofs.Common.{◌≡◌, ℕ, zero, suc, List, [], ◌∷◌, refl, sym, ap, ap₂, ◌∙◌, subst, arith}
+use Rattle.std.specs.Prelude.{Bool}
+use Rattle.lf.specs.Syntax.{Term, Spine, nil, app, LfType, Kind, pi, atom, kind_pi, star, rename_spine, rename_type, rename_kind, lift_renaming}
+use Rattle.lf.specs.Substitution.{Image, lift, single, substitute, substitute_spine, substitute_type, substitute_kind, reduce}
+use Rattle.lf.specs.Typing.{Signature, SpineType, SpineFitsKind, instantiate_type, instantiate_kind}
+use Rattle.lf.specs.Variables.{target}
+use Rattle.lf_checks.specs.Marks.{Mark, output, output_places, input_places, NoneFree, SamePlaces}
+use Rattle.lf_cases.specs.Case.{Item, free_variable, HasArguments, chosen_count}
+use Rattle.lf_cases.specs.Raised.{raise_type}
+use Rattle.lf_cases.specs.OutputGoal.{renumber, over_item, raised_variable, output_items, output_arguments, OutputsCanBeRaised}
+use Rattle.lf_cases.specs.Reached.{arguments_count, head_items, head_spine}
+use Rattle.lf_coverage.specs.Heads.{ArgumentsCanBeRaised}
+
+-- A type as a kind with the same quantifiers, all of whose places are outputs.
+abbrev pub type_kind : LfType → Kind
+type_kind (pi A B) = kind_pi A (type_kind B)
+type_kind (atom a S) = star
+
+abbrev pub outputs : ℕ → List Mark
+outputs zero = []
+outputs (suc n) = output ∷ outputs n
+
+-- a spine of so many arguments
+abbrev pub some_spine : ℕ → Spine → Spine
+some_spine zero S = nil
+some_spine (suc n) nil = nil
+some_spine (suc n) (app M S) = app M (some_spine n S)
+
+pub kind_renamed : (ρ : ℕ → ℕ) (A : LfType) → type_kind (rename_type ρ A) ≡ rename_kind ρ (type_kind A)
+kind_renamed ρ (pi A B) = ap (kind_pi (rename_type ρ A)) (kind_renamed (lift_renaming ρ) B)
+kind_renamed ρ (atom a S) = refl
+
+pub kind_substituted : (σ : ℕ → Image) (A : LfType) → type_kind (substitute_type reduce σ A) ≡ substitute_kind reduce σ (type_kind A)
+kind_substituted σ (pi A B) = ap (kind_pi (substitute_type reduce σ A)) (kind_substituted (lift σ) B)
+kind_substituted σ (atom a S) = refl
+
+kind_put_in : (A : LfType) (M : Term) (ρ : ℕ → ℕ) (B : LfType) → type_kind (instantiate_type A M (rename_type ρ B)) ≡ instantiate_kind A M (rename_kind ρ (type_kind B))
+kind_put_in A M ρ B = kind_substituted (single (Rattle.lf.specs.Syntax.skeleton A) M) (rename_type ρ B) ∙ ap (instantiate_kind A M) (kind_renamed ρ B)
+
+-- how many arguments a spine has
+abbrev pub spine_length : Spine → ℕ
+spine_length nil = zero
+spine_length (app M S) = suc (spine_length S)
+
+pub length_renamed : (ρ : ℕ → ℕ) (S : Spine) → spine_length (rename_spine ρ S) ≡ spine_length S
+length_renamed ρ nil = refl
+length_renamed ρ (app M S) = ap suc (length_renamed ρ S)
+
+suc_inj : {m n : ℕ} → suc m ≡ suc n → m ≡ n
+suc_inj e = omega arith
+
+no_zero : {n : ℕ} → zero ≡ suc n → ⊥
+no_zero e = omega arith
+
+-- The items are those of the outputs of such a kind.
+pub same_items : (below : ℕ → ℕ → Bool) (D : List LfType) (n : ℕ) (S : Spine) (A : LfType) (I : List Item) → spine_length S ≡ n → output_items below D (output_places (outputs n)) S (type_kind A) I ≡ head_items below D n A I
+same_items below D zero S A I e = refl
+same_items below D (suc n) nil A I e = absurd (no_zero e)
+same_items below D (suc n) (app M S) (atom a T) I e = refl
+same_items below D (suc n) (app M S) (pi A B) I e =
+    let N : Term = raised_variable (below (target A)) D A zero in
+    let ρ : ℕ → ℕ = lift_renaming (over_item D) in
+    let J : List Item = free_variable (raise_type (below (target A)) D A) ∷ I in
+    ap (λ K. output_items below (renumber suc D) (output_places (outputs n)) (rename_spine (over_item D) S) K J) (sym (kind_put_in A N ρ B))
+    ∙ same_items below (renumber suc D) n (rename_spine (over_item D) S) (instantiate_type A N (rename_type ρ B)) J (length_renamed (over_item D) S ∙ suc_inj e)
+
+pub same_raising : (below : ℕ → ℕ → Bool) (D : List LfType) (n : ℕ) (S : Spine) (A : LfType) → spine_length S ≡ n → ArgumentsCanBeRaised below D n A → OutputsCanBeRaised below D (output_places (outputs n)) S (type_kind A)
+same_raising below D zero S A e r = tt
+same_raising below D (suc n) nil A e r = tt
+same_raising below D (suc n) (app M S) (atom a T) e r = tt
+same_raising below D (suc n) (app M S) (pi A B) e (c, r) =
+    let N : Term = raised_variable (below (target A)) D A zero in
+    let ρ : ℕ → ℕ = lift_renaming (over_item D) in
+    (c, subst (OutputsCanBeRaised below (renumber suc D) (output_places (outputs n)) (rename_spine (over_item D) S)) (kind_put_in A N ρ B) (same_raising below (renumber suc D) n (rename_spine (over_item D) S) (instantiate_type A N (rename_type ρ B)) (length_renamed (over_item D) S ∙ suc_inj e) r))
+
+pub count_is : (A : LfType) → chosen_count (output_places (outputs (arguments_count A))) (type_kind A) ≡ arguments_count A
+count_is (pi A B) = ap suc (count_is B)
+count_is (atom a S) = refl
+
+-- the arguments of the goal of such a kind are the head's
+pub arguments_are : (below : ℕ → ℕ → Bool) (D : List LfType) (A : LfType) (σ : ℕ → Image) (T : Spine) → HasArguments σ (output_arguments below D (output_places (outputs (arguments_count A))) (type_kind A)) T → T ≡ substitute_spine reduce σ (head_spine below D A)
+arguments_are below D (pi A B) σ nil h = absurd h
+arguments_are below D (pi A B) σ (app N T) (e, h) = ap₂ app (e ∙ ap (λ k. substitute reduce σ (raised_variable (below (target A)) D A k)) (count_is B)) (arguments_are below D B σ T h)
+arguments_are below D (atom a S) σ nil h = refl
+arguments_are below D (atom a S) σ (app N T) h = absurd h
+
+pub none_free : (n : ℕ) → NoneFree (outputs n)
+none_free zero = tt
+none_free (suc n) = none_free n
+
+-- nothing is asked at the inputs: there are none
+pub no_inputs : (n : ℕ) (S T : Spine) → spine_length S ≡ n → spine_length T ≡ n → SamePlaces (input_places (outputs n)) S T
+no_inputs zero nil nil e f = tt
+no_inputs zero nil (app N T) e f = absurd (no_zero (sym f))
+no_inputs zero (app M S) T e f = absurd (no_zero (sym e))
+no_inputs (suc n) nil T e f = absurd (no_zero e)
+no_inputs (suc n) (app M S) nil e f = absurd (no_zero f)
+no_inputs (suc n) (app M S) (app N T) e f = no_inputs n S T (suc_inj e) (suc_inj f)
+
+-- a spine that takes a type to an atom fits that kind, and has as many arguments as the type has quantifiers
+pub fits_kind : (Σ : Signature) (G : List LfType) (S : Spine) (A : LfType) (a : ℕ) (T : Spine) → SpineType Σ G S A (atom a T) → SpineFitsKind Σ G S (type_kind A)
+fits_kind Σ G nil A a T e = subst (λ X. SpineFitsKind Σ G nil (type_kind X)) (sym e) tt
+fits_kind Σ G (app M S) (pi A B) a T (m, s) = (m, subst (SpineFitsKind Σ G S) (kind_substituted (single (Rattle.lf.specs.Syntax.skeleton A) M) B) (fits_kind Σ G S (instantiate_type A M B) a T s))
+fits_kind Σ G (app M S) (atom b U) a T s = absurd s
+
+pub count_substituted : (σ : ℕ → Image) (A : LfType) → arguments_count (substitute_type reduce σ A) ≡ arguments_count A
+count_substituted σ (pi A B) = ap suc (count_substituted (lift σ) B)
+count_substituted σ (atom a S) = refl
+
+pub length_is : (Σ : Signature) (G : List LfType) (S : Spine) (A : LfType) (a : ℕ) (T : Spine) → SpineType Σ G S A (atom a T) → spine_length S ≡ arguments_count A
+length_is Σ G nil A a T e = ap arguments_count (sym e)
+length_is Σ G (app M S) (pi A B) a T (m, s) = ap suc (length_is Σ G S (instantiate_type A M B) a T s ∙ count_substituted (single (Rattle.lf.specs.Syntax.skeleton A) M) B)
+length_is Σ G (app M S) (atom b U) a T s = absurd s

@@ -1,0 +1,312 @@
+-- A case of inputs that is an instance of a clause: the values of the clause in the case, composed with those of a ground instance of the case,
+-- are values of the clause there.
+use Rattle.std.proofs.Common.{◌≡◌, ℕ, zero, suc, ◌+◌, ◌-◌, List, [], ◌∷◌, length, refl, sym, ap, ◌∙◌, subst, arith, inl, inr}
+use Rattle.std.specs.Prelude.{Bool, true, false, Option, Some, None, ◌⊎◌}
+use Rattle.lf.specs.Syntax.{constant, variable, metavariable, Term, Spine, lambda, root, nil, app, LfType, pi, atom, Skeleton, base, arrow, skeleton}
+use Rattle.lf.specs.Substitution.{Image, keep, put, substitute, substitute_spine, substitute_image, substitute_type, reduce, after}
+use Rattle.lf.specs.SkeletonTyping.{HeadSkeletons, ImageSkeleton, TermSkeleton, SpineSkeleton, SubstitutionBySkeletons}
+use Rattle.lf.specs.Skeletons.{constant_skeletons, family_skeletons, context_skeletons}
+use Rattle.lf.specs.Typing.{Signature, TypeAt, ImageHasType, IsTypedSubstitution, IsType, IsContext, IsSignature}
+use Rattle.lf.specs.Entries.{quantifiers}
+use Rattle.lf.specs.Variables.{binders, onto, under, hide, Uses, UsesSpine, UsesType, Values, everything, same_number}
+use Rattle.lf.specs.Subordination.{Block, AreTypedBlocks}
+use Rattle.lf.specs.Eta.{lambdas}
+use Rattle.lf.specs.Worlds.{World, lift_over, under_all}
+use Rattle.lf.specs.Extension.{Extends}
+use Rattle.lf.proofs.Agreement.{agree_on}
+use Rattle.lf.proofs.Checker.{number_is}
+use Rattle.lf.proofs.Composition.{substitutions_compose}
+use Rattle.lf.proofs.ExtensionTyping.{extension_keeps_contexts, extension_keeps_values}
+use Rattle.lf.proofs.Partial.{skeletons_beside, PartialSubstitution, SkeletonTypeBeside, ImageHasType-has_skeleton, type_by_skeletons_beside, partial_substitution_keeps_typing, uses_all}
+use Rattle.lf.proofs.Patch.{pick, patch, patch_same, patched}
+use Rattle.lf.proofs.SkeletonTypes.{substitutions_compose_type, substitution_keeps_types_by_skeletons}
+use Rattle.lf.proofs.Renaming.{substitute_identity}
+use Rattle.lf.proofs.ToSkeletons.{typed_has_skeleton}
+use Rattle.lf.proofs.TypeLaws.{skeleton_renamed, skeleton_substituted, substitute_renamed_type}
+use Rattle.lf.proofs.Weakening.{declared_is_type}
+use Rattle.lf.proofs.Worlds.{world_is_context}
+use Rattle.lf_checks.specs.Tests.{both, either}
+use Rattle.lf_checks.specs.Clause.{Clause, scope, outside, IsClause, from_constant, from_entry}
+use Rattle.lf_checks.specs.Marks.{SamePlaces, UsesPlaces}
+use Rattle.lf_checks.specs.Strict.{pattern_arguments, strict, strict_spine, strict_at}
+use Rattle.lf_checks.specs.Worlded.{IsTerm}
+use Rattle.lf_cases.specs.Cover.{AreTerms}
+use Rattle.lf_cases.specs.Case.{Item, items_context, as_term, IsGroundInstance, HasArguments, covered_places}
+use Rattle.lf_cases.specs.Missing.{AreTypedItems}
+use Rattle.lf_cases.specs.Reached.{LeavesAll}
+use Rattle.lf_cases.proofs.BlockEntries.{onto_onto, drop_typed}
+use Rattle.lf_totality.proofs.Core.{out_index, outside_at}
+use Rattle.lf_checks.proofs.EtaTest.{both_l, both_r}
+use Rattle.lf_cases.proofs.LongValues.{long_at}
+use Rattle.lf_totality.proofs.OutputCases.{in_covers}
+use Rattle.lf_checks.proofs.StrictTypes.{either_cases}
+use Rattle.lf_totality.proofs.Theorem.{outside_from}
+use Rattle.lf_coverage.specs.Heads.{HaveSkeletons}
+use Rattle.lf_coverage.proofs.Carried.{carry, carry_same, type_of, beside_nothing, carried, long_term_same, like_type, like_term}
+use Rattle.lf_coverage.proofs.Composing.{composed}
+use Rattle.lf_coverage.proofs.Forms.{lambdas_substituted}
+use Rattle.lf_coverage.proofs.GroundTyped.{ground_typed, items_extended, long_equal}
+use Rattle.lf_coverage.proofs.ItemsContext.{items_are_context}
+use Rattle.lf_coverage.proofs.Standing.{Outer}
+use Rattle.lf_coverage.proofs.Transfer.{same_in}
+use mathlib.Core.Path.{fun_ext}
+
+-- Strict occurrences are occurrences.
+mutual
+  strict_used : (U B F : ℕ → Bool) (x : ℕ) (M : Term) → Uses U M → strict B F x M ≡ true → U x ≡ true
+  strict_used U B F x (lambda M) u e = strict_used (under U) (under B) (hide F) (suc x) M u e
+  strict_used U B F x (root (constant c) S) u e = spine_used U B F x S u e
+  strict_used U B F x (root (metavariable m) S) u e = absurd cc
+  strict_used U B F x (root (variable j) S) u e = by (either_cases (both (same_number j x) (pattern_arguments B [] S)) (both (either (B j) (F j)) (strict_spine B F x S)) e) (λ q. spine_used U B F x S u.1 q)
+    where
+      by : (both (same_number j x) (pattern_arguments B [] S) ≡ true) ⊎ (both (either (B j) (F j)) (strict_spine B F x S) ≡ true) → (strict_spine B F x S ≡ true → U x ≡ true) → U x ≡ true
+      by (inl q) f = ap U (sym (number_is j x (both_l (same_number j x) (pattern_arguments B [] S) q))) ∙ u.0
+      by (inr q) f = f (both_r (either (B j) (F j)) (strict_spine B F x S) q)
+
+  spine_used : (U B F : ℕ → Bool) (x : ℕ) (S : Spine) → UsesSpine U S → strict_spine B F x S ≡ true → U x ≡ true
+  spine_used U B F x nil u e = absurd cc
+  spine_used U B F x (app M S) u e = by (either_cases (strict B F x M) (strict_spine B F x S) e) (λ q. strict_used U B F x M u.0 q) (λ q. spine_used U B F x S u.1 q)
+    where
+      by : (strict B F x M ≡ true) ⊎ (strict_spine B F x S ≡ true) → (strict B F x M ≡ true → U x ≡ true) → (strict_spine B F x S ≡ true → U x ≡ true) → U x ≡ true
+      by (inl q) f k = f q
+      by (inr q) f k = k q
+
+pub places_used : (U : ℕ → Bool) (m : List Bool) (B F : ℕ → Bool) (x : ℕ) (S : Spine) → UsesPlaces U m S → strict_at m B F x S ≡ true → U x ≡ true
+places_used U [] B F x S u e = absurd cc
+places_used U (b ∷ m) B F x nil u e = absurd cc
+places_used U (true ∷ m) B F x (app M S) u e = by (either_cases (strict B F x M) (strict_at m B F x S) e) (λ q. strict_used U B F x M u.0 q) (λ q. places_used U m B F x S u.1 q)
+  where
+    by : (strict B F x M ≡ true) ⊎ (strict_at m B F x S ≡ true) → (strict B F x M ≡ true → U x ≡ true) → (strict_at m B F x S ≡ true → U x ≡ true) → U x ≡ true
+    by (inl q) f k = f q
+    by (inr q) f k = k q
+places_used U (false ∷ m) B F x (app M S) u e = places_used U m B F x S u e
+
+-- what stands outside a clause, counted from there
+out_sum : (A : LfType) (k : ℕ) → out_index A k ≡ k + quantifiers A
+out_sum (pi A B) k = out_sum B (suc k) ∙ next k (quantifiers B)
+  where
+    next : (k n : ℕ) → suc k + n ≡ k + suc n
+    next k n = omega arith
+out_sum (atom a S) k = none k
+  where
+    none : (k : ℕ) → k ≡ k + 0
+    none k = omega arith
+
+out_back : (A : LfType) (k : ℕ) → out_index A k - quantifiers A ≡ k
+out_back A k = ap (λ i. i - quantifiers A) (out_sum A k) ∙ back k (quantifiers A)
+  where
+    back : (k n : ℕ) → (k + n) - n ≡ k
+    back k n = omega arith
+
+out_type : (T : LfType) (O : List LfType) (k : ℕ) (A : LfType) → TypeAt (binders O T) (out_index T k) A → (X : LfType) × TypeAt O k X × (skeleton A ≡ skeleton X) × ((s : ℕ → Image) → substitute_type reduce s A ≡ substitute_type reduce (λ j. s (out_index T j)) X)
+out_type (pi B T) O k A h =
+    let (Y, (Z, z, q), e, f) = out_type T (B ∷ O) (suc k) A h in
+    (Z, z, e ∙ ap skeleton q ∙ skeleton_renamed suc Z, λ s. f s ∙ ap (substitute_type reduce (λ j. s (out_index T j))) q ∙ substitute_renamed_type reduce (λ j. s (out_index T j)) suc Z)
+out_type (atom a S) O k A h = (A, h, refl, λ s. refl)
+
+term_after : (f : ℕ → Image) (y : Image) → IsTerm y → IsTerm (substitute_image f y)
+term_after f (keep j) t = absurd t
+term_after f (put a N) t = tt
+
+-- a clause is typed
+pub clause_typed : (Σ : Signature) → IsSignature Σ → (W : List Block) → AreTypedBlocks Σ W → (c : Clause) → IsClause Σ W c → IsContext Σ c.outer × IsType Σ c.outer c.type
+clause_typed Σ ok W typed c (from_constant k U e) = (tt, ok.types_ok k U e)
+clause_typed Σ ok W typed c (from_entry B later E es i q) = drop_typed Σ later E (onto es B.some) (subst (IsContext Σ) (onto_onto later (E ∷ es) B.some) (subst (λ X. IsContext Σ (onto X B.some)) (sym q) (typed B i)))
+
+-- Under the lambdas of a local context.
+lambdas_inside : (n : ℕ) (M : Term) → lambdas n (lambda M) ≡ lambda (lambdas n M)
+lambdas_inside zero M = refl
+lambdas_inside (suc n) M = ap lambda (lambdas_inside n M)
+
+same_under : (n : ℕ) {M N : Term} → lambdas n M ≡ lambdas n N → M ≡ N
+same_under zero e = e
+same_under (suc n) e = same_under n (inside e)
+  where
+    inside : {M N : Term} → lambda M ≡ lambda N → M ≡ N
+    inside e = cc
+
+abbrev arrows : List LfType → Skeleton → Skeleton
+arrows [] t = t
+arrows (A ∷ D) t = arrows D (arrow (skeleton A) t)
+
+lambdas_skeleton : (κ : HeadSkeletons) (D C : List LfType) (M : Term) (t : Skeleton) → TermSkeleton κ (context_skeletons (onto D C)) M t → TermSkeleton κ (context_skeletons C) (lambdas (length D) M) (arrows D t)
+lambdas_skeleton κ [] C M t m = m
+lambdas_skeleton κ (A ∷ D) C M t m = subst (λ N. TermSkeleton κ (context_skeletons C) N (arrows D (arrow (skeleton A) t))) (lambdas_inside (length D) M) (lambdas_skeleton κ D C (lambda M) (arrow (skeleton A) t) m)
+
+lambdas_use : (D : List LfType) (U : ℕ → Bool) (M : Term) → Uses (under_all D U) M → Uses U (lambdas (length D) M)
+lambdas_use [] U M u = u
+lambdas_use (A ∷ D) U M u = subst (Uses U) (lambdas_inside (length D) M) (lambdas_use D U (lambda M) u)
+
+module _ (S : ℕ → Bool) (Σ Σ' : Signature) (x : Extends S Σ Σ') (ok : IsSignature Σ) (W : List Block) (typed : AreTypedBlocks Σ W) (G : List LfType) (w : World Σ' W S G) (I : List Item) (ti : AreTypedItems Σ W I) (σ : ℕ → Image) (g : IsGroundInstance w I σ) (c : Clause) (ct : IsContext Σ (scope c)) (U : ℕ → Bool) (τ : ℕ → Image) (tv : Values Σ U (scope c) (items_context I) τ) (outer : ℕ → Image) (out : Outer Σ' G c σ τ outer) where
+  abbrev κ : HeadSkeletons
+  κ = constant_skeletons Σ'
+
+  abbrev C : List LfType
+  C = items_context I
+
+  abbrev O : List LfType
+  O = scope c
+
+  abbrev P : List Skeleton
+  P = skeletons_beside [] (scope c)
+
+  abbrev Δ : List Skeleton
+  Δ = skeletons_beside (skeletons_beside [] (scope c)) G
+
+  typed' : AreTypedBlocks Σ' W
+  typed' B m = extension_keeps_contexts S Σ Σ' x (onto B.entries B.some) (typed B m)
+
+  scope_typed : IsContext Σ' O
+  scope_typed = extension_keeps_contexts S Σ Σ' x O ct
+
+  items_typed : IsContext Σ' C
+  items_typed = items_are_context Σ' x.ok W typed' I (items_extended S Σ Σ' x W I ti)
+
+  ground : IsTypedSubstitution Σ' C G σ
+  ground = ground_typed Σ' x.ok W typed' w I σ (items_extended S Σ Σ' x W I ti) g
+
+  values' : Values Σ' U O C τ
+  values' = extension_keeps_values S Σ Σ' x U O C τ tv
+
+  abbrev τ' : ℕ → Image
+  τ' = patch U C τ
+
+  abbrev σ' : ℕ → Image
+  σ' = carry C G σ
+
+  of_clause : PartialSubstitution Σ' x.ok [] P U O C τ'
+  of_clause = patched Σ' x.ok U O C τ scope_typed items_typed values'
+
+  of_case : PartialSubstitution Σ' x.ok P P everything C G σ'
+  of_case = carried Σ' x.ok P C G σ items_typed (world_is_context w) ground
+
+  abbrev ω : ℕ → Image
+  ω = after σ' τ'
+
+  ω_fits_beside : SubstitutionBySkeletons κ P Δ ω
+  ω_fits_beside = composed κ P (skeletons_beside P C) Δ τ' σ' of_clause.sk of_case.sk
+
+  ω_fits : SubstitutionBySkeletons κ (context_skeletons O) Δ ω
+  ω_fits = subst (λ Γ. SubstitutionBySkeletons κ Γ Δ ω) (beside_nothing O) ω_fits_beside
+
+  -- the values of the clause
+  abbrev pub v : ℕ → Image
+  v i = pick (outside c.type everything i) (outer (i - quantifiers c.type)) (ω i)
+
+  v_own : (i : ℕ) → outside c.type everything i ≡ false → v i ≡ ω i
+  v_own i e = ap (λ b. pick b (outer (i - quantifiers c.type)) (ω i)) e
+
+  pub v_out : (k : ℕ) → v (out_index c.type k) ≡ outer k
+  v_out k = ap (λ b. pick b (outer (out_index c.type k - quantifiers c.type)) (ω (out_index c.type k))) (outside_at c.type everything k) ∙ ap outer (out_back c.type k)
+
+  out_typed : (i : ℕ) (A : LfType) → TypeAt O i A → outside c.type everything i ≡ true → ImageHasType Σ' G (v i) (substitute_type reduce v A)
+  out_typed i A h e =
+      let (k, p, _) = outside_from c.type everything i e in
+      let (X, z, _, f) = out_type c.type c.outer k A (subst (λ j. TypeAt O j A) p h) in
+      subst (ImageHasType Σ' G (v i)) (sym (f v ∙ ap (λ s. substitute_type reduce s X) (fun_ext v_out))) (subst (λ y. ImageHasType Σ' G y (substitute_type reduce outer X)) (sym (ap v p ∙ v_out k)) (out.typed k X z))
+
+  v_fits : SubstitutionBySkeletons κ (context_skeletons O) Δ v
+  v_fits i t s = by (outside c.type everything i) refl
+    where
+      by : (b : Bool) → outside c.type everything i ≡ b → ImageSkeleton κ Δ (v i) t
+      by true e = let (A, h, q) = type_of O i t s in subst (ImageSkeleton κ Δ (v i)) (skeleton_substituted reduce v A ∙ q) (ImageHasType-has_skeleton Σ' x.ok P G (v i) (substitute_type reduce v A) (out_typed i A h e))
+      by false e = subst (λ y. ImageSkeleton κ Δ y t) (sym (v_own i e)) (ω_fits i t s)
+
+  same_term : (N : Term) (t : Skeleton) → TermSkeleton κ (context_skeletons C) N t → substitute reduce σ' N ≡ substitute reduce σ N
+  same_term N t m = same_in κ (context_skeletons C) σ' σ (λ i s q. let (A, h, e) = type_of C i s q in carry_same C G σ i (in_covers C i A h)) N t m
+
+  same_image : (y : Image) (Z : LfType) → ImageHasType Σ' C y Z → substitute_image σ' y ≡ substitute_image σ y
+  same_image (keep j) Z h = carry_same C G σ j (in_covers C j Z h)
+  same_image (put a N) Z (e, n) = ap (put a) (same_term N (skeleton Z) (typed_has_skeleton Σ' C N Z n))
+
+  same_value : (i : ℕ) (X : LfType) → TypeAt O i X → U i ≡ true → as_term (skeleton X) (ω i) ≡ as_term (skeleton X) (v i)
+  same_value i X h u = by (outside c.type everything i) refl
+    where
+      by : (b : Bool) → outside c.type everything i ≡ b → as_term (skeleton X) (ω i) ≡ as_term (skeleton X) (v i)
+      by true e =
+          let (k, p, _) = outside_from c.type everything i e in
+          let (Y, z, q, _) = out_type c.type c.outer k X (subst (λ j. TypeAt O j X) p h) in
+          ap (as_term (skeleton X)) (ap (substitute_image σ') (sym (patch_same U C τ i u)) ∙ same_image (τ i) (substitute_type reduce τ X) (values'.typed i X h u) ∙ ap (λ j. substitute_image σ (τ j)) p)
+          ∙ ap (λ a. as_term a (substitute_image σ (τ (out_index c.type k)))) q
+          ∙ out.same k Y z
+          ∙ ap (λ a. as_term a (outer k)) (sym q)
+          ∙ ap (as_term (skeleton X)) (sym (ap v p ∙ v_out k))
+      by false e = ap (as_term (skeleton X)) (sym (v_own i e))
+
+  image_after : (y : Image) (Z : LfType) → SkeletonTypeBeside Σ' x.ok P C Z → ImageHasType Σ' C y Z → ImageHasType Σ' G (substitute_image σ' y) (substitute_type reduce σ' Z)
+  image_after (keep j) Z t h = of_case.typed j Z h refl
+  image_after (put a N) Z t (e, n) = (skeleton_substituted reduce σ' Z ∙ e, partial_substitution_keeps_typing Σ' x.ok P P everything C G σ' N Z of_case t (uses_all everything N (λ i. refl)) n)
+
+  type_here : (i : ℕ) (A : LfType) → TypeAt O i A → IsType Σ' O A
+  type_here i A h = declared_is_type Σ' x.ok O i A scope_typed h
+
+  ω_typed : (i : ℕ) (A : LfType) → TypeAt O i A → U i ≡ true → ImageHasType Σ' G (ω i) (substitute_type reduce ω A)
+  ω_typed i A h u =
+      let ta = type_by_skeletons_beside Σ' [] O A (type_here i A h) in
+      subst (ImageHasType Σ' G (ω i)) (substitutions_compose_type (family_skeletons Σ') κ P (skeletons_beside P C) Δ τ' σ' A of_clause.sk of_case.sk ta) (image_after (τ' i) (substitute_type reduce τ' A) (substitution_keeps_types_by_skeletons (family_skeletons Σ') κ P (skeletons_beside P C) τ' A of_clause.sk ta) (of_clause.typed i A h u))
+
+  -- They are typed, where the clause's own variables are of U.
+  pub v_typed : (V : ℕ → Bool) → ((i : ℕ) → outside c.type everything i ≡ false → V i ≡ true → U i ≡ true) → ((i : ℕ) (A : LfType) → TypeAt O i A → V i ≡ true → UsesType V A) → Values Σ' V O G v
+  v_typed V within closed = record {
+    typed = λ i A h u. by i A h u (outside c.type everything i) refl;
+    closed = closed;
+  }
+    where
+      by : (i : ℕ) (A : LfType) → TypeAt O i A → V i ≡ true → (b : Bool) → outside c.type everything i ≡ b → ImageHasType Σ' G (v i) (substitute_type reduce v A)
+      by i A h u true e = out_typed i A h e
+      by i A h u false e = subst (ImageHasType Σ' G (v i)) (like_type Σ' O Δ U ω v ω_fits v_fits same_value A (type_here i A h) (values'.closed i A h (within i e u))) (subst (λ y. ImageHasType Σ' G y (substitute_type reduce ω A)) (sym (v_own i e)) (ω_typed i A h (within i e u)))
+
+  pub v_terms : (V : ℕ → Bool) → ((i : ℕ) → outside c.type everything i ≡ false → V i ≡ true → U i ≡ true) → AreTerms c U τ → AreTerms c V v
+  v_terms V within ts i e u = subst IsTerm (sym (v_own i e)) (term_after σ' (τ' i) (subst IsTerm (patch_same U C τ i (within i e u)) (ts i e (within i e u))))
+
+  -- what a term of the clause is in the case, it is in the ground instance
+  pub v_same : (Q : Term) (t : Skeleton) → TermSkeleton κ (context_skeletons O) Q t → Uses U Q → (M : Term) (s : Skeleton) → TermSkeleton κ (context_skeletons C) M s → M ≡ substitute reduce τ Q → substitute reduce σ M ≡ substitute reduce v Q
+  v_same Q t q u M s m e =
+      sym (same_term M s m)
+      ∙ ap (substitute reduce σ') (e ∙ agree_on reduce U τ τ' Q (patch_same U C τ) u)
+      ∙ substitutions_compose κ P (skeletons_beside P C) Δ τ' σ' Q t of_clause.sk of_case.sk (subst (λ Γ. TermSkeleton κ Γ Q t) (sym (beside_nothing O)) q)
+      ∙ like_term Σ' O Δ U ω v ω_fits v_fits same_value Q t q u
+
+  -- under local variables too
+  pub v_deep : (D L : List LfType) → length L ≡ length D → (Q : Term) (t : Skeleton) → TermSkeleton κ (context_skeletons (onto D O)) Q t → Uses (under_all D U) Q → (M : Term) (s : Skeleton) → TermSkeleton κ (context_skeletons (onto L C)) M s → M ≡ substitute reduce (lift_over D τ) Q → substitute reduce (lift_over L σ) M ≡ substitute reduce (lift_over D v) Q
+  v_deep D L l Q t q u M s m e =
+      same_under (length D) (
+      ap (λ n. lambdas n (substitute reduce (lift_over L σ) M)) (sym l)
+      ∙ sym (lambdas_substituted L σ M)
+      ∙ v_same (lambdas (length D) Q) (arrows D t) (lambdas_skeleton κ D O Q t q) (lambdas_use D U Q u) (lambdas (length L) M) (arrows L s) (lambdas_skeleton κ L C M s m) (ap (λ n. lambdas n M) l ∙ ap (lambdas (length D)) e ∙ sym (lambdas_substituted D τ Q))
+      ∙ lambdas_substituted D v Q
+      )
+
+  -- a given term
+  pub v_given : (i : ℕ) (a : Skeleton) (M : Term) (s : Skeleton) → outside c.type everything i ≡ false → U i ≡ true → TermSkeleton κ (context_skeletons C) M s → τ i ≡ put a M → v i ≡ put a (substitute reduce σ M)
+  v_given i a M s o u m e = v_own i o ∙ ap (substitute_image σ') (sym (patch_same U C τ i u) ∙ e) ∙ ap (put a) (same_term M s m)
+
+  module _ (D L : List LfType) (l : length L ≡ length D) (ρ : ℕ → Image) (still : (M : Term) (t : Skeleton) → TermSkeleton κ (context_skeletons (onto L C)) M t → substitute reduce (lift_over L ρ) M ≡ M) where
+    -- so it is in the places
+    pub v_places : (Ms : List (Option Term)) (T P' S' : Spine) (a b : Skeleton) → HaveSkeletons κ (context_skeletons (onto L C)) Ms → SpineSkeleton κ (context_skeletons (onto D O)) S' a b → HasArguments (lift_over L σ) Ms T → HasArguments (lift_over L ρ) Ms P' → SamePlaces (covered_places Ms) P' (substitute_spine reduce (lift_over D τ) S') → UsesPlaces (under_all D U) (covered_places Ms) S' → SamePlaces (covered_places Ms) T (substitute_spine reduce (lift_over D v) S')
+    v_places [] nil nil nil a b hm hs h k p u = tt
+    v_places [] nil nil (app Q S') a b hm hs h k p u = absurd p
+    v_places [] nil (app N' P') S' a b hm hs h k p u = absurd k
+    v_places [] (app N T) P' S' a b hm hs h k p u = absurd h
+    v_places (Some M ∷ Ms) nil P' S' a b hm hs h k p u = absurd h
+    v_places (None ∷ Ms) nil P' S' a b hm hs h k p u = absurd h
+    v_places (Some M ∷ Ms) (app N T) nil S' a b hm hs h k p u = absurd k
+    v_places (None ∷ Ms) (app N T) nil S' a b hm hs h k p u = absurd k
+    v_places (Some M ∷ Ms) (app N T) (app N' P') nil a b hm hs h k p u = absurd p
+    v_places (None ∷ Ms) (app N T) (app N' P') nil a b hm hs h k p u = absurd p
+    v_places (Some M ∷ Ms) (app N T) (app N' P') (app Q S') (base z) b hm hs h k p u = absurd hs
+    v_places (None ∷ Ms) (app N T) (app N' P') (app Q S') (base z) b hm hs h k p u = absurd hs
+    v_places (Some M ∷ Ms) (app N T) (app N' P') (app Q S') (arrow a a') b ((t, m), hm) (q, hs) (e, h) (f, k) (r, p) (u, us) = (e ∙ v_deep D L l Q a q u M t m (sym (still M t m) ∙ sym f ∙ r), v_places Ms T P' S' a' b hm hs h k p us)
+    v_places (None ∷ Ms) (app N T) (app N' P') (app Q S') (arrow a a') b hm (q, hs) h k p u = v_places Ms T P' S' a' b hm hs h k p u
+
+-- values that leave each variable as it is leave each term
+pub leaves_terms : (Σ : Signature) (I : List Item) (ρ : ℕ → Image) → SubstitutionBySkeletons (constant_skeletons Σ) (context_skeletons (items_context I)) (context_skeletons (items_context I)) ρ → LeavesAll I ρ → (M : Term) (t : Skeleton) → TermSkeleton (constant_skeletons Σ) (context_skeletons (items_context I)) M t → substitute reduce ρ M ≡ M
+leaves_terms Σ I ρ f l M t m =
+    sym (long_term_same (constant_skeletons Σ) (items_context I) (context_skeletons (items_context I)) ρ M t f m)
+    ∙ same_in (constant_skeletons Σ) (context_skeletons (items_context I)) (long_at (items_context I) ρ) (long_at (items_context I) keep) (λ i s g. let (X, h, e) = type_of (items_context I) i s g in long_equal (items_context I) ρ keep l i X h) M t m
+    ∙ long_term_same (constant_skeletons Σ) (items_context I) (context_skeletons (items_context I)) keep M t (λ i s g. g) m
+    ∙ substitute_identity reduce M
+
+-- under local variables too
+pub leaves_deep : (Σ : Signature) (I : List Item) (ρ : ℕ → Image) → SubstitutionBySkeletons (constant_skeletons Σ) (context_skeletons (items_context I)) (context_skeletons (items_context I)) ρ → LeavesAll I ρ → (L : List LfType) (M : Term) (t : Skeleton) → TermSkeleton (constant_skeletons Σ) (context_skeletons (onto L (items_context I))) M t → substitute reduce (lift_over L ρ) M ≡ M
+leaves_deep Σ I ρ f l L M t m = same_under (length L) (sym (lambdas_substituted L ρ M) ∙ leaves_terms Σ I ρ f l (lambdas (length L) M) (arrows L t) (lambdas_skeleton (constant_skeletons Σ) L (items_context I) M t m))

@@ -1,0 +1,5 @@
+use Rattle.lf_elaboration.proofs.Made.{elaborated_kind_made as proved}
+use Rattle.lf_elaboration.proofs.elaborated_kind_is_made.Goals as goal
+
+pub returns : goal.returns
+returns c = proved

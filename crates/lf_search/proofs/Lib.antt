@@ -1,0 +1,16 @@
+pub mod WithHeads
+pub mod OpenQuery
+pub mod QueryForm
+pub mod Staying
+pub mod ChildNode
+pub mod Offers
+pub mod Ends
+pub mod AnswerIsGeneric
+pub mod FilledGoal
+pub mod Dropping
+pub mod WholeOrder
+pub mod LeafAnswer
+pub mod OpenHoles
+pub mod HolesStay
+pub mod ExamplesSubgoals
+pub mod Calls

@@ -1,0 +1,15 @@
+pub mod Total
+pub mod Group
+pub mod Examples
+pub mod ExamplesGroups
+pub mod ExamplesBlocks
+pub mod ExamplesMissing
+pub mod ExamplesReached
+pub mod ExamplesSplits
+pub mod Refusals
+pub mod Laws
+pub mod Record
+pub mod Sizes
+pub mod Checks
+pub mod Conclude
+pub mod ExamplesRecords

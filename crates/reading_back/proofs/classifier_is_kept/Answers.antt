@@ -1,5 +1,0 @@
-use Rattle.reading_back.proofs.Kept.{classifier_kept}
-use Rattle.reading_back.proofs.classifier_is_kept.Goals as goal
-
-pub returns : goal.returns
-returns c = classifier_kept

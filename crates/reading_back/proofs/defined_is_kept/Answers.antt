@@ -1,5 +1,0 @@
-use Rattle.reading_back.proofs.Kept.{definition_kept}
-use Rattle.reading_back.proofs.defined_is_kept.Goals as goal
-
-pub returns : goal.returns
-returns c = definition_kept

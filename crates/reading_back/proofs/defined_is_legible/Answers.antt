@@ -1,5 +1,0 @@
-use Rattle.reading_back.proofs.Defined.{defined_legible}
-use Rattle.reading_back.proofs.defined_is_legible.Goals as goal
-
-pub returns : goal.returns
-returns c = defined_legible

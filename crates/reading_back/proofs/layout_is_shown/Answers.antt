@@ -1,5 +1,0 @@
-use Rattle.reading_back.proofs.Back.{layout_shown}
-use Rattle.reading_back.proofs.layout_is_shown.Goals as goal
-
-pub returns : goal.returns
-returns c = layout_shown

@@ -1,5 +1,0 @@
-use Rattle.reading_back.proofs.Back.{line_read}
-use Rattle.reading_back.proofs.line_is_read.Goals as goal
-
-pub returns : goal.returns
-returns c = line_read

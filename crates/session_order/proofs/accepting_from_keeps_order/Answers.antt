@@ -1,5 +1,0 @@
-use Rattle.session_order.proofs.Keeping.{accepting_from_keeps}
-use Rattle.session_order.proofs.accepting_from_keeps_order.Goals as goal
-
-pub returns : goal.returns
-returns c = accepting_from_keeps

@@ -1,5 +1,0 @@
-use Rattle.session_order.proofs.Binders.{declared_named}
-use Rattle.session_order.proofs.declared_is_named.Goals as goal
-
-pub returns : goal.returns
-returns c = declared_named

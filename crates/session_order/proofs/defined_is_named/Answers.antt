@@ -1,5 +1,0 @@
-use Rattle.session_order.proofs.Binders.{defined_named}
-use Rattle.session_order.proofs.defined_is_named.Goals as goal
-
-pub returns : goal.returns
-returns c = defined_named

@@ -1,5 +1,0 @@
-use Rattle.session_order.proofs.Binders.{free_are_named}
-use Rattle.session_order.proofs.free_are_named.Goals as goal
-
-pub returns : goal.returns
-returns c = free_are_named

@@ -1,5 +1,0 @@
-use Rattle.session_order.proofs.Accepting.{kept_accepted}
-use Rattle.session_order.proofs.kept_is_accepted.Goals as goal
-
-pub returns : goal.returns
-returns c = kept_accepted

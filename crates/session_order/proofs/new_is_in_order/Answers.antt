@@ -1,5 +1,0 @@
-use Rattle.session_order.proofs.Keeping.{new_in_order}
-use Rattle.session_order.proofs.new_is_in_order.Goals as goal
-
-pub returns : goal.returns
-returns c = new_in_order

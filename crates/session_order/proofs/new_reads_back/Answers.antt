@@ -1,5 +1,0 @@
-use Rattle.session_order.proofs.Reading.{new_back}
-use Rattle.session_order.proofs.new_reads_back.Goals as goal
-
-pub returns : goal.returns
-returns c = new_back

@@ -1,5 +1,0 @@
-use Rattle.session_order.proofs.Reading.{open_back}
-use Rattle.session_order.proofs.open_reads_back.Goals as goal
-
-pub returns : goal.returns
-returns c = open_back

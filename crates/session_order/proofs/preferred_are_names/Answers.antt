@@ -1,5 +1,0 @@
-use Rattle.session_order.proofs.Binders.{preferred_names}
-use Rattle.session_order.proofs.preferred_are_names.Goals as goal
-
-pub returns : goal.returns
-returns c = preferred_names

@@ -1,5 +1,0 @@
-use Rattle.session_order.proofs.Reading.{report_from_back}
-use Rattle.session_order.proofs.report_from_reads_back.Goals as goal
-
-pub returns : goal.returns
-returns c = report_from_back

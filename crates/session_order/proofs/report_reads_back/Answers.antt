@@ -1,5 +1,0 @@
-use Rattle.session_order.proofs.Reading.{report_back}
-use Rattle.session_order.proofs.report_reads_back.Goals as goal
-
-pub returns : goal.returns
-returns c = report_back

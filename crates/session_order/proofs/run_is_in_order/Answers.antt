@@ -1,5 +1,0 @@
-use Rattle.session_order.proofs.Steps.{run_in_order}
-use Rattle.session_order.proofs.run_is_in_order.Goals as goal
-
-pub returns : goal.returns
-returns c = run_in_order

@@ -1,5 +1,0 @@
-use Rattle.session_order.proofs.Steps.{run_back}
-use Rattle.session_order.proofs.run_reads_back.Goals as goal
-
-pub returns : goal.returns
-returns c = run_back

@@ -1,5 +1,0 @@
-use Rattle.session_order.proofs.Steps.{step_keeps}
-use Rattle.session_order.proofs.step_keeps_order.Goals as goal
-
-pub returns : goal.returns
-returns c = step_keeps

@@ -1,5 +1,0 @@
-use Rattle.session_order.proofs.Identifiers.{tokens_spelled}
-use Rattle.session_order.proofs.tokens_are_spelled.Goals as goal
-
-pub returns : goal.returns
-returns c = tokens_spelled

@@ -1,5 +1,0 @@
-use Rattle.totality.proofs.Subordinate.{below_is_subordination}
-use Rattle.totality.proofs.below_is_subordination.Goals as goal
-
-pub returns : goal.returns
-returns c = below_is_subordination

@@ -1,5 +1,0 @@
-use Rattle.totality.proofs.After.{record_made}
-use Rattle.totality.proofs.checked_group_is_right.Goals as goal
-
-pub returns : goal.returns
-returns c = record_made

@@ -1,5 +1,0 @@
-use Rattle.totality.proofs.Stays.{stays_checked}
-use Rattle.totality.proofs.checked_stays_checked.Goals as goal
-
-pub returns : goal.returns
-returns c = stays_checked

@@ -1,5 +1,0 @@
-use Rattle.totality.proofs.Refusals.{cycle_refused}
-use Rattle.totality.proofs.cycle_is_refused.Goals as goal
-
-pub returns : goal.returns
-returns c = cycle_refused

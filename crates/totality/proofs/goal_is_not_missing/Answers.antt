@@ -1,5 +1,0 @@
-use Rattle.totality.proofs.ExamplesMissing.{goal_not_missing}
-use Rattle.totality.proofs.goal_is_not_missing.Goals as goal
-
-pub returns : goal.returns
-returns c = goal_not_missing

@@ -1,5 +1,0 @@
-use Rattle.totality.proofs.Subordinate.{kind_places_below}
-use Rattle.totality.proofs.kind_places_are_below.Goals as goal
-
-pub returns : goal.returns
-returns c = kind_places_below

@@ -1,5 +1,0 @@
-use Rattle.totality.proofs.Lasting.{lasting_on}
-use Rattle.totality.proofs.lasting_goes_on.Goals as goal
-
-pub returns : goal.returns
-returns c = lasting_on

@@ -1,5 +1,0 @@
-use Rattle.totality.proofs.After.{lasting_more}
-use Rattle.totality.proofs.lasting_over_more.Goals as goal
-
-pub returns : goal.returns
-returns c = lasting_more

@@ -1,5 +1,0 @@
-use Rattle.totality.proofs.Refusals.{loop_refused}
-use Rattle.totality.proofs.loop_is_refused.Goals as goal
-
-pub returns : goal.returns
-returns c = loop_refused

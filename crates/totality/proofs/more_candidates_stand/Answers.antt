@@ -1,5 +1,0 @@
-use Rattle.totality.proofs.ExamplesReached.{more_candidates_stand}
-use Rattle.totality.proofs.more_candidates_stand.Goals as goal
-
-pub returns : goal.returns
-returns c = more_candidates_stand

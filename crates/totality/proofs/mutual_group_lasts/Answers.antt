@@ -1,5 +1,0 @@
-use Rattle.totality.proofs.ExamplesGroups.{mutual_group_lasts}
-use Rattle.totality.proofs.mutual_group_lasts.Goals as goal
-
-pub returns : goal.returns
-returns c = mutual_group_lasts

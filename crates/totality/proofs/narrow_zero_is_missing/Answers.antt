@@ -1,5 +1,0 @@
-use Rattle.totality.proofs.ExamplesReached.{narrow_missing}
-use Rattle.totality.proofs.narrow_zero_is_missing.Goals as goal
-
-pub returns : goal.returns
-returns c = narrow_missing

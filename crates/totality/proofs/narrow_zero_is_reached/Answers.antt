@@ -1,5 +1,0 @@
-use Rattle.totality.proofs.ExamplesOutputs.{narrow_reached}
-use Rattle.totality.proofs.narrow_zero_is_reached.Goals as goal
-
-pub returns : goal.returns
-returns c = narrow_reached

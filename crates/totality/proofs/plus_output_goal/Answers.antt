@@ -1,5 +1,0 @@
-use Rattle.totality.proofs.ExamplesCases.{plus_output_goal}
-use Rattle.totality.proofs.plus_output_goal.Goals as goal
-
-pub returns : goal.returns
-returns c = plus_output_goal

@@ -1,5 +1,0 @@
-use Rattle.totality.proofs.After.{record_on}
-use Rattle.totality.proofs.record_stays_right.Goals as goal
-
-pub returns : goal.returns
-returns c = record_on

@@ -1,5 +1,0 @@
-use Rattle.totality.proofs.Refusals.{covers_nothing}
-use Rattle.totality.proofs.some_variable_covers_nothing.Goals as goal
-
-pub returns : goal.returns
-returns c = covers_nothing

@@ -1,5 +1,0 @@
-use Rattle.totality.proofs.ExamplesBlocks.{strict_block_lasts as proved}
-use Rattle.totality.proofs.strict_block_lasts.Goals as goal
-
-pub returns : goal.returns
-returns c = proved

@@ -1,5 +1,0 @@
-use Rattle.totality.proofs.ExamplesMissing.{zero_missing}
-use Rattle.totality.proofs.zero_is_missing.Goals as goal
-
-pub returns : goal.returns
-returns c = zero_missing

@@ -1,5 +1,0 @@
-use Rattle.totality.proofs.ExamplesReached.{zero_reached}
-use Rattle.totality.proofs.zero_is_reached.Goals as goal
-
-pub returns : goal.returns
-returns c = zero_reached

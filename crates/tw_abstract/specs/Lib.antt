@@ -1,0 +1,15 @@
+pub mod Positions
+pub mod Levels
+pub mod Generalizing
+pub mod Free
+pub mod GeneralizingLaws
+pub mod Order
+pub mod OrderView
+pub mod OrderLaws
+pub mod Occurrences
+pub mod Reordered
+pub mod Quantifiers
+pub mod Reading
+pub mod Causes
+pub mod ReadingLaws
+pub mod Naming

@@ -1,5 +1,0 @@
-use Rattle.tw_generalize.proofs.Reordered.{term_reordered, type_reordered}
-use Rattle.tw_generalize.proofs.laws.another_order_renames.Goals as goal
-
-pub returns : goal.returns
-returns c = λ index index' ρ t k. (term_reordered index index' ρ t k _ (λ i h. h), type_reordered index index' ρ t k _ (λ i h. h))

@@ -1,5 +1,0 @@
-use Rattle.tw_generalize.proofs.OrderLaws.{after_needs}
-use Rattle.tw_generalize.proofs.laws.each_follows_its_needs.Goals as goal
-
-pub returns : goal.returns
-returns c = λ es ms o. after_needs es ms o.0

@@ -1,5 +1,0 @@
-use Rattle.tw_generalize.proofs.Stores.{generalized_terms, generalized_types}
-use Rattle.tw_generalize.proofs.laws.generalizing_is_filling.Goals as goal
-
-pub returns : goal.returns
-returns c = λ Σ ok s w D. (generalized_terms Σ ok s w D, generalized_types Σ ok s w D)

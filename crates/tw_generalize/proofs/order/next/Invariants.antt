@@ -1,7 +1,0 @@
-use Rattle.tw_generalize.specs.OrderView.{AreMet}
-use Rattle.tw_generalize.proofs.Choosing.{NoneBefore}
-use Rattle.tw_generalize.proofs.order.next.Given as goal
-
--- none so far can follow
-abbrev pub invariant-loop-at : goal.invariant-loop-at
-invariant-loop-at l = record { known : AreMet l.chosen l.candidates l.met; none : NoneBefore l.chosen l.candidates l.at }

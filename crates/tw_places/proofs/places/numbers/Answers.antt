@@ -1,6 +1,0 @@
-use Rattle.std.proofs.Common.{◌∙◌}
-use Rattle.tw_places.proofs.Growing.{numbers_seen}
-use Rattle.tw_places.proofs.places.numbers.Goals as goal
-
-pub returns : goal.returns
-returns c = c.loop-site.invariant ∙ numbers_seen c.args.sites.now c.loop-site.site-index c.loop-site-test.false

@@ -1,7 +1,0 @@
-use Rattle.std.proofs.Common.{map, take}
-use Rattle.tw_readoff.proofs.Loops.{SitesNoted}
-use Rattle.tw_readoff.proofs.finding.note_sites.Given as goal
-
--- the sites so far
-abbrev pub invariant-loop-site : goal.invariant-loop-site
-invariant-loop-site l = SitesNoted l.store.now (map (λ m. m.0) (take l.site-index l.sites)) l.fn.found l.found

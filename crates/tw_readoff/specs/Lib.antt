@@ -1,6 +1,0 @@
-pub mod Faults
-pub mod Quantifiers
-pub mod Reading
-pub mod Causes
-pub mod Laws
-pub mod Naming

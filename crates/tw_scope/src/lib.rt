@@ -1,6 +1,0 @@
-//! Names in scope: which variable a name names.
-#![tactic(auto)]
-
-mod scope;
-
-pub use scope::Scope;

@@ -1,0 +1,7 @@
+//! The limits on what is read, in bytes.
+
+/// The most bytes of a file, and of a declaration's text with its last line feed.
+pub const TEXT_MOST: usize = 1 << 24;
+
+/// The most bytes of a command's line, without its line feed.
+pub const LINE_MOST: usize = 65_536;

@@ -1,6 +1,0 @@
-use Rattle.std.proofs.Common.{◌≡◌, map, take}
-use Rattle.tw_unify.specs.Named.{shown_type_of}
-use Rattle.tw_unify.proofs.left.copy_types.Given as goal
-
-abbrev pub invariant-loop-context : goal.invariant-loop-context
-invariant-loop-context l = map shown_type_of l.copies.items ≡ map shown_type_of (take l.context-index l.types)

@@ -1,5 +1,0 @@
-use Rattle.unification.proofs.Reach.{not_reached}
-use Rattle.unification.proofs.binding_is_not_circular.Goals as goal
-
-pub returns : goal.returns
-returns c = not_reached

@@ -1,5 +1,0 @@
-use Rattle.unification.proofs.Decompose.{keeps_unifiers_refl, keeps_unifiers_then}
-use Rattle.unification.proofs.keeping_composes.Goals as goal
-
-pub returns : goal.returns
-returns c = λ Σ G. (keeps_unifiers_refl Σ G, keeps_unifiers_then Σ G)

@@ -1,8 +1,0 @@
-use Rattle.lf.specs.Entries.{signature_of}
-use Rattle.lf.proofs.Entries.{canonical_is_signature}
-use Rattle.unification.specs.Search.{declared_constants}
-use Rattle.unification.proofs.Query.{leaf_answers}
-use Rattle.unification.proofs.leaf_answers.Goals as goal
-
-pub returns : goal.returns
-returns c = λ es k q w ls n agenda r l i F β u. leaf_answers (signature_of es) (canonical_is_signature es k) (declared_constants es) q w r l i F β u

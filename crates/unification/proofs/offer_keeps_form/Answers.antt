@@ -1,5 +1,0 @@
-use Rattle.unification.proofs.OfferForm.{offer_form}
-use Rattle.unification.proofs.offer_keeps_form.Goals as goal
-
-pub returns : goal.returns
-returns c = offer_form

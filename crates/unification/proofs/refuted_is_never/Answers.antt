@@ -1,5 +1,0 @@
-use Rattle.unification.proofs.Runs.{run_refuted}
-use Rattle.unification.proofs.refuted_is_never.Goals as goal
-
-pub returns : goal.returns
-returns c = λ Σ ok s s' w r n. run_refuted Σ ok w r n

@@ -1,5 +1,0 @@
-use Rattle.unification.proofs.Runs.{run_form, run_keeps_unifiers}
-use Rattle.unification.proofs.run_keeps_unifiers.Goals as goal
-
-pub returns : goal.returns
-returns c = λ Σ ok s s' w r. (run_keeps_unifiers Σ ok w r, run_form Σ ok w r)

@@ -1,5 +1,0 @@
-use Rattle.unification.proofs.Solving.{left_child, solved_child}
-use Rattle.unification.proofs.solving_gives_child.Goals as goal
-
-pub returns : goal.returns
-returns c = λ Σ ok s s'. (solved_child Σ ok s s', left_child Σ s s')

@@ -1,5 +1,0 @@
-use Rattle.unification.proofs.Runs.{step_form}
-use Rattle.unification.proofs.step_keeps_form.Goals as goal
-
-pub returns : goal.returns
-returns c = λ Σ ok s s' w p. step_form Σ ok w p

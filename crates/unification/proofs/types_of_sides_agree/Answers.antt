@@ -1,6 +1,0 @@
-use Rattle.std.proofs.Common.{refl}
-use Rattle.unification.proofs.StepLemmas.{type_equation}
-use Rattle.unification.proofs.types_of_sides_agree.Goals as goal
-
-pub returns : goal.returns
-returns c = λ Σ F M a b T U m n. type_equation Σ F M M a b T U refl m n

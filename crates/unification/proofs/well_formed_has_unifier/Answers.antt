@@ -1,5 +1,0 @@
-use Rattle.unification.proofs.Solving.{well_formed_answer}
-use Rattle.unification.proofs.well_formed_has_unifier.Goals as goal
-
-pub returns : goal.returns
-returns c = well_formed_answer

@@ -1,0 +1,2 @@
+" Files of Twelf signatures.
+autocmd BufNewFile,BufRead *.elf setfiletype gemivaloon
