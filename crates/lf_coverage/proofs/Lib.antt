@@ -17,7 +17,6 @@ pub mod OpenTerms
 pub mod Strip
 pub mod HeadTerm
 pub mod StoreSolution
-pub mod AnswerIsGeneric
 pub mod SolvedCase
 pub mod Unified
 pub mod Examples

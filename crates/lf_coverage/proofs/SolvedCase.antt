@@ -23,6 +23,7 @@ use Rattle.lf_unification.specs.PartialInstance.{IsFilling}
 use Rattle.lf_unification.specs.Skeletons.{skeleton_or_default}
 use Rattle.lf_unification.specs.Solving.{Never, Solved}
 use Rattle.lf_unification.specs.Unifiers.{ExtendsFilling, Solution, Store}
+use Rattle.lf_unification.proofs.AnswerIsGeneric.{Part, part, answer_images}
 use Rattle.lf_unification.proofs.Filling.{substituted_option, skeleton_fill}
 use Rattle.lf_unification.proofs.Solving.{well_formed_answer}
 use Rattle.lf_cases.specs.Case.{Item, free_variable, block_variable, Case, items_context, as_term, entries_in_front, IsGroundInstance}
@@ -38,7 +39,6 @@ use Rattle.lf_totality.proofs.RaisedOutputs.{binders_over}
 use Rattle.lf_cases.proofs.Split.{distinct_without}
 use Rattle.lf_coverage.specs.Heads.{MakesHead, Keeps, GivesCase, GivesNone}
 use Rattle.lf_coverage.specs.SplitStore.{open_type, open_some, context_metavariables, split_store, answer_image, answer_values, solved_case, AllFamiliesIn}
-use Rattle.lf_coverage.proofs.AnswerIsGeneric.{Part, part, answer_images}
 use Rattle.lf_coverage.proofs.Forms.{no_shift_type, far_type}
 use Rattle.lf_coverage.proofs.HeadTerm.{taken_length}
 use Rattle.lf_coverage.proofs.ItemsContext.{items_are_context}

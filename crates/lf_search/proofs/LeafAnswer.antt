@@ -20,6 +20,7 @@ use Rattle.lf_unification.specs.Search.{Node, Pending, SearchesFrom, at_node, de
 use Rattle.lf_unification.specs.Solving.{IsWellFormed, ValuesAreBindings}
 use Rattle.lf_unification.specs.Unifiers.{Binding, Solution}
 use Rattle.lf_unification.proofs.Agree.{set_here}
+use Rattle.lf_unification.proofs.AnswerIsGeneric.{Part, answer_images, part}
 use Rattle.lf_unification.proofs.DeclaredConstants.{declared_listed}
 use Rattle.lf_unification.proofs.Exhaust.{Found, exhausted}
 use Rattle.lf_unification.proofs.Filling.{substituted_option}
@@ -29,7 +30,6 @@ use Rattle.lf_unification.proofs.Sound.{From, from_itself, leaves_form, run_from
 use Rattle.lf_unification.proofs.StepLemmas.{value_of}
 use Rattle.lf_search.specs.Answers.{AreTypedValues, AreValuesOf, FreeAreUnbound, IsAnswerOf, IsInstanceOfAnswer, IsReadOffLeaf, substitute_all}
 use Rattle.lf_search.specs.Goals.{metavariables_of, over_metavariables, root_of}
-use Rattle.lf_search.proofs.AnswerIsGeneric.{Part, answer_images, part}
 use Rattle.lf_search.proofs.FilledGoal.{Begins, begins_before, begins_newest, filled_goal, instance_values}
 use Rattle.lf_search.proofs.QueryForm.{declared_before, root_form, root_node}
 use Rattle.lf_search.proofs.WholeOrder.{Dropped, all_of, dropped, whole_answer}

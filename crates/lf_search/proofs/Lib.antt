@@ -5,7 +5,6 @@ pub mod Staying
 pub mod ChildNode
 pub mod Offers
 pub mod Ends
-pub mod AnswerIsGeneric
 pub mod FilledGoal
 pub mod Dropping
 pub mod WholeOrder

@@ -30,6 +30,7 @@ pub mod Decompose
 pub mod Generic
 pub mod PlainAnswer
 pub mod Answer
+pub mod AnswerIsGeneric
 pub mod PruneType
 pub mod OpenEta
 pub mod ExamplesPruning

@@ -5,14 +5,14 @@ ghost use Rattle.lf.specs.Skeletons.{family_skeletons};
 ghost use Rattle.lf.specs.SkeletonTyping.{HeadSkeleton, SpineSkeleton, TermSkeleton, TypeBySkeletons};
 ghost use Rattle.lf.specs.Syntax.{kind_skeleton as skeleton_of_kind};
 ghost use Rattle.tw_terms.specs.OpenView.{open_head_of, open_spine_of, open_term_of, open_type_of};
-ghost use Rattle.tw_terms.specs.View.{kind_of, skeleton_of, type_of};
+ghost use Rattle.tw_terms.specs.View.{kind_of, skeleton_of};
 ghost use Rattle.tests_substitution.specs.Kept.{heads_of};
 
 use std::alloc::{AllocError, Global};
 use tw_metas::Store;
 use tw_putting::open_skeleton;
-use tw_signature::{Body, Signature};
-use tw_terms::{ConstId, Kind, Open, OpenHead, OpenSpine, OpenTy, Skeleton, Ty, skeleton};
+use tw_signature::Signature;
+use tw_terms::{ConstId, Kind, Open, OpenHead, OpenSpine, OpenTy, Skeleton, skeleton};
 
 /// The skeletons, and the others behind them.
 pub(crate) fn followed(
@@ -61,26 +61,6 @@ pub(crate) fn around_variable(
     followed(alloc, inner, &behind)
 }
 
-/// The type of a declared constant.
-fn constant_type(signature: &Signature, id: ConstId) -> Option<&Ty>
-    ensures { option_map (λ a. type_of a.now) result ≡ (signature_of signature.now).types id.0 }
-{
-    match &signature.entry(id)?.body {
-        Body::Constant(ty) => Some(ty),
-        Body::Family(_) | Body::Defined { .. } => None,
-    }
-}
-
-/// The kind of a declared family.
-fn family_kind(signature: &Signature, id: ConstId) -> Option<&Kind>
-    ensures { option_map (λ k. kind_of k.now) result ≡ (signature_of signature.now).kinds id.0 }
-{
-    match &signature.entry(id)?.body {
-        Body::Family(kind) => Some(kind),
-        Body::Constant(_) | Body::Defined { .. } => None,
-    }
-}
-
 /// The skeleton of a family of this kind.
 fn kind_skeleton(alloc: Global, family: ConstId, kind: &Kind) -> Result<Skeleton, AllocError>
     ensures { IfOk result (λ s. skeleton_of s ≡ skeleton_of_kind family.0 (kind_of kind.now)) }
@@ -105,7 +85,7 @@ fn family_skeleton(
 ) -> Result<Option<Skeleton>, AllocError>
     ensures { IfOk result (λ o. option_map skeleton_of o ≡ family_skeletons (signature_of signature.now) family.0) }
 {
-    match family_kind(signature, family) {
+    match signature.family_kind(family) {
         Some(kind) => Ok(Some(kind_skeleton(alloc, family, kind)?)),
         None => Ok(None),
     }
@@ -137,7 +117,7 @@ fn head_skeleton(
     ensures { IfOk result (λ o. IfSome o (λ t. HeadSkeleton (heads_of signature.now store.now.now) (map skeleton_of variables.now) (open_head_of head) (skeleton_of t))) }
 {
     match head {
-        OpenHead::Const(id) => match constant_type(signature, id) {
+        OpenHead::Const(id) => match signature.constant_type(id) {
             Some(ty) => Ok(Some(skeleton(alloc, ty)?)),
             None => Ok(None),
         },

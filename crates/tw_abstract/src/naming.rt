@@ -2,12 +2,12 @@
 ghost use Rattle.std.specs.Prelude.{◌≡◌, ℕ, IfOk, MatchOption, option_map};
 ghost use Rattle.lf.specs.Eta.{eta_long};
 ghost use Rattle.lf.specs.Syntax.{Skeleton, metavariable};
-ghost use Rattle.tw_prune.specs.Walks.{are_newest as are_newest_of, eta_variable_under};
-ghost use Rattle.tw_terms.specs.OpenView.{open_spine_of, open_term_of};
+ghost use Rattle.tw_terms.specs.OpenView.{open_term_of};
 ghost use Rattle.tw_abstract.specs.Naming.{sole_under as sole_under_of};
 
 use std::alloc::AllocError;
-use tw_terms::{MetaId, Open, OpenHead, OpenSpine};
+use tw_prune::are_newest;
+use tw_terms::{MetaId, Open, OpenHead};
 
 /// The metavariable of which the term is the eta-long form; None where it is that of none. Fails only for want of memory.
 pub fn sole_metavariable(term: &Open) -> Result<Option<MetaId>, AllocError>
@@ -31,41 +31,4 @@ fn sole_under(term: &Open, count: u64) -> Result<Option<MetaId>, AllocError>
         }
         Open::Root(_, _) => Ok(None),
     }
-}
-
-/// The variable of which the term is the eta-long form, after so many of its lambdas.
-#[cycle(eta)]
-fn eta_variable(term: &Open, count: u64) -> Result<Option<u64>, AllocError>
-    ensures { IfOk result (λ r. r ≡ eta_variable_under count (open_term_of term.now)) }
-{
-    match term {
-        Open::Lam(body) => eta_variable(body, count.checked_add(1).ok_or(AllocError)?),
-        Open::Root(OpenHead::Var(variable), spine) => {
-            if *variable >= count && are_newest(spine, count)? {
-                Ok(Some(*variable - count))
-            } else {
-                Ok(None)
-            }
-        }
-        Open::Root(_, _) => Ok(None),
-    }
-}
-
-/// Whether the arguments are the eta-long forms of the `count` newest variables, the newest last.
-#[cycle(eta)]
-fn are_newest(spine: &OpenSpine, count: u64) -> Result<bool, AllocError>
-    ensures { IfOk result (λ r. r ≡ are_newest_of count (open_spine_of spine.now)) }
-{
-    let mut left = count;
-    for arg in &spine.args {
-        if left == 0 {
-            return Ok(false);
-        }
-        left -= 1;
-        match eta_variable(arg, 0)? {
-            Some(variable) if variable == left => (),
-            _ => return Ok(false),
-        }
-    }
-    Ok(left == 0)
 }

@@ -2,7 +2,7 @@
 use Rattle.std.proofs.Common.{◌≡◌, ℕ, List, [], ◌∷◌, ◌++◌, map, Option, None, Some, Result, Ok, Err, IfOk, Box, Bor, Global, refl, sym, ap, ◌∙◌, subst}
 use Rattle.std.proofs.lemmas.List.{map-append}
 use Rattle.lf.specs.Entries.{Entry}
-use Rattle.tw_approx.specs.Applied.{applied_to, written_terms}
+use Rattle.tw_parse.specs.Applied.{applied_to, written_terms}
 use Rattle.tw_approx.specs.Names.{IsFreeIn, IsFreeInDomain}
 use Rattle.tw_approx.specs.Reading.{due_of, family_at, ReadsFamily, IsFamilyRead, ReadsDue, IsDueRead, TermIsRead, FamilyIsRead, TypeIsRead, DomainIsRead, KindIsRead, IsApplied, IsAscribed, IsFamilyApplied, IsFamilyAscribed, IsWhole}
 use Rattle.tw_approx.specs.Skeletons.{applied, family_applied, term_skeleton, family_skeleton, type_skeleton, domain_skeleton, kind_due}
@@ -21,7 +21,7 @@ use Rattle.tw_shapes.specs.declared.shape.Shape as program
 use Rattle.tw_approx.proofs.Applying.{IsApplying, IsFamilyApplying}
 use Rattle.tw_approx.proofs.Families.{family_application_reads, family_application_refuses, family_application_refuses_argument, family_arguments_refuse, family_ascription_reads, family_ascription_refuses}
 use Rattle.tw_approx.proofs.Forms.{type_reads, type_refuses_whole, lambda_reads, lambda_refuses_body, application_reads, application_refuses, application_refuses_argument, arguments_refuse, ascription_reads, ascription_refuses}
-use Rattle.tw_approx.proofs.Spines.{applied_to-push}
+use Rattle.tw_parse.proofs.Spines.{applied_to-push}
 
 pub if_ok : {T E : Type 0} (r : Result T E) (P Q : T → Type 0) → ((x : T) → P x → Q x) → IfOk r P → IfOk r Q
 if_ok (Ok x) P Q f p = f x p

@@ -1,7 +1,7 @@
 -- A head with some of its arguments.
 use Rattle.std.proofs.Common.{◌≡◌, List}
 use Rattle.lf.specs.Entries.{Entry}
-use Rattle.tw_approx.specs.Applied.{applied_to}
+use Rattle.tw_parse.specs.Applied.{applied_to}
 use Rattle.tw_approx.specs.Names.{IsFreeIn}
 use Rattle.tw_approx.specs.Reading.{ReadsFamily}
 use Rattle.tw_approx.specs.Skeletons.{term_skeleton, family_skeleton}

@@ -2,7 +2,7 @@
 use Rattle.std.proofs.Common.{◌≡◌, ℕ, ◌<◌, ◌≤◌, List, [], ◌∷◌, Option, None, Some, ◌⊎◌, inl, inr, ◌↔◌, arith, refl, sym, ap, ◌∙◌, subst}
 use Rattle.lf.specs.Entries.{Entry}
 use Rattle.lf.specs.Syntax.{Skeleton, arrow as arrow_skeleton}
-use Rattle.tw_approx.specs.Applied.{applied_to}
+use Rattle.tw_parse.specs.Applied.{applied_to}
 use Rattle.tw_approx.specs.Names.{IsFreeIn, IsFreeInDomain}
 use Rattle.tw_approx.specs.Reading.{due_of, family_at, FamilyWithin, ReadsFamily, IsFamilyRead, ReadsDue, IsDueRead, KindIsRead, RangeIsRead, RestIsRead}
 use Rattle.tw_approx.specs.Readings.{Reading, take, and_then}

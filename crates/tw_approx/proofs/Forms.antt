@@ -2,7 +2,7 @@
 use Rattle.std.proofs.Common.{◌≡◌, ℕ, ◌<◌, ◌≤◌, List, [], ◌∷◌, Option, None, Some, ◌⊎◌, inl, inr, ◌↔◌, arith, refl, sym, ap, ◌∙◌, subst}
 use Rattle.lf.specs.Entries.{Entry}
 use Rattle.lf.specs.Syntax.{Skeleton, arrow as arrow_skeleton}
-use Rattle.tw_approx.specs.Applied.{applied_to}
+use Rattle.tw_parse.specs.Applied.{applied_to}
 use Rattle.tw_approx.specs.Names.{IsFreeIn, IsFreeInDomain}
 use Rattle.tw_approx.specs.Reading.{family_at, FamilyWithin, IsRead, IsFamilyRead, ReadsFamily, ReadsDue, IsDueRead, TermIsRead, FamilyIsRead, TypeIsRead, DomainIsRead, KindIsRead, RangeIsRead, RestIsRead, IsApplied, IsAscribed, IsFamilyApplied, IsFamilyAscribed, IsWhole}
 use Rattle.tw_approx.specs.Readings.{Reading, and_then}

@@ -5,5 +5,4 @@ pub mod Names
 pub mod Answer
 pub mod Walks
 pub mod Reading
-pub mod Applied
 pub mod Solving

@@ -4,7 +4,6 @@ ghost use Rattle.lf.specs.Entries.{entry};
 ghost use Rattle.tw_approx.specs.Reading.{state_of, shape_from, due_of, TermIsRead, FamilyIsRead, TypeIsRead, DomainIsRead, KindIsRead, NameIsRead, FamilyNameIsRead, RangeIsRead, RestIsRead, IsApplied, IsAscribed, IsFamilyApplied, IsFamilyAscribed, IsWhole, FamilyWithin, UnifiesAll};
 ghost use Rattle.tw_approx.specs.Skeletons.{entry_skeleton};
 ghost use Rattle.tw_approx.specs.declared.family.FamilyShape.TheVariants.{Known};
-ghost use Rattle.tw_approx.specs.Applied.{applied_to, written_terms};
 ghost use Rattle.tw_approx.specs.Walks.{State, IsSound, ShapesWithin};
 ghost use Rattle.tw_names.specs.Scope.{named};
 ghost use Rattle.tw_names.specs.Unknown.{is_uppercase};
@@ -93,7 +92,7 @@ fn application_shape(
     requires { IsSound (state_of walk.old) }
     ensures { IfOk result (λ o. TermIsRead signature.now (state_of walk.old) (state_of walk.new) (term_of term.now) o) }
 {
-    let (head, mut arguments) = spine(alloc, term)?;
+    let (head, mut arguments) = term.spine(alloc)?;
     let Some(mut function) = term_shape(alloc, signature, walk, head, frames)? else {
         return Ok(None);
     };
@@ -107,22 +106,6 @@ fn application_shape(
         }
     }
     Ok(Some(function))
-}
-
-/// What stands before the arguments, and these, the last one first.
-fn spine<'a>(
-    alloc: Global,
-    term: &'a ExtTerm,
-) -> Result<(&'a ExtTerm, Vec<&'a ExtTerm>), AllocError>
-    ensures { IfOk result (λ p. applied_to (term_of p.0.now) (written_terms p.1.items) ≡ term_of term.now) }
-{
-    let mut arguments: Vec<&'a ExtTerm> = Vec::new(alloc);
-    let mut head = term;
-    while let ExtTerm::App(function, argument) = head {
-        arguments.push(argument)?;
-        head = function;
-    }
-    Ok((head, arguments))
 }
 
 /// Of a term with its type.
@@ -457,7 +440,7 @@ fn applied_family(
     requires { IsSound (state_of walk.old) }
     ensures { IfOk result (λ o. FamilyIsRead signature.now (state_of walk.old) (state_of walk.new) (term_of term.now) o) }
 {
-    let (head, mut arguments) = spine(alloc, term)?;
+    let (head, mut arguments) = term.spine(alloc)?;
     let Some(mut family) = family_shape(alloc, signature, walk, head, frames)? else {
         return Ok(None);
     };

@@ -7,7 +7,7 @@ ghost use Rattle.lf_unification.specs.Offering.{local_arguments as local_argumen
 ghost use Rattle.tw_terms.specs.OpenView.{open_head_of, open_term_of, open_spine_of, open_type_of};
 
 use std::alloc::{AllocError, Global};
-use tw_prune::{arity, eta_variable, lambdas_over, push_newest};
+use tw_prune::{arity, expand_variable, lambdas_over, push_newest};
 use tw_putting::shift_spine;
 use tw_terms::{Open, OpenContext, OpenHead, OpenSpine, OpenTy};
 
@@ -66,7 +66,7 @@ pub fn local_arguments(alloc: Global, locals: &OpenContext) -> Result<OpenSpine,
     while left > 0 {
         left -= 1;
         match locals.get(left) {
-            Some(ty) => args.push(eta_variable(alloc, ty, left)?)?,
+            Some(ty) => args.push(expand_variable(alloc, ty, left)?)?,
             None => return Err(AllocError),
         }
     }

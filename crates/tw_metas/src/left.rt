@@ -5,7 +5,7 @@ ghost use Rattle.tw_metas.specs.View.{equation_of};
 
 use crate::equation::Equation;
 use std::alloc::{AllocError, Global};
-use tw_fixity::Name;
+use tw_fixity::{Name, copy_options};
 use tw_terms::{OpenContext, OpenTy};
 
 /// An equation that can be shown. In it `Meta(k)` is the metavariable `k` of `metas`, counted from 0, also in types.
@@ -27,7 +27,7 @@ impl LeftEquation {
     {
         Ok(LeftEquation {
             metas: copy_types(alloc, &self.metas)?,
-            names: copy_names(alloc, &self.names)?,
+            names: copy_options(alloc, &self.names)?,
             equation: self.equation.copy(alloc)?,
         })
     }
@@ -45,23 +45,4 @@ fn copy_types(
         copies.push((context, ty.copy(alloc)?))?;
     }
     Ok(copies)
-}
-
-fn copy_names(alloc: Global, names: &[Option<Name>]) -> Result<Vec<Option<Name>>, AllocError>
-    ensures { IfOk result (λ v. v.items ≡ names.now) }
-{
-    let mut copies = Vec::with_capacity(alloc, names.len())?;
-    for name in names {
-        copies.push(copy_name(alloc, name)?)?;
-    }
-    Ok(copies)
-}
-
-fn copy_name(alloc: Global, name: &Option<Name>) -> Result<Option<Name>, AllocError>
-    ensures { IfOk result (λ n. n ≡ name.now) }
-{
-    match name {
-        Some(name) => Ok(Some(name.copy(alloc)?)),
-        None => Ok(None),
-    }
 }

@@ -3,7 +3,7 @@ ghost use Rattle.std.specs.Prelude.{◌≡◌, IfOk, ◌+◌};
 ghost use Rattle.lf.specs.Eta.{append, arity as arity_of, eta_arguments};
 ghost use Rattle.lf.specs.Syntax.{skeleton};
 ghost use Rattle.tw_terms.specs.OpenView.{open_term_of, open_args_of, open_type_of};
-ghost use Rattle.lf_unification.specs.Patterns.{eta_variable as eta_variable_of, lambdas_of};
+ghost use Rattle.lf_unification.specs.Patterns.{eta_variable, lambdas_of};
 
 use std::alloc::{AllocError, Global};
 use tw_terms::{Open, OpenHead, OpenSpine, OpenTy};
@@ -36,8 +36,8 @@ pub fn arity(ty: &OpenTy) -> Result<u64, AllocError>
 
 /// The eta-long form of a variable of the type.
 #[cycle(eta)]
-pub fn eta_variable(alloc: Global, ty: &OpenTy, variable: u64) -> Result<Open, AllocError>
-    ensures { IfOk result (λ m. open_term_of m ≡ eta_variable_of (skeleton (open_type_of ty.now)) variable) }
+pub fn expand_variable(alloc: Global, ty: &OpenTy, variable: u64) -> Result<Open, AllocError>
+    ensures { IfOk result (λ m. open_term_of m ≡ eta_variable (skeleton (open_type_of ty.now)) variable) }
 {
     let count = arity(ty)?;
     let mut args = Vec::new(alloc);
@@ -59,7 +59,7 @@ pub fn push_newest(
 {
     match ty {
         OpenTy::Pi(domain, range) => {
-            args.push(eta_variable(alloc, domain, count - 1)?)?;
+            args.push(expand_variable(alloc, domain, count - 1)?)?;
             push_newest(alloc, range, count - 1, args)
         }
         OpenTy::Atom(_, _) => Ok(()),

@@ -4,7 +4,7 @@
 //! its value is a term of which the pattern makes that side. Where there is none, the answer says what is in the way: a variable that can never go,
 //! an argument that another metavariable must lose, or a metavariable on arguments that are no pattern.
 //!
-//! Contracts speak of the definitions of the crate `unification`, for all declarations of metavariables and local contexts that fit the call.
+//! Contracts speak of the definitions of `lf_unification`, for all declarations of metavariables and local contexts that fit the call.
 //! Walks nest as deep as the terms that they are handed. A call fails only for want of memory; numbers that no term in memory reaches count as such.
 #![tactic(auto)]
 
@@ -29,9 +29,9 @@ mod unrename;
 
 pub use compare::differences;
 pub use drops::{Loss, losses};
-pub use expand::{arity, eta_variable, lambdas_over, push_newest};
+pub use expand::{arity, expand_variable, lambdas_over, push_newest};
 pub use inversion::{Inverted, invert};
 pub use laws::drops_variable_of_place;
 pub use occurs::occurs_inside;
-pub use patterns::pattern_of;
+pub use patterns::{are_newest, pattern_of};
 pub use prune::{Pruned, prune_type};

@@ -85,7 +85,7 @@ fn eta_variable(term: &Open, count: u64) -> Result<Option<u64>, AllocError>
 
 /// Whether the arguments are the eta-long forms of the `count` newest variables, the newest last.
 #[cycle(eta)]
-fn are_newest(spine: &OpenSpine, count: u64) -> Result<bool, AllocError>
+pub fn are_newest(spine: &OpenSpine, count: u64) -> Result<bool, AllocError>
     ensures { IfOk result (λ r. r ≡ are_newest_of count (open_spine_of spine.now)) }
 {
     let mut left = count;

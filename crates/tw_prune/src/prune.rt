@@ -8,7 +8,7 @@ ghost use Rattle.tw_prune.specs.View.{table_of};
 ghost use Rattle.tw_prune.specs.Walks.{without_argument as without_argument_of};
 ghost use Rattle.tw_prune.specs.Kept.{kept_arguments};
 
-use crate::expand::{arity, eta_variable, push_newest};
+use crate::expand::{arity, expand_variable, push_newest};
 use crate::inverse::Inverse;
 use crate::unrename::unrename_type;
 use std::alloc::{AllocError, Global};
@@ -80,7 +80,7 @@ fn push_kept(
             if place == 0 {
                 return push_newest(alloc, range, count - 1, args);
             }
-            args.push(eta_variable(alloc, domain, count - 1)?)?;
+            args.push(expand_variable(alloc, domain, count - 1)?)?;
             push_kept(alloc, range, count - 1, place - 1, args)
         }
         OpenTy::Atom(_, _) => Ok(()),

@@ -3,7 +3,7 @@ use Rattle.std.proofs.Common.{◌≡◌, List, [], ◌∷◌, ◌++◌, Option, 
 use Rattle.lf.specs.Entries.{Entry}
 use Rattle.lf.specs.Syntax.{Skeleton}
 use Rattle.lf_elaboration.specs.Written.{Written, WrittenType, applied}
-use Rattle.tw_approx.specs.Applied.{applied_to, written_terms}
+use Rattle.tw_parse.specs.Applied.{applied_to, written_terms}
 use Rattle.tw_approx.specs.Readings.{Reading, found, and_then}
 use Rattle.tw_parse.specs.Syntax.{Term}
 use Rattle.tw_parse.specs.View.{term_of}

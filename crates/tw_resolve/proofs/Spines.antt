@@ -4,7 +4,7 @@ use Rattle.std.proofs.lemmas.List.{map-append}
 use Rattle.lf.specs.Entries.{Entry}
 use Rattle.lf.specs.Syntax.{Skeleton}
 use Rattle.lf_elaboration.specs.Written.{Written, WrittenType, applied}
-use Rattle.tw_approx.specs.Applied.{applied_to, written_terms}
+use Rattle.tw_parse.specs.Applied.{applied_to, written_terms}
 use Rattle.tw_approx.specs.Readings.{Reading}
 use Rattle.tw_parse.proofs.Views.{views}
 use Rattle.tw_parse.specs.Syntax.{Term}
@@ -12,7 +12,7 @@ use Rattle.tw_parse.specs.View.{term_of}
 use Rattle.tw_parse.specs.declared.term.ExtTerm.{ExtTerm}
 use Rattle.tw_fixity.specs.Names.{Names}
 use Rattle.tw_terms.proofs.Args.{types_and_skeletons}
-use Rattle.tw_approx.proofs.Spines.{applied_to-push}
+use Rattle.tw_parse.proofs.Spines.{applied_to-push}
 use Rattle.tw_written.proofs.Views.{written_views}
 use Rattle.tw_resolve.specs.Resolving.{with_both, made, on_argument, resolved_term, resolved_type}
 

@@ -1,7 +1,6 @@
 //! Written terms, types and kinds with their names resolved.
 ghost use Rattle.std.specs.Prelude.{◌≡◌, List, Some, None, IfOk, OnOk, option_map};
 ghost use Rattle.lf.specs.Syntax.{Skeleton as PlainSkeleton};
-ghost use Rattle.tw_approx.specs.Applied.{applied_to, written_terms};
 ghost use Rattle.tw_parse.specs.Syntax.{pi, lambda};
 ghost use Rattle.tw_parse.specs.View.{term_of, boxed_domain};
 ghost use Rattle.tw_approx.specs.Readings.{found};
@@ -97,7 +96,7 @@ fn application(
     ensures scope { OnOk result (resolving.new.scope ≡ resolving.old.scope) }
     ensures free { OnOk result (resolving.new.free ≡ resolving.old.free) }
 {
-    let (head, mut arguments) = spine(alloc, term)?;
+    let (head, mut arguments) = term.spine(alloc)?;
     let Some(mut function) = resolved_term(alloc, signature, resolving, head, frames)? else {
         return Ok(None);
     };
@@ -109,22 +108,6 @@ fn application(
         function = Written::Applied(before, Box::new(alloc, argument)?);
     }
     Ok(Some(function))
-}
-
-/// What stands before the arguments, and these, the last one first.
-fn spine<'a>(
-    alloc: Global,
-    term: &'a ExtTerm,
-) -> Result<(&'a ExtTerm, Vec<&'a ExtTerm>), AllocError>
-    ensures { IfOk result (λ p. applied_to (term_of p.0.now) (written_terms p.1.items) ≡ term_of term.now) }
-{
-    let mut arguments: Vec<&'a ExtTerm> = Vec::new(alloc);
-    let mut head = term;
-    while let ExtTerm::App(function, argument) = head {
-        arguments.push(argument)?;
-        head = function;
-    }
-    Ok((head, arguments))
 }
 
 /// A written type or family.
@@ -217,7 +200,7 @@ fn applied_family(
     ensures scope { OnOk result (resolving.new.scope ≡ resolving.old.scope) }
     ensures free { OnOk result (resolving.new.free ≡ resolving.old.free) }
 {
-    let (head, mut arguments) = spine(alloc, term)?;
+    let (head, mut arguments) = term.spine(alloc)?;
     let Some(mut family) = resolved_type(alloc, signature, resolving, head, frames)? else {
         return Ok(None);
     };

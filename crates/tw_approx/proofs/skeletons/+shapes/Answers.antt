@@ -1,5 +1,5 @@
 use Rattle.std.proofs.Common.{◌≡◌, ◌++◌, ◌∷◌, [], Option, None, Some, IfOk, refl, sym, ap, ◌∙◌, subst}
-use Rattle.tw_approx.specs.Applied.{written_terms}
+use Rattle.tw_parse.specs.Applied.{written_terms}
 use Rattle.tw_approx.specs.Names.{IsFreeIn, IsFreeInDomain}
 use Rattle.tw_approx.specs.Reading.{state_of, due_of, family_at, ReadsDue, ReadsFamily, TermIsRead, FamilyIsRead, TypeIsRead, DomainIsRead, KindIsRead, RangeIsRead, RestIsRead, IsApplied, IsAscribed, IsFamilyApplied, IsFamilyAscribed, IsWhole}
 use Rattle.tw_approx.specs.Skeletons.{type_skeleton, domain_skeleton}

@@ -12,8 +12,8 @@ loop-left-init c = start_arguments c.args.locals.now c.len-left.result c.len-lef
 pub loop-left-preserved : goal.loop-left-preserved
 loop-left-preserved c =
     let n : c.loop-left.left ≡ c.loop-left.left - 1 + 1 = omega arith in
-    next_argument c.args.locals.now c.loop-left.left (c.loop-left.left - 1) (open_type_of c.in-Some.ty.now) c.loop-left.args.items c.push.new.self.items c.in_ok-eta_variable-in-Some.field-0 (local_arguments c.args.locals.now)
-    n c.in-Some.ensures c.in_ok-eta_variable-in-Some.ensures c.in_ok-push-in-Some.ensures.items c.loop-left.invariant
+    next_argument c.args.locals.now c.loop-left.left (c.loop-left.left - 1) (open_type_of c.in-Some.ty.now) c.loop-left.args.items c.push.new.self.items c.in_ok-expand_variable-in-Some.field-0 (local_arguments c.args.locals.now)
+    n c.in-Some.ensures c.in_ok-expand_variable-in-Some.ensures c.in_ok-push-in-Some.ensures.items c.loop-left.invariant
 
 pub returns : goal.returns
 returns c = open_spine_of-roll c.loop-left.args ∙ no_more_arguments c.args.locals.now c.loop-left.left c.loop-left.args.items (local_arguments c.args.locals.now) (omega arith) c.loop-left.invariant

@@ -1,6 +1,6 @@
 use Rattle.std.proofs.Common.{◌∷◌, Some, sym, ap, ◌∙◌}
 use Rattle.lf_elaboration.specs.Written as plain
-use Rattle.tw_approx.specs.Applied.{written_terms}
+use Rattle.tw_parse.specs.Applied.{written_terms}
 use Rattle.tw_approx.proofs.Answering.{if_ok}
 use Rattle.tw_names.specs.Scope.{binder_name}
 use Rattle.tw_parse.proofs.Views.{term_of-Arrow, term_of-Ascribe}

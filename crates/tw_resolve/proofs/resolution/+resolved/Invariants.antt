@@ -1,5 +1,5 @@
 use Rattle.std.proofs.Common.{◌≡◌, ◌+◌, ◌*◌, Some, vec_len}
-use Rattle.tw_approx.specs.Applied.{written_terms}
+use Rattle.tw_parse.specs.Applied.{written_terms}
 use Rattle.tw_approx.specs.Readings.{found}
 use Rattle.tw_parse.specs.View.{term_of}
 use Rattle.tw_resolve.specs.Resolving.{resolved_term, resolved_type}
