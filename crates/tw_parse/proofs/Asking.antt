@@ -5,7 +5,7 @@ use Rattle.tw_lexer.specs.declared.place.Place.{Place}
 use Rattle.tw_parse.specs.Failing.{ended, is_item, StopsIn, SequenceFault}
 use Rattle.tw_parse.specs.Faults.{Ends}
 use Rattle.tw_parse.specs.Outlines.{Table, Outline, Sequence}
-use Rattle.tw_parse.specs.Queries.{is_operand, names_proof, has_proof, goal_tokens, Poses, CanAsk, AskingStopsAt, AskingFault, AskingFaultOf, IsShallow, QueryFaultStands}
+use Rattle.tw_parse.specs.Queries.{is_operand, names_proof, has_proof, goal_tokens, Poses, CanAsk, AskingStopsAt, AskingFault, AskingFaultOf, IsAskable, QueryFaultStands}
 use Rattle.tw_parse.specs.Sources.{lexemes_from}
 use Rattle.tw_parse.specs.Spots.{inside, by_dot, State, reading, done, lead, go, next_state, runs}
 use Rattle.tw_parse.specs.Words.{Lexeme, first_word, first_place}
@@ -273,15 +273,15 @@ asking_stops source from (BadDecl place) e s = absurd s
 asking_stops source from (Nesting place) e s = absurd s
 asking_stops source from (Unsupported name place) e s = absurd s
 
--- a fault stands where no bracket is nested too deep
-pub query_stands : (table : Table) (end : Place) (tokens : List Lexeme) (r : Result ExtQuery SyntaxFault) → IsShallow tokens → IfErr r (AskingFault table end tokens) → IfErr r (QueryFaultStands table end tokens)
-query_stands table end tokens (Ok q) shallow h = tt
-query_stands table end tokens (Err f) shallow h = by_fault f h
+-- a fault of the grammar stands where the earlier causes don't
+pub query_stands : (table : Table) (end : Place) (tokens : List Lexeme) (r : Result ExtQuery SyntaxFault) → IsAskable tokens → IfErr r (AskingFault table end tokens) → IfErr r (QueryFaultStands table end tokens)
+query_stands table end tokens (Ok q) askable h = tt
+query_stands table end tokens (Err f) askable h = by_fault f h
   where
     by_fault : (f : SyntaxFault) → AskingFault table end tokens f → QueryFaultStands table end tokens f
-    by_fault (Syntax place) h = (shallow, h)
-    by_fault (Fixity place) h = (shallow, h)
-    by_fault (BadDecl place) h = (shallow, h)
+    by_fault (Syntax place) h = (askable, h)
+    by_fault (Fixity place) h = (askable, h)
+    by_fault (BadDecl place) h = (askable, h)
     by_fault NoMemory h = tt
     by_fault (Nesting place) h = absurd h
     by_fault (Unsupported name place) h = absurd h

@@ -6,7 +6,7 @@ use Rattle.tw_lexer.specs.declared.place.Place.{Place}
 use Rattle.tw_parse.specs.Faults.{Ends, GrammarFault, defined, declared}
 use Rattle.tw_parse.specs.Keywords.{form_of, fix_by, is_upper, is_identifier}
 use Rattle.tw_parse.specs.Outlines.{Table, Outline, Sequence, Head, a_definition, a_check, an_abbreviation, Names, no_names, a_further_name, named, bytes_in, Shapes, declares, defines, defines_typed, prefers, prefers_both, gives}
-use Rattle.tw_parse.specs.Readings.{declared as declared_means, defined as defined_means, defined_typed, preferred, given, Declares, of_declared, of_defined, of_type, of_term}
+use Rattle.tw_parse.specs.Readings.{declared as declared_means, defined as defined_means, defined_typed, preferred, given, Declares, of_first, of_later}
 use Rattle.tw_parse.specs.Syntax.{declare, define, prefer, give}
 use Rattle.tw_parse.specs.Telling.{Tells}
 use Rattle.tw_parse.specs.View.{term_of, declaration_of}
@@ -38,16 +38,16 @@ Comes table end tokens r = IfOk r (λ d. Declares table tokens (declaration_of d
 
 comes_short : (table : Table) (end : Place) (tokens : List Lexeme) (name : Option (List ℕ)) (M : Outline) (b : Bool) (part : Part) → Shapes table tokens (define name None M b) → Tells M part → Comes table end tokens (defined name None part b)
 comes_short table end tokens name M b (parts.Term t) s m = ((define name None M b, s, defined_means m), tt)
-comes_short table end tokens name M b (parts.AtFault place) s f = (tt, (define name None M b, s, of_defined f))
+comes_short table end tokens name M b (parts.AtFault place) s f = (tt, (define name None M b, s, of_first f))
 
 comes_long : (table : Table) (end : Place) (tokens : List Lexeme) (name : Option (List ℕ)) (U M : Outline) (b : Bool) (ty part : Part) → Shapes table tokens (define name (Some U) M b) → Tells U ty → Tells M part → Comes table end tokens (defined name (Some ty) part b)
 comes_long table end tokens name U M b (parts.Term A) (parts.Term t) s u m = ((define name (Some U) M b, s, defined_typed u m), tt)
-comes_long table end tokens name U M b (parts.Term A) (parts.AtFault place) s u f = (tt, (define name (Some U) M b, s, of_term (term_of A, u) f))
-comes_long table end tokens name U M b (parts.AtFault place) part s f m = (tt, (define name (Some U) M b, s, of_type f))
+comes_long table end tokens name U M b (parts.Term A) (parts.AtFault place) s u f = (tt, (define name (Some U) M b, s, of_later (term_of A, u) (of_first f)))
+comes_long table end tokens name U M b (parts.AtFault place) part s f m = (tt, (define name (Some U) M b, s, of_first f))
 
 comes_declared : (table : Table) (end : Place) (tokens : List Lexeme) (name : List ℕ) (at : Place) (U : Outline) (part : Part) → Shapes table tokens (declare name at U) → Tells U part → Comes table end tokens (declared name at part)
 comes_declared table end tokens name at U (parts.Term A) s u = ((declare name at U, s, declared_means u), tt)
-comes_declared table end tokens name at U (parts.AtFault place) s f = (tt, (declare name at U, s, of_declared f))
+comes_declared table end tokens name at U (parts.AtFault place) s f = (tt, (declare name at U, s, of_first f))
 
 pub a_short : (table : Table) (end : Place) (xs tokens : List Lexeme) (k j : ℕ) (name : Option (List ℕ)) (b : Bool) (part : Part) (r : Result ExtDecl SyntaxFault) → j ≡ k + 1 → Head tokens name b (drop k xs) → first_word (drop k xs) ≡ Equals
     → (M : Outline) → Ends table (drop j xs) M → Tells M part → r ≡ defined name None part b → Comes table end tokens r

@@ -24,3 +24,4 @@ pub mod OneOutline
 pub mod OneDeclaration
 pub mod OneReading
 pub mod Asking
+pub mod Spines

@@ -53,17 +53,6 @@ head_form (an_abbreviation w f v) is = (f, v)
 pub no_given_abbreviation : (o : Option Form) (words : List (List ℕ)) (fix : Fix) → o ≡ Some Abbreviation → fix_by o words ≡ Some fix → ⊥
 no_given_abbreviation o words fix e f = let clash : None ≡ Some fix = sym (ap (λ p. fix_by p words) e) ∙ f in cc
 
-abbreviation_shape : (table : Table) (tokens : List Lexeme) (D : DeclarationOf Outline) → Shapes table tokens D → first_word tokens ≡ Keyword → form_of (first_bytes tokens) ≡ Some Abbreviation → first_word (drop 1 tokens) ≡ Name
-abbreviation_shape table tokens D (declares w k s e) is form = cc
-abbreviation_shape table tokens D (defines h k s e) is form = (head_form h is).1
-abbreviation_shape table tokens D (defines_typed h k s g t e) is form = (head_form h is).1
-abbreviation_shape table tokens D (prefers w f a x u e) is form = let clash : Some Preference ≡ Some Abbreviation = sym f ∙ form in cc
-abbreviation_shape table tokens D (prefers_both w f a x u y l e) is form = let clash : Some Preference ≡ Some Abbreviation = sym f ∙ form in cc
-abbreviation_shape table tokens D (gives {keyword = k} words xs dot {fix = fix} w t f n e) is form = absurd (no_given_abbreviation (form_of k.bytes) (map bytes_in words) fix form f)
-
-pub no_abbreviation : (table : Table) (tokens : List Lexeme) → first_word tokens ≡ Keyword → form_of (first_bytes tokens) ≡ Some Abbreviation → (first_word (drop 1 tokens) ≡ Name → ⊥) → HasNoShape table tokens
-no_abbreviation table tokens is form isnt D shapes = isnt (abbreviation_shape table tokens D shapes is form)
-
 -- `%name`
 
 -- behind the keyword stand an identifier, an uppercase name, and a dot, or another name and a dot

@@ -7,7 +7,7 @@ use Rattle.tw_parse.specs.Faults.{Ends}
 use Rattle.tw_parse.specs.Laws.{ReadingIsUnique, QueryIsUnique}
 use Rattle.tw_parse.specs.Outlines.{Table, Outline, Nodes, Node}
 use Rattle.tw_parse.specs.Queries.{Query, asked, goal_tokens}
-use Rattle.tw_parse.specs.Readings.{Means, means, Lists, no_items, one_item, IsItem, a_leaf, a_mark, a_group, a_binding, a_typed_binding, MeansAll, declared, defined, defined_typed, preferred, given, sign_in, marks, FirstFault, here, inside, FaultAmong, earlier, last, FaultWithin, in_group, in_body, in_domain, in_typed_body, FirstFaultOf, of_declared, of_defined, of_type, of_term}
+use Rattle.tw_parse.specs.Readings.{Means, means, Lists, no_items, one_item, IsItem, a_leaf, a_mark, a_group, a_binding, a_typed_binding, MeansAll, declared, defined, defined_typed, preferred, given, sign_in, marks, FirstFault, here, inside, FaultAmong, earlier, last, FaultWithin, in_group, in_body, in_domain, in_typed_body, FirstFaultOf, of_first, of_later}
 use Rattle.tw_parse.specs.Syntax.{Term, untyped, typed, DeclarationOf, Declaration, declare, define}
 use Rattle.tw_parse.proofs.Building.{item_mark, signs_grow}
 use Rattle.tw_parse.specs.Words.{Lexeme}
@@ -69,10 +69,13 @@ mutual
   none_within (a_typed_binding d m) (in_typed_body c f) = no_fault m f
 
 no_first_fault : {D : DeclarationOf Outline} {d : Declaration} {place : Place} → MeansAll D d → FirstFaultOf D place → ⊥
-no_first_fault (declared m) (of_declared f) = no_fault m f
-no_first_fault (defined m) (of_defined f) = no_fault m f
-no_first_fault (defined_typed u m) (of_type f) = no_fault u f
-no_first_fault (defined_typed u m) (of_term c f) = no_fault m f
+no_first_fault (declared m) (of_first f) = no_fault m f
+no_first_fault (declared m) (of_later c f) = elim f [ ]
+no_first_fault (defined m) (of_first f) = no_fault m f
+no_first_fault (defined m) (of_later c f) = elim f [ ]
+no_first_fault (defined_typed u m) (of_first f) = no_fault u f
+no_first_fault (defined_typed u m) (of_later c (of_first f)) = no_fault m f
+no_first_fault (defined_typed u m) (of_later c (of_later d f)) = elim f [ ]
 no_first_fault preferred f = elim f [ ]
 no_first_fault given f = elim f [ ]
 

@@ -1,11 +1,11 @@
 -- A declaration stops at the first token that can't go on.
-use Rattle.std.proofs.Common.{◌≡◌, ◌≢◌, ℕ, ◌+◌, List, [], ◌∷◌, ◌++◌, map, Bool, true, false, Option, None, Some, Ok, Err, IfErr, drop, refl, sym, ap, subst, ◌∙◌, append_assoc}
+use Rattle.std.proofs.Common.{◌≡◌, ◌≢◌, ℕ, ◌+◌, List, [], ◌∷◌, ◌++◌, map, Bool, true, false, Option, None, Some, Ok, Err, IfErr, drop, refl, sym, ap, subst, ◌∙◌, ◌⊎◌, inl, inr, ⊎_elim, append_assoc}
 use Rattle.tw_fixity.specs.declared.table.Fix.{Fix}
 use Rattle.tw_lexer.specs.declared.place.Place.{Place}
-use Rattle.tw_parse.specs.Failing.{is_item, CanBegin, StopsAt, StopsIn, IsDue, SequenceFault}
+use Rattle.tw_parse.specs.Failing.{ended, is_item, CanBegin, IsInTerm, IsPlain, HasSyntaxAt, StopsIn, IsDue, SequenceFault}
 use Rattle.tw_parse.specs.Keywords.{form_of, fix_by}
 use Rattle.tw_parse.specs.Outlines.{Table, Outline, Sequence, Head, a_definition, a_check, an_abbreviation, bytes_in, Shapes, declares, defines, defines_typed, prefers, prefers_both, gives}
-use Rattle.tw_parse.specs.Spots.{Frame, Spot, inside, opened, named, go, next, steps, IsWithin, Ending, either, by_equals, by_dot, State, start, free, behind, reading, done, begin, begin_keyword, name_next, behind_next, end_next, leave, lead, next_state, runs}
+use Rattle.tw_parse.specs.Spots.{Frame, Spot, inside, opened, named, go, next, steps, IsWithin, Ending, either, by_equals, by_dot, State, start, free, abbreviation, behind, reading, done, begin, begin_keyword, name_next, behind_next, end_next, leave, lead, next_state, runs}
 use Rattle.std.specs.declared.result.Result.{Result}
 use Rattle.tw_parse.specs.Faults.{IsRead, GrammarFault, FaultStands, FaultOf}
 use Rattle.tw_parse.specs.Sources.{lexemes_from}
@@ -14,7 +14,7 @@ use Rattle.tw_parse.specs.declared.fault.SyntaxFault.{SyntaxFault}
 use Rattle.tw_parse.specs.declared.fault.SyntaxFault.TheVariants.{Unsupported, Nesting, Syntax, Fixity, BadDecl, NoMemory}
 use Rattle.tw_parse.specs.declared.source.Source.{Source}
 use Rattle.tw_parse.specs.Syntax.{DeclarationOf, define}
-use Rattle.tw_parse.specs.Words.{Lexeme, first_word, first_place}
+use Rattle.tw_parse.specs.Words.{Lexeme, first_word, first_bytes, first_place}
 use Rattle.tw_parse.specs.declared.words.Form.{Form}
 use Rattle.tw_parse.specs.declared.words.Form.TheVariants as forms
 use Rattle.tw_parse.specs.declared.words.Word.{Word}
@@ -158,6 +158,11 @@ no_declaration table before x s goes dies c =
     let clash : None ≡ Some a.0 = sym dead ∙ a.1 in
     cc
 
+-- the reader stands within a declaration and can't go on, and a wrong token there is a fault of syntax
+syntax_at : (table : Table) (end place : Place) (tokens before : List Lexeme) (x : Lexeme) (more : List Lexeme) (s : State) → ended end tokens ≡ before ++ x ∷ more → place ≡ x.at → CanBegin table before
+    → runs (Some start) before ≡ Some s → next_state s x ≡ None → (IsFinal s → ⊥) → IsPlain tokens ⊎ IsInTerm before → HasSyntaxAt table end tokens place
+syntax_at table end place tokens before x more s is at can goes dies within told = ((before, x, more, is, at, can, no_declaration table before x s goes dies, not_whole table before s goes within), told)
+
 pub leaves_none : (e : Ending) (spot : Spot) (frames : List Frame) (w : Word) → IsWithin spot frames → leave e spot (frames ++ []) w ≡ None
 leaves_none e (inside true) [] w h = absurd h
 leaves_none e (inside true) (f ∷ frames) w h = refl
@@ -166,27 +171,21 @@ leaves_none e (opened k) frames w h = refl
 leaves_none e (named k) frames w h = refl
 
 -- a sequence that is due stops
-pub stops_reading : (table : Table) (end place : Place) (tokens rest : List Lexeme) (e : Ending) → IsDue table tokens rest e → StopsIn table end rest place → StopsAt table end tokens place
+pub stops_reading : (table : Table) (end place : Place) (tokens rest : List Lexeme) (e : Ending) → IsDue table tokens rest e → StopsIn table end rest place → HasSyntaxAt table end tokens place
 stops_reading table end place tokens rest e due s =
     let d = s.6 in
     let begun = due.can (s.0 ++ s.5.0) (λ v. let o = s.5.1 v in let P : List Lexeme → Type 0 = λ ts. Sequence table ts o.0 v in (o.0, subst P (sym (append_assoc s.0 s.5.0 v)) o.1)) in
-    let P : List Lexeme → Type 0 = λ ts. Shapes table ts begun.1 in (
-      due.front ++ s.0,
-      s.1,
-      s.2,
-      ended_behind end tokens due.front rest due.split ∙ ap (λ ts. due.front ++ ts) s.3 ∙ sym (append_assoc due.front s.0 (s.1 ∷ s.2)),
-      s.4,
-      (
-        s.5.0 ++ begun.0,
-        begun.1,
-        subst P (ap (λ ts. ts ++ begun.0) (sym (append_assoc due.front s.0 s.5.0)) ∙ append_assoc (due.front ++ s.0) s.5.0 begun.0) begun.2,
-      ),
-      no_declaration table (due.front ++ s.0) s.1 (reading e d.0 (d.1 ++ []))
-          (along (Some start) (Some (reading e (inside false) [])) due.front s.0 due.goes ∙ reads_on e (inside false) [] s.0 (d.0, d.1 ++ []) (d.2 []))
-          (ap (lead e d.0 (d.1 ++ []) s.1.word) (d.3 []) ∙ leaves_none e d.0 d.1 s.1.word d.4),
-      not_whole table (due.front ++ s.0) (reading e d.0 (d.1 ++ []))
-          (along (Some start) (Some (reading e (inside false) [])) due.front s.0 due.goes ∙ reads_on e (inside false) [] s.0 (d.0, d.1 ++ []) (d.2 [])) (λ h. h),
-    )
+    let P : List Lexeme → Type 0 = λ ts. Shapes table ts begun.1 in
+    let goes : runs (Some start) (due.front ++ s.0) ≡ Some (reading e d.0 (d.1 ++ [])) =
+    along (Some start) (Some (reading e (inside false) [])) due.front s.0 due.goes ∙ reads_on e (inside false) [] s.0 (d.0, d.1 ++ []) (d.2 []) in
+    syntax_at table end place tokens (due.front ++ s.0) s.1 s.2 (reading e d.0 (d.1 ++ []))
+    (ended_behind end tokens due.front rest due.split ∙ ap (λ ts. due.front ++ ts) s.3 ∙ sym (append_assoc due.front s.0 (s.1 ∷ s.2)))
+    s.4
+    (s.5.0 ++ begun.0, begun.1, subst P (ap (λ ts. ts ++ begun.0) (sym (append_assoc due.front s.0 s.5.0)) ∙ append_assoc (due.front ++ s.0) s.5.0 begun.0) begun.2)
+    goes
+    (ap (lead e d.0 (d.1 ++ []) s.1.word) (d.3 []) ∙ leaves_none e d.0 d.1 s.1.word d.4)
+    (λ h. h)
+    (inr (e, d.0, d.1 ++ [], goes))
 
 pub no_go : (w : Word) → is_item w ≡ false → go true [] w ≡ None
 no_go Name e = cc
@@ -208,22 +207,20 @@ no_go End e = refl
 
 -- a wrong token stands behind a sequence that was due
 pub stops_behind : (table : Table) (end place : Place) (tokens rest left : List Lexeme) (e : Ending) (O : Outline) → IsDue table tokens rest e → Sequence table rest O left → is_item (first_word left) ≡ false → end_next e (first_word left) ≡ None
-    → place ≡ first_place end left → StopsAt table end tokens place
+    → place ≡ first_place end left → HasSyntaxAt table end tokens place
 stops_behind table end place tokens rest left e O due s isnt wrong is =
     let i = port_sequence table s in
-    let y = at_end end left in (
-      due.front ++ i.front,
-      y.0,
-      y.1,
-      ended_behind end tokens due.front rest due.split ∙ ap (λ ts. due.front ++ ts) (ended_behind end rest i.front left i.split ∙ ap (λ ts. i.front ++ ts) y.2) ∙ sym (append_assoc due.front i.front (y.0 ∷ y.1)),
-      is ∙ y.3,
-      due.can i.front (λ v. (O, i.anew v)),
-      no_declaration table (due.front ++ i.front) y.0 (reading e (inside true) [])
-          (along (Some start) (Some (reading e (inside false) [])) due.front i.front due.goes ∙ reads_on e (inside false) [] i.front (inside true, []) (i.goes []))
-          (at_none e y.0.word (ap is_item y.4 ∙ isnt) (ap (end_next e) y.4 ∙ wrong)),
-      not_whole table (due.front ++ i.front) (reading e (inside true) [])
-          (along (Some start) (Some (reading e (inside false) [])) due.front i.front due.goes ∙ reads_on e (inside false) [] i.front (inside true, []) (i.goes [])) (λ h. h),
-    )
+    let y = at_end end left in
+    let goes : runs (Some start) (due.front ++ i.front) ≡ Some (reading e (inside true) []) =
+    along (Some start) (Some (reading e (inside false) [])) due.front i.front due.goes ∙ reads_on e (inside false) [] i.front (inside true, []) (i.goes []) in
+    syntax_at table end place tokens (due.front ++ i.front) y.0 y.1 (reading e (inside true) [])
+    (ended_behind end tokens due.front rest due.split ∙ ap (λ ts. due.front ++ ts) (ended_behind end rest i.front left i.split ∙ ap (λ ts. i.front ++ ts) y.2) ∙ sym (append_assoc due.front i.front (y.0 ∷ y.1)))
+    (is ∙ y.3)
+    (due.can i.front (λ v. (O, i.anew v)))
+    goes
+    (at_none e y.0.word (ap is_item y.4 ∙ isnt) (ap (end_next e) y.4 ∙ wrong))
+    (λ h. h)
+    (inr (e, inside true, [], goes))
   where
     at_none : (e : Ending) (w : Word) → is_item w ≡ false → end_next e w ≡ None → lead e (inside true) [] w (go true [] w) ≡ None
     at_none e w isnt wrong = ap (lead e (inside true) [] w) (no_go w isnt) ∙ wrong
@@ -312,28 +309,28 @@ due_type table end xs tokens k j e f name b U step more h colons s is =
           (dot ∷ [], define name (Some U) o.0 b, subst P all (defines_typed (p.anew (c.0 ∷ (i.front ++ (q.0 ∷ (m ++ dot ∷ []))))) c.2 (i.anew (q.0 ∷ (m ++ dot ∷ []))) q.2 o.1 refl));
     }
 
+head_plain : {tokens rest : List Lexeme} {name : Option (List ℕ)} {b : Bool} → Head tokens name b rest → IsPlain tokens
+head_plain (a_definition w) = λ k. cc
+head_plain (a_check w) = λ k. cc
+head_plain (an_abbreviation w f v) = λ k. f
+
 -- neither `:` nor `=` stands behind the name
-pub stops_at_sign : (table : Table) (end place : Place) (tokens rest : List Lexeme) (name : Option (List ℕ)) (b : Bool) → Head tokens name b rest → first_word rest ≢ Equals → first_word rest ≢ Colon → place ≡ first_place end rest → StopsAt table end tokens place
+pub stops_at_sign : (table : Table) (end place : Place) (tokens rest : List Lexeme) (name : Option (List ℕ)) (b : Bool) → Head tokens name b rest → first_word rest ≢ Equals → first_word rest ≢ Colon → place ≡ first_place end rest → HasSyntaxAt table end tokens place
 stops_at_sign table end place tokens rest name b h no_equals no_colon is =
     let p = head_port h in
     let y = at_end end rest in
     let q : Lexeme = a_word end Equals in
     let u : Lexeme = a_word end Underscore in
     let begun = equals_dot table end (u ∷ []) p.front name b q p.anew refl (hole_sequence table end) in
-    let P : List Lexeme → Type 0 = λ ts. Shapes table ts begun.1 in (
-      p.front,
-      y.0,
-      y.1,
-      ended_behind end tokens p.front rest p.split ∙ ap (λ ts. p.front ++ ts) y.2,
-      is ∙ y.3,
-      (
-        q ∷ u ∷ begun.0,
-        begun.1,
-        subst P (append_assoc (p.front ++ q ∷ []) (u ∷ []) begun.0 ∙ append_assoc p.front (q ∷ []) (u ∷ begun.0)) begun.2,
-      ),
-      no_declaration table p.front y.0 (behind p.ending) p.goes (no_behind p.ending y.0.word (λ e. no_equals (sym y.4 ∙ e)) (λ e. no_colon (sym y.4 ∙ e))),
-      not_whole table p.front (behind p.ending) p.goes (λ h. h),
-    )
+    let P : List Lexeme → Type 0 = λ ts. Shapes table ts begun.1 in
+    syntax_at table end place tokens p.front y.0 y.1 (behind p.ending)
+    (ended_behind end tokens p.front rest p.split ∙ ap (λ ts. p.front ++ ts) y.2)
+    (is ∙ y.3)
+    (q ∷ u ∷ begun.0, begun.1, subst P (append_assoc (p.front ++ q ∷ []) (u ∷ []) begun.0 ∙ append_assoc p.front (q ∷ []) (u ∷ begun.0)) begun.2)
+    p.goes
+    (no_behind p.ending y.0.word (λ e. no_equals (sym y.4 ∙ e)) (λ e. no_colon (sym y.4 ∙ e)))
+    (λ h. h)
+    (inl (head_plain h))
   where
     no_behind : (e : Ending) (w : Word) → w ≢ Equals → w ≢ Colon → behind_next e w ≡ None
     no_behind e Name n m = refl
@@ -354,23 +351,22 @@ stops_at_sign table end place tokens rest name b h no_equals no_colon is =
     no_behind e End n m = refl
 
 -- no declaration begins so
-pub stops_at_start : (table : Table) (end place : Place) (tokens : List Lexeme) → first_word tokens ≢ Name → first_word tokens ≢ Underscore → first_word tokens ≢ Keyword → place ≡ first_place end tokens → StopsAt table end tokens place
+pub stops_at_start : (table : Table) (end place : Place) (tokens : List Lexeme) → first_word tokens ≢ Name → first_word tokens ≢ Underscore → first_word tokens ≢ Keyword → place ≡ first_place end tokens → HasSyntaxAt table end tokens place
 stops_at_start table end place tokens no_name no_hole no_keyword is =
     let y = at_end end tokens in
     let x : Lexeme = a_word end Name in
     let q : Lexeme = a_word end Equals in
     let u : Lexeme = a_word end Underscore in
     let dot : Lexeme = a_word end Dot in
-    let body = hole_sequence table end (dot ∷ []) in (
-      [],
-      y.0,
-      y.1,
-      y.2,
-      is ∙ y.3,
-      (x ∷ q ∷ u ∷ dot ∷ [], define (Some []) None body.0 false, defines (a_definition refl) refl body.1 refl),
-      no_declaration table [] y.0 start refl (no_begin y.0 y.0.word (λ e. no_name (sym y.4 ∙ e)) (λ e. no_hole (sym y.4 ∙ e)) (λ e. no_keyword (sym y.4 ∙ e))),
-      not_whole table [] start refl (λ h. h),
-    )
+    let body = hole_sequence table end (dot ∷ []) in
+    syntax_at table end place tokens [] y.0 y.1 start
+    y.2
+    (is ∙ y.3)
+    (x ∷ q ∷ u ∷ dot ∷ [], define (Some []) None body.0 false, defines (a_definition refl) refl body.1 refl)
+    refl
+    (no_begin y.0 y.0.word (λ e. no_name (sym y.4 ∙ e)) (λ e. no_hole (sym y.4 ∙ e)) (λ e. no_keyword (sym y.4 ∙ e)))
+    (λ h. h)
+    (inl (λ e. absurd (no_keyword e)))
   where
     no_begin : (x : Lexeme) (w : Word) → w ≢ Name → w ≢ Underscore → w ≢ Keyword → begin x w ≡ None
     no_begin x Name n m k = absurd (n refl)
@@ -389,6 +385,64 @@ stops_at_start table end place tokens no_name no_hole no_keyword is =
     no_begin x LBracket n m k = refl
     no_begin x RBracket n m k = refl
     no_begin x End n m k = refl
+
+-- no name stands behind `%abbrev`
+pub stops_at_name : (table : Table) (end place : Place) (tokens : List Lexeme) → first_word tokens ≡ Keyword → form_of (first_bytes tokens) ≡ Some forms.Abbreviation → first_word (drop 1 tokens) ≢ Name → place ≡ first_place end (drop 1 tokens) → HasSyntaxAt table end tokens place
+stops_at_name table end place [] is form no_name at = cc
+stops_at_name table end place (k ∷ tokens) is form no_name at =
+    let y = at_end end tokens in
+    let x : Lexeme = a_word end Name in
+    let q : Lexeme = a_word end Equals in
+    let u : Lexeme = a_word end Underscore in
+    let dot : Lexeme = a_word end Dot in
+    let body = hole_sequence table end (dot ∷ []) in
+    syntax_at table end place (k ∷ tokens) (k ∷ []) y.0 y.1 abbreviation
+    (ap (λ ts. k ∷ ts) y.2)
+    (at ∙ y.3)
+    (x ∷ q ∷ u ∷ dot ∷ [], define (Some []) None body.0 true, defines (an_abbreviation is form refl) refl body.1 refl)
+    (ap (begin k) is ∙ ap begin_keyword form)
+    (nameless y.0.word (λ e. no_name (sym y.4 ∙ e)))
+    (λ h. h)
+    (inl (λ _. form))
+  where
+    nameless : (w : Word) → w ≢ Name → name_next w ≡ None
+    nameless Name n = absurd (n refl)
+    nameless Forward n = refl
+    nameless Backward n = refl
+    nameless Underscore n = refl
+    nameless Star n = refl
+    nameless Equals n = refl
+    nameless Keyword n = refl
+    nameless Colon n = refl
+    nameless Dot n = refl
+    nameless LParen n = refl
+    nameless RParen n = refl
+    nameless LBrace n = refl
+    nameless RBrace n = refl
+    nameless LBracket n = refl
+    nameless RBracket n = refl
+    nameless End n = refl
+
+-- behind another keyword stands no term, so no token is a fault of syntax
+pub no_syntax : (table : Table) (end place : Place) (tokens : List Lexeme) → first_word tokens ≡ Keyword → form_of (first_bytes tokens) ≢ Some forms.Abbreviation → HasSyntaxAt table end tokens place → ⊥
+no_syntax table end place tokens is other s = ⊎_elim (λ plain. other (plain is)) (λ within. no_term tokens s.0.0 s.0.1 s.0.2 s.0.3 is other within) s.1
+  where
+    begins_free : (o : Option Form) → o ≢ Some forms.Abbreviation → begin_keyword o ≡ Some free
+    begins_free None n = refl
+    begins_free (Some forms.Abbreviation) n = absurd (n refl)
+    begins_free (Some forms.Preference) n = refl
+    begins_free (Some forms.Infix) n = refl
+    begins_free (Some forms.Prefix) n = refl
+    begins_free (Some forms.Postfix) n = refl
+
+    no_term : (tokens before : List Lexeme) (x : Lexeme) (more : List Lexeme) → ended end tokens ≡ before ++ x ∷ more → first_word tokens ≡ Keyword → form_of (first_bytes tokens) ≢ Some forms.Abbreviation → IsInTerm before → ⊥
+    no_term [] before x more e is other within = cc
+    no_term (t ∷ ts) [] x more e is other within = let same : Some start ≡ Some (reading within.0 within.1 within.2) = within.3 in cc
+    no_term (t ∷ ts) (b ∷ bs) x more e is other within =
+        let first : b ≡ t = cc in
+        let stays : runs (Some start) (b ∷ bs) ≡ Some free = ap (λ (y : Lexeme). runs (begin y y.word) bs) first ∙ ap (λ w. runs (begin t w) bs) is ∙ ap (λ o. runs o bs) (begins_free (form_of t.bytes) other) ∙ runs_free bs in
+        let same : Some free ≡ Some (reading within.0 within.1 within.2) = sym stays ∙ within.3 in
+        cc
 
 -- what may not stand behind a sequence
 pub no_dot : (w : Word) → w ≢ Dot → end_next by_dot w ≡ None

@@ -1,16 +1,18 @@
 -- Where reading stops for want of a token that goes on.
-use Rattle.std.specs.Prelude.{◌≡◌, ℕ, List, [], ◌∷◌, ◌++◌, Bool, true, false, None, Some}
+use Rattle.std.specs.Prelude.{◌≡◌, ℕ, List, [], ◌∷◌, ◌++◌, Bool, true, false, None, Some, ◌⊎◌}
 use Rattle.tw_lexer.specs.declared.place.Place.{Place}
+use Rattle.tw_parse.specs.Keywords.{form_of}
 use Rattle.tw_parse.specs.Outlines.{Table, Outline, Node, Sequence, Binds, Shapes}
 use Rattle.tw_parse.specs.Sources.{lexemes_from}
 use Rattle.tw_parse.specs.Spots.{Frame, Spot, inside, next, steps, IsWithin, Ending, by_dot, start, reading, runs}
 use Rattle.tw_parse.specs.Syntax.{DeclarationOf}
-use Rattle.tw_parse.specs.Words.{Lexeme}
+use Rattle.tw_parse.specs.Words.{Lexeme, first_word, first_bytes}
 use Rattle.tw_parse.specs.declared.fault.SyntaxFault.{SyntaxFault}
 use Rattle.tw_parse.specs.declared.fault.SyntaxFault.TheVariants.{Syntax, NoMemory}
 use Rattle.tw_parse.specs.declared.source.Source.{Source}
+use Rattle.tw_parse.specs.declared.words.Form.TheVariants.{Abbreviation}
 use Rattle.tw_parse.specs.declared.words.Word.{Word}
-use Rattle.tw_parse.specs.declared.words.Word.TheVariants.{Name, Forward, Backward, Underscore, Star, Colon, LParen, LBrace, LBracket, End}
+use Rattle.tw_parse.specs.declared.words.Word.TheVariants.{Name, Forward, Backward, Underscore, Star, Keyword, Colon, LParen, LBrace, LBracket, End}
 
 -- the tokens with the end of the text as a last one
 abbrev pub ended : Place → List Lexeme → List Lexeme
@@ -23,6 +25,18 @@ CanBegin table tokens = (rest : List Lexeme) × (D : DeclarationOf Outline) × S
 -- the first token here such that no declaration begins with the tokens through it, where those before it are none by themselves; the end of the text counts as a token
 abbrev pub StopsAt : Table → Place → List Lexeme → Place → Type 0
 StopsAt table end tokens place = (before : List Lexeme) × (x : Lexeme) × (more : List Lexeme) × (ended end tokens ≡ before ++ x ∷ more) × (place ≡ x.at) × CanBegin table before × (CanBegin table (before ++ x ∷ []) → ⊥) × ((D : DeclarationOf Outline) → Shapes table before D → ⊥)
+
+-- a term is due behind these tokens of a declaration, or isn't closed: behind `c :`, `c : (a` and `c : a`, and not behind `c`
+abbrev pub IsInTerm : List Lexeme → Type 0
+IsInTerm before = (e : Ending) × (spot : Spot) × (frames : List Frame) × (runs (Some start) before ≡ Some (reading e spot frames))
+
+-- no keyword stands first but `%abbrev`: then each wrong token is a fault of syntax, in a term (`c : ).`) or not (`c a.`, `%abbrev _ = a.`)
+abbrev pub IsPlain : List Lexeme → Type 0
+IsPlain tokens = first_word tokens ≡ Keyword → form_of (first_bytes tokens) ≡ Some Abbreviation
+
+-- The tokens stop at a fault of syntax: behind another keyword only in a term. So `%name (a) X.`, which has no term, stops at its `(` and has none.
+abbrev pub HasSyntaxAt : Table → Place → List Lexeme → Place → Type 0
+HasSyntaxAt table end tokens place = (stop : StopsAt table end tokens place) × (IsPlain tokens ⊎ IsInTerm stop.0)
 
 -- a word with which an item begins
 abbrev pub is_item : Word → Bool

@@ -11,7 +11,7 @@ use Rattle.tw_parse.specs.Nesting.{first_too_deep}
 use Rattle.tw_parse.specs.Outlines.{Table, Outline, Sequence, Shapes, Names, bytes_in, sign_of}
 use Rattle.tw_parse.specs.Readings.{FirstFaultOf, Declares}
 use Rattle.tw_parse.specs.Telling.{Tells}
-use Rattle.tw_parse.specs.Failing.{StopsAt}
+use Rattle.tw_parse.specs.Failing.{HasSyntaxAt}
 use Rattle.tw_parse.specs.Sources.{lexemes_from}
 use Rattle.tw_parse.specs.Syntax.{DeclarationOf, Declaration, Term, identifier, hole, star}
 use Rattle.tw_parse.specs.Words.{Lexeme, first_word, first_bytes, first_place}
@@ -64,11 +64,28 @@ IsRead tokens = IsKnown tokens × (first_too_deep [] 0 tokens ≡ None)
 abbrev pub HasNoShape : Table → List Lexeme → Type 0
 HasNoShape table tokens = (D : DeclarationOf Outline) → Shapes table tokens D → ⊥
 
--- a fault of tokens that are read: no declaration begins with the tokens through this one, which is the first such; some sequence has not one reading, and the first such one begins here; or a keyword stands first, and the tokens are no declaration
+-- nothing is declared by the tokens
+abbrev pub DeclaresNothing : Table → List Lexeme → Type 0
+DeclaresNothing table tokens = (d : Declaration) → Declares table tokens d → ⊥
+
+-- some sequence of the tokens has not one reading, and the first such one begins here: that of `c : a ->.` at the `a`
+abbrev pub HasFixityAt : Table → List Lexeme → Place → Type 0
+HasFixityAt table tokens place = (D : DeclarationOf Outline) × Shapes table tokens D × FirstFaultOf D place
+
+-- what is told before the arguments of a keyword: a token that is a fault of syntax, and a sequence that has not one reading
+abbrev pub HasNoSyntax : Table → Place → List Lexeme → Type 0
+HasNoSyntax table end tokens = (place : Place) → HasSyntaxAt table end tokens place → ⊥
+
+abbrev pub HasNoFixity : Table → List Lexeme → Type 0
+HasNoFixity table tokens = (place : Place) → HasFixityAt table tokens place → ⊥
+
+-- A fault of tokens that are read. One of them is a fault of syntax; a sequence has not one reading; or a keyword stands first, nothing is declared, and neither of the two is told:
+-- a token is wrong outside of all terms (`%infix left 10.`), or a rule of the keyword is broken (`%name a x.`).
 abbrev pub GrammarFault : Table → Place → List Lexeme → SyntaxFault → Type 0
-GrammarFault table end tokens (Syntax place) = StopsAt table end tokens place
-GrammarFault table end tokens (Fixity place) = (D : DeclarationOf Outline) × Shapes table tokens D × FirstFaultOf D place
-GrammarFault table end tokens (BadDecl place) = (first_word tokens ≡ Keyword) × (place ≡ first_place end tokens) × HasNoShape table tokens
+GrammarFault table end tokens (Syntax place) = HasSyntaxAt table end tokens place
+GrammarFault table end tokens (Fixity place) = HasFixityAt table tokens place
+GrammarFault table end tokens (BadDecl place) =
+    (first_word tokens ≡ Keyword) × (place ≡ first_place end tokens) × DeclaresNothing table tokens × HasNoSyntax table end tokens × HasNoFixity table tokens
 GrammarFault table end tokens NoMemory = Unit {0}
 GrammarFault table end tokens _ = ⊥
 

@@ -25,6 +25,19 @@ abbrev pub is_built : Option Form → Bool
 is_built None = false
 is_built (Some form) = true
 
+-- the keywords of the language, also those whose declarations aren't read yet: `%query` is one, `%theorem` isn't
+abbrev pub is_in_language : List ℕ → Bool
+is_in_language bytes =
+    if is_built (form_of bytes) then true else
+    if bytes_eq bytes (codes "%query") then true else
+    if bytes_eq bytes (codes "%solve") then true else
+    if bytes_eq bytes (codes "%mode") then true else
+    if bytes_eq bytes (codes "%block") then true else
+    if bytes_eq bytes (codes "%worlds") then true else
+    if bytes_eq bytes (codes "%terminates") then true else
+    if bytes_eq bytes (codes "%covers") then true else
+    bytes_eq bytes (codes "%total")
+
 abbrev pub assoc_of : List ℕ → Option Assoc
 assoc_of bytes =
     if bytes_eq bytes (codes "none") then Some Neither else

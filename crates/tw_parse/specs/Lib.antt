@@ -17,3 +17,4 @@ pub mod Nesting
 pub mod Faults
 pub mod Laws
 pub mod Queries
+pub mod Applied

@@ -4,7 +4,7 @@ use Rattle.std.specs.Str.{bytes_eq}
 use Rattle.tw_lexer.specs.declared.place.Place.{Place}
 use Rattle.tw_parse.specs.Failing.{ended}
 use Rattle.tw_parse.specs.Faults.{Ends}
-use Rattle.tw_parse.specs.Keywords.{is_upper}
+use Rattle.tw_parse.specs.Keywords.{is_in_language, is_upper}
 use Rattle.tw_parse.specs.Nesting.{first_too_deep}
 use Rattle.tw_parse.specs.Outlines.{Table, Outline}
 use Rattle.tw_parse.specs.Readings.{Means, FirstFault}
@@ -17,7 +17,7 @@ use Rattle.tw_parse.specs.declared.fault.SyntaxFault.TheVariants.{Unsupported, N
 use Rattle.tw_parse.specs.declared.query.ExtQuery.{ExtQuery}
 use Rattle.tw_parse.specs.declared.source.Source.{Source}
 use Rattle.tw_parse.specs.declared.words.Word.{Word}
-use Rattle.tw_parse.specs.declared.words.Word.TheVariants.{Name, Forward, Backward, Underscore, Star, Colon}
+use Rattle.tw_parse.specs.declared.words.Word.TheVariants.{Name, Forward, Backward, Underscore, Star, Keyword, Colon}
 
 -- what is asked: the name of the proof, if one is written, and the goal
 pub record Query : Type 0 where
@@ -104,13 +104,21 @@ AskingFault table end tokens _ = ⊥
 abbrev pub IsShallow : List Lexeme → Type 0
 IsShallow tokens = first_too_deep [] 0 tokens ≡ None
 
+-- No keyword stands first but one of the language. A keyword begins no query, so one of the language is a fault of syntax (`%name a X.`), and any other is told before all else (`%theorem a.`).
+abbrev pub IsOfLanguage : List Lexeme → Type 0
+IsOfLanguage tokens = first_word tokens ≡ Keyword → is_in_language (first_bytes tokens) ≡ true
+
+-- no cause that is told before the grammar stands
+abbrev pub IsAskable : List Lexeme → Type 0
+IsAskable tokens = IsOfLanguage tokens × IsShallow tokens
+
 -- what a fault says of the tokens of a query, where this is the place behind them
 abbrev pub QueryFaultStands : Table → Place → List Lexeme → SyntaxFault → Type 0
-QueryFaultStands table end tokens (Unsupported name place) = ⊥
-QueryFaultStands table end tokens (Nesting place) = first_too_deep [] 0 tokens ≡ Some place
-QueryFaultStands table end tokens (Syntax place) = IsShallow tokens × AskingFault table end tokens (Syntax place)
-QueryFaultStands table end tokens (Fixity place) = IsShallow tokens × AskingFault table end tokens (Fixity place)
-QueryFaultStands table end tokens (BadDecl place) = IsShallow tokens × AskingFault table end tokens (BadDecl place)
+QueryFaultStands table end tokens (Unsupported name place) = (first_word tokens ≡ Keyword) × (is_in_language (first_bytes tokens) ≡ false) × (name ≡ first_bytes tokens) × (place ≡ first_place end tokens)
+QueryFaultStands table end tokens (Nesting place) = IsOfLanguage tokens × (first_too_deep [] 0 tokens ≡ Some place)
+QueryFaultStands table end tokens (Syntax place) = IsAskable tokens × AskingFault table end tokens (Syntax place)
+QueryFaultStands table end tokens (Fixity place) = IsAskable tokens × AskingFault table end tokens (Fixity place)
+QueryFaultStands table end tokens (BadDecl place) = IsAskable tokens × AskingFault table end tokens (BadDecl place)
 QueryFaultStands table end tokens NoMemory = Unit {0}
 
 -- the same of the tokens of a source

@@ -82,9 +82,19 @@ mutual
     in_domain : {binder : Binder} {x : List ℕ} {at place : Place} {D O : Outline} → FirstFault D place → FaultWithin (typed_binding binder x at D O) place
     in_typed_body : {binder : Binder} {x : List ℕ} {at place : Place} {D O : Outline} → IsClear D → FirstFault O place → FaultWithin (typed_binding binder x at D O) place
 
--- the same of a declaration: the type comes before the term
-pub data FirstFaultOf : DeclarationOf Outline → Place → Type 0 where
-  of_declared : {x : List ℕ} {at place : Place} {U : Outline} → FirstFault U place → FirstFaultOf (declare x at U) place
-  of_defined : {name : Option (List ℕ)} {b : Bool} {O : Outline} {place : Place} → FirstFault O place → FirstFaultOf (define name None O b) place
-  of_type : {name : Option (List ℕ)} {b : Bool} {U O : Outline} {place : Place} → FirstFault U place → FirstFaultOf (define name (Some U) O b) place
-  of_term : {name : Option (List ℕ)} {b : Bool} {U O : Outline} {place : Place} → IsClear U → FirstFault O place → FirstFaultOf (define name (Some U) O b) place
+-- the sequences of a declaration, in the order in which they are told of: the type before the term
+abbrev pub sequences_of : DeclarationOf Outline → List Outline
+sequences_of (declare x at U) = U ∷ []
+sequences_of (define name None O b) = O ∷ []
+sequences_of (define name (Some U) O b) = U ∷ O ∷ []
+sequences_of (prefer a x y) = []
+sequences_of (give fix names) = []
+
+-- the first fault of these sequences begins here: of `d : (a ->) = b ->.` at the `a`, of `d : a = b ->.` at the `b`
+pub data FirstFaultIn : List Outline → Place → Type 0 where
+  of_first : {O : Outline} {Os : List Outline} {place : Place} → FirstFault O place → FirstFaultIn (O ∷ Os) place
+  of_later : {O : Outline} {Os : List Outline} {place : Place} → IsClear O → FirstFaultIn Os place → FirstFaultIn (O ∷ Os) place
+
+-- the same of a declaration
+abbrev pub FirstFaultOf : DeclarationOf Outline → Place → Type 0
+FirstFaultOf D place = FirstFaultIn (sequences_of D) place

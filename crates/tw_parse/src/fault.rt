@@ -10,7 +10,7 @@ use tw_lexer::Place;
 /// Why tokens are no declaration, and where. Of several causes the first in this order is told.
 #[derive(Debug, Drop, Error)]
 pub enum SyntaxFault {
-    /// A keyword stands first whose declarations are not read.
+    /// A keyword stands first whose declarations are not read; in place of a query, one that is not of the language.
     #[error("a keyword at line {} and column {} is not supported", .1.line, .1.column)]
     Unsupported(Name, Place),
     /// This bracket is nested too deep.

@@ -1,6 +1,6 @@
 //! The keywords that are known, and what stands behind them.
 ghost use Rattle.std.specs.Prelude.{◌≡◌};
-ghost use Rattle.tw_parse.specs.Keywords.{form_of, is_built, assoc_of, is_digit, precedence_of, is_upper, is_identifier};
+ghost use Rattle.tw_parse.specs.Keywords.{form_of, is_built, is_in_language, assoc_of, is_digit, precedence_of, is_upper, is_identifier};
 
 use crate::words::{Form, Word};
 use tw_fixity::Assoc;
@@ -32,6 +32,21 @@ pub fn is_built(form: Option<Form>) -> bool
     ensures { result ≡ is_built form }
 {
     form.is_some()
+}
+
+/// Whether the keyword is one of the language, also where its declarations are not read yet.
+pub fn is_in_language(bytes: &[u8]) -> bool
+    ensures { result ≡ is_in_language bytes.now }
+{
+    is_built(form_of(bytes))
+        || bytes == b"%query".as_slice()
+        || bytes == b"%solve".as_slice()
+        || bytes == b"%mode".as_slice()
+        || bytes == b"%block".as_slice()
+        || bytes == b"%worlds".as_slice()
+        || bytes == b"%terminates".as_slice()
+        || bytes == b"%covers".as_slice()
+        || bytes == b"%total".as_slice()
 }
 
 /// The side to which an infix operator associates, by its word.

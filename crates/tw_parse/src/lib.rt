@@ -18,6 +18,7 @@ mod query;
 mod sequences;
 mod sign;
 mod source;
+mod spine;
 mod term;
 mod words;
 

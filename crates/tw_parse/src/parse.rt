@@ -2,8 +2,8 @@
 ghost use Rattle.std.specs.Prelude.{◌≡◌, ◌≢◌, ℕ, ◌+◌, ◌≤◌, length, All, IfOk, IfErr, OnOk, MatchOption, Some, None, true, false};
 ghost use Rattle.tw_lexer.specs.Tokens.{IsWithin, ThroughDot};
 ghost use Rattle.tw_parse.specs.Faults.{DotEnds, IsRead, IsKnown, FaultStands, FaultOf, DeclaresAll, EndsAs, NamesBetween, RowUpTo, HasNoRow, HasNoShape, FormIs, FormFits, defined, declared};
-ghost use Rattle.tw_parse.specs.Failing.{StopsAt, LastIsDue};
-ghost use Rattle.tw_parse.specs.Keywords.{is_identifier};
+ghost use Rattle.tw_parse.specs.Failing.{LastIsDue};
+ghost use Rattle.tw_parse.specs.Keywords.{form_of, is_identifier};
 ghost use Rattle.tw_parse.specs.Outlines.{Head};
 ghost use Rattle.tw_parse.specs.declared.words.Word.TheVariants.{Keyword};
 ghost use Rattle.tw_parse.specs.Readings.{Declares};
@@ -24,22 +24,10 @@ use std::alloc::{AllocError, Global};
 use tw_fixity::{Fix, FixTable, Name};
 use tw_lexer::{Place, Tokens};
 
-// The fault of a wrong token that stands in no term.
-fn wrong(source: &Source<'_>, number: usize) -> SyntaxFault
-    requires { StopsAt source.now.fixities.now source.now.end (lexemes_from source.now 0) (first_place source.now.end (lexemes_from source.now number)) }
-    ensures stands { FaultOf source.now result }
-    ensures told { result ≢ SyntaxFault.NoMemory }
-{
-    if source.word(0) == Word::Keyword {
-        SyntaxFault::BadDecl(source.place(0))
-    } else {
-        SyntaxFault::Syntax(source.place(number))
-    }
-}
-
-// The fault of a keyword whose rules the tokens behind it break.
+// The fault of a keyword other than `%abbrev` whose rules the tokens behind it break.
 fn misfit(source: &Source<'_>) -> SyntaxFault
     requires keyword { first_word (lexemes_from source.now 0) ≡ Keyword }
+    requires other { form_of (first_bytes (lexemes_from source.now 0)) ≢ Some Form.Abbreviation }
     requires shape { HasNoShape source.now.fixities.now (lexemes_from source.now 0) }
     ensures stands { FaultOf source.now result }
     ensures told { result ≢ SyntaxFault.NoMemory }
@@ -86,7 +74,7 @@ fn last_sequence(alloc: Global, source: &Source<'_>, from: usize) -> Result<Part
 {
     let (part, end) = sequence(alloc, source, from)?;
     if source.word(end) != Word::Dot {
-        return Err(wrong(source, end));
+        return Err(SyntaxFault::Syntax(source.place(end)));
     }
     Ok(part)
 }
@@ -113,7 +101,7 @@ fn behind_name(
         return short;
     }
     if sign != Word::Colon {
-        return Err(wrong(source, at + 1));
+        return Err(SyntaxFault::Syntax(source.place(at + 1)));
     }
     let (ty, end) = sequence(alloc, source, at + 2)?;
     let next = source.word(end);
@@ -123,13 +111,13 @@ fn behind_name(
         return long;
     }
     let Some(name) = name else {
-        return Err(wrong(source, end));
+        return Err(SyntaxFault::Syntax(source.place(end)));
     };
     if abbreviated {
-        return Err(wrong(source, end));
+        return Err(SyntaxFault::Syntax(source.place(end)));
     }
     if next != Word::Dot {
-        return Err(wrong(source, end));
+        return Err(SyntaxFault::Syntax(source.place(end)));
     }
     let place = source.place(at);
     declare(name, place, ty)
@@ -154,7 +142,7 @@ fn abbreviation(alloc: Global, source: &Source<'_>) -> Result<ExtDecl, SyntaxFau
     ensures fault { IfErr result (FaultOf source.now) }
 {
     if source.word(1) != Word::Name {
-        return Err(misfit(source));
+        return Err(SyntaxFault::Syntax(source.place(1)));
     }
     let name = source.name(alloc, 1)?;
     behind_name(alloc, source, 1, Some(name), true)

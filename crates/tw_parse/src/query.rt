@@ -2,13 +2,13 @@
 ghost use Rattle.std.specs.Prelude.{◌≡◌, ℕ, [], length, All, IfOk, IfErr, OnOk, ◌||◌, option_map};
 ghost use Rattle.tw_lexer.specs.Tokens.{IsWithin, ThroughDot};
 ghost use Rattle.tw_parse.specs.Faults.{DotEnds};
-ghost use Rattle.tw_parse.specs.Queries.{Asks, AsksAll, AskingFaultOf, IsShallow, QueryFaultStands, asked, goal_tokens, has_proof, mentions, mentions_domain, names_proof, proved_by, query_of, with_goal};
+ghost use Rattle.tw_parse.specs.Queries.{Asks, AsksAll, AskingFaultOf, IsAskable, IsOfLanguage, QueryFaultStands, asked, goal_tokens, has_proof, mentions, mentions_domain, names_proof, proved_by, query_of, with_goal};
 ghost use Rattle.tw_parse.specs.Sources.{lexemes_from};
 ghost use Rattle.tw_parse.specs.View.{boxed_domain, term_of};
 ghost use Rattle.tw_parse.specs.Words.{first_bytes, first_word, lexemes};
 
 use crate::fault::SyntaxFault;
-use crate::keywords::is_upper;
+use crate::keywords::{is_in_language, is_upper};
 use crate::nesting::too_deep;
 use crate::parts::Part;
 use crate::sequences::sequence;
@@ -165,6 +165,18 @@ fn query(alloc: Global, source: &Source<'_>) -> Result<ExtQuery, SyntaxFault>
     }
 }
 
+// Tests that no keyword stands first but one of the language.
+fn in_language(alloc: Global, source: &Source<'_>) -> Result<(), SyntaxFault>
+    ensures stands { OnOk result (IsOfLanguage (lexemes_from source.now 0)) }
+    ensures fault { IfErr result (QueryFaultStands source.now.fixities.now source.now.end (lexemes_from source.now 0)) }
+{
+    if source.word(0) != Word::Keyword || is_in_language(source.bytes(0)) {
+        return Ok(());
+    }
+    let name = source.name(alloc, 0)?;
+    Err(SyntaxFault::Unsupported(name, source.place(0)))
+}
+
 /// Reads a query from the tokens that `lex` gave for this text: the one reading that the operators of the table give it, or the cause why there is none.
 pub fn parse_query(
     alloc: Global,
@@ -175,8 +187,8 @@ pub fn parse_query(
     requires within { All (IsWithin (length text.now)) tokens.now.list.items }
     requires through_dot { (from : ℕ) × ThroughDot text.now from tokens.now.list.items tokens.now.upto }
     ensures reading { IfOk result (λ q. Asks fixities.now (lexemes text.now tokens.now.list.items) (query_of q)) }
-    // No bracket opens past the limit of nesting.
-    ensures first_cause { OnOk result (IsShallow (lexemes text.now tokens.now.list.items)) }
+    // No keyword stands first but one of the language, and no bracket opens past the limit of nesting.
+    ensures first_causes { OnOk result (IsAskable (lexemes text.now tokens.now.list.items)) }
     ensures fault { IfErr result (QueryFaultStands fixities.now tokens.now.at (lexemes text.now tokens.now.list.items)) }
 {
     let source = Source {
@@ -185,6 +197,7 @@ pub fn parse_query(
         end: tokens.at,
         fixities,
     };
+    in_language(alloc, &source)?;
     if let Some(place) = too_deep(alloc, &source)? {
         return Err(SyntaxFault::Nesting(place));
     }

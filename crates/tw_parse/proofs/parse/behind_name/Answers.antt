@@ -100,13 +100,13 @@ last_sequence-requires-then-eq-2-clause-due c =
     let read = c.in_ok-ty.ensures.reads in
     due_type source.fixities.now source.end xs (lexemes_from source 0) (c.args.at + 1) (c.args.at + 2) end (end + 1) c.args.name c.args.abbreviated read.0 (omega arith) refl c.requires.head colons read.1 equals
 
-pub wrong-requires : goal.wrong-requires
-wrong-requires c =
+pub returns-then-ne-clause-fault : goal.returns-then-ne-clause-fault
+returns-then-ne-clause-fault c =
     let source = c.args.source.now in
     let xs : List Lexeme = lexemes source.text.now source.tokens.now in
     let no_eq : first_word (lexemes_from source (c.args.at + 1)) ≡ Equals → ⊥ = search rules in
     let no_colon : first_word (lexemes_from source (c.args.at + 1)) ≡ Colon → ⊥ = search rules in
-    stops_at_sign source.fixities.now source.end (first_place source.end (lexemes_from source (c.args.at + 1))) (lexemes_from source 0) (lexemes_from source (c.args.at + 1)) c.args.name c.args.abbreviated c.requires.head no_eq no_colon refl
+    stops_at_sign source.fixities.now source.end c.place.result (lexemes_from source 0) (lexemes_from source (c.args.at + 1)) c.args.name c.args.abbreviated c.requires.head no_eq no_colon c.place.ensures
 
 pub returns-in_err-ty-clause-fault : goal.returns-in_err-ty-clause-fault
 returns-in_err-ty-clause-fault c =
@@ -118,8 +118,8 @@ returns-in_err-ty-clause-fault c =
     let f = c.in_err-ty.field-0.0 in
     exits c.from_residual-in_err-ty.result p.0 f (FaultOf source) p.1 p.2 (due_stops source (c.args.at + 2) due.ending f due.due c.in_err-ty.ensures.fault)
 
-pub wrong-requires-in_default : goal.wrong-requires-in_default
-wrong-requires-in_default c =
+pub returns-in_default-clause-fault : goal.returns-in_default-clause-fault
+returns-in_default-clause-fault c =
     let source = c.args.source.now in
     let xs : List Lexeme = lexemes source.text.now source.tokens.now in
     let colons : first_word (lexemes_from source (c.args.at + 1)) ≡ Colon = search rules in
@@ -129,11 +129,11 @@ wrong-requires-in_default c =
     let w = first_word (lexemes_from source end) in
     let no_eq : w ≡ Equals → ⊥ = search rules in
     let nameless : c.args.name ≡ None = search rules in
-    stops_behind source.fixities.now source.end (first_place source.end (lexemes_from source end)) (lexemes_from source 0) (lexemes_from source (c.args.at + 2)) (lexemes_from source end) due.ending read.0 due.due read.1 c.in_ok-ty.ensures.stops
-    (ap (λ e. end_next e w) (due.nameless nameless) ∙ no_equals w no_eq) refl
+    stops_behind source.fixities.now source.end c.place-in_default.result (lexemes_from source 0) (lexemes_from source (c.args.at + 2)) (lexemes_from source end) due.ending read.0 due.due read.1 c.in_ok-ty.ensures.stops
+    (ap (λ e. end_next e w) (due.nameless nameless) ∙ no_equals w no_eq) c.place-in_default.ensures
 
-pub wrong-requires-then-abbreviated : goal.wrong-requires-then-abbreviated
-wrong-requires-then-abbreviated c =
+pub returns-then-abbreviated-clause-fault : goal.returns-then-abbreviated-clause-fault
+returns-then-abbreviated-clause-fault c =
     let source = c.args.source.now in
     let xs : List Lexeme = lexemes source.text.now source.tokens.now in
     let colons : first_word (lexemes_from source (c.args.at + 1)) ≡ Colon = search rules in
@@ -143,11 +143,11 @@ wrong-requires-then-abbreviated c =
     let w = first_word (lexemes_from source end) in
     let no_eq : w ≡ Equals → ⊥ = search rules in
     let short : c.args.abbreviated ≡ true = search rules in
-    stops_behind source.fixities.now source.end (first_place source.end (lexemes_from source end)) (lexemes_from source 0) (lexemes_from source (c.args.at + 2)) (lexemes_from source end) due.ending read.0 due.due read.1 c.in_ok-ty.ensures.stops
-    (ap (λ e. end_next e w) (due.only short) ∙ no_equals w no_eq) refl
+    stops_behind source.fixities.now source.end c.place-then-abbreviated.result (lexemes_from source 0) (lexemes_from source (c.args.at + 2)) (lexemes_from source end) due.ending read.0 due.due read.1 c.in_ok-ty.ensures.stops
+    (ap (λ e. end_next e w) (due.only short) ∙ no_equals w no_eq) c.place-then-abbreviated.ensures
 
-pub wrong-requires-then-ne-2 : goal.wrong-requires-then-ne-2
-wrong-requires-then-ne-2 c =
+pub returns-then-ne-2-clause-fault : goal.returns-then-ne-2-clause-fault
+returns-then-ne-2-clause-fault c =
     let source = c.args.source.now in
     let xs : List Lexeme = lexemes source.text.now source.tokens.now in
     let colons : first_word (lexemes_from source (c.args.at + 1)) ≡ Colon = search rules in
@@ -157,5 +157,5 @@ wrong-requires-then-ne-2 c =
     let w = first_word (lexemes_from source end) in
     let no_eq : w ≡ Equals → ⊥ = search rules in
     let no_dot : w ≡ Dot → ⊥ = search rules in
-    stops_behind source.fixities.now source.end (first_place source.end (lexemes_from source end)) (lexemes_from source 0) (lexemes_from source (c.args.at + 2)) (lexemes_from source end) due.ending read.0 due.due read.1 c.in_ok-ty.ensures.stops
-    (no_end due.ending w no_dot no_eq) refl
+    stops_behind source.fixities.now source.end c.place-then-ne-2.result (lexemes_from source 0) (lexemes_from source (c.args.at + 2)) (lexemes_from source end) due.ending read.0 due.due read.1 c.in_ok-ty.ensures.stops
+    (no_end due.ending w no_dot no_eq) c.place-then-ne-2.ensures

@@ -1,6 +1,7 @@
-use Rattle.std.proofs.Common.{◌≡◌, ℕ, ◌+◌, List, [], IfErr, drop, sym, subst, rules}
+use Rattle.std.proofs.Common.{◌≡◌, ℕ, ◌+◌, List, [], None, IfErr, drop, sym, subst, rules}
 use Rattle.tw_lexer.specs.declared.token.Token.{Token}
-use Rattle.tw_parse.specs.Queries.{AskingFault, IsShallow}
+use Rattle.tw_parse.specs.Queries.{AskingFault, IsOfLanguage}
+use Rattle.tw_parse.specs.Nesting.{first_too_deep}
 use Rattle.tw_parse.specs.Words.{lexemes, first_word}
 use Rattle.tw_parse.specs.declared.words.Word.TheVariants.{Dot}
 use Rattle.tw_parse.proofs.Asking.{query_stands}
@@ -20,5 +21,7 @@ returns-clause-fault c =
     let end = c.args.tokens.now.at in
     let tokens = lexemes text c.args.tokens.now.list.items in
     let P : List Token → Type 0 = λ ts. IfErr c.query.result (AskingFault table end (lexemes text ts)) in
-    let shallow : IsShallow tokens = search rules in
-    query_stands table end tokens c.query.result shallow (subst P c.deref.ensures.value c.query.ensures.fault)
+    let Q : List Token → Type 0 = λ ts. IsOfLanguage (lexemes text ts) in
+    let known : IsOfLanguage tokens = subst Q c.deref.ensures.value c.in_ok-in_language.ensures.stands in
+    let shallow : first_too_deep [] 0 tokens ≡ None = search rules in
+    query_stands table end tokens c.query.result (known, shallow) (subst P c.deref.ensures.value c.query.ensures.fault)
