@@ -8,11 +8,14 @@ pub mod Takers
 pub mod Moving
 pub mod FlexibleMoves
 pub mod Stories
+pub mod Changed
 pub mod Variables
+pub mod Simple
 pub mod Fitting
 pub mod Working
 pub mod Leaving
 pub mod Endings
+pub mod Watching
 pub mod Postponing
 pub mod Ordering
 pub mod Shown

@@ -29,7 +29,7 @@ use Rattle.tw_unify.specs.declared.fault.UnifyFault.TheVariants.{NoMemory, TooDe
 use Rattle.tw_unify.specs.declared.moves.Move.{Move}
 use Rattle.tw_unify.specs.declared.sides.Shape.TheVariants as shape
 use Rattle.tw_unify.specs.declared.work.Advance.{Advance}
-use Rattle.tw_unify.specs.declared.work.Advance.TheVariants.{Refuted, Went}
+use Rattle.tw_unify.specs.declared.work.Advance.TheVariants.{Bound, Postponed, Refuted, Went}
 use Rattle.tw_unify.proofs.Orders.{both_runs, one_step}
 use Rattle.tw_putting.proofs.Readiness.{ready_scoped}
 use Rattle.tw_unify.proofs.Fitting.{deep_sides, ready_first}
@@ -200,6 +200,8 @@ module _ (Σ : Signature) (s : State) where
 -- what comes after a run
 pub advances_after : (Σ : Signature) (a : Advance) (s t u : Store) → Run Σ s t → Advances a Σ t u → Advances a Σ s u
 advances_after Σ Went s t u p q = both_runs Σ p q
+advances_after Σ (Bound m) s t u p q = both_runs Σ p q
+advances_after Σ Postponed s t u p q = both_runs Σ p q
 advances_after Σ Refuted s t u p q = record { reached = q.reached; run = both_runs Σ p q.run; refuted = q.refuted }
 
 -- a fault of putting the bindings in

@@ -5,5 +5,6 @@ pub mod Outcomes
 pub mod Rigid
 pub mod Flexible
 pub mod Sides
+pub mod Watching
 pub mod Answers
 pub mod Showing

@@ -10,7 +10,7 @@ use Rattle.tw_metas.specs.declared.equation.Equation.{Equation}
 use Rattle.tw_unify.specs.declared.fault.UnifyFault.{UnifyFault}
 use Rattle.tw_unify.specs.declared.fault.UnifyFault.TheVariants.{TooDeep, NoMemory}
 use Rattle.tw_unify.specs.declared.work.Advance.{Advance}
-use Rattle.tw_unify.specs.declared.work.Advance.TheVariants.{Went, Refuted}
+use Rattle.tw_unify.specs.declared.work.Advance.TheVariants.{Went, Bound, Postponed, Refuted}
 
 -- a stack of equations, the last one first
 abbrev pub stacked : List Equation → List unifiers.Equation
@@ -25,6 +25,8 @@ pub record CanRefute (Σ : Signature) (s : unifiers.Store) : Type 0 where
 -- steps were made, or the store can be refuted
 abbrev pub Advances : Advance → Signature → unifiers.Store → unifiers.Store → Type 0
 Advances Went Σ before after = Run Σ before after
+Advances (Bound m) Σ before after = Run Σ before after
+Advances Postponed Σ before after = Run Σ before after
 Advances Refuted Σ before after = CanRefute Σ before
 
 -- the cause of a fault

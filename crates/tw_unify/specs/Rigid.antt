@@ -2,7 +2,7 @@
 use Rattle.std.specs.Prelude.{◌≡◌, ℕ, List, [], ◌∷◌, Option}
 use Rattle.lf.specs.SkeletonTyping.{SpineSkeleton, TermSkeleton, TypeBySkeletons}
 use Rattle.lf.specs.Skeletons.{family_skeletons}
-use Rattle.lf.specs.Syntax.{Head, LfType, Skeleton, Spine, Term, atom, lambda, pi, root, skeleton}
+use Rattle.lf.specs.Syntax.{Head, LfType, Skeleton, Spine, Term, atom, lambda, nil, pi, root, skeleton}
 use Rattle.lf.specs.Typing.{Signature, instantiate_type}
 use Rattle.lf_unification.specs.Lists.{followed}
 use Rattle.lf_unification.specs.Offering.{argument_equations}
@@ -30,6 +30,11 @@ pub record Opens (e : Equation) (old new : List Equation) : Type 0 where
 abbrev pub IsAtom : LfType → Type 0
 IsAtom (pi A B) = ⊥
 IsAtom (atom a S) = Unit {0}
+
+-- all families of the type stand without arguments
+abbrev pub IsSimple : LfType → Type 0
+IsSimple (pi A B) = IsSimple A × IsSimple B
+IsSimple (atom a S) = S ≡ nil
 
 -- The type X takes both arguments, which stand in the local context D: `e` is their equation, and Y the type that is left.
 pub record TakesBoth (D : List LfType) (X : LfType) (M N : Term) (e : Equation) (Y : LfType) : Type 0 where

@@ -9,6 +9,7 @@ ghost use Rattle.tw_putting.specs.Ready.{IsLater};
 ghost use Rattle.tw_putting.specs.Whole.{IsConsistent, whole};
 ghost use Rattle.tw_unify.specs.Outcomes.{Advances, stacked};
 ghost use Rattle.tw_unify.specs.Moving.{IsRenewal, SidesFit};
+ghost use Rattle.tw_unify.specs.Watching.{Changes};
 ghost use Rattle.tw_unify.specs.Flexible.{AllowsMove, BlamesReached, BlamesType, BothHeadsFit, FlexibleFits, IsNext, IsRenewed, MoveFits, pruned_state};
 
 use crate::fault::UnifyFault;
@@ -96,6 +97,7 @@ pub fn do_flexible(
     requires fits { FlexibleFits store.old.now (equation_of equation) (stacked work.old.items) }
     requires types { TypesCanTake store.old.now }
     ensures done { MatchResult result (λ a. (Σ : Signature) → Advances a Σ (whole (equation_of equation ∷ stacked work.old.items) store.old.now) (whole (stacked work.new.items) store.new.now)) (λ f. BlamesReached f store.old.now (open_term_of equation.left) (open_term_of equation.right)) }
+    ensures change { IfOk result (λ a. Changes a store.old.now store.new.now) }
     ensures consistent { IsConsistent store.new.now }
     ensures story { IsLater store.old store.new }
 {
@@ -113,11 +115,11 @@ pub fn do_flexible(
         Next::Renew(meta) => {
             renew(alloc, store, meta)?;
             put_back(work, equation)?;
-            Ok(Advance::Went)
+            Ok(Advance::Bound(meta))
         }
         Next::Outside => {
             store.postpone(equation)?;
-            Ok(Advance::Went)
+            Ok(Advance::Postponed)
         }
     }
 }
@@ -132,18 +134,19 @@ pub fn make_move(
 ) -> Result<Advance, AllocError>
     requires { MoveFits store.old.now (equation_of equation) (stacked work.old.items) found }
     ensures done { IfOk result (λ a. (Σ : Signature) → Advances a Σ (whole (equation_of equation ∷ stacked work.old.items) store.old.now) (whole (stacked work.new.items) store.new.now)) }
+    ensures change { IfOk result (λ a. Changes a store.old.now store.new.now) }
     ensures consistent { IsConsistent store.new.now }
     ensures story { IsLater store.old store.new }
 {
     match found {
         Move::Bind(meta, value) => {
             store.bind(meta, value)?;
-            Ok(Advance::Went)
+            Ok(Advance::Bound(meta))
         }
         Move::Lose(meta, pruned) => {
             lose(alloc, store, meta, pruned)?;
             put_back(work, equation)?;
-            Ok(Advance::Went)
+            Ok(Advance::Bound(meta))
         }
         Move::Refute => Ok(Advance::Refuted),
     }

@@ -10,11 +10,10 @@
 //! other side is inverted as it stands: it is bound, and its value mentions what that side does. Else all values are put in, and each side in turn may allow a move against the other (`moves`): it is bound, a
 //! metavariable loses an argument, or there is no typed unifier. The occurs check goes through types and values (`reach`). Where neither side allows a move, a metavariable that is reached from
 //! the sides and whose type mentions a bound one is renewed at its type with the values put in (`stale`), and the equation is looked at again; else it is postponed. No side changes places with the other. When the stack is
-//! empty, the postponed equations are gone over, and the first one that allows a step under the bindings of then is woken (`postponed`); when none does, all are outside the pattern fragment and the call answers.
+//! empty, the postponed equations are gone over from where the last one woke, and the next one that allows a step under the bindings of then is woken (`postponed`); when none does, all are outside the pattern fragment and the call answers.
+//! One that was found so is looked at again only where a metavariable that is reached from it was bound since (`watch`). `solve_more` is told by its caller that those that stood were found so.
 //!
 //! An equation that is left is shown by `left_equation`: the bindings are put in, and the metavariables numbered by their places in an order that grows (`left`, `numbering`).
-//!
-//! **What is plain in this stage.** All postponed equations are gone over each time the stack is empty.
 #![tactic(auto)]
 
 mod fault;
@@ -30,6 +29,8 @@ mod moves;
 mod numbering;
 mod postponed;
 #[tactic(auto, using(tw_terms::proofs::OpenArgs::open_types))]
+mod ranges;
+#[tactic(auto, using(tw_terms::proofs::OpenArgs::open_types))]
 mod reach;
 #[tactic(auto, using(tw_terms::proofs::OpenArgs::open_types))]
 mod rigid;
@@ -40,9 +41,11 @@ mod solving;
 mod stale;
 mod step;
 #[tactic(auto, using(tw_terms::proofs::OpenArgs::open_types))]
+mod watch;
+#[tactic(auto, using(tw_terms::proofs::OpenArgs::open_types))]
 mod whole;
 mod work;
 
 pub use fault::UnifyFault;
 pub use left::left_equation;
-pub use solving::{Unified, solve};
+pub use solving::{Unified, solve, solve_more};

@@ -1,18 +1,19 @@
 //! Equations between two lambdas, and between two roots with one constant or variable as their heads.
 ghost use Rattle.std.specs.Prelude.{◌≡◌, IfOk, OnOk, map, MatchOption};
+ghost use Rattle.std.specs.Bool.{OnTrue};
 ghost use Rattle.lf.specs.Entries.{signature_of, IsCanonicalSignature};
 ghost use Rattle.lf.specs.Syntax.{app, nil};
 ghost use Rattle.lf_unification.specs.Offering.{argument_equations as equations_of_arguments};
 ghost use Rattle.tw_terms.specs.OpenView.{open_term_of, open_spine_of, open_type_of};
 ghost use Rattle.tw_metas.specs.View.{equation_of};
 ghost use Rattle.tw_unify.specs.Outcomes.{stacked};
-ghost use Rattle.tw_unify.specs.Rigid.{ArgumentsFit, Decomposes, HasArguments, HasFunction, IsAtom, LeftFits, Opens, TakesBoth};
+ghost use Rattle.tw_unify.specs.Rigid.{ArgumentsFit, Decomposes, HasArguments, HasFunction, IsAtom, IsSimple, LeftFits, Opens, TakesBoth};
 
 use crate::heads::head_type;
+use crate::ranges::{is_simple, range_after, stays_simple};
 use crate::work::put_on_top;
 use std::alloc::{AllocError, Global};
 use tw_metas::Equation;
-use tw_putting::instantiate;
 use tw_signature::Signature;
 use tw_terms::{Open, OpenContext, OpenSpine, OpenTy};
 
@@ -111,13 +112,15 @@ fn argument_equations(
     let mut rights = right.args;
     rights.reverse();
     let mut found = Vec::new(alloc);
+    let mut simple = is_simple(&ty);
     let mut rest = ty;
     for _ in 0..u64::MAX {
         match (lefts.pop(), rights.pop()) {
             (Some(left), Some(right)) => {
-                match take_argument(alloc, context, rest, left, right)? {
+                match take_argument(alloc, context, simple, rest, left, right)? {
                     Some((equation, range)) => {
                         found.push(equation)?;
+                        simple = stays_simple(simple, &range);
                         rest = range;
                     }
                     None => return Ok(found),
@@ -129,20 +132,22 @@ fn argument_equations(
     Err(AllocError)
 }
 
-/// The equation of two arguments, and the type that is left; None where the type takes no argument.
+/// The equation of two arguments, and the type that is left; None where the type takes no argument. Of a type that is known to be simple nothing is copied.
 fn take_argument(
     alloc: Global,
     context: &OpenContext,
+    simple: bool,
     ty: OpenTy,
     left: Open,
     right: Open,
 ) -> Result<Option<(Equation, OpenTy)>, AllocError>
-    requires { ArgumentsFit context.now (open_type_of ty) (app (open_term_of left) nil) }
+    requires fits { ArgumentsFit context.now (open_type_of ty) (app (open_term_of left) nil) }
+    requires simple { OnTrue simple (IsSimple (open_type_of ty)) }
     ensures { IfOk result (λ r. MatchOption r (IsAtom (open_type_of ty)) (λ p. TakesBoth context.now (open_type_of ty) (open_term_of left) (open_term_of right) (equation_of p.0) (open_type_of p.1))) }
 {
     match ty {
         OpenTy::Pi(domain, range) => {
-            let rest = instantiate(alloc, &range, &left, &domain)?;
+            let rest = range_after(alloc, simple, &domain, Box::into_inner(range), &left)?;
             let equation = Equation {
                 context: context.copy(alloc)?,
                 left,

@@ -7,11 +7,13 @@ ghost use Rattle.tw_putting.specs.Ready.{IsLater, IsReady};
 ghost use Rattle.tw_unify.specs.Outcomes.{Explains, stacked};
 ghost use Rattle.tw_unify.specs.Answers.{Answers, KeepsSides, RestIs, StaysReady};
 ghost use Rattle.tw_unify.specs.Sides.{AllLeft};
+ghost use Rattle.tw_unify.specs.Watching.{Watches, diary_of};
 ghost use Rattle.lf_unification.specs.Steps.{Run};
 
 use crate::fault::UnifyFault;
 use crate::postponed::wake;
 use crate::step::advance;
+use crate::watch::Watch;
 use crate::work::Advance;
 use std::alloc::Global;
 use tw_metas::{Equation, Store};
@@ -44,12 +46,51 @@ pub fn solve(
     ensures consistent { IsConsistent store.new.now }
     ensures story { IsLater store.old store.new }
 {
+    let mut watch = Watch::new(alloc, store.equations(), None)?;
+    solve_watched(alloc, store, signature, equations, &mut watch)
+}
+
+/// The same where all equations that are postponed in the store are left, as `solve` leaves them. Of these it looks only at such as hang on a metavariable that it binds.
+pub fn solve_more(
+    alloc: Global,
+    store: &mut Store,
+    signature: &Signature,
+    equations: Vec<Equation>,
+) -> Result<Unified, UnifyFault>
+    requires ready { IsReady (signature_of signature.now) (map equation_of equations.items) store.old.now }
+    requires left { AllLeft store.old.now store.old.now.equations }
+    ensures answer { MatchResult result (λ a. Answers a (signature_of signature.now) (whole (map equation_of equations.items) store.old.now) (whole [] store.new.now)) (λ f. Explains f (signature_of signature.now) (whole (map equation_of equations.items) store.old.now)) }
+    ensures sides { IfOk result (λ a. KeepsSides a (whole (map equation_of equations.items) store.old.now) (whole [] store.new.now)) }
+    ensures ready { IfOk result (λ a. StaysReady a (signature_of signature.now) store.new.now) }
+    ensures consistent { IsConsistent store.new.now }
+    ensures story { IsLater store.old store.new }
+{
+    let mut watch = Watch::new(alloc, store.equations(), Some(0))?;
+    solve_watched(alloc, store, signature, equations, &mut watch)
+}
+
+/// The same with what is known of the postponed equations.
+fn solve_watched(
+    alloc: Global,
+    store: &mut Store,
+    signature: &Signature,
+    equations: Vec<Equation>,
+    watch: &mut Watch,
+) -> Result<Unified, UnifyFault>
+    requires ready { IsReady (signature_of signature.now) (map equation_of equations.items) store.old.now }
+    requires watches { Watches store.old.now (diary_of watch.old) }
+    ensures answer { MatchResult result (λ a. Answers a (signature_of signature.now) (whole (map equation_of equations.items) store.old.now) (whole [] store.new.now)) (λ f. Explains f (signature_of signature.now) (whole (map equation_of equations.items) store.old.now)) }
+    ensures sides { IfOk result (λ a. KeepsSides a (whole (map equation_of equations.items) store.old.now) (whole [] store.new.now)) }
+    ensures ready { IfOk result (λ a. StaysReady a (signature_of signature.now) store.new.now) }
+    ensures consistent { IsConsistent store.new.now }
+    ensures story { IsLater store.old store.new }
+{
     signature.is_canonical();
     let mut work = equations;
     work.reverse();
     let mut fresh = work.len();
     for _ in 0..u64::MAX {
-        let next = next_equation(alloc, store, signature, &mut work)?;
+        let next = next_equation(alloc, store, signature, &mut work, watch)?;
         match next {
             None => return Ok(rest(store)),
             Some(equation) => {
@@ -57,8 +98,8 @@ pub fn solve(
                 fresh = fresh.min(work.len());
                 let outcome = advance(alloc, store, signature, &mut work, equation, is_fresh)?;
                 match outcome {
-                    Advance::Went => (),
                     Advance::Refuted => return Ok(Unified::Never),
+                    came => watch.note(came)?,
                 }
             }
         }
@@ -72,16 +113,19 @@ fn next_equation(
     store: &mut Store,
     signature: &Signature,
     work: &mut Vec<Equation>,
+    watch: &mut Watch,
 ) -> Result<Option<Equation>, UnifyFault>
     requires canonical { IsCanonicalSignature signature.now }
     requires ready { IsReady (signature_of signature.now) (stacked work.old.items) store.old.now }
+    requires watches { Watches store.old.now (diary_of watch.old) }
     ensures next { MatchResult result (λ r. MatchOption r ((stacked work.old.items ≡ []) × AllLeft store.old.now store.old.now.equations × (store.new ≡ store.old)) (λ e. Run (signature_of signature.now) (whole (stacked work.old.items) store.old.now) (whole (equation_of e ∷ stacked work.new.items) store.new.now))) (λ f. Explains f (signature_of signature.now) (whole (stacked work.old.items) store.old.now)) }
+    ensures watches { IfOk result (λ r. Watches store.new.now (diary_of watch.new)) }
     ensures consistent { IsConsistent store.new.now }
     ensures story { IsLater store.old store.new }
 {
     match work.pop() {
         Some(equation) => Ok(Some(equation)),
-        None => wake(alloc, store, signature),
+        None => wake(alloc, store, signature, watch),
     }
 }
 

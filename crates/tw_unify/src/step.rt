@@ -1,11 +1,12 @@
 //! One equation at work.
-ghost use Rattle.std.specs.Prelude.{◌∷◌, MatchResult};
+ghost use Rattle.std.specs.Prelude.{◌∷◌, IfOk, MatchResult};
 ghost use Rattle.lf.specs.Entries.{signature_of, IsCanonicalSignature};
 ghost use Rattle.tw_metas.specs.View.{equation_of};
 ghost use Rattle.tw_putting.specs.Ready.{IsLater, IsReady};
 ghost use Rattle.tw_putting.specs.Whole.{IsConsistent, whole};
 ghost use Rattle.tw_unify.specs.Outcomes.{Advances, Explains, stacked};
 ghost use Rattle.tw_unify.specs.Sides.{HeadsStay, IsFlexibleEquation};
+ghost use Rattle.tw_unify.specs.Watching.{Changes};
 
 use crate::fault::UnifyFault;
 use crate::flexible::{do_flexible, make_move, move_at_once};
@@ -29,6 +30,7 @@ pub fn advance(
     requires canonical { IsCanonicalSignature signature.now }
     requires ready { IsReady (signature_of signature.now) (equation_of equation ∷ stacked work.old.items) store.old.now }
     ensures done { MatchResult result (λ a. Advances a (signature_of signature.now) (whole (equation_of equation ∷ stacked work.old.items) store.old.now) (whole (stacked work.new.items) store.new.now)) (λ f. Explains f (signature_of signature.now) (whole (equation_of equation ∷ stacked work.old.items) store.old.now)) }
+    ensures change { IfOk result (λ a. Changes a store.old.now store.new.now) }
     ensures consistent { IsConsistent store.new.now }
     ensures story { IsLater store.old store.new }
 {
@@ -54,6 +56,7 @@ fn make_steps(
     requires ready { IsReady (signature_of signature.now) (equation_of equation ∷ stacked work.old.items) store.old.now }
     requires stay { HeadsStay store.old.now (equation_of equation) }
     ensures done { MatchResult result (λ a. Advances a (signature_of signature.now) (whole (equation_of equation ∷ stacked work.old.items) store.old.now) (whole (stacked work.new.items) store.new.now)) (λ f. Explains f (signature_of signature.now) (whole (equation_of equation ∷ stacked work.old.items) store.old.now)) }
+    ensures change { IfOk result (λ a. Changes a store.old.now store.new.now) }
     ensures consistent { IsConsistent store.new.now }
     ensures story { IsLater store.old store.new }
 {
@@ -86,13 +89,14 @@ fn at_flexible(
     requires stay { HeadsStay store.old.now (equation_of equation) }
     requires flexible { IsFlexibleEquation (equation_of equation) }
     ensures done { MatchResult result (λ a. Advances a (signature_of signature.now) (whole (equation_of equation ∷ stacked work.old.items) store.old.now) (whole (stacked work.new.items) store.new.now)) (λ f. Explains f (signature_of signature.now) (whole (equation_of equation ∷ stacked work.old.items) store.old.now)) }
+    ensures change { IfOk result (λ a. Changes a store.old.now store.new.now) }
     ensures consistent { IsConsistent store.new.now }
     ensures story { IsLater store.old store.new }
 {
     match find_taker(alloc, store, &equation)? {
         Some(taker) => {
-            take_whole(store, equation, taker)?;
-            Ok(Advance::Went)
+            let taken = take_whole(store, equation, taker)?;
+            Ok(Advance::Bound(taken))
         }
         None => at_patterns(alloc, store, signature, work, equation),
     }
@@ -111,6 +115,7 @@ fn at_patterns(
     requires stay { HeadsStay store.old.now (equation_of equation) }
     requires flexible { IsFlexibleEquation (equation_of equation) }
     ensures done { MatchResult result (λ a. Advances a (signature_of signature.now) (whole (equation_of equation ∷ stacked work.old.items) store.old.now) (whole (stacked work.new.items) store.new.now)) (λ f. Explains f (signature_of signature.now) (whole (equation_of equation ∷ stacked work.old.items) store.old.now)) }
+    ensures change { IfOk result (λ a. Changes a store.old.now store.new.now) }
     ensures consistent { IsConsistent store.new.now }
     ensures story { IsLater store.old store.new }
 {

@@ -7,6 +7,7 @@ ghost use Rattle.tw_putting.specs.Ready.{IsLater};
 ghost use Rattle.tw_putting.specs.Whole.{IsConsistent};
 ghost use Rattle.tw_unify.specs.Flexible.{BindsWhole, BothHeadsFit, IsTaken, TakesWhole};
 ghost use Rattle.tw_unify.specs.Moving.{HeadsFit};
+ghost use Rattle.tw_unify.specs.Watching.{BindsOne};
 
 use crate::reach::is_reached;
 use std::alloc::{AllocError, Global};
@@ -64,21 +65,22 @@ fn takes_whole(
 }
 
 /// Binds the metavariable to the other side, which moves into the store.
-pub fn take_whole(store: &mut Store, equation: Equation, taker: Taker) -> Result<(), AllocError>
+pub fn take_whole(store: &mut Store, equation: Equation, taker: Taker) -> Result<MetaId, AllocError>
     requires consistent { IsConsistent store.old.now }
     requires takes { TakesWhole store.old.now (equation_of equation) taker }
     ensures done { OnOk result ((Σ : Signature) → IsTaken Σ store.old.now (equation_of equation) store.new.now) }
+    ensures bound { IfOk result (λ m. BindsOne store.old.now m store.new.now) }
     ensures consistent { IsConsistent store.new.now }
     ensures story { IsLater store.old store.new }
 {
     match taker {
         Taker::Left(meta) => {
             store.bind(meta, equation.right)?;
-            Ok(())
+            Ok(meta)
         }
         Taker::Right(meta) => {
             store.bind(meta, equation.left)?;
-            Ok(())
+            Ok(meta)
         }
     }
 }

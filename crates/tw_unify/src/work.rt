@@ -6,12 +6,17 @@ ghost use Rattle.tw_unify.specs.Outcomes.{stacked};
 
 use std::alloc::AllocError;
 use tw_metas::Equation;
+use tw_terms::MetaId;
 
 /// What came of an equation at work.
 #[derive(Clone, Copy, PartialEq, Eq, Debug)]
 pub enum Advance {
-    /// Steps of unification were made.
+    /// Steps of unification were made, and the store stayed as it was.
     Went,
+    /// Steps were made, and this metavariable was bound.
+    Bound(MetaId),
+    /// It was postponed.
+    Postponed,
     /// It has no typed unifier.
     Refuted,
 }

@@ -9,6 +9,7 @@ use Rattle.tw_unify.specs.Outcomes.{stacked}
 use Rattle.tw_putting.specs.Whole.{IsConsistent, whole}
 use Rattle.tw_putting.proofs.Changes.{consistent_with_equation, is_unbound}
 use Rattle.tw_unify.proofs.FlexibleMoves.{equal_runs, postpone_runs, renew_runs}
+use Rattle.tw_unify.proofs.Changed.{binds_pruned}
 use Rattle.tw_unify.proofs.Stories.{later_changed}
 use Rattle.tw_unify.proofs.flexible.do_flexible.Goals as goal
 
@@ -48,3 +49,14 @@ returns-in_ok-put_back-in-Renew-clause-done c = λ Σ.
     let ran : Run Σ (whole (e ∷ es) s) (whole (e ∷ es) (pruned_state s c.in-Renew.meta.0 r.ty r.spine)) = renew_runs Σ s (e ∷ es) c.in-Renew.meta.0 r.ty r.spine c.requires.fits.sides.consistent c.requires.fits.scoped n r.renewal in
     let there : Run Σ (whole (e ∷ es) s) (whole (e ∷ es) c.renew.new.store.now) = subst (λ (t : State). Run Σ (whole (e ∷ es) s) (whole (e ∷ es) t)) (sym r.is) ran in
     subst (λ (fs : List unifiers.Equation). Run Σ (whole (e ∷ es) s) (whole fs c.renew.new.store.now)) (sym c.in_ok-put_back-in-Renew.ensures) there
+
+pub returns-in_ok-postpone-in-Outside-clause-change : goal.returns-in_ok-postpone-in-Outside-clause-change
+returns-in_ok-postpone-in-Outside-clause-change c = (equation_of c.args.equation, ap (λ (x : Story). x.now) c.in_ok-postpone-in-Outside.ensures.ok)
+
+pub returns-in_ok-put_back-in-Renew-clause-change : goal.returns-in_ok-put_back-in-Renew-clause-change
+returns-in_ok-put_back-in-Renew-clause-change c =
+    let s = c.args.store.now.now in
+    let e = equation_of c.args.equation in
+    let n : NeedsRenewal s c.in-Renew.meta.0 = (subst (IsNext s e.local e.left e.right) c.in-Renew.is c.in_ok-next.ensures).0 in
+    let r = c.in_ok-renew-in-Renew.ensures.done in
+    binds_pruned s c.requires.fits.sides.consistent c.in-Renew.meta r.ty r.spine (is_unbound s c.requires.fits.sides.consistent c.in-Renew.meta.0 n.of_type n.declared n.unbound) c.renew.new.store.now r.is

@@ -9,6 +9,7 @@ use Rattle.tw_unify.specs.Outcomes.{stacked}
 use Rattle.tw_putting.specs.Whole.{IsConsistent, whole}
 use Rattle.tw_putting.proofs.Changes.{consistent_with_value}
 use Rattle.tw_unify.proofs.FlexibleMoves.{bind_runs, bound_unbound, lose_runs, lost_unbound, refutes}
+use Rattle.tw_unify.proofs.Changed.{binds_pruned, binds_value}
 use Rattle.tw_unify.proofs.Stories.{later_changed}
 use Rattle.tw_unify.proofs.flexible.make_move.Goals as goal
 
@@ -59,3 +60,17 @@ returns-in-Refute-clause-done c = λ Σ.
     let s = c.args.store.now.now in
     let e = equation_of c.args.equation in
     refutes Σ s e (stacked c.args.work.now.items) (subst (AllowsMove s e) c.in-Refute.is c.requires.allows)
+
+pub returns-in_ok-bind-in-Bind-clause-change : goal.returns-in_ok-bind-in-Bind-clause-change
+returns-in_ok-bind-in-Bind-clause-change c =
+    let s = c.args.store.now.now in
+    let e = equation_of c.args.equation in
+    binds_value s c.requires.consistent c.in-Bind.meta (open_term_of c.in-Bind.value) (bound_unbound c.requires.allows.move.fits.signature s e c.in-Bind.meta c.in-Bind.value (subst (AllowsMove s e) c.in-Bind.is c.requires.allows))
+    c.bind.new.self.now (ap (λ (x : Story). x.now) c.in_ok-bind-in-Bind.ensures.ok)
+
+pub returns-in_ok-put_back-in-Lose-clause-change : goal.returns-in_ok-put_back-in-Lose-clause-change
+returns-in_ok-put_back-in-Lose-clause-change c =
+    let s = c.args.store.now.now in
+    let e = equation_of c.args.equation in
+    binds_pruned s c.requires.consistent c.in-Lose.meta (open_type_of c.in-Lose.pruned.ty) (open_spine_of c.in-Lose.pruned.spine)
+    (lost_unbound c.requires.allows.move.fits.signature s e c.in-Lose.meta c.in-Lose.pruned (subst (AllowsMove s e) c.in-Lose.is c.requires.allows)) c.lose.new.store.now c.in_ok-lose-in-Lose.ensures.done

@@ -12,6 +12,7 @@ use Rattle.tw_unify.specs.declared.moves.Move.TheVariants.{Bind}
 use Rattle.tw_unify.specs.declared.whole.Taker.{Taker}
 use Rattle.tw_unify.specs.declared.whole.Taker.TheVariants.{Left, Right}
 use Rattle.tw_unify.proofs.FlexibleMoves.{bind_runs, bound_unbound}
+use Rattle.tw_unify.proofs.Changed.{binds_value}
 use Rattle.tw_unify.proofs.Stories.{later_changed}
 use Rattle.tw_unify.proofs.whole.take_whole.Goals as goal
 
@@ -66,3 +67,17 @@ returns-in_ok-bind-in-Right-clause-consistent c =
 
 pub returns-in_ok-bind-in-Right-clause-story : goal.returns-in_ok-bind-in-Right-clause-story
 returns-in_ok-bind-in-Right-clause-story c = later_changed c.args.store.now c.bind-in-Right.new.self (with_value c.args.store.now.now c.in-Right.meta.0 (open_term_of c.args.equation.left)) c.in_ok-bind-in-Right.ensures.ok
+
+pub returns-in_ok-bind-in-Left-clause-bound : goal.returns-in_ok-bind-in-Left-clause-bound
+returns-in_ok-bind-in-Left-clause-bound c =
+    let s = c.args.store.now.now in
+    let a = allows_left s c.args.equation c.args.taker c.in-Left.meta c.in-Left.is c.requires.takes in
+    binds_value s c.requires.consistent c.in-Left.meta (open_term_of c.args.equation.right) (bound_unbound a.move.fits.signature s (equation_of c.args.equation) c.in-Left.meta c.args.equation.right a)
+    c.bind.new.self.now (ap (λ (x : Story). x.now) c.in_ok-bind-in-Left.ensures.ok)
+
+pub returns-in_ok-bind-in-Right-clause-bound : goal.returns-in_ok-bind-in-Right-clause-bound
+returns-in_ok-bind-in-Right-clause-bound c =
+    let s = c.args.store.now.now in
+    let a = allows_right s c.args.equation c.args.taker c.in-Right.meta c.in-Right.is c.requires.takes in
+    binds_value s c.requires.consistent c.in-Right.meta (open_term_of c.args.equation.left) (bound_unbound a.move.fits.signature s (equation_of c.args.equation) c.in-Right.meta c.args.equation.left a)
+    c.bind-in-Right.new.self.now (ap (λ (x : Story). x.now) c.in_ok-bind-in-Right.ensures.ok)
