@@ -1,9 +1,12 @@
 -- One more variable closed over.
-use Rattle.std.proofs.Common.{◌≡◌, ℕ, zero, suc, ◌+◌, ◌<◌, List, [], ◌∷◌, length, drop, Some, refl, sym, ap, ◌∙◌, arith}
+use Rattle.std.proofs.Common.{◌≡◌, ℕ, zero, suc, ◌+◌, ◌<◌, List, [], ◌∷◌, length, drop, Some, refl, sym, ap, ◌∙◌, subst, arith}
 use Rattle.std.specs.List.{slice_get}
 use Rattle.std.proofs.lemmas.List.{drop_all}
+use Rattle.lf.specs.Entries.{Body, BodyIsTyped, declare_constant, declare_definition, declare_family}
 use Rattle.lf.specs.Syntax.{Kind, LfType, Term, kind_pi, lambda, pi}
+use Rattle.lf.specs.Typing.{HasType, IsContext, IsKind, IsType, Signature}
 use Rattle.lf_elaboration.specs.Kinds.{kind_over}
+use Rattle.lf_elaboration.specs.Principal.{BodyIsTypedIn, body_over}
 use Rattle.lf_unification.specs.Offering.{lambda_over, pi_over}
 use Rattle.tw_recon.proofs.Steps.{steps}
 
@@ -28,5 +31,27 @@ term_step (A ∷ D) (suc i) M h = let n : suc i + 1 ≡ suc (i + 1) = omega arit
 -- and all of them
 pub all_dropped : (D : List LfType) → drop (length D) D ≡ []
 all_dropped D = drop_all (length D) D (omega arith)
+
+-- what is typed over a context is typed closed over it
+module _ (Σ : Signature) where
+  closed_type_over : (F : List LfType) (A : LfType) → IsContext Σ F → IsType Σ F A → IsType Σ [] (pi_over F A)
+  closed_type_over [] A w a = a
+  closed_type_over (B ∷ F) A (w, b) a = closed_type_over F (pi B A) w (b, a)
+
+  closed_kind_over : (F : List LfType) (K : Kind) → IsContext Σ F → IsKind Σ F K → IsKind Σ [] (kind_over F K)
+  closed_kind_over [] K w k = k
+  closed_kind_over (B ∷ F) K (w, b) k = closed_kind_over F (kind_pi B K) w (b, k)
+
+  closed_term_over : (F : List LfType) (R : Term) (A : LfType) → HasType Σ F R A → HasType Σ [] (lambda_over F R) (pi_over F A)
+  closed_term_over [] R A r = r
+  closed_term_over (B ∷ F) R A r = closed_term_over F (lambda R) (pi B A) r
+
+  pub closed_typed : (F : List LfType) (b c : Body) → c ≡ body_over F b → IsContext Σ F → BodyIsTypedIn Σ F b → BodyIsTyped Σ c
+  closed_typed F b c e w t = subst (BodyIsTyped Σ) (sym e) (typed b t)
+    where
+      typed : (b : Body) → BodyIsTypedIn Σ F b → BodyIsTyped Σ (body_over F b)
+      typed (declare_family K) k = closed_kind_over F K w k
+      typed (declare_constant A) a = closed_type_over F A w a
+      typed (declare_definition N A d) (a, m) = (closed_type_over F A w a, closed_term_over F N A m)
 
 pub ruleset closings = (steps, type_step, kind_step, term_step, all_dropped)

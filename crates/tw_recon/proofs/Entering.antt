@@ -1,12 +1,11 @@
 -- What is read off a solution, and the entry of it.
-use Rattle.std.proofs.Common.{◌≡◌, ℕ, zero, suc, ◌+◌, List, [], ◌∷◌, ◌++◌, length, Option, refl, sym, ap, ◌∙◌, subst, ◌⊎◌, inl, inr, arith, length-append}
+use Rattle.std.proofs.Common.{◌≡◌, ℕ, ◌+◌, List, [], ◌∷◌, length, Option, refl, sym, ap, ◌∙◌, subst, ◌⊎◌, inl, inr, arith, length-append}
 use Rattle.lf.specs.Depth.{depth_limit}
 use Rattle.lf.specs.Entries.{Body, BodyIsTyped, BodyIsWithin, Entry, IsCanonicalEntry, IsCanonicalSignature, body_quantifiers, signature_of}
 use Rattle.lf.specs.Syntax.{LfType}
 use Rattle.lf.specs.Typing.{Signature}
 use Rattle.lf.proofs.Entries.{canonical_is_signature}
-use Rattle.lf_elaboration.specs.Completions.{FreeValue}
-use Rattle.lf_elaboration.specs.Principal.{IsPrincipal, WrittenBody, body_over}
+use Rattle.lf_elaboration.specs.Principal.{WrittenBody, body_over}
 use Rattle.lf_elaboration.specs.Sites.{AreFreesInOrder, AreSites}
 use Rattle.lf_elaboration.proofs.Bodies.{principal_stands}
 use Rattle.tw_approx.specs.Answer.{Rows}
@@ -24,7 +23,7 @@ use Rattle.tw_recon.specs.Hints.{fitted, written_hints}
 use Rattle.tw_recon.specs.Names.{AreNames, FreeIsDeep, Naming, names_of, variables_of}
 use Rattle.tw_recon.specs.Queries.{HasGoalCause, IsGoalWrittenAs}
 use Rattle.tw_recon.specs.Reading.{BodyIsDeep, BodyStands, IsBodyReadAs}
-use Rattle.tw_recon.specs.Reconstruction.{AreReadOff, LeavesNothingOut, IsCompletedTo, IsEntryOf, IsReconstructed, IsWrittenAs}
+use Rattle.tw_recon.specs.Reconstruction.{AreReadOff, LeavesNothingOut, IsCompletedTo, IsEntryOf, IsWrittenAs}
 use Rattle.tw_recon.specs.declared.fault.ReconFault.{ReconFault}
 use Rattle.tw_recon.specs.declared.fault.ReconFault.TheVariants.{Leftover, Loose, Mismatch, NoMemory, TooDeep, TypeLevel, Unknown}
 use Rattle.tw_abstract.proofs.Contexts.{quantifiers_law, reading_law}
@@ -33,7 +32,7 @@ use Rattle.tw_recon.proofs.Principals.{fitted_length, quantifiers_over, read_is_
 use Rattle.tw_recon.proofs.Settling.{body_stands}
 
 -- there are as many quantifiers as metavariables that become such
-context_each : (s : metas.State) (ms : List ℕ) (G : List LfType) → IsContextOf s ms G → length ms ≡ length G
+pub context_each : (s : metas.State) (ms : List ℕ) (G : List LfType) → IsContextOf s ms G → length ms ≡ length G
 context_each s ms G no_quantifiers = refl
 context_each s ms G (one_inside {ms = ns} m A A' h e p g) = let k = context_each s ns _ h in length-append ns (m ∷ []) ∙ omega (arith, k)
 

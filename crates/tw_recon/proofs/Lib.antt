@@ -9,3 +9,8 @@ pub mod Principals
 pub mod Entering
 pub mod Outcomes
 pub mod OfRows
+pub mod FreeNames
+pub mod Depths
+pub mod Asking
+pub mod Families
+pub mod Examples

@@ -1,5 +1,5 @@
 -- The metavariables that have names.
-use Rattle.std.proofs.Common.{◌≡◌, ℕ, zero, suc, ◌+◌, ◌<◌, ◌≤◌, List, [], ◌∷◌, ◌++◌, length, get_or, map, take, Option, None, Some, refl, sym, ap, ◌∙◌, subst, arith, ◌⊎◌, inl, inr}
+use Rattle.std.proofs.Common.{◌≡◌, ℕ, zero, suc, ◌+◌, ◌<◌, ◌≤◌, List, [], ◌∷◌, ◌++◌, length, get_or, map, take, Option, None, Some, refl, ap, ◌∙◌, arith, inl, inr}
 use Rattle.lf.specs.Subordination.{Member}
 use Rattle.tw_putting.specs.Whole.{AreDistinct}
 use Rattle.tw_recon.specs.Names.{named_from}

@@ -47,7 +47,7 @@ type_quantifiers_over : (F : List LfType) (A : LfType) → quantifiers (pi_over 
 type_quantifiers_over [] A = omega arith
 type_quantifiers_over (B ∷ F) A = let h = type_quantifiers_over F (pi B A) in omega (arith, h)
 
-kind_quantifiers_over : (F : List LfType) (K : Kind) → kind_quantifiers (kind_over F K) ≡ length F + kind_quantifiers K
+pub kind_quantifiers_over : (F : List LfType) (K : Kind) → kind_quantifiers (kind_over F K) ≡ length F + kind_quantifiers K
 kind_quantifiers_over [] K = omega arith
 kind_quantifiers_over (B ∷ F) K = let h = kind_quantifiers_over F (kind_pi B K) in omega (arith, h)
 

@@ -1,5 +1,5 @@
 -- What elaboration hands to the solver, and what stands of it in the store that the solver leaves.
-use Rattle.std.proofs.Common.{◌≡◌, ℕ, zero, suc, ◌≤◌, List, [], ◌∷◌, ◌++◌, length, map, Option, Some, None, inl, inr, refl, sym, ap, ap₂, ◌∙◌, subst, arith}
+use Rattle.std.proofs.Common.{◌≡◌, ℕ, zero, suc, List, [], ◌∷◌, ◌++◌, length, map, Option, Some, None, refl, sym, ap, ap₂, ◌∙◌, subst}
 use Rattle.std.specs.Prelude.{slice_get}
 use Rattle.lf.specs.Entries.{Body, Entry, IsCanonicalSignature, declare_constant, declare_definition, declare_family, signature_of}
 use Rattle.lf.specs.Subordination.{Member}
@@ -25,13 +25,12 @@ use Rattle.lf_unification.proofs.Runs.{step_form}
 use Rattle.lf_unification.proofs.Sound.{restrict, restrict_same}
 use Rattle.lf_unification.proofs.StepTyping.{step_fewer}
 use Rattle.lf_unification.proofs.Steps.{step_keeps_unifiers}
-use Rattle.lf_elaboration.specs.Elaboration.{NewFrees, next_free, no_frees}
+use Rattle.lf_elaboration.specs.Elaboration.{NewFrees}
 use Rattle.lf_elaboration.specs.Kinds.{MetavariablesInKind, OpenIsKind}
 use Rattle.lf_elaboration.specs.Principal.{WrittenBody, written_constant, written_definition, written_definition_of, written_family}
 use Rattle.lf_elaboration.specs.PrincipalLaws.{ElaboratesBody}
-use Rattle.lf_elaboration.specs.Skeletons.{EquationsHaveSkeletons, IsNumbered, LocalHasSkeletons, StateHasSkeletons}
+use Rattle.lf_elaboration.specs.Skeletons.{EquationsHaveSkeletons, LocalHasSkeletons, StateHasSkeletons}
 use Rattle.lf_elaboration.specs.State.{State, nothing_yet, store_of}
-use Rattle.lf_elaboration.proofs.Adds.{adds_metavariable, new_type_adds}
 use Rattle.lf_elaboration.proofs.Made.{elaborated_skeletons, nothing_skeletons, state_scoped}
 use Rattle.lf_elaboration.proofs.Principal.{BodyIsMade, body_made}
 use Rattle.tw_elaborate.specs.Bodies.{IsElaborated, open_body_of}

@@ -6,3 +6,5 @@ pub mod Reading
 pub mod Begun
 pub mod Causes
 pub mod Queries
+pub mod FreeNames
+pub mod Families

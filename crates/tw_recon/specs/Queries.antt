@@ -1,7 +1,10 @@
 -- What a query is reconstructed to.
-use Rattle.std.specs.Prelude.{◌≡◌, List, Some, reverse, ◌⊎◌}
+use Rattle.std.specs.Prelude.{◌≡◌, ◌<◌, ◌≤◌, ℕ, List, [], ◌∷◌, Some, length, reverse, ◌⊎◌}
+use Rattle.lf.specs.Depth.{depth_limit, type_depth}
 use Rattle.lf.specs.Entries.{Entry, declare_constant}
-use Rattle.lf.specs.Syntax.{Skeleton}
+use Rattle.lf.specs.Subordination.{Member}
+use Rattle.lf.specs.Syntax.{LfType, Skeleton}
+use Rattle.lf.specs.Typing.{IsContext, IsType, Signature}
 use Rattle.lf_elaboration.specs.Principal.{WrittenBody}
 use Rattle.tw_approx.specs.Answer as skeletons
 use Rattle.tw_approx.specs.Answer.{HasQuerySkeletons, IsQueryOfObjects, Rows}
@@ -29,6 +32,24 @@ pub record IsGoalOf (es : List Entry) (q : Query) (g : Goal) : Type 0 where
   pub is_written : IsGoalWrittenAs es q.goal rows written
   pub completed : IsCompletedTo es rows written g.variables (reverse g.names) g.shown (declare_constant g.goal)
   pub proof : g.proof ≡ q.proof
+
+-- no type of the context is deeper than the limit
+abbrev pub ContextIsWithin : ℕ → List LfType → Type 0
+ContextIsWithin limit [] = Unit {0}
+ContextIsWithin limit (A ∷ G) = (type_depth A ≤ limit) × ContextIsWithin limit G
+
+-- Neither a variable's type nor the goal is deeper. Each type of `vec N` over N : nat is at most 2 deep; so the goal is within 2, and isn't within 1.
+abbrev pub GoalIsWithin : ℕ → Goal → Type 0
+GoalIsWithin limit g = ContextIsWithin limit g.variables × (type_depth g.goal ≤ limit)
+
+-- A goal that may be asked over the signature. `vec N` may be, over the variable N : nat, with one place for its name, where 0 or nothing is shown; over no variable it isn't a type,
+-- and variable 1 isn't there to be shown.
+pub record IsCanonicalGoal (Σ : Signature) (g : Goal) : Type 0 where
+  pub context : IsContext Σ g.variables
+  pub typed : IsType Σ g.variables g.goal
+  pub within : GoalIsWithin depth_limit g
+  pub name_each : length g.names ≡ length g.variables
+  pub shown : (i : ℕ) → Member i g.shown → i < length g.variables
 
 -- the goal stops where it is written so
 abbrev pub GoalStops : List Entry → Term → ReconFault → Type 0

@@ -46,8 +46,9 @@ pub fn tell(alloc: Global, signature: &Signature, decl: &ExtDecl) -> Result<Told
         Ok(approx) => approx,
         Err(fault) => return Err(of_skeletons(fault)),
     };
+    signature.is_canonical();
     let Some(written) = resolve(alloc, signature, decl, &free, omitted)? else {
-        return Err(ReconFault::NoMemory);
+        unreachable!()
     };
     Ok(Told {
         rows: free,

@@ -1,5 +1,5 @@
 //! The entry of what is completed.
-ghost use Rattle.std.specs.Prelude.{◌≡◌, ◌++◌, ◌⊎◌, IfErr, IfOk, IsErrOf, length};
+ghost use Rattle.std.specs.Prelude.{◌≡◌, ◌≤◌, ◌++◌, ◌⊎◌, IfErr, IfOk, IsErrOf, length};
 ghost use Rattle.lf.specs.Depth.{depth_limit};
 ghost use Rattle.lf.specs.Entries.{body_quantifiers, signature_of, BodyIsTyped, BodyIsWithin};
 ghost use Rattle.lf_elaboration.specs.Principal.{body_over};
@@ -40,13 +40,13 @@ pub fn entry(
         ..
     } = completed;
     let hints = add_written(alloc, decl, &inner, hints)?;
-    let implicit = implicit_count(&quantifiers)?;
     let name = declared_name(alloc, decl)?;
     let body = closed_body(alloc, &quantifiers, inner)?;
     match approve(alloc, signature, &body) {
         Ok(()) => {}
         Err(fault) => return Err(fault),
     }
+    let implicit = implicit_count(&quantifiers);
     Ok(Entry {
         name,
         body,
@@ -55,14 +55,12 @@ pub fn entry(
     })
 }
 
-/// How many quantifiers there are. Memory counts as used up where 32 bits don't hold it.
-fn implicit_count(quantifiers: &Context) -> Result<u32, AllocError>
-    ensures { IfOk result (λ n. n ≡ length quantifiers.now) }
+/// How many quantifiers there are: no more than a type may be deep.
+fn implicit_count(quantifiers: &Context) -> u32
+    requires { length quantifiers.now ≤ depth_limit }
+    ensures { result ≡ length quantifiers.now }
 {
-    match u32::try_from(quantifiers.len()) {
-        Ok(count) => Ok(count),
-        Err(_) => Err(AllocError),
-    }
+    quantifiers.len() as u32
 }
 
 /// The name that is declared; `_` where there is none.

@@ -13,16 +13,24 @@ mod closing;
 mod completing;
 mod entry;
 mod fault;
+#[tactic(auto, using(crate::proofs::FreeNames::frees))]
+mod free;
 #[tactic(auto, using(crate::proofs::Steps::steps))]
 mod hints;
 mod kernel;
+mod laws;
 mod leftover;
 mod names;
 mod query;
 mod reconstruction;
 mod solving;
+#[tactic(auto, using(crate::proofs::Steps::steps))]
+mod within;
 
+pub use closing::{closed_body, closed_kind, closed_term, closed_type};
 pub use fault::ReconFault;
-pub use query::reconstruct_query;
+pub use free::first_free_variable;
+pub use laws::{completed_kind_is_as_written, family_is_as_written};
+pub use query::{reconstruct_goal, reconstruct_query};
 pub use reconstruction::reconstruct;
 pub use tw_signature::Goal;

@@ -1,7 +1,6 @@
 use Rattle.std.proofs.Common.{[], ◌∷◌, ◌++◌, List, ℕ, ap, ap₂, ◌∙◌, map, sym}
 use Rattle.std.proofs.lemmas.List.{map-append}
 use Rattle.tw_metas.specs.Named.{named_of}
-use Rattle.tw_recon.specs.Names.{named_from}
 use Rattle.tw_recon.proofs.Numbers.{named_first, named_none}
 use Rattle.tw_recon.proofs.names.named.Goals as goal
 use Rattle.tw_recon.proofs.names.named.Goals.{in-Some+in_ok-copy+in_ok-push, in_default}

@@ -1,4 +1,4 @@
-use Rattle.std.proofs.Common.{◌≡◌, ◌+◌, ◌++◌, ◌-◌, [], ◌∷◌, length, replicate, None, ap, ◌∙◌, arith, length-append, sym}
+use Rattle.std.proofs.Common.{◌≡◌, ◌++◌, ◌-◌, [], ◌∷◌, length, replicate, None, ap, ◌∙◌, arith, length-append, sym}
 use Rattle.std.proofs.lemmas.List.{append-nil}
 use Rattle.tw_recon.proofs.Naming.{reach_more}
 use Rattle.tw_recon.proofs.names.reach.Goals as goal
