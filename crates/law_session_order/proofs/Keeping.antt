@@ -30,6 +30,7 @@ use Rattle.tw_recon.proofs.OfRows.{AreOfRows, hints_of_rows}
 use Rattle.tw_signature.specs.Names.{number_of}
 use Rattle.tw_decl.specs.View.{View, with_chatter, with_implicit, with_steps, with_entry, scene_of}
 use Rattle.tw_decl.specs.Declaration.{IsWritten, Enters, is_unnamed, GivesRows, Prefers, Does}
+use Rattle.tw_decl.specs.Reports.{Reported}
 use Rattle.tw_decl.specs.Operators.{entry_by, newest, explicit_count, operand_count, takes, all_take, with_rows}
 use Rattle.law_reading_back.specs.Names.{IsName, AreGoodHints, PreferNames, HasGoodRows}
 use Rattle.law_session_order.specs.Laws.{NewIsInOrder, SettingKeepsOrder, MakingKeepsOrder, AcceptingKeepsOrder, AcceptingFromKeepsOrder}
@@ -143,7 +144,7 @@ reconstructed_good es d e f g k =
     (good_rows k.rows k.quantifier_hints (λ x r. f x (k.is_written.skeletons.row_is_free x r)) (hints_of_rows es k.rows k.written k.quantifiers k.quantifier_hints k.shown k.inner k.completed))
     (good_fitted (body_quantifiers k.inner) (written_hints d) g))
 
-entered_keeps : (v w : View) (words : List Lexeme) (d : Declaration) (report : List ℕ) → AreSpelled words → Declares v.fixities words d → IsName (declared_name d) → AreGoodHints (written_hints d) → is_unnamed d ≡ false
+entered_keeps : (v w : View) (words : List Lexeme) (d : Declaration) (report : Reported) → AreSpelled words → Declares v.fixities words d → IsName (declared_name d) → AreGoodHints (written_hints d) → is_unnamed d ≡ false
     → Enters v d report w → IsViewInOrder v → IsViewInOrder w
 entered_keeps v w words d report all r n g named h o =
     let k = h.reconstructs in
@@ -186,7 +187,7 @@ rows_right es t fix (x ∷ xs) h right =
     let p = both (takes (operand_count fix) (newest es x.name)) (all_take es (operand_count fix) xs) h in
     rows_right es (insert t x.name fix) fix xs p.1 (row_right es t fix x.name p.0 right)
 
-given_keeps : (v w : View) (fix : Fix) (names : List ExtName) (report : List ℕ) → GivesRows v fix names report w → IsViewInOrder v → IsViewInOrder w
+given_keeps : (v w : View) (fix : Fix) (names : List ExtName) (report : Reported) → GivesRows v fix names report w → IsViewInOrder v → IsViewInOrder w
 given_keeps v w fix names report h o =
     subst IsViewInOrder (sym h.keeps) (record {
       sound = o.sound;
@@ -205,7 +206,7 @@ preference_kept m family new n h a row e = by_test (eq_by_cmp nat_cmp a family) 
     by_test true k = subst PreferNames (some_inj k) n
     by_test false k = h a row k
 
-preferred_keeps : (v w : View) (a : ExtName) (x : List ℕ) (y : Option (List ℕ)) (report : List ℕ) → PreferNames (x, y) → Prefers v a x y report w → IsViewInOrder v → IsViewInOrder w
+preferred_keeps : (v w : View) (a : ExtName) (x : List ℕ) (y : Option (List ℕ)) (report : Reported) → PreferNames (x, y) → Prefers v a x y report w → IsViewInOrder v → IsViewInOrder w
 preferred_keeps v w a x y report n h o =
     subst IsViewInOrder (sym h.keeps) (record {
       sound = o.sound;

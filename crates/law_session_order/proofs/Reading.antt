@@ -20,6 +20,7 @@ use Rattle.tw_print.specs.Shown.{declaration_line, keyword, scene_after}
 use Rattle.tw_signature.specs.Names.{number_of}
 use Rattle.tw_decl.specs.View.{View, with_entry, scene_of, told}
 use Rattle.tw_decl.specs.Declaration.{entry_line, entry_report, Does, Makes}
+use Rattle.tw_decl.specs.Reports.{Reported, lines_alone}
 use Rattle.law_reading_back.specs.Laws.{IsInOrder, IsTypedDefinition, IsTypedEntry, IsDeclared, IsOpenEntry, ReadsAs}
 use Rattle.law_reading_back.specs.Names.{IsName, HasRoom, AgreeOn, EachIs, IsPlainByte, HasNoImplicit}
 use Rattle.law_reading_back.proofs.Back.{open_reads_back, reads_back}
@@ -149,9 +150,9 @@ line_told : (v : View) (e : Entry) → IsName e.name → told v (entry_line v e)
 unfolding entry_line
 line_told v e n = ap (λ s. told v (declaration_line s e ++ codes "\n")) (scene_is v e n)
 
-of_new : (v : View) (report : List ℕ) (e : Entry) → report ≡ told v (entry_line v e) → IsViewInOrder (with_entry v e) → v.parameters.implicit ≡ false → HasRoom (scene_of (with_entry v e)) → Reports v (with_entry v e) report e
+of_new : (v : View) (report : Reported) (e : Entry) → report ≡ entry_report v e → IsViewInOrder (with_entry v e) → v.parameters.implicit ≡ false → HasRoom (scene_of (with_entry v e)) → Reports v (with_entry v e) report e
 of_new v report e says o i room = record {
-  shows = says ∙ line_told v e (new_named v e o);
+  shows = says ∙ ap lines_alone (line_told v e (new_named v e o));
   open_reads_back = λ open_line. open_line_back (with_entry v e) [] v.signature e v.fixities o i room refl (agree_before v e) open_line;
   reads_back = λ none plain. new_line_back v e o i room none plain;
 }
@@ -162,7 +163,7 @@ same_first e f es h = cc
 no_more : (e : Entry) (es : List Entry) → es ≡ e ∷ es → ⊥
 no_more e es h = let n = ap length h in omega (arith, n)
 
-made_back : (v w : View) (words : List Lexeme) (report : List ℕ) (e : Entry) → AreSpelled words → Makes v words report w → w.signature ≡ e ∷ v.signature → IsViewInOrder v → v.parameters.implicit ≡ false → HasRoom (scene_of w) → Reports v w report e
+made_back : (v w : View) (words : List Lexeme) (report : Reported) (e : Entry) → AreSpelled words → Makes v words report w → w.signature ≡ e ∷ v.signature → IsViewInOrder v → v.parameters.implicit ≡ false → HasRoom (scene_of w) → Reports v w report e
 made_back v w words report e all m grows o i room = by_declaration m.declaration m.does
   where
     in_order : IsViewInOrder w
@@ -174,7 +175,7 @@ made_back v w words report e all m grows o i room = by_declaration m.declaration
         let same : f ≡ e = same_first f e v.signature (sym (ap (λ (u : View). u.signature) keeps) ∙ grows) in
         let is : w ≡ with_entry v e = keeps ∙ ap (with_entry v) same in
         subst (λ u. Reports v u report e) (sym is)
-        (of_new v report e (says ∙ ap (λ g. told v (entry_line v g)) same) (subst IsViewInOrder is in_order) i (subst (λ u. HasRoom (scene_of u)) is room))
+        (of_new v report e (says ∙ ap (entry_report v) same) (subst IsViewInOrder is in_order) i (subst (λ u. HasRoom (scene_of u)) is room))
 
     by_declaration : (d : Declaration) → Does v d report w → Reports v w report e
     by_declaration (declare c at U) h = by_entry h.entry h.keeps h.says

@@ -18,6 +18,7 @@ use Rattle.tw_recon.specs.Hints.{written_hints}
 use Rattle.law_reading_back.specs.Names.{IsName, AreGoodHints, PreferNames, HasRoom, HasNoImplicit}
 use Rattle.tw_decl.specs.View.{View, empty_view, reset_view, with_chatter, with_implicit, with_steps, with_entry, scene_of, told, IsSound}
 use Rattle.tw_decl.specs.Declaration.{Makes, Accepts, AcceptsFrom}
+use Rattle.tw_decl.specs.Reports.{Reported, lines_alone}
 use Rattle.tw_ports.specs.Files.{Held}
 use Rattle.tw_server.specs.Machine.{Step}
 use Rattle.tw_server.specs.Outcome.{RanTo}
@@ -57,14 +58,14 @@ SettingKeepsOrder = (v : View) (n : ℕ) (b : Bool) → IsViewInOrder v → IsVi
 
 -- and so does a declaration that is made
 abbrev pub MakingKeepsOrder : Type 0
-MakingKeepsOrder = (v w : View) (words : List Lexeme) (report : List ℕ) → AreSpelled words → Makes v words report w → IsViewInOrder v → IsViewInOrder w
+MakingKeepsOrder = (v w : View) (words : List Lexeme) (report : Reported) → AreSpelled words → Makes v words report w → IsViewInOrder v → IsViewInOrder w
 
 -- so a text that is accepted, alone or among others, keeps the session in order
 abbrev pub AcceptingKeepsOrder : Type 0
-AcceptingKeepsOrder = (v w : View) (text report : List ℕ) → Accepts v text report w → IsViewInOrder v → IsViewInOrder w
+AcceptingKeepsOrder = (v w : View) (text : List ℕ) (report : Reported) → Accepts v text report w → IsViewInOrder v → IsViewInOrder w
 
 abbrev pub AcceptingFromKeepsOrder : Type 0
-AcceptingFromKeepsOrder = (v w : View) (text report : List ℕ) (from upto : ℕ) → AcceptsFrom v text from report upto w → IsViewInOrder v → IsViewInOrder w
+AcceptingFromKeepsOrder = (v w : View) (text : List ℕ) (report : Reported) (from upto : ℕ) → AcceptsFrom v text from report upto w → IsViewInOrder v → IsViewInOrder w
 
 -- and so does a step of the program, whatever its command is
 abbrev pub StepKeepsOrder : Type 0
@@ -96,18 +97,18 @@ NewReadsBack = (v : View) (e : Entry) → IsViewInOrder (with_entry v e) → v.p
     → HasPlainLine (scene_after (scene_of v) e) e → LineReadsBack (scene_after (scene_of v) e) v.signature v.fixities e
 
 -- A report of this entry: its line, which is read back by the session before, if it is open, or nothing is implicit and no percent sign is in it but that of its keyword.
-pub record Reports (v w : View) (report : List ℕ) (e : Entry) : Type 0 where
-  pub shows : report ≡ told v (declaration_line (scene_of w) e ++ codes "\n")
+pub record Reports (v w : View) (report : Reported) (e : Entry) : Type 0 where
+  pub shows : report ≡ lines_alone (told v (declaration_line (scene_of w) e ++ codes "\n"))
   pub open_reads_back : HasOpenLine (scene_of w) e → LineReadsBack (scene_of w) v.signature v.fixities e
   pub reads_back : HasNoImplicit (scene_of w) → HasPlainLine (scene_of w) e → LineReadsBack (scene_of w) v.signature v.fixities e
 
 -- what an accepted declaration of an entry reports reads back
 abbrev pub ReportReadsBack : Type 0
-ReportReadsBack = (v w : View) (text report : List ℕ) (e : Entry) → Accepts v text report w → w.signature ≡ e ∷ v.signature → IsViewInOrder v → v.parameters.implicit ≡ false → HasRoom (scene_of w) → Reports v w report e
+ReportReadsBack = (v w : View) (text : List ℕ) (report : Reported) (e : Entry) → Accepts v text report w → w.signature ≡ e ∷ v.signature → IsViewInOrder v → v.parameters.implicit ≡ false → HasRoom (scene_of w) → Reports v w report e
 
 -- the same of a declaration in a text of several
 abbrev pub ReportFromReadsBack : Type 0
-ReportFromReadsBack = (v w : View) (text report : List ℕ) (from upto : ℕ) (e : Entry) → AcceptsFrom v text from report upto w → w.signature ≡ e ∷ v.signature → IsViewInOrder v → v.parameters.implicit ≡ false → HasRoom (scene_of w)
+ReportFromReadsBack = (v w : View) (text : List ℕ) (report : Reported) (from upto : ℕ) (e : Entry) → AcceptsFrom v text from report upto w → w.signature ≡ e ∷ v.signature → IsViewInOrder v → v.parameters.implicit ≡ false → HasRoom (scene_of w)
     → Reports v w report e
 
 -- a line that reads back over a session whose signature is canonical, within the limits, is accepted by that session

@@ -12,6 +12,7 @@ use Rattle.law_reading_back.specs.Laws.{IsOpenDefinition, IsOpenEntry, ReadsAs, 
 use Rattle.law_reading_back.specs.Names.{EachIs, IsPlainByte, HasRoom, HasGoodNames, AreGoodHints, HasGoodPreferences, HasGoodRows, HasNoImplicit}
 use Rattle.tw_decl.specs.View.{View, scene_of, with_entry, IsSound}
 use Rattle.tw_decl.specs.Declaration.{Accepts}
+use Rattle.tw_decl.specs.Reports.{Reported}
 
 -- The signature is canonical; the names of entries, their hints and the preferred names are identifiers without a fixed meaning; the newest entry
 -- of an operator takes as many arguments as it has operands.
@@ -61,7 +62,7 @@ pub record IsWithinLimits (text : List ℕ) : Type 0 where
 
 -- the text alone is accepted, and declares an entry of the same name and body
 pub record AcceptsAgain (v : View) (text : List ℕ) (e : Entry) : Type 0 where
-  pub report : List ℕ
+  pub report : Reported
   pub entry : Entry
   pub accepts : Accepts v text report (with_entry v entry)
   pub name : entry.name ≡ e.name

@@ -15,6 +15,7 @@ use Rattle.tw_parse.specs.declared.words.Word.{Word}
 use Rattle.tw_parse.specs.declared.words.Word.TheVariants.{Name, Underscore, Keyword}
 use Rattle.tw_decl.specs.View.{View}
 use Rattle.tw_decl.specs.Declaration.{AcceptsFrom}
+use Rattle.tw_decl.specs.Reports.{Reported}
 
 -- a declaration may begin with this word
 abbrev begins : Word → Bool
@@ -53,7 +54,7 @@ goes_ahead text from upto (t ∷ ts) l h b =
     (omega (arith, i.later, long, lies.later), lies.within)
 
 -- what is accepted reaches beyond where it begins, and not beyond its text
-pub accepted_ahead : (v w : View) (text report : List ℕ) (from upto : ℕ) → from ≤ length text → AcceptsFrom v text from report upto w → (from < upto) × (upto ≤ length text)
+pub accepted_ahead : (v w : View) (text : List ℕ) (report : Reported) (from upto : ℕ) → from ≤ length text → AcceptsFrom v text from report upto w → (from < upto) × (upto ≤ length text)
 accepted_ahead v w text report from upto l h =
     let shaped = shape_begins v.fixities h.words h.makes.reads.reads.0 h.makes.reads.reads.1 in
     goes_ahead text from upto h.written.tokens l h.written.through (ap (λ (ws : List Lexeme). begins (first_word ws)) (sym h.written.spelled) ∙ shaped)

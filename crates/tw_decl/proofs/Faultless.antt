@@ -16,7 +16,7 @@ read_faultless table end words d read shaped (faults.Unsupported name place) h =
     let clash : true ≡ false = sym (read.0 h.0) ∙ h.1 in
     cc
 read_faultless table end words d read shaped (faults.Nesting place) h = let e = sym read.1 ∙ h.1 in cc
-read_faultless table end words d read shaped (faults.Syntax place) h = absurd (no_stop table end place words h.1 shaped.0 shaped.1)
+read_faultless table end words d read shaped (faults.Syntax place) h = absurd (no_stop table end place words h.1.0 shaped.0 shaped.1)
 read_faultless table end words d read shaped (faults.Fixity place) h = let once = one_reading table words d shaped in absurd (once.1 h.1.0 place h.1.1 h.1.2)
-read_faultless table end words d read shaped (faults.BadDecl place) h = absurd (h.1.2 shaped.0 shaped.1)
+read_faultless table end words d read shaped (faults.BadDecl place) h = absurd (h.1.2 d shaped)
 read_faultless table end words d read shaped faults.NoMemory h = refl

@@ -20,7 +20,8 @@ use Rattle.law_explicit_agrees.specs.Reconstructed.{MayBeRefused}
 use Rattle.law_explicit_agrees.proofs.Full.{no_lambda, no_name, no_type}
 use Rattle.law_explicit_agrees.proofs.Only.{no_other_cause}
 use Rattle.tw_decl.specs.View.{View, IsSound}
-use Rattle.tw_decl.specs.Declaration.{IsWritten, IsWrittenAlone, IsReadAs, IsFaultBehind, HasObstacle, IsNotMade, IsFirstCause, IsFollowed, IsLastCause, IsCause, IsCauseAlone, HasNoMore}
+use Rattle.tw_decl.specs.Declaration.{IsWritten, IsWrittenAlone, IsReadAs, IsFaultBehind, IsNotMade, IsFirstCause, IsFollowed, IsLastCause, IsCause, IsCauseAlone, HasNoMore}
+use Rattle.tw_decl.specs.Obstacles.{IsNotEntered, HasObstacle}
 use Rattle.tw_decl.specs.Laws.{IsWellTyped, IsCompletable, IsGoodDeclaration, IsGood, IsGoodFrom, GoodIsAccepted, GoodFromIsAccepted}
 use Rattle.tw_decl.proofs.Faultless.{read_faultless}
 use Rattle.tw_decl.specs.declared.refusal.Refusal.{Refusal}
@@ -76,7 +77,6 @@ module _ (v : View) (c : List ℕ) (at : Place) (U : Term) (first : Place) (s : 
   plain_obstacle (Mismatch place) h = absurd (refused reconstructions.Mismatch h.0 t.entry t.completes)
   plain_obstacle (Leftover place text) ((left, h, e), there) = absurd (refused (reconstructions.Leftover left) h)
   plain_obstacle (TooDeep place) h = absurd (t.shallow h.0)
-  plain_obstacle (BadDecl place) h = absurd h.0
   plain_obstacle refusal h = absurd h
 
 -- no refusal of a declaration that is read has a cause
@@ -108,27 +108,20 @@ module _ (v : View) (d : Declaration) (k : IsCompletable v d) where
   no_mismatch (inl (o, clash)) = clash (frees_of k.rows) k.is_written.omitted k.is_written.skeletons.fits
   no_mismatch (inr (rs, w, h, none)) = let (c, g) = k.completes rs w h in none c g
 
+  nothing_stops : (first : Place) (refusal : Refusal) → IsNotEntered v d first refusal → refusal ≡ Memory
+  nothing_stops first Memory h = refl
+  nothing_stops first (Unknown place name) h = absurd (no_unknown name place h)
+  nothing_stops first (Unsupported place shown) (inl h, e) = absurd (no_type_level None h.0)
+  nothing_stops first (Unsupported place shown) (inr h, e) = absurd (no_type_level (Some place) h)
+  nothing_stops first (Loose place) h = absurd (no_loose h.0)
+  nothing_stops first (Mismatch place) h = absurd (no_mismatch h.0)
+  nothing_stops first (Leftover place text) ((left, h, e), there) = absurd (k.none_left left h)
+  nothing_stops first (TooDeep place) h = absurd (k.shallow h.0)
+  nothing_stops first refusal h = absurd h
+
 completable : (v : View) (d : Declaration) → IsCompletable v d → NoObstacle v d
-completable v (declare c at U) k first Memory h = refl
-completable v (declare c at U) k first (Unknown place name) h = absurd (no_unknown v (declare c at U) k name place h)
-completable v (declare c at U) k first (Unsupported place shown) (inl h, e) = absurd (no_type_level v (declare c at U) k None h.0)
-completable v (declare c at U) k first (Unsupported place shown) (inr h, e) = absurd (no_type_level v (declare c at U) k (Some place) h)
-completable v (declare c at U) k first (Loose place) h = absurd (no_loose v (declare c at U) k h.0)
-completable v (declare c at U) k first (Mismatch place) h = absurd (no_mismatch v (declare c at U) k h.0)
-completable v (declare c at U) k first (Leftover place text) ((left, h, e), there) = absurd (k.none_left left h)
-completable v (declare c at U) k first (TooDeep place) h = absurd (k.shallow h.0)
-completable v (declare c at U) k first (BadDecl place) h = absurd h.0
-completable v (declare c at U) k first refusal h = absurd h
-completable v (define c A M b) k first Memory h = refl
-completable v (define c A M b) k first (Unknown place name) h = absurd (no_unknown v (define c A M b) k name place h)
-completable v (define c A M b) k first (Unsupported place shown) (inl h, e) = absurd (no_type_level v (define c A M b) k None h.0)
-completable v (define c A M b) k first (Unsupported place shown) (inr h, e) = absurd (no_type_level v (define c A M b) k (Some place) h)
-completable v (define c A M b) k first (Loose place) h = absurd (no_loose v (define c A M b) k h.0)
-completable v (define c A M b) k first (Mismatch place) h = absurd (no_mismatch v (define c A M b) k h.0)
-completable v (define c A M b) k first (Leftover place text) ((left, h, e), there) = absurd (k.none_left left h)
-completable v (define c A M b) k first (TooDeep place) h = absurd (k.shallow h.0)
-completable v (define c A M b) k first (BadDecl place) h = absurd h.0
-completable v (define c A M b) k first refusal h = absurd h
+completable v (declare c at U) k first refusal h = nothing_stops v (declare c at U) k first refusal h
+completable v (define c A M b) k first refusal h = nothing_stops v (define c A M b) k first refusal h
 completable v (prefer a x y) k first refusal h = let clash : None ≡ Some k.written = k.is_written.resolved in absurd cc
 completable v (give fix names) k first refusal h = let clash : None ≡ Some k.written = k.is_written.resolved in absurd cc
 

@@ -4,16 +4,17 @@ use Rattle.tw_parse.specs.Syntax.{Declaration, declare, define, prefer, give}
 use Rattle.tw_parse.specs.Words.{Lexeme}
 use Rattle.tw_decl.specs.View.{View, IsSound}
 use Rattle.tw_decl.specs.Declaration.{Does, Makes}
+use Rattle.tw_decl.specs.Reports.{Reported}
 use Rattle.tw_decl.specs.Laws.{AcceptingKeepsSound, AcceptingFromKeepsSound}
 
-does_sound : (v w : View) (d : Declaration) (report : List ℕ) → Does v d report w → IsSound v → IsSound w
+does_sound : (v w : View) (d : Declaration) (report : Reported) → Does v d report w → IsSound v → IsSound w
 does_sound v w (declare c at U) report h s = subst IsSound (sym h.keeps) (s, h.stands)
 does_sound v w (define None A M b) report h s = subst IsSound (sym h.keeps) s
 does_sound v w (define (Some c) A M b) report h s = subst IsSound (sym h.keeps) (s, h.stands)
 does_sound v w (prefer a x y) report h s = subst IsSound (sym h.keeps) s
 does_sound v w (give fix names) report h s = subst IsSound (sym h.keeps) s
 
-makes_sound : (v w : View) (words : List Lexeme) (report : List ℕ) → Makes v words report w → IsSound v → IsSound w
+makes_sound : (v w : View) (words : List Lexeme) (report : Reported) → Makes v words report w → IsSound v → IsSound w
 makes_sound v w words report h s = does_sound v w h.declaration report h.does s
 
 pub accepted_sound : AcceptingKeepsSound

@@ -1,5 +1,5 @@
 -- A declaration's text: when it is made, with its report and the view after it, and when it is refused.
-use Rattle.std.specs.Prelude.{◌≡◌, ◌≢◌, ◌⊎◌, ℕ, List, ◌++◌, map as each, Bool, true, false, codes, Option, None, Some, IsSome, Ok, Err, if◌then◌else◌}
+use Rattle.std.specs.Prelude.{◌≡◌, ◌≢◌, ◌⊎◌, ℕ, List, ◌++◌, Bool, true, false, codes, Option, None, Some, Ok, Err, if◌then◌else◌}
 use Rattle.std.specs.FinMap as map
 use Rattle.lf.specs.Entries.{Entry, entry, signature_of, IsCanonicalEntry}
 use Rattle.tw_fixity.specs.declared.table.Fix.{Fix}
@@ -10,24 +10,19 @@ use Rattle.tw_lexer.specs.declared.token.Token.{Token}
 use Rattle.tw_lexer.specs.declared.token.TokenKind.TheVariants.{End}
 use Rattle.tw_parse.specs.Faults.{IsRead, FaultStands}
 use Rattle.tw_parse.specs.Readings.{Declares}
-use Rattle.tw_parse.specs.Syntax.{Declaration, define, prefer, give}
+use Rattle.tw_parse.specs.Syntax.{Declaration, declare, define, prefer, give}
 use Rattle.tw_parse.specs.declared.decl.ExtName.{ExtName}
 use Rattle.tw_parse.specs.Words.{Lexeme, lexemes, first_place}
 use Rattle.tw_parse.specs.declared.fault.SyntaxFault.TheVariants as faults
 use Rattle.tw_print.specs.Shown.{declaration_line, scene_after}
-use Rattle.tw_equation.specs.Text.{equation_text}
-use Rattle.tw_metas.specs.View.{equation_of}
-use Rattle.tw_recon.specs.Causes as reconstruction
 use Rattle.tw_recon.specs.Reconstruction.{IsReconstructed}
-use Rattle.tw_recon.specs.declared.fault.ReconFault.{ReconFault}
-use Rattle.tw_recon.specs.declared.fault.ReconFault.TheVariants as reconstructions
-use Rattle.tw_metas.specs.Named.{shown_type_of}
-use Rattle.tw_metas.specs.declared.left.LeftEquation.{LeftEquation}
 use Rattle.tw_decl.specs.View.{View, scene_of, told, with_entry}
 use Rattle.tw_signature.specs.Names.{number_of}
-use Rattle.tw_decl.specs.Operators.{newest, operand_count, all_take, first_undeclared, with_rows, fixity_line}
+use Rattle.tw_decl.specs.Obstacles.{HasObstacle}
+use Rattle.tw_decl.specs.Operators.{operand_count, all_take, first_undeclared, with_rows, fixity_line}
 use Rattle.tw_decl.specs.Preferences.{is_family, preference_line}
 use Rattle.tw_decl.specs.Refusals.{refusal_line}
+use Rattle.tw_decl.specs.Reports.{Reported, lines_alone, reported}
 use Rattle.tw_decl.specs.declared.declaration.Next.{Next}
 use Rattle.tw_decl.specs.declared.declaration.Next.TheVariants as nexts
 use Rattle.tw_decl.specs.declared.refusal.Refusal.{Refusal}
@@ -51,9 +46,9 @@ pub record IsReadAs (v : View) (words : List Lexeme) (d : Declaration) : Type 0 
 unfoldable pub entry_line : View → Entry → List ℕ
 entry_line v e = declaration_line (scene_after (scene_of v) e) e ++ codes "\n"
 
--- what is told of an entry that is kept
-abbrev pub entry_report : View → Entry → List ℕ
-entry_report v e = told v (entry_line v e)
+-- what is reported of an entry that is kept
+abbrev pub entry_report : View → Entry → Reported
+entry_report v e = lines_alone (told v (entry_line v e))
 
 -- a definition without a name
 abbrev pub is_unnamed : Declaration → Bool
@@ -65,7 +60,7 @@ abbrev pub keeping : View → Declaration → Entry → View
 keeping v d e = if is_unnamed d then v else with_entry v e
 
 -- a constant, family or definition: its reconstruction may stand over the signature and is kept, if it has a name, and the report shows it
-pub record Enters (v : View) (d : Declaration) (report : List ℕ) (w : View) : Type 0 where
+pub record Enters (v : View) (d : Declaration) (report : Reported) (w : View) : Type 0 where
   pub entry : Entry
   pub reconstructs : IsReconstructed v.signature d entry
   pub stands : IsCanonicalEntry (signature_of v.signature) entry
@@ -73,28 +68,29 @@ pub record Enters (v : View) (d : Declaration) (report : List ℕ) (w : View) : 
   pub keeps : w ≡ keeping v d entry
 
 -- operators: each name is declared, and takes as many arguments as the operator has operands; it gets the row
-pub record GivesRows (v : View) (fix : Fix) (names : List ExtName) (report : List ℕ) (w : View) : Type 0 where
+pub record GivesRows (v : View) (fix : Fix) (names : List ExtName) (report : Reported) (w : View) : Type 0 where
   pub declared : first_undeclared v.signature names ≡ None
   pub all_fit : all_take v.signature (operand_count fix) names ≡ true
-  pub says : report ≡ told v (fixity_line fix names)
+  pub says : report ≡ lines_alone (told v (fixity_line fix names))
   pub keeps : w ≡ record v { fixities = with_rows v.fixities fix names }
 
 -- preferred names of a declared family: an earlier row of it goes
-pub record Prefers (v : View) (a : ExtName) (x : List ℕ) (y : Option (List ℕ)) (report : List ℕ) (w : View) : Type 0 where
+pub record Prefers (v : View) (a : ExtName) (x : List ℕ) (y : Option (List ℕ)) (report : Reported) (w : View) : Type 0 where
   pub family : ℕ
   pub named : number_of v.signature a.name ≡ Some family
   pub is_one : is_family (entry v.signature family) ≡ true
-  pub says : report ≡ told v (preference_line a.name x y)
+  pub says : report ≡ lines_alone (told v (preference_line a.name x y))
   pub keeps : w ≡ record v { names = map.insert v.names family (x, y) }
 
 -- what a declaration does
-abbrev pub Does : View → Declaration → List ℕ → View → Type 0
-Does v (give fix names) report w = GivesRows v fix names report w
+abbrev pub Does : View → Declaration → Reported → View → Type 0
+Does v (declare c at U) report w = Enters v (declare c at U) report w
+Does v (define c A M b) report w = Enters v (define c A M b) report w
 Does v (prefer a x y) report w = Prefers v a x y report w
-Does v d report w = Enters v d report w
+Does v (give fix names) report w = GivesRows v fix names report w
 
 -- a declaration that is made
-pub record Makes (v : View) (words : List Lexeme) (report : List ℕ) (w : View) : Type 0 where
+pub record Makes (v : View) (words : List Lexeme) (report : Reported) (w : View) : Type 0 where
   pub declaration : Declaration
   pub reads : IsReadAs v words declaration
   pub does : Does v declaration report w
@@ -106,48 +102,6 @@ IsFirstCause v end words (refusals.Unsupported place name) = FaultStands v.fixit
 IsFirstCause v end words (refusals.Nesting place) = FaultStands v.fixities end words (faults.Nesting place)
 IsFirstCause v end words (refusals.Syntax place) = FaultStands v.fixities end words (faults.Syntax place)
 IsFirstCause v end words _ = ⊥
-
--- the fault of a reconstruction, where there has to be one
-abbrev pub ReconstructionFails : View → Declaration → ReconFault → Type 0
-ReconstructionFails v (give fix names) fault = ⊥
-ReconstructionFails v (prefer a x y) fault = ⊥
-ReconstructionFails v d fault = reconstruction.HasCause v.signature d fault
-
--- A definition or a lambda stands at the level of types: the fault is told at the declaration's first token, or at the lambda's bracket.
-abbrev pub IsTypeLevel : View → Declaration → Place → Place → Type 0
-IsTypeLevel v d first place = (ReconstructionFails v d (reconstructions.TypeLevel None) × (place ≡ first)) ⊎ ReconstructionFails v d (reconstructions.TypeLevel (Some place))
-
--- the text of an equation that is left
-abbrev pub left_text : View → LeftEquation → List ℕ
-left_text v left = equation_text (scene_of v) (each shown_type_of left.metas.items) left.names.items (equation_of left.equation)
-
--- an equation with this text is left
-abbrev pub IsLeft : View → Declaration → List ℕ → Type 0
-IsLeft v d text = (left : LeftEquation) × ReconstructionFails v d (reconstructions.Leftover left) × (text ≡ left_text v left)
-
--- the first name that names nothing: of those that get a row, the family, or in a term
-abbrev pub IsUnknown : View → Declaration → List ℕ → Place → Type 0
-IsUnknown v (give fix names) name place = first_undeclared v.signature names ≡ Some (record { name = name; at = place })
-IsUnknown v (prefer a x y) name place = (number_of v.signature a.name ≡ None) × (name ≡ a.name) × (place ≡ a.at)
-IsUnknown v d name place = reconstruction.HasCause v.signature d (reconstructions.Unknown name place)
-
--- the names are declared, and are not of the sort that the keyword asks for
-abbrev pub IsBad : View → Declaration → Type 0
-IsBad v (give fix names) = (first_undeclared v.signature names ≡ None) × (all_take v.signature (operand_count fix) names ≡ false)
-IsBad v (prefer a x y) = IsSome (number_of v.signature a.name) × (is_family (newest v.signature a.name) ≡ false)
-IsBad v d = ⊥
-
--- why a declaration that is read isn't made, where its first token stands at this place
-abbrev pub HasObstacle : View → Declaration → Place → Refusal → Type 0
-HasObstacle v d first refusals.Memory = Unit {0}
-HasObstacle v d first (refusals.BadDecl place) = IsBad v d × (place ≡ first)
-HasObstacle v d first (refusals.Unknown place name) = IsUnknown v d name place
-HasObstacle v d first (refusals.Unsupported place shown) = IsTypeLevel v d first place × (shown ≡ codes "type")
-HasObstacle v d first (refusals.Loose place) = ReconstructionFails v d reconstructions.Loose × (place ≡ first)
-HasObstacle v d first (refusals.Mismatch place) = ReconstructionFails v d reconstructions.Mismatch × (place ≡ first)
-HasObstacle v d first (refusals.Leftover place text) = IsLeft v d text.items × (place ≡ first)
-HasObstacle v d first (refusals.TooDeep place) = ReconstructionFails v d reconstructions.TooDeep × (place ≡ first)
-HasObstacle v d first _ = ⊥
 
 -- the words are a declaration that isn't made
 pub record IsNotMade (v : View) (end : Place) (words : List Lexeme) (refusal : Refusal) : Type 0 where
@@ -185,14 +139,14 @@ pub record IsWrittenAlone (text : List ℕ) (words : List Lexeme) (end : Place) 
   pub follower : first_token text upto ≡ Ok next
 
 -- The declaration that begins at this byte of a text is accepted: its report, the byte behind its dot, and the view after it.
-pub record AcceptsFrom (v : View) (text : List ℕ) (from : ℕ) (report : List ℕ) (upto : ℕ) (w : View) : Type 0 where
+pub record AcceptsFrom (v : View) (text : List ℕ) (from : ℕ) (report : Reported) (upto : ℕ) (w : View) : Type 0 where
   pub words : List Lexeme
   pub end : Place
   pub written : IsWritten text from upto words end
   pub makes : Makes v words report w
 
 -- a text that is one declaration is accepted, with nothing but comments and white space behind the dot
-pub record Accepts (v : View) (text report : List ℕ) (w : View) : Type 0 where
+pub record Accepts (v : View) (text : List ℕ) (report : Reported) (w : View) : Type 0 where
   pub words : List Lexeme
   pub end : Place
   pub next : Token
@@ -207,7 +161,7 @@ HasNoMore text from = (only : Token) × (first_token text from ≡ Ok only) × (
 -- what comes next in a text of declarations: none, or one that is made
 abbrev pub Comes : View → List ℕ → ℕ → Next → View → Type 0
 Comes v text from nexts.End w = HasNoMore text from × (w ≡ v)
-Comes v text from (nexts.Done report upto at) w = AcceptsFrom v text from report.text.items upto w × (at ≡ place_of text upto)
+Comes v text from (nexts.Done report upto at) w = AcceptsFrom v text from (reported report) upto w × (at ≡ place_of text upto)
 
 -- The cause of a refusal of the declaration that begins at this byte; want of memory has none.
 abbrev pub HasCauseFrom : View → List ℕ → ℕ → Refusal → Type 0

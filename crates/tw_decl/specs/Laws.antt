@@ -17,16 +17,17 @@ use Rattle.tw_resolve.specs.Resolved.{skeletons_of}
 use Rattle.tw_metas.specs.declared.left.LeftEquation.{LeftEquation}
 use Rattle.tw_decl.specs.View.{View, IsSound}
 use Rattle.tw_decl.specs.Declaration.{IsWritten, IsWrittenAlone, IsReadAs, Accepts, AcceptsFrom, HasCause, HasCauseFrom}
+use Rattle.tw_decl.specs.Reports.{Reported}
 use Rattle.tw_decl.specs.declared.refusal.Refusal.{Refusal}
 use Rattle.tw_decl.specs.declared.refusal.Refusal.TheVariants.{Memory}
 
 -- a declaration that is accepted keeps the signature canonical
 abbrev pub AcceptingKeepsSound : Type 0
-AcceptingKeepsSound = (v w : View) (text report : List ℕ) → Accepts v text report w → IsSound v → IsSound w
+AcceptingKeepsSound = (v w : View) (text : List ℕ) (report : Reported) → Accepts v text report w → IsSound v → IsSound w
 
 -- the same of a declaration in a text of several
 abbrev pub AcceptingFromKeepsSound : Type 0
-AcceptingFromKeepsSound = (v w : View) (text report : List ℕ) (from upto : ℕ) → AcceptsFrom v text from report upto w → IsSound v → IsSound w
+AcceptingFromKeepsSound = (v w : View) (text : List ℕ) (report : Reported) (from upto : ℕ) → AcceptsFrom v text from report upto w → IsSound v → IsSound w
 
 -- An explicit declaration that is well typed: it has a completion, and nothing in its reconstruction is deeper than the limit.
 pub record IsWellTyped (v : View) (d : Declaration) : Type 0 where

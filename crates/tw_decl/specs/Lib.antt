@@ -1,8 +1,10 @@
 pub mod View
 pub mod ViewCode
 pub mod Refusals
+pub mod Reports
 pub mod Operators
 pub mod Preferences
+pub mod Obstacles
 pub mod Declaration
 pub mod Steps
 pub mod Undoing

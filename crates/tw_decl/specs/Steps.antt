@@ -12,13 +12,13 @@ use Rattle.tw_parse.specs.Words.{Lexeme}
 use Rattle.tw_parse.specs.declared.decl.ExtDecl.{ExtDecl}
 use Rattle.tw_parse.specs.declared.fault.SyntaxFault.{SyntaxFault}
 use Rattle.tw_parse.specs.declared.fault.SyntaxFault.TheVariants as faults
-use Rattle.tw_parse.specs.Syntax.{Declaration, declare, define, prefer, give}
 use Rattle.tw_parse.specs.declared.decl.ExtName.{ExtName}
 use Rattle.tw_recon.specs.declared.fault.ReconFault.{ReconFault}
 use Rattle.tw_recon.specs.declared.fault.ReconFault.TheVariants as reconstructions
 use Rattle.tw_metas.specs.declared.left.LeftEquation.{LeftEquation}
 use Rattle.tw_decl.specs.View.{View}
-use Rattle.tw_decl.specs.Declaration.{IsReadAs, left_text}
+use Rattle.tw_decl.specs.Declaration.{IsReadAs}
+use Rattle.tw_decl.specs.Obstacles.{left_text}
 use Rattle.tw_decl.specs.declared.refusal.Refusal.{Refusal}
 use Rattle.tw_decl.specs.declared.refusal.Refusal.TheVariants as refusals
 
@@ -66,13 +66,6 @@ abbrev pub NamesUnknown : ExtName → Refusal → Type 0
 NamesUnknown x refusals.Memory = Unit {0}
 NamesUnknown x (refusals.Unknown place name) = (place ≡ x.at) × (name ≡ x.name)
 NamesUnknown x _ = ⊥
-
--- what has to be reconstructed
-abbrev pub IsPlain : Declaration → Type 0
-IsPlain (declare c at U) = Unit {0}
-IsPlain (define c A M b) = Unit {0}
-IsPlain (prefer a x y) = ⊥
-IsPlain (give fix names) = ⊥
 
 -- want of memory, or this name at this place as a form that is unknown
 abbrev pub ShowsType : Place → Refusal → Type 0

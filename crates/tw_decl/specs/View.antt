@@ -7,23 +7,33 @@ use Rattle.tw_parse.specs.Outlines.{Table}
 use Rattle.tw_print.specs.Names.{Preferences, Scene}
 use Rattle.tw_decl.specs.declared.parameters.Parameters.{Parameters}
 
--- the entries kept, the newest first; the rows of the operators; for families the names that their variables are shown by; and what the user has set
+-- What the declarations that check the signature add: modes, blocks, worlds and their rows, records of totality, frozen
+-- families. No such declaration is made yet, so there is nothing.
+pub record Checked : Type 0 where
+
+abbrev pub nothing_checked : Checked
+nothing_checked = record {}
+
+-- The entries kept, the newest first; the rows of the operators; for families the names that their variables are shown by;
+-- what was checked; what the user has set; and the files that the configuration names that was read last, if one was.
 pub record View : Type 0 where
   pub signature : List Entry
   pub fixities : Table
   pub names : FinMap nat_cmp Preferences
+  pub checked : Checked
   pub parameters : Parameters
+  pub config : List (List ℕ)
 
 -- what is set at first
 abbrev pub first_parameters : Parameters
 first_parameters = record { chatter = 3; implicit = false; steps = 1000000 }
 
 abbrev pub empty_view : View
-empty_view = record { signature = []; fixities = empty; names = empty; parameters = first_parameters }
+empty_view = record { signature = []; fixities = empty; names = empty; checked = nothing_checked; parameters = first_parameters; config = [] }
 
--- nothing is declared any more; what the user has set stays
+-- nothing is declared or checked any more; what the user has set stays, and so does the configuration
 abbrev pub reset_view : View → View
-reset_view v = record { signature = []; fixities = empty; names = empty; parameters = v.parameters }
+reset_view v = record { signature = []; fixities = empty; names = empty; checked = nothing_checked; parameters = v.parameters; config = v.config }
 
 -- one parameter is set
 abbrev pub with_chatter : View → ℕ → View

@@ -3,21 +3,23 @@ ghost use Rattle.std.specs.Prelude.{◌≡◌, ◌≢◌, ◌≤◌, ◌<◌, �
 ghost use Rattle.tw_lexer.specs.Places.{place_of};
 ghost use Rattle.tw_lexer.specs.Tokens.{IsWithin, Lexes, ThroughDot};
 ghost use Rattle.tw_lexer.specs.declared.place.Place.{Place};
-ghost use Rattle.tw_parse.specs.Syntax.{Declaration, prefer, give};
 ghost use Rattle.tw_parse.specs.View.{declaration_of};
 ghost use Rattle.tw_parse.specs.Words.{first_place, Lexeme, lexemes};
 ghost use Rattle.tw_recon.specs.Reconstruction.{IsReconstructed};
 ghost use Rattle.tw_signature.specs.View.{entry_of};
 ghost use Rattle.lf.specs.Entries.{signature_of, IsCanonicalEntry};
 ghost use Rattle.tw_print.specs.ShowEnv.{scene_of};
-ghost use Rattle.tw_decl.specs.View.{View, told};
+ghost use Rattle.tw_decl.specs.View.{View};
 ghost use Rattle.tw_decl.specs.View.{scene_of as scene_of_view};
-ghost use Rattle.tw_decl.specs.Declaration.{Accepts, HasCause, HasCauseFrom, Comes, Does, entry_line, entry_report, GivesRows, HasObstacle, IsCauseAlone, IsReadAs, is_unnamed, keeping, Prefers};
-ghost use Rattle.tw_decl.specs.Steps.{IsParsed, IsPlain, IsRefusedFor, NamesUnknown, IsTokenCause, is_first, is_over, refusal_of, refused_alone, ShowsLeft, ShowsType};
+ghost use Rattle.tw_decl.specs.Declaration.{Accepts, HasCause, HasCauseFrom, Comes, Does, Enters, entry_line, entry_report, GivesRows, IsCauseAlone, IsReadAs, is_unnamed, keeping, Prefers};
+ghost use Rattle.tw_decl.specs.Obstacles.{HasObstacle, IsNotEntered, IsNotGiven, IsNotPreferred};
+ghost use Rattle.tw_decl.specs.Reports.{reported};
+ghost use Rattle.tw_decl.specs.Steps.{IsParsed, IsRefusedFor, NamesUnknown, IsTokenCause, is_first, is_over, refusal_of, refused_alone, ShowsLeft, ShowsType};
 
 use crate::operators::{all_take, first_undeclared, fixity_line, operand_count};
 use crate::preferences::{is_family, preference, preference_line};
 use crate::refusal::Refusal;
+use crate::report::{REPORTS_FROM, Report, lines_alone, told};
 use crate::session::Session;
 use std::alloc::{AllocError, Global};
 use tw_equation::show_equation;
@@ -28,16 +30,6 @@ use tw_parse::{ExtDecl, ExtName, SyntaxFault, parse_decl};
 use tw_print::{ShowEnv, show_entry};
 use tw_recon::{ReconFault, reconstruct};
 use tw_signature::Entry;
-
-/// From how much chatter on accepted declarations are reported.
-const REPORTS_FROM: u8 = 3;
-
-/// What an accepted declaration says.
-#[derive(Debug, Drop)]
-pub struct Report {
-    /// Whole lines; none where the chatter is below 3.
-    pub text: Vec<u8>,
-}
 
 /// What comes next in a text of declarations.
 #[derive(Debug, Drop)]
@@ -211,27 +203,13 @@ fn line_of(alloc: Global, session: &Session, entry: &Entry) -> Result<Vec<u8>, A
 // What is reported of an entry that is kept.
 fn report_of(alloc: Global, session: &Session, entry: &Entry) -> Result<Report, AllocError>
     requires { IsCanonicalEntry (signature_of session.now.signature) (entry_of entry.now) }
-    ensures { IfOk result (λ report. report.text.items ≡ entry_report session.now (entry_of entry.now)) }
+    ensures { IfOk result (λ report. reported report ≡ entry_report session.now (entry_of entry.now)) }
 {
     if session.parameters().chatter < REPORTS_FROM {
-        return Ok(Report {
-            text: Vec::new(alloc),
-        });
+        return Ok(lines_alone(Vec::new(alloc)));
     }
     let text = line_of(alloc, session, entry)?;
-    Ok(Report { text })
-}
-
-// What is reported of a line.
-fn told(alloc: Global, session: &Session, line: Vec<u8>) -> Report
-    ensures { result.text.items ≡ told session.now line.items }
-{
-    if session.parameters().chatter < REPORTS_FROM {
-        return Report {
-            text: Vec::new(alloc),
-        };
-    }
-    Report { text: line }
+    Ok(lines_alone(text))
 }
 
 // The entry of a declaration: what it leaves out is reconstructed.
@@ -241,10 +219,9 @@ fn given(
     first: Place,
     declaration: &ExtDecl,
 ) -> Result<Entry, Refusal>
-    requires { IsPlain (declaration_of declaration.now) }
     ensures reconstructs { IfOk result (λ e. IsReconstructed session.now.signature (declaration_of declaration.now) (entry_of e)) }
     ensures stands { IfOk result (λ e. IsCanonicalEntry (signature_of session.now.signature) (entry_of e)) }
-    ensures cause { IfErr result (HasObstacle session.now (declaration_of declaration.now) first) }
+    ensures cause { IfErr result (IsNotEntered session.now (declaration_of declaration.now) first) }
 {
     match reconstruct(alloc, session.signature(), declaration) {
         Ok(entry) => Ok(entry),
@@ -267,7 +244,7 @@ fn keep(
     entry: Entry,
 ) -> Result<Report, AllocError>
     requires { IsCanonicalEntry (signature_of session.old.signature) (entry_of entry) }
-    ensures says { IfOk result (λ report. report.text.items ≡ entry_report session.old (entry_of entry)) }
+    ensures says { IfOk result (λ report. reported report ≡ entry_report session.old (entry_of entry)) }
     ensures keeps { OnOk result (session.new ≡ keeping session.old (declaration_of declaration.now) (entry_of entry)) }
     ensures err { OnErr result (session.new ≡ session.old) }
 {
@@ -278,17 +255,16 @@ fn keep(
     Ok(report)
 }
 
-// Keeps what is declared. After a refusal nothing has changed.
-fn give_and_keep(
+// Enters what is declared. After a refusal nothing has changed.
+fn enter(
     alloc: Global,
     session: &mut Session,
     first: Place,
     declaration: &ExtDecl,
 ) -> Result<Report, Refusal>
-    requires { IsPlain (declaration_of declaration.now) }
-    ensures ok { IfOk result (λ report. Does session.old (declaration_of declaration.now) report.text.items session.new) }
+    ensures ok { IfOk result (λ report. Enters session.old (declaration_of declaration.now) (reported report) session.new) }
     ensures err { OnErr result (session.new ≡ session.old) }
-    ensures cause { IfErr result (HasObstacle session.old (declaration_of declaration.now) first) }
+    ensures cause { IfErr result (IsNotEntered session.old (declaration_of declaration.now) first) }
 {
     let entry = match given(alloc, session, first, declaration) {
         Ok(entry) => entry,
@@ -308,9 +284,9 @@ fn give(
     names: &[ExtName],
     first: Place,
 ) -> Result<Report, Refusal>
-    ensures ok { IfOk result (λ report. GivesRows session.old fix names.now report.text.items session.new) }
+    ensures ok { IfOk result (λ report. GivesRows session.old fix names.now (reported report) session.new) }
     ensures err { OnErr result (session.new ≡ session.old) }
-    ensures cause { IfErr result (HasObstacle session.old (give fix names.now) first) }
+    ensures cause { IfErr result (IsNotGiven session.old fix names.now first) }
 {
     if let Some(name) = first_undeclared(session.signature(), names) {
         return Err(unknown(alloc, name));
@@ -337,9 +313,9 @@ fn prefer(
     lower: &Option<Name>,
     first: Place,
 ) -> Result<Report, Refusal>
-    ensures ok { IfOk result (λ report. Prefers session.old family.now upper.now lower.now report.text.items session.new) }
+    ensures ok { IfOk result (λ report. Prefers session.old family.now upper.now lower.now (reported report) session.new) }
     ensures err { OnErr result (session.new ≡ session.old) }
-    ensures cause { IfErr result (HasObstacle session.old (prefer family.now upper.now lower.now) first) }
+    ensures cause { IfErr result (IsNotPreferred session.old family.now first) }
 {
     let Some(id) = session.signature().lookup(&family.name) else {
         return Err(unknown(alloc, family));
@@ -368,7 +344,7 @@ fn make(
     first: Place,
     declaration: &ExtDecl,
 ) -> Result<Report, Refusal>
-    ensures ok { IfOk result (λ report. Does session.old (declaration_of declaration.now) report.text.items session.new) }
+    ensures ok { IfOk result (λ report. Does session.old (declaration_of declaration.now) (reported report) session.new) }
     ensures err { OnErr result (session.new ≡ session.old) }
     ensures cause { IfErr result (HasObstacle session.old (declaration_of declaration.now) first) }
 {
@@ -377,8 +353,8 @@ fn make(
         ExtDecl::NamePref(family, upper, lower) => {
             prefer(alloc, session, family, upper, lower, first)
         }
-        ExtDecl::Declare(_, _, _) => give_and_keep(alloc, session, first, declaration),
-        ExtDecl::Define(_, _, _, _) => give_and_keep(alloc, session, first, declaration),
+        ExtDecl::Declare(_, _, _) => enter(alloc, session, first, declaration),
+        ExtDecl::Define(_, _, _, _) => enter(alloc, session, first, declaration),
     }
 }
 
@@ -431,7 +407,7 @@ pub fn declare(
 /// Makes the declaration that is the text, and reports it. No token may follow it. After a refusal nothing has changed.
 pub fn declare_one(alloc: Global, session: &mut Session, text: &[u8]) -> Result<Report, Refusal>
     requires { length text.now < 2 ^ 32 - 1 }
-    ensures ok { IfOk result (λ report. Accepts session.old text.now report.text.items session.new) }
+    ensures ok { IfOk result (λ report. Accepts session.old text.now (reported report) session.new) }
     ensures err { OnErr result (session.new ≡ session.old) }
     ensures cause { IfErr result (λ refusal. HasCause session.old text.now refusal) }
 {

@@ -7,13 +7,15 @@ mod operators;
 mod parameters;
 mod preferences;
 mod refusal;
+mod report;
 mod session;
 
-pub use declaration::{Next, Report, declare, declare_one};
+pub use declaration::{Next, declare, declare_one};
 pub use laws::{
     accepting_from_keeps_sound, accepting_keeps_sound, definition_is_good, family_is_good,
     good_from_is_accepted, good_is_accepted,
 };
 pub use parameters::Parameters;
 pub use refusal::{Refusal, show_refusal};
+pub use report::Report;
 pub use session::Session;

@@ -11,7 +11,8 @@ use tw_print::{Names, Preference};
 use tw_signature::{Entry, Signature};
 use tw_terms::ConstId;
 
-/// What was declared so far. Its signature is canonical LF at all times. Contracts see it as a view.
+/// What was declared so far. Its signature is canonical LF at all times. Contracts see it as a view, in which nothing is checked and no configuration was read:
+/// what changes these isn't built yet.
 #[derive(Drop)]
 pub struct Session {
     signature: Signature,
@@ -21,16 +22,17 @@ pub struct Session {
 }
 
 impl Model for Session {
-    ghost use Rattle.tw_decl.specs.View.{View, IsSound};
+    ghost use Rattle.std.specs.Prelude.{[]};
+    ghost use Rattle.tw_decl.specs.View.{View, nothing_checked, IsSound};
     ghost use Rattle.tw_decl.specs.ViewCode.{view_code};
 
     ghost Value = { View };
 
     ghost coded = { view_code };
 
-    ghost view = { λ s. record { signature = s.signature; fixities = s.fixities; names = s.names; parameters = s.parameters } };
+    ghost view = { λ s. record { signature = s.signature; fixities = s.fixities; names = s.names; checked = nothing_checked; parameters = s.parameters; config = [] } };
 
-    ghost invariant = { λ s. IsSound (record { signature = s.signature; fixities = s.fixities; names = s.names; parameters = s.parameters }) };
+    ghost invariant = { λ s. IsSound (record { signature = s.signature; fixities = s.fixities; names = s.names; checked = nothing_checked; parameters = s.parameters; config = [] }) };
 }
 
 impl Session {
@@ -110,7 +112,7 @@ impl Session {
         self.parameters.steps = steps;
     }
 
-    /// Forgets all declarations, operators and preferences. What the user has set stays.
+    /// Forgets all declarations, operators and preferences. What the user has set stays, and so does the configuration.
     pub fn reset(&mut self, alloc: Global)
         ensures { self.new ≡ reset_view self.old }
     {

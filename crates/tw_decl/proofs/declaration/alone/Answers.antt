@@ -1,14 +1,16 @@
-use Rattle.std.proofs.Common.{sym, subst}
-use Rattle.std.specs.declared.result.Result.{Result}
-use Rattle.tw_parse.specs.declared.decl.ExtDecl.{ExtDecl}
-use Rattle.tw_parse.specs.declared.fault.SyntaxFault.{SyntaxFault}
+use Rattle.std.proofs.Common.{rules, ◌≢◌, refl, inl, inr, sym, subst}
+use Rattle.tw_lexer.specs.declared.token.TokenKind.TheVariants.{End}
+use Rattle.tw_parse.specs.View.{declaration_of}
 use Rattle.tw_decl.specs.Declaration.{IsCauseAlone}
 use Rattle.tw_decl.specs.Steps.{IsParsed}
-use Rattle.tw_decl.specs.declared.refusal.Refusal.{Refusal}
 use Rattle.tw_decl.proofs.Causes.{alone_cause}
 use Rattle.tw_decl.proofs.declaration.alone.Goals as goal
 
 pub returns-in-Err : goal.returns-in-Err
-returns-in-Err c v end words parsed =
-    subst (λ (r : Refusal). IsCauseAlone v end words c.args.next.now r) (sym c.refused_alone.ensures)
-    (alone_cause v end words c.args.next.now c.in-Err.fault (subst (λ (p : Result ExtDecl SyntaxFault). IsParsed v end words p) (c.in-Err.is) parsed))
+returns-in-Err c v end words is =
+    subst (IsCauseAlone v end words c.args.next.now) (sym c.refused_alone.ensures) (alone_cause v end words c.args.next.now c.in-Err.fault (subst (IsParsed v end words) c.in-Err.is is))
+
+pub returns-in-Ok : goal.returns-in-Ok
+returns-in-Ok c v end words is =
+    let follows : c.args.next.now.kind ≢ End = search rules in
+    inr (inl (follows, refl, inl (declaration_of c.in-Ok.field-0, subst (IsParsed v end words) c.in-Ok.is is)))

@@ -3,7 +3,8 @@ use Rattle.tw_lexer.specs.declared.place.Place.{Place}
 use Rattle.tw_parse.specs.View.{declaration_of}
 use Rattle.tw_parse.specs.Words.{lexemes}
 use Rattle.tw_decl.proofs.Causes.{is_written, not_over, cause_from, last_cause, parsed_cause}
-use Rattle.tw_decl.specs.Declaration.{HasObstacle, IsCause}
+use Rattle.tw_decl.specs.Declaration.{IsCause}
+use Rattle.tw_decl.specs.Obstacles.{HasObstacle}
 use Rattle.tw_decl.specs.declared.refusal.Refusal.{Refusal}
 use Rattle.tw_decl.proofs.declaration.declare.Goals as goal
 

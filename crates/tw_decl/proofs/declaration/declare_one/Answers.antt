@@ -3,7 +3,7 @@ use Rattle.tw_lexer.specs.declared.place.Place.{Place}
 use Rattle.tw_parse.specs.View.{declaration_of}
 use Rattle.tw_parse.specs.Words.{lexemes}
 use Rattle.tw_decl.proofs.Causes.{is_written, cause_alone, last_cause}
-use Rattle.tw_decl.specs.Declaration.{HasObstacle}
+use Rattle.tw_decl.specs.Obstacles.{HasObstacle}
 use Rattle.tw_decl.proofs.declaration.declare_one.Goals as goal
 
 pub returns-in-Err-next_token-clause-cause : goal.returns-in-Err-next_token-clause-cause
