@@ -3,6 +3,7 @@ use Rattle.std.specs.Prelude.{◌≡◌, ℕ, Bool, true, false, List, [], ◌�
 use Rattle.std.specs.Str.{bytes_eq, is_utf8, IsUtf8}
 use Rattle.std.specs.declared.option.Option.{Option}
 use Rattle.std.specs.declared.result.Result.{Result}
+use Rattle.tw_command.specs.Limits.{steps_limit}
 use Rattle.tw_command.specs.Words.{words_of}
 use Rattle.tw_command.specs.Numbers.{number_of, in_range}
 use Rattle.tw_command.specs.declared.command.Parameter.{Parameter}
@@ -78,7 +79,7 @@ abbrev pub settable : List ℕ → List (List ℕ × Meaning)
 settable value =
     (codes "chatter", set_to (λ n. settings.Chatter n) (in_range 0 6 (number_of value)))
     ∷ (codes "Print.implicit", set_to (λ b. settings.Implicit b) (truth_of value))
-    ∷ (codes "steps", set_to (λ n. settings.Steps n) (in_range 1 1000000000 (number_of value)))
+    ∷ (codes "steps", set_to (λ n. settings.Steps n) (in_range 1 steps_limit (number_of value)))
     ∷ []
 
 abbrev pub set_means : List ℕ → List ℕ → Meaning

@@ -4,6 +4,7 @@ ghost use Rattle.std.specs.Str.{IsUtf8};
 ghost use Rattle.tw_command.specs.Words.{words_of};
 ghost use Rattle.tw_command.specs.Meaning.{IsAnswer, IsCommand, HasTextOnly, KeepsText, alone, get_means, line_means, meaning_in, set_means, set_to, truth_of, unknown, with_argument, with_two, words_mean};
 
+use crate::limits::STEPS_MOST;
 use crate::number::number_within;
 use crate::words::next_word;
 use crate::{Command, CommandFault, Parameter, Setting};
@@ -153,7 +154,7 @@ fn setting(parameter: &str, value: &str) -> Option<Setting>
             None => None,
         }
     } else if parameter == "steps" {
-        match number_within(value.as_bytes(), 1, 1_000_000_000) {
+        match number_within(value.as_bytes(), 1, STEPS_MOST) {
             Some(value) => Some(Setting::Steps(value)),
             None => None,
         }

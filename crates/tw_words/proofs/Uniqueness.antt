@@ -1,6 +1,7 @@
 -- Words say one thing, and bad words say nothing.
 use Rattle.std.proofs.Common.{◌≡◌, ◌≤◌, ◌∙◌, ℕ, List, None, Some, refl, sym, ap, subst}
 use Rattle.std.specs.declared.option.Option.{Option}
+use Rattle.tw_command.specs.Limits.{steps_limit}
 use Rattle.tw_words.specs.Reading.{Said}
 use Rattle.tw_words.specs.Words.{AreBad, AreWords, HasBadSteps, IsBad, StepsAre}
 
@@ -40,8 +41,8 @@ pub bad_words_say_nothing : (words : List (List ℕ)) (a : Option ℕ) (fs : Lis
 bad_words_say_nothing words a fs bad p = no_steps p.value a (subst IsBad p.read bad) p.steps_are
 
 -- the steps are in their range
-pub steps_in_range : (words : List (List ℕ)) (n : ℕ) (fs : List (List ℕ)) → AreWords words (Some n) fs → (1 ≤ n) × (n ≤ 1000000000)
+pub steps_in_range : (words : List (List ℕ)) (n : ℕ) (fs : List (List ℕ)) → AreWords words (Some n) fs → (1 ≤ n) × (n ≤ steps_limit)
 steps_in_range words n fs p = go p.value p.steps_are where
-  go : (word : Option (List ℕ)) → StepsAre word (Some n) → (1 ≤ n) × (n ≤ 1000000000)
+  go : (word : Option (List ℕ)) → StepsAre word (Some n) → (1 ≤ n) × (n ≤ steps_limit)
   go None is = absurd is
   go (Some w) is = (is.least, is.most)

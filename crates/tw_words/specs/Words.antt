@@ -3,6 +3,7 @@ use Rattle.std.specs.Prelude.{◌≡◌, ◌≤◌, ℕ, List, map, None, Some, 
 use Rattle.std.specs.Str.Parse.{IsNumeral, digits_value, without_leading_plus}
 use Rattle.std.specs.declared.option.Option.{Option}
 use Rattle.std.specs.declared.result.Result.{Result}
+use Rattle.tw_command.specs.Limits.{steps_limit}
 use Rattle.tw_words.specs.Reading.{Said, reads}
 use Rattle.tw_words.specs.declared.words.Words.{Words}
 use Rattle.tw_words.specs.declared.words.WordsFault.{WordsFault}
@@ -14,7 +15,7 @@ pub record IsSteps (word : List ℕ) (n : ℕ) : Type 0 where
   pub numeral : IsNumeral 10 (without_leading_plus word)
   pub value : n ≡ digits_value 10 (without_leading_plus word)
   pub least : 1 ≤ n
-  pub most : n ≤ 1000000000
+  pub most : n ≤ steps_limit
 
 -- the steps are those that the word spells, where there is one
 abbrev pub StepsAre : Option (List ℕ) → Option ℕ → Type 0

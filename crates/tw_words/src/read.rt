@@ -9,6 +9,7 @@ use crate::{Words, WordsFault};
 use clap::error::ErrorKind;
 use clap::{Arg, ArgAction, ArgMatches, Command, Error};
 use std::alloc::{AllocError, Global};
+use tw_command::STEPS_MOST;
 
 /// What the words behind the program's name say: `[--steps N] [FILE]...`. `--steps` stands at most once, as `--steps 5`
 /// or `--steps=5`, at any place; behind a word `--` all words are files. Want of memory may be the answer to any words.
@@ -82,7 +83,7 @@ fn number_of(word: &str) -> Option<u64>
     ensures { MatchOption result ((n : ℕ) → ¬ (IsSteps word.now n)) (λ n. IsSteps word.now n) }
 {
     match word.parse::<u64>() {
-        Ok(number) if 1 <= number && number <= 1_000_000_000 => Some(number),
+        Ok(number) if 1 <= number && number <= STEPS_MOST => Some(number),
         _ => None,
     }
 }

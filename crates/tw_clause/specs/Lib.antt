@@ -1,0 +1,6 @@
+pub mod View
+pub mod Cases
+pub mod Marks
+pub mod Numbers
+pub mod Entries
+pub mod Laws

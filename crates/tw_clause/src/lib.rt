@@ -1,0 +1,25 @@
+//! Clauses as data: a type, or an entry of a block, as its variables, head and subgoals; blocks, worlds and cases, over which clauses are looked at.
+#![tactic(auto)]
+
+mod block;
+mod case;
+mod clause;
+mod collected;
+#[tactic(auto, using(tw_terms::proofs::OpenArgs::open_spines))]
+mod copies;
+mod counts;
+mod laws;
+mod name;
+#[tactic(auto, using(tw_terms::proofs::Args::types))]
+mod reading;
+#[tactic(auto, using(crate::proofs::Renumbered::renumbered))]
+mod renumbering;
+#[tactic(auto, using(tw_terms::proofs::Args::types))]
+mod shape;
+
+pub use block::{Block, Origin, Worlds};
+pub use case::{BlockVar, Case};
+pub use clause::{Clause, Subgoal};
+pub use laws::{entries_are_listed, parts_are_of_type, subgoals_are_read};
+pub use name::{ClauseName, Mark3};
+pub use reading::{clause_of, clause_of_entry, clauses};
