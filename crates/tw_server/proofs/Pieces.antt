@@ -1,9 +1,9 @@
 -- What is written and read in pieces.
 use Rattle.std.proofs.Common.{◌≡◌, ◌≢◌, ℕ, ◌+◌, ◌-◌, ◌<◌, ◌≤◌, List, [], ◌∷◌, ◌++◌, length, take, drop, refl, sym, ap, ◌∙◌, arith, length-drop, length-take, take-add, take_all, subst, None, Some}
 use Rattle.std.specs.declared.option.Option.{Option}
-use Rattle.std.proofs.Common.{append_assoc, Ok, Err}
+use Rattle.std.proofs.Common.{append_assoc, Bool, Ok, Err}
 use Rattle.std.specs.declared.result.Result.{Result}
-use Rattle.tw_server.specs.Written.{GainsFront, GainsReply}
+use Rattle.tw_server.specs.Written.{GainsFront, GainsLines, GainsReply}
 use Rattle.tw_ports.specs.Ports.{Gains}
 use Rattle.tw_ports.proofs.Gained.{Gains-trans}
 
@@ -27,6 +27,11 @@ front_first a b xs ys h = (h.0, h.1 ++ ys, ap (λ (l : List ℕ). l ++ ys) h.2 �
 pub reply_second : {E : Type 0} (a b c : Option (List ℕ)) (xs ys : List ℕ) (r : Result (Unit {0}) E) → Gains a b xs → GainsReply b c ys r → GainsReply a c (xs ++ ys) r
 reply_second a b c xs ys (Ok done) p q = Gains-trans a b c xs ys p q
 reply_second a b c xs ys (Err e) p q = (xs ++ q.0, q.1, ap (λ (l : List ℕ). xs ++ l) q.2 ∙ sym (append_assoc xs q.0 q.1), Gains-trans a b c xs q.0 p q.3, q.4)
+
+-- the same of lines, with whether all went well
+pub lines_second : {E : Type 0} (a b c : Option (List ℕ)) (xs ys : List ℕ) (well : Bool) (r : Result Bool E) → Gains a b xs → GainsLines b c ys well r → GainsLines a c (xs ++ ys) well r
+lines_second a b c xs ys well (Ok told) p q = (q.0, Gains-trans a b c xs ys p q.1)
+lines_second {E = E} a b c xs ys well (Err e) p q = reply_second {E = E} a b c xs ys (Err e) p q
 
 -- something lies behind a place in a list
 pub drop_some : (n : ℕ) (xs : List ℕ) → n < length xs → drop n xs ≢ []

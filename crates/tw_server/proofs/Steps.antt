@@ -5,6 +5,7 @@ use Rattle.tw_command.specs.Meaning.{Meaning, blank, unknown, bad_parameter, rea
 use Rattle.tw_command.specs.declared.command.Setting.{Setting}
 use Rattle.tw_command.specs.declared.command.Setting.TheVariants as settings
 use Rattle.tw_decl.specs.Declaration.{Accepts, AcceptsFrom}
+use Rattle.tw_decl.specs.Reports.{Reported}
 use Rattle.tw_decl.specs.View.{View, reset_view}
 use Rattle.tw_ports.specs.Files.{Held}
 use Rattle.tw_ports.specs.declared.files.FileAnswer.{FileAnswer}
@@ -17,8 +18,8 @@ use Rattle.tw_server.specs.Outcome.{with_words}
 
 -- a property of sessions that accepting, setting and starting anew keep
 pub record IsKept (P : View → Type 0) : Type 0 where
-  pub accepting : (v w : View) (text report : List ℕ) → Accepts v text report w → P v → P w
-  pub accepting_from : (v w : View) (text report : List ℕ) (from upto : ℕ) → AcceptsFrom v text from report upto w → P v → P w
+  pub accepting : (v w : View) (text : List ℕ) (report : Reported) → Accepts v text report w → P v → P w
+  pub accepting_from : (v w : View) (text : List ℕ) (report : Reported) (from upto : ℕ) → AcceptsFrom v text from report upto w → P v → P w
   pub setting : (v : View) (s : Setting) → P v → P (with_setting v s)
   pub starting : (v : View) → P v → P (reset_view v)
 
@@ -36,17 +37,17 @@ module _ (P : View → Type 0) (kept : IsKept P) where
   declares_keeps text v from no_more s = s
   declares_keeps text v from (one_more d a) s = kept.accepting_from _ _ _ _ _ _ a (declares_keeps text v from d s)
 
-  file_keeps : (v w : View) (name : List ℕ) (answer : FileAnswer) (reply : List ℕ) → AnswersFile v name answer reply w → P v → P w
-  file_keeps v w name (Found text) reply (inl h) s = same_keeps v w h.same s
-  file_keeps v w name (Found text) reply (inr h) s = declares_keeps text.items v 0 h.makes s
-  file_keeps v w name Absent reply h s = same_keeps v w h.same s
-  file_keeps v w name TooLong reply h s = same_keeps v w h.same s
-  file_keeps v w name Failed reply h s = same_keeps v w h.same s
-  file_keeps v w name NoMemory reply h s = same_keeps v w h.same s
+  file_keeps : (v w : View) (name : List ℕ) (answer : FileAnswer) (lines : List ℕ) (well : Bool) → AnswersFile v name answer lines well w → P v → P w
+  file_keeps v w name (Found text) lines well (inl h) s = same_keeps v w h.same s
+  file_keeps v w name (Found text) lines well (inr h) s = declares_keeps text.items v 0 h.makes s
+  file_keeps v w name Absent lines well h s = same_keeps v w h.same s
+  file_keeps v w name TooLong lines well h s = same_keeps v w h.same s
+  file_keeps v w name Failed lines well h s = same_keeps v w h.same s
+  file_keeps v w name NoMemory lines well h s = same_keeps v w h.same s
 
   pub loads_keeps : (held : Option Held) (name : List ℕ) (v w : State) (reply : List ℕ) → Loads held name v reply w → P v.view → P w.view
   loads_keeps held name v w reply (inl h) s = same_keeps v.view w.view h.0.same s
-  loads_keeps held name v w reply (inr h) s = file_keeps v.view w.view name h.answer reply h.replies s
+  loads_keeps held name v w reply (inr h) s = file_keeps v.view w.view name h.loads.answer h.lines h.well h.loads.says s
 
   entry_keeps : (v w : View) (name reply : List ℕ) → ShowsEntry v name reply w → P v → P w
   entry_keeps v w name reply (inl h) s = same_keeps v w h.same s

@@ -18,7 +18,7 @@ use Rattle.tw_decl.specs.View.{View}
 use Rattle.tw_server.specs.State.{State, state_at}
 use Rattle.tw_server.specs.Replies.{no_memory, refused}
 use Rattle.tw_server.specs.Loaded.{IsAnswered, IsLoaded}
-use Rattle.tw_server.specs.Loading.{LoadsFile}
+use Rattle.tw_server.specs.Loading.{LoadsAlone}
 use Rattle.tw_server.specs.Feed.{Pending, Sees, Stopped}
 use Rattle.tw_server.specs.Written.{GainsFront, GainsReply}
 use Rattle.tw_server.specs.Machine.{Answers, Behind, Step, RepliesTo, TextAfter}
@@ -232,4 +232,4 @@ carried held v w command form a b reply r e h g = answered held v w (meant (comm
 pub carried_load : {E : Type 0} (held : Option Held) (v w : State) (command : Command) (name : Name) (word : List ℕ) (a b : Option (List ℕ)) (r : Result (Unit {0}) E) → command ≡ commands.LoadFile name → word ≡ name → IsLoaded held word v a b w r
     → IsAnswered held v (meant (command_means command)) a b w r
 carried_load held v w command name word a b r e same l =
-    carried held v w command (commands.LoadFile name) a b l.0 r e (inr (subst (λ (n : List ℕ). LoadsFile held n v l.0 w) same l.1)) l.2
+    carried held v w command (commands.LoadFile name) a b l.0 r e (inr (subst (λ (n : List ℕ). LoadsAlone held n v l.0 w) same l.1)) l.2

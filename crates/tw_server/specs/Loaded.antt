@@ -1,5 +1,5 @@
 -- What the calls that load files and show declarations come to. The proofs of the loop need these; the transcript theorem doesn't speak of them.
-use Rattle.std.specs.Prelude.{◌≡◌, ◌⊎◌, ℕ, ◌≤◌, ◌+◌, List, [], ◌++◌, length}
+use Rattle.std.specs.Prelude.{◌≡◌, ◌⊎◌, ℕ, ◌≤◌, ◌+◌, List, [], ◌++◌, length, Bool, false}
 use Rattle.std.specs.declared.option.Option.{Option}
 use Rattle.std.specs.declared.result.Result.{Result}
 use Rattle.tw_decl.specs.Refusals.{refusal_line}
@@ -9,25 +9,29 @@ use Rattle.tw_lexer.specs.Places.{place_of}
 use Rattle.tw_lexer.specs.declared.place.Place.{Place}
 use Rattle.tw_ports.specs.Files.{Held}
 use Rattle.tw_ports.specs.Ports.{Gains}
-use Rattle.tw_server.specs.Loading.{WantsMemory, Declares, Opens, LoadsFile, ShowsEntry, ShowsSignature}
+use Rattle.tw_server.specs.Loading.{Declares, Opens, IsNotOpened, LoadsFile, LoadsAlone, ShowsEntry, ShowsSignature}
 use Rattle.tw_server.specs.Machine.{Answers}
-use Rattle.tw_server.specs.Replies.{refused, no_memory, opening}
+use Rattle.tw_server.specs.Replies.{no_memory, opening}
 use Rattle.tw_server.specs.Saying.{Says}
 use Rattle.tw_server.specs.State.{State}
 use Rattle.tw_server.specs.Words as words
-use Rattle.tw_server.specs.Written.{GainsReply}
+use Rattle.tw_server.specs.Written.{GainsLines, GainsReply}
 
 -- a refusal's line was written, or that memory is wanting for it, with the end of a file
-abbrev pub IsRefusedWith : {E : Type 0} → Refusal → List ℕ → List ℕ → Option (List ℕ) → Option (List ℕ) → Result (Unit {0}) E → Type 0
-IsRefusedWith refusal name closing old new result = (shown : List ℕ) × ((shown ≡ refusal_line name refusal) ⊎ (shown ≡ no_memory)) × GainsReply old new (shown ++ (closing ++ refused)) result
+abbrev pub IsRefusedWith : {E : Type 0} → Refusal → List ℕ → List ℕ → Option (List ℕ) → Option (List ℕ) → Result Bool E → Type 0
+IsRefusedWith refusal name closing old new result = (shown : List ℕ) × ((shown ≡ refusal_line name refusal) ⊎ (shown ≡ no_memory)) × GainsLines old new (shown ++ closing) false result
 
--- a file was opened, and some reply to it written
-abbrev pub IsOpened : {E : Type 0} → View → List ℕ → List ℕ → Option (List ℕ) → Option (List ℕ) → View → Result (Unit {0}) E → Type 0
-IsOpened v name text old new w result = (reply : List ℕ) × (WantsMemory v reply w ⊎ Opens v name text reply w) × GainsReply old new reply result
+-- a file was opened, and some lines of it written
+abbrev pub IsOpened : {E : Type 0} → View → List ℕ → List ℕ → Option (List ℕ) → Option (List ℕ) → View → Result Bool E → Type 0
+IsOpened v name text old new w result = (lines : List ℕ) × (well : Bool) × (IsNotOpened no_memory v lines well w ⊎ Opens v name text lines well w) × GainsLines old new lines well result
 
--- a file was loaded, and some reply to it written
+-- a file was loaded, and some lines of it written
+abbrev pub HasLines : {E : Type 0} → Option Held → List ℕ → State → Option (List ℕ) → Option (List ℕ) → State → Result Bool E → Type 0
+HasLines held name v old new w result = (lines : List ℕ) × (well : Bool) × LoadsFile held name v lines well w × GainsLines old new lines well result
+
+-- the same by a command, and some reply to it written
 abbrev pub IsLoaded : {E : Type 0} → Option Held → List ℕ → State → Option (List ℕ) → Option (List ℕ) → State → Result (Unit {0}) E → Type 0
-IsLoaded held name v old new w result = (reply : List ℕ) × LoadsFile held name v reply w × GainsReply old new reply result
+IsLoaded held name v old new w result = (reply : List ℕ) × LoadsAlone held name v reply w × GainsReply old new reply result
 
 -- a declaration was shown, or all of them
 abbrev pub IsShown : {E : Type 0} → View → List ℕ → Option (List ℕ) → Option (List ℕ) → Result (Unit {0}) E → Type 0

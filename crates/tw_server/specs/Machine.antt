@@ -8,10 +8,11 @@ use Rattle.tw_ports.specs.Files.{Held}
 use Rattle.std.specs.declared.option.Option.{Option}
 use Rattle.tw_server.specs.Words.{Said, too_long, meant, said_of}
 use Rattle.tw_server.specs.Replies.{accepted, refused, version_line, value_of}
-use Rattle.tw_server.specs.Loading.{WantsMemory, LoadsFile, ShowsEntry, ShowsSignature}
+use Rattle.tw_server.specs.Loading.{WantsMemory, LoadsAlone, ShowsEntry, ShowsSignature}
 use Rattle.tw_decl.specs.View.{View, reset_view, with_chatter, with_implicit, with_steps}
 use Rattle.tw_server.specs.State.{State}
 use Rattle.tw_decl.specs.Declaration.{Accepts, Refuses}
+use Rattle.tw_decl.specs.Reports.{Reported}
 use Rattle.tw_server.specs.Limits.{text_limit}
 
 -- The text behind a command's line, where the line ended with its line feed or not. There is none where the input ends with that line.
@@ -40,12 +41,12 @@ pub record IsTextLong (v : View) (text reply : List ℕ) (w : View) : Type 0 whe
   pub says : reply ≡ codes "C4 TextLong\n" ++ refused
   pub same : w ≡ v
 
--- the declaration is made, and its report is the reply
+-- the declaration is made, and the reply is the text of its report
 pub record IsMade (v : View) (text reply : List ℕ) (w : View) : Type 0 where
   pub short : length text ≤ text_limit
-  pub report : List ℕ
+  pub report : Reported
   pub accepts : Accepts v text report w
-  pub says : reply ≡ report ++ accepted
+  pub says : reply ≡ report.text ++ accepted
 
 -- the declaration is refused, for the cause that the reply's line shows
 pub record IsRefused (v : View) (text reply : List ℕ) (w : View) : Type 0 where
@@ -82,7 +83,7 @@ AnswersMeaning v quit reply w = ⊥
 
 -- a file is loaded, or memory is wanting before the files are asked
 abbrev pub Loads : Option Held → List ℕ → State → List ℕ → State → Type 0
-Loads held name v reply w = (WantsMemory v.view reply w.view × (w.faults ≡ v.faults)) ⊎ LoadsFile held name v reply w
+Loads held name v reply w = (WantsMemory v.view reply w.view × (w.faults ≡ v.faults)) ⊎ LoadsAlone held name v reply w
 
 -- what a command answers
 abbrev pub Answers : Option Held → State → Said → List ℕ → List ℕ → State → Type 0

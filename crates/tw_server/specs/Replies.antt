@@ -17,6 +17,11 @@ accepted = codes "%% OK %%\n"
 abbrev pub refused : List ℕ
 refused = codes "%% ABORT %%\n"
 
+-- it, by whether all went well
+abbrev pub last_line : Bool → List ℕ
+last_line true = accepted
+last_line false = refused
+
 -- the first lines of all
 abbrev pub banner : List ℕ
 banner = codes "Twelf 1.4 LF profile\n%% OK %%\n"

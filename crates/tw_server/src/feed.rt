@@ -4,12 +4,10 @@ ghost use Rattle.tw_server.specs.Feed.{Pending, GivesByte, Fills};
 ghost use Rattle.tw_server.specs.Counts.{CountsReads};
 ghost use Rattle.tw_server.specs.Limits.{input_limit};
 
+use crate::limits::INPUT_MOST;
 use std::alloc::{AllocError, Global};
 use std::marker::Model;
 use tw_ports::{ReadAnswer, Source};
-
-/// As many bytes as are looked at in one run.
-const MOST: u64 = 1 << 40;
 
 /// The most bytes that one read is asked for.
 const PIECE: usize = 4096;
@@ -103,7 +101,7 @@ impl Feed {
         if let Err(stop) = self.fill(source) {
             return Err(stop);
         }
-        if self.seen() == MOST {
+        if self.seen() == INPUT_MOST {
             return Err(Stop::Long);
         }
         Ok(self.next())

@@ -1,6 +1,7 @@
 //! Replies, and how they are written.
+ghost use Rattle.std.specs.Prelude.{◌≡◌};
 ghost use Rattle.tw_server.specs.Counts.{CountsWrites};
-ghost use Rattle.tw_server.specs.Replies.{reply_bytes};
+ghost use Rattle.tw_server.specs.Replies.{last_line, reply_bytes};
 ghost use Rattle.tw_server.specs.Written.{GainsReply};
 
 use crate::write::{Unwritten, write_all, write_both};
@@ -23,6 +24,13 @@ const LONG_LINE: &[u8] = b"C5 LongLine\n%% ABORT %%\n";
 const BAD_PARAMETER: &[u8] = b"C6 BadParameter\n%% ABORT %%\n";
 
 const VERSION: &[u8] = b"Twelf 1.4 LF profile\n%% OK %%\n";
+
+/// The last line of a reply, by whether all went well.
+pub fn last_line(well: bool) -> &'static [u8]
+    ensures { result.now ≡ last_line well }
+{
+    if well { OK } else { ABORT }
+}
 
 /// The line of want of memory.
 pub const MEMORY: &[u8] = b"E0 Memory\n";

@@ -24,8 +24,8 @@ const LINE_OK: &[u8] = b"\n%% OK %%\n";
 /// The end of a line and of a refusal.
 const LINE_ABORT: &[u8] = b"\n%% ABORT %%\n";
 
-/// Writes the refusal of a command: its words, and a name. It takes no memory.
-pub fn refuse<K: Sink>(sink: &mut K, words: &[u8], name: &[u8]) -> Result<(), Unwritten>
+// Writes the refusal of a command: its words, and a name. It takes no memory.
+fn refuse<K: Sink>(sink: &mut K, words: &[u8], name: &[u8]) -> Result<(), Unwritten>
     ensures bytes { GainsReply (K.written sink.old) (K.written sink.new) ((words.now ++ name.now ++ codes "\n") ++ refused) result }
     ensures counts { CountsWrites (K.faults sink.old) (K.faults sink.new) result }
 {
