@@ -1,134 +1,94 @@
-//! What names name, and what is read off a text as it stands. Expected values are worked out by hand.
-use crate::reading::{push_name, read, signature_of};
-use std::alloc::{AllocError, Global};
-use std::test::Fail;
+//! What names name, and what is read off a text as it stands.
+use crate::reading::{push_name, push_place, read_decl};
+use crate::world::World;
+use std::alloc::Global;
+use tests_forms::{FormFault, number_of};
 use tw_fixity::{Name, Scope};
-use tw_names::{Mention, binder_name, ends_in_type, first_mention, hints, named, nested};
+use tw_names::{binder_name, ends_in_type, first_mention, hints, named, nested};
 use tw_parse::{ExtDecl, ExtTerm};
-use tw_signature::Signature;
-use tw_terms::{ConstId, Head};
-
-// nat, z, and a newer nat
-fn numbers(alloc: Global) -> Result<Signature, Fail> {
-    signature_of(alloc, &["nat : type.", "z : nat.", "nat : type."])
-}
+use tw_terms::Head;
 
 // the type that a text declares
-fn declared(alloc: Global, text: &str) -> Result<ExtTerm, Fail> {
-    match read(alloc, text) {
-        Some(ExtDecl::Declare(_, _, ty)) => Ok(ty),
-        _ => Err(Fail::from("a text declares nothing")),
+fn declared(alloc: Global, world: &World, text: &str) -> Result<ExtTerm, FormFault> {
+    match read_decl(alloc, &world.fixities, text)? {
+        ExtDecl::Declare(_, _, ty) => Ok(ty),
+        _ => Err(FormFault::NoMeaning),
     }
 }
 
-// The variables are x, a nameless one, z and x, from the outermost.
-#[test]
-fn variables_come_before_constants(rt: HostRuntime) -> Result<(), Fail> {
-    let alloc = rt.alloc();
-    let signature = numbers(alloc)?;
+/// What the name names among the variables behind it, from the outermost; one that is written `_` has no name.
+pub(crate) fn meaning(alloc: Global, world: &World, text: &str) -> Result<String, FormFault> {
+    let mut words = text.split(' ');
+    let name = Name::from_text(alloc, words.next().unwrap_or(""))?;
     let mut scope = Scope::new(alloc);
-    scope.push(Some(Name::from_text(alloc, "x")?))?;
-    scope.push(None)?;
-    scope.push(Some(Name::from_text(alloc, "z")?))?;
-    scope.push(Some(Name::from_text(alloc, "x")?))?;
-    for (text, want) in [
-        ("x", Some(Head::Var(0))),
-        ("z", Some(Head::Var(1))),
-        ("nat", Some(Head::Const(ConstId(2)))),
-        ("y", None),
-    ] {
-        let name = Name::from_text(alloc, text)?;
-        assert!(rt; named(&signature, &scope, &name) == want, "{text}");
+    for word in words {
+        let variable = if word == "_" {
+            None
+        } else {
+            Some(Name::from_text(alloc, word)?)
+        };
+        scope.push(variable)?;
     }
-    Ok(())
-}
-
-#[test]
-fn an_underscore_gives_no_name(rt: HostRuntime) -> Result<(), Fail> {
-    let alloc = rt.alloc();
-    for (text, want) in [("x", "x"), ("_x", "_x"), ("_", "none")] {
-        let mut line = String::new(alloc);
-        match binder_name(alloc, &Name::from_text(alloc, text)?)? {
-            Some(name) => push_name(&mut line, &name)?,
-            None => line.push_str("none")?,
-        }
-        assert_eq!(rt; line.as_str(), want, "{text}");
-    }
-    Ok(())
-}
-
-fn mention_line(alloc: Global, mention: &Option<Mention>) -> Result<String, AllocError> {
     let mut line = String::new(alloc);
-    match mention {
-        Some(Mention { name, at }) => {
-            push_name(&mut line, name)?;
-            write!(line, " {}:{}", at.line, at.column)?;
+    match named(&world.signature, &scope, &name) {
+        Some(Head::Var(variable)) => write!(line, "variable {variable}")?,
+        Some(Head::Const(id)) => write!(line, "constant {}", id.0)?,
+        None => line.push_str("none")?,
+    }
+    Ok(line)
+}
+
+/// The name that a binder gives its variable.
+pub(crate) fn bound(alloc: Global, text: &str) -> Result<String, FormFault> {
+    let mut line = String::new(alloc);
+    match binder_name(alloc, &Name::from_text(alloc, text)?)? {
+        Some(name) => push_name(&mut line, &name)?,
+        None => line.push_str("none")?,
+    }
+    Ok(line)
+}
+
+/// The first unknown name of a definition, and where it stands.
+pub(crate) fn unknown(alloc: Global, world: &World, text: &str) -> Result<String, FormFault> {
+    let ExtDecl::Define(_, ty, term, _) = read_decl(alloc, &world.fixities, text)? else {
+        return Err(FormFault::NoMeaning);
+    };
+    let mut line = String::new(alloc);
+    match first_mention(alloc, &world.signature, &ty, &term)? {
+        Some(mention) => {
+            push_name(&mut line, &mention.name)?;
+            push_place(&mut line, mention.at)?;
         }
         None => line.push_str("none")?,
     }
     Ok(line)
 }
 
-#[test]
-fn the_first_unknown_name_is_found(rt: HostRuntime) -> Result<(), Fail> {
-    let alloc = rt.alloc();
-    let signature = numbers(alloc)?;
-    for (text, want) in [
-        ("d : nat -> vec z = q.", "vec 1:12"),
-        ("d = f q.", "f 1:5"),
-        ("d =\n  [x] x\n y.", "y 3:2"),
-        // bound in the type alone
-        ("d : {q:nat} nat = q.", "q 1:19"),
-        // bound, declared, or that of a free variable
-        ("d : {x:nat} nat = [y] y z X _x.", "none"),
-    ] {
-        let Some(ExtDecl::Define(_, ty, term, _)) = read(alloc, text) else {
-            return Err(Fail::from("a text defines nothing"));
-        };
-        let found = first_mention(alloc, &signature, &ty, &term)?;
-        let line = mention_line(alloc, &found)?;
-        assert_eq!(rt; line.as_str(), want, "{text}");
-    }
-    Ok(())
-}
-
-// `-` stands for no name.
-#[test]
-fn leading_quantifiers_have_hints(rt: HostRuntime) -> Result<(), Fail> {
-    let alloc = rt.alloc();
-    for (text, want) in [
-        ("c : {x:nat} nat -> {_:nat} {y} vec y.", " x - - y"),
-        ("c : ({x:nat} nat) -> nat.", " -"),
-        ("c : nat.", ""),
-    ] {
-        let mut line = String::new(alloc);
-        for hint in &hints(alloc, &declared(alloc, text)?)? {
-            line.push_str(" ")?;
-            match hint {
-                Some(name) => push_name(&mut line, name)?,
-                None => line.push_str("-")?,
-            }
+/// How many quantifiers lead a type, and their names; `-` stands for no name.
+pub(crate) fn quantified(alloc: Global, world: &World, text: &str) -> Result<String, FormFault> {
+    let hints = hints(alloc, &declared(alloc, world, text)?)?;
+    let mut line = format!(in alloc; "{}:", hints.len())?;
+    for hint in &hints {
+        line.push(' ')?;
+        match hint {
+            Some(name) => push_name(&mut line, name)?,
+            None => line.push('-')?,
         }
-        assert_eq!(rt; line.as_str(), want, "{text}");
     }
-    Ok(())
+    Ok(line)
 }
 
-#[test]
-fn kinds_end_in_type(rt: HostRuntime) -> Result<(), Fail> {
-    let alloc = rt.alloc();
-    for (text, want) in [
-        ("k : nat -> {x:nat} type.", true),
-        ("k : type -> nat.", false),
-        ("k : nat : type.", false),
-    ] {
-        assert_eq!(rt; ends_in_type(&declared(alloc, text)?), want, "{text}");
-    }
-    Ok(())
+/// Whether what is declared ends in `type`.
+pub(crate) fn is_kind(alloc: Global, world: &World, text: &str) -> Result<String, FormFault> {
+    let ends = ends_in_type(&declared(alloc, world, text)?);
+    Ok(format!(in alloc; "{ends}")?)
 }
 
-#[test]
-fn calls_nest_as_deep_as_frames_are_left(rt: HostRuntime) {
-    assert_eq!(rt; nested(2), Ok(1));
-    assert!(rt; nested(0).is_err());
+/// How many frames are left behind a call.
+pub(crate) fn frames(alloc: Global, text: &str) -> Result<String, FormFault> {
+    let count = u32::try_from(number_of(text)?).or(Err(FormFault::NoMeaning))?;
+    match nested(count) {
+        Ok(left) => Ok(format!(in alloc; "{left}")?),
+        Err(_) => Ok(String::from_str(alloc, "none")?),
+    }
 }

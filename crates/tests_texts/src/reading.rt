@@ -1,83 +1,73 @@
-//! Declarations and queries that are read from text.
+//! Declarations and queries that are read from texts.
+use crate::texts::bytes_of;
 use std::alloc::{AllocError, Global};
-use std::test::Fail;
-use tw_fixity::{Assoc, Fix, FixTable, Name};
-use tw_lexer::{Place, lex};
-use tw_parse::{ExtDecl, ExtQuery, parse_decl, parse_query};
-use tw_recon::reconstruct;
-use tw_signature::Signature;
+use tests_forms::FormFault;
+use tw_fixity::{FixTable, Name};
+use tw_lexer::{LexFault, Place, Tokens, lex};
+use tw_parse::{ExtDecl, ExtQuery, SyntaxFault, parse_decl, parse_query};
 
-/// The declaration that the text is, with these operators.
-pub(crate) fn read_with(alloc: Global, fixities: &FixTable, text: &str) -> Option<ExtDecl> {
-    let bytes = text.as_bytes();
-    if bytes.len() >= 1_000_000 {
-        return None;
-    }
-    let tokens = lex(alloc, bytes, 0, Place { line: 1, column: 1 }).ok()?;
-    parse_decl(alloc, &tokens, bytes, fixities).ok()
-}
+/// How many bytes a text has at most here.
+pub(crate) const LONGEST: usize = 1_000_000;
 
-/// The same without operators.
-pub(crate) fn read(alloc: Global, text: &str) -> Option<ExtDecl> {
-    read_with(alloc, &FixTable::new(alloc), text)
-}
+/// Where a text begins.
+pub(crate) const START: Place = Place { line: 1, column: 1 };
 
-/// The query that the text is.
-pub(crate) fn read_query(alloc: Global, text: &str) -> Option<ExtQuery> {
-    let bytes = text.as_bytes();
-    if bytes.len() >= 1_000_000 {
-        return None;
-    }
-    let fixities = FixTable::new(alloc);
-    let tokens = lex(alloc, bytes, 0, Place { line: 1, column: 1 }).ok()?;
-    parse_query(alloc, &tokens, bytes, &fixities).ok()
-}
-
-/// Declares what the text says.
-pub(crate) fn declare(alloc: Global, signature: &mut Signature, text: &str) -> Result<(), Fail> {
-    let Some(decl) = read(alloc, text) else {
-        return Err(Fail::from("what is declared in front isn't read"));
-    };
-    match reconstruct(alloc, signature, &decl) {
-        Ok(entry) => {
-            signature.add(entry)?;
-            Ok(())
-        }
-        Err(_) => Err(Fail::from("what is declared in front is refused")),
+fn fault_of(fault: LexFault) -> SyntaxFault {
+    match fault {
+        LexFault::Bad(at) => SyntaxFault::BadDecl(at),
+        LexFault::TooMany(at) => SyntaxFault::BadDecl(at),
+        LexFault::NoMemory => SyntaxFault::NoMemory,
     }
 }
 
-/// What these texts declare.
-pub(crate) fn signature_of(alloc: Global, texts: &[&str]) -> Result<Signature, Fail> {
-    let mut signature = Signature::new(alloc);
-    for text in texts {
-        declare(alloc, &mut signature, text)?;
-    }
-    Ok(signature)
-}
-
-/// The part so many times between the others.
-pub(crate) fn repeated(
+/// What the declaration that a text is is read as. No text is longer than a million bytes.
+pub(crate) fn told_decl(
     alloc: Global,
-    before: &str,
-    part: &str,
-    count: usize,
-    after: &str,
-) -> Result<String, AllocError> {
-    let mut text = String::from_str(alloc, before)?;
-    for _ in 0..count {
-        text.push_str(part)?;
+    fixities: &FixTable,
+    text: &str,
+) -> Result<Result<ExtDecl, SyntaxFault>, FormFault> {
+    let bytes = bytes_of(alloc, text)?;
+    if bytes.len() >= LONGEST {
+        return Err(FormFault::NoMeaning);
     }
-    text.push_str(after)?;
-    Ok(text)
+    match lex(alloc, &bytes, 0, START) {
+        Ok(tokens) => Ok(parse_decl(alloc, &tokens, &bytes, fixities)),
+        Err(fault) => Ok(Err(fault_of(fault))),
+    }
 }
 
-/// `+` to the left, and `suc` in front of what it binds more closely.
-pub(crate) fn sums(alloc: Global) -> Result<FixTable, AllocError> {
-    let mut fixities = FixTable::new(alloc);
-    fixities.set(Name::from_text(alloc, "+")?, Fix::Infix(Assoc::Left, 10))?;
-    fixities.set(Name::from_text(alloc, "suc")?, Fix::Prefix(20))?;
-    Ok(fixities)
+/// The same of a query.
+pub(crate) fn told_query(
+    alloc: Global,
+    fixities: &FixTable,
+    text: &str,
+) -> Result<Result<ExtQuery, SyntaxFault>, FormFault> {
+    let bytes = bytes_of(alloc, text)?;
+    if bytes.len() >= LONGEST {
+        return Err(FormFault::NoMeaning);
+    }
+    match lex(alloc, &bytes, 0, START) {
+        Ok(tokens) => Ok(parse_query(alloc, &tokens, &bytes, fixities)),
+        Err(fault) => Ok(Err(fault_of(fault))),
+    }
+}
+
+/// The declaration that a text is. One that isn't read has no meaning.
+pub(crate) fn read_decl(
+    alloc: Global,
+    fixities: &FixTable,
+    text: &str,
+) -> Result<ExtDecl, FormFault> {
+    told_decl(alloc, fixities, text)?.or(Err(FormFault::NoMeaning))
+}
+
+/// The query that a text is.
+pub(crate) fn read_query(
+    alloc: Global,
+    fixities: &FixTable,
+    text: &str,
+) -> Result<ExtQuery, FormFault> {
+    told_query(alloc, fixities, text)?.or(Err(FormFault::NoMeaning))
 }
 
 /// Puts the name behind the line.
@@ -86,4 +76,14 @@ pub(crate) fn push_name(line: &mut String, name: &Name) -> Result<(), AllocError
         line.push(char::from(*byte))?;
     }
     Ok(())
+}
+
+/// Puts the place behind the line.
+pub(crate) fn push_place(line: &mut String, at: Place) -> Result<(), AllocError> {
+    write!(line, " {}:{}", at.line, at.column)
+}
+
+/// The line that the bytes are.
+pub(crate) fn line_of(alloc: Global, bytes: &[u8]) -> Result<String, FormFault> {
+    Ok(String::from_utf8_lossy(alloc, bytes)?)
 }
