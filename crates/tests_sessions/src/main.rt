@@ -36,9 +36,10 @@ fn main(rt: HostRuntime) -> io::Result<()> {
             }
         }
     }
-    let code = exit_code(&Status::InputLong);
+    let long = exit_code(&Status::InputLong);
+    let memory = exit_code(&Status::NoMemory);
     println!(rt;
-        "{sessions} sessions, {differing} differ; an input that is too long ends with {code}"
+        "{sessions} sessions, {differing} differ; an input that is too long ends with {long}, want of memory with {memory}"
     )?;
     Ok(())
 }

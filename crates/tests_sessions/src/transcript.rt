@@ -148,10 +148,13 @@ fn put_words(alloc: Global, case: &mut Case, lines: &[u8]) -> Result<(), AllocEr
     Ok(())
 }
 
-// The status of a session, 0 where none is given.
+// The status of a session, 0 where none is given. What can't be read is no exit status, so that the session is told to differ.
 fn put_status(alloc: Global, case: &mut Case, line: &[u8]) -> Result<(), AllocError> {
     let line = String::from_utf8_lossy(alloc, line)?;
-    case.status = line.trim().parse().unwrap_or(0);
+    let line = line.trim();
+    if !line.is_empty() {
+        case.status = line.parse().unwrap_or(u64::MAX);
+    }
     Ok(())
 }
 
