@@ -1,14 +1,13 @@
 #!/usr/bin/env python3
 """Says what a run of the gate takes: for each crate seconds of its proof, its tests, its edits and its runs, and the peak of memory.
 
-    tools/gate_times.py [-o FILE] -- COMMAND..     runs the command, mostly rt ci --anew, and prints the table when it has ended
+    tools/gate_times.py [-o FILE] -- COMMAND..     runs the command, mostly rt ci, and prints the table when it has ended
     tools/gate_times.py [-o FILE] -p PID           attaches to a command that runs, until it ends or Ctrl-C
 
 The gate's log has no times. So the processes below the command are looked at twice a second: each check names its crate in its words,
 the check of a crate's tests has the word --test, one of an edit runs in a folder of its own, and what was proved runs outside of the
 repository. Seconds are the processor's, so that other work on the machine changes them little; what a process takes behind its last
-sample is not seen. Memory is that of one check with the copies of itself that it starts, pages that they share counted once. What an
-earlier run kept is not proved again and has no row.
+sample is not seen. Memory is that of one check with the copies of itself that it starts, pages that they share counted once.
 """
 import os
 import re

@@ -23,7 +23,7 @@ import cone  # noqa: E402
 TOP = cone.TOP
 CELL = 200
 README_LINES = 120
-PAGE_LINES = range(10, 81)
+PAGE_LINES = range(10, 41)
 EDITS = "## Refused edits"
 BELIEVED = "## To be believed"
 OF_PROOF = "## Of the proof"
