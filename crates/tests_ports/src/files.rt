@@ -1,28 +1,29 @@
 //! Stores of files.
 use crate::slow_disk::SlowDisk;
+use crate::told::Told;
 use std::alloc::{AllocError, Global};
 use tw_ports::{DiskFiles, FileAnswer, Files, MemFiles, SureFiles};
 
 // Tells what a store answers to this name within the limit.
 fn answers<F: Files>(
     alloc: Global,
-    out: &mut Vec<u8>,
+    out: &mut Told,
     files: &mut F,
     name: &str,
     limit: usize,
 ) -> Result<(), AllocError> {
-    out.extend_from_slice(name.as_bytes())?;
+    out.put(name.as_bytes());
     match files.read_file(alloc, name, limit) {
         FileAnswer::Found(bytes) => {
-            out.extend_from_slice(b" is found: ")?;
-            out.extend_from_slice(&bytes)?;
+            out.put(b" is found: ");
+            out.put(&bytes);
         }
-        FileAnswer::Absent => out.extend_from_slice(b" is absent")?,
-        FileAnswer::TooLong => out.extend_from_slice(b" is too long")?,
-        FileAnswer::Failed => out.extend_from_slice(b" fails")?,
+        FileAnswer::Absent => out.put(b" is absent"),
+        FileAnswer::TooLong => out.put(b" is too long"),
+        FileAnswer::Failed => out.put(b" fails"),
         FileAnswer::NoMemory => return Err(AllocError),
     }
-    out.push(b'\n')?;
+    out.put(b"\n");
     Ok(())
 }
 
@@ -39,14 +40,14 @@ fn three(alloc: Global) -> Result<Vec<(String, Vec<u8>)>, AllocError> {
 }
 
 /// Tells what stores in memory answer.
-pub fn in_memory(alloc: Global, out: &mut Vec<u8>) -> Result<(), AllocError> {
-    out.extend_from_slice(b"in a sure store\n")?;
+pub fn in_memory(alloc: Global, out: &mut Told) -> Result<(), AllocError> {
+    out.put(b"in a sure store\n");
     let mut files = SureFiles::new(three(alloc)?);
     answers(alloc, out, &mut files, "one", 3)?;
     answers(alloc, out, &mut files, "one", 2)?;
     answers(alloc, out, &mut files, "two", 0)?;
     answers(alloc, out, &mut files, "on", 9)?;
-    out.extend_from_slice(b"in a store whose calls 1 and 4 fail\n")?;
+    out.put(b"in a store whose calls 1 and 4 fail\n");
     let mut files = MemFiles::new(three(alloc)?, vec![in alloc; 4, 1]?);
     answers(alloc, out, &mut files, "one", 3)?;
     answers(alloc, out, &mut files, "one", 3)?;
@@ -58,7 +59,7 @@ pub fn in_memory(alloc: Global, out: &mut Vec<u8>) -> Result<(), AllocError> {
 // Tells how a file of such a length is read that gives a byte at each read, of which this one fails.
 fn slow(
     alloc: Global,
-    out: &mut Vec<u8>,
+    out: &mut Told,
     length: u8,
     failing: u8,
     limit: usize,
@@ -68,8 +69,8 @@ fn slow(
 }
 
 /// Tells how slow files are read.
-pub fn slowly(alloc: Global, out: &mut Vec<u8>) -> Result<(), AllocError> {
-    out.extend_from_slice(b"on a slow disk\n")?;
+pub fn slowly(alloc: Global, out: &mut Told) -> Result<(), AllocError> {
+    out.put(b"on a slow disk\n");
     slow(alloc, out, 3, 0, 3)?;
     slow(alloc, out, 3, 0, 2)?;
     slow(alloc, out, 3, 3, 3)?;
@@ -79,10 +80,10 @@ pub fn slowly(alloc: Global, out: &mut Vec<u8>) -> Result<(), AllocError> {
 
 /// Tells what the disk answers: for an empty file, one without end within two limits, one that isn't there, a folder, a path
 /// through a file, and a file of ten bytes that just fits and doesn't.
-pub fn on_disk(rt: HostRuntime, out: &mut Vec<u8>) -> Result<(), AllocError> {
+pub fn on_disk(rt: HostRuntime, out: &mut Told) -> Result<(), AllocError> {
     let alloc = rt.alloc();
     let mut files = DiskFiles::new(rt);
-    out.extend_from_slice(b"on the disk\n")?;
+    out.put(b"on the disk\n");
     answers(alloc, out, &mut files, "/dev/null", 0)?;
     answers(alloc, out, &mut files, "/dev/zero", 3)?;
     answers(alloc, out, &mut files, "/dev/zero", 9000)?;

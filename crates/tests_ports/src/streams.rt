@@ -1,6 +1,7 @@
 //! Sources and sinks.
 ghost use Rattle.std.specs.Prelude.{◌<◌};
 
+use crate::told::Told;
 use std::alloc::{AllocError, Global};
 use std::io;
 use tw_ports::{
@@ -10,36 +11,47 @@ use tw_ports::{
 
 const TEXT: &[u8] = b"abcde";
 
-// Tells what a source gives until its end, each failure as `!`, for at most 20 reads of 3 bytes.
-fn gives<S: Source>(out: &mut Vec<u8>, what: &str, source: &mut S) -> Result<(), AllocError> {
-    out.extend_from_slice(what.as_bytes())?;
+// Tells what a source answers to one read of 3 bytes, a failure as `!`, and says whether that was its end.
+fn ends<S: Source>(out: &mut Told, source: &mut S) -> bool {
+    let mut piece = [0; 3];
+    match source.read(&mut piece) {
+        ReadAnswer::Got(count) => {
+            out.put(&piece[..count]);
+            out.put(b"|");
+            false
+        }
+        ReadAnswer::Failed => {
+            out.put(b"!");
+            false
+        }
+        ReadAnswer::End => true,
+    }
+}
+
+// Tells what a source gives until its end, for at most 20 reads.
+fn gives<S: Source>(out: &mut Told, what: &str, source: &mut S) {
+    out.put(what.as_bytes());
     for _ in 0..20 {
-        let mut piece = [0; 3];
-        match source.read(&mut piece) {
-            ReadAnswer::Got(count) => {
-                out.extend_from_slice(&piece[..count])?;
-                out.push(b'|')?;
-            }
-            ReadAnswer::Failed => out.push(b'!')?,
-            ReadAnswer::End => break,
+        if ends(out, source) {
+            break;
         }
     }
-    out.push(b'\n')?;
-    Ok(())
+    out.put(b"\n");
 }
 
 // Tells what a sure source gives in such pieces.
-fn sure_source(alloc: Global, out: &mut Vec<u8>, what: &str, piece: usize) -> Result<(), AllocError>
+fn sure_source(alloc: Global, out: &mut Told, what: &str, piece: usize) -> Result<(), AllocError>
     requires { 0 < piece }
 {
     let mut source = SureSource::new(TEXT.to_vec(alloc)?, piece);
-    gives(out, what, &mut source)
+    gives(out, what, &mut source);
+    Ok(())
 }
 
 // Tells what a source gives in such pieces of whose reads these fail.
 fn source(
     alloc: Global,
-    out: &mut Vec<u8>,
+    out: &mut Told,
     what: &str,
     piece: usize,
     fails: &[u64],
@@ -47,11 +59,12 @@ fn source(
     requires { 0 < piece }
 {
     let mut source = MemSource::new(TEXT.to_vec(alloc)?, piece, fails.to_vec(alloc)?);
-    gives(out, what, &mut source)
+    gives(out, what, &mut source);
+    Ok(())
 }
 
 /// Tells what each source gives.
-pub fn sources(alloc: Global, out: &mut Vec<u8>) -> Result<(), AllocError> {
+pub fn sources(alloc: Global, out: &mut Told) -> Result<(), AllocError> {
     sure_source(alloc, out, "a sure source, by 1: ", 1)?;
     sure_source(alloc, out, "a sure source, by 2: ", 2)?;
     sure_source(alloc, out, "a sure source, by 3: ", 3)?;
@@ -74,37 +87,38 @@ pub fn sources(alloc: Global, out: &mut Vec<u8>) -> Result<(), AllocError> {
         out,
         "a source over a reader: ",
         &mut ReaderSource::new(TEXT),
-    )
+    );
+    Ok(())
 }
 
-// Tells what a sink answers to each of these letters and pairs of letters.
-fn takes<K: Sink>(
-    out: &mut Vec<u8>,
-    what: &str,
-    sink: &mut K,
-    pieces: &[&[u8]],
-) -> Result<(), AllocError> {
-    out.extend_from_slice(what.as_bytes())?;
+// Tells how many bytes of a piece a sink takes.
+fn taken(answer: WriteAnswer) -> &'static [u8] {
+    match answer {
+        WriteAnswer::Took(0) => b" 0",
+        WriteAnswer::Took(1) => b" 1",
+        WriteAnswer::Took(2) => b" 2",
+        WriteAnswer::Took(3) => b" 3",
+        WriteAnswer::Took(_) => b" ?",
+        WriteAnswer::Failed => b" !",
+    }
+}
+
+// Tells what a sink answers to each of these pieces.
+fn takes<K: Sink>(out: &mut Told, what: &str, sink: &mut K, pieces: &[&[u8]]) {
+    out.put(what.as_bytes());
     for piece in pieces {
         if !piece.is_empty() {
-            out.push(b' ')?;
-            out.push(match sink.write(*piece) {
-                WriteAnswer::Took(count) if count < 10 => b'0' + count as u8,
-                WriteAnswer::Took(_) => b'?',
-                WriteAnswer::Failed => b'!',
-            })?;
+            out.put(taken(sink.write(*piece)));
         }
     }
-    out.push(b'\n')?;
-    Ok(())
+    out.put(b"\n");
 }
 
 // Tells what a sink has.
-fn has(out: &mut Vec<u8>, bytes: Option<&[u8]>) -> Result<(), AllocError> {
-    out.extend_from_slice(b"it has ")?;
-    out.extend_from_slice(bytes.unwrap_or(b"no more to tell"))?;
-    out.push(b'\n')?;
-    Ok(())
+fn has(out: &mut Told, bytes: Option<&[u8]>) {
+    out.put(b"it has ");
+    out.put(bytes.unwrap_or(b"no more to tell"));
+    out.put(b"\n");
 }
 
 // A writer in memory that takes one byte less than it is given, and fails in the given call of `flush`.
@@ -132,33 +146,34 @@ impl io::Write for Sparing {
 }
 
 /// Tells how much each sink in memory takes, and what it has then.
-pub fn sinks(alloc: Global, out: &mut Vec<u8>) -> Result<(), AllocError> {
+pub fn sinks(alloc: Global, out: &mut Told) -> Result<(), AllocError> {
     let mut sink = MemSink::new(alloc, vec![in alloc; 2]?);
     takes(
         out,
         "a sink whose write 2 fails:",
         &mut sink,
         &[b"ab", b"cd", b"cd"],
-    )?;
-    has(out, Some(sink.bytes()))?;
+    );
+    has(out, Some(sink.bytes()));
     let mut sink = SureSink::new(alloc, 3)?;
-    takes(out, "a sure sink for 3 bytes:", &mut sink, &[b"ab"])?;
-    has(out, sink.bytes())?;
-    takes(out, "and then:", &mut sink, &[b"cd"])?;
-    has(out, sink.bytes())?;
-    takes(out, "and then:", &mut sink, &[b"c"])?;
-    has(out, sink.bytes())
+    takes(out, "a sure sink for 3 bytes:", &mut sink, &[b"ab"]);
+    has(out, sink.bytes());
+    takes(out, "and then:", &mut sink, &[b"cd"]);
+    has(out, sink.bytes());
+    takes(out, "and then:", &mut sink, &[b"c"]);
+    has(out, sink.bytes());
+    Ok(())
 }
 
 /// Tells how much each sink over a writer takes.
-pub fn writers(alloc: Global, out: &mut Vec<u8>) -> Result<(), AllocError> {
+pub fn writers(alloc: Global, out: &mut Told) {
     let mut sink = WriterSink::new(Vec::new(alloc));
-    takes(out, "a sink over bytes:", &mut sink, &[b"ab", b"c"])?;
+    takes(out, "a sink over bytes:", &mut sink, &[b"ab", b"c"]);
     let mut sink = WriterSink::new(Sparing {
         held: Vec::new(alloc),
         flushes: 0,
         failing: 2,
     });
     let what = "a sink over a writer that takes a byte less, and whose flush 2 fails:";
-    takes(out, what, &mut sink, &[b"abc", b"def", b"g", b"hi"])
+    takes(out, what, &mut sink, &[b"abc", b"def", b"g", b"hi"]);
 }
