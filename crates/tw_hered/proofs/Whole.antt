@@ -84,10 +84,10 @@ same-at-first ws M f = record { fits = f; value = refl; shallow = λ n l a d. (l
 -- a lambda takes its body
 pub taken-lambda : (ws vs us : List Waiting) (M R N : lf.Term) → ws ≡ vs ++ Lambda ∷ [] → R ≡ lambda M → Same ws M us N → Same vs R us N
 taken-lambda ws vs us M R N p q s = record {
-    fits = (fit-front vs Lambda (subst AllFit p s.fits)).0;
-    value = ap (whole vs) q ∙ sym (whole-last vs Lambda M) ∙ sym (ap (λ x. whole x M) p) ∙ s.value;
-    shallow = λ n l a d. shallow n (s.shallow n l a d);
-  }
+  fits = (fit-front vs Lambda (subst AllFit p s.fits)).0;
+  value = ap (whole vs) q ∙ sym (whole-last vs Lambda M) ∙ sym (ap (λ x. whole x M) p) ∙ s.value;
+  shallow = λ n l a d. shallow n (s.shallow n l a d);
+}
   where
     shallow : (n : ℕ) → (length ws ≤ n) × (AllShallow n ws × (depth M ≤ n - length ws)) → (length vs ≤ n) × (AllShallow n vs × (depth R ≤ n - length vs))
     shallow n (l, (a, d)) =
@@ -109,10 +109,10 @@ module _ (ws vs us : List Waiting) (h : Head) (made more : Vec Term Global) (res
   -- a head has its last argument
   pub taken-argument : (R : lf.Term) → rest.now ≡ [] → R ≡ root (head_of h) (args_of more.items) → Same vs R us N
   taken-argument R none r = record {
-      fits = around.0;
-      value = ap (whole vs) (r ∙ ap (root (head_of h)) last) ∙ sym (whole-last vs (Argument h made rest e) (term_of t)) ∙ sym (ap (λ x. whole x (term_of t)) p) ∙ s.value;
-      shallow = λ n l a d. shallow n (shallow_around n (s.shallow n l a d));
-    }
+    fits = around.0;
+    value = ap (whole vs) (r ∙ ap (root (head_of h)) last) ∙ sym (whole-last vs (Argument h made rest e) (term_of t)) ∙ sym (ap (λ x. whole x (term_of t)) p) ∙ s.value;
+    shallow = λ n l a d. shallow n (shallow_around n (s.shallow n l a d));
+  }
     where
       last : args_of more.items ≡ append (args_of made.items) (app (term_of t) (spine_value_in (environment_of e.now) (args_of rest.now)))
       last = sym (append-nil (args_of more.items)) ∙ ap (λ x. append (args_of x) nil) q ∙ append-push made.items t nil ∙ ap (λ x. append (args_of made.items) (app (term_of t) (spine_value_in (environment_of e.now) (args_of x)))) (sym none)

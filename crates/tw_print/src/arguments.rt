@@ -50,12 +50,7 @@ pub fn typed_arguments<'a>(
 }
 
 /// The type with `arg` put in for its newest variable. What nests deeper than a text may is not shown, so past that limit memory counts as used up here too.
-pub fn instantiated(
-    alloc: Global,
-    body: &Ty,
-    arg: &Term,
-    skel: &Skeleton,
-) -> Result<Ty, AllocError>
+pub fn instantiated(alloc: Global, body: &Ty, arg: &Term, skel: &Skeleton) -> Result<Ty, AllocError>
     requires { TypeFits (single (skeleton_of skel.now) (term_of arg.now)) (type_of body.now) }
     ensures { IfOk result (λ a. type_of a ≡ substitute_type reduce (single (skeleton_of skel.now) (term_of arg.now)) (type_of body.now)) }
 {

@@ -23,4 +23,3 @@ returns-clause-ok c =
     let v : map term_of c.loop-arg.args.items ≡ map (λ t. value_in (environment_of c.args.environment.now) (term_of t)) c.deref-arg-items.result.now = grind (arith, environments) in
     let r : args_of c.loop-arg.args.items ≡ spine_value_in (environment_of c.args.environment.now) (spine_of c.args.spine.now) = ap spine_from v ∙ sym (arguments_value (environment_of c.args.environment.now) c.deref-arg-items.result.now) ∙ sym (ap (spine_value_in (environment_of c.args.environment.now)) e) in
     grind (arith, environments, r)
-
