@@ -185,6 +185,9 @@ pub fn put_in_type<'a>(
     Ok(Some(found))
 }
 
+/// The greatest depth that `instantiate` is asked for.
+const INSTANCE_LEVELS: u64 = 10_010;
+
 /// The same by `instantiate`, for the newest variable: no variable is bound above it.
 pub fn put_in_newest<'a>(
     alloc: Global,
@@ -202,7 +205,7 @@ pub fn put_in_newest<'a>(
     if !body_typed {
         return Ok(None);
     }
-    let found = instantiate(alloc, body, arg, skel)?;
+    let found = instantiate(alloc, body, arg, skel, INSTANCE_LEVELS)?;
     Ok(Some(found))
 }
 

@@ -4,3 +4,4 @@ pub mod Calls
 pub mod Expanded
 pub mod FromTyping
 pub mod Known
+pub mod Whole

@@ -1,3 +1,4 @@
 pub mod Fits
 pub mod View
 pub mod Known
+pub mod Waiting

@@ -1,5 +1,5 @@
 //! Substitution for one variable, and the application of a term to all its arguments.
-ghost use Rattle.std.specs.Prelude.{◌≡◌, ◌≤◌, IfOk, IsErrOf};
+ghost use Rattle.std.specs.Prelude.{◌≡◌, ◌≤◌, ◌<◌, IfOk, IsErrOf};
 ghost use Rattle.lf.specs.Substitution.{single, substitute as put_in, substitute_type, reduce};
 ghost use Rattle.lf.specs.Depth.{depth, type_depth, depth_limit};
 ghost use Rattle.lf.specs.Deep.{DeepSubstitution, DeepTypeSubstitution, DeepReduction};
@@ -15,10 +15,6 @@ use crate::normal::{LEVELS, normal_term, normal_type};
 use bumpalo::Bump;
 use std::alloc::{AllocError, Global};
 use tw_terms::{Skeleton, Spine, Term, Ty};
-
-/// The greatest depth of what `instantiate` gives: past it, the machine's stack counts as used up.
-/// A level of a walk takes some 690 bytes of the stack, so that all take 6 of the usual 8 MiB.
-const STACK_LEVELS: u64 = 8_500;
 
 /// Hereditary substitution of `arg`, a term of the skeleton `skel`, for the variable `index` of `body`.
 ///
@@ -59,17 +55,23 @@ pub fn substitute_ty(
     normal_type(alloc, &arena, body, environment, LEVELS)
 }
 
-/// The type with `arg` put in for its newest variable, as deep as it comes. Fails only for want of memory.
-pub fn instantiate(alloc: Global, body: &Ty, arg: &Term, skel: &Skeleton) -> Result<Ty, AllocError>
+/// The type with `arg` put in for its newest variable, up to a depth that the caller states. Answers `TooDeep` only where that type is deeper than `levels`, and
+/// `NoMemory` where memory is wanting. It takes no more of the machine's stack however deep a term of the type comes out; copying and dropping it takes some.
+pub fn instantiate(
+    alloc: Global,
+    body: &Ty,
+    arg: &Term,
+    skel: &Skeleton,
+    levels: u64,
+) -> Result<Ty, HeredFault>
     requires { TypeFits (single (skeleton_of skel.now) (term_of arg.now)) (type_of body.now) }
-    ensures { IfOk result (λ a. type_of a ≡ substitute_type reduce (single (skeleton_of skel.now) (term_of arg.now)) (type_of body.now)) }
+    ensures ok { IfOk result (λ a. type_of a ≡ substitute_type reduce (single (skeleton_of skel.now) (term_of arg.now)) (type_of body.now)) }
+    ensures shallow { IfOk result (λ a. type_depth (type_of a) ≤ levels) }
+    ensures too_deep { IsErrOf result HeredFault.TooDeep → levels < type_depth (substitute_type reduce (single (skeleton_of skel.now) (term_of arg.now)) (type_of body.now)) }
 {
     let arena = Bump::new(alloc);
     let environment = environment_for(&arena, 0, arg, skel)?;
-    match normal_type(alloc, &arena, body, environment, STACK_LEVELS) {
-        Ok(ty) => Ok(ty),
-        Err(_) => Err(AllocError),
-    }
+    normal_type(alloc, &arena, body, environment, levels)
 }
 
 /// The canonical form of `term`, of the skeleton `skel`, applied to all the arguments that it takes.

@@ -2,10 +2,9 @@
 //!
 //! Nothing is put in that does not stand in the result: a term is walked in an environment that says what stands for each variable, and a variable
 //! that stands for a closure is replaced by the closure's body, with its arguments as closures in the environment. Then the head of the result is known,
-//! and its arguments are made in turn. So the stack nests as deep as the result, and no deeper.
+//! and its arguments are made in turn. What stands around them waits on the heap, so the machine's stack doesn't nest, however deep a term comes out.
 //!
-//! A call answers `TooDeep` where its result is deeper than 4,096 (`instantiate` never does), and `NoMemory` where memory is wanting.
-//! The machine's stack is memory too: `instantiate` gives results of depth up to 8,500, and past these it wants memory.
+//! A call answers `TooDeep` where its result is deeper than 4,096, `instantiate` where it is deeper than its caller says, and `NoMemory` where memory is wanting.
 #![tactic(auto)]
 
 #[tactic(auto, using(crate::proofs::Environments::environments))]
@@ -19,6 +18,8 @@ mod head;
 mod hereditary;
 #[tactic(auto, using(crate::proofs::Environments::environments, crate::proofs::Arguments::arguments))]
 mod normal;
+#[tactic(auto, using(crate::proofs::Environments::environments, crate::proofs::Arguments::arguments))]
+mod waiting;
 
 pub use expand::eta;
 pub use fault::HeredFault;

@@ -1,15 +1,17 @@
 //! Canonical forms of terms and types in an environment, built from their heads inward.
-ghost use Rattle.std.specs.Prelude.{◌≡◌, ◌≤◌, ◌<◌, ◌++◌, ◌∷◌, [], IfOk, IsErrOf};
-ghost use Rattle.lf.specs.Syntax.{lambda as lambda_of, pi as pi_of};
+ghost use Rattle.std.specs.Prelude.{◌≡◌, ◌≤◌, ◌<◌, ◌++◌, ◌∷◌, [], length, IfOk, IsErrOf};
+ghost use Rattle.lf.specs.Syntax.{pi as pi_of};
 ghost use Rattle.lf.specs.Depth.{depth, spine_depth, type_depth};
 ghost use Rattle.lf_closures.specs.Environments.{value_in, spine_value_in, type_value_in};
 ghost use Rattle.lf_closures.specs.Typing.{ClosureFits, SpineClosureFits, TypeClosureFits};
 ghost use Rattle.tw_terms.specs.View.{term_of, spine_of, type_of};
 ghost use Rattle.tw_hered.specs.View.{environment_of};
+ghost use Rattle.tw_hered.specs.Waiting.{whole, AllFit, AllShallow, value_of_next, NextFits, NextIsShallow};
 
 use crate::environment::{Environment, under_binder};
 use crate::fault::HeredFault;
-use crate::head::{Exposed, expose};
+use crate::head::{Entered, Exposed, expose};
+use crate::waiting::{Next, Waiting, begin_arguments, begin_body};
 use bumpalo::Bump;
 use std::alloc::{AllocError, Global};
 use tw_terms::{DEPTH_LIMIT, Spine, Term, Ty};
@@ -18,7 +20,7 @@ use tw_terms::{DEPTH_LIMIT, Spine, Term, Ty};
 pub const LEVELS: u64 = DEPTH_LIMIT as u64;
 
 /// The canonical form of the term in the environment. Answers `TooDeep` where it is deeper than `levels`.
-#[cycle(normal)]
+/// What stands around the term that is made next waits on the heap. Terms are counted, and memory counts as used up after 2 ^ 64 - 1 of them.
 pub fn normal_term<'a>(
     alloc: Global,
     arena: &'a Bump,
@@ -31,29 +33,56 @@ pub fn normal_term<'a>(
     ensures shallow { IfOk result (λ m. depth (term_of m) ≤ levels) }
     ensures too_deep { IsErrOf result HeredFault.TooDeep → levels < depth (value_in (environment_of environment.now) (term_of term.now)) }
 {
-    if levels == 0 {
+    let mut waiting = Vec::new(alloc);
+    let mut here = Entered {
+        body: term,
+        environment,
+    };
+    for _ in 0..u64::MAX {
+        match step(alloc, arena, &mut waiting, here, levels) {
+            Ok(next) => match next {
+                Next::Going(entered) => here = entered,
+                Next::Made(whole) => return Ok(whole),
+            },
+            Err(fault) => return Err(fault),
+        }
+    }
+    Err(HeredFault::NoMemory)
+}
+
+/// Makes the head of the next term, and gives it to what waits for it. Answers `TooDeep` where `levels` lambdas and heads stand around the term.
+#[inline(never)]
+fn step<'a>(
+    alloc: Global,
+    arena: &'a Bump,
+    waiting: &mut Vec<Waiting<'a>>,
+    here: Entered<'a>,
+    levels: u64,
+) -> Result<Next<'a>, HeredFault>
+    requires waiting { AllFit waiting.old.items }
+    requires fits { ClosureFits (environment_of here.environment.now) (term_of here.body.now) }
+    ensures value { IfOk result (λ r. value_of_next waiting.new.items r ≡ whole waiting.old.items (value_in (environment_of here.entry.environment.now) (term_of here.entry.body.now))) }
+    ensures waiting { IfOk result (λ r. AllFit waiting.new.items) }
+    ensures fits { IfOk result (λ r. NextFits r) }
+    ensures shallow { IfOk result (λ r. length waiting.old.items ≤ levels → AllShallow levels waiting.old.items → NextIsShallow levels waiting.new.items r) }
+    ensures too_deep { IsErrOf result HeredFault.TooDeep → levels < depth (whole waiting.old.items (value_in (environment_of here.entry.environment.now) (term_of here.entry.body.now))) }
+{
+    if waiting.len() as u64 >= levels {
         return Err(HeredFault::TooDeep);
     }
-    match expose(arena, term, environment)? {
+    match expose(arena, here.body, here.environment)? {
         Exposed::Lam(body, around) => {
             let inside = under_binder(arena, around)?;
-            match normal_term(alloc, arena, body, inside, levels - 1) {
-                Ok(body) => Ok(lambda(alloc, body)?),
-                Err(fault) => Err(fault),
-            }
+            Ok(begin_body(waiting, body, inside)?)
         }
         Exposed::Root(head, spine, around) => {
-            match normal_spine(alloc, arena, spine, around, levels - 1) {
-                Ok(spine) => Ok(Term::Root(head, spine)),
-                Err(fault) => Err(fault),
-            }
+            Ok(begin_arguments(alloc, waiting, head, &spine.args, around)?)
         }
     }
 }
 
-/// The same of each argument.
-#[cycle(normal)]
-pub fn normal_spine<'a>(
+/// The canonical forms of the arguments of a family. Answers `TooDeep` where one is deeper than `levels`.
+fn normal_spine<'a>(
     alloc: Global,
     arena: &'a Bump,
     spine: &'a Spine,
@@ -110,13 +139,6 @@ pub fn normal_type<'a>(
             }
         }
     }
-}
-
-/// A lambda over the body.
-fn lambda(alloc: Global, body: Term) -> Result<Term, AllocError>
-    ensures { IfOk result (λ m. term_of m ≡ lambda_of (term_of body)) }
-{
-    Ok(Term::Lam(Box::new(alloc, body)?))
 }
 
 /// The product of a domain and a range.

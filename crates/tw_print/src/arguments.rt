@@ -1,17 +1,20 @@
 //! The arguments of heads, with the types by which lambdas are shown.
 ghost use Rattle.std.specs.Prelude.{◌≡◌, IfOk, map, option_map};
 ghost use Rattle.lf.specs.Entries.{signature_of, entry as entry_numbered, type_of as type_of_entry, kind_of as kind_of_entry};
-ghost use Rattle.tw_terms.specs.View.{head_of, term_of, args_of, type_of, kind_of};
+ghost use Rattle.lf.specs.Substitution.{single, reduce, substitute_type};
+ghost use Rattle.tw_hered.specs.Fits.{TypeFits};
+ghost use Rattle.tw_terms.specs.View.{head_of, term_of, args_of, type_of, kind_of, skeleton_of};
 ghost use Rattle.tw_print.specs.Arguments as spec;
 ghost use Rattle.tw_print.specs.ArgumentView.{argument_of, any_lambda, lambda_test};
 ghost use Rattle.tw_print.specs.SceneView.{scene_in};
 ghost use Rattle.tw_print.specs.Showable.{Takes};
 
+use crate::declaration::nesting_limit;
 use crate::scene::Scene;
 use std::alloc::{AllocError, Global};
 use tw_hered::instantiate;
 use tw_signature::Body;
-use tw_terms::{ConstId, Context, Head, Kind, Spine, Term, Ty, skeleton, weaken};
+use tw_terms::{ConstId, Context, Head, Kind, Skeleton, Spine, Term, Ty, skeleton, weaken};
 
 /// An argument, with its type where it is a lambda.
 #[derive(Drop)]
@@ -38,12 +41,23 @@ pub fn typed_arguments<'a>(
             Ty::Pi(domain, range) => {
                 arguments.push(typed_argument(alloc, term, &domain)?)?;
                 let shape = skeleton(alloc, &domain)?;
-                left = instantiate(alloc, &range, term, &shape)?;
+                left = instantiated(alloc, &range, term, &shape)?;
             }
             Ty::Atom(_, _) => unreachable!(),
         }
     }
     Ok(arguments)
+}
+
+/// The type with `arg` put in for its newest variable. What nests deeper than a text may is not shown, so past that limit memory counts as used up here too.
+pub fn instantiated(alloc: Global, body: &Ty, arg: &Term, skel: &Skeleton) -> Result<Ty, AllocError>
+    requires { TypeFits (single (skeleton_of skel.now) (term_of arg.now)) (type_of body.now) }
+    ensures { IfOk result (λ a. type_of a ≡ substitute_type reduce (single (skeleton_of skel.now) (term_of arg.now)) (type_of body.now)) }
+{
+    match instantiate(alloc, body, arg, skel, nesting_limit()) {
+        Ok(ty) => Ok(ty),
+        Err(_) => Err(AllocError),
+    }
 }
 
 /// An argument of this type.

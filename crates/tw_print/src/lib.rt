@@ -19,6 +19,7 @@ mod print;
 mod scene;
 mod show;
 
+pub use arguments::instantiated;
 pub use marks::{mark_term, mark_type};
 pub use names::{Names, Preference};
 pub use show::{ShowEnv, show_decl, show_entry, show_equal, show_term, show_type};

@@ -2,8 +2,8 @@
 use Rattle.std.proofs.Common.{◌≡◌, ◌≢◌, ℕ, suc, ◌<◌, Box, Global, Bool, true, false, Some, None, arith, sym, ap, ◌∙◌, subst}
 use Rattle.std.specs.Bool.{OnFalse}
 use Rattle.lf.specs.Syntax.{Skeleton, base as base_skeleton}
-use Rattle.tw_shapes.specs.Shapes.{Shape as PlainShape, variable, arrow, AllVariables, Mentions, filled, Store, value_of, IsOpen}
-use Rattle.tw_shapes.specs.Order.{IsOrdered, length_of_walk}
+use Rattle.tw_shapes.specs.Shapes.{Shape as PlainShape, variable, arrow, AllVariables, Mentions, filled, Solves, Store, value_of, IsOpen}
+use Rattle.tw_shapes.specs.Order.{IsOrdered, IsFollowed, length_of_walk}
 use Rattle.tw_shapes.specs.View.{shape_of}
 use Rattle.tw_shapes.specs.declared.shape.ShapeId.{ShapeId}
 use Rattle.tw_shapes.specs.declared.shape.Shape.{Shape, Variable, Arrow}
@@ -42,8 +42,19 @@ free-is-open s o m e = record {
   differ = λ q. let a : base_skeleton 0 ≡ base_skeleton 1 = sym (filling-free (base_skeleton 0) s o m e) ∙ (q ∙ filling-free (base_skeleton 1) s o m e) in cc;
 }
 
-pub free-Variable : (s : Store) → IsOrdered s → (x : Shape) (m : ShapeId) → x ≡ Variable m → value_of s m.0 ≡ None → IsOpen s (shape_of x)
-free-Variable s o x m e f = subst (IsOpen s) (sym (ap shape_of e ∙ shape_of-Variable m)) (free-is-open s o m.0 f)
+-- so is what comes to one
+pub followed-is-open : (s : Store) → IsOrdered s → (S : PlainShape) (x : Shape) (m : ShapeId) → x ≡ Variable m → IsFollowed s (shape_of x) → ((θ : ℕ → Skeleton) → Solves θ s → filled θ (shape_of x) ≡ filled θ S) → IsOpen s S
+followed-is-open s o S x m e f same =
+    let is : shape_of x ≡ variable m.0 = ap shape_of e ∙ shape_of-Variable m in
+    let free = free-is-open s o m.0 (subst (IsFollowed s) is f) in
+    let at : (θ : ℕ → Skeleton) → Solves θ s → θ m.0 ≡ filled θ S = λ θ h. sym (ap (filled θ) is) ∙ same θ h in
+    record {
+      first = free.first;
+      second = free.second;
+      first_solves = free.first_solves;
+      second_solves = free.second_solves;
+      differ = λ q. free.differ (at free.first free.first_solves ∙ q ∙ sym (at free.second free.second_solves));
+    }
 
 -- a variable is no arrow that mentions it
 pub mentioned-Arrow : (m : ℕ) (x : Shape) (a b : Box Shape Global) → x ≡ Arrow a b → Mentions m (shape_of x) → (θ : ℕ → Skeleton) → θ m ≢ filled θ (shape_of x)

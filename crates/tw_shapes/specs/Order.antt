@@ -11,6 +11,12 @@ height_at count None = 0
 abbrev pub height : Store → ℕ → ℕ
 height s m = height_at (length s.values) (place_of s m)
 
+-- A shape that is no bound variable: what a chain of bindings comes to.
+abbrev pub IsFollowed : Store → Shape → Type 0
+IsFollowed s (variable m) = value_of s m ≡ None
+IsFollowed s (base c) = Unit {0}
+IsFollowed s (arrow S T) = Unit {0}
+
 -- Each place has a binding. Its variables are of the store, and lower than the variable that is bound to it.
 pub record IsOrdered (s : Store) : Type 0 where
   pub placed : (m p : ℕ) → place_of s m ≡ Some p → p < length s.values

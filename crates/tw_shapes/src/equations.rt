@@ -9,6 +9,7 @@ ghost use Rattle.tw_shapes.specs.EquationView.{equation_of, equations_of, betwee
 
 use crate::bindings::Bindings;
 use crate::shape::{Shape, ShapeId};
+use crate::store::FRAMES;
 use std::alloc::{AllocError, Global};
 use tw_terms::ConstId;
 
@@ -147,7 +148,7 @@ fn follow(
             Ok(Step::Goes)
         }
         None => {
-            let value = bindings.resolved(alloc, &other)?;
+            let value = bindings.resolved(alloc, &other, FRAMES)?;
             Ok(free_step(variable, value))
         }
     }

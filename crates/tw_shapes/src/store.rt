@@ -33,8 +33,9 @@ impl Model for Shapes {
     ghost invariant = { λ s. IsOrdered (store_of s.bindings) };
 }
 
-/// How many variables a store has at most.
-const VARIABLES: usize = 16_384;
+/// How many arrows nest at most in a shape with its bindings followed; past these the machine's stack, which is memory too, is wanting. A type of so many arrows is
+/// far deeper than one that is kept.
+pub const FRAMES: u32 = 10_500;
 
 impl Shapes {
     ghost use Rattle.tw_shapes.specs.Shapes.{empty_store, Solves, with_variable, count_of, value_of, IsWithin, IsUnused, HasSolution, Unifies, IsAlways, IsOpen, SameSolutions};
@@ -53,8 +54,7 @@ impl Shapes {
         }
     }
 
-    /// One variable more, of which nothing is said. Its number is how many there were. Without memory nothing changes; past 16,384 variables memory counts as used up,
-    /// so that the shapes of one declaration don't nest deeper than the machine's stack bears.
+    /// One variable more, of which nothing is said. Its number is how many there were. Without memory nothing changes.
     pub fn fresh(&mut self) -> Result<ShapeId, AllocError>
         ensures ok { OnOk result (self.new ≡ with_variable self.old) }
         ensures number { IfOk result (λ m. m.0 ≡ count_of self.old) }
@@ -64,9 +64,6 @@ impl Shapes {
         ensures count { count_of self.old ≤ count_of self.new }
         ensures err { OnErr result (self.new ≡ self.old) }
     {
-        if self.bindings.places.len() >= VARIABLES {
-            return Err(AllocError);
-        }
         let number = self.bindings.places.len() as u64;
         self.bindings.places.push(None)?;
         Ok(ShapeId(number))
@@ -75,7 +72,7 @@ impl Shapes {
     /// Makes both shapes equal, in the most general way: whether that can be done. Where it can't, or memory is wanting, nothing changes.
     /// The shapes are of variables that `fresh` gave.
     /// It takes time, and memory for what it binds, in the size of the shapes with their bindings followed, where each use of a variable counts anew:
-    /// with `X1 = X0 -> X0`, `X2 = X1 -> X1`, .. that doubles each time. It takes stack in their depth so followed, as do `solved` and what drops a skeleton.
+    /// with `X1 = X0 -> X0`, `X2 = X1 -> X1`, .. that doubles each time. It takes stack in the arrows that nest so, as do `solved` and what drops a skeleton: past 10,500 of them memory counts as used up.
     pub fn unify(&mut self, left: &Shape, right: &Shape) -> Result<bool, AllocError>
         requires left { IsWithin (count_of self.old) (shape_of left.now) }
         requires right { IsWithin (count_of self.old) (shape_of right.now) }
@@ -97,7 +94,7 @@ impl Shapes {
     pub fn solved(&self, shape: &Shape) -> Result<Option<Skeleton>, AllocError>
         ensures { IfOk result (λ o. MatchOption o (IsOpen self.now (shape_of shape.now)) (λ k. IsAlways self.now (shape_of shape.now) (skeleton_of k))) }
     {
-        self.bindings.skeleton(self.alloc, shape)
+        self.bindings.skeleton(self.alloc, shape, FRAMES)
     }
 
     /// Each store has a solution. A law: it has no code.

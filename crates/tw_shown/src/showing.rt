@@ -12,8 +12,7 @@ ghost use Rattle.tw_shown.specs.Walks.{Adds};
 use crate::heads::{family_type, has_lambda, head_hidden, head_type, hidden};
 use crate::walk::Walk;
 use std::alloc::{AllocError, Global};
-use tw_hered::instantiate;
-use tw_print::ShowEnv;
+use tw_print::{ShowEnv, instantiated};
 use tw_terms::numbers::one_less;
 use tw_terms::{ConstId, Head, Spine, Term, Ty, skeleton};
 
@@ -163,7 +162,7 @@ fn walk_typed(
             Ty::Pi(domain, range) => {
                 walk_argument(alloc, env, walk, term, Some(&domain), place < count, inner)?;
                 let shape = skeleton(alloc, &domain)?;
-                left = instantiate(alloc, &range, term, &shape)?;
+                left = instantiated(alloc, &range, term, &shape)?;
             }
             Ty::Atom(_, _) => unreachable!(),
         }
