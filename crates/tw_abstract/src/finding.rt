@@ -73,6 +73,7 @@ fn note_unbound(store: &Store, found: &mut Positions) -> Result<(), AllocError>
             note(found, meta)?;
         }
     }
+    // No vector in memory holds so many metavariables; the clauses of the store do not say so.
     Err(AllocError)
 }
 

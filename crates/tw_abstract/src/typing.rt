@@ -80,6 +80,7 @@ fn type_over(
     let ty = put_type(alloc, store, meta)?;
     match generalized_type(alloc, outside, 0, &ty)? {
         Some(ty) => Ok(ty),
+        // Quantifiers in an order that stands leave no metavariable free; no clause of this call asks for such an order.
         None => Err(HeredFault::NoMemory),
     }
 }
@@ -91,6 +92,7 @@ fn put_type(alloc: Global, store: &Store, meta: MetaId) -> Result<OpenTy, HeredF
 {
     match store.about(meta) {
         Some((_, ty)) => Ok(put_in_type(alloc, store, 0, ty)?),
+        // Sites are declared; no clause of this call asks for it.
         None => Err(HeredFault::NoMemory),
     }
 }

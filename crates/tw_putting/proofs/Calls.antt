@@ -38,7 +38,7 @@ pub empty_value : (k : ℕ) (e : Environment) (M : Term) → put_value empty_sta
 unfolding put_value values_under values_to
 empty_value k e M = fill_none (skeletons_of (types_of empty_state)) (value_in e M)
 
-empty_type_value : (k : ℕ) (e : Environment) (A : LfType) → put_type_value empty_state k e A ≡ type_value_in e A
+pub empty_type_value : (k : ℕ) (e : Environment) (A : LfType) → put_type_value empty_state k e A ≡ type_value_in e A
 unfolding put_type_value values_under values_to
 empty_type_value k e A = fill_none_type (skeletons_of (types_of empty_state)) (type_value_in e A)
 

@@ -17,3 +17,4 @@ pub mod Changes
 pub mod Skeletons
 pub mod Ordered
 pub mod Readiness
+pub mod ReadingOff

@@ -8,3 +8,4 @@ pub mod Closed
 pub mod Unfolding
 pub mod Whole
 pub mod Ready
+pub mod Domains

@@ -21,8 +21,8 @@ use tw_terms::{Open, OpenSpine, OpenTy};
 /// The greatest depth of a result.
 const DEPTH_LIMIT: u64 = 4_096;
 
-/// The greatest depth of what `instantiate` gives: past it, the machine's stack counts as used up.
-const STACK_LEVELS: u64 = 8_500;
+/// The greatest depth of what `instantiate` and `domains` give: past it, the machine's stack counts as used up.
+pub const STACK_LEVELS: u64 = 8_500;
 
 /// Hereditary substitution of `arg`, a term of the skeleton of `ty`, for the variable `index` of `body`. Metavariables stay.
 ///

@@ -4,8 +4,8 @@
 //! stands for a closure is replaced by the closure's body, and a metavariable that is bound by its value's body, with the arguments as closures in the
 //! environment. Then the head of the result is known, and its arguments are made in turn. So the stack nests as deep as the result, and no deeper.
 //!
-//! A call answers `TooDeep` where its result is deeper than 4,096 (`instantiate` never does), and `NoMemory` where memory is wanting.
-//! The machine's stack is memory too: `instantiate` gives results of depth up to 8,500, and past these it wants memory.
+//! A call answers `TooDeep` where its result is deeper than 4,096 (`instantiate` and `domains` never do), and `NoMemory` where memory is wanting.
+//! The machine's stack is memory too: `instantiate` and `domains` give results of depth up to 8,500, and past these they want memory.
 #![tactic(auto)]
 
 #[tactic(auto, using(crate::proofs::Openings::openings))]
@@ -30,6 +30,8 @@ mod put;
 #[tactic(auto, using(crate::proofs::Shifts::shifts))]
 mod shifting;
 #[tactic(auto, using(crate::proofs::Environments::environments))]
+mod telescope;
+#[tactic(auto, using(crate::proofs::Environments::environments))]
 mod unfolding;
 
 pub use closing::{closed_spine, closed_term, closed_type};
@@ -42,5 +44,6 @@ pub use opening::{open_skeleton, open_spine, open_term, open_type};
 pub use plain::{is_all_in, is_spine_all_in, is_type_all_in};
 pub use put::{put_in, put_in_spine, put_in_type};
 pub use shifting::{shift, shift_spine, shift_type};
+pub use telescope::domains;
 pub use tw_hered::HeredFault;
 pub use unfolding::{constant_head, unfold};

@@ -3,3 +3,4 @@ pub mod Args
 pub mod OpenViews
 pub mod OpenArgs
 pub mod Weakened
+pub mod Scopes

@@ -1,3 +1,4 @@
 pub mod View
 pub mod OpenView
 pub mod Codes
+pub mod Shared

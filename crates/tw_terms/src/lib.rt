@@ -8,7 +8,7 @@ pub mod context;
 pub mod copy;
 pub mod depth;
 pub mod numbers;
-#[tactic(auto, using(crate::proofs::OpenArgs::open_types))]
+#[tactic(auto, using(crate::proofs::Scopes::rows))]
 pub mod open_context;
 #[tactic(auto, using(crate::proofs::OpenArgs::open_spines))]
 pub mod open_terms;

@@ -10,7 +10,6 @@ pub mod FlexibleMoves
 pub mod Stories
 pub mod Changed
 pub mod Variables
-pub mod Simple
 pub mod Fitting
 pub mod Working
 pub mod Leaving

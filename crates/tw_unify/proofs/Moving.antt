@@ -13,7 +13,7 @@ use Rattle.lf.specs.Subordination.{Member}
 use Rattle.lf.specs.Syntax.{LfType, Skeleton, Spine, Term, base, constant, lambda, metavariable, root, skeleton, variable}
 use Rattle.lf.specs.Typing.{Signature}
 use Rattle.lf_unification.specs.Inversion.{Inverted, IsPattern, MustDrop, NeverInverted}
-use Rattle.lf_unification.specs.OpenTyping.{MetavariablesIn, MetavariablesInSpine, skeletons_of}
+use Rattle.lf_unification.specs.OpenTyping.{Declares, MetavariablesIn, MetavariablesInSpine, skeletons_of}
 use Rattle.lf_unification.specs.Outside.{IsLambda, IsStuck}
 use Rattle.lf_unification.specs.Patterns.{FreeVariablesIn, FreeVariablesInSpine, InImage, LiftedSet, beyond, lambdas_of, local_skeletons, pattern, pattern_renaming}
 use Rattle.lf_unification.specs.Pruning.{CanAgree, CanDrop}
@@ -41,7 +41,7 @@ use Rattle.tw_putting.specs.Unfolding.{HeadStays}
 use Rattle.tw_unify.specs.Moving.{AgainstFits, AreRenewed, BindsTo, HeadsFit, IsBlocked, IsSame, KeepsIt, LosesInBoth, LosesInside, LosesIt, NoMove, NothingInside, SidesFit, on_pattern}
 use Rattle.tw_unify.specs.Reaching.{IsAvoided}
 use Rattle.tw_unify.proofs.Reaching.{member_of_both}
-use Rattle.tw_putting.proofs.Skeletons.{term_with_more}
+use Rattle.tw_putting.proofs.Skeletons.{term_scoped, term_with_more}
 
 some_same : {A : Type 0} {x y : A} → Some x ≡ Some y → x ≡ y
 some_same e = cc
@@ -78,6 +78,10 @@ inverted_not_never Ψ D t xs N i n =
 -- the unbound metavariable that is to be pruned
 pub dropped_unbound : (V : ℕ → Type 0) (Ψ : ℕ → Option LfType) (D : List LfType) (t : Skeleton) (xs : List ℕ) (N : Term) → MetavariablesIn V N → (d : MustDrop Ψ D t xs N) → V d.m
 dropped_unbound V Ψ D t xs N i d = (rigid_metavariables V d.at i).0
+
+-- what must lose an argument is declared
+pub loss_declared : (Σ : Signature) (Ψ : ℕ → Option LfType) (D : List LfType) (t u : Skeleton) (xs : List ℕ) (N : Term) (m place : ℕ) → TermSkeleton (declared_skeletons Σ Ψ) (local_skeletons D []) N u → MustLose Ψ D t xs N m place → Declares Ψ m
+loss_declared Σ Ψ D t u xs N m place n l = subst (Declares Ψ) l.of (dropped_unbound (Declares Ψ) Ψ D t xs N (term_scoped Σ Ψ (local_skeletons D []) N u n) l.drop)
 
 module _ (Σ : Signature) (Ψ : ℕ → Option LfType) where
   constants_same : (c : ℕ) (t : Skeleton) → type_skeleton (Σ.types c) ≡ Some t → type_skeleton (Σ.types c) ≡ Some t

@@ -2,12 +2,13 @@
 use Rattle.std.proofs.Common.{◌≡◌, ◌<◌, ℕ, List, [], ◌∷◌, length, slice_get, Bool, true, false, Some, None, inl, inr, refl, sym, ap, ◌∙◌, subst}
 use Rattle.std.specs.Prelude.{not, IsTrue, ◌↔◌}
 use Rattle.std.specs.Bool.{MatchBool}
+use Rattle.std.specs.Option.{option_map}
 use Rattle.lf.specs.Subordination.{Member}
 use Rattle.lf.specs.Syntax.{LfType, Term}
-use Rattle.lf_unification.specs.OpenTyping.{MetavariablesInType}
+use Rattle.lf_unification.specs.OpenTyping.{Declares, MetavariablesInType}
 use Rattle.lf_unification.specs.Putting.{Unbound}
 use Rattle.lf_unification.specs.Unifiers.{Binding}
-use Rattle.tw_metas.specs.State.{IsUnbound, State, value_of}
+use Rattle.tw_metas.specs.State.{Declaration, IsUnbound, State, value_of}
 use Rattle.tw_putting.specs.Stores.{TypeAllIn, bindings_of, types_of}
 use Rattle.tw_putting.specs.Whole.{IsConsistent}
 use Rattle.tw_putting.proofs.Changes.{there_is, within}
@@ -37,3 +38,14 @@ is_there s c m u n =
     let place : m < length s.declared = subst (λ k. m < k) c.places (within s.values m None u) in
     let (d, e) = there_is s.declared m place in
     let no : Some d ≡ None = sym e ∙ n in cc
+
+-- and has a type
+pub unbound_declares : (s : State) → IsConsistent s → (m : ℕ) → IsUnbound s m → Declares (types_of s) m
+unbound_declares s c m u =
+    let place : m < length s.declared = subst (λ k. m < k) c.places (within s.values m None u) in
+    let (d, e) = there_is s.declared m place in
+    (d.of_type, ap (option_map (λ (x : Declaration). x.of_type)) e)
+
+-- a store tells of what it declares
+pub told_of : (s : State) (m : ℕ) → Declares (types_of s) m → slice_get s.declared m ≡ None → ⊥
+told_of s m (A, d) n = let no : None ≡ Some A = sym (ap (option_map (λ (x : Declaration). x.of_type)) n) ∙ d in absurd cc

@@ -1,24 +1,22 @@
 -- The types of variables and constants, and of what a type takes.
-use Rattle.std.proofs.Common.{◌≡◌, ℕ, zero, suc, List, [], ◌∷◌, ◌++◌, Some, refl, sym, ap, ◌∙◌, subst, arith}
+use Rattle.std.proofs.Common.{◌≡◌, ℕ, zero, suc, ◌<◌, List, [], ◌∷◌, ◌++◌, length, Some, None, refl, sym, ap, ◌∙◌, subst, arith}
 use Rattle.std.specs.List.{slice_get}
 use mathlib.Core.Path.{fun_ext}
 use Rattle.lf.specs.AtOnce.{shift_by}
-use Rattle.lf.specs.SkeletonTyping.{SpineSkeleton, TermSkeleton}
-use Rattle.lf.specs.Skeletons.{family_skeletons}
-use Rattle.lf.specs.Substitution.{reduce, single}
-use Rattle.lf.specs.Syntax.{Head, LfType, Spine, Term, app, atom, base, nil, pi, rename_type, root, skeleton, variable, weaken}
+use Rattle.lf.specs.SkeletonTyping.{HeadSkeleton, HeadSkeletons, SkeletonAt, SpineSkeleton, TermSkeleton}
+use Rattle.lf.specs.Skeletons.{family_skeletons, type_skeleton}
+use Rattle.lf.specs.Syntax.{Head, LfType, Skeleton, Spine, Term, app, atom, base, constant, metavariable, nil, pi, rename_type, root, skeleton, variable, weaken}
 use Rattle.lf.specs.Typing.{IsSignature, Signature, TypeAt, instantiate_type}
 use Rattle.lf.specs.Variables.{onto}
-use Rattle.lf.proofs.SkeletonTyping.{single_by_skeletons}
-use Rattle.lf.proofs.SkeletonTypes.{single_type_by_skeletons}
-use Rattle.lf.proofs.TypeLaws.{renamings_compose_type, skeleton_substituted}
+use Rattle.lf.proofs.TypeLaws.{renamings_compose_type}
 use Rattle.lf_unification.specs.Lists.{followed}
 use Rattle.lf_unification.specs.Offering.{argument_equations}
 use Rattle.lf_unification.specs.Unifiers.{Equation}
 use Rattle.lf_unification.specs.Patterns.{local_skeletons}
-use Rattle.tw_hered.specs.Fits.{TypeFits}
+use Rattle.lf_unification.specs.Putting.{IsRigidHead}
+use Rattle.tw_putting.specs.Domains.{TakesArguments, domains}
 use Rattle.tw_putting.specs.Fits.{declared_skeletons}
-use Rattle.tw_unify.specs.Rigid.{ArgumentsFit, Decomposes, HasArguments, HasFunction, IsAtom, LeftFits, RigidHeadHasType, TakesBoth}
+use Rattle.tw_unify.specs.Rigid.{AreAlike, ArgumentsFit, Decomposes, HasArguments, HasFunction, HasHead, HeadFits, IsRoot, LeftFits, RigidHeadHasType, equations_of}
 use Rattle.tw_unify.proofs.Orders.{followed_nothing}
 use Rattle.tw_putting.proofs.Skeletons.{head_once, head_skeleton, rigid_by_skeletons}
 
@@ -40,73 +38,59 @@ variable_has_type Σ D h i by B A is b e a =
     let to : A ≡ rename_type (shift_by (suc i)) B = a ∙ ap (λ n. rename_type (shift_by n) B) b in
     subst (λ k. RigidHeadHasType Σ D k A) (sym is) (subst (RigidHeadHasType Σ D (variable i)) (sym to) (tt, λ Ψ. variable_found D i B (sym e)))
 
--- the type that is left when a type takes an argument
-pub range_fits : (D : List LfType) (X A B : LfType) (M : Term) → X ≡ pi A B → ArgumentsFit D X (app M nil) → TypeFits (single (skeleton A) M) B
-range_fits D X A B M e f =
-    let g : ArgumentsFit D (pi A B) (app M nil) = subst (λ Y. ArgumentsFit D Y (app M nil)) e f in
-    record {
-      families = family_skeletons g.signature;
-      heads = declared_skeletons g.signature g.declared;
-      context = skeleton A ∷ local_skeletons D [];
-      target = local_skeletons D [];
-      substitution_typed = single_by_skeletons (declared_skeletons g.signature g.declared) (skeleton A) (local_skeletons D []) M g.spine_typed.0;
-      type_typed = g.type_typed.1;
-    }
-
-one_argument : (D : List LfType) (X : LfType) (M : Term) (S : Spine) → ArgumentsFit D X (app M S) → ArgumentsFit D X (app M nil)
-one_argument D (pi A B) M S f = record { signature = f.signature; declared = f.declared; result = skeleton B; type_typed = f.type_typed; spine_typed = (f.spine_typed.0, refl) }
-one_argument D (atom a I) M S f = absurd f.spine_typed
-
--- the first of the arguments
-pub first_argument : (D : List LfType) (X : LfType) (M : Term) (S T : Spine) → T ≡ app M S → ArgumentsFit D X T → ArgumentsFit D X (app M nil)
-first_argument D X M S T e f = one_argument D X M S (subst (ArgumentsFit D X) e f)
-
--- the others
-pub other_arguments : (D : List LfType) (X Y : LfType) (M N : Term) (d : Equation) (S T : Spine) → T ≡ app M S → TakesBoth D X M N d Y → ArgumentsFit D X T → ArgumentsFit D Y S
-other_arguments D X Y M N d S T e b f =
-    let g : ArgumentsFit D (pi b.domain b.range) (app M S) = subst (λ Z. ArgumentsFit D Z (app M S)) b.is (subst (ArgumentsFit D X) e f) in
-    subst (λ Z. ArgumentsFit D Z S) (sym b.left_over) (record {
-      signature = g.signature;
-      declared = g.declared;
-      result = g.result;
-      type_typed = single_type_by_skeletons (family_skeletons g.signature) (declared_skeletons g.signature g.declared) (skeleton b.domain) (local_skeletons D []) M b.range g.spine_typed.0 g.type_typed.1;
-      spine_typed = subst (λ t. SpineSkeleton (declared_skeletons g.signature g.declared) (local_skeletons D []) S t g.result) (sym (skeleton_substituted reduce (single (skeleton b.domain) M) b.range)) g.spine_typed.1;
-    })
-
 followed_push : {A : Type 0} (xs : List A) (x : A) (ys : List A) → followed (xs ++ x ∷ []) ys ≡ followed xs (x ∷ ys)
 followed_push [] x ys = refl
 followed_push (z ∷ xs) x ys = ap (λ us. z ∷ us) (followed_push xs x ys)
 
+-- the equations of the arguments, by the types that are read off
+by_domains : (D : List LfType) (X : LfType) (S T : Spine) → argument_equations D X S T ≡ equations_of D (domains X S) S T
+by_domains D (pi A B) (app M S) (app N T) = ap (λ es. record { local = D; left = M; right = N; of_type = A } ∷ es) (by_domains D (instantiate_type A M B) S T)
+by_domains D (pi A B) (app M S) nil = refl
+by_domains D (pi A B) nil T = refl
+by_domains D (atom a I) S T = refl
+
+-- none is found yet
+pub none_found : (D : List LfType) (X : LfType) (S T U V : Spine) (As : List LfType) (found : List Equation) → As ≡ domains X S → U ≡ S → V ≡ T → found ≡ [] → argument_equations D X S T ≡ followed found (equations_of D As U V)
+none_found D X S T U V As found p q r e =
+    by_domains D X S T ∙ ap (λ Ys. equations_of D Ys S T) (sym p) ∙ ap (λ W. equations_of D As W T) (sym q) ∙ ap (equations_of D As U) (sym r) ∙ ap (λ es. followed es (equations_of D As U V)) (sym e)
+
 -- one equation more
-pub one_equation_more : (D : List LfType) (X Y : LfType) (M N : Term) (d : Equation) (S T : Spine) (found more : List Equation) → TakesBoth D X M N d Y → more ≡ found ++ d ∷ []
-    → followed found (argument_equations D X (app M S) (app N T)) ≡ followed more (argument_equations D Y S T)
-one_equation_more D X Y M N d S T found more b e =
-    let first : argument_equations D X (app M S) (app N T) ≡ d ∷ argument_equations D Y S T =
-    ap (λ Z. argument_equations D Z (app M S) (app N T)) b.is ∙ ap (λ f. f ∷ argument_equations D (instantiate_type b.domain M b.range) S T) (sym b.equation) ∙ ap (λ Z. d ∷ argument_equations D Z S T) (sym b.left_over) in
-    ap (followed found) first ∙ sym (followed_push found d (argument_equations D Y S T)) ∙ ap (λ es. followed es (argument_equations D Y S T)) (sym e)
+pub one_equation_more : (D : List LfType) (As Bs : List LfType) (A : LfType) (S T U V : Spine) (M N : Term) (d : Equation) (found more : List Equation) → As ≡ A ∷ Bs → S ≡ app M U → T ≡ app N V → d ≡ record { local = D; left = M; right = N; of_type = A } → more ≡ found ++ d ∷ []
+    → followed found (equations_of D As S T) ≡ followed more (equations_of D Bs U V)
+one_equation_more D As Bs A S T U V M N d found more p q r e f =
+    let first : equations_of D As S T ≡ d ∷ equations_of D Bs U V =
+    ap (λ Ys. equations_of D Ys S T) p ∙ ap (λ W. equations_of D (A ∷ Bs) W T) q ∙ ap (equations_of D (A ∷ Bs) (app M U)) r ∙ ap (λ x. x ∷ equations_of D Bs U V) (sym e) in
+    ap (followed found) first ∙ sym (followed_push found d (equations_of D Bs U V)) ∙ ap (λ es. followed es (equations_of D Bs U V)) (sym f)
 
-no_arguments : (D : List LfType) (X : LfType) (T : Spine) → argument_equations D X nil T ≡ []
-no_arguments D (pi A B) T = refl
-no_arguments D (atom a I) T = refl
+no_left : (D As : List LfType) (T : Spine) → equations_of D As nil T ≡ []
+no_left D [] T = refl
+no_left D (A ∷ As) T = refl
 
-nothing_to_meet : (D : List LfType) (X : LfType) (S : Spine) → argument_equations D X S nil ≡ []
-nothing_to_meet D (pi A B) nil = refl
-nothing_to_meet D (pi A B) (app M S) = refl
-nothing_to_meet D (atom a I) S = refl
-
-no_argument_taken : (D : List LfType) (X : LfType) (S T : Spine) → IsAtom X → argument_equations D X S T ≡ []
-no_argument_taken D (pi A B) S T h = absurd h
-no_argument_taken D (atom a I) S T h = refl
+no_right : (D As : List LfType) (S : Spine) → equations_of D As S nil ≡ []
+no_right D [] S = refl
+no_right D (A ∷ As) nil = refl
+no_right D (A ∷ As) (app M S) = refl
 
 -- no equation more
-pub none_left : (D : List LfType) (X : LfType) (S T : Spine) (found : List Equation) → S ≡ nil → followed found (argument_equations D X S T) ≡ found
-none_left D X S T found e = ap (followed found) (ap (λ U. argument_equations D X U T) e ∙ no_arguments D X T) ∙ followed_nothing found
+pub none_left : (D As : List LfType) (S T : Spine) (found : List Equation) → S ≡ nil → followed found (equations_of D As S T) ≡ found
+none_left D As S T found e = ap (followed found) (ap (λ U. equations_of D As U T) e ∙ no_left D As T) ∙ followed_nothing found
 
-pub none_right : (D : List LfType) (X : LfType) (S T : Spine) (found : List Equation) → T ≡ nil → followed found (argument_equations D X S T) ≡ found
-none_right D X S T found e = ap (followed found) (ap (argument_equations D X S) e ∙ nothing_to_meet D X S) ∙ followed_nothing found
+pub none_right : (D As : List LfType) (S T : Spine) (found : List Equation) → T ≡ nil → followed found (equations_of D As S T) ≡ found
+none_right D As S T found e = ap (followed found) (ap (equations_of D As S) e ∙ no_right D As S) ∙ followed_nothing found
 
-pub none_taken : (D : List LfType) (X : LfType) (S T : Spine) (found : List Equation) → IsAtom X → followed found (argument_equations D X S T) ≡ found
-none_taken D X S T found h = ap (followed found) (no_argument_taken D X S T h) ∙ followed_nothing found
+pub none_due : (D As : List LfType) (S T : Spine) (found : List Equation) → As ≡ [] → followed found (equations_of D As S T) ≡ found
+none_due D As S T found e = ap (followed found) (ap (λ Ys. equations_of D Ys S T) e) ∙ followed_nothing found
+
+-- what skeletons say of the arguments is what reading off the types asks for
+pub reads_off : (D : List LfType) (A : LfType) (S : Spine) → ArgumentsFit D A S → TakesArguments A S
+reads_off D A S f = record {
+  families = family_skeletons f.signature;
+  heads = declared_skeletons f.signature f.declared;
+  context = local_skeletons D [];
+  result = f.result;
+  type_typed = f.type_typed;
+  spine_typed = f.spine_typed;
+}
 
 root_arguments : (M : Term) (h k : Head) (S T : Spine) → M ≡ root h S → M ≡ root k T → S ≡ T
 root_arguments M h k S T e f = let g : root h S ≡ root k T = sym e ∙ f in cc
@@ -116,6 +100,76 @@ made D M N C = record { local = D; left = M; right = N; of_type = C }
 
 three : (D : List LfType) (M N : Term) (C : LfType) (M' N' : Term) (C' : LfType) → M ≡ M' → N ≡ N' → C ≡ C' → made D M N C ≡ made D M' N' C'
 three D M N C M' N' C' p q r = ap (λ X. made D X N C) p ∙ ap (λ X. made D M' X C) q ∙ ap (made D M' N') r
+
+-- a root's type is an atom
+type_is_atom : (κ : HeadSkeletons) (Γ : List Skeleton) (M : Term) (h : Head) (S : Spine) (C : LfType) → M ≡ root h S → TermSkeleton κ Γ M (skeleton C) → (c : ℕ) × ((I : Spine) × (C ≡ atom c I))
+type_is_atom κ Γ M h S (pi A B) e m = absurd (subst (λ X. TermSkeleton κ Γ X (skeleton (pi A B))) e m)
+type_is_atom κ Γ M h S (atom c I) e m = (c, (I, refl))
+
+same_head : (M : Term) (h k : Head) (S T : Spine) → M ≡ root h S → M ≡ root k T → h ≡ k
+same_head M h k S T e f = let g : root h S ≡ root k T = sym e ∙ f in cc
+
+root_is : (M : Term) (h : Head) (S : Spine) → M ≡ root h S → IsRoot M
+root_is M h S e = subst IsRoot (sym e) tt
+
+pub left_root : (e : Equation) → AreAlike e → IsRoot e.left
+left_root e v = root_is e.left v.head v.left v.left_is
+
+pub right_root : (e : Equation) → AreAlike e → IsRoot e.right
+right_root e v = root_is e.right v.other v.right v.right_is
+
+-- the head of the left side has a skeleton
+pub head_fits : (Σ : Signature) (e : Equation) (k : Head) → LeftFits Σ e → AreAlike e → HasHead e.left k → HeadFits Σ e.local k
+head_fits Σ e k f v (S, is) =
+    let κ = declared_skeletons Σ f.declared in
+    let Γ = local_skeletons e.local [] in
+    let (c, (I, at)) = type_is_atom κ Γ e.left k S e.of_type is f.left_typed in
+    let m : TermSkeleton κ Γ (root k S) (base c) = subst (λ X. TermSkeleton κ Γ (root k S) (skeleton X)) at (subst (λ M. TermSkeleton κ Γ M (skeleton e.of_type)) is f.left_typed) in
+    record {
+      rigid = subst IsRigidHead (same_head e.left v.head k v.left S v.left_is is) v.heads.1;
+      declared = f.declared;
+      head_skeleton = m.0;
+      head_typed = m.1;
+    }
+
+-- the type of the head
+pub function_of : (Σ : Signature) (e : Equation) (k : Head) (A : LfType) → LeftFits Σ e → AreAlike e → HasHead e.left k → RigidHeadHasType Σ e.local k A → HasFunction Σ e A
+function_of Σ e k A f v (S, is) t =
+    let (c, (I, at)) = type_is_atom (declared_skeletons Σ f.declared) (local_skeletons e.local []) e.left k S e.of_type is f.left_typed in
+    record {
+      head = v.head;
+      left = v.left;
+      right = v.right;
+      family = c;
+      indices = I;
+      typed = subst (λ h. RigidHeadHasType Σ e.local h A) (sym (same_head e.left v.head k v.left S v.left_is is)) t;
+      left_is = v.left_is;
+      right_is = v.right_is ∙ ap (λ h. root h v.right) (sym v.heads.0);
+      type_is = at;
+    }
+
+-- a head with a skeleton has a type
+pub constant_declared : (Σ : Signature) (D : List LfType) (h : Head) (c : ℕ) → h ≡ constant c → None ≡ Σ.types c → HeadFits Σ D h → ⊥
+constant_declared Σ D h c is n f =
+    let g : type_skeleton (Σ.types c) ≡ Some f.head_skeleton = subst (λ k. HeadSkeleton (declared_skeletons Σ f.declared) (local_skeletons D []) k f.head_skeleton) is f.head_typed in
+    let no : None ≡ Some f.head_skeleton = ap type_skeleton n ∙ g in
+    absurd cc
+
+declared_at : (D : List LfType) (i : ℕ) (t : Skeleton) → SkeletonAt (local_skeletons D []) i t → None ≡ slice_get D i → ⊥
+declared_at [] i t g n = g
+declared_at (A ∷ D) zero t g n = absurd cc
+declared_at (A ∷ D) (suc i) t g n = declared_at D i t g n
+
+pub variable_declared : (Σ : Signature) (D : List LfType) (h : Head) (i : ℕ) → h ≡ variable i → None ≡ slice_get D i → HeadFits Σ D h → ⊥
+variable_declared Σ D h i is n f = declared_at D i f.head_skeleton (subst (λ k. HeadSkeleton (declared_skeletons Σ f.declared) (local_skeletons D []) k f.head_skeleton) is f.head_typed) n
+
+pub not_flexible : (Σ : Signature) (D : List LfType) (h : Head) (m : ℕ) → h ≡ metavariable m → HeadFits Σ D h → ⊥
+not_flexible Σ D h m is f = subst IsRigidHead is f.rigid
+
+pub variable_below : (D : List LfType) (i : ℕ) (B : LfType) → Some B ≡ slice_get D i → i < length D
+variable_below [] i B e = absurd cc
+variable_below (A ∷ D) zero B e = omega arith
+variable_below (A ∷ D) (suc i) B e = let l : i < length D = variable_below D i B e in omega arith
 
 -- the arguments of the left side fit the type of its head
 pub arguments_fit : (Σ : Signature) (ok : IsSignature Σ) (e : Equation) (A : LfType) (S : Spine) → LeftFits Σ e → HasFunction Σ e A → HasArguments e.left S → ArgumentsFit e.local A S

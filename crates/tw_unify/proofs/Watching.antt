@@ -17,7 +17,7 @@ use Rattle.lf_unification.specs.Outside.{IsStuck}
 use Rattle.lf_unification.specs.Putting.{Unbound}
 use Rattle.lf_unification.specs.Reach.{IsInside, IsReached, in_term, in_type, in_value, is_given}
 use Rattle.lf_unification.specs.Scope.{MetavariablesInBindings, MetavariablesInEquationTypes, MetavariablesInEquations}
-use Rattle.lf_unification.specs.Solving.{LeftOver}
+use Rattle.lf_unification.specs.Solving.{AllLeftOver, LeftOver}
 use Rattle.lf_unification.specs.Steps.{Run}
 use Rattle.lf_unification.specs.Unifiers.{Binding, Equation, Store}
 use Rattle.lf_unification.proofs.Putting.{put_some, some_within}
@@ -32,6 +32,7 @@ use Rattle.tw_putting.specs.Stores.{bindings_of, types_of}
 use Rattle.tw_putting.specs.Whole.{whole}
 use Rattle.tw_putting.proofs.Readiness.{ready_scoped}
 use Rattle.tw_unify.specs.Flexible.{IsReachedFrom}
+use Rattle.tw_unify.specs.Laws.{AllLeftOverAreLeft}
 use Rattle.tw_unify.specs.Outcomes.{Advances}
 use Rattle.tw_unify.specs.Sides.{AllLeft, IsLeft, with_sides}
 use Rattle.tw_unify.specs.Watching.{AllKnown, AreEarly, BindsOne, CanGoOver, Diary, IsLeftAt, IsPast, Known, StandsLeft, WasLeft, Watches}
@@ -56,6 +57,13 @@ left_over_is_left given s e l =
         stuck_right = subst (λ D. IsStuck (types_of s) (bindings_of s) D l.shown.right l.shown.left) l.same_local o.stuck_right;
       };
     }
+
+left_overs : (given : ℕ → Option LfType) (s : State) (es : List Equation) → AllLeftOver given (whole [] s) es → AllLeft s es
+left_overs given s [] l = tt
+left_overs given s (e ∷ es) (l, ls) = (left_over_is_left given s e l, left_overs given s es ls)
+
+pub left_overs_are_left : AllLeftOverAreLeft
+left_overs_are_left given s l = left_overs given s s.equations l
 
 side_of : (V : ℕ → Type 0) (es : List Equation) → MetavariablesInEquations V es → (e : Equation) → Member e es → MetavariablesIn V e.left × MetavariablesIn V e.right
 side_of V [] i e j = absurd j

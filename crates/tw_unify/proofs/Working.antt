@@ -1,6 +1,6 @@
 -- The work at one equation, as steps of unification.
 use Rattle.std.proofs.Common.{◌≡◌, ℕ, List, [], ◌∷◌, inl, inr, refl, sym, ap, ◌∙◌, subst}
-use Rattle.lf.specs.SkeletonTyping.{TermSkeleton}
+use Rattle.lf.specs.SkeletonTyping.{HeadSkeletons, TermSkeleton}
 use Rattle.lf.specs.Depth.{depth_limit}
 use Rattle.lf.specs.Syntax.{Head, LfType, Skeleton, Spine, Term, arrow, atom, base, constant, lambda, metavariable, pi, root, skeleton, variable}
 use Rattle.lf.specs.Typing.{Signature}
@@ -21,7 +21,7 @@ use Rattle.tw_unify.specs.Flexible.{AllowsMove, BlamesReached, BothHeadsFit, Fle
 use Rattle.tw_unify.specs.Moving.{HeadsFit, SidesFit}
 use Rattle.tw_unify.specs.Outcomes.{Advances, CanRefute, Explains}
 use Rattle.tw_putting.specs.Ready.{IsReady}
-use Rattle.tw_unify.specs.Rigid.{Decomposes, LeftFits, Opens}
+use Rattle.tw_unify.specs.Rigid.{AreLambdas, Decomposes, IsPi, LeftFits, Opens}
 use Rattle.tw_unify.specs.Sides.{BecomeApart, BlamesDepth, BlamesSide, BlamesUnfolding, EquationFits, HaveShape, HeadsStay, IsFlexibleEquation, PutsAll, PutsBoth, RootsHaveShape, SidesUnbound, UnfoldsBoth, with_sides}
 use Rattle.tw_putting.specs.Whole.{IsConsistent, whole}
 use Rattle.tw_unify.specs.declared.fault.UnifyFault.{UnifyFault}
@@ -43,6 +43,18 @@ module _ (Σ : Signature) (s : State) where
   opens_runs e old new o =
       subst (λ fs. Run Σ (whole (e ∷ old) s) (whole fs s)) (sym o.gives)
       (subst (λ d. Run Σ (first_is old d) (whole (record { local = o.domain ∷ e.local; left = o.left; right = o.right; of_type = o.range } ∷ old) s)) (sym o.is) (one_step Σ open_lambdas))
+
+  function_is : (κ : HeadSkeletons) (Γ : List Skeleton) (M : Term) (C : LfType) → IsLambda M → TermSkeleton κ Γ M (skeleton C) → IsPi C
+  function_is κ Γ (lambda M) (pi A B) l m = tt
+  function_is κ Γ (lambda M) (atom a I) l m = absurd m
+  function_is κ Γ (root h S) C l m = absurd l
+
+  pub are_lambdas : (e : Equation) (es : List Equation) → IsReady Σ (e ∷ es) s → HaveShape e.left e.right shape.Lambdas → AreLambdas e
+  are_lambdas e es r (l, k) = record {
+    left_is = l;
+    right_is = k;
+    type_is = function_is (declared_skeletons Σ (types_of s)) (local_skeletons e.local []) e.left e.of_type l (ready_first Σ e es s r).left_typed;
+  }
 
   followed_over : (xs ys zs : List Equation) → followed (followed xs ys) zs ≡ followed xs (followed ys zs)
   followed_over [] ys zs = refl

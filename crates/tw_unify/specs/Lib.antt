@@ -8,3 +8,4 @@ pub mod Sides
 pub mod Watching
 pub mod Answers
 pub mod Showing
+pub mod Laws

@@ -1,17 +1,20 @@
 -- Equations between two lambdas, and between two rigid roots.
 use Rattle.std.specs.Prelude.{◌≡◌, ℕ, List, [], ◌∷◌, Option}
-use Rattle.lf.specs.SkeletonTyping.{SpineSkeleton, TermSkeleton, TypeBySkeletons}
+use Rattle.lf.specs.SkeletonTyping.{HeadSkeleton, SpineSkeleton, TermSkeleton, TypeBySkeletons}
 use Rattle.lf.specs.Skeletons.{family_skeletons}
-use Rattle.lf.specs.Syntax.{Head, LfType, Skeleton, Spine, Term, atom, lambda, nil, pi, root, skeleton}
-use Rattle.lf.specs.Typing.{Signature, instantiate_type}
+use Rattle.lf.specs.Syntax.{Head, LfType, Skeleton, Spine, Term, app, atom, lambda, nil, pi, root, skeleton}
+use Rattle.lf.specs.Typing.{Signature}
 use Rattle.lf_unification.specs.Lists.{followed}
 use Rattle.lf_unification.specs.Offering.{argument_equations}
 use Rattle.lf_unification.specs.OpenTyping.{OpenHeadHasType}
+use Rattle.lf_unification.specs.Outside.{IsLambda}
 use Rattle.lf_unification.specs.Patterns.{local_skeletons}
 use Rattle.lf_unification.specs.Putting.{IsRigidHead}
 use Rattle.lf_unification.specs.Unifiers.{Equation}
 use Rattle.tw_putting.specs.Fits.{declared_skeletons}
 use Rattle.tw_putting.specs.Ready.{LocalsBySkeletons}
+use Rattle.tw_unify.specs.Sides.{RootsHaveShape}
+use Rattle.tw_unify.specs.declared.sides.Shape.TheVariants as shape
 
 -- the head is a constant or variable of this type
 abbrev pub RigidHeadHasType : Signature → List LfType → Head → LfType → Type 0
@@ -26,23 +29,39 @@ pub record Opens (e : Equation) (old new : List Equation) : Type 0 where
   pub is : e ≡ record { local = e.local; left = lambda left; right = lambda right; of_type = pi domain range }
   pub gives : new ≡ record { local = domain ∷ e.local; left = left; right = right; of_type = range } ∷ old
 
--- the type takes no argument
-abbrev pub IsAtom : LfType → Type 0
-IsAtom (pi A B) = ⊥
-IsAtom (atom a S) = Unit {0}
+-- the term is a root
+abbrev pub IsRoot : Term → Type 0
+IsRoot (lambda M) = ⊥
+IsRoot (root h S) = Unit {0}
 
--- all families of the type stand without arguments
-abbrev pub IsSimple : LfType → Type 0
-IsSimple (pi A B) = IsSimple A × IsSimple B
-IsSimple (atom a S) = S ≡ nil
+-- the type is one of functions
+abbrev pub IsPi : LfType → Type 0
+IsPi (pi A B) = Unit {0}
+IsPi (atom a S) = ⊥
 
--- The type X takes both arguments, which stand in the local context D: `e` is their equation, and Y the type that is left.
-pub record TakesBoth (D : List LfType) (X : LfType) (M N : Term) (e : Equation) (Y : LfType) : Type 0 where
-  pub domain : LfType
-  pub range : LfType
-  pub is : X ≡ pi domain range
-  pub equation : e ≡ record { local = D; left = M; right = N; of_type = domain }
-  pub left_over : Y ≡ instantiate_type domain M range
+-- the sides are lambdas, and their type one of functions
+pub record AreLambdas (e : Equation) : Type 0 where
+  pub left_is : IsLambda e.left
+  pub right_is : IsLambda e.right
+  pub type_is : IsPi e.of_type
+
+-- the sides are roots with one constant or variable as their heads
+abbrev pub AreAlike : Equation → Type 0
+AreAlike e = RootsHaveShape e.left e.right shape.Alike
+
+-- the equations of the arguments, of these types, in order
+abbrev pub equations_of : List LfType → List LfType → Spine → Spine → List Equation
+equations_of D (A ∷ As) (app M S) (app N T) = record { local = D; left = M; right = N; of_type = A } ∷ equations_of D As S T
+equations_of D (A ∷ As) (app M S) nil = []
+equations_of D (A ∷ As) nil T = []
+equations_of D [] S T = []
+
+-- a constant or variable has a skeleton in the local context
+pub record HeadFits (Σ : Signature) (D : List LfType) (h : Head) : Type 0 where
+  pub rigid : IsRigidHead h
+  pub declared : ℕ → Option LfType
+  pub head_skeleton : Skeleton
+  pub head_typed : HeadSkeleton (declared_skeletons Σ declared) (local_skeletons D []) h head_skeleton
 
 -- skeletons type a type in the local context, and a spine that it takes to a family
 pub record ArgumentsFit (D : List LfType) (A : LfType) (S : Spine) : Type 0 where
@@ -61,6 +80,10 @@ pub record LeftFits (Σ : Signature) (e : Equation) : Type 0 where
 -- the term is a root on these arguments
 abbrev pub HasArguments : Term → Spine → Type 0
 HasArguments M S = (h : Head) × (M ≡ root h S)
+
+-- the term is a root with this head
+abbrev pub HasHead : Term → Head → Type 0
+HasHead M h = (S : Spine) × (M ≡ root h S)
 
 -- both sides of the equation are roots of one family, and A is the type of their head, which is one constant or variable
 pub record HasFunction (Σ : Signature) (e : Equation) (A : LfType) : Type 0 where

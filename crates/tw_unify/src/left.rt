@@ -138,6 +138,7 @@ fn show_types(
         let shown = show_type(alloc, store, order, MetaId(order[metas.len()]))?;
         add_type(alloc, &mut metas, shown)?;
     }
+    // Each turn shows another metavariable, so there are fewer turns; no clause says how many there are.
     Err(UnifyFault::NoMemory)
 }
 
@@ -169,6 +170,7 @@ fn show_type(
             let put = put_in_type(alloc, store, 0, ty)?;
             Ok(number_type(alloc, order, &put)?)
         }
+        // What an equation of the store mentions is declared; the clauses of this call do not know where the number is from.
         None => Err(UnifyFault::NoMemory),
     }
 }

@@ -21,6 +21,7 @@ mod fault;
 mod flexible;
 #[tactic(auto, using(tw_terms::proofs::OpenArgs::open_types))]
 mod heads;
+mod laws;
 #[tactic(auto, using(tw_terms::proofs::OpenArgs::open_types))]
 mod left;
 #[tactic(auto, using(tw_terms::proofs::OpenArgs::open_types))]
@@ -28,8 +29,6 @@ mod moves;
 #[tactic(auto, using(tw_terms::proofs::OpenArgs::open_types))]
 mod numbering;
 mod postponed;
-#[tactic(auto, using(tw_terms::proofs::OpenArgs::open_types))]
-mod ranges;
 #[tactic(auto, using(tw_terms::proofs::OpenArgs::open_types))]
 mod reach;
 #[tactic(auto, using(tw_terms::proofs::OpenArgs::open_types))]
@@ -47,5 +46,6 @@ mod whole;
 mod work;
 
 pub use fault::UnifyFault;
+pub use laws::all_left_over_are_left;
 pub use left::left_equation;
 pub use solving::{Unified, solve, solve_more};

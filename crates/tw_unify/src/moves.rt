@@ -1,6 +1,6 @@
 //! What can be done at a metavariable on a pattern.
 ghost use Rattle.std.specs.Prelude.{◌≡◌, IfOk, IfSome, MatchOption};
-ghost use Rattle.lf_unification.specs.OpenTyping.{MetavariablesIn, skeletons_of};
+ghost use Rattle.lf_unification.specs.OpenTyping.{Declares, MetavariablesIn, skeletons_of};
 ghost use Rattle.lf_unification.specs.Pruning.{CanAgree, CanDrop};
 ghost use Rattle.lf_unification.specs.Patterns.{lambdas_of};
 ghost use Rattle.lf_unification.specs.Putting.{Unbound};
@@ -171,7 +171,7 @@ fn differing(
             }
             Ok(None)
         }
-        None => Err(AllocError),
+        None => unreachable!(),
     }
 }
 
@@ -211,11 +211,12 @@ pub fn value_over(
     meta: MetaId,
     body: Open,
 ) -> Result<Open, AllocError>
+    requires { Declares (types_of store.now.now) meta.0 }
     ensures { IfOk result (λ v. open_term_of v ≡ lambdas_of (skeletons_of (types_of store.now.now) meta.0) (open_term_of body)) }
 {
     match store.about(meta) {
         Some((_, ty)) => lambdas_over(alloc, ty, body),
-        None => Err(AllocError),
+        None => unreachable!(),
     }
 }
 
@@ -264,10 +265,11 @@ fn losing(
 
 /// The metavariable's type without the argument.
 fn lost(alloc: Global, store: &Store, loss: Loss) -> Result<Option<Pruned>, AllocError>
+    requires { Declares (types_of store.now.now) loss.meta.0 }
     ensures { IfOk result (λ r. MatchOption r (KeepsIt store.now.now loss.meta.0 loss.place) (λ p. LosesIt store.now.now loss.meta.0 loss.place (open_type_of p.ty) (open_spine_of p.spine))) }
 {
     match store.about(loss.meta) {
         Some((_, ty)) => prune_type(alloc, ty, loss.place),
-        None => Err(AllocError),
+        None => unreachable!(),
     }
 }

@@ -42,6 +42,7 @@ pub fn is_reached(
             }
         }
     }
+    // Each turn takes another number, so there are fewer turns; no clause says how many numbers there are.
     Err(AllocError)
 }
 

@@ -104,6 +104,7 @@ fn solve_watched(
             }
         }
     }
+    // Each turn makes steps or postpones; no measure of the equations is proved to fall, so the turns are counted.
     Err(UnifyFault::NoMemory)
 }
 

@@ -38,6 +38,7 @@ pub fn find_stale(
             }
         }
     }
+    // Each turn takes another number, so there are fewer turns; no clause says how many numbers there are.
     Err(AllocError)
 }
 

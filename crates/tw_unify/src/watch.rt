@@ -122,5 +122,6 @@ pub fn is_untouched(
             }
         }
     }
+    // Each turn takes another number, so there are fewer turns; no clause says how many numbers there are.
     Err(AllocError)
 }

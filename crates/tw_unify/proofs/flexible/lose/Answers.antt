@@ -3,11 +3,12 @@ use Rattle.lf.specs.Syntax.{metavariable, root}
 use Rattle.tw_metas.specs.State.{IsUnbound, State, Story, with_declared, with_value}
 use Rattle.tw_terms.specs.OpenView.{open_spine_of, open_term_of, open_type_of}
 use Rattle.tw_terms.proofs.OpenArgs.{open_types}
-use Rattle.lf_unification.specs.OpenTyping.{skeletons_of}
+use Rattle.lf_unification.specs.OpenTyping.{Declares, skeletons_of}
 use Rattle.lf_unification.specs.Patterns.{lambdas_of}
 use Rattle.tw_putting.specs.Stores.{types_of}
 use Rattle.tw_putting.specs.Whole.{IsConsistent}
 use Rattle.tw_putting.proofs.Changes.{consistent_with_declared, consistent_with_value, still_unbound}
+use Rattle.tw_unify.proofs.Renewals.{unbound_declares}
 use Rattle.tw_unify.proofs.Stories.{later_changed, later_then, pruned_by}
 use Rattle.tw_unify.proofs.flexible.lose.Goals as goal
 
@@ -18,6 +19,13 @@ returns-in_err-value-clause-consistent c =
 
 pub returns-in_err-value-clause-story : goal.returns-in_err-value-clause-story
 returns-in_err-value-clause-story c = later_changed c.args.store.now c.fresh.new.self (with_declared c.args.store.now.now c.new.result (open_type_of c.args.pruned.ty)) c.in_ok-new.ensures.ok
+
+pub value_over-requires : goal.value_over-requires
+value_over-requires c =
+    let s = c.args.store.now.now in
+    let A = open_type_of c.args.pruned.ty in
+    subst (λ (t : State). Declares (types_of t) c.args.meta.0) (sym (ap (λ (x : Story). x.now) c.in_ok-new.ensures.ok))
+    (unbound_declares (with_declared s c.new.result A) (consistent_with_declared s c.new.result A c.requires.consistent) c.args.meta.0 (still_unbound s c.new.result A c.args.meta.0 c.requires.unbound))
 
 pub bind-requires : goal.bind-requires
 bind-requires c =

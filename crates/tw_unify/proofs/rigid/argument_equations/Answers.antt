@@ -1,49 +1,49 @@
-use Rattle.std.proofs.Common.{[], ◌∷◌, map, reverse, ap, ◌∙◌, subst}
-use Rattle.std.specs.Option.{MatchOption}
-use Rattle.std.proofs.lemmas.List.{map-append}
-use Rattle.lf.specs.Syntax.{app}
-use Rattle.lf_unification.specs.Lists.{followed}
-use Rattle.lf_unification.specs.Offering.{argument_equations}
+use Rattle.std.proofs.Common.{◌≡◌, [], ◌∷◌, map, reverse, sym, ap, ◌∙◌, subst, arith}
+use Rattle.std.proofs.lemmas.List.{map-append, reverse-reverse}
 use Rattle.tw_metas.specs.View.{equation_of}
-use Rattle.tw_terms.specs.OpenView.{open_args_of, open_term_of, open_type_of}
-use Rattle.tw_unify.specs.Rigid.{IsAtom, TakesBoth}
-use Rattle.tw_unify.proofs.Simple.{simple_takes}
-use Rattle.tw_unify.proofs.Spines.{popped_arguments}
-use Rattle.tw_unify.proofs.Variables.{first_argument, one_equation_more, other_arguments}
+use Rattle.tw_metas.specs.declared.equation.Equation.{Equation}
+use Rattle.tw_putting.specs.Domains.{TakesArguments, domains}
+use Rattle.tw_terms.specs.OpenView.{open_args_of, open_spine_of, open_term_of, open_type_of}
+use Rattle.tw_terms.proofs.OpenArgs.{open_types}
+use Rattle.tw_unify.proofs.Spines.{no_type_left, popped_arguments, popped_types}
+use Rattle.tw_unify.proofs.Variables.{none_due, none_found, one_equation_more, reads_off}
 use Rattle.tw_unify.proofs.rigid.argument_equations.Goals as goal
 
-pub take_argument-requires-clause-fits : goal.take_argument-requires-clause-fits
-take_argument-requires-clause-fits c =
-    first_argument c.args.context.now (open_type_of c.loop.rest) (open_term_of c.in-Some-Some.left) (open_args_of (reverse c.pop.new.self.items)) (open_args_of (reverse c.loop.lefts.items))
-    (popped_arguments c.loop.lefts.items c.pop.new.self.items c.in-Some-Some.left c.in-Some-Some.ensures.items) c.loop.invariant.fits
+pub domains-requires : goal.domains-requires
+domains-requires c =
+    let X = open_type_of c.args.ty.now in
+    let s : open_spine_of c.args.left ≡ open_args_of c.deref.result.now = grind (arith, open_types) in
+    subst (TakesArguments X) s (reads_off c.args.context.now X (open_spine_of c.args.left) c.requires)
 
-pub loop-preserved : goal.loop-preserved
-loop-preserved c =
+pub loop-ty-init : goal.loop-ty-init
+loop-ty-init c =
+    let X = open_type_of c.args.ty.now in
+    let S = open_spine_of c.args.left in
+    let s : open_args_of c.deref.result.now ≡ S = grind (arith, open_types) in
+    let l : open_args_of c.args.left.args.items ≡ S = grind (arith, open_types) in
+    let r : open_args_of c.args.right.args.items ≡ open_spine_of c.args.right = grind (arith, open_types) in
+    none_found c.args.context.now X S (open_spine_of c.args.right) (open_args_of (reverse c.reverse-2.new.self.items)) (open_args_of (reverse c.reverse-3.new.self.items)) (map open_type_of (reverse c.reverse.new.self.items)) (map equation_of c.in_ok-found.found.items)
+    (ap (λ ts. map open_type_of (reverse ts)) c.reverse.ensures.items ∙ ap (map open_type_of) (reverse-reverse c.in_ok-types.types.items) ∙ c.in_ok-types.ensures ∙ ap (domains X) s)
+    (ap (λ ts. open_args_of (reverse ts)) c.reverse-2.ensures.items ∙ ap open_args_of (reverse-reverse c.args.left.args.items) ∙ l)
+    (ap (λ ts. open_args_of (reverse ts)) c.reverse-3.ensures.items ∙ ap open_args_of (reverse-reverse c.args.right.args.items) ∙ r)
+    (ap (map equation_of) c.in_ok-found.ensures.items)
+
+pub loop-ty-preserved : goal.loop-ty-preserved
+loop-ty-preserved c =
     let D = c.args.context.now in
-    let X = open_type_of c.loop.rest in
-    let Y = open_type_of c.in-Some.range in
+    let A = open_type_of c.in-Some.ty in
     let M = open_term_of c.in-Some-Some.left in
     let N = open_term_of c.in-Some-Some.right in
-    let S = open_args_of (reverse c.pop.new.self.items) in
-    let T = open_args_of (reverse c.pop-in-loop.new.self.items) in
-    let d = equation_of c.in-Some.equation in
-    let lefts = popped_arguments c.loop.lefts.items c.pop.new.self.items c.in-Some-Some.left c.in-Some-Some.ensures.items in
-    let rights = popped_arguments c.loop.rights.items c.pop-in-loop.new.self.items c.in-Some-Some.right c.in-Some-Some.ensures'.items in
-    let b : TakesBoth D X M N d Y = subst (λ o. MatchOption o (IsAtom X) (λ p. TakesBoth D X M N (equation_of p.0) (open_type_of p.1))) c.in-Some.is c.in_ok-equation-in-Some-Some.ensures in
-    record {
-      simple = c.stays_simple-simple.ensures;
-      fits = other_arguments D X Y M N d S (open_args_of (reverse c.loop.lefts.items)) lefts b c.loop.invariant.fits;
-      so_far = c.loop.invariant.so_far
-          ∙ ap (λ U. followed (map equation_of c.loop.found.items) (argument_equations D X U (open_args_of (reverse c.loop.rights.items)))) lefts
-          ∙ ap (λ U. followed (map equation_of c.loop.found.items) (argument_equations D X (app M S) U)) rights
-          ∙ one_equation_more D X Y M N d S T (map equation_of c.loop.found.items) (map equation_of c.push.new.self.items) b
-          (ap (map equation_of) c.in_ok-push-in-Some.ensures.items ∙ map-append equation_of c.loop.found.items (c.in-Some.equation ∷ []));
-    }
+    let d : Equation = record { context = c.in_ok-context-in-Some-Some.context; left = c.in-Some-Some.left; right = c.in-Some-Some.right; ty = c.in-Some.ty } in
+    let e : equation_of d ≡ record { local = D; left = M; right = N; of_type = A } = ap (λ G. record { local = G; left = M; right = N; of_type = A }) c.in_ok-context-in-Some-Some.ensures in
+    c.loop-ty.invariant
+    ∙ one_equation_more D (map open_type_of (reverse c.loop-ty.types.items)) (map open_type_of (reverse c.pop.new.self.items)) A (open_args_of (reverse c.loop-ty.lefts.items)) (open_args_of (reverse c.loop-ty.rights.items)) (open_args_of (reverse c.pop-in-Some.new.self.items)) (open_args_of (reverse c.pop-in-Some-2.new.self.items)) M N (equation_of d) (map equation_of c.loop-ty.found.items) (map equation_of c.push.new.self.items)
+    (popped_types c.loop-ty.types.items c.pop.new.self.items c.in-Some.ty c.in-Some.ensures.items)
+    (popped_arguments c.loop-ty.lefts.items c.pop-in-Some.new.self.items c.in-Some-Some.left c.in-Some-Some.ensures.items)
+    (popped_arguments c.loop-ty.rights.items c.pop-in-Some-2.new.self.items c.in-Some-Some.right c.in-Some-Some.ensures'.items)
+    e (ap (map equation_of) c.in_ok-push-in-Some-Some.ensures.items ∙ map-append equation_of c.loop-ty.found.items (d ∷ []))
 
-pub stays_simple-simple-requires : goal.stays_simple-simple-requires
-stays_simple-simple-requires c =
-    let X = open_type_of c.loop.rest in
-    let M = open_term_of c.in-Some-Some.left in
-    let N = open_term_of c.in-Some-Some.right in
-    let b : TakesBoth c.args.context.now X M N (equation_of c.in-Some.equation) (open_type_of c.in-Some.range) = subst (λ o. MatchOption o (IsAtom X) (λ p. TakesBoth c.args.context.now X M N (equation_of p.0) (open_type_of p.1))) c.in-Some.is c.in_ok-equation-in-Some-Some.ensures in
-    simple_takes c.loop.simple c.args.context.now X M N (equation_of c.in-Some.equation) (open_type_of c.in-Some.range) b c.loop.invariant.simple
+pub returns : goal.returns
+returns c =
+    let none = no_type_left c.loop-ty.types.items (omega (arith, c.in_default.ensures.cases)) in
+    sym (c.loop-ty.invariant ∙ none_due c.args.context.now (map open_type_of (reverse c.loop-ty.types.items)) (open_args_of (reverse c.loop-ty.lefts.items)) (open_args_of (reverse c.loop-ty.rights.items)) (map equation_of c.loop-ty.found.items) none)

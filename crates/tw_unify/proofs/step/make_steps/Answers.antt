@@ -1,8 +1,11 @@
 use Rattle.lf.specs.Entries.{signature_of}
 use Rattle.tw_metas.specs.View.{equation_of}
 use Rattle.tw_unify.specs.Outcomes.{stacked}
-use Rattle.tw_unify.proofs.Working.{apart_refutes, decomposes_runs, left_fits, never_mixed, opens_runs}
+use Rattle.tw_unify.proofs.Working.{apart_refutes, are_lambdas, decomposes_runs, left_fits, never_mixed, opens_runs}
 use Rattle.tw_unify.proofs.step.make_steps.Goals as goal
+
+pub open_lambdas-requires : goal.open_lambdas-requires
+open_lambdas-requires c = are_lambdas (signature_of c.args.signature.now) c.args.store.now.now (equation_of c.args.equation) (stacked c.args.work.now.items) c.requires.ready c.in-Lambdas.ensures
 
 pub decompose-requires-clause-fits : goal.decompose-requires-clause-fits
 decompose-requires-clause-fits c = left_fits (signature_of c.args.signature.now) c.args.store.now.now (equation_of c.args.equation) (stacked c.args.work.now.items) c.requires.ready
