@@ -1,25 +1,25 @@
--- What can be deep of an explicit declaration that gives an entry: the equations of its elaboration, or the entry.
-use Rattle.std.proofs.Common.{◌≡◌, ℕ, ◌<◌, zero, suc, List, [], Option, Some, inl, inr, refl, sym, ap, ap₂, ◌∙◌, subst, arith}
+-- What can be deep of an explicit declaration that gives an entry: the entry alone.
+use Rattle.std.proofs.Common.{◌≡◌, ℕ, ◌<◌, zero, suc, List, [], Option, None, Some, inl, inr, refl, sym, ap, ap₂, ◌∙◌, subst, arith}
 use Rattle.std.proofs.Math.Nat.{le-max_left, le-max_right}
 use Rattle.lf.specs.Depth.{depth, depth_limit, kind_depth, type_depth}
 use Rattle.lf.specs.Entries.{Body, Entry, IsCanonicalSignature, declare_constant, declare_definition, declare_family, signature_of}
 use Rattle.lf.specs.Substitution.{Image, reduce}
-use Rattle.lf.specs.Syntax.{Kind, LfType, Skeleton, Spine, Term as LfTerm, app, atom, constant, kind_pi, lambda as lf_lambda, metavariable, nil, pi as lf_pi, root, star, variable}
+use Rattle.lf.specs.Syntax.{Kind, LfType, Skeleton, Spine, Term as LfTerm, app, atom, constant, kind_pi, lambda as lf_lambda, metavariable, pi as lf_pi, root, star, variable}
 use Rattle.lf.specs.Typing.{Signature}
 use Rattle.lf.proofs.Closed.{closed_kind_substituted, closed_type_substituted}
 use Rattle.lf_unification.specs.DeepEquations.{AreDeep}
-use Rattle.lf_unification.specs.Filling.{fill, fill_spine, fill_type, moved}
 use Rattle.lf_unification.specs.OpenTyping.{Declares, MetavariablesIn, MetavariablesInSpine, MetavariablesInType}
 use Rattle.lf_unification.specs.Putting.{PutsIn, PutsInSpine, PutsInType, put_at_bound, put_at_rigid, put_at_unbound, put_in_argument, put_in_atom, put_in_pi, put_nowhere, put_under_lambda}
 use Rattle.lf_unification.specs.Solving.{Solved}
 use Rattle.lf_unification.specs.Unifiers.{Binding}
 use Rattle.lf_elaboration.specs.Elaboration.{NewFrees}
-use Rattle.lf_elaboration.specs.Kinds.{MetavariablesInKind, fill_kind}
+use Rattle.lf_elaboration.specs.Kinds.{MetavariablesInKind}
 use Rattle.lf_elaboration.specs.Principal.{Completion, IsCompletion, WrittenBody, substitute_body}
 use Rattle.lf_elaboration.specs.PrincipalLaws.{fill_body}
 use Rattle.lf_elaboration.specs.SiteLaws.{total}
 use Rattle.lf_elaboration.specs.Sites.{body_spots}
 use Rattle.lf_elaboration.specs.State.{State, nothing_yet, store_of}
+use Rattle.lf_elaboration.proofs.Full.{fill_none, fill_none_kind, fill_none_type, full_no_equation}
 use Rattle.lf_elaboration.proofs.Principal.{BodyIsMade, body_made, read_off_principal}
 use Rattle.tw_approx.specs.Answer.{Rows}
 use Rattle.tw_approx.specs.Names.{IsFreeVariable}
@@ -42,10 +42,10 @@ use Rattle.law_explicit_agrees.proofs.Bare.{type_closed, whole_bare}
 use Rattle.law_explicit_agrees.proofs.Fitting.{some_is}
 use Rattle.law_explicit_agrees.proofs.Nothing.{body_none, made_none, none_is_not_some}
 use Rattle.law_explicit_agrees.proofs.PlainTexts.{no_elaboration_deep}
-use Rattle.law_explicit_agrees.proofs.Shallow.{IsShallow, nothing_deep}
+use Rattle.law_explicit_agrees.proofs.Shallow.{IsShallow, empty_shallow, nothing_deep}
 use Rattle.law_explicit_agrees.proofs.Whole.{completed_principal}
 
--- Where no metavariable is declared nothing is put in, and a filling changes nothing.
+-- Where no metavariable is declared nothing is put in.
 module _ (V : ℕ → Type 0) (absent : (m : ℕ) → V m → ⊥) where
   module _ (Ψ : ℕ → Option LfType) (bs : List Binding) where
     mutual
@@ -65,26 +65,6 @@ module _ (V : ℕ → Type 0) (absent : (m : ℕ) → V m → ⊥) where
     put_none_type (put_in_atom {a = a} d) i = ap (atom a) (put_none_spine d i)
     put_none_type (put_in_pi d e) (i, j) = ap₂ lf_pi (put_none_type d i) (put_none_type e j)
 
-  module _ (μ : ℕ → Skeleton) where
-    mutual
-      fill_none : (β : ℕ → Option LfTerm) (M : LfTerm) → MetavariablesIn V M → fill μ β M ≡ M
-      fill_none β (lf_lambda M) i = ap lf_lambda (fill_none (moved suc β) M i)
-      fill_none β (root (constant c) S) i = ap (root (constant c)) (fill_none_spine β S i)
-      fill_none β (root (variable j) S) i = ap (root (variable j)) (fill_none_spine β S i)
-      fill_none β (root (metavariable m) S) (v, i) = absurd (absent m v)
-
-      fill_none_spine : (β : ℕ → Option LfTerm) (S : Spine) → MetavariablesInSpine V S → fill_spine μ β S ≡ S
-      fill_none_spine β nil i = refl
-      fill_none_spine β (app M S) (i, j) = ap₂ app (fill_none β M i) (fill_none_spine β S j)
-
-    fill_none_type : (β : ℕ → Option LfTerm) (A : LfType) → MetavariablesInType V A → fill_type μ β A ≡ A
-    fill_none_type β (lf_pi A B) (i, j) = ap₂ lf_pi (fill_none_type β A i) (fill_none_type (moved suc β) B j)
-    fill_none_type β (atom a S) i = ap (atom a) (fill_none_spine β S i)
-
-    fill_none_kind : (β : ℕ → Option LfTerm) (K : Kind) → MetavariablesInKind V K → fill_kind μ β K ≡ K
-    fill_none_kind β (kind_pi A K) (i, j) = ap₂ kind_pi (fill_none_type β A i) (fill_none_kind (moved suc β) K j)
-    fill_none_kind β star i = refl
-
   -- of a body
   abbrev NoneIn : Body → Type 0
   NoneIn (declare_family K) = MetavariablesInKind V K
@@ -92,9 +72,9 @@ module _ (V : ℕ → Type 0) (absent : (m : ℕ) → V m → ⊥) where
   NoneIn (declare_definition M A b) = MetavariablesIn V M × MetavariablesInType V A
 
   filled_none : (μ : ℕ → Skeleton) (β : ℕ → Option LfTerm) (b : Body) → NoneIn b → fill_body μ β b ≡ b
-  filled_none μ β (declare_family K) i = ap declare_family (fill_none_kind μ β K i)
-  filled_none μ β (declare_constant A) i = ap declare_constant (fill_none_type μ β A i)
-  filled_none μ β (declare_definition M A b) (i, j) = ap₂ (λ N B. declare_definition N B b) (fill_none μ β M i) (fill_none_type μ β A j)
+  filled_none μ β (declare_family K) i = ap declare_family (fill_none_kind V absent μ β K i)
+  filled_none μ β (declare_constant A) i = ap declare_constant (fill_none_type V absent μ β A i)
+  filled_none μ β (declare_definition M A b) (i, j) = ap₂ (λ N B. declare_definition N B b) (fill_none V absent μ β M i) (fill_none_type V absent μ β A j)
 
   -- so what is deep with the values put in is deep itself
   put_type_deep : (after : metas.State) (k : ℕ) (A : LfType) → MetavariablesInType V A → PutsDeepType after k A → depth_limit < type_depth A
@@ -156,23 +136,30 @@ module _ (es : List Entry) (canonical : IsCanonicalSignature es) (c : List ℕ) 
       open_body_deep : (after : metas.State) → Solved (signature_of es) (store_of s) (whole [] after) → BodyIsDeep after b → BodyReachesDeep (signature_of es) e.body
       open_body_deep after z h = subst (BodyReachesDeep (signature_of es)) (open_body_is after z) (put_body_deep (Declares s.metavariables) none_made (signature_of es) after b body_none_in h)
 
-    explicit_shallow : ((frees : List ℕ) (s : State) (b : Body) → IsMade es [] w frees s b → AreDeep depth_limit (signature_of es) (store_of s) → ⊥) → (BodyReachesDeep (signature_of es) e.body → ⊥) → IsShallow es w
-    explicit_shallow equations entry = record {
+    -- no equation is made of it, since it has a completion
+    equations_shallow : (frees : List ℕ) (s : State) (b : Body) → IsMade es [] w frees s b → AreDeep depth_limit (signature_of es) (store_of s) → ⊥
+    equations_shallow frees s b made deep =
+        let none : (m : ℕ) → s.metavariables m ≡ None = made_none es w frees s b (makes_none [] [] w r) made in
+        let completion : IsCompletion es [] w (record { quantifiers = []; frees = []; body = e.body }) = subst (λ v. IsCompletion es [] v (record { quantifiers = []; frees = []; body = e.body })) (some_is (sym principal.resolved ∙ r)) principal.principal.completion in
+        let no_equation : s.equations ≡ [] = full_no_equation es canonical [] frees made.with_frees s made.frees_made w b made.body_made none (record { quantifiers = []; frees = []; body = e.body }) completion in
+        empty_shallow (signature_of es) (store_of s) no_equation refl none deep
+
+    explicit_shallow : (BodyReachesDeep (signature_of es) e.body → ⊥) → IsShallow es w
+    explicit_shallow entry = record {
       elaboration = no_elaboration_deep es c at U w x r;
-      equations = equations;
+      equations = equations_shallow;
       body = λ frees s b after made z h. entry (open_body_deep frees s b made after z h);
       completion = λ frees b p h. entry (subst (BodyReachesDeep (signature_of es)) (completion_body (record { quantifiers = []; frees = frees; body = b }) p.completion) h);
     }
 
-    -- Where neither of these is deep, nothing is.
-    pub nothing_deep_explicit : ((frees : List ℕ) (s : State) (b : Body) → IsMade es [] w frees s b → AreDeep depth_limit (signature_of es) (store_of s) → ⊥) → (BodyReachesDeep (signature_of es) e.body → ⊥) → HasCause es (declare c at U) TooDeep → ⊥
-    nothing_deep_explicit equations entry = nothing_deep es (declare c at U) not_free makes_none principal.skeletons w r (explicit_shallow equations entry)
+    -- Where the entry isn't deep, nothing is.
+    nothing_deep_explicit : (BodyReachesDeep (signature_of es) e.body → ⊥) → HasCause es (declare c at U) TooDeep → ⊥
+    nothing_deep_explicit entry = nothing_deep es (declare c at U) not_free makes_none principal.skeletons w r (explicit_shallow entry)
 
 pub explicit_deep_only_so : ExplicitIsDeepOnlySo
-explicit_deep_only_so es canonical (declare c at U) e x g equations entry =
+explicit_deep_only_so es canonical (declare c at U) e x g entry =
     let p = completed_principal es canonical c at U e x g in
-    nothing_deep_explicit es canonical c at U e x g p.written p.resolved
-    (λ frees s b made deep. equations (record { written = p.written; resolved = p.resolved; frees = frees; state = s; body = b; made = made; deep = deep })) entry
-explicit_deep_only_so es canonical (define c A M b) e x g equations entry = absurd g
-explicit_deep_only_so es canonical (prefer a y z) e x g equations entry = absurd g
-explicit_deep_only_so es canonical (give fix names) e x g equations entry = absurd g
+    nothing_deep_explicit es canonical c at U e x g p.written p.resolved entry
+explicit_deep_only_so es canonical (define c A M b) e x g entry = absurd g
+explicit_deep_only_so es canonical (prefer a y z) e x g entry = absurd g
+explicit_deep_only_so es canonical (give fix names) e x g entry = absurd g

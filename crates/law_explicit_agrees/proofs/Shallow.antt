@@ -69,7 +69,7 @@ run_same no_step h none = refl
 run_same (then_run t r) h none = absurd (step_some t h none)
 
 -- so a store with nothing in it reaches nothing deep
-empty_shallow : (Σ : Signature) (s : Store) → s.equations ≡ [] → s.bindings ≡ [] → ((m : ℕ) → s.metavariables m ≡ None) → AreDeep depth_limit Σ s → ⊥
+pub empty_shallow : (Σ : Signature) (s : Store) → s.equations ≡ [] → s.bindings ≡ [] → ((m : ℕ) → s.metavariables m ≡ None) → AreDeep depth_limit Σ s → ⊥
 empty_shallow Σ s q b n deep = by deep.deep
   where
     same : deep.reached ≡ s

@@ -46,7 +46,7 @@ pub fn explicit_has_no_other_cause()
     ensures { ExplicitHasNoOtherCause }
 {}
 
-/// An explicit declaration that gives an entry is too deep only where the equations of its elaboration are, or the entry or its typing.
+/// An explicit declaration that gives an entry is too deep only where the entry or its typing is.
 pub fn explicit_is_deep_only_so()
     ensures { ExplicitIsDeepOnlySo }
 {}

@@ -13,7 +13,7 @@ use Rattle.lf.proofs.Decidability.{variable_type_unique}
 use Rattle.lf.proofs.Entries.{canonical_is_signature}
 use Rattle.lf.proofs.SkeletonTypes.{single_kind_by_skeletons, single_type_by_skeletons}
 use Rattle.lf_unification.specs.Filling.{fill, fill_spine, fill_type, moved}
-use Rattle.lf_unification.specs.Offering.{lambda_over, raised}
+use Rattle.lf_unification.specs.Offering.{lambda_over, raised, spine_equations}
 use Rattle.lf_unification.specs.OpenTyping.{fill_locals, skeletons_of, under_locals, weaken_past}
 use Rattle.lf_unification.specs.Patterns.{beyond, local_skeletons}
 use Rattle.lf_unification.specs.Unifiers.{Equation, SolvesAll}
@@ -29,6 +29,7 @@ use Rattle.lf_elaboration.specs.Skeletons.{EquationsHaveSkeletons, KindHasSkelet
 use Rattle.lf_elaboration.specs.State.{State, index_equations, kind_equations, type_equations, with_equations, with_metavariable}
 use Rattle.lf_elaboration.specs.Written.{Written, WrittenDomain, WrittenKind, WrittenType}
 use Rattle.lf_elaboration.proofs.Adds.{Grows, adds_equations, adds_metavariable, adds_then, checks_adds, domain_adds, family_adds, infers_adds, kind_adds, kind_takes_adds, new_type_adds, takes_adds, takes_all_adds, type_adds}
+use Rattle.lf_elaboration.proofs.Differing.{differing_solved}
 use Rattle.lf_elaboration.proofs.Meeting.{Kept, Meets, fill_expand_constant, filled, free_at, free_type_at, in_scope, instance_at, kept_further, kind_instance_at, kind_kept, meets_on, meets_out, meets_under, new_filling, new_kept, new_meets, new_value, spine_kept, term_kept, total_spine, total_term, type_kept, κ_of}
 use Rattle.lf_elaboration.proofs.Once.{IsFamilyForm, family_form}
 use Rattle.lf_elaboration.proofs.Skeletons.{checks_skeletons, closed_term_skeleton, constant_type, domain_skeletons, entry_typed, family_skeletons_of, infers_skeletons, kind_closed, kind_declared, kind_equations_have, kind_grows, kind_skeletons, more_equations, new_type_skeletons, raised_skeleton, takes_skeletons, term_grows, type_declared, type_equations_have, type_grows, type_skeletons}
@@ -37,7 +38,7 @@ use Rattle.lf_elaboration.proofs.Skeletons.{checks_skeletons, closed_term_skelet
 module _ (Σ : Signature) (μ : ℕ → Skeleton) (β : ℕ → Option Term) where
   indices_solved : (x : Option Kind) (D : List LfType) (S T : Spine) → fill_spine μ (under_locals D β) S ≡ fill_spine μ (under_locals D β) T → SolvesAll μ β (index_equations Σ x D S T)
   indices_solved None D S T e = tt
-  indices_solved (Some K) D S T e = spine_solves μ β D K S T e
+  indices_solved (Some K) D S T e = differing_solved μ β (spine_equations D K S T) (spine_solves μ β D K S T e)
 
   pub types_solved : (D : List LfType) (A X : LfType) → fill_type μ (under_locals D β) A ≡ fill_type μ (under_locals D β) X → SolvesAll μ β (type_equations Σ D A X)
   types_solved D (pi A B) (pi X Y) e =

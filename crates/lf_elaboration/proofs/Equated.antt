@@ -27,7 +27,8 @@ use Rattle.lf_unification.proofs.OpenTypes.{fill_instance_kind, fill_kind}
 use Rattle.lf_unification.proofs.RigidSteps.{solves_rest}
 use Rattle.lf_unification.proofs.SubstitutionUpTo.{SameKind, convert}
 use Rattle.lf_elaboration.specs.Kinds.{OpenIsKind}
-use Rattle.lf_elaboration.specs.State.{index_equations, kind_equations, type_equations}
+use Rattle.lf_elaboration.specs.State.{differing, index_equations, kind_equations, type_equations, unless_same}
+use Rattle.lf_elaboration.proofs.Differing.{all_solved, same_sides}
 use Rattle.lf_elaboration.proofs.UpTo.{MS, SU, all_of, closed_kind_open, in_context, kind_instance_typed, kind_skeletons_at, types_in}
 
 rename_id_kind : (K : Kind) → rename_kind (λ i. i) K ≡ K
@@ -84,6 +85,15 @@ module _ (Σ : Signature) (ok : IsSignature Σ) (Ψ : ℕ → Option LfType) (U 
         ∙ sym (fill_instance_kind κ φ Γ (under_locals D β) X N L g (w.terms D N X n) (kind_skeletons_at Σ ok Ψ U half declared D (kind_pi X L) x β u).1),
   )
 
+  -- and those that are kept
+  unless_typed : (e : Equation) (es : List Equation) {Same : Type 0} (d : Dec Same) → EquationIsFullyTyped Σ [] Ψ U e → AreFullyTyped es → AreFullyTyped (unless_same d e es)
+  unless_typed e es (yes q) x t = t
+  unless_typed e es (no n) x t = (x, t)
+
+  differing_typed : (es : List Equation) → AreFullyTyped es → AreFullyTyped (differing es)
+  differing_typed [] t = tt
+  differing_typed (e ∷ es) (x, t) = unless_typed e (differing es) (same_sides e) x (differing_typed es t)
+
   -- the equations of the indices of one family
   indices_typed : (D : List LfType) → OpenIsContext Σ [] Ψ U D → (K L : Kind) (S T : Spine) → IsKindAt D K → IsKindAt D L → SameKinds D K L → OpenSpineFitsKind Σ [] Ψ U D S K → OpenSpineFitsKind Σ [] Ψ U D T L → Solved (spine_equations D K S T) → AreFullyTyped (spine_equations D K S T)
   indices_typed D l (kind_pi A K) (kind_pi X L) (app M S) (app N T) (a, k) (x, y) s (m, p) (n, q) h =
@@ -138,9 +148,9 @@ module _ (Σ : Signature) (ok : IsSignature Σ) (Ψ : ℕ → Option LfType) (U 
   same_family : (D : List LfType) → OpenIsContext Σ [] Ψ U D → (a : ℕ) (K : Kind) (S T : Spine) → Σ.kinds a ≡ Some K → OpenSpineFitsKind Σ [] Ψ U D S K → OpenSpineFitsKind Σ [] Ψ U D T K → Solved (index_equations Σ (Σ.kinds a) D S T) → Same D (atom a S) (atom a T) × AreFullyTyped (index_equations Σ (Σ.kinds a) D S T)
   same_family D l a K S T e s t h =
       let k : IsKindAt D K = closed_kind_open Σ ok Ψ U half declared D K (ok.kinds_ok a K e) in
-      let h' : Solved (spine_equations D K S T) = λ β u. subst (λ x. SolvesAll (skeletons_of Ψ) β (index_equations Σ x D S T)) e (h β u) in (
+      let h' : Solved (spine_equations D K S T) = λ β u. all_solved μ β (spine_equations D K S T) (subst (λ x. SolvesAll (skeletons_of Ψ) β (index_equations Σ x D S T)) e (h β u)) in (
         (refl, λ β u. ap (atom a) (indices_equal μ β κ (local_skeletons D []) a D K S T (open_skeletons_kind Σ μ ok Ψ U a D [] S K s) (open_skeletons_kind Σ μ ok Ψ U a D [] T K t) (h' β u))),
-        subst (λ x. AreFullyTyped (index_equations Σ x D S T)) (sym e) (indices_typed D l K K S T k k (refl, λ β u. refl) s t h'),
+        subst (λ x. AreFullyTyped (index_equations Σ x D S T)) (sym e) (differing_typed (spine_equations D K S T) (indices_typed D l K K S T k k (refl, λ β u. refl) s t h')),
       )
 
   -- THE theorem on types

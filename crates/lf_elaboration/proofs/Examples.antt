@@ -4,13 +4,14 @@ use Rattle.std.specs.Prelude.{IsSortedBy}
 use Rattle.lf.specs.Entries.{declare_constant}
 use Rattle.lf.specs.Syntax.{base, star}
 use Rattle.lf_elaboration.specs.Elaboration.{at_applied, at_arrow, at_constant, at_definition, at_bound, at_family, at_family_applied, at_family_name, at_free, at_function, at_kind_arrow, at_of_skeleton, at_quantified, at_star, checks_function, checks_hole, checks_inferred, kind_takes_next, kind_takes_none, new_atom, next_free, no_frees, takes_all, takes_first, takes_next, takes_none}
-use Rattle.lf_elaboration.specs.Examples.{BackwardHasSites, UntypedHasSite, FreesInOrder, column, anywhere, NumberIsNotPrincipal, nat, place, vec, z, DefinitionIsExpanded, EquationsAreAll, FullIsElaborated, entries, equal_numbers, full_behind, full_unequated, meta, successor, HoleIsRaised, KindIsElaborated, PlusSuccessorIsElaborated, ShortIsExpanded}
+use Rattle.lf_elaboration.specs.Examples.{SameHasNoEquation, BackwardHasSites, UntypedHasSite, FreesInOrder, column, anywhere, NumberIsNotPrincipal, nat, place, vec, z, DefinitionIsExpanded, EquationsAreAll, FullIsElaborated, entries, equal_numbers, full_behind, full_unequated, meta, successor, HoleIsRaised, KindIsElaborated, PlusSuccessorIsElaborated, ShortIsExpanded}
 use Rattle.lf_elaboration.specs.Completions.{family_applied_completed, family_completed, family_name_completed, free_completed, kind_any_none}
 use Rattle.lf_elaboration.specs.Principal.{Completion, IsCompletion, written_constant}
 use Rattle.lf_elaboration.specs.Written.{family, family_applied, free}
 use Rattle.lf_elaboration.specs.Sites.{Site, is_site_before}
 use Rattle.lf_elaboration.specs.State.{State}
 use Rattle.lf_elaboration.proofs.Once.{type_once}
+use native.Mathlib.Decide.{ℕ_discrete}
 
 pub plus_successor : PlusSuccessorIsElaborated
 plus_successor = (
@@ -21,10 +22,15 @@ plus_successor = (
 )
 
 pub full_vector : FullIsElaborated
+unfolding ℕ_discrete
 full_vector = (
   next_free (new_atom refl (takes_first takes_all)) no_frees,
   at_family (at_family_applied (at_family_name refl refl (kind_takes_next kind_takes_none)) (checks_inferred tt (at_applied (at_applied (at_constant refl refl (takes_next takes_none)) (checks_inferred tt (at_constant refl refl takes_none) refl)) (checks_inferred tt (at_free refl refl) refl)) refl)),
 )
+
+pub same_has_none : SameHasNoEquation
+unfolding ℕ_discrete
+same_has_none = (refl, refl)
 
 pub equations_all : EquationsAreAll
 equations_all A x = (let p : full_behind ≡ full_unequated = (type_once entries (1 ∷ []) full_vector.1 x).0 in no (ap (λ (s : State). s.equations) p))

@@ -1,4 +1,5 @@
 pub mod Adds
+pub mod Differing
 pub mod Skeletons
 pub mod UpTo
 pub mod Equated
@@ -24,3 +25,5 @@ pub mod Reordered
 pub mod Determined
 pub mod Placed
 pub mod Counted
+pub mod Differ
+pub mod Full

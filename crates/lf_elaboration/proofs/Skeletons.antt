@@ -30,6 +30,7 @@ use Rattle.lf_unification.proofs.Agree.{set_here}
 use Rattle.lf_unification.proofs.Eta.{SpineSkeleton-add_last, rename_id, skeletons_zero}
 use Rattle.lf_unification.proofs.Offer.{decide, set_other}
 use Rattle.lf_unification.proofs.OpenSound.{skeleton_raise}
+use Rattle.lf_elaboration.proofs.Differing.{differing_have}
 use Rattle.lf_elaboration.proofs.Adds.{Grows, adds_equations, adds_metavariable, checks_adds, domain_adds, family_adds, infers_adds, kind_adds, kind_takes_adds, new_type_adds, takes_adds, takes_all_adds, type_adds}
 
 -- more heads have skeletons
@@ -247,9 +248,9 @@ module _ (Σ : Signature) (ok : IsSignature Σ) where
 
   family_indices_have : (s : State) (D : List LfType) (a : ℕ) (x : Option Kind) (S T : Spine) (t u : Skeleton) → Σ.kinds a ≡ x → LocalHasSkeletons Σ s D → family_skeleton a x ≡ Some t → family_skeleton a x ≡ Some u → SpineSkeleton (heads_of Σ s) (local_skeletons D []) S t (base a) → SpineSkeleton (heads_of Σ s) (local_skeletons D []) T u (base a) → EquationsHaveSkeletons Σ s (index_equations Σ x D S T)
   family_indices_have s D a None S T t u e l p q m n = tt
-  family_indices_have s D a (Some K) S T t u e l p q m n = indices_have s D a K S T l (kind_closed s D K (ok.kinds_ok a K e))
+  family_indices_have s D a (Some K) S T t u e l p q m n = differing_have Σ s (spine_equations D K S T) (indices_have s D a K S T l (kind_closed s D K (ok.kinds_ok a K e))
       (subst (λ t. SpineSkeleton (heads_of Σ s) (local_skeletons D []) S t (base a)) (sym (let r : kind_skeleton a K ≡ t = cc in r)) m)
-      (subst (λ t. SpineSkeleton (heads_of Σ s) (local_skeletons D []) T t (base a)) (sym (let r : kind_skeleton a K ≡ u = cc in r)) n)
+      (subst (λ t. SpineSkeleton (heads_of Σ s) (local_skeletons D []) T t (base a)) (sym (let r : kind_skeleton a K ≡ u = cc in r)) n))
 
   -- the equations of two types of one skeleton
   pub type_equations_have : (s : State) (D : List LfType) (A X : LfType) → LocalHasSkeletons Σ s D → TypeHasSkeletons Σ s D A → TypeHasSkeletons Σ s D X → skeleton A ≡ skeleton X → EquationsHaveSkeletons Σ s (type_equations Σ D A X)

@@ -1,11 +1,11 @@
 -- Worked declarations.
-use Rattle.std.specs.Prelude.{ℕ, List, [], ◌∷◌, Option, None, false}
-use Rattle.lf.specs.Entries.{Body, Entry, declare_constant, declare_definition, declare_family}
+use Rattle.std.specs.Prelude.{◌≡◌, ℕ, List, [], ◌∷◌, Option, None, false}
+use Rattle.lf.specs.Entries.{Body, Entry, declare_constant, declare_definition, declare_family, signature_of}
 use Rattle.lf.specs.Syntax.{LfType, Term, app, atom, base, constant, kind_pi, lambda, metavariable, nil, pi, root, star, variable}
 use Rattle.lf_elaboration.specs.Elaboration.{ElaboratesKind, ElaboratesType, Infers, NewFrees}
 use Rattle.lf_elaboration.specs.Principal.{Completion, IsCompletion, IsPrincipal, WrittenBody, written_constant, written_definition, written_definition_of}
 use Rattle.lf_elaboration.specs.Sites.{AreFreesInOrder, AreSites}
-use Rattle.lf_elaboration.specs.State.{State, nothing_yet, with_equations, with_metavariable}
+use Rattle.lf_elaboration.specs.State.{State, nothing_yet, type_equations, with_equations, with_metavariable}
 use Rattle.lf_elaboration.specs.Written.{Place, Written, WrittenType, applied, arrow, bound, declared, family, family_applied, free, function, hole, kind_arrow, of_skeleton, quantified, written_star}
 use Rattle.lf_unification.specs.Unifiers.{Equation}
 
@@ -104,6 +104,12 @@ full_unequated = with_equations (equal_numbers (meta 0) (meta 3) ∷ []) (with_m
 
 abbrev pub EquationsAreAll : Type 0
 EquationsAreAll = (A : LfType) → ElaboratesType entries (1 ∷ []) [] (family_applied (family 6 anywhere) (applied (applied (declared 5 anywhere) (declared 1 anywhere)) (free 0 anywhere))) one_vector full_unequated A → ⊥
+
+-- vec z is compared with itself without an equation, and with vec 0, whose length is a metavariable, with one.
+abbrev pub SameHasNoEquation : Type 0
+SameHasNoEquation =
+    (type_equations (signature_of entries) [] (vec z) (vec z) ≡ [])
+    × (type_equations (signature_of entries) [] (vec z) (vec (meta 0)) ≡ equal_numbers z (meta 0) ∷ [])
 
 -- {x:nat} map ([y] _): the hole is a metavariable over x and y. And map s: the constant is made eta-long.
 abbrev pub over_two : State

@@ -11,3 +11,4 @@ pub mod Principal
 pub mod Sites
 pub mod PrincipalLaws
 pub mod SiteLaws
+pub mod EquationLaws

@@ -1,11 +1,12 @@
 -- What elaboration has made so far: metavariables for what isn't written, and equations where types are compared.
 use Rattle.std.specs.Prelude.{ℕ, zero, suc, List, [], ◌∷◌, Option, Some, None}
-use Rattle.lf.specs.Syntax.{Kind, LfType, Spine, atom, kind_pi, pi}
+use Rattle.lf.specs.Syntax.{Head-discrete, Kind, LfType, Spine, Term-discrete, atom, kind_pi, pi}
 use Rattle.lf.specs.Typing.{Signature}
 use Rattle.lf_unification.specs.Lists.{followed}
 use Rattle.lf_unification.specs.Offering.{pi_over, spine_equations}
 use Rattle.lf_unification.specs.OpenTyping.{set_at}
 use Rattle.lf_unification.specs.Unifiers.{Equation, Store}
+use native.Mathlib.Decide.{ℕ_discrete}
 
 -- the metavariables with their types, the next number, and the equations, the oldest first
 pub record State : Type 0 where
@@ -27,13 +28,24 @@ with_equations es s = record { metavariables = s.metavariables; next = s.next; e
 abbrev pub store_of : State → Store
 store_of s = record { metavariables = s.metavariables; bindings = []; equations = s.equations }
 
+-- the equation in front of the others, unless its sides are the same
+abbrev pub unless_same : {Same : Type 0} → Dec Same → Equation → List Equation → List Equation
+unless_same (yes same) e es = es
+unless_same (no differ) e es = e ∷ es
+
+-- Those with two sides that aren't the same text: s N = s N says nothing, and isn't kept.
+abbrev pub differing : List Equation → List Equation
+differing [] = []
+differing (e ∷ es) = unless_same (Term-discrete (Head-discrete ℕ_discrete) e.left e.right) e (differing es)
+
 module _ (Σ : Signature) where
-  -- between the arguments of a family of this kind
+  -- between the arguments of a family of this kind, where they differ
   abbrev pub index_equations : Option Kind → List LfType → Spine → Spine → List Equation
   index_equations None D S T = []
-  index_equations (Some K) D S T = spine_equations D K S T
+  index_equations (Some K) D S T = differing (spine_equations D K S T)
 
   -- Between two types of one skeleton: equal where their indices are. The type that was found is on the left, and the expected one on the right.
+  -- Two types that are the same have none.
   abbrev pub type_equations : List LfType → LfType → LfType → List Equation
   type_equations D (pi A B) (pi X Y) = followed (type_equations D A X) (type_equations (A ∷ D) B Y)
   type_equations D (atom a S) (atom b T) = index_equations (Σ.kinds a) D S T

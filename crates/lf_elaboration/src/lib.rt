@@ -2,7 +2,8 @@
 //! where types are compared. They have no code: each function carries one law as its contract.
 #![tactic(auto)]
 
-ghost use Rattle.lf_elaboration.specs.Examples.{NumberIsNotPrincipal, BackwardHasSites, UntypedHasSite, FreesInOrder, PlusSuccessorIsElaborated, FullIsElaborated, EquationsAreAll, HoleIsRaised, ShortIsExpanded, DefinitionIsExpanded, KindIsElaborated};
+ghost use Rattle.lf_elaboration.specs.Examples.{SameHasNoEquation, NumberIsNotPrincipal, BackwardHasSites, UntypedHasSite, FreesInOrder, PlusSuccessorIsElaborated, FullIsElaborated, EquationsAreAll, HoleIsRaised, ShortIsExpanded, DefinitionIsExpanded, KindIsElaborated};
+ghost use Rattle.lf_elaboration.specs.EquationLaws.{EquationsDiffer, FullHasNoEquation};
 ghost use Rattle.lf_elaboration.specs.Laws.{ElaboratedTypeIsMade, ElaboratedKindIsMade, InferredTermIsMade, CheckedTermIsMade, NothingHasSkeletons, ElaboratedHasSkeletons, StateIsScoped, FreesAreMade, SkeletonIsElaborated, ElaboratedHadSkeleton, ElaborationIsUnique, CompletionIsInstance, InstanceIsCompletion, SolvedTypeIsTyped, SolvedTermIsTyped, SolvedKindIsTyped, SolvedBodyIsTyped, UnifierIsOfSolved};
 ghost use Rattle.lf_elaboration.specs.SiteLaws.{MetavariablesAreCounted, SpotsAreAll};
 ghost use Rattle.lf_elaboration.specs.PrincipalLaws.{PrincipalMayStand, ContextIsReordered, GivenDetermineAll, QuantifiersAreUndetermined, NeverHasNoCompletion, ReadOffIsPrincipal, ReorderedIsPrincipal};
@@ -40,6 +41,16 @@ pub fn elaborated_had_skeleton()
 /// Elaboration has one outcome.
 pub fn elaboration_is_unique()
     ensures { ElaborationIsUnique }
+{}
+
+/// No equation is made of two equal sides.
+pub fn equations_differ()
+    ensures { EquationsDiffer }
+{}
+
+/// Where nothing is left out and there is a completion, no equation is made.
+pub fn full_has_no_equation()
+    ensures { FullHasNoEquation }
 {}
 
 /// Each completion of what is written is what a typed unifier of the store makes of it.
@@ -155,6 +166,11 @@ pub fn full_is_elaborated()
 /// A state without one of them isn't the state behind.
 pub fn equations_are_all()
     ensures { EquationsAreAll }
+{}
+
+/// Two types that are the same have no equation.
+pub fn same_has_no_equation()
+    ensures { SameHasNoEquation }
 {}
 
 /// A hole under binders.

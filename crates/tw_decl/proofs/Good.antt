@@ -17,6 +17,7 @@ use Rattle.tw_recon.specs.Causes as reconstruction
 use Rattle.tw_recon.specs.declared.fault.ReconFault.{ReconFault}
 use Rattle.tw_recon.specs.declared.fault.ReconFault.TheVariants as reconstructions
 use Rattle.law_explicit_agrees.specs.Reconstructed.{MayBeRefused}
+use Rattle.law_explicit_agrees.proofs.Deep.{explicit_deep_only_so}
 use Rattle.law_explicit_agrees.proofs.Full.{no_lambda, no_name, no_type}
 use Rattle.law_explicit_agrees.proofs.Only.{no_other_cause}
 use Rattle.tw_decl.specs.View.{View, IsSound}
@@ -76,7 +77,7 @@ module _ (v : View) (c : List ℕ) (at : Place) (U : Term) (first : Place) (s : 
   plain_obstacle (Loose place) h = absurd (refused reconstructions.Loose h.0)
   plain_obstacle (Mismatch place) h = absurd (refused reconstructions.Mismatch h.0 t.entry t.completes)
   plain_obstacle (Leftover place text) ((left, h, e), there) = absurd (refused (reconstructions.Leftover left) h)
-  plain_obstacle (TooDeep place) h = absurd (t.shallow h.0)
+  plain_obstacle (TooDeep place) h = absurd (explicit_deep_only_so v.signature s (declare c at U) t.entry t.form t.completes t.shallow h.0)
   plain_obstacle refusal h = absurd h
 
 -- no refusal of a declaration that is read has a cause

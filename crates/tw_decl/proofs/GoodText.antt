@@ -1,12 +1,7 @@
 -- A good text: `o : type.`, where nothing is declared.
 use Rattle.std.proofs.Common.{◌≡◌, ℕ, List, [], ◌∷◌, None, Ok, codes, drop, refl, ap, ◌∙◌, lit<, lit≤, arith, inl, inr}
-use Rattle.lf.specs.Entries.{Body, declare_constant, declare_definition, declare_family, signature_of}
-use Rattle.lf.specs.Syntax.{Kind, star as lf_star}
-use Rattle.lf_elaboration.specs.Elaboration.{ElaboratesKind, at_star}
-use Rattle.lf_elaboration.specs.Principal.{written_family}
-use Rattle.lf_elaboration.specs.PrincipalLaws.{ElaboratesBody}
-use Rattle.lf_elaboration.specs.State.{State}
-use Rattle.lf_elaboration.specs.Written.{written_star}
+use Rattle.lf.specs.Entries.{declare_family, signature_of}
+use Rattle.lf.specs.Syntax.{star as lf_star}
 use Rattle.tw_lexer.proofs.Pieces.{pieces-at, pieces-end}
 use Rattle.tw_lexer.specs.Characters.{first_piece, pieces_from}
 use Rattle.tw_lexer.specs.Tokens.{first_token, find, between, ThroughDot}
@@ -21,11 +16,8 @@ use Rattle.tw_parse.specs.Syntax.{Declaration, declare, star}
 use Rattle.tw_parse.specs.Words.{Lexeme}
 use Rattle.tw_parse.specs.declared.sign.Level.TheVariants as levels
 use Rattle.tw_parse.specs.declared.words.Word.TheVariants as words
-use Rattle.tw_recon.specs.Causes.{BodyReachesDeep, HasCause}
-use Rattle.tw_recon.specs.declared.fault.ReconFault.TheVariants.{TooDeep}
+use Rattle.tw_recon.specs.Causes.{BodyReachesDeep}
 use Rattle.law_explicit_form.specs.Completion.{Completes}
-use Rattle.law_explicit_agrees.proofs.Deep.{nothing_deep_explicit}
-use Rattle.law_explicit_agrees.proofs.Shallow.{unmade_shallow}
 use Rattle.tw_decl.specs.Examples.{FamilyIsGood, o_entry}
 
 abbrev text : List ℕ
@@ -106,22 +98,9 @@ no_keyword e = cc
 completed : Completes [] o_is_a_type o_entry
 completed = record { name = refl; body = tt; implicit = refl; hint_each = refl }
 
-star_made : {frees : List ℕ} {s s' : State} {K : Kind} → ElaboratesKind [] frees [] written_star s s' K → s' ≡ s
-star_made at_star = refl
-
-body_made : (frees : List ℕ) (s s' : State) (b : Body) → ElaboratesBody [] frees (written_family written_star) s s' b → s' ≡ s
-body_made frees s s' (declare_family K) x = star_made x
-body_made frees s s' (declare_constant A) x = absurd x
-body_made frees s s' (declare_definition M A d) x = absurd x
-
 star_shallow : BodyReachesDeep (signature_of []) (declare_family lf_star) → ⊥
 star_shallow (inl deep) = omega (arith, deep)
 star_shallow (inr deep) = omega (arith, deep)
-
-no_deep : HasCause [] o_is_a_type TooDeep → ⊥
-no_deep =
-    nothing_deep_explicit [] tt (codes "o") (place 1) star o_entry (refl, refl) completed (written_family written_star) refl
-    (λ frees s b made deep. unmade_shallow [] frees made.with_frees s made.frees_made (body_made frees made.with_frees s b made.body_made) deep) star_shallow
 
 reads_star : ReadsOnce (atom star ∷ []) star
 reads_star = once (λ x. None) (atom star ∷ []) (record { term = star; level = levels.Application }) tt refl
@@ -143,6 +122,6 @@ good =
         form = (refl, refl);
         entry = o_entry;
         completes = completed;
-        shallow = no_deep;
+        shallow = star_shallow;
       });
     }

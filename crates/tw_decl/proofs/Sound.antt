@@ -1,5 +1,5 @@
 -- A declaration that is made keeps the signature canonical.
-use Rattle.std.proofs.Common.{ℕ, List, None, Some, sym, subst}
+use Rattle.std.proofs.Common.{List, None, Some, sym, subst}
 use Rattle.tw_parse.specs.Syntax.{Declaration, declare, define, prefer, give}
 use Rattle.tw_parse.specs.Words.{Lexeme}
 use Rattle.tw_decl.specs.View.{View, IsSound}

@@ -1,6 +1,6 @@
 -- Laws of declarations.
 use Rattle.std.specs.Prelude.{◌≡◌, ◌⊎◌, ℕ, List}
-use Rattle.lf.specs.Entries.{Entry}
+use Rattle.lf.specs.Entries.{Entry, signature_of}
 use Rattle.tw_lexer.specs.declared.place.Place.{Place}
 use Rattle.tw_lexer.specs.declared.token.Token.{Token}
 use Rattle.tw_lexer.specs.declared.token.TokenKind.TheVariants.{End}
@@ -11,6 +11,7 @@ use Rattle.law_explicit_form.specs.Explicit.{IsExplicit}
 use Rattle.lf_elaboration.specs.Principal.{Completion, IsCompletion, WrittenBody}
 use Rattle.tw_approx.specs.Answer.{Rows}
 use Rattle.tw_recon.specs.Causes as reconstruction
+use Rattle.tw_recon.specs.Causes.{BodyReachesDeep}
 use Rattle.tw_recon.specs.Reconstruction.{IsWrittenAs}
 use Rattle.tw_recon.specs.declared.fault.ReconFault.TheVariants.{Leftover, TooDeep}
 use Rattle.tw_resolve.specs.Resolved.{skeletons_of}
@@ -29,12 +30,16 @@ AcceptingKeepsSound = (v w : View) (text : List ℕ) (report : Reported) → Acc
 abbrev pub AcceptingFromKeepsSound : Type 0
 AcceptingFromKeepsSound = (v w : View) (text : List ℕ) (report : Reported) (from upto : ℕ) → AcceptsFrom v text from report upto w → IsSound v → IsSound w
 
--- An explicit declaration that is well typed: it has a completion, and nothing in its reconstruction is deeper than the limit.
+-- The depth of a declaration is the greatest one of a term, type or kind in the typing derivation of its entry. It is above 4,096.
+abbrev pub IsDeepDeclaration : List Entry → Entry → Type 0
+IsDeepDeclaration es e = BodyReachesDeep (signature_of es) e.body
+
+-- An explicit declaration that is well typed: it has a completion, and isn't deeper than the limit.
 pub record IsWellTyped (v : View) (d : Declaration) : Type 0 where
   pub form : IsExplicit v.signature d
   pub entry : Entry
   pub completes : Completes v.signature d entry
-  pub shallow : reconstruction.HasCause v.signature d TooDeep → ⊥
+  pub shallow : IsDeepDeclaration v.signature entry → ⊥
 
 -- A declaration of any form that has a completion: what isn't written has skeletons in just one way, and told these it can be completed, in whatever order its free variables stand.
 -- No equation is left of it, and nothing is too deep.

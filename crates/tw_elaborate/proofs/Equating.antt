@@ -1,19 +1,20 @@
 -- Equations between types, kinds and arguments, one after another.
-use Rattle.std.proofs.Common.{◌≡◌, ℕ, zero, suc, ◌+◌, ◌<◌, ◌≤◌, List, [], ◌∷◌, ◌++◌, drop, get_or, length, map, Option, Some, None, refl, sym, ap, ap₂, ◌∙◌, subst, arith, add-one, drop-cons, false, true, nat_lt}
+use Rattle.std.proofs.Common.{◌≡◌, ℕ, suc, ◌+◌, ◌<◌, ◌≤◌, List, [], ◌∷◌, ◌++◌, drop, get_or, length, map, Option, Some, None, refl, sym, ap, ap₂, ◌∙◌, subst, arith, add-one, drop-cons, false, true, nat_lt}
 use Rattle.std.proofs.lemmas.Bool.Decides.{nat_tests}
 use Rattle.std.proofs.lemmas.List.{drop_all, map-append}
 use Rattle.lf.specs.Entries.{Entry, IsCanonicalSignature, signature_of}
 use Rattle.lf.specs.SkeletonTyping.{SpineSkeleton}
 use Rattle.lf.specs.Skeletons.{family_skeleton, family_skeletons}
 use Rattle.lf.specs.Substitution.{reduce, single}
-use Rattle.lf.specs.Syntax.{Kind, LfType, Skeleton, Spine, Term, app, arrow, atom, base, kind_pi, kind_skeleton, nil, pi, skeleton, star}
+use Rattle.lf.specs.Syntax.{Kind, LfType, Skeleton, Spine, Term, app, atom, base, kind_pi, kind_skeleton, nil, skeleton, star}
 use Rattle.lf.specs.Typing.{IsSignature, Signature, instantiate_kind}
 use Rattle.lf.proofs.Entries.{canonical_is_signature}
 use Rattle.lf.proofs.SkeletonTypes.{single_kind_by_skeletons}
 use Rattle.lf.proofs.SkeletonTyping.{single_by_skeletons}
 use Rattle.lf.proofs.ToSkeletons.{kind_skeleton_substituted}
-use Rattle.lf_elaboration.specs.Skeletons.{KindHasSkeletons, TypeHasSkeletons, heads_of}
-use Rattle.lf_elaboration.specs.State.{State, index_equations, kind_equations, type_equations, with_equations}
+use Rattle.lf_elaboration.specs.Skeletons.{TypeHasSkeletons, heads_of}
+use Rattle.lf_elaboration.specs.State.{State, differing, index_equations, unless_same, with_equations}
+use Rattle.lf_elaboration.proofs.Differing.{different_sides, same_side, same_sides}
 use Rattle.lf_elaboration.proofs.Skeletons.{kind_closed}
 use Rattle.lf_unification.specs.Lists.{followed}
 use Rattle.lf_unification.specs.Offering.{spine_equations}
@@ -29,11 +30,11 @@ use Rattle.tw_hered.specs.Fits.{KindFits}
 use Rattle.tw_elaborate.specs.View.{made}
 use Rattle.tw_elaborate.specs.declared.state.Elaboration.{Elaboration}
 
-followed_after : (xs ys zs : List Equation) → followed (followed xs ys) zs ≡ followed xs (followed ys zs)
+pub followed_after : (xs ys zs : List Equation) → followed (followed xs ys) zs ≡ followed xs (followed ys zs)
 followed_after [] ys zs = refl
 followed_after (x ∷ xs) ys zs = ap (λ l. x ∷ l) (followed_after xs ys zs)
 
-followed_none : (xs : List Equation) → followed xs [] ≡ xs
+pub followed_none : (xs : List Equation) → followed xs [] ≡ xs
 followed_none [] = refl
 followed_none (x ∷ xs) = ap (λ l. x ∷ l) (followed_none xs)
 
@@ -57,53 +58,6 @@ pushed_equation Ψ n old new d e p q =
     let x : map equation_of new ≡ followed (map equation_of old) (e ∷ []) = ap (map equation_of) p ∙ map-append equation_of old (d ∷ []) ∙ followed_appends (map equation_of old) (equation_of d ∷ []) ∙ ap (λ y. followed (map equation_of old) (y ∷ [])) q in
     ap (λ (l : List Equation). record { metavariables = Ψ; next = n; equations = l }) x
 
-module _ (Σ : Signature) where
-  -- the parts of a type that skeletons type
-  pub domain_has : (s : State) (D : List LfType) (T A B : LfType) → T ≡ pi A B → TypeHasSkeletons Σ s D T → TypeHasSkeletons Σ s D A
-  domain_has s D T A B e t = (subst (TypeHasSkeletons Σ s D) e t).0
-
-  pub range_has : (s s' : State) (es : List Equation) (D E : List LfType) (T A B Z : LfType) → T ≡ pi A B → s' ≡ with_equations es s → E ≡ Z ∷ D → Z ≡ A → TypeHasSkeletons Σ s D T → TypeHasSkeletons Σ s' E B
-  range_has s s' es D E T A B Z e q l z t =
-      let x : TypeHasSkeletons Σ (with_equations es s) (A ∷ D) B = (subst (TypeHasSkeletons Σ s D) e t).1 in
-      subst (λ w. TypeHasSkeletons Σ w E B) (sym q) (subst (λ F. TypeHasSkeletons Σ (with_equations es s) F B) (sym (l ∙ ap (λ Y. Y ∷ D) z)) x)
-
-  pub kind_domain_has : (s : State) (D : List LfType) (T K : Kind) (A : LfType) → T ≡ kind_pi A K → KindHasSkeletons Σ s D T → TypeHasSkeletons Σ s D A
-  kind_domain_has s D T K A e t = (subst (KindHasSkeletons Σ s D) e t).0
-
-  pub kind_range_has : (s s' : State) (es : List Equation) (D E : List LfType) (T K : Kind) (A Z : LfType) → T ≡ kind_pi A K → s' ≡ with_equations es s → E ≡ Z ∷ D → Z ≡ A → KindHasSkeletons Σ s D T → KindHasSkeletons Σ s' E K
-  kind_range_has s s' es D E T K A Z e q l z t =
-      let x : KindHasSkeletons Σ (with_equations es s) (A ∷ D) K = (subst (KindHasSkeletons Σ s D) e t).1 in
-      subst (λ w. KindHasSkeletons Σ w E K) (sym q) (subst (λ F. KindHasSkeletons Σ (with_equations es s) F K) (sym (l ∙ ap (λ Y. Y ∷ D) z)) x)
-
-  -- two types of one skeleton, part by part
-  pub same_products : (T U A B X Y : LfType) → T ≡ pi A B → U ≡ pi X Y → skeleton A ≡ skeleton X → skeleton B ≡ skeleton Y → skeleton T ≡ skeleton U
-  same_products T U A B X Y t u a b = ap skeleton t ∙ ap₂ arrow a b ∙ sym (ap skeleton u)
-
-  pub equations_of_products : (s s₁ s₂ s' : State) (D E : List LfType) (T U A B X Y Z : LfType) → T ≡ pi A B → U ≡ pi X Y → s₁ ≡ with_equations (type_equations Σ D A X) s → E ≡ Z ∷ D → Z ≡ A → s₂ ≡ with_equations (type_equations Σ E B Y) s₁ → s' ≡ s₂ → s' ≡ with_equations (type_equations Σ D T U) s
-  equations_of_products s s₁ s₂ s' D E T U A B X Y Z t u p l z q r =
-      r ∙ q ∙ ap₂ (λ (F : List LfType) (w : State). with_equations (type_equations Σ F B Y) w) (l ∙ ap (λ W. W ∷ D) z) p
-      ∙ equations_twice (type_equations Σ D A X) (type_equations Σ (A ∷ D) B Y) s
-      ∙ ap₂ (λ (V W : LfType). with_equations (type_equations Σ D V W) s) (sym t) (sym u)
-
-  pub same_atoms : (T U : LfType) (a b : ℕ) (S R : Spine) → T ≡ atom a S → U ≡ atom b R → a ≡ b → skeleton T ≡ skeleton U
-  same_atoms T U a b S R t u e = ap skeleton t ∙ ap base e ∙ sym (ap skeleton u)
-
-  pub equations_of_atoms : (s s' : State) (D : List LfType) (T U : LfType) (a b : ℕ) (S R : Spine) → T ≡ atom a S → U ≡ atom b R → s' ≡ with_equations (index_equations Σ (Σ.kinds a) D S R) s → s' ≡ with_equations (type_equations Σ D T U) s
-  equations_of_atoms s s' D T U a b S R t u q = q ∙ ap₂ (λ (V W : LfType). with_equations (type_equations Σ D V W) s) (sym t) (sym u)
-
-  -- two kinds
-  pub same_kinds : (T U K L : Kind) (A X : LfType) → T ≡ kind_pi A K → U ≡ kind_pi X L → skeleton A ≡ skeleton X → kind_skeleton zero K ≡ kind_skeleton zero L → kind_skeleton zero T ≡ kind_skeleton zero U
-  same_kinds T U K L A X t u a k = ap (kind_skeleton zero) t ∙ ap₂ arrow a k ∙ sym (ap (kind_skeleton zero) u)
-
-  pub equations_of_kinds : (s s₁ s₂ s' : State) (D E : List LfType) (T U K L : Kind) (A X Z : LfType) → T ≡ kind_pi A K → U ≡ kind_pi X L → s₁ ≡ with_equations (type_equations Σ D A X) s → E ≡ Z ∷ D → Z ≡ A → s₂ ≡ with_equations (kind_equations Σ E K L) s₁ → s' ≡ s₂ → s' ≡ with_equations (kind_equations Σ D T U) s
-  equations_of_kinds s s₁ s₂ s' D E T U K L A X Z t u p l z q r =
-      r ∙ q ∙ ap₂ (λ (F : List LfType) (w : State). with_equations (kind_equations Σ F K L) w) (l ∙ ap (λ W. W ∷ D) z) p
-      ∙ equations_twice (type_equations Σ D A X) (kind_equations Σ (A ∷ D) K L) s
-      ∙ ap₂ (λ (V W : Kind). with_equations (kind_equations Σ D V W) s) (sym t) (sym u)
-
-  pub equations_of_stars : (s : State) (D : List LfType) (T U : Kind) → T ≡ star → U ≡ star → s ≡ with_equations (kind_equations Σ D T U) s
-  equations_of_stars s D T U t u = sym (ap₂ (λ (V W : Kind). with_equations (kind_equations Σ D V W) s) t u ∙ no_equations s)
-
 -- the arguments of an atom
 module _ (es : List Entry) (canonical : IsCanonicalSignature es) where
   abbrev ok : IsSignature (signature_of es)
@@ -122,8 +76,8 @@ module _ (es : List Entry) (canonical : IsCanonicalSignature es) where
     spine_typed = subst (λ x. SpineSkeleton (heads_of (signature_of es) s) (local_skeletons D []) S x (base a)) (some_kind a K t ((signature_of es).kinds a) e f) r;
   })
 
-pub some_index_equations : (Σ : Signature) (s s' : State) (D : List LfType) (x : Option Kind) (S T : Spine) (K L : Kind) → Some K ≡ x → L ≡ K → s' ≡ with_equations (spine_equations D L S T) s → s' ≡ with_equations (index_equations Σ x D S T) s
-some_index_equations Σ s s' D x S T K L e l q = q ∙ ap (λ k. with_equations (spine_equations D k S T) s) l ∙ ap (λ y. with_equations (index_equations Σ y D S T) s) e
+pub some_index_equations : (Σ : Signature) (s s' : State) (D : List LfType) (x : Option Kind) (S T : Spine) (K L : Kind) → Some K ≡ x → L ≡ K → s' ≡ with_equations (differing (spine_equations D L S T)) s → s' ≡ with_equations (index_equations Σ x D S T) s
+some_index_equations Σ s s' D x S T K L e l q = q ∙ ap (λ k. with_equations (differing (spine_equations D k S T)) s) l ∙ ap (λ y. with_equations (index_equations Σ y D S T) s) e
 
 pub no_index_equations : (Σ : Signature) (s : State) (D : List LfType) (x : Option Kind) (S T : Spine) → None ≡ x → s ≡ with_equations (index_equations Σ x D S T) s
 no_index_equations Σ s D x S T e = sym (no_equations s) ∙ ap (λ y. with_equations (index_equations Σ y D S T) s) e
@@ -155,7 +109,7 @@ range_takes s D K L A M e f =
       kind_typed = g.kind_typed.1;
     }
 
-pub others_stand : (D : List LfType) (K L : Kind) (M N : Term) (S T : Spine) (a b : Elaboration) → S ≡ app M T → TakesBoth K M N L a b → SpineStands (made a) D K S → SpineStands (made b) D L T
+pub others_stand : (D : List LfType) (K L : Kind) (M N : Term) (S T : Spine) (a b : Elaboration) → S ≡ app M T → TakesBoth D K M N L a b → SpineStands (made a) D K S → SpineStands (made b) D L T
 others_stand D K L M N S T a b e o f =
     let g : SpineStands (made a) D (kind_pi o.domain o.range) (app M T) = subst (λ X. SpineStands (made a) D X (app M T)) o.is (subst (SpineStands (made a) D K) e f) in
     subst (λ X. SpineStands (made b) D X T) (sym o.left_over) (record {
@@ -167,14 +121,30 @@ others_stand D K L M N S T a b e o f =
       spine_typed = subst (λ x. SpineSkeleton g.heads (local_skeletons D []) T x g.result) (sym (kind_skeleton_substituted g.family reduce (single (skeleton o.domain) M) o.range)) g.spine_typed.1;
     })
 
+first_kept : (e : Equation) (es : List Equation) → differing (e ∷ es) ≡ followed (differing (e ∷ [])) (differing es)
+first_kept e es = by (same_sides e)
+  where
+    by : (d : Dec (e.left ≡ e.right)) → unless_same d e (differing es) ≡ followed (unless_same d e []) (differing es)
+    by (yes q) = refl
+    by (no n) = refl
+
+-- of two terms that are the same there is no equation, and of others there is one
+pub none_kept : (D : List LfType) (M N : Term) (A : LfType) (s : State) → M ≡ N → s ≡ with_equations (differing (record { local = D; left = M; right = N; of_type = A } ∷ [])) s
+none_kept D M N A s q = sym (ap (λ es. with_equations es s) (same_side (record { local = D; left = M; right = N; of_type = A }) [] q) ∙ no_equations s)
+
+pub one_kept : (e : Equation) (s t : State) → (e.left ≡ e.right → ⊥) → t ≡ with_equations (e ∷ []) s → t ≡ with_equations (differing (e ∷ [])) s
+one_kept e s t n q = q ∙ ap (λ es. with_equations es s) (sym (different_sides e [] n))
+
 -- t is the state behind all equations
-pub one_equation_more : (D : List LfType) (K L : Kind) (M N : Term) (S T U V : Spine) (a b : Elaboration) (t : State) → a.locals ≡ D → U ≡ app M S → V ≡ app N T → TakesBoth K M N L a b → t ≡ with_equations (spine_equations D K U V) (made a) → t ≡ with_equations (spine_equations D L S T) (made b)
-one_equation_more D K L M N S T U V a b t l u v o q =
+pub one_equation_more : (D : List LfType) (K L : Kind) (M N : Term) (S T U V : Spine) (a b : Elaboration) (t : State) → U ≡ app M S → V ≡ app N T → TakesBoth D K M N L a b → t ≡ with_equations (differing (spine_equations D K U V)) (made a) → t ≡ with_equations (differing (spine_equations D L S T)) (made b)
+one_equation_more D K L M N S T U V a b t u v o q =
     let e : Equation = record { local = D; left = M; right = N; of_type = o.domain } in
-    q ∙ ap₂ (λ (X Y : Spine). with_equations (spine_equations D K X Y) (made a)) u v
-    ∙ ap (λ k. with_equations (spine_equations D k (app M S) (app N T)) (made a)) o.is
-    ∙ sym (equations_twice (e ∷ []) (spine_equations D (instantiate_kind o.domain M o.range) S T) (made a))
-    ∙ ap₂ (λ (k : Kind) (w : State). with_equations (spine_equations D k S T) w) (sym o.left_over) (sym (o.state ∙ ap (λ E. with_equations (record { local = E; left = M; right = N; of_type = o.domain } ∷ []) (made a)) l))
+    let es : List Equation = spine_equations D (instantiate_kind o.domain M o.range) S T in
+    q ∙ ap₂ (λ (X Y : Spine). with_equations (differing (spine_equations D K X Y)) (made a)) u v
+    ∙ ap (λ k. with_equations (differing (spine_equations D k (app M S) (app N T))) (made a)) o.is
+    ∙ ap (λ fs. with_equations fs (made a)) (first_kept e es)
+    ∙ sym (equations_twice (differing (e ∷ [])) (differing es) (made a))
+    ∙ ap₂ (λ (k : Kind) (w : State). with_equations (differing (spine_equations D k S T)) w) (sym o.left_over) (sym o.state)
 
 no_lefts : (D : List LfType) (K : Kind) (T : Spine) → spine_equations D K nil T ≡ []
 no_lefts D (kind_pi A K) T = refl
@@ -184,14 +154,14 @@ no_rights : (D : List LfType) (K : Kind) (M : Term) (S : Spine) → spine_equati
 no_rights D (kind_pi A K) M S = refl
 no_rights D star M S = refl
 
-pub left_ends : (D : List LfType) (K : Kind) (S T : Spine) (s t : State) → S ≡ nil → t ≡ with_equations (spine_equations D K S T) s → s ≡ t
-left_ends D K S T s t e q = sym (q ∙ ap (λ X. with_equations (spine_equations D K X T) s) e ∙ ap (λ l. with_equations l s) (no_lefts D K T) ∙ no_equations s)
+pub left_ends : (D : List LfType) (K : Kind) (S T : Spine) (s t : State) → S ≡ nil → t ≡ with_equations (differing (spine_equations D K S T)) s → s ≡ t
+left_ends D K S T s t e q = sym (q ∙ ap (λ X. with_equations (differing (spine_equations D K X T)) s) e ∙ ap (λ l. with_equations (differing l) s) (no_lefts D K T) ∙ no_equations s)
 
-pub right_ends : (D : List LfType) (K : Kind) (M : Term) (R S T : Spine) (s t : State) → S ≡ app M R → T ≡ nil → t ≡ with_equations (spine_equations D K S T) s → s ≡ t
-right_ends D K M R S T s t e f q = sym (q ∙ ap₂ (λ (X Y : Spine). with_equations (spine_equations D K X Y) s) e f ∙ ap (λ l. with_equations l s) (no_rights D K M R) ∙ no_equations s)
+pub right_ends : (D : List LfType) (K : Kind) (M : Term) (R S T : Spine) (s t : State) → S ≡ app M R → T ≡ nil → t ≡ with_equations (differing (spine_equations D K S T)) s → s ≡ t
+right_ends D K M R S T s t e f q = sym (q ∙ ap₂ (λ (X Y : Spine). with_equations (differing (spine_equations D K X Y)) s) e f ∙ ap (λ l. with_equations (differing l) s) (no_rights D K M R) ∙ no_equations s)
 
-pub kind_ends : (D : List LfType) (K : Kind) (S T : Spine) (s s' t : State) → K ≡ star → s' ≡ s → t ≡ with_equations (spine_equations D K S T) s → s' ≡ t
-kind_ends D K S T s s' t e p q = p ∙ sym (q ∙ ap (λ k. with_equations (spine_equations D k S T) s) e ∙ no_equations s)
+pub kind_ends : (D : List LfType) (K : Kind) (S T : Spine) (s s' t : State) → K ≡ star → s' ≡ s → t ≡ with_equations (differing (spine_equations D K S T)) s → s' ≡ t
+kind_ends D K S T s s' t e p q = p ∙ sym (q ∙ ap (λ k. with_equations (differing (spine_equations D k S T)) s) e ∙ no_equations s)
 
 -- the arguments from one on
 pub arguments_from : (ts us : List Open) (i : ℕ) (x : Open) → us ≡ ts → i < length us → x ≡ get_or us i x → open_args_of (drop i ts) ≡ app (open_term_of x) (open_args_of (drop (i + 1) ts))

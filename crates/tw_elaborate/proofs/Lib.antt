@@ -16,3 +16,5 @@ pub mod Rows
 pub mod Arrows
 pub mod Declaring
 pub mod Answering
+pub mod Compared
+pub mod ComparedKinds

@@ -5,16 +5,20 @@ use Rattle.lf.specs.SkeletonTyping.{HeadSkeletons, KindBySkeletons, SpineSkeleto
 use Rattle.lf.specs.Syntax.{Kind, LfType, Skeleton, Spine, Term, kind_pi, kind_skeleton, skeleton}
 use Rattle.lf.specs.Typing.{Signature, instantiate_kind}
 use Rattle.lf_elaboration.specs.Elaboration.{ElaboratesDomain}
-use Rattle.lf_elaboration.specs.State.{State, kind_equations, type_equations, with_equations}
+use Rattle.lf_elaboration.specs.State.{State, differing, kind_equations, type_equations, with_equations}
 use Rattle.lf_elaboration.specs.Written.{WrittenDomain}
 use Rattle.lf_unification.specs.Patterns.{local_skeletons}
 use Rattle.tw_elaborate.specs.declared.state.Elaboration.{Elaboration}
 use Rattle.tw_elaborate.specs.View.{made}
 
--- the types have one skeleton, and their equations were added
-pub record ComparesTypes (Σ : Signature) (A X : LfType) (old new : Elaboration) : Type 0 where
+-- the types have one skeleton, and their equations in this context were added
+pub record ComparesIn (Σ : Signature) (D : List LfType) (A X : LfType) (old new : Elaboration) : Type 0 where
   pub same : skeleton A ≡ skeleton X
-  pub state : made new ≡ with_equations (type_equations Σ old.locals A X) (made old)
+  pub state : made new ≡ with_equations (type_equations Σ D A X) (made old)
+
+-- the same where the variables in scope are those of the state
+abbrev pub ComparesTypes : Signature → LfType → LfType → Elaboration → Elaboration → Type 0
+ComparesTypes Σ A X old new = ComparesIn Σ old.locals A X old new
 
 -- and of kinds
 pub record ComparesKinds (Σ : Signature) (K L : Kind) (old new : Elaboration) : Type 0 where
@@ -30,12 +34,12 @@ pub record SpineStands (s : State) (D : List LfType) (K : Kind) (S : Spine) : Ty
   pub kind_typed : KindBySkeletons families heads (local_skeletons D []) K
   pub spine_typed : SpineSkeleton heads (local_skeletons D []) S (kind_skeleton family K) result
 
--- the kind K takes M, whose equation with N was added, and L is left
-pub record TakesBoth (K : Kind) (M N : Term) (L : Kind) (old new : Elaboration) : Type 0 where
+-- the kind K takes M, whose equation with N was added, unless they are the same, and L is left
+pub record TakesBoth (D : List LfType) (K : Kind) (M N : Term) (L : Kind) (old new : Elaboration) : Type 0 where
   pub domain : LfType
   pub range : Kind
   pub is : K ≡ kind_pi domain range
-  pub state : made new ≡ with_equations (record { local = old.locals; left = M; right = N; of_type = domain } ∷ []) (made old)
+  pub state : made new ≡ with_equations (differing (record { local = D; left = M; right = N; of_type = domain } ∷ [])) (made old)
   pub left_over : L ≡ instantiate_kind domain M range
 
 -- the type at a binder was compared with the expected one

@@ -9,3 +9,4 @@ pub mod Deep
 pub mod Frees
 pub mod Unbound
 pub mod Bodies
+pub mod Compared

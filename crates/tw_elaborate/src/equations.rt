@@ -1,13 +1,14 @@
 //! Equations between two types, or two kinds, of one skeleton: equal where their indices are.
-ghost use Rattle.std.specs.Prelude.{◌≡◌, ◌↔◌, IfOk, IsTrue, MatchOption, OnOk};
+ghost use Rattle.std.specs.Prelude.{◌≡◌, ◌↔◌, [], ◌∷◌, IfOk, IsTrue, MatchOption, OnOk};
 ghost use Rattle.lf.specs.Entries.{signature_of, IsCanonicalSignature};
 ghost use Rattle.lf.specs.Syntax.{app, atom, nil, star, skeleton as skeleton_of_type};
 ghost use Rattle.lf_elaboration.specs.Skeletons.{KindHasSkeletons, TypeHasSkeletons};
-ghost use Rattle.lf_elaboration.specs.State.{index_equations, with_equations};
+ghost use Rattle.lf_elaboration.specs.State.{differing, index_equations, with_equations};
 ghost use Rattle.lf_unification.specs.Offering.{spine_equations};
 ghost use Rattle.tw_terms.specs.OpenView.{open_spine_of, open_term_of, open_type_of};
 ghost use Rattle.tw_terms.specs.View.{skeleton_of};
-ghost use Rattle.tw_elaborate.specs.Comparing.{ComparesKinds, ComparesTypes, SpineStands, TakesBoth};
+ghost use Rattle.tw_elaborate.specs.Comparing.{ComparesIn, ComparesKinds, ComparesTypes, SpineStands, TakesBoth};
+ghost use Rattle.tw_elaborate.specs.Compared.{ComparesNext};
 ghost use Rattle.tw_elaborate.specs.Fresh.{Keeps};
 ghost use Rattle.tw_elaborate.specs.View.{made, open_kind_of};
 
@@ -16,8 +17,7 @@ use crate::state::{Elaboration, OpenKind};
 use std::alloc::{AllocError, Global};
 use tw_metas::Equation;
 use tw_signature::Signature;
-use tw_terms::numbers::nested;
-use tw_terms::{ConstId, Open, OpenSpine, OpenTy, Skeleton};
+use tw_terms::{ConstId, Open, OpenContext, OpenSpine, OpenTy, Skeleton};
 
 /// Whether the type has this skeleton.
 pub fn has_skeleton(ty: &OpenTy, skeleton: &Skeleton) -> bool
@@ -32,76 +32,149 @@ pub fn has_skeleton(ty: &OpenTy, skeleton: &Skeleton) -> bool
     }
 }
 
-/// Adds the equations between the type that was found and the expected one. Where their skeletons differ, memory counts as used up.
-#[inline(never)]
+/// Two types that are still to be compared, and the variables in scope there.
+#[derive(Drop)]
+struct Comparison<'a> {
+    context: OpenContext,
+    found: &'a OpenTy,
+    expected: &'a OpenTy,
+}
+
+/// Adds the equations between the type that was found and the expected one, where they aren't the same. Where their skeletons differ, memory counts as used up.
 pub fn compare_types(
     alloc: Global,
     signature: &Signature,
     state: &mut Elaboration,
     found: &OpenTy,
     expected: &OpenTy,
-    frames: u32,
 ) -> Result<(), AllocError>
     requires canonical { IsCanonicalSignature signature.now }
     requires found { TypeHasSkeletons (signature_of signature.now) (made state.old) state.old.locals (open_type_of found.now) }
     ensures ok { OnOk result (ComparesTypes (signature_of signature.now) (open_type_of found.now) (open_type_of expected.now) state.old state.new) }
     ensures keeps { Keeps state.old state.new }
 {
-    let frames = nested(frames)?;
-    match (found, expected) {
+    let context = state.locals.copy(alloc)?;
+    compare_in(alloc, signature, state, context, found, expected)
+}
+
+/// The same where these variables are in scope.
+#[inline(never)]
+fn compare_in(
+    alloc: Global,
+    signature: &Signature,
+    state: &mut Elaboration,
+    context: OpenContext,
+    found: &OpenTy,
+    expected: &OpenTy,
+) -> Result<(), AllocError>
+    requires canonical { IsCanonicalSignature signature.now }
+    requires found { TypeHasSkeletons (signature_of signature.now) (made state.old) context (open_type_of found.now) }
+    ensures ok { OnOk result (ComparesIn (signature_of signature.now) context (open_type_of found.now) (open_type_of expected.now) state.old state.new) }
+    ensures keeps { Keeps state.old state.new }
+{
+    if found.same(expected) {
+        return Ok(());
+    }
+    let mut left = Vec::new(alloc);
+    left.push(Comparison {
+        context,
+        found,
+        expected,
+    })?;
+    while let Some(next) = left.pop() {
+        compare_next(alloc, signature, state, next, &mut left)?;
+    }
+    Ok(())
+}
+
+/// Compares two atoms, or leaves the parts of two function types to be compared: the domains first.
+#[inline(never)]
+fn compare_next<'a>(
+    alloc: Global,
+    signature: &Signature,
+    state: &mut Elaboration,
+    next: Comparison<'a>,
+    left: &mut Vec<Comparison<'a>>,
+) -> Result<(), AllocError>
+    requires canonical { IsCanonicalSignature signature.now }
+    requires found { TypeHasSkeletons (signature_of signature.now) (made state.old) next.context (open_type_of next.found.now) }
+    ensures ok { OnOk result (ComparesNext (signature_of signature.now) next.entry left.old.items left.new.items state.old state.new) }
+    ensures keeps { Keeps state.old state.new }
+{
+    match (next.found, next.expected) {
         (OpenTy::Pi(domain, range), OpenTy::Pi(other_domain, other_range)) => {
-            compare_types(alloc, signature, state, domain, other_domain, frames)?;
-            state.locals.push(domain.copy(alloc)?)?;
-            let rest = compare_types(alloc, signature, state, range, other_range, frames);
-            state.locals.pop();
-            rest
+            let mut inside = next.context.copy(alloc)?;
+            inside.push(domain.copy(alloc)?)?;
+            left.push(Comparison {
+                context: inside,
+                found: range,
+                expected: other_range,
+            })?;
+            left.push(Comparison {
+                context: next.context,
+                found: domain,
+                expected: other_domain,
+            })?;
+            Ok(())
         }
-        (OpenTy::Atom(family, left), OpenTy::Atom(other, right)) => {
+        (OpenTy::Atom(family, args), OpenTy::Atom(other, other_args)) => {
             if family.0 != other.0 {
                 return Err(AllocError);
             }
-            compare_indices(alloc, signature, state, *family, left, right)
+            compare_indices(
+                alloc,
+                signature,
+                state,
+                &next.context,
+                *family,
+                args,
+                other_args,
+            )
         }
         _ => Err(AllocError),
     }
 }
 
-/// Adds the equations between the arguments of two atoms of one family.
+/// Adds the equations between the arguments of two atoms of one family, where these differ.
 fn compare_indices(
     alloc: Global,
     signature: &Signature,
     state: &mut Elaboration,
+    context: &OpenContext,
     family: ConstId,
     left: &OpenSpine,
     right: &OpenSpine,
 ) -> Result<(), AllocError>
     requires canonical { IsCanonicalSignature signature.now }
-    requires found { TypeHasSkeletons (signature_of signature.now) (made state.old) state.old.locals (atom family.0 (open_spine_of left.now)) }
-    ensures ok { OnOk result (made state.new ≡ with_equations (index_equations (signature_of signature.now) ((signature_of signature.now).kinds family.0) state.old.locals (open_spine_of left.now) (open_spine_of right.now)) (made state.old)) }
+    requires found { TypeHasSkeletons (signature_of signature.now) (made state.old) context.now (atom family.0 (open_spine_of left.now)) }
+    ensures ok { OnOk result (made state.new ≡ with_equations (index_equations (signature_of signature.now) ((signature_of signature.now).kinds family.0) context.now (open_spine_of left.now) (open_spine_of right.now)) (made state.old)) }
     ensures keeps { Keeps state.old state.new }
 {
     match signature.family_kind(family) {
-        Some(kind) => compare_arguments(alloc, state, open_kind(alloc, kind)?, left, right),
+        Some(kind) => {
+            compare_arguments(alloc, state, context, open_kind(alloc, kind)?, left, right)
+        }
         None => Ok(()),
     }
 }
 
-/// Adds the equations between the arguments of two spines that a kind takes, in order.
+/// Adds the equations between the arguments of two spines that a kind takes, in order, where these differ.
 fn compare_arguments(
     alloc: Global,
     state: &mut Elaboration,
+    context: &OpenContext,
     kind: OpenKind,
     left: &OpenSpine,
     right: &OpenSpine,
 ) -> Result<(), AllocError>
-    requires { SpineStands (made state.old) state.old.locals (open_kind_of kind) (open_spine_of left.now) }
-    ensures ok { OnOk result (made state.new ≡ with_equations (spine_equations state.old.locals (open_kind_of kind) (open_spine_of left.now) (open_spine_of right.now)) (made state.old)) }
+    requires { SpineStands (made state.old) context.now (open_kind_of kind) (open_spine_of left.now) }
+    ensures ok { OnOk result (made state.new ≡ with_equations (differing (spine_equations context.now (open_kind_of kind) (open_spine_of left.now) (open_spine_of right.now))) (made state.old)) }
     ensures keeps { Keeps state.old state.new }
 {
     let mut rest = kind;
     for (place, arg) in left.args.iter().enumerate() {
         match right.args.get(place) {
-            Some(other) => match take_argument(alloc, state, rest, arg, other)? {
+            Some(other) => match take_argument(alloc, state, context, rest, arg, other)? {
                 Some(range) => rest = range,
                 None => return Ok(()),
             },
@@ -111,34 +184,54 @@ fn compare_arguments(
     Ok(())
 }
 
-/// Adds the equation between two arguments, and gives the kind that is left; None where the kind takes no argument.
+/// Adds the equation between two arguments, unless they are the same, and gives the kind that is left; None where the kind takes no argument.
 fn take_argument(
     alloc: Global,
     state: &mut Elaboration,
+    context: &OpenContext,
     kind: OpenKind,
     left: &Open,
     right: &Open,
 ) -> Result<Option<OpenKind>, AllocError>
-    requires { SpineStands (made state.old) state.old.locals (open_kind_of kind) (app (open_term_of left.now) nil) }
-    ensures ok { IfOk result (λ r. MatchOption r ((open_kind_of kind ≡ star) × (made state.new ≡ made state.old)) (λ k. TakesBoth (open_kind_of kind) (open_term_of left.now) (open_term_of right.now) (open_kind_of k) state.old state.new)) }
+    requires { SpineStands (made state.old) context.now (open_kind_of kind) (app (open_term_of left.now) nil) }
+    ensures ok { IfOk result (λ r. MatchOption r ((open_kind_of kind ≡ star) × (made state.new ≡ made state.old)) (λ k. TakesBoth context.now (open_kind_of kind) (open_term_of left.now) (open_term_of right.now) (open_kind_of k) state.old state.new)) }
     ensures keeps { Keeps state.old state.new }
 {
     match kind {
         OpenKind::Pi(domain, range) => {
             let rest = instantiate_kind(alloc, &range, 0, left, &domain)?;
-            state.equations.push(Equation {
-                context: state.locals.copy(alloc)?,
-                left: left.copy(alloc)?,
-                right: right.copy(alloc)?,
-                ty: Box::into_inner(domain),
-            })?;
+            add_equation(alloc, state, context, left, right, Box::into_inner(domain))?;
             Ok(Some(rest))
         }
         OpenKind::Star => Ok(None),
     }
 }
 
-/// Adds the equations between the kind that was found and the expected one. Where their skeletons differ, memory counts as used up.
+/// Adds the equation of two terms of the type, unless they are the same.
+fn add_equation(
+    alloc: Global,
+    state: &mut Elaboration,
+    context: &OpenContext,
+    left: &Open,
+    right: &Open,
+    ty: OpenTy,
+) -> Result<(), AllocError>
+    ensures ok { OnOk result (made state.new ≡ with_equations (differing (record { local = context.now; left = open_term_of left.now; right = open_term_of right.now; of_type = open_type_of ty } ∷ [])) (made state.old)) }
+    ensures keeps { Keeps state.old state.new }
+{
+    if left.same(right) {
+        return Ok(());
+    }
+    state.equations.push(Equation {
+        context: context.copy(alloc)?,
+        left: left.copy(alloc)?,
+        right: right.copy(alloc)?,
+        ty,
+    })?;
+    Ok(())
+}
+
+/// Adds the equations between the kind that was found and the expected one, where they differ. Where their skeletons differ, memory counts as used up.
 #[inline(never)]
 pub fn compare_kinds(
     alloc: Global,
@@ -146,23 +239,27 @@ pub fn compare_kinds(
     state: &mut Elaboration,
     found: &OpenKind,
     expected: &OpenKind,
-    frames: u32,
 ) -> Result<(), AllocError>
     requires canonical { IsCanonicalSignature signature.now }
     requires found { KindHasSkeletons (signature_of signature.now) (made state.old) state.old.locals (open_kind_of found.now) }
     ensures ok { OnOk result (ComparesKinds (signature_of signature.now) (open_kind_of found.now) (open_kind_of expected.now) state.old state.new) }
     ensures keeps { Keeps state.old state.new }
 {
-    let frames = nested(frames)?;
-    match (found, expected) {
-        (OpenKind::Pi(domain, range), OpenKind::Pi(other_domain, other_range)) => {
-            compare_types(alloc, signature, state, domain, other_domain, frames)?;
-            state.locals.push(domain.copy(alloc)?)?;
-            let rest = compare_kinds(alloc, signature, state, range, other_range, frames);
-            state.locals.pop();
-            rest
-        }
-        (OpenKind::Star, OpenKind::Star) => Ok(()),
-        _ => Err(AllocError),
+    let mut context = state.locals.copy(alloc)?;
+    let mut found = found;
+    let mut expected = expected;
+    while let OpenKind::Pi(domain, range) = found {
+        let OpenKind::Pi(other_domain, other_range) = expected else {
+            return Err(AllocError);
+        };
+        let outside = context.copy(alloc)?;
+        compare_in(alloc, signature, state, outside, domain, other_domain)?;
+        context.push(domain.copy(alloc)?)?;
+        found = range;
+        expected = other_range;
+    }
+    match expected {
+        OpenKind::Star => Ok(()),
+        OpenKind::Pi(_, _) => Err(AllocError),
     }
 }

@@ -99,7 +99,6 @@ pub fn compare_ascribed(
     state: &mut Elaboration,
     found: &OpenKind,
     expected: &OpenKind,
-    frames: u32,
 ) -> Result<(), AllocError>
     requires canonical { IsCanonicalSignature signature.now }
     requires found { KindHasSkeletons (signature_of signature.now) (made state.old) state.old.locals (open_kind_of found.now) }
@@ -108,7 +107,7 @@ pub fn compare_ascribed(
     ensures keeps { Keeps state.old state.new }
 {
     match found {
-        OpenKind::Pi(_, _) => compare_kinds(alloc, signature, state, found, expected, frames),
+        OpenKind::Pi(_, _) => compare_kinds(alloc, signature, state, found, expected),
         OpenKind::Star => Err(AllocError),
     }
 }

@@ -146,7 +146,7 @@ fn infer_applied(
                 let (term, ty) = finish(alloc, begun)?;
                 match waiting.pop() {
                     Some(outer) => {
-                        compare_types(alloc, signature, state, &ty, &outer.domain, frames)?;
+                        compare_types(alloc, signature, state, &ty, &outer.domain)?;
                         begun = resume(alloc, outer, term)?;
                     }
                     None => return Ok((term, ty)),
@@ -239,7 +239,7 @@ pub fn check(
         | Written::Applied(_, _)
         | Written::Ascribed(_, _) => {
             let (term, found) = infer(alloc, signature, frees, state, written, frames)?;
-            compare_types(alloc, signature, state, &found, expected, frames)?;
+            compare_types(alloc, signature, state, &found, expected)?;
             Ok(term)
         }
     }
@@ -297,7 +297,7 @@ fn check_domain(
     ensures keeps { Keeps state.old state.new }
 {
     let found = elaborate_domain(alloc, signature, frees, state, written, frames)?;
-    Ok(compare_types(alloc, signature, state, &found, expected, frames)?)
+    Ok(compare_types(alloc, signature, state, &found, expected)?)
 }
 
 /// The type that is written.
@@ -439,7 +439,7 @@ fn elaborate_family(
             let (family, spine, found) = elaborate_family(
                 alloc, signature, frees, state, family, frames,
             )?;
-            compare_ascribed(alloc, signature, state, &found, &expected, frames)?;
+            compare_ascribed(alloc, signature, state, &found, &expected)?;
             Ok((family, spine, found))
         }
         WrittenType::Hole(_, _) | WrittenType::Arrow(_, _) | WrittenType::Quantified(_, _) => {

@@ -1,4 +1,0 @@
-use Rattle.tw_elaborate.proofs.equations.+compare_types.Given as goal
-
-abbrev pub decreases-compare_types : goal.decreases-compare_types
-decreases-compare_types l = l.frames
