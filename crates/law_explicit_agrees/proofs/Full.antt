@@ -58,10 +58,16 @@ module _ (es : List Entry) (d : Declaration) where
 
       -- a mismatch has no completion
       pub not_mismatched : (c : Completion) → IsCompletion es [] w c → HasCause es d Mismatch → ⊥
-      not_mismatched c k (inl (o, clash)) = clash (frees_of []) [] s.fits
-      not_mismatched c k (inr (rows, v, h, none)) =
-          let (e, same) = written_once rows v h in
-          none c (subst (λ rs. IsCompletion es (skeletons_of rs) v c) (sym e) (subst (λ x. IsCompletion es [] x c) (sym same) k))
+      not_mismatched c k h =
+          h.none (record {
+            rows = [];
+            are_rows = record { row_is_free = λ x a. absurd a; free_has_row = λ x a. absurd (not_free x a); distinct = tt };
+            omitted = [];
+            written = w;
+            resolved = r;
+            completion = c;
+            completes = k;
+          })
 
     module _ (makes_none : (rows : Rows) (o : List Skeleton) (w : WrittenBody) → resolved_body es rows o d ≡ Some w → total (body_spots es w) ≡ zero) where
       pub nothing_made : (rows : Rows) (w : WrittenBody) (frees : List ℕ) (s : State) (b : Body) → IsWrittenAs es d rows w → IsMade es (skeletons_of rows) w frees s b → (m : ℕ) → s.metavariables m ≡ None

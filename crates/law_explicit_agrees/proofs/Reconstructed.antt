@@ -8,6 +8,7 @@ use Rattle.tw_parse.specs.Syntax.{Declaration, declare, define, give, prefer}
 use Rattle.tw_recon.specs.Hints.{fitted}
 use Rattle.tw_approx.specs.Answer.{IsOfObjects}
 use Rattle.tw_recon.specs.Causes.{HasCause}
+use Rattle.tw_recon.proofs.Completed.{clash_mismatch, written_mismatch}
 use Rattle.tw_recon.specs.declared.fault.ReconFault.TheVariants.{Mismatch}
 use Rattle.law_explicit_agrees.specs.Agreement.{HasNoCompletion}
 use Rattle.law_explicit_agrees.specs.Reconstructed.{ExplicitIsReconstructed, ExplicitMismatchIsMismatch}
@@ -54,8 +55,8 @@ explicit_reconstructed es canonical (give fix names) e h g stands = absurd g
 
 module _ (es : List Entry) (d : Declaration) (o : IsOfObjects es d) where
   as_refused : HasNoCompletion es d → HasCause es d Mismatch
-  as_refused (inl clash) = inl (o, clash)
-  as_refused (inr (w, h, r, none)) = inr ([], w, record { objects = o; omitted = []; skeletons = h; resolved = r }, none)
+  as_refused (inl clash) = clash_mismatch es d o clash
+  as_refused (inr (w, h, r, none)) = written_mismatch es d [] w (record { objects = o; omitted = []; skeletons = h; resolved = r }) none
 
 pub explicit_refused : ExplicitMismatchIsMismatch
 explicit_refused es canonical d x none = let (o, h) = explicit_mismatch es canonical d x none in as_refused es d o h

@@ -36,7 +36,7 @@ kind_takes_leaves : (a : ℕ) {k : ℕ} {D : List LfType} {K L : Kind} {s s' : S
 kind_takes_leaves a kind_takes_none = refl
 kind_takes_leaves a {L = L} (kind_takes_next {k = k} {D = D} {A = A} {K = K} {s = s} t) = subst (λ x. LeavesSkeleton k x (kind_skeleton a L)) (kind_skeleton_substituted a reduce (single (skeleton A) (raised D A s.next)) K) (kind_takes_leaves a t)
 
-local_at_skeleton : (D : List LfType) (i : ℕ) (A : LfType) → TypeAt (onto D []) i A → SkeletonAt (local_skeletons D []) i (skeleton A)
+pub local_at_skeleton : (D : List LfType) (i : ℕ) (A : LfType) → TypeAt (onto D []) i A → SkeletonAt (local_skeletons D []) i (skeleton A)
 local_at_skeleton [] i A g = absurd g
 local_at_skeleton (B ∷ D) zero A e = sym (ap skeleton e ∙ skeleton_renamed suc B)
 local_at_skeleton (B ∷ D) (suc i) A (C, g, e) = subst (SkeletonAt (local_skeletons D []) i) (sym (ap skeleton e ∙ skeleton_renamed suc C)) (local_at_skeleton D i C g)
@@ -47,7 +47,7 @@ same_kind_skeleton_at a b star (kind_pi A L) e = absurd (cc)
 same_kind_skeleton_at a b (kind_pi A K) star e = absurd (cc)
 same_kind_skeleton_at a b (kind_pi A K) (kind_pi X L) e = ap₂ arrow_skeleton (let p : skeleton A ≡ skeleton X = cc in p) (same_kind_skeleton_at a b K L (let p : kind_skeleton a K ≡ kind_skeleton a L = cc in p))
 
-kind_skeleton_moved : (a : ℕ) (ρ : ℕ → ℕ) (K : Kind) → kind_skeleton a (rename_kind ρ K) ≡ kind_skeleton a K
+pub kind_skeleton_moved : (a : ℕ) (ρ : ℕ → ℕ) (K : Kind) → kind_skeleton a (rename_kind ρ K) ≡ kind_skeleton a K
 kind_skeleton_moved a ρ star = refl
 kind_skeleton_moved a ρ (kind_pi A K) = ap₂ arrow_skeleton (skeleton_renamed ρ A) (kind_skeleton_moved a (lift_renaming ρ) K)
 

@@ -11,6 +11,8 @@ pub mod Examples
 pub mod Once
 pub mod Total
 pub mod Had
+pub mod Fitted
+pub mod Renumbered
 pub mod Exact
 pub mod Bodies
 pub mod Meeting

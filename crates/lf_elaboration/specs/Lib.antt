@@ -4,6 +4,7 @@ pub mod Elaboration
 pub mod Skeletons
 pub mod Kinds
 pub mod WrittenSkeletons
+pub mod BodySkeletons
 pub mod Completions
 pub mod Laws
 pub mod Examples

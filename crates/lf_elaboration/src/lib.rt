@@ -2,6 +2,7 @@
 //! where types are compared. They have no code: each function carries one law as its contract.
 #![tactic(auto)]
 
+ghost use Rattle.lf_elaboration.specs.BodySkeletons.{CompletedHasSkeletons};
 ghost use Rattle.lf_elaboration.specs.Examples.{SameHasNoEquation, NumberIsNotPrincipal, BackwardHasSites, UntypedHasSite, FreesInOrder, PlusSuccessorIsElaborated, FullIsElaborated, EquationsAreAll, HoleIsRaised, ShortIsExpanded, DefinitionIsExpanded, KindIsElaborated};
 ghost use Rattle.lf_elaboration.specs.EquationLaws.{EquationsDiffer, FullHasNoEquation};
 ghost use Rattle.lf_elaboration.specs.Laws.{ElaboratedTypeIsMade, ElaboratedKindIsMade, InferredTermIsMade, CheckedTermIsMade, NothingHasSkeletons, ElaboratedHasSkeletons, StateIsScoped, FreesAreMade, SkeletonIsElaborated, ElaboratedHadSkeleton, ElaborationIsUnique, CompletionIsInstance, InstanceIsCompletion, SolvedTypeIsTyped, SolvedTermIsTyped, SolvedKindIsTyped, SolvedBodyIsTyped, UnifierIsOfSolved};
@@ -36,6 +37,11 @@ pub fn skeleton_is_elaborated()
 /// What is elaborated had a skeleton.
 pub fn elaborated_had_skeleton()
     ensures { ElaboratedHadSkeleton }
+{}
+
+/// What has a completion has skeletons.
+pub fn completed_has_skeletons()
+    ensures { CompletedHasSkeletons }
 {}
 
 /// Elaboration has one outcome.

@@ -16,3 +16,5 @@ pub mod Causes
 pub mod Declaring
 pub mod Defining
 pub mod Rows
+pub mod Ways
+pub mod Objects

@@ -6,3 +6,4 @@ pub mod Answer
 pub mod Walks
 pub mod Reading
 pub mod Solving
+pub mod Ways

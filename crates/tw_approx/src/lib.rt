@@ -8,6 +8,7 @@ mod approximation;
 #[tactic(auto, using(crate::proofs::Views::shapes))]
 mod family;
 mod fault;
+pub mod laws;
 #[tactic(auto, using(crate::proofs::Places::places))]
 mod levels;
 #[tactic(auto, using(crate::proofs::Places::places))]

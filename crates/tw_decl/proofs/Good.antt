@@ -12,7 +12,8 @@ use Rattle.tw_parse.specs.Syntax.{Declaration, Term, declare, define, prefer, gi
 use Rattle.tw_parse.specs.Words.{Lexeme, lexemes, first_place}
 use Rattle.tw_parse.specs.declared.fault.SyntaxFault.{SyntaxFault}
 use Rattle.tw_parse.specs.declared.fault.SyntaxFault.TheVariants as faults
-use Rattle.tw_approx.specs.Answer.{frees_of}
+use Rattle.tw_approx.specs.Answer.{IsOfObjects}
+use Rattle.tw_recon.proofs.Completed.{completion_objects}
 use Rattle.tw_recon.specs.Causes as reconstruction
 use Rattle.tw_recon.specs.declared.fault.ReconFault.{ReconFault}
 use Rattle.tw_recon.specs.declared.fault.ReconFault.TheVariants as reconstructions
@@ -92,30 +93,23 @@ well_typed v (give fix names) s t first refusal h = absurd t.completes
 
 -- what can be completed has no cause of another refusal
 module _ (v : View) (d : Declaration) (k : IsCompletable v d) where
+  objects : IsOfObjects v.signature d
+  objects = completion_objects v.signature d k.completed
+
   no_unknown : (name : List ℕ) (place : Place) → reconstruction.HasCause v.signature d (reconstructions.Unknown name place) → ⊥
-  no_unknown name place h = no_name v.signature d k.is_written.objects (record { name = name; at = place }) h.stands
+  no_unknown name place h = no_name v.signature d objects (record { name = name; at = place }) h.stands
 
   no_type_level : (place : Option Place) → reconstruction.HasCause v.signature d (reconstructions.TypeLevel place) → ⊥
-  no_type_level None h = no_type v.signature d k.is_written.objects h.1
-  no_type_level (Some p) h = no_lambda v.signature d k.is_written.objects p h.2.stands
-
-  no_loose : reconstruction.HasCause v.signature d reconstructions.Loose → ⊥
-  no_loose (o, h) =
-      let p = k.is_written.skeletons.only h.first h.first_omitted h.first_fits in
-      let q = k.is_written.skeletons.only h.second h.second_omitted h.second_fits in
-      h.differ (record { frees = λ x i. p.frees x i ∙ sym (q.frees x i); omitted = p.omitted ∙ sym q.omitted })
-
-  no_mismatch : reconstruction.HasCause v.signature d reconstructions.Mismatch → ⊥
-  no_mismatch (inl (o, clash)) = clash (frees_of k.rows) k.is_written.omitted k.is_written.skeletons.fits
-  no_mismatch (inr (rs, w, h, none)) = let (c, g) = k.completes rs w h in none c g
+  no_type_level None h = no_type v.signature d objects h.1
+  no_type_level (Some p) h = no_lambda v.signature d objects p h.2.stands
 
   nothing_stops : (first : Place) (refusal : Refusal) → IsNotEntered v d first refusal → refusal ≡ Memory
   nothing_stops first Memory h = refl
   nothing_stops first (Unknown place name) h = absurd (no_unknown name place h)
   nothing_stops first (Unsupported place shown) (inl h, e) = absurd (no_type_level None h.0)
   nothing_stops first (Unsupported place shown) (inr h, e) = absurd (no_type_level (Some place) h)
-  nothing_stops first (Loose place) h = absurd (no_loose h.0)
-  nothing_stops first (Mismatch place) h = absurd (no_mismatch h.0)
+  nothing_stops first (Loose place) h = absurd (k.not_loose h.0.1)
+  nothing_stops first (Mismatch place) h = absurd (h.0.none k.completed)
   nothing_stops first (Leftover place text) ((left, h, e), there) = absurd (k.none_left left h)
   nothing_stops first (TooDeep place) h = absurd (k.shallow h.0)
   nothing_stops first refusal h = absurd h
@@ -123,8 +117,8 @@ module _ (v : View) (d : Declaration) (k : IsCompletable v d) where
 completable : (v : View) (d : Declaration) → IsCompletable v d → NoObstacle v d
 completable v (declare c at U) k first refusal h = nothing_stops v (declare c at U) k first refusal h
 completable v (define c A M b) k first refusal h = nothing_stops v (define c A M b) k first refusal h
-completable v (prefer a x y) k first refusal h = let clash : None ≡ Some k.written = k.is_written.resolved in absurd cc
-completable v (give fix names) k first refusal h = let clash : None ≡ Some k.written = k.is_written.resolved in absurd cc
+completable v (prefer a x y) k first refusal h = let clash : None ≡ Some k.completed.written = k.completed.resolved in absurd cc
+completable v (give fix names) k first refusal h = let clash : None ≡ Some k.completed.written = k.completed.resolved in absurd cc
 
 no_obstacle : (v : View) (d : Declaration) → IsSound v → IsGoodDeclaration v d → NoObstacle v d
 no_obstacle v d s (inl t) = well_typed v d s t

@@ -19,6 +19,7 @@ use Rattle.lf_elaboration.specs.Written as forms
 use Rattle.tw_approx.specs.Answer.{HasSkeletons, Rows}
 use Rattle.tw_approx.specs.Names.{IsFreeVariable}
 use Rattle.tw_approx.proofs.Sequences.{parts_of}
+use Rattle.tw_approx.proofs.Ways.{not_twice}
 use Rattle.tw_elaborate.specs.Bodies.{BodyDeep, deep_definition_body}
 use Rattle.tw_elaborate.specs.Deep.{InfersDeep, deep_definition}
 use Rattle.tw_fixity.specs.Rows.{name_order}
@@ -39,10 +40,9 @@ use Rattle.tw_parse.specs.declared.sign.Level.TheVariants as levels
 use Rattle.tw_parse.specs.declared.words.Word.TheVariants as words
 use Rattle.tw_recon.specs.Causes.{BodyReachesDeep}
 use Rattle.tw_recon.specs.Reading.{BodyIsDeep}
-use Rattle.tw_recon.specs.Reconstruction.{IsWrittenAs}
-use Rattle.tw_resolve.specs.Resolved.{resolved_body, skeletons_of}
+use Rattle.tw_resolve.specs.Resolved.{resolved_body}
 use Rattle.law_explicit_agrees.proofs.Fitting.{some_is}
-use Rattle.law_explicit_agrees.proofs.Full.{no_equation, written_once}
+use Rattle.law_explicit_agrees.proofs.Full.{no_equation}
 use Rattle.law_explicit_agrees.proofs.Nothing.{none_is_not_some}
 use Rattle.law_explicit_agrees.proofs.Shallow.{IsShallow, nothing_deep, unmade_shallow}
 use Rattle.tw_decl.specs.View.{IsSound}
@@ -149,9 +149,6 @@ skeletons = record {
   only = λ f p h. record { frees = λ x i. absurd (not_free x i); omitted = (parts_of (base 0) h.0 p [] h.1).1 };
 }
 
-is_written : IsWrittenAs entries d_is_c [] written
-is_written = record { objects = record { known = refl; no_definition = refl; no_lambda = refl }; omitted = []; skeletons = skeletons; resolved = refl }
-
 makes_none : (rows : Rows) (o : List Skeleton) (w : WrittenBody) → resolved_body entries rows o d_is_c ≡ Some w → total (body_spots entries w) ≡ zero
 makes_none rows [] w r = subst (λ x. total (body_spots entries x) ≡ zero) (some_is r) refl
 makes_none rows (s ∷ o) w r = absurd (none_is_not_some refl r)
@@ -180,11 +177,6 @@ it = record { quantifiers = []; frees = []; body = body }
 
 completion : IsCompletion entries [] written it
 completion = record { context = tt; frees_typed = tt; completed = (refl, constant_completed {e = c_entry} {B = o_type} refl refl any_none) }
-
-completes : (rows : Rows) (w : WrittenBody) → IsWrittenAs entries d_is_c rows w → (c : Completion) × IsCompletion entries (skeletons_of rows) w c
-completes rows w h =
-    let (e, same) = written_once entries d_is_c not_free skeletons written refl rows w h in
-    (it, subst (λ r. IsCompletion entries (skeletons_of r) w it) (sym e) (subst (λ x. IsCompletion entries [] x it) (sym same) completion))
 
 takes_nothing : {F : List LfType} {k : ℕ} {D : List LfType} {A B : LfType} {S : Spine} → TakesAny entries F k D B S A → k ≡ zero → (S ≡ nil) × (A ≡ B)
 takes_nothing any_none e = (refl, refl)
@@ -268,10 +260,16 @@ is_shallow = record {
 
 completable : IsCompletable with_constant d_is_c
 completable = record {
-  rows = [];
-  written = written;
-  is_written = is_written;
-  completes = completes;
+  completed = record {
+    rows = [];
+    are_rows = record { row_is_free = λ x h. absurd h; free_has_row = λ x h. absurd (not_free x h); distinct = tt };
+    omitted = [];
+    written = written;
+    resolved = refl;
+    completion = it;
+    completes = completion;
+  };
+  not_loose = not_twice entries d_is_c [] [] skeletons;
   none_left = λ left h. no_equation entries d_is_c not_free makes_none left h;
   shallow = nothing_deep entries d_is_c not_free makes_none skeletons written refl is_shallow;
 }

@@ -8,13 +8,11 @@ use Rattle.tw_parse.specs.Syntax.{Declaration}
 use Rattle.tw_parse.specs.Words.{Lexeme}
 use Rattle.law_explicit_form.specs.Completion.{Completes}
 use Rattle.law_explicit_form.specs.Explicit.{IsExplicit}
-use Rattle.lf_elaboration.specs.Principal.{Completion, IsCompletion, WrittenBody}
-use Rattle.tw_approx.specs.Answer.{Rows}
+use Rattle.tw_approx.specs.Answer.{IsLoose}
 use Rattle.tw_recon.specs.Causes as reconstruction
 use Rattle.tw_recon.specs.Causes.{BodyReachesDeep}
-use Rattle.tw_recon.specs.Reconstruction.{IsWrittenAs}
+use Rattle.tw_recon.specs.Completed.{HasCompletion}
 use Rattle.tw_recon.specs.declared.fault.ReconFault.TheVariants.{Leftover, TooDeep}
-use Rattle.tw_resolve.specs.Resolved.{skeletons_of}
 use Rattle.tw_metas.specs.declared.left.LeftEquation.{LeftEquation}
 use Rattle.tw_decl.specs.View.{View, IsSound}
 use Rattle.tw_decl.specs.Declaration.{IsWritten, IsWrittenAlone, IsReadAs, Accepts, AcceptsFrom, HasCause, HasCauseFrom}
@@ -41,13 +39,10 @@ pub record IsWellTyped (v : View) (d : Declaration) : Type 0 where
   pub completes : Completes v.signature d entry
   pub shallow : IsDeepDeclaration v.signature entry → ⊥
 
--- A declaration of any form that has a completion: what isn't written has skeletons in just one way, and told these it can be completed, in whatever order its free variables stand.
--- No equation is left of it, and nothing is too deep.
+-- A declaration of any form that has a completion, and isn't open: no equation is left of it, and nothing is too deep.
 pub record IsCompletable (v : View) (d : Declaration) : Type 0 where
-  pub rows : Rows
-  pub written : WrittenBody
-  pub is_written : IsWrittenAs v.signature d rows written
-  pub completes : (rs : Rows) (w : WrittenBody) → IsWrittenAs v.signature d rs w → (c : Completion) × IsCompletion v.signature (skeletons_of rs) w c
+  pub completed : HasCompletion v.signature d
+  pub not_loose : IsLoose v.signature d → ⊥
   pub none_left : (left : LeftEquation) → reconstruction.HasCause v.signature d (Leftover left) → ⊥
   pub shallow : reconstruction.HasCause v.signature d TooDeep → ⊥
 

@@ -27,6 +27,7 @@ use Rattle.tw_recon.specs.Reconstruction.{AreReadOff, LeavesNothingOut, IsComple
 use Rattle.tw_recon.specs.declared.fault.ReconFault.{ReconFault}
 use Rattle.tw_recon.specs.declared.fault.ReconFault.TheVariants.{Leftover, Loose, Mismatch, NoMemory, TooDeep, TypeLevel, Unknown}
 use Rattle.tw_abstract.proofs.Contexts.{quantifiers_law, reading_law}
+use Rattle.tw_recon.proofs.Completed.{written_mismatch}
 use Rattle.tw_recon.proofs.Naming.{names_each}
 use Rattle.tw_recon.proofs.Principals.{fitted_length, quantifiers_over, read_is_principal}
 use Rattle.tw_recon.proofs.Settling.{body_stands}
@@ -110,7 +111,7 @@ pub declaration_stops : (es : List Entry) (d : Declaration) (rows : Rows) (w : W
 declaration_stops es d rows w (Unknown name place) i h = absurd h
 declaration_stops es d rows w (TypeLevel place) i h = absurd h
 declaration_stops es d rows w Loose i h = absurd h
-declaration_stops es d rows w Mismatch i h = inr (rows, w, i, h)
+declaration_stops es d rows w Mismatch i h = written_mismatch es d rows w i h
 declaration_stops es d rows w (Leftover left) i h = (rows, w, i, h)
 declaration_stops es d rows w TooDeep i h = (rows, w, i, h)
 declaration_stops es d rows w NoMemory i h = tt

@@ -6,6 +6,7 @@ pub mod Domains
 pub mod Settling
 pub mod Fillings
 pub mod Principals
+pub mod Completed
 pub mod Entering
 pub mod Outcomes
 pub mod OfRows

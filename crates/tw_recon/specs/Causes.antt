@@ -27,6 +27,7 @@ use Rattle.tw_unify.specs.Showing.{BlamesShown, Shows}
 use Rattle.tw_putting.specs.Whole.{IsConsistent, whole}
 use Rattle.tw_unify.specs.declared.fault.UnifyFault.TheVariants as unify
 use Rattle.tw_metas.specs.declared.left.LeftEquation.{LeftEquation}
+use Rattle.tw_recon.specs.Completed.{IsMismatch}
 use Rattle.tw_recon.specs.Names.{AreNames, FreeIsDeep, Naming, named_from}
 use Rattle.tw_recon.specs.Reading.{BodyIsDeep}
 use Rattle.tw_recon.specs.Reconstruction.{IsCompletedTo, IsMade, IsWrittenAs}
@@ -87,12 +88,12 @@ module _ (es : List Entry) (rows : Rows) (w : WrittenBody) where
 abbrev pub DeclarationStops : List Entry → Declaration → ReconFault → Type 0
 DeclarationStops es d f = (rows : Rows) × (w : WrittenBody) × IsWrittenAs es d rows w × Stops es rows w f
 
--- Why a declaration isn't reconstructed. A mismatch is one where no skeletons fit, or what is written with the only ones has no completion.
+-- Why a declaration isn't reconstructed.
 abbrev pub HasCause : List Entry → Declaration → ReconFault → Type 0
 HasCause es d (Unknown name place) = skeletons.HasCause es d (approx.Unknown name place)
 HasCause es d (TypeLevel place) = skeletons.HasCause es d (approx.TypeLevel place)
 HasCause es d Loose = skeletons.HasCause es d approx.Loose
-HasCause es d Mismatch = skeletons.HasCause es d approx.Clash ⊎ DeclarationStops es d Mismatch
+HasCause es d Mismatch = IsMismatch es d
 HasCause es d (Leftover left) = DeclarationStops es d (Leftover left)
 HasCause es d TooDeep = DeclarationStops es d TooDeep
 HasCause es d NoMemory = Unit {0}

@@ -4,6 +4,7 @@ pub mod NamingView
 pub mod Reconstruction
 pub mod Reading
 pub mod Begun
+pub mod Completed
 pub mod Causes
 pub mod Queries
 pub mod FreeNames

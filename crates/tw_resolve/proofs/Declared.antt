@@ -9,14 +9,14 @@ use Rattle.tw_approx.proofs.Naming.{name_is, is_name}
 use Rattle.tw_resolve.specs.Resolved.{skeletons_of, FoundAreDeclared}
 use Rattle.tw_resolve.proofs.Marking.{mark_all, marked_frees, same_declared, same_all, fits_marked}
 
-first_row : (y : List ℕ) (s : Skeleton) (rows : Rows) → frees_of ((y, s) ∷ rows) y ≡ s
+pub first_row : (y : List ℕ) (s : Skeleton) (rows : Rows) → frees_of ((y, s) ∷ rows) y ≡ s
 first_row y s rows = ap (λ (b : Bool). if b then s else frees_of rows y) (is_name y y refl)
 
 later_at : (y x : List ℕ) (s t : Skeleton) (b : Bool) → bytes_eq y x ≡ b → (y ≡ x → ⊥) → (if b then s else t) ≡ t
 later_at y x s t true e n = absurd (n (name_is y x e))
 later_at y x s t false e n = refl
 
-later_row : (y x : List ℕ) (s : Skeleton) (rows : Rows) → (HasRow y rows → ⊥) → HasRow x rows → frees_of ((y, s) ∷ rows) x ≡ frees_of rows x
+pub later_row : (y x : List ℕ) (s : Skeleton) (rows : Rows) → (HasRow y rows → ⊥) → HasRow x rows → frees_of ((y, s) ∷ rows) x ≡ frees_of rows x
 later_row y x s rows n h = later_at y x s (frees_of rows x) (bytes_eq y x) refl (λ e. n (subst (λ z. HasRow z rows) (sym e) h))
 
 -- rows whose skeletons are of declared families

@@ -9,7 +9,7 @@ use Rattle.tw_approx.specs.Skeletons.{Family, known, unknown, same_skeleton, sam
 use Rattle.tw_approx.proofs.Sequences.{given, parts_of}
 use Rattle.tw_approx.proofs.Unifying.{equal_skeletons, equal_lists, passed, if_passed}
 use Rattle.tw_resolve.specs.Resolving.{with_both, made, is_type_hole, is_higher, on_argument, of_kind}
-use Rattle.tw_resolve.specs.Resolved.{due_skeleton}
+use Rattle.lf_elaboration.specs.BodySkeletons.{due_skeleton}
 use Rattle.tw_resolve.proofs.Parts.{Resolves, after, finish, says, any_taken, named_alike}
 
 abbrev pub IsNoHole : WrittenType → Type 0

@@ -9,3 +9,6 @@ pub mod Spines
 pub mod Rests
 pub mod Answering
 pub mod WholeBodies
+pub mod Fitting
+pub mod Renumbered
+pub mod Reordered

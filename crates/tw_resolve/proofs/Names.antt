@@ -14,7 +14,8 @@ use Rattle.tw_names.specs.Unknown.{is_uppercase}
 use Rattle.tw_fixity.specs.Names.{Names, variable_of}
 use Rattle.tw_approx.proofs.Naming.{is_name}
 use Rattle.tw_resolve.specs.Resolving.{resolved_name, resolved_family}
-use Rattle.tw_resolve.specs.Resolved.{names_of, skeletons_of, due_skeleton}
+use Rattle.lf_elaboration.specs.BodySkeletons.{due_skeleton}
+use Rattle.tw_resolve.specs.Resolved.{names_of, skeletons_of}
 
 -- Two variables with one skeleton, or none.
 abbrev pub AreAlike : Option ℕ → List Skeleton → Option ℕ → List Skeleton → Type 0

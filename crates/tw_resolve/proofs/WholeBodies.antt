@@ -2,6 +2,7 @@
 use Rattle.std.proofs.Common.{◌≡◌, ℕ, List, [], Bool, true, false, Option, None, Some, sym, ap, ◌∙◌}
 use Rattle.lf.specs.Entries.{Entry}
 use Rattle.lf.specs.Syntax.{Skeleton}
+use Rattle.lf_elaboration.specs.BodySkeletons.{BodyHasSkeletons}
 use Rattle.lf_elaboration.specs.Principal.{WrittenBody, written_family, written_constant, written_definition, written_definition_of}
 use Rattle.lf_elaboration.specs.Written.{Written, WrittenType}
 use Rattle.tw_approx.specs.Answer.{Rows}
@@ -10,7 +11,7 @@ use Rattle.tw_approx.proofs.Sequences.{parts_of}
 use Rattle.tw_names.specs.Texts.{ends_in_type}
 use Rattle.tw_parse.specs.Syntax.{Term, Declaration, declare, define, prefer, give}
 use Rattle.tw_resolve.specs.Resolving.{resolved_term, resolved_type, with_both, made}
-use Rattle.tw_resolve.specs.Resolved.{names_of, skeletons_of, untyped_term, typed_term, resolved_definition, DefinitionHasSkeleton, ClassifierResolves, IsResolved, with_one, taken_whole, classifier_read, resolved_body, BodyHasSkeletons, BodiesAreResolved, GoalsAreConstants}
+use Rattle.tw_resolve.specs.Resolved.{names_of, skeletons_of, untyped_term, typed_term, resolved_definition, DefinitionHasSkeleton, ClassifierResolves, IsResolved, with_one, taken_whole, classifier_read, resolved_body, BodiesAreResolved, GoalsAreConstants}
 use Rattle.tw_resolve.proofs.Whole.{skeletons_are_resolved}
 
 -- the body that a definition makes

@@ -1,3 +1,4 @@
 pub mod Resolving
 pub mod Resolved
 pub mod Rest
+pub mod Fitting

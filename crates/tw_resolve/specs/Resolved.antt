@@ -1,7 +1,8 @@
 -- What resolution makes of a declaration that has skeletons, and of the goal of a query.
-use Rattle.std.specs.Prelude.{◌≡◌, ℕ, List, [], ◌∷◌, map, Bool, true, false, Option, None, Some}
+use Rattle.std.specs.Prelude.{◌≡◌, ℕ, List, [], map, Bool, true, false, Option, None, Some}
 use Rattle.lf.specs.Entries.{Entry, IsCanonicalSignature}
-use Rattle.lf.specs.Syntax.{Skeleton, base, arrow}
+use Rattle.lf.specs.Syntax.{Skeleton}
+use Rattle.lf_elaboration.specs.BodySkeletons.{BodyHasSkeletons, due_skeleton}
 use Rattle.lf_elaboration.specs.Principal.{WrittenBody, written_family, written_constant, written_definition, written_definition_of}
 use Rattle.lf_elaboration.specs.Written.{Written, WrittenType, WrittenKind}
 use Rattle.lf_elaboration.specs.WrittenSkeletons.{AllDeclared, WrittenHasSkeleton, WrittenTypeHasSkeleton, KindHasSkeleton}
@@ -20,11 +21,6 @@ names_of rows = map (λ r. Some r.0) rows
 
 abbrev pub skeletons_of : Rows → List Skeleton
 skeletons_of rows = map (λ r. r.1) rows
-
--- the skeleton of a kind that is due these arguments, of the family a
-abbrev pub due_skeleton : List Skeleton → ℕ → Skeleton
-due_skeleton [] a = base a
-due_skeleton (s ∷ ss) a = arrow s (due_skeleton ss a)
 
 abbrev pub untyped_term : Written → Option WrittenType × Written
 untyped_term M = (None, M)
@@ -93,13 +89,6 @@ resolved_body es rows o d = taken_whole (body_read es (names_of rows) [] d o)
 -- the goal of a query, as the type of a constant
 abbrev pub resolved_goal : List Entry → Rows → List Skeleton → Term → Option WrittenBody
 resolved_goal es rows o U = taken_whole (classifier_read es (names_of rows) [] false U o)
-
--- the skeletons of what is written: of a family's kind whatever the family
-abbrev pub BodyHasSkeletons : List Entry → List Skeleton → WrittenBody → Type 0
-BodyHasSkeletons es ts (written_family k) = (ds : List Skeleton) × ((a : ℕ) → KindHasSkeleton es ts [] k a (due_skeleton ds a))
-BodyHasSkeletons es ts (written_constant U) = (s : Skeleton) × WrittenTypeHasSkeleton es ts [] U s
-BodyHasSkeletons es ts (written_definition M b) = (s : Skeleton) × WrittenHasSkeleton es ts [] M s
-BodyHasSkeletons es ts (written_definition_of M U b) = (s : Skeleton) × WrittenTypeHasSkeleton es ts [] U s × WrittenHasSkeleton es ts [] M s
 
 -- What has skeletons in just one way is resolved as a whole, and has skeletons then.
 abbrev pub BodiesAreResolved : Type 0

@@ -23,3 +23,7 @@ pub returns-in-Err-entry-clause-refused : goal.returns-in-Err-entry-clause-refus
 returns-in-Err-entry-clause-refused c =
     declaration_stops c.args.signature.now (declaration_of c.args.decl.now) (rows_of c.in-Ok.told.rows.items) (written_body_of c.in-Ok.told.written) c.in-Err-entry.fault c.in-Ok.ensures.written
     (entry_refused c.args.signature.now (rows_of c.in-Ok.told.rows.items) (written_body_of c.in-Ok.told.written) c.in-Ok-complete.completed.quantifiers c.in-Ok-complete.completed.hints.items c.in-Ok-complete.completed.shown.items (body_of c.in-Ok-complete.completed.body) c.in-Err-entry.fault c.in-Ok-complete.ensures.completed c.in-Err-entry.ensures.fault (λ e. c.in-Err-entry.ensures.too_deep (ap Err e)))
+
+pub returns-in-Err-complete-clause-refused : goal.returns-in-Err-complete-clause-refused
+returns-in-Err-complete-clause-refused c =
+    declaration_stops c.args.signature.now (declaration_of c.args.decl.now) (rows_of c.in-Ok.told.rows.items) (written_body_of c.in-Ok.told.written) c.in-Err-complete.fault c.in-Ok.ensures.written c.in-Err-complete.ensures.refused
