@@ -17,10 +17,11 @@ use Rattle.tw_print.specs.Shown.{declaration, declaration_line, nesting_limit}
 use Rattle.law_reading_back.specs.Laws.{LayoutIsShown, GivesClassifier, LineIsLexed, LineIsRead, ClassifierIsLegible, IsDeclared, OpenTextReadsBack, TextReadsBack}
 use Rattle.law_reading_back.specs.Layout.{pieces, line}
 use Rattle.law_reading_back.specs.Legible.{IsWhole, IsLegible}
-use Rattle.law_reading_back.specs.Names.{EachIs, IsPlainByte, IsName}
+use Rattle.law_reading_back.specs.Names.{EachIs, IsByte, IsPlainByte, IsName}
 use Rattle.law_reading_back.specs.Sketches.{Sketch, classifier_sketch}
 use Rattle.law_reading_back.specs.Spelling.{Spells, IsUnhidden}
 use Rattle.law_reading_back.specs.Tokens.{BeginWith, AreTokens}
+use Rattle.law_reading_back.proofs.Bytes.{each_byte, whole_line}
 use Rattle.law_reading_back.proofs.Explicit.{given_is_explicit}
 use Rattle.law_reading_back.proofs.Kept.{good_name, good_leading, classifier_kept, classifier_open}
 use Rattle.law_reading_back.proofs.Laying.{same_pieces, classifier_is}
@@ -101,8 +102,8 @@ line_is s name implicit hints (declare_definition M A b) d = absurd d
 pub open_reads_back : OpenTextReadsBack
 open_reads_back s es table e text after from o p w h =
     let t = classifier_sketch s e.implicit e.hints e.body in
-    let l : IsLegible table t = classifier_legible s es table e o p.typed p.hints w.unhidden w.whole in
     let same : declaration_line s e ≡ render (line e.name t) = ap render (line_is s e.name e.implicit e.hints e.body p.declared) in
+    let l : IsLegible table t = classifier_legible s es table e o p.typed p.hints w.unhidden (whole_line e.name t (subst (EachIs IsByte) same w.bytes)) in
     let k = line_lexed table t e.name text after from p.name l (h ∙ ap (λ x. x ++ after) same) in
     let r = line_read table t e.name (lexemes text k.0) p.name l k.2 in
     let g = classifier_kept s es e r.1 o.over p.typed p.hints w.unhidden r.3 in
@@ -122,4 +123,4 @@ open_reads_back s es table e text after from o p w h =
 pub reads_back : TextReadsBack
 reads_back s es table e text after from o p n b h =
     let q = open_classifier s n e.implicit e.hints e.name e.body (subst (EachIs IsPlainByte) (ap render (line_is s e.name e.implicit e.hints e.body p.declared)) b) in
-    open_reads_back s es table e text after from o p (record { unhidden = q.0; whole = q.1 }) h
+    open_reads_back s es table e text after from o p (record { unhidden = q; bytes = each_byte (declaration_line s e) b }) h

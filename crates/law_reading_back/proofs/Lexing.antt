@@ -72,7 +72,7 @@ drop_append [] ys = refl
 drop_append (x ∷ xs) ys = drop_append xs ys
 
 module _ (text : List ℕ) where
-  drop_on : (i : ℕ) (xs ys : List ℕ) → drop i text ≡ xs ++ ys → drop (i + length xs) text ≡ ys
+  pub drop_on : (i : ℕ) (xs ys : List ℕ) → drop i text ≡ xs ++ ys → drop (i + length xs) text ≡ ys
   drop_on i xs ys e = ap (λ n. drop n text) (omega arith) ∙ sym (drop-drop (length xs) i text) ∙ ap (drop (length xs)) e ∙ drop_append xs ys
 
   inside : (i : ℕ) (x : ℕ) (ys : List ℕ) → drop i text ≡ x ∷ ys → i < length text
@@ -155,6 +155,10 @@ module _ (text : List ℕ) where
   space_at : (i : ℕ) (rest : List ℕ) → encode_utf8 32 ≡ 32 ∷ [] → drop i text ≡ 32 ∷ rest → first_token text i ≡ first_token text (i + 1)
   space_at i rest own e = by_class i 32 rest WhiteSpace (one_byte i 32 rest refl own e) refl ∙ ap (λ n. first_token text (i + n)) (ap length own)
 
+  -- and so is a line feed
+  line_feed_at : (i : ℕ) (rest : List ℕ) → encode_utf8 10 ≡ 10 ∷ [] → drop i text ≡ 10 ∷ rest → first_token text i ≡ first_token text (i + 1)
+  line_feed_at i rest own e = by_class i 10 rest WhiteSpace (one_byte i 10 rest refl own e) refl ∙ ap (λ n. first_token text (i + n)) (ap length own)
+
 -- the bytes of marks, of a space and of a dot are characters that end a word
 sign_own : (m : Sign) → encode_utf8 (byte_of m) ≡ byte_of m ∷ []
 unfolding encode_utf8
@@ -173,6 +177,13 @@ dot_own = refl
 space_own : encode_utf8 32 ≡ 32 ∷ []
 unfolding encode_utf8
 space_own = refl
+
+line_feed_own : encode_utf8 10 ≡ 10 ∷ []
+unfolding encode_utf8
+line_feed_own = refl
+
+pub line_feed_passed : (text : List ℕ) (i : ℕ) (rest : List ℕ) → drop i text ≡ 10 ∷ rest → first_token text i ≡ first_token text (i + 1)
+line_feed_passed text i rest e = line_feed_at text i rest line_feed_own e
 
 sign_scalar : (m : Sign) → IsScalar (byte_of m)
 sign_scalar colon = refl
@@ -323,7 +334,7 @@ module _ (text : List ℕ) where
     pub through : ThroughDot text from tokens upto
     pub are : AreTokens (ps ++ token (codes ".") ∷ []) (lexemes text tokens)
 
-  passed : (i j : ℕ) (ts : List Token) (upto : ℕ) → first_token text i ≡ first_token text j → ThroughDot text j ts upto → ThroughDot text i ts upto
+  pub passed : (i j : ℕ) (ts : List Token) (upto : ℕ) → first_token text i ≡ first_token text j → ThroughDot text j ts upto → ThroughDot text i ts upto
   passed i j [] upto e h = absurd h
   passed i j (t ∷ ts) upto e (f, h) = (e ∙ f, h)
 

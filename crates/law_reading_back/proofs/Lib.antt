@@ -16,5 +16,6 @@ pub mod Spacing
 pub mod Fronts
 pub mod Reading
 pub mod Back
+mod Bytes
 pub mod Plainness
 pub mod Defined

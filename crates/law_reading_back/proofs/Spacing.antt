@@ -107,6 +107,10 @@ pub equals_word : IsWord (codes "=")
 unfolding encode_utf8
 equals_word = record { first = 61; others = []; spelled = refl; plain = (record { scalar = refl; plain = refl }, tt) }
 
+pub hole_word : IsWord (codes "_")
+unfolding encode_utf8
+hole_word = record { first = 95; others = []; spelled = refl; plain = (record { scalar = refl; plain = refl }, tt) }
+
 type_word : IsWord (codes "type")
 unfolding encode_utf8
 type_word = record {

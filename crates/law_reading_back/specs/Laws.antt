@@ -20,7 +20,7 @@ use Rattle.tw_print.specs.Shown as shown
 use Rattle.tw_print.specs.Shown.{classifier, nesting_limit, keyword, declaration_line}
 use Rattle.law_reading_back.specs.Layout.{pieces, line, definition_line}
 use Rattle.law_reading_back.specs.Legible.{IsWhole, IsLegible}
-use Rattle.law_reading_back.specs.Names.{IsName, HasGoodPreferences, AreGoodHints, HasRoom, HasGoodNames, HasGoodRows, AgreeOn, EachIs, IsPlainByte, HasNoImplicit}
+use Rattle.law_reading_back.specs.Names.{IsName, IsByte, IsDeclaredBy, HasGoodPreferences, AreGoodHints, HasRoom, HasGoodNames, HasGoodRows, AgreeOn, EachIs, IsPlainByte, HasNoImplicit}
 use Rattle.law_reading_back.specs.Sketches.{Sketch, classifier_sketch, defined_sketch}
 use Rattle.law_reading_back.specs.Spelling.{Spells, IsUnhidden}
 use Rattle.law_reading_back.specs.Tokens.{AreTokens}
@@ -66,12 +66,12 @@ LineIsRead = (table : Table) (t : Sketch) (name : List ℕ) (words : List Lexeme
 
 -- the same of the line of a definition
 abbrev pub DefinitionIsLexed : Type 0
-DefinitionIsLexed = (table : Table) (b : Bool) (t u : Sketch) (name text after : List ℕ) (from : ℕ) → IsName name → IsLegible table t → IsLegible table u → drop from text ≡ render (definition_line b name t u) ++ after
-    → (tokens : List Token) × ThroughDot text from tokens (from + length (render (definition_line b name t u))) × AreTokens (definition_line b name t u) (lexemes text tokens)
+DefinitionIsLexed = (table : Table) (b : Bool) (t u : Sketch) (name : Option (List ℕ)) (word text after : List ℕ) (from : ℕ) → IsDeclaredBy word b name → IsLegible table t → IsLegible table u
+    → drop from text ≡ render (definition_line b word t u) ++ after → (tokens : List Token) × ThroughDot text from tokens (from + length (render (definition_line b word t u))) × AreTokens (definition_line b word t u) (lexemes text tokens)
 
 abbrev pub DefinitionIsRead : Type 0
-DefinitionIsRead = (table : Table) (b : Bool) (t u : Sketch) (name : List ℕ) (words : List Lexeme) → IsName name → IsLegible table t → IsLegible table u → AreTokens (definition_line b name t u) words
-    → (U : syntax.Term) × (P : syntax.Term) × Declares table words (syntax.define (Some name) (Some U) P b) × Spells t U × Spells u P
+DefinitionIsRead = (table : Table) (b : Bool) (t u : Sketch) (name : Option (List ℕ)) (word : List ℕ) (words : List Lexeme) → IsDeclaredBy word b name → IsLegible table t → IsLegible table u
+    → AreTokens (definition_line b word t u) words → (U : syntax.Term) × (P : syntax.Term) × Declares table words (syntax.define name (Some U) P b) × Spells t U × Spells u P
 
 -- What is printed with implicit arguments hidden, over a scene whose names are names and whose rows fit, and read with this table.
 pub record IsInOrder (s : Scene) (es : List Entry) (table : Table) : Type 0 where
@@ -104,10 +104,10 @@ pub record IsTypedEntry (es : List Entry) (e : Entry) : Type 0 where
   pub name : IsName e.name
   pub hints : AreGoodHints e.hints
 
--- Each constant that is shown is the newest of its name and has no implicit arguments, and nothing nests too deep to be shown.
+-- In the type or kind each constant that is shown is the newest of its name and has no implicit arguments; and the line is made of bytes, as each printed text is.
 pub record IsOpenEntry (s : Scene) (e : Entry) : Type 0 where
   pub unhidden : IsUnhidden s (classifier_sketch s e.implicit e.hints e.body)
-  pub whole : IsWhole (classifier_sketch s e.implicit e.hints e.body)
+  pub bytes : EachIs IsByte (declaration_line s e)
 
 -- The text from one byte up to another is read as a declaration, and as no other, that is of the explicit form and completes, over the signature, to an entry of this name and body.
 pub record ReadsAs (es : List Entry) (table : Table) (text : List ℕ) (from upto : ℕ) (name : List ℕ) (body : Body) : Type 0 where
@@ -132,29 +132,28 @@ abbrev pub TextReadsBack : Type 0
 TextReadsBack = (s : Scene) (es : List Entry) (table : Table) (e : Entry) (text after : List ℕ) (from : ℕ) → IsInOrder s es table → IsTypedEntry es e → HasNoImplicit s
     → EachIs IsPlainByte (declaration_line s e) → drop from text ≡ declaration_line s e ++ after → ReadsAs es table text from (from + length (declaration_line s e)) e.name e.body
 
--- a definition with good names, or an abbreviation, that is typed over the signature
-pub record IsTypedDefinition (es : List Entry) (e : Entry) (M : Term) (A : LfType) (b : Bool) : Type 0 where
+-- a definition with good names, or an abbreviation, that is typed over the signature; without a name it has `_`
+pub record IsTypedDefinition (es : List Entry) (e : Entry) (name : Option (List ℕ)) (M : Term) (A : LfType) (b : Bool) : Type 0 where
   pub defines : e.body ≡ declare_definition M A b
   pub typed : BodyIsTyped (signature_of es) e.body
-  pub name : IsName e.name
+  pub word : IsDeclaredBy e.name b name
   pub hints : AreGoodHints e.hints
 
--- In its type and its term each constant that is shown is the newest of its name and has no implicit arguments, and nothing nests too deep to be shown.
+-- The same of a definition, in its type and in its term.
 pub record IsOpenDefinition (s : Scene) (e : Entry) (M : Term) (A : LfType) : Type 0 where
   pub classifier : IsOpenEntry s e
   pub unhidden : IsUnhidden s (defined_sketch s M A)
-  pub whole : IsWhole (defined_sketch s M A)
 
--- The text from one byte up to another is read as a definition of this name, or as an abbreviation, and as no other declaration. Each name in it is known, its type and its term are
+-- The text from one byte up to another is read as a definition of this name, if any, or as an abbreviation, and as no other declaration. Each name in it is known, its type and its term are
 -- of the explicit form, and they give, over the signature, this type and this term.
-pub record ReadsAsDefinition (es : List Entry) (table : Table) (text : List ℕ) (from upto : ℕ) (name : List ℕ) (M : Term) (A : LfType) (b : Bool) : Type 0 where
+pub record ReadsAsDefinition (es : List Entry) (table : Table) (text : List ℕ) (from upto : ℕ) (name : Option (List ℕ)) (M : Term) (A : LfType) (b : Bool) : Type 0 where
   pub tokens : List Token
   pub through : ThroughDot text from tokens upto
   pub type_written : syntax.Term
   pub term_written : syntax.Term
-  pub reads : Declares table (lexemes text tokens) (syntax.define (Some name) (Some type_written) term_written b)
-  pub only : (other : syntax.Declaration) → Declares table (lexemes text tokens) other → other ≡ syntax.define (Some name) (Some type_written) term_written b
-  pub known : unknown_in es (syntax.define (Some name) (Some type_written) term_written b) ≡ []
+  pub reads : Declares table (lexemes text tokens) (syntax.define name (Some type_written) term_written b)
+  pub only : (other : syntax.Declaration) → Declares table (lexemes text tokens) other → other ≡ syntax.define name (Some type_written) term_written b
+  pub known : unknown_in es (syntax.define name (Some type_written) term_written b) ≡ []
   pub type_form : is_type_form es [] [] type_written ≡ true
   pub term_form : is_term_form es [] [] term_written (written_shape type_written) ≡ true
   pub type_gives : TypeGives es [] [] type_written A
@@ -162,8 +161,8 @@ pub record ReadsAsDefinition (es : List Entry) (table : Table) (text : List ℕ)
 
 -- the printed line of such a definition, wherever it stands in a text, is read back to the same type and term over the signature before the entry
 abbrev pub OpenDefinitionReadsBack : Type 0
-OpenDefinitionReadsBack = (s : Scene) (es : List Entry) (table : Table) (e : Entry) (M : Term) (A : LfType) (b : Bool) (text after : List ℕ) (from : ℕ) → IsInOrder s es table → IsTypedDefinition es e M A b → IsOpenDefinition s e M A
-    → drop from text ≡ declaration_line s e ++ after → ReadsAsDefinition es table text from (from + length (declaration_line s e)) e.name M A b
+OpenDefinitionReadsBack = (s : Scene) (es : List Entry) (table : Table) (e : Entry) (name : Option (List ℕ)) (M : Term) (A : LfType) (b : Bool) (text after : List ℕ) (from : ℕ) → IsInOrder s es table → IsTypedDefinition es e name M A b → IsOpenDefinition s e M A
+    → drop from text ≡ declaration_line s e ++ after → ReadsAsDefinition es table text from (from + length (declaration_line s e)) name M A b
 
 -- the line behind the keyword, which an abbreviation has
 abbrev pub bare_line : Scene → Entry → List ℕ
@@ -171,5 +170,5 @@ bare_line s e = drop (length (render (keyword e.body))) (declaration_line s e)
 
 -- and where no entry has implicit arguments, that of each definition whose line has no percent sign but the keyword's
 abbrev pub DefinitionReadsBack : Type 0
-DefinitionReadsBack = (s : Scene) (es : List Entry) (table : Table) (e : Entry) (M : Term) (A : LfType) (b : Bool) (text after : List ℕ) (from : ℕ) → IsInOrder s es table → IsTypedDefinition es e M A b → HasNoImplicit s
-    → EachIs IsPlainByte (bare_line s e) → drop from text ≡ declaration_line s e ++ after → ReadsAsDefinition es table text from (from + length (declaration_line s e)) e.name M A b
+DefinitionReadsBack = (s : Scene) (es : List Entry) (table : Table) (e : Entry) (name : Option (List ℕ)) (M : Term) (A : LfType) (b : Bool) (text after : List ℕ) (from : ℕ) → IsInOrder s es table → IsTypedDefinition es e name M A b → HasNoImplicit s
+    → EachIs IsPlainByte (bare_line s e) → drop from text ≡ declaration_line s e ++ after → ReadsAsDefinition es table text from (from + length (declaration_line s e)) name M A b

@@ -1,5 +1,5 @@
 -- Names that read as identifiers.
-use Rattle.std.specs.Prelude.{◌≡◌, ◌≢◌, ◌<◌, ◌≤◌, ◌+◌, ◌-◌, ◌^◌, ℕ, zero, List, [], ◌∷◌, length, Option, Some, encode_utf8_all}
+use Rattle.std.specs.Prelude.{◌≡◌, ◌≢◌, ◌<◌, ◌≤◌, ◌+◌, ◌-◌, ◌^◌, ℕ, zero, List, [], ◌∷◌, length, codes, Bool, false, Option, Some, None, encode_utf8_all}
 use Rattle.std.specs.Char.{IsScalar}
 use Rattle.std.specs.FinMap as map
 use Rattle.std.specs.List.{slice_get}
@@ -59,6 +59,15 @@ HasGoodRows s = (x : List ℕ) (fix : Fix) (c : ℕ) (e : Entry) → map.get s.r
 -- The table has the scene's rows, save at a name that a newer entry has: at the name of the entry that is shown it may have the row that this entry takes away.
 abbrev pub AgreeOn : Scene → List Entry → Table → Type 0
 AgreeOn s es table = (x : List ℕ) → number_of s.entries x ≡ number_of es x → map.get table x ≡ map.get s.rows x
+
+-- What a text is made of: a number that a byte can be.
+abbrev pub IsByte : ℕ → Type 0
+IsByte b = b < 256
+
+-- What stands for the name in a definition's line: the name, or `_` where it has none; an abbreviation has one.
+abbrev pub IsDeclaredBy : List ℕ → Bool → Option (List ℕ) → Type 0
+IsDeclaredBy word b (Some name) = (word ≡ name) × IsName name
+IsDeclaredBy word b None = (word ≡ codes "_") × (b ≡ false)
 
 -- a byte that is no percent sign
 pub record IsPlainByte (b : ℕ) : Type 0 where

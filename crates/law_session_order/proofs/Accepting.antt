@@ -16,6 +16,7 @@ use Rattle.tw_lexer.proofs.Firsts.{IsToken, first_token-IsToken}
 use Rattle.tw_lexer.proofs.Lists.{count-more}
 use Rattle.tw_parse.specs.Faults.{IsKnown}
 use Rattle.tw_parse.specs.Keywords.{is_built}
+use Rattle.tw_parse.specs.Nesting.{first_too_deep}
 use Rattle.tw_parse.specs.Outlines.{Table, Shapes, Head, a_check, a_definition, an_abbreviation, declares, defines, defines_typed, prefers, prefers_both, gives}
 use Rattle.tw_parse.specs.Readings.{Declares, MeansAll, declared, defined, defined_typed, preferred, given}
 use Rattle.tw_parse.specs.Syntax.{Term, DeclarationOf, Declaration, declare, define}
@@ -88,16 +89,28 @@ stands_too es c U e f k h same = record {
   hint_each = ap length h.hint_each ∙ body_hints es U f.body h.body;
 }
 
-declared_accepted : (v : View) (e : Entry) (text : List ℕ) (upto : ℕ) → upto ≡ length text → IsSound v → ReadsAs v.signature v.fixities text 0 upto e.name e.body → IsCanonicalEntry (signature_of v.signature) e → IsWithinLimits text → AcceptsAgain v text e
-declared_accepted v e text upto all sound r k limits =
+-- no bracket of the tokens from a byte on is nested too deep
+abbrev AreShallow : List ℕ → ℕ → ℕ → Type 0
+AreShallow text from upto = (tokens : List Token) → ThroughDot text from tokens upto → first_too_deep [] 0 (lexemes text tokens) ≡ None
+
+-- what stands in a text from a byte on declares an entry of the same name and body, without an implicit quantifier
+pub record IsMadeAgain (v : View) (e : Entry) (text : List ℕ) (from upto : ℕ) : Type 0 where
+  pub tokens : List Token
+  pub through : ThroughDot text from tokens upto
+  pub entry : Entry
+  pub makes : Makes v (lexemes text tokens) (entry_report v entry) (with_entry v entry)
+  pub name : entry.name ≡ e.name
+  pub body : entry.body ≡ e.body
+  pub implicit : entry.implicit ≡ zero
+
+declared_made : (v : View) (e : Entry) (text : List ℕ) (from upto : ℕ) → IsSound v → ReadsAs v.signature v.fixities text from upto e.name e.body → IsCanonicalEntry (signature_of v.signature) e → AreShallow text from upto → IsMadeAgain v e text from upto
+declared_made v e text from upto sound r k shallow =
     let words = lexemes text r.tokens in
-    let few : IsFew r.tokens = let c = counted text 0 upto r.tokens (omega arith) r.through in let l = limits.few in omega (arith, c, l) in
-    let written : IsWritten text 0 upto words (place_of text upto) = record { tokens = r.tokens; through = r.through; few = few; spelled = refl; behind = refl } in
     let h : IsCompletion v.signature e.name r.written r.entry = r.completes in
     let stands : IsCanonicalEntry (signature_of v.signature) r.entry = stands_too v.signature e.name r.written e r.entry k h r.same in
     let makes : Makes v words (entry_report v r.entry) (with_entry v r.entry) = record {
       declaration = declare e.name r.at r.written;
-      reads = record { begins = (begins_known v.fixities words e.name r.at r.written r.reads, limits.shallow r.tokens upto r.through); reads = r.reads };
+      reads = record { begins = (begins_known v.fixities words e.name r.at r.written r.reads, shallow r.tokens r.through); reads = r.reads };
       does = record {
         entry = r.entry;
         reconstructs = explicit_reconstructed v.signature sound (declare e.name r.at r.written) r.entry r.explicit h stands;
@@ -106,20 +119,7 @@ declared_accepted v e text upto all sound r k limits =
         keeps = refl;
       };
     } in
-    record {
-      report = entry_report v r.entry;
-      entry = r.entry;
-      accepts = record {
-        words = words;
-        end = place_of text upto;
-        next = token text End upto upto;
-        written = record { upto = upto; written = written; follower = seek-end text between upto (omega (arith, all)) };
-        alone = refl;
-        makes = makes;
-      };
-      name = h.name;
-      body = r.same;
-    }
+    record { tokens = r.tokens; through = r.through; entry = r.entry; makes = makes; name = h.name; body = r.same; implicit = h.implicit }
 
 length_fitted : (n : ℕ) (hs : List (Option (List ℕ))) → length (fitted n hs) ≡ n
 length_fitted zero hs = refl
@@ -127,18 +127,16 @@ length_fitted (suc n) [] = ap suc (length_fitted n [])
 length_fitted (suc n) (h ∷ hs) = ap suc (length_fitted n hs)
 
 -- the entry of a definition that is read back
-module _ (v : View) (e : Entry) (text : List ℕ) (upto : ℕ) (M : LfTerm) (A : LfType) (b : Bool) (r : ReadsAsDefinition v.signature v.fixities text 0 upto e.name M A b) where
+module _ (v : View) (e : Entry) (text : List ℕ) (from upto : ℕ) (M : LfTerm) (A : LfType) (b : Bool) (r : ReadsAsDefinition v.signature v.fixities text from upto (Some e.name) M A b) where
   abbrev definition : Declaration
   definition = define (Some e.name) (Some r.type_written) r.term_written b
 
   abbrev again : Entry
   again = record { name = e.name; implicit = zero; hints = fitted (body_quantifiers (declare_definition M A b)) (written_hints definition); body = declare_definition M A b }
 
-  definition_accepted : e.body ≡ declare_definition M A b → upto ≡ length text → IsSound v → IsCanonicalEntry (signature_of v.signature) e → IsWithinLimits text → AcceptsAgain v text e
-  definition_accepted is all sound k limits =
+  definition_made : e.body ≡ declare_definition M A b → IsSound v → IsCanonicalEntry (signature_of v.signature) e → AreShallow text from upto → IsMadeAgain v e text from upto
+  definition_made is sound k shallow =
       let words = lexemes text r.tokens in
-      let few : IsFew r.tokens = let c = counted text 0 upto r.tokens (omega arith) r.through in let l = limits.few in omega (arith, c, l) in
-      let written : IsWritten text 0 upto words (place_of text upto) = record { tokens = r.tokens; through = r.through; few = few; spelled = refl; behind = refl } in
       let stands : IsCanonicalEntry (signature_of v.signature) again = record {
         typed = subst (BodyIsTyped (signature_of v.signature)) is k.typed;
         within = subst (BodyIsWithin depth_limit) is k.within;
@@ -147,7 +145,7 @@ module _ (v : View) (e : Entry) (text : List ℕ) (upto : ℕ) (M : LfTerm) (A :
       } in
       let makes : Makes v words (entry_report v again) (with_entry v again) = record {
         declaration = definition;
-        reads = record { begins = (define_known v.fixities words (Some e.name) (Some r.type_written) r.term_written b r.reads, limits.shallow r.tokens upto r.through); reads = r.reads };
+        reads = record { begins = (define_known v.fixities words (Some e.name) (Some r.type_written) r.term_written b r.reads, shallow r.tokens r.through); reads = r.reads };
         does = record {
           entry = again;
           reconstructs = explicit_definition_reconstructed v.signature sound (Some e.name) r.type_written r.term_written b A M (record { type_form = r.type_form; term_form = r.term_form }) (r.type_gives, r.term_gives) again (record { name = refl; body = refl; implicit = refl; hints = refl });
@@ -156,31 +154,37 @@ module _ (v : View) (e : Entry) (text : List ℕ) (upto : ℕ) (M : LfTerm) (A :
           keeps = refl;
         };
       } in
-      record {
-        report = entry_report v again;
-        entry = again;
-        accepts = record {
-          words = words;
-          end = place_of text upto;
-          next = token text End upto upto;
-          written = record { upto = upto; written = written; follower = seek-end text between upto (omega (arith, all)) };
-          alone = refl;
-          makes = makes;
-        };
-        name = refl;
-        body = sym is;
-      }
+      record { tokens = r.tokens; through = r.through; entry = again; makes = makes; name = refl; body = sym is; implicit = refl }
 
-read_accepted : (v : View) (e : Entry) (text : List ℕ) (upto : ℕ) → upto ≡ length text → IsSound v → ReadsBody v.signature v.fixities text 0 upto e.name e.body → IsCanonicalEntry (signature_of v.signature) e → IsWithinLimits text → AcceptsAgain v text e
-read_accepted v e text upto all sound r k limits = by_body e.body refl r
+pub read_made : (v : View) (e : Entry) (text : List ℕ) (from upto : ℕ) → IsSound v → ReadsBody v.signature v.fixities text from upto e.name e.body → IsCanonicalEntry (signature_of v.signature) e → AreShallow text from upto → IsMadeAgain v e text from upto
+read_made v e text from upto sound r k shallow = by_body e.body refl r
   where
-    declared_body : (d : Body) → e.body ≡ d → ReadsAs v.signature v.fixities text 0 upto e.name d → AcceptsAgain v text e
-    declared_body d q s = declared_accepted v e text upto all sound (subst (ReadsAs v.signature v.fixities text 0 upto e.name) (sym q) s) k limits
+    declared_body : (d : Body) → e.body ≡ d → ReadsAs v.signature v.fixities text from upto e.name d → IsMadeAgain v e text from upto
+    declared_body d q s = declared_made v e text from upto sound (subst (ReadsAs v.signature v.fixities text from upto e.name) (sym q) s) k shallow
 
-    by_body : (d : Body) → e.body ≡ d → ReadsBody v.signature v.fixities text 0 upto e.name d → AcceptsAgain v text e
+    by_body : (d : Body) → e.body ≡ d → ReadsBody v.signature v.fixities text from upto e.name d → IsMadeAgain v e text from upto
     by_body (declare_family K) q s = declared_body (declare_family K) q s
     by_body (declare_constant A) q s = declared_body (declare_constant A) q s
-    by_body (declare_definition M A b) q s = definition_accepted v e text upto M A b s q all sound k limits
+    by_body (declare_definition M A b) q s = definition_made v e text from upto M A b s q sound k shallow
+
+read_accepted : (v : View) (e : Entry) (text : List ℕ) (upto : ℕ) → upto ≡ length text → IsSound v → ReadsBody v.signature v.fixities text 0 upto e.name e.body → IsCanonicalEntry (signature_of v.signature) e → IsWithinLimits text → AcceptsAgain v text e
+read_accepted v e text upto all sound r k limits =
+    let m = read_made v e text 0 upto sound r k (λ tokens h. limits.shallow tokens upto h) in
+    let few : IsFew m.tokens = let c = counted text 0 upto m.tokens (omega arith) m.through in let l = limits.few in omega (arith, c, l) in
+    record {
+      report = entry_report v m.entry;
+      entry = m.entry;
+      accepts = record {
+        words = lexemes text m.tokens;
+        end = place_of text upto;
+        next = token text End upto upto;
+        written = record { upto = upto; written = record { tokens = m.tokens; through = m.through; few = few; spelled = refl; behind = refl }; follower = seek-end text between upto (omega (arith, all)) };
+        alone = refl;
+        makes = m.makes;
+      };
+      name = m.name;
+      body = m.body;
+    }
 
 pub read_back_accepted : ReadBackIsAccepted
 read_back_accepted s v e sound back k limits =

@@ -86,7 +86,7 @@ newest_below (f ∷ es) x c e = by_test (bytes_eq f.name x) e (newest_below es x
     by_test false q next = let l = next q in omega (arith, l)
 
 -- what holds of each entry, and of one more
-each_entry : (P : Entry → Type 0) (e : Entry) (es : List Entry) → P e → ((c : ℕ) (f : Entry) → entry es c ≡ Some f → P f) → (c : ℕ) (f : Entry) → entry (e ∷ es) c ≡ Some f → P f
+pub each_entry : (P : Entry → Type 0) (e : Entry) (es : List Entry) → P e → ((c : ℕ) (f : Entry) → entry es c ≡ Some f → P f) → (c : ℕ) (f : Entry) → entry (e ∷ es) c ≡ Some f → P f
 each_entry P e es p h c f q = by_test (same_number c (length es)) q
   where
     by_test : (b : Bool) → cond b (Some e) (entry es c) ≡ Some f → P f
@@ -137,7 +137,7 @@ good_rows rows [] n h = λ k y e. cc
 good_rows rows (None ∷ hs) n h = hints_more None hs (λ y e. cc) (good_rows rows hs n h.1)
 good_rows rows (Some x ∷ hs) n h = hints_more (Some x) hs (λ y e. subst IsName (some_inj e) (n x h.0)) (good_rows rows hs n h.1)
 
-reconstructed_good : (es : List Entry) (d : Declaration) (e : Entry) → ((x : List ℕ) → IsFreeVariable es x d → IsName x) → AreGoodHints (written_hints d) → IsReconstructed es d e → AreGoodHints e.hints
+pub reconstructed_good : (es : List Entry) (d : Declaration) (e : Entry) → ((x : List ℕ) → IsFreeVariable es x d → IsName x) → AreGoodHints (written_hints d) → IsReconstructed es d e → AreGoodHints e.hints
 reconstructed_good es d e f g k =
     subst AreGoodHints (sym k.is_entry.hints)
     (good_append k.quantifier_hints (fitted (body_quantifiers k.inner) (written_hints d))

@@ -4,3 +4,6 @@ pub mod Keeping
 pub mod Reading
 pub mod Steps
 pub mod Accepting
+pub mod Alike
+pub mod Checks
+pub mod Signature

@@ -31,18 +31,18 @@ use Rattle.law_session_order.specs.Order.{HasOpenLine, HasPlainLine, IsOpen, IsV
 use Rattle.law_session_order.proofs.Keeping.{same_name, newest_below, making_keeps, written_spelled}
 
 -- an entry among others
-older_stays : (f : Entry) (es : List Entry) (c : ℕ) (e : Entry) → c < length es → entry es c ≡ Some e → entry (f ∷ es) c ≡ Some e
+pub older_stays : (f : Entry) (es : List Entry) (c : ℕ) (e : Entry) → c < length es → entry es c ≡ Some e → entry (f ∷ es) c ≡ Some e
 older_stays f es c e l q = by_test (same_number c (length es)) refl
   where
     by_test : (b : Bool) → same_number c (length es) ≡ b → cond b (Some f) (entry es c) ≡ Some e
     by_test true h = let i = number_is c (length es) h in absurd (omega (arith, l, i))
     by_test false h = q
 
-record IsAmong (es : List Entry) (c : ℕ) (e : Entry) : Type 0 where
+pub record IsAmong (es : List Entry) (c : ℕ) (e : Entry) : Type 0 where
   pub below : c < length es
   pub is : entry es c ≡ Some e
 
-among : (newer older : List Entry) (e : Entry) → IsAmong (newer ++ e ∷ older) (length older) e
+pub among : (newer older : List Entry) (e : Entry) → IsAmong (newer ++ e ∷ older) (length older) e
 among [] older e = record { below = omega arith; is = ap (λ b. cond b (Some e) (entry older (length older))) (number_itself (length older)) }
 among (f ∷ newer) older e =
     let h = among newer older e in
@@ -73,8 +73,8 @@ module _ (v : View) (newer older : List Entry) (e : Entry) (table : Table) (o : 
   typed : IsDeclared e.body → IsTypedEntry older e
   typed d = record { declared = d; typed = canonical.1.typed; name = o.names (length older) e found; hints = o.hints (length older) e found }
 
-  typed_definition : (M : Term) (A : LfType) (b : Bool) → e.body ≡ declare_definition M A b → IsTypedDefinition older e M A b
-  typed_definition M A b d = record { defines = d; typed = canonical.1.typed; name = o.names (length older) e found; hints = o.hints (length older) e found }
+  typed_definition : (M : Term) (A : LfType) (b : Bool) → e.body ≡ declare_definition M A b → IsTypedDefinition older e (Some e.name) M A b
+  typed_definition M A b d = record { defines = d; typed = canonical.1.typed; word = (refl, o.names (length older) e found); hints = o.hints (length older) e found }
 
   -- its line is read back
   open_line_back : HasOpenLine (scene_of v) e → LineReadsBack (scene_of v) older table e
@@ -87,9 +87,9 @@ module _ (v : View) (newer older : List Entry) (e : Entry) (table : Table) (o : 
       by_body : (d : Body) → e.body ≡ d → IsOpen (scene_of v) e d → ReadsBody older table text from (from + length (declaration_line (scene_of v) e)) e.name d
       by_body (declare_family K) q open_entry = declared (declare_family K) q tt open_entry
       by_body (declare_constant A) q open_entry = declared (declare_constant A) q tt open_entry
-      by_body (declare_definition M A b) q open_definition = open_definition_back (scene_of v) older table e M A b text after from order (typed_definition M A b q) open_definition h
+      by_body (declare_definition M A b) q open_definition = open_definition_back (scene_of v) older table e (Some e.name) M A b text after from order (typed_definition M A b q) open_definition h
 
-  line_back : HasNoImplicit (scene_of v) → HasPlainLine (scene_of v) e → LineReadsBack (scene_of v) older table e
+  pub line_back : HasNoImplicit (scene_of v) → HasPlainLine (scene_of v) e → LineReadsBack (scene_of v) older table e
   line_back none plain text after from h = by_body e.body refl
     where
       whole : (d : Body) → e.body ≡ d → EachIs IsPlainByte (drop (length (render (keyword d))) (declaration_line (scene_of v) e))
@@ -102,7 +102,7 @@ module _ (v : View) (newer older : List Entry) (e : Entry) (table : Table) (o : 
       by_body : (d : Body) → e.body ≡ d → ReadsBody older table text from (from + length (declaration_line (scene_of v) e)) e.name d
       by_body (declare_family K) q = declared (declare_family K) q tt (whole (declare_family K) q)
       by_body (declare_constant A) q = declared (declare_constant A) q tt (whole (declare_constant A) q)
-      by_body (declare_definition M A b) q = definition_back (scene_of v) older table e M A b text after from order (typed_definition M A b q) none plain h
+      by_body (declare_definition M A b) q = definition_back (scene_of v) older table e (Some e.name) M A b text after from order (typed_definition M A b q) none plain h
 
 pub kept_back : KeptReadsBack
 kept_back v o i room none newer older e split plain = line_back v newer older e v.fixities o i room split (λ x q. refl) none plain

@@ -1,5 +1,5 @@
 -- Laws of sessions in order.
-use Rattle.std.specs.Prelude.{◌≡◌, ℕ, List, ◌∷◌, ◌++◌, codes, Bool, false, Option, Some}
+use Rattle.std.specs.Prelude.{◌≡◌, ℕ, List, [], ◌∷◌, ◌++◌, length, codes, Bool, false, Option, Some, None}
 use Rattle.std.specs.List.{AllByRecursion}
 use Rattle.lf.specs.Entries.{Entry, signature_of, IsCanonicalEntry}
 use Rattle.tw_names.specs.Texts.{hints}
@@ -20,12 +20,13 @@ use Rattle.tw_decl.specs.View.{View, empty_view, reset_view, with_chatter, with_
 use Rattle.tw_decl.specs.Declaration.{Makes, Accepts, AcceptsFrom}
 use Rattle.tw_decl.specs.Reports.{Reported, lines_alone}
 use Rattle.tw_ports.specs.Files.{Held}
+use Rattle.tw_server.specs.Loading.{first_lines}
 use Rattle.tw_server.specs.Machine.{Step}
 use Rattle.tw_server.specs.Outcome.{RanTo}
 use Rattle.tw_server.specs.State.{State, state_at}
 use Rattle.tw_server.specs.declared.status.Status.{Status}
 use Rattle.law_session_order.specs.Words.{AreSpelled}
-use Rattle.law_session_order.specs.Order.{HasOpenLine, HasPlainLine, IsViewInOrder, LineReadsBack, ReadsItselfBack, IsWithinLimits, AcceptsAgain}
+use Rattle.law_session_order.specs.Order.{HasOpenLine, HasPlainLine, HasPlainLines, HasNoRows, IsViewInOrder, LineReadsBack, CheckReadsBack, ReadsItselfBack, IsWithinLimits, IsFileWithinLimits, AcceptsAgain, IsDeclaredAgain}
 
 -- what a text has as names are names
 abbrev pub TokensAreSpelled : Type 0
@@ -80,8 +81,7 @@ RunIsInOrder = (held : Option Held) (words : List (List ℕ)) (left : Option (Li
 abbrev pub KeptReadsBack : Type 0
 KeptReadsBack = (v : View) → IsViewInOrder v → ReadsItselfBack v
 
--- The line of an entry in which each constant is the newest of its name and has no implicit arguments, and nothing nests too deep to be shown, reads back whatever else a session in
--- order holds.
+-- The line of an entry in which each constant is the newest of its name and has no implicit arguments reads back whatever else a session in order holds.
 abbrev pub OpenReadsBack : Type 0
 OpenReadsBack = (v : View) (newer older : List Entry) (e : Entry) → IsViewInOrder v → v.parameters.implicit ≡ false → HasRoom (scene_of v) → v.signature ≡ newer ++ e ∷ older
     → HasOpenLine (scene_of v) e → LineReadsBack (scene_of v) older v.fixities e
@@ -129,3 +129,28 @@ OpenIsAccepted = (v u : View) (newer older : List Entry) (e : Entry) → IsViewI
 abbrev pub NewIsAccepted : Type 0
 NewIsAccepted = (v : View) (e : Entry) → IsViewInOrder (with_entry v e) → v.parameters.implicit ≡ false → HasRoom (scene_of (with_entry v e)) → HasNoImplicit (scene_of (with_entry v e))
     → HasPlainLine (scene_of (with_entry v e)) e → IsWithinLimits (declaration_line (scene_of (with_entry v e)) e) → AcceptsAgain v (declaration_line (scene_of (with_entry v e)) e) e
+
+-- The lines that `Print.sgn` prints of a session in which nothing is implicit, no name has the row of an operator and no line a percent sign but that of its keyword declare the same
+-- entries in the same order, where they are loaded as a file within the limits over a session in order that has no entries and rows. A row isn't among the lines, and each new entry
+-- takes its name's row away, so with rows each line is only read alone, as `EachReadsBack` says.
+abbrev pub SignatureReadsBack : Type 0
+SignatureReadsBack = (v u : View) → IsViewInOrder v → v.parameters.implicit ≡ false → HasRoom (scene_of v) → HasNoImplicit (scene_of v) → HasNoRows v → HasPlainLines v → IsViewInOrder u → u.signature ≡ [] → HasNoRows u
+    → IsFileWithinLimits (first_lines v (length v.signature)) → IsDeclaredAgain u (first_lines v (length v.signature)) v.signature
+
+-- A report of a definition without a name: its line, which is read back by the session, if it is open, or nothing is implicit and no percent sign is in it.
+pub record ReportsCheck (v : View) (report : Reported) : Type 0 where
+  pub entry : Entry
+  pub unnamed : entry.name ≡ codes "_"
+  pub shows : report ≡ lines_alone (told v (declaration_line (scene_of v) entry ++ codes "\n"))
+  pub open_reads_back : HasOpenLine (scene_of v) entry → CheckReadsBack (scene_of v) v.signature v.fixities entry
+  pub reads_back : HasNoImplicit (scene_of v) → HasPlainLine (scene_of v) entry → CheckReadsBack (scene_of v) v.signature v.fixities entry
+
+-- what an accepted definition without a name reports reads back
+abbrev pub CheckReportReadsBack : Type 0
+CheckReportReadsBack = (v w : View) (text : List ℕ) (report : Reported) (a : Accepts v text report w) (A : Option Term) (M : Term) (b : Bool) → a.makes.declaration ≡ define None A M b → IsViewInOrder v → v.parameters.implicit ≡ false → HasRoom (scene_of v)
+    → ReportsCheck v report
+
+-- the same of a declaration in a text of several
+abbrev pub CheckReportFromReadsBack : Type 0
+CheckReportFromReadsBack = (v w : View) (text : List ℕ) (report : Reported) (from upto : ℕ) (a : AcceptsFrom v text from report upto w) (A : Option Term) (M : Term) (b : Bool) → a.makes.declaration ≡ define None A M b → IsViewInOrder v
+    → v.parameters.implicit ≡ false → HasRoom (scene_of v) → ReportsCheck v report

@@ -1,7 +1,7 @@
 //! Each session is in order, so what it prints reads back. No function here has code: each carries one law as its contract.
 #![tactic(auto)]
 
-ghost use Rattle.law_session_order.specs.Laws.{TokensAreSpelled, DeclaredIsNamed, DefinedIsNamed, FreeAreNamed, PreferredAreNames, NewIsInOrder, SettingKeepsOrder, MakingKeepsOrder, AcceptingKeepsOrder, AcceptingFromKeepsOrder, StepKeepsOrder, RunIsInOrder, KeptReadsBack, OpenReadsBack, RunReadsBack, NewReadsBack, ReportReadsBack, ReportFromReadsBack, ReadBackIsAccepted, KeptIsAccepted, OpenIsAccepted, NewIsAccepted};
+ghost use Rattle.law_session_order.specs.Laws.{TokensAreSpelled, DeclaredIsNamed, DefinedIsNamed, FreeAreNamed, PreferredAreNames, NewIsInOrder, SettingKeepsOrder, MakingKeepsOrder, AcceptingKeepsOrder, AcceptingFromKeepsOrder, StepKeepsOrder, RunIsInOrder, KeptReadsBack, OpenReadsBack, RunReadsBack, NewReadsBack, ReportReadsBack, ReportFromReadsBack, ReadBackIsAccepted, KeptIsAccepted, OpenIsAccepted, NewIsAccepted, SignatureReadsBack, CheckReportReadsBack, CheckReportFromReadsBack};
 
 /// What a text has as names are identifiers without a fixed meaning.
 pub fn tokens_are_spelled()
@@ -92,6 +92,21 @@ pub fn report_reads_back()
 /// What is reported of a declaration that is accepted in a text of several reads back.
 pub fn report_from_reads_back()
     ensures { ReportFromReadsBack }
+{}
+
+/// What is reported of an accepted definition without a name reads back.
+pub fn check_report_reads_back()
+    ensures { CheckReportReadsBack }
+{}
+
+/// What is reported of a definition without a name that is accepted in a text of several reads back.
+pub fn check_report_from_reads_back()
+    ensures { CheckReportFromReadsBack }
+{}
+
+/// The lines of a session in which nothing is implicit and no name is an operator declare the same entries in the same order.
+pub fn signature_reads_back()
+    ensures { SignatureReadsBack }
 {}
 
 /// A line that reads back, within the limits, is accepted over a canonical signature.

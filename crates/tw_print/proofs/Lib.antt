@@ -11,3 +11,4 @@ pub mod Marking
 pub mod Declared
 pub mod Contexts
 pub mod Equal
+pub mod MoreLevels

@@ -10,3 +10,4 @@ pub mod Showable
 pub mod Page
 pub mod Marks
 pub mod ArgumentView
+pub mod Levels

@@ -1,5 +1,5 @@
 -- How terms, types and declarations are laid out.
-use Rattle.std.specs.Prelude.{◌≡◌, refl, ℕ, suc, zero, ◌-◌, nat_le, nat_lt, List, [], ◌∷◌, ◌++◌, drop, length, slice_get, Option, Some, None, Bool, true, false, cond, ◌||◌, codes, if◌then◌else◌}
+use Rattle.std.specs.Prelude.{◌≡◌, refl, ℕ, suc, zero, ◌-◌, ◌^◌, nat_le, nat_lt, List, [], ◌∷◌, ◌++◌, drop, length, slice_get, Option, Some, None, Bool, true, false, cond, ◌||◌, codes, if◌then◌else◌}
 use Rattle.std.specs.FinMap as map
 use Rattle.std.specs.Str.{bytes_eq}
 use Rattle.lf.specs.Syntax.{Head, constant, variable, metavariable, Term, lambda, root, Spine, nil, app, LfType, pi, atom, Kind, kind_pi, star}
@@ -133,11 +133,12 @@ abbrev pub parts : Scene → ℕ → Parts
 parts s zero = record { term = λ G ns M t. no_text; type = λ G ns A. no_text }
 parts s (suc n) = record { term = term_layout (parts s n) s; type = type_layout (parts s n) s }
 
--- How deep the parts of a shown text nest, at most. Twice the depth of an entry, for lambdas whose types are as deep.
+-- How deep the parts of a shown text nest, at most. What nests deeper has more than 2^63 bytes, and no memory holds so many. The law of levels
+-- (`Levels`) says so: a text of at most as many bytes is that of every larger number of levels.
 pub nesting_limit : ℕ
-nesting_limit = 8192
+nesting_limit = 2 ^ 63
 
-pub nesting_limit_is : nesting_limit ≡ 8192
+pub nesting_limit_is : nesting_limit ≡ 2 ^ 63
 unfolding nesting_limit
 nesting_limit_is = refl
 
@@ -219,6 +220,10 @@ type_text s G A = render ((parts s nesting_limit).type G (context_names s G) A)
 abbrev pub term_text : Scene → List LfType → Term → LfType → List ℕ
 term_text s G M A = render ((parts s nesting_limit).term G (context_names s G) M (Some A))
 
--- `M = N`, two terms of a type in a context whose variables have these names
+-- the same in a context whose variables have these names
+abbrev pub term_text_in : Scene → List LfType → Scope → Term → LfType → List ℕ
+term_text_in s G ns M A = render ((parts s nesting_limit).term G ns M (Some A))
+
+-- `M = N`, two terms of a type in such a context
 abbrev pub equal_text : Scene → List LfType → Scope → Term → Term → LfType → List ℕ
 equal_text s G ns M N A = let p = parts s nesting_limit in render (p.term G ns M (Some A) ++ ((space ∷ token (codes "=") ∷ space ∷ []) ++ p.term G ns N (Some A)))

@@ -9,6 +9,7 @@ ghost use Rattle.tw_print.specs.SceneView.{scene_in};
 ghost use Rattle.tw_print.specs.Showable.{IsShowableContext, IsShowableKind, IsShowableType};
 ghost use Rattle.tw_print.specs.Shown as layout;
 
+use crate::levels::{all_levels, level_below};
 use crate::marks::{first_mark, kind_marks, other_marks, quantifier_marks};
 use crate::page::Page;
 use crate::print::{bind, print_atom, print_term};
@@ -16,18 +17,7 @@ use crate::scene::Scene;
 use std::alloc::{AllocError, Global};
 use tw_fixity::Name;
 use tw_signature::{Body, Entry};
-use tw_terms::numbers::one_less;
 use tw_terms::{Kind, Term, Ty};
-
-/// How deep the parts of a text may nest. Past this, memory counts as used up.
-const NESTING_LIMIT: u64 = 8192;
-
-/// The limit of nesting.
-pub fn nesting_limit() -> u64
-    ensures { result ≡ layout.nesting_limit }
-{
-    NESTING_LIMIT
-}
 
 /// The names for the leading quantifiers of a declaration, where they have some, and how many of these are implicit.
 #[derive(Clone, Copy)]
@@ -80,7 +70,7 @@ fn print_leading(
     requires marked { marks.now ≡ marks_of (type_of ty.now) }
     ensures { OnOk result (Writes page.old page.new (layout.leading_type (scene_in scene.now) leading.entry.implicit leading.entry.hints.now levels place page.old.context page.old.scope (type_of ty.now))) }
 {
-    let inner = one_less(levels)?;
+    let inner = level_below(levels)?;
     match ty {
         Ty::Pi(domain, range) => {
             let base = leading_base(alloc, scene, leading, place, domain)?;
@@ -121,7 +111,7 @@ fn print_leading_kind(
     requires marked { marks.now ≡ kind_marks_of (kind_of kind.now) }
     ensures { OnOk result (Writes page.old page.new (layout.leading_kind (scene_in scene.now) leading.entry.implicit leading.entry.hints.now levels place page.old.context page.old.scope (kind_of kind.now))) }
 {
-    let inner = one_less(levels)?;
+    let inner = level_below(levels)?;
     match kind {
         Kind::Pi(domain, rest) => {
             let base = leading_base(alloc, scene, leading, place, domain)?;
@@ -161,16 +151,7 @@ fn print_classifier(
     match body {
         Body::Family(kind) => {
             let marks = kind_marks(alloc, kind)?;
-            print_leading_kind(
-                alloc,
-                scene,
-                page,
-                leading,
-                kind,
-                &marks,
-                0,
-                nesting_limit(),
-            )
+            print_leading_kind(alloc, scene, page, leading, kind, &marks, 0, all_levels())
         }
         Body::Constant(ty) => print_leading_type(alloc, scene, page, leading, ty),
         Body::Defined { ty, .. } => print_leading_type(alloc, scene, page, leading, ty),
@@ -192,7 +173,7 @@ fn print_leading_type(
     ensures { OnOk result (Writes page.old page.new (layout.leading_type (scene_in scene.now) leading.entry.implicit leading.entry.hints.now layout.nesting_limit 0 [] [] (type_of ty.now))) }
 {
     let marks = quantifier_marks(alloc, ty)?;
-    print_leading(alloc, scene, page, leading, ty, &marks, 0, nesting_limit())
+    print_leading(alloc, scene, page, leading, ty, &marks, 0, all_levels())
 }
 
 /// Writes an equals sign and the term of a definition, and nothing for any other declaration.
@@ -213,7 +194,7 @@ fn print_defined(
             page.space()?;
             page.token(b"=")?;
             page.space()?;
-            print_term(alloc, scene, page, term, Some(ty), nesting_limit())
+            print_term(alloc, scene, page, term, Some(ty), all_levels())
         }
         Body::Family(_) | Body::Constant(_) => Ok(()),
     }

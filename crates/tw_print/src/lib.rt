@@ -9,6 +9,8 @@ mod declaration;
 mod fresh;
 #[tactic(auto, using(crate::proofs::Counts::counts))]
 mod heads;
+mod laws;
+mod levels;
 #[tactic(auto, using(tw_terms::proofs::Args::types))]
 mod marks;
 mod names;
@@ -20,6 +22,10 @@ mod scene;
 mod show;
 
 pub use arguments::instantiated;
+pub use laws::more_levels_give_the_same_text;
+pub use levels::{all_levels, level_below};
 pub use marks::{mark_term, mark_type};
 pub use names::{Names, Preference};
-pub use show::{ShowEnv, show_decl, show_entry, show_equal, show_term, show_type};
+pub use show::{
+    ShowEnv, show_decl, show_entry, show_equal, show_term, show_term_in_scope, show_type,
+};

@@ -18,12 +18,12 @@ use crate::heads::{
     family_arguments, head_arguments, head_hidden, head_operator, head_word, is_bare, is_operation,
     is_quantified, operand_count, skip,
 };
+use crate::levels::level_below;
 use crate::marks::{first_mark, other_marks, quantifier_marks};
 use crate::page::Page;
 use crate::scene::Scene;
 use std::alloc::{AllocError, Global};
 use tw_fixity::{Fix, Name};
-use tw_terms::numbers::one_less;
 use tw_terms::{ConstId, Head, Spine, Term, Ty};
 
 /// Writes a term; a lambda by its type. `levels` says how deep parts may nest.
@@ -42,7 +42,7 @@ pub fn print_term(
     requires typed { IsShowable (signature_of (scene_in scene.now).entries) page.old.context (term_of term.now) (option_map (λ a. type_of a.now) ty) }
     ensures { OnOk result (Writes page.old page.new ((layout.parts (scene_in scene.now) levels).term page.old.context page.old.scope (term_of term.now) (option_map (λ a. type_of a.now) ty.entry))) }
 {
-    let inner = one_less(levels)?;
+    let inner = level_below(levels)?;
     match term {
         Term::Root(head, spine) => print_root(alloc, scene, page, *head, spine, inner),
         Term::Lam(body) => match ty {
@@ -347,7 +347,7 @@ fn print_quantified(
     requires marked { marks.now ≡ marks_of (type_of ty.now) }
     ensures { OnOk result (Writes page.old page.new ((layout.parts (scene_in scene.now) levels).type page.old.context page.old.scope (type_of ty.now))) }
 {
-    let inner = one_less(levels)?;
+    let inner = level_below(levels)?;
     match ty {
         Ty::Pi(domain, range) => {
             let base = scene.lower_base(domain);

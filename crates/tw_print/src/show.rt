@@ -8,13 +8,14 @@ ghost use Rattle.std.specs.FinMap as map;
 ghost use Rattle.lf.specs.Syntax.{skeleton};
 ghost use Rattle.tw_print.specs.Names.{fresh_name, lower_base, upper_of};
 ghost use Rattle.tw_print.specs.Showable.{HasSkeleton, IsShowableContext, IsShowableType};
-ghost use Rattle.tw_print.specs.Shown.{equal_text, line_of, declaration_line, scene_after, type_text, term_text};
+ghost use Rattle.tw_print.specs.Shown.{equal_text, line_of, declaration_line, scene_after, type_text, term_text, term_text_in};
 ghost use Rattle.tw_print.specs.SceneView.{scene_in, with_newest};
 ghost use Rattle.tw_print.specs.ShowEnv.{scene_of};
 
 use crate::context::page_in;
-use crate::declaration::{nesting_limit, print_declaration};
+use crate::declaration::print_declaration;
 use crate::fresh;
+use crate::levels::all_levels;
 use crate::names::Names;
 use crate::page::Page;
 use crate::print::{print_term, print_type};
@@ -75,8 +76,8 @@ impl<'a> ShowEnv<'a> {
     }
 }
 
-/// The text `M = N` of two terms of a type, in a context whose variables have these names. Fails only for want of memory: past 8,192 levels it is the machine's
-/// stack that is wanting.
+/// The text `M = N` of two terms of a type, in a context whose variables have these names. Fails only for want of memory: past 8,192 levels it
+/// is the machine's stack that is wanting.
 pub fn show_equal(
     alloc: Global,
     env: &ShowEnv,
@@ -99,11 +100,11 @@ pub fn show_equal(
         context,
         scope: names,
     };
-    print_term(alloc, &scene, &mut page, left, Some(ty), nesting_limit())?;
+    print_term(alloc, &scene, &mut page, left, Some(ty), all_levels())?;
     page.space()?;
     page.token(b"=")?;
     page.space()?;
-    print_term(alloc, &scene, &mut page, right, Some(ty), nesting_limit())?;
+    print_term(alloc, &scene, &mut page, right, Some(ty), all_levels())?;
     Ok(page.out)
 }
 
@@ -123,7 +124,32 @@ pub fn show_term(
     env.sig.is_canonical();
     let scene = env.scene(None);
     let mut page = page_in(alloc, &scene, context)?;
-    print_term(alloc, &scene, &mut page, term, Some(ty), nesting_limit())?;
+    print_term(alloc, &scene, &mut page, term, Some(ty), all_levels())?;
+    Ok(page.out)
+}
+
+/// The text of a term at its type, in a context whose variables have these names. One without a name is shown as `_`. Fails only for want of memory.
+pub fn show_term_in_scope(
+    alloc: Global,
+    env: &ShowEnv,
+    context: Context,
+    names: Scope,
+    term: &Term,
+    ty: &Ty,
+) -> Result<Vec<u8>, AllocError>
+    requires context { IsShowableContext (signature_of env.now.sig.now) context }
+    requires ty { IsShowableType (signature_of env.now.sig.now) context (type_of ty.now) }
+    requires term { HasSkeleton (signature_of env.now.sig.now) context (term_of term.now) (skeleton (type_of ty.now)) }
+    ensures { IfOk result (λ t. t.items ≡ term_text_in (scene_of env.now) context names (term_of term.now) (type_of ty.now)) }
+{
+    env.sig.is_canonical();
+    let scene = env.scene(None);
+    let mut page = Page {
+        out: Vec::new(alloc),
+        context,
+        scope: names,
+    };
+    print_term(alloc, &scene, &mut page, term, Some(ty), all_levels())?;
     Ok(page.out)
 }
 
@@ -141,7 +167,7 @@ pub fn show_type(
     env.sig.is_canonical();
     let scene = env.scene(None);
     let mut page = page_in(alloc, &scene, context)?;
-    print_type(alloc, &scene, &mut page, ty, nesting_limit())?;
+    print_type(alloc, &scene, &mut page, ty, all_levels())?;
     Ok(page.out)
 }
 

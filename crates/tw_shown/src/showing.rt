@@ -12,8 +12,7 @@ ghost use Rattle.tw_shown.specs.Walks.{Adds};
 use crate::heads::{family_type, has_lambda, head_hidden, head_type, hidden};
 use crate::walk::Walk;
 use std::alloc::{AllocError, Global};
-use tw_print::{ShowEnv, instantiated};
-use tw_terms::numbers::one_less;
+use tw_print::{ShowEnv, instantiated, level_below};
 use tw_terms::{ConstId, Head, Spine, Term, Ty, skeleton};
 
 /// Walks through a term; through a lambda by its type. `levels` says how deep parts may nest.
@@ -32,7 +31,7 @@ pub fn walk_term(
     requires typed { IsShowable (signature_of env.now.sig.now) walk.old.context (term_of term.now) (option_map (λ a. type_of a.now) ty) }
     ensures { OnOk result (Adds walk.old walk.new ((shown_within (scene_of env.now) levels).term walk.old.context (term_of term.now) (option_map (λ a. type_of a.now) ty.entry))) }
 {
-    let inner = one_less(levels)?;
+    let inner = level_below(levels)?;
     match term {
         Term::Root(head, spine) => walk_root(alloc, env, walk, *head, spine, inner),
         Term::Lam(body) => match ty {
@@ -208,7 +207,7 @@ pub fn walk_type(
     requires typed { IsShowableType (signature_of env.now.sig.now) walk.old.context (type_of ty.now) }
     ensures { OnOk result (Adds walk.old walk.new ((shown_within (scene_of env.now) levels).type walk.old.context (type_of ty.now))) }
 {
-    let inner = one_less(levels)?;
+    let inner = level_below(levels)?;
     match ty {
         Ty::Pi(domain, range) => {
             walk_type(alloc, env, walk, domain, inner)?;

@@ -5,24 +5,13 @@ ghost use Rattle.lf.specs.Syntax.{skeleton};
 ghost use Rattle.tw_terms.specs.View.{term_of, type_of};
 ghost use Rattle.tw_print.specs.Showable.{HasSkeleton, IsShowableContext, IsShowableType};
 ghost use Rattle.tw_print.specs.ShowEnv.{scene_of};
-ghost use Rattle.tw_print.specs.Shown.{nesting_limit};
 ghost use Rattle.tw_shown.specs.Shown.{shown_in_term, shown_in_type};
 
 use crate::showing::{walk_term, walk_type};
 use crate::walk::Walk;
 use std::alloc::{AllocError, Global};
-use tw_print::ShowEnv;
+use tw_print::{ShowEnv, all_levels};
 use tw_terms::{Context, Term, Ty};
-
-/// How deep the parts of a text may nest. Past this, memory counts as used up.
-const NESTING_LIMIT: u64 = 8192;
-
-/// The limit of nesting, which is that of the printer.
-fn nesting_limit() -> u64
-    ensures { result ≡ nesting_limit }
-{
-    NESTING_LIMIT
-}
 
 /// A walk that begins in this context.
 fn begin(alloc: Global, context: &Context) -> Result<Walk, AllocError>
@@ -53,7 +42,7 @@ pub fn shown_in_term(
 {
     env.sig.is_canonical();
     let mut walk = begin(alloc, context)?;
-    walk_term(alloc, env, &mut walk, term, Some(ty), nesting_limit())?;
+    walk_term(alloc, env, &mut walk, term, Some(ty), all_levels())?;
     Ok(walk.shown)
 }
 
@@ -70,6 +59,6 @@ pub fn shown_in_type(
 {
     env.sig.is_canonical();
     let mut walk = begin(alloc, context)?;
-    walk_type(alloc, env, &mut walk, ty, nesting_limit())?;
+    walk_type(alloc, env, &mut walk, ty, all_levels())?;
     Ok(walk.shown)
 }

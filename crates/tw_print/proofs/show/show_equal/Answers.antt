@@ -13,6 +13,6 @@ print_term-requires-clause-typed c = equal_side (scene_in c.scene-scene.result) 
 
 pub returns : goal.returns
 returns c =
-    equal_written (scene_in c.scene-scene.result) (scene_of c.args.env.now) c.nesting_limit.result c.nesting_limit-2.result (term_of c.args.left.now) (term_of c.args.right.now) (type_of c.args.ty.now)
+    equal_written (scene_in c.scene-scene.result) (scene_of c.args.env.now) c.all_levels.result c.all_levels-2.result (term_of c.args.left.now) (term_of c.args.right.now) (type_of c.args.ty.now)
     (record { out = c.new.result; context = c.args.context; scope = c.args.names }) c.print_term.new.page c.space.new.self c.token.new.self c.space-2.new.self c.print_term-2.new.page
-    c.scene-scene.ensures c.nesting_limit.ensures c.nesting_limit-2.ensures c.new.ensures.items c.in_ok-print_term.ensures c.in_ok-space.ensures c.in_ok-token.ensures c.in_ok-space-2.ensures c.in_ok-print_term-2.ensures
+    c.scene-scene.ensures c.all_levels.ensures c.all_levels-2.ensures c.new.ensures.items c.in_ok-print_term.ensures c.in_ok-space.ensures c.in_ok-token.ensures c.in_ok-space-2.ensures c.in_ok-print_term-2.ensures

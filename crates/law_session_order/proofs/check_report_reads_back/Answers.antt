@@ -1,0 +1,5 @@
+use Rattle.law_session_order.proofs.Checks.{check_report_back}
+use Rattle.law_session_order.proofs.check_report_reads_back.Goals as goal
+
+pub returns : goal.returns
+returns c = check_report_back

@@ -1,6 +1,0 @@
-use Rattle.std.proofs.Common.{sym}
-use Rattle.tw_print.specs.Shown.{nesting_limit_is}
-use Rattle.tw_shown.proofs.shown.nesting_limit.Goals as goal
-
-pub returns : goal.returns
-returns c = sym nesting_limit_is
