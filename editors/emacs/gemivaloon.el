@@ -316,11 +316,12 @@ It is the one of this folder or the nearest above; where there is none, or with 
         (comint-send-string process "top\n")))))
 
 (defun gemivaloon-why ()
-  "Ask twelf-why for the reason of the refusal that was visited last, or of the first, in a buffer of its own."
+  "Save the file, and ask twelf-why for the reason of the refusal that was visited last, or of the first, in a buffer of its own."
   (interactive)
   (let ((at (or gemivaloon-current (car gemivaloon-next) (user-error "Nothing was refused")))
         (process-environment (cons (concat "TWELF=" gemivaloon-program) process-environment)))
     (with-current-buffer (marker-buffer (car at))
+      (when (buffer-modified-p) (save-buffer))
       (compilation-start (format "%s %s %d" (shell-quote-argument (expand-file-name "twelf-why" gemivaloon-folder))
                                  (shell-quote-argument (buffer-file-name)) (line-number-at-pos (car at) t))
                          nil (lambda (_) "*gemivaloon why*")))))
