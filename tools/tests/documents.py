@@ -121,27 +121,34 @@ def guide(folder):
     expect("docs/GUIDE.md: the mistake", found.stdout.splitlines()[-len(wanted) :], wanted)
 
 
+def inputs_of(part):
+    """The inputs that a section of the page of refusals writes out, each as its lines and the line of its refusal."""
+    for _, lines in blocks(part):
+        typed = []
+        for line in filter(None, lines):
+            if not re.match(r"(stdin:\d+:\d+ E|[EC]\d+ [A-Z])", line):
+                typed.append(line)
+                continue
+            if typed and not any(" .. " in it for it in typed):
+                yield typed, line
+            typed = []
+
+
 def refusals():
     """Each input of the page of refusals that is written out gives its line, and has its case among those of the tools."""
     for part in re.split(r"^## ", page("docs/REFUSALS.md"), flags=re.M)[1:]:
-        code = re.match(r"(E\d+|C\d+)?", part)[0]
-        for _, lines in blocks(part):
-            is_written_out = re.match(r"(stdin:\d|C\d )", lines[-1]) and " .. " not in lines[0] and not re.match(r"[EC]\d ", lines[0])
-            if not is_written_out:
-                continue
-            session = prover.Session(SECONDS)
-            if code.startswith("C"):
-                expect(f"docs/REFUSALS.md: {lines[0]}", asked(session, lines[:-1]), [lines[-1], "%% ABORT %%"])
-            else:
-                for declaration in BEFORE.get(code, cases.RULES).splitlines():
-                    asked(session, ["readDecl", declaration])
-                replies = [asked(session, ["readDecl", line]) for line in lines[:-1]]
-                expect(f"docs/REFUSALS.md: {lines[-2]}", replies[-1], [lines[-1], "%% ABORT %%"])
-                for text in re.findall(r"`([^`]+)` is accepted", part):
-                    expect(f"docs/REFUSALS.md: {text}", asked(session, ["readDecl", text])[-1], "%% OK %%")
-                for text, wanted in re.findall(r"`(_ = [^`]+)` shows\s+`([^`]+)`", part):
-                    expect(f"docs/REFUSALS.md: {text}", asked(session, ["readDecl", text]), [wanted, "%% OK %%"])
-            session.close()
+        code = re.match(r"([EC]\d+)?", part)[0]
+        session = prover.Session(SECONDS)
+        for declaration in BEFORE.get(code, cases.RULES).splitlines():
+            asked(session, ["readDecl", declaration])
+        for typed, wanted in inputs_of(part):
+            replies = [asked(session, [line] if code.startswith("C") else ["readDecl", line]) for line in typed]
+            expect(f"docs/REFUSALS.md: {typed[-1]}", replies[-1], [wanted, "%% ABORT %%"])
+        for text in re.findall(r"`([^`]+)` is accepted", part):
+            expect(f"docs/REFUSALS.md: {text}", asked(session, ["readDecl", text])[-1], "%% OK %%")
+        for text, wanted in re.findall(r"`(_ = [^`]+)` shows\s+`([^`]+)`", part):
+            expect(f"docs/REFUSALS.md: {text}", asked(session, ["readDecl", text]), [wanted, "%% OK %%"])
+        session.close()
     shown = {line for _, lines in blocks(page("docs/REFUSALS.md")) for line in lines}
     for _, declaration, wanted in cases.REFUSED:
         place, rest = wanted.split(" ", 1)

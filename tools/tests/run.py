@@ -103,6 +103,10 @@ def each_refusal(folder):
     expect("E0", status == 1 and out.startswith(f"{file}: E0 Memory: "), (status, out))
     status, out, _ = run([WHY, file, "2"], program=stand_in)
     expect("E0: twelf-why", status == 1 and "E0 Memory" in out, (status, out))
+    if IS_REAL:
+        write(file, "b : type.\nc : " + "b -> " * 20000 + "b.\n")
+        status, out, _ = run([CHECK, file])
+        expect("E0 where a limit is passed", status == 1 and out.startswith(f"{file}: E0 Memory: "), (status, out))
 
 
 def files(folder):
