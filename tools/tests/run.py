@@ -200,7 +200,7 @@ def watching(folder):
     lines = iter(child.stdout.readline, "")
     begin = [next(lines) for _ in range(3)]
     expect("--watch: refused", begin[0] == "twelf-check: checks\n" and ":2:5: E4" in begin[1] and "refused; waits" in begin[2], begin)
-    write(file, "nat : type.\nc : nat.\n")
+    os.replace(write(f"{file} new", "nat : type.\nc : nat.\n"), file)
     again = [next(lines) for _ in range(2)]
     expect("--watch: mended", again[0] == "twelf-check: checks\n" and "accepted; waits" in again[1], again)
     child.send_signal(signal.SIGINT)
