@@ -2,14 +2,16 @@
 """Checks the pages of this repository. Each thing found is a line FILE:LINE: WHAT, and the exit code is 1 where one is found.
 
     tools/pages.py            checks
-    tools/pages.py --write    first writes what can be counted: the ladder's lines, and the names of refused edits in crate pages
+    tools/pages.py --write    first writes what can be counted: the ladder's lines, and the names of refused edits in crate pages;
+                              and copies the examples to where the tests load them
 
 What is checked:
 - each crate has its page, of 10 to 40 lines (a crate of definitions alone has more), and its line in docs/MAP.md;
 - a crate's page names each of its refused edits and no other, and has its definitions under 'To be believed' exactly where
   the transcript theorem rests on them;
 - each name in backticks exists: as a file, a crate, or a word of the sources, definitions, proofs, scripts and examples;
-- what is quoted from specs/ and src/ stands there; links lead somewhere; no cell of a table has more than 200 characters;
+- what is quoted from specs/, src/ and refused edits stands there; links lead somewhere; no cell of a table has more than 200
+  characters; the examples are those that the tests load, and each has its line in examples/README.md;
 - README.md has at most 120 lines, and the ladder there and in docs/BELIEVE.md has the lines that tools/cone.py counts.
 """
 
@@ -19,6 +21,7 @@ import sys
 
 sys.dont_write_bytecode = True
 import cone  # noqa: E402
+import twice  # noqa: E402
 
 TOP = cone.TOP
 CELL = 200
@@ -80,7 +83,7 @@ def crates():
 def pages():
     """The pages that are checked."""
     at_top = [name for name in os.listdir(TOP) if name.endswith(".md")]
-    below = [path for folder in ("docs", "crates", "bench", "tools", "editors") for path in files_below(folder)]
+    below = [path for folder in ("docs", "crates", "bench", "tools", "editors", "examples") for path in files_below(folder)]
     return sorted(at_top) + sorted(path for path in below if path.endswith(".md"))
 
 
@@ -100,9 +103,6 @@ class Known:
                 text = read(path)
                 self.words |= set(re.findall(r"[A-Za-z_Σ-ω][\w']*", text)) | set(WORD.findall(text))
                 self.words |= {word.strip(".") for word in WORD.findall(text)}
-        # a link to the examples, which stand in the folder of a crate
-        if os.path.isdir(f"{TOP}/examples"):
-            self.paths |= {f"examples/{name}" for name in os.listdir(f"{TOP}/examples")} | {"examples"}
 
     def has(self, name):
         """Whether a name exists: a path, a word, or words joined by `::` or `.`, each of which exists."""
@@ -266,8 +266,10 @@ def findings():
         yield "docs/BELIEVE.md", 1, "the lines to read aren't those of the ladder"
     if len(read("README.md").splitlines()) > README_LINES:
         yield "README.md", README_LINES + 1, f"more than {README_LINES} lines"
+    yield from twice.unlike_examples(read("examples/README.md"))
     for path in pages():
         text = read(path)
+        yield from twice.unlike_edits(path, text)
         for number, span in spans(text):
             if is_name(span) and not known.has(span):
                 yield path, number, f"nothing is named {span}"
@@ -287,6 +289,7 @@ def main(words):
     if "--write" in words:
         write_edits()
         write_ladder()
+        twice.copy_examples()
     found = sorted(findings())
     for path, number, what in found:
         print(f"{path}:{number}: {what}")

@@ -2,17 +2,21 @@
 """Stands in for the program where it isn't built: it speaks its protocol, and checks no types.
 
 A name that is neither declared before nor in upper case is refused as unknown, and a declaration whose name is `refuse-CODE-WORD`
-with this code and word at its first token, or without a place for `refuse-E0-Memory`. All others are accepted.
+with this code and word at its first token, or without a place for `refuse-E0-Memory`. All others are accepted. Where the variable
+STAND_IN_TOP is set, it has the loop `top`, in which each query has one answer.
 """
 
 import os
+import re
 import sys
 
 sys.dont_write_bytecode = True
-sys.path.insert(0, os.path.join(os.path.dirname(os.path.abspath(__file__)), "..", "..", "tools"))
+sys.path.insert(0, os.path.join(os.path.dirname(os.path.realpath(__file__)), "..", "..", "tools"))
 import written  # noqa: E402
 
 KNOWN_KEYWORDS = ("%abbrev", "%infix", "%prefix", "%postfix", "%name")
+VERSION = "Twelf 1.4 LF profile"
+VALUES = {"chatter": "[0-6]", "Print.implicit": "true|false", "steps": "[1-9][0-9]{0,8}|1000000000"}
 FIXED = ("->", "<-", "_", "=", "type")
 
 
@@ -84,6 +88,20 @@ class StandIn:
         self.write(f"[Closing file {name}]")
         return self.end(done)
 
+    def top(self, lines):
+        while True:
+            text = ""
+            while "." not in text and (line := next(lines, None)) is not None:
+                text += line
+            if text.strip() in ("", "."):
+                return self.end(True)
+            self.write("solution 1", "X = z", "More?")
+            answer = next(lines, "")[:1]
+            if answer and answer in "qQ":
+                return self.end(True)
+            if answer and answer in "yY":
+                self.write("exhausted tries 1")
+
     def read_declaration(self, lines):
         source = ""
         for line in lines:
@@ -105,15 +123,24 @@ class StandIn:
             self.read_declaration(lines)
         elif words[0] == "loadFile" and len(words) == 2:
             self.load(words[1])
+        elif words == ["top"] and "STAND_IN_TOP" in os.environ:
+            self.top(lines)
+        elif words == ["version"]:
+            self.write(VERSION)
+            self.end(True)
         elif words == ["reset"]:
             self.declared = {}
             self.end(True)
         elif words[0] == "decl" and len(words) == 2:
             self.write(self.declared.get(words[1], f"C7 UnknownName {words[1]}"))
             self.end(words[1] in self.declared)
-        elif words[0] == "set" and len(words) == 3 and words[1] in self.parameters:
-            self.parameters[words[1]] = words[2]
-            self.end(True)
+        elif words[0] == "set" and len(words) == 3:
+            is_good = re.fullmatch(VALUES.get(words[1], "(?!)"), words[2])
+            if is_good:
+                self.parameters[words[1]] = words[2]
+            else:
+                self.write("C6 BadParameter")
+            self.end(is_good)
         elif words[0] == "get" and len(words) == 2 and words[1] in self.parameters:
             self.write(self.parameters[words[1]])
             self.end(True)
@@ -124,7 +151,7 @@ class StandIn:
 
 def main(words):
     program = StandIn()
-    program.write("Twelf 1.4 LF profile")
+    program.write(VERSION)
     program.end(True)
     for word in words:
         program.load(word)

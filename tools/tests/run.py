@@ -14,36 +14,20 @@ import sys
 import tempfile
 import time
 
+sys.dont_write_bytecode = True
 HERE = os.path.dirname(os.path.abspath(__file__))
 TOP = os.path.dirname(os.path.dirname(HERE))
+sys.path.insert(0, HERE)
+import cases  # noqa: E402
+from cases import NUMBERS, OPEN, RULES  # noqa: E402
+
 STAND_IN = os.path.join(TOP, "editors", "tests", "stand_in.py")
 PROGRAM = os.path.abspath(sys.argv[1]) if len(sys.argv) > 1 else STAND_IN
 IS_REAL = PROGRAM != STAND_IN
 CHECK, WHY = os.path.join(TOP, "twelf-check"), os.path.join(TOP, "twelf-why")
 failures, count = [], 0
 
-NUMBERS = "nat : type.\nz : nat.\ns : nat -> nat.\nplus : nat -> nat -> nat -> type.\n"
-RULES = NUMBERS + "plus-z : plus z N N.\nplus-s : plus (s M) N (s P) <- plus M N P.\n"
-OPEN = "a : type.\nc : a.\nk : a -> type.\nh : {x:a} k x -> type.\n"
-
-# Of the program itself: what stands before, the declaration, and its refusal with line and column.
-REFUSED = [
-    (NUMBERS, 'c : "a".', "5:5 E1 Lex"),
-    ("b : type.\n", "c : " + "b -> " * 33000 + "b.", "2:163840 E8 TooMany"),
-    (NUMBERS, "%query 1 * plus (s z) z X.", "5:1 E21 Unsupported"),
-    (NUMBERS, "n2 : type = nat.", "5:1 E21 Unsupported"),
-    ("b : type.\n", "c : " + "(" * 1001 + "b" + ")" * 1001 + ".", "2:1005 E9 Nesting"),
-    ("", "c : .", "1:5 E2 Syntax"),
-    ("a : type.\nb : type.\nd : type.\n", "c : a -> b <- d.", "4:5 E3 Fixity"),
-    (NUMBERS, "%infix none 10000 i.", "5:1 E22 BadDecl"),
-    (NUMBERS, "c : nat->nat.", "5:5 E4 Unknown"),
-    (RULES, "t : plus (s z) (s z) (s z) = plus-s plus-z.", "7:1 E5 Mismatch"),
-    (OPEN, "j : k (E V).", "5:1 E7 Loose"),
-    (OPEN, "m : h c (W : k (E (V : a))).", "5:1 E6 Leftover"),
-    ("b : type.\n", "c : " + "b -> " * 4100 + "b.", "2:1 E10 TooDeep"),
-]
-
-# The same of twelf-why: what it has to say.
+# Of twelf-why: what stands before, the declaration, and what it has to say.
 REASONS = [
     (RULES, "t : plus (s z) (s z) (s z) = plus-s plus-z.", ["argument 1 of `plus-s`: `plus-z`", "has the type   plus z X X", "due   plus z (s z) z"]),
     (RULES, "c : {N:nat} plus z N nat.", ["argument 3 of `plus`: `nat`", "`nat` is a family"]),
@@ -91,21 +75,11 @@ def program_of(path, text):
     return path
 
 
-def codes():
-    """The code and the word of each declaration's refusal in the page of refusals."""
-    with open(os.path.join(TOP, "docs", "REFUSALS.md"), encoding="utf-8") as page:
-        return re.findall(r"^## (E\d+) (\w+)", page.read(), re.M)
-
-
 def each_refusal(folder):
     file = os.path.join(folder, "refused.elf")
-    if IS_REAL:
-        told = {it[2].split()[1] for it in REFUSED} | {"E0"}
-        expect("a case for each refusal of the page", told == {code for code, _ in codes()}, told)
-        cases = [(before + declaration + "\n", wanted) for before, declaration, wanted in REFUSED]
-    else:
-        cases = [(f"nat : type.\nrefuse-{code}-{word} : nat.\n", f"2:1 {code} {word}") for code, word in codes() if code != "E0"]
-    for text, wanted in cases:
+    told = {it[2].split()[1] for it in cases.REFUSED} | {"E0"}
+    expect("a case for each refusal of the page", told == {code for code, _ in cases.refusals_of_page()}, told)
+    for text, wanted in cases.refused(IS_REAL):
         write(file, text)
         place, code, word = wanted.split()
         status, out, _ = run([CHECK, file])
@@ -129,6 +103,10 @@ def each_refusal(folder):
     expect("E0", status == 1 and out.startswith(f"{file}: E0 Memory: "), (status, out))
     status, out, _ = run([WHY, file, "2"], program=stand_in)
     expect("E0: twelf-why", status == 1 and "E0 Memory" in out, (status, out))
+    if IS_REAL:
+        write(file, "b : type.\nc : " + "b -> " * 20000 + "b.\n")
+        status, out, _ = run([CHECK, file])
+        expect("E0 where a limit is passed", status == 1 and out.startswith(f"{file}: E0 Memory: "), (status, out))
 
 
 def files(folder):
@@ -222,7 +200,7 @@ def watching(folder):
     lines = iter(child.stdout.readline, "")
     begin = [next(lines) for _ in range(3)]
     expect("--watch: refused", begin[0] == "twelf-check: checks\n" and ":2:5: E4" in begin[1] and "refused; waits" in begin[2], begin)
-    write(file, "nat : type.\nc : nat.\n")
+    os.replace(write(f"{file} new", "nat : type.\nc : nat.\n"), file)
     again = [next(lines) for _ in range(2)]
     expect("--watch: mended", again[0] == "twelf-check: checks\n" and "accepted; waits" in again[1], again)
     child.send_signal(signal.SIGINT)

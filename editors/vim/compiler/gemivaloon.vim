@@ -6,5 +6,5 @@ let current_compiler = 'gemivaloon'
 
 let s:check = get(g:, 'gemivaloon_check', 'twelf-check')
 let &l:makeprg = shellescape(s:check) . ' --format=gnu %:p:S'
-" A refusal with its place, and one without.
-setlocal errorformat=%f:%l:%c:\ %m,%f:\ %m
+" What is said while the program is built is no refusal; then come a refusal with its place, and one without.
+setlocal errorformat=%-Gtwelf:\ %.%#,%-Gtwelf-check:\ %.%#,%f:%l:%c:\ %m,%f:\ %t%n\ %m
