@@ -1,0 +1,9 @@
+pub mod Walks
+pub mod Quantifiers
+pub mod Rows
+pub mod Walking
+pub mod Direct
+pub mod LinkLists
+pub mod Made
+pub mod Found
+pub mod Strengthened
