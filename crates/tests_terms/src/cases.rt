@@ -1,6 +1,6 @@
 //! What cases of all kinds have in common.
 use std::alloc::Global;
-use tests_forms::{Case, Form, FormFault, Names, begin_part, read_forms};
+use tests_forms::{Case, Field, Form, FormFault, Names, begin_part, read_forms};
 
 /// The forms that a word of the case says; none where it doesn't stand.
 pub fn forms(alloc: Global, case: &Case, word: &str) -> Result<Vec<Form>, FormFault> {
@@ -33,12 +33,24 @@ pub fn run<S: Steps + Drop>(
 ) -> Result<String, FormFault> {
     let mut line = String::new(alloc);
     for field in &case.fields {
-        let forms = read_forms(alloc, field.text.as_str())?;
-        let outcome = steps.step(alloc, names, field.word.as_str(), &forms)?;
-        if !outcome.is_empty() {
-            begin_part(&mut line)?;
-            line.push_str(outcome.as_str())?;
-        }
+        take(alloc, names, field, &mut steps, &mut line)?;
     }
     Ok(line)
+}
+
+// Takes a step, and adds what comes out.
+fn take<S: Steps>(
+    alloc: Global,
+    names: &mut Names,
+    field: &Field,
+    steps: &mut S,
+    line: &mut String,
+) -> Result<(), FormFault> {
+    let forms = read_forms(alloc, field.text.as_str())?;
+    let outcome = steps.step(alloc, names, field.word.as_str(), &forms)?;
+    if !outcome.is_empty() {
+        begin_part(line)?;
+        line.push_str(outcome.as_str())?;
+    }
+    Ok(())
 }

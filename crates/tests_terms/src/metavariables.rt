@@ -2,7 +2,7 @@
 ghost use Rattle.std.specs.Prelude.{◌≡◌, ◌≤◌, length};
 
 use crate::cases::{Steps, run, said};
-use std::alloc::{AllocError, Global};
+use std::alloc::Global;
 use tests_forms::{
     Case, Form, FormFault, Names, number_of, read_term, read_type, show_term, show_type,
 };
@@ -36,18 +36,9 @@ impl Steps for Marked {
         forms: &[Form],
     ) -> Result<String, FormFault> {
         match (word, forms) {
-            ("fresh", [ty]) => {
-                let number = self.declare(alloc, read_type(alloc, names, ty)?)?;
-                Ok(format!(in alloc; "?{number}")?)
-            }
-            ("postpone", [left, right, ty]) => {
-                self.postpone(equation(alloc, names, left, right, ty)?)?;
-                Ok(String::new(alloc))
-            }
-            ("settle", [Form::Word(place)]) => {
-                self.settle(number_of(place.as_str())?)?;
-                Ok(String::new(alloc))
-            }
+            ("fresh", [ty]) => self.fresh(alloc, names, ty),
+            ("postpone", [left, right, ty]) => self.postpone(alloc, names, left, right, ty),
+            ("settle", [Form::Word(place)]) => self.settle(alloc, place.as_str()),
             ("mark", []) => {
                 self.mark = self.store.mark();
                 Ok(String::new(alloc))
@@ -60,44 +51,40 @@ impl Steps for Marked {
                 self.undo_all();
                 Ok(String::new(alloc))
             }
-            ("equations", []) => shown_equations(alloc, names, self.store.equations()),
-            ("copy", [left, right, ty]) => {
-                let equation = equation(alloc, names, left, right, ty)?;
-                shown_equation(alloc, names, &equation.copy(alloc)?)
-            }
-            ("value", [Form::Word(meta)]) => {
-                let meta = names.meta(meta.as_str())?;
-                shown_value(alloc, names, self.store.value(meta))
-            }
-            ("about", [Form::Word(meta)]) => {
-                match self.store.about(names.meta(meta.as_str())?) {
-                    Some((context, ty)) => shown_about(alloc, names, context, ty),
-                    None => said(alloc, "none"),
-                }
-            }
-            _ => Err(FormFault::NoMeaning),
+            ("copy", [left, right, ty]) => shown_copy(alloc, names, left, right, ty),
+            _ => asked(alloc, names, &self.store, word, forms),
         }
     }
 }
 
 impl Marked {
     // a metavariable more, and its number
-    fn declare(&mut self, alloc: Global, ty: OpenTy) -> Result<u64, AllocError> {
+    fn fresh(&mut self, alloc: Global, names: &mut Names, ty: &Form) -> Result<String, FormFault> {
+        let ty = read_type(alloc, names, ty)?;
         let meta = self.store.fresh(OpenContext::new(alloc), ty)?;
-        Ok(meta.0)
+        Ok(format!(in alloc; "?{}", meta.0)?)
     }
 
-    fn postpone(&mut self, equation: Equation) -> Result<(), AllocError> {
-        self.store.postpone(equation)?;
-        Ok(())
+    fn postpone(
+        &mut self,
+        alloc: Global,
+        names: &mut Names,
+        left: &Form,
+        right: &Form,
+        ty: &Form,
+    ) -> Result<String, FormFault> {
+        self.store
+            .postpone(equation(alloc, names, left, right, ty)?)?;
+        Ok(String::new(alloc))
     }
 
-    fn settle(&mut self, place: u64) -> Result<(), FormFault> {
+    fn settle(&mut self, alloc: Global, place: &str) -> Result<String, FormFault> {
+        let place = number_of(place)?;
         if place >= self.store.equations().len() as u64 {
             return Err(FormFault::NoMeaning);
         }
         self.store.settle(place as usize)?;
-        Ok(())
+        Ok(String::new(alloc))
     }
 
     #[tactic(auto, using(crate::proofs::Marks::back_at_mark))]
@@ -111,6 +98,39 @@ impl Marked {
     }
 }
 
+// what the store says, which doesn't change
+fn asked(
+    alloc: Global,
+    names: &mut Names,
+    store: &Store,
+    word: &str,
+    forms: &[Form],
+) -> Result<String, FormFault> {
+    match (word, forms) {
+        ("equations", []) => shown_equations(alloc, names, store.equations()),
+        ("value", [Form::Word(meta)]) => {
+            let meta = names.meta(meta.as_str())?;
+            shown_value(alloc, names, store.value(meta))
+        }
+        ("about", [Form::Word(meta)]) => match store.about(names.meta(meta.as_str())?) {
+            Some((context, ty)) => shown_about(alloc, names, context, ty),
+            None => said(alloc, "none"),
+        },
+        _ => Err(FormFault::NoMeaning),
+    }
+}
+
+fn shown_copy(
+    alloc: Global,
+    names: &mut Names,
+    left: &Form,
+    right: &Form,
+    ty: &Form,
+) -> Result<String, FormFault> {
+    let equation = equation(alloc, names, left, right, ty)?;
+    shown_equation(alloc, names, &equation.copy(alloc)?)
+}
+
 /// The first metavariable, of the type `type`: its number, its value once it is bound to `value`, and none where that is taken back.
 pub fn bind(alloc: Global, names: &mut Names, case: &Case) -> Result<String, FormFault> {
     case.has_only(&["type", "value"])?;
@@ -120,12 +140,21 @@ pub fn bind(alloc: Global, names: &mut Names, case: &Case) -> Result<String, For
     let meta = store.fresh(OpenContext::new(alloc), ty)?;
     let mark = store.mark();
     store.bind(meta, value)?;
-    let mut line = format!(in alloc; "?{}; ", meta.0)?;
-    line.push_str(shown_value(alloc, names, store.value(meta))?.as_str())?;
+    let bound = shown_value(alloc, names, store.value(meta));
     store.undo_to(&mark);
-    line.push_str("; ")?;
-    line.push_str(shown_value(alloc, names, store.value(meta))?.as_str())?;
-    Ok(line)
+    let undone = shown_value(alloc, names, store.value(meta));
+    bound_line(alloc, meta.0, bound, undone)
+}
+
+fn bound_line(
+    alloc: Global,
+    number: u64,
+    bound: Result<String, FormFault>,
+    undone: Result<String, FormFault>,
+) -> Result<String, FormFault> {
+    let bound = bound?;
+    let undone = undone?;
+    Ok(format!(in alloc; "?{number}; {bound}; {undone}")?)
 }
 
 fn equation(

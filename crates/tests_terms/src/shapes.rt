@@ -39,13 +39,9 @@ impl Steps for Variables {
                 let right = read_shape(alloc, names, right)?;
                 self.unified(alloc, &left, &right)
             }
-            ("solved", [shape]) => {
+            ("solved" | "copy", [shape]) => {
                 let shape = read_shape(alloc, names, shape)?;
-                self.solved(alloc, names, &shape, true)
-            }
-            ("copy", [shape]) => {
-                let shape = read_shape(alloc, names, shape)?;
-                self.solved(alloc, names, &shape, false)
+                self.solved(alloc, names, &shape, word == "solved")
             }
             _ => Err(FormFault::NoMeaning),
         }

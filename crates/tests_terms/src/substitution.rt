@@ -3,12 +3,12 @@ use crate::cases::{forms, said};
 use crate::typed::{Around, apply_typed, put_in_newest, put_in_term, put_in_type};
 use std::alloc::{AllocError, Global};
 use tests_forms::{
-    Case, FormFault, Names, read_closed_spine, read_closed_term, read_closed_type, read_skeleton,
-    show_closed_term, show_closed_type,
+    Case, Form, FormFault, Names, read_closed_spine, read_closed_term, read_closed_type,
+    read_skeleton, show_closed_term, show_closed_type,
 };
 use tw_hered::{HeredFault, eta};
 use tw_signature::{Body, Signature};
-use tw_terms::{ConstId, Head, Kind, OpenHead, Skeleton, Term, Ty, skeleton};
+use tw_terms::{ConstId, Head, Kind, OpenHead, Skeleton, Spine, Term, Ty, skeleton};
 
 /// An expansion that is deeper isn't shown; its depth is said.
 const SHOWN_DEPTH: u32 = 64;
@@ -51,23 +51,17 @@ fn variables(
     word: &str,
 ) -> Result<Vec<Skeleton>, FormFault> {
     let mut skeletons = Vec::new(alloc);
-    let mut name = None;
-    let forms = forms(alloc, case, word)?;
-    for form in &forms {
-        match name {
-            None => name = Some(form.word().ok_or(FormFault::NoMeaning)?),
-            Some(word) => {
+    for pair in forms(alloc, case, word)?.chunks(2) {
+        match pair {
+            [Form::Word(name), form] => {
                 skeletons.push(read_skeleton(alloc, names, form)?)?;
-                names.push_variable(alloc, word)?;
-                name = None;
+                names.push_variable(alloc, name.as_str())?;
             }
+            _ => return Err(FormFault::NoMeaning),
         }
     }
     skeletons.reverse();
-    match name {
-        None => Ok(skeletons),
-        Some(_) => Err(FormFault::NoMeaning),
-    }
+    Ok(skeletons)
 }
 
 // what stands around the substitutions of a case, and what is put in
@@ -129,6 +123,17 @@ pub fn term(
     let setting = read_setting(alloc, signature, names, case)?;
     let body = read_closed_term(alloc, names, &case.form(alloc, "in")?)?;
     let made = read_skeleton(alloc, names, &case.form(alloc, "as")?)?;
+    let found = found_term(alloc, &setting, &body, &made);
+    leave_body(alloc, names, case)?;
+    shown_term(alloc, names, found)
+}
+
+fn found_term(
+    alloc: Global,
+    setting: &Setting,
+    body: &Term,
+    made: &Skeleton,
+) -> Result<Option<Term>, HeredFault> {
     let heads = all(alloc, &setting.heads)?;
     let outer = all(alloc, &setting.outer)?;
     let bound = all(alloc, &setting.bound)?;
@@ -137,9 +142,7 @@ pub fn term(
         outer: &outer,
         bound: &bound,
     };
-    let found = put_in_term(alloc, around, &body, &made, &setting.arg, &setting.skeleton);
-    leave_body(alloc, names, case)?;
-    shown_term(alloc, names, found)
+    put_in_term(alloc, around, body, made, &setting.arg, &setting.skeleton)
 }
 
 /// The same in the type `in`, which is instantiated or substituted in.
@@ -153,6 +156,17 @@ pub fn ty(
     case.has_only(&["outer", "put", "for", "under", "in"])?;
     let setting = read_setting(alloc, signature, names, case)?;
     let body = read_closed_type(alloc, names, &case.form(alloc, "in")?)?;
+    let found = found_type(alloc, &setting, &body, is_instantiated);
+    leave_body(alloc, names, case)?;
+    shown_type(alloc, names, found)
+}
+
+fn found_type(
+    alloc: Global,
+    setting: &Setting,
+    body: &Ty,
+    is_instantiated: bool,
+) -> Result<Option<Ty>, HeredFault> {
     let heads = all(alloc, &setting.heads)?;
     let outer = all(alloc, &setting.outer)?;
     let bound = all(alloc, &setting.bound)?;
@@ -161,13 +175,11 @@ pub fn ty(
         outer: &outer,
         bound: &bound,
     };
-    let found = if is_instantiated {
-        put_in_newest(alloc, around, &body, &setting.arg, &setting.skeleton)
+    if is_instantiated {
+        put_in_newest(alloc, around, body, &setting.arg, &setting.skeleton)
     } else {
-        put_in_type(alloc, around, &body, &setting.arg, &setting.skeleton)
-    };
-    leave_body(alloc, names, case)?;
-    shown_type(alloc, names, found)
+        put_in_type(alloc, around, body, &setting.arg, &setting.skeleton)
+    }
 }
 
 /// The term `function`, of the skeleton `as`, on the arguments `to`, which give a term of the family `family`.
@@ -178,21 +190,43 @@ pub fn apply(
     case: &Case,
 ) -> Result<String, FormFault> {
     case.has_only(&["outer", "function", "as", "to", "family"])?;
-    let skeletons = head_skeletons(alloc, signature)?;
-    let heads = all(alloc, &skeletons)?;
-    let skeletons = variables(alloc, names, case, "outer")?;
-    let outer = all(alloc, &skeletons)?;
-    let around = Around {
-        heads: &heads,
-        outer: &outer,
-        bound: &[],
-    };
+    let heads = head_skeletons(alloc, signature)?;
+    let outer = variables(alloc, names, case, "outer")?;
+    applied(alloc, names, case, &heads, &outer)
+}
+
+fn applied(
+    alloc: Global,
+    names: &mut Names,
+    case: &Case,
+    heads: &[Skeleton],
+    outer: &[Skeleton],
+) -> Result<String, FormFault> {
     let function = read_closed_term(alloc, names, &case.form(alloc, "function")?)?;
     let taken = read_skeleton(alloc, names, &case.form(alloc, "as")?)?;
     let args = read_closed_spine(alloc, names, &forms(alloc, case, "to")?)?;
     let family = names.constant(case.text("family")?)?;
-    let found = apply_typed(alloc, around, &function, &args, &taken, family);
+    let found = found_on(alloc, heads, outer, &function, &args, &taken, family);
     shown_term(alloc, names, found)
+}
+
+fn found_on<'a>(
+    alloc: Global,
+    heads: &'a [Skeleton],
+    outer: &'a [Skeleton],
+    function: &Term,
+    args: &Spine,
+    taken: &'a Skeleton,
+    family: ConstId,
+) -> Result<Option<Term>, HeredFault> {
+    let all_heads = all(alloc, heads)?;
+    let all_outer = all(alloc, outer)?;
+    let around = Around {
+        heads: &all_heads,
+        outer: &all_outer,
+        bound: &[],
+    };
+    apply_typed(alloc, around, function, args, taken, family)
 }
 
 /// The expansion of the head `head` at the skeleton `as`.

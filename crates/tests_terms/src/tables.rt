@@ -118,24 +118,38 @@ impl Steps for Table {
     ) -> Result<String, FormFault> {
         match (word, forms) {
             ("set", [Form::Word(name), Form::Word(place), Form::Word(precedence)]) => {
-                let name = Name::from_text(alloc, name.as_str())?;
-                let fix = fix_of(place.as_str(), number_of(precedence.as_str())?)?;
-                self.table.set(name, fix)?;
-                Ok(String::new(alloc))
+                self.set(alloc, name.as_str(), place.as_str(), precedence.as_str())
             }
-            ("remove", [Form::Word(name)]) => {
-                self.table.remove(&Name::from_text(alloc, name.as_str())?);
-                Ok(String::new(alloc))
-            }
-            ("get", [Form::Word(name)]) => {
-                let name = Name::from_text(alloc, name.as_str())?;
-                shown_fix(alloc, self.table.get(&name))
-            }
+            ("remove", [Form::Word(name)]) => self.remove(alloc, name.as_str()),
+            ("get", [Form::Word(name)]) => self.get(alloc, name.as_str()),
             ("get-bytes", [Form::Word(name)]) => {
                 shown_fix(alloc, self.table.get_bytes(name.as_bytes()))
             }
             _ => Err(FormFault::NoMeaning),
         }
+    }
+}
+
+impl Table {
+    fn set(
+        &mut self,
+        alloc: Global,
+        name: &str,
+        place: &str,
+        precedence: &str,
+    ) -> Result<String, FormFault> {
+        let fix = fix_of(place, number_of(precedence)?)?;
+        self.table.set(Name::from_text(alloc, name)?, fix)?;
+        Ok(String::new(alloc))
+    }
+
+    fn remove(&mut self, alloc: Global, name: &str) -> Result<String, FormFault> {
+        self.table.remove(&Name::from_text(alloc, name)?);
+        Ok(String::new(alloc))
+    }
+
+    fn get(&self, alloc: Global, name: &str) -> Result<String, FormFault> {
+        shown_fix(alloc, self.table.get(&Name::from_text(alloc, name)?))
     }
 }
 
@@ -241,21 +255,53 @@ impl Steps for Entries {
 
 // the copy of an entry: its name, how many arguments are implicit, its hints, and whether it is a family of the kind `type`
 fn copied(alloc: Global, name: &str, implicit: u64, hints: &[Form]) -> Result<String, FormFault> {
-    let mut entry = family(alloc, name)?;
-    entry.implicit = u32::try_from(implicit).or(Err(FormFault::NoMeaning))?;
-    for hint in hints {
-        let hint = hint.word().ok_or(FormFault::NoMeaning)?;
-        entry.hints.push(name_of(alloc, hint)?)?;
+    let implicit = u32::try_from(implicit).or(Err(FormFault::NoMeaning))?;
+    let hints = hints_of(alloc, hints)?;
+    let name = Name::from_text(alloc, name)?;
+    let body = Body::Family(Kind::Star);
+    let entry = Entry {
+        name,
+        body,
+        implicit,
+        hints,
+    };
+    shown_copy(alloc, &entry)
+}
+
+fn hints_of(alloc: Global, forms: &[Form]) -> Result<Vec<Option<Name>>, FormFault> {
+    let mut hints = Vec::new(alloc);
+    for form in forms {
+        hints.push(hint_of(alloc, form)?)?;
     }
+    Ok(hints)
+}
+
+fn hint_of(alloc: Global, form: &Form) -> Result<Option<Name>, FormFault> {
+    match form {
+        Form::Word(word) => name_of(alloc, word.as_str()),
+        Form::Group(_) => Err(FormFault::NoMeaning),
+    }
+}
+
+fn shown_copy(alloc: Global, entry: &Entry) -> Result<String, FormFault> {
     let copy = entry.copy(alloc)?;
-    let mut line = text(alloc, copy.name.as_bytes())?;
-    write!(line, " {}", copy.implicit)?;
-    for hint in &copy.hints {
-        line.push(' ')?;
-        line.push_str(shown_name(alloc, hint)?.as_str())?;
-    }
-    if matches!(&copy.body, Body::Family(Kind::Star)) {
+    shown_entry(alloc, &copy)
+}
+
+fn shown_entry(alloc: Global, entry: &Entry) -> Result<String, FormFault> {
+    let mut line = text(alloc, entry.name.as_bytes())?;
+    write!(line, " {}", entry.implicit)?;
+    show_hints(alloc, &mut line, &entry.hints)?;
+    if matches!(&entry.body, Body::Family(Kind::Star)) {
         line.push_str(" type")?;
     }
     Ok(line)
+}
+
+fn show_hints(alloc: Global, line: &mut String, hints: &[Option<Name>]) -> Result<(), FormFault> {
+    for hint in hints {
+        line.push(' ')?;
+        line.push_str(shown_name(alloc, hint)?.as_str())?;
+    }
+    Ok(())
 }

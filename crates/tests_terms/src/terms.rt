@@ -6,7 +6,9 @@ use tests_forms::{
     read_closed_term, read_closed_type, read_context, read_forms, read_kind, read_skeleton,
     read_spine, read_term, read_type, show_closed_type, show_skeleton, show_type,
 };
-use tw_terms::{Kind, Open, OpenSpine, OpenTy, Skeleton, Spine, Term, Ty, weaken};
+use tw_terms::{
+    Context, Kind, Open, OpenContext, OpenSpine, OpenTy, Skeleton, Spine, Term, Ty, weaken,
+};
 
 // what is copied and compared
 #[derive(Drop)]
@@ -89,13 +91,23 @@ pub fn copy(alloc: Global, names: &mut Names, case: &Case) -> Result<String, For
         return Err(FormFault::NoMeaning);
     };
     let value = read_value(alloc, names, field)?;
+    shown_copy(alloc, &value)
+}
+
+fn shown_copy(alloc: Global, value: &Value) -> Result<String, FormFault> {
+    let same = is_copied(alloc, value)?;
     let mut line = String::new(alloc);
     if let Some(depth) = value.depth() {
         write!(line, "depth {depth}, ")?;
     }
     line.push_str("a copy is ")?;
-    line.push_str(sameness(value.copy(alloc)?.same(&value)?))?;
+    line.push_str(sameness(same))?;
     Ok(line)
+}
+
+fn is_copied(alloc: Global, value: &Value) -> Result<bool, FormFault> {
+    let copy = value.copy(alloc)?;
+    copy.same(value)
 }
 
 /// Whether two values are the same, and whether the second is the same as the first.
@@ -105,8 +117,12 @@ pub fn compare(alloc: Global, names: &mut Names, case: &Case) -> Result<String, 
     };
     let left = read_value(alloc, names, left)?;
     let right = read_value(alloc, names, right)?;
-    let forth = sameness(left.same(&right)?);
-    let back = sameness(right.same(&left)?);
+    compared(alloc, &left, &right)
+}
+
+fn compared(alloc: Global, left: &Value, right: &Value) -> Result<String, FormFault> {
+    let forth = sameness(left.same(right)?);
+    let back = sameness(right.same(left)?);
     Ok(format!(in alloc; "{forth}, {back}")?)
 }
 
@@ -132,16 +148,25 @@ pub fn context(alloc: Global, names: &mut Names, case: &Case) -> Result<String, 
     let variables = forms(alloc, case, "variables")?;
     let mut context = read_closed_context(alloc, names, &variables)?;
     names.forget_all_but_constants(alloc);
-    let copy = context.copy(alloc)?;
     let mut line = String::new(alloc);
-    write!(line, "{}", copy.len())?;
-    for variable in 0..copy.len() as u64 + 1 {
-        show_type_or_none(alloc, &mut line, names, copy.get(variable))?;
-    }
+    show_types(alloc, &mut line, names, &context.copy(alloc)?)?;
     let popped = context.pop();
     show_type_or_none(alloc, &mut line, names, popped.as_ref())?;
     write!(line, "; {}", context.len())?;
     Ok(line)
+}
+
+fn show_types(
+    alloc: Global,
+    line: &mut String,
+    names: &mut Names,
+    context: &Context,
+) -> Result<(), AllocError> {
+    write!(line, "{}", context.len())?;
+    for variable in 0..(context.len() as u64).saturating_add(1) {
+        show_type_or_none(alloc, line, names, context.get(variable))?;
+    }
+    Ok(())
 }
 
 fn show_type_or_none(
@@ -163,16 +188,25 @@ pub fn open_context(alloc: Global, names: &mut Names, case: &Case) -> Result<Str
     let variables = forms(alloc, case, "variables")?;
     let mut context = read_context(alloc, names, &variables)?;
     names.forget_all_but_constants(alloc);
-    let copy = context.copy(alloc)?;
     let mut line = String::new(alloc);
-    write!(line, "{}", copy.len())?;
-    for variable in 0..copy.len() as u64 + 1 {
-        show_open_or_none(alloc, &mut line, names, copy.get(variable))?;
-    }
+    show_open_types(alloc, &mut line, names, &context.copy(alloc)?)?;
     let popped = context.pop();
     show_open_or_none(alloc, &mut line, names, popped.as_ref())?;
     write!(line, "; {}", context.len())?;
     Ok(line)
+}
+
+fn show_open_types(
+    alloc: Global,
+    line: &mut String,
+    names: &mut Names,
+    context: &OpenContext,
+) -> Result<(), AllocError> {
+    write!(line, "{}", context.len())?;
+    for variable in 0..(context.len() as u64).saturating_add(1) {
+        show_open_or_none(alloc, line, names, context.get(variable))?;
+    }
+    Ok(())
 }
 
 fn show_open_or_none(
