@@ -6,3 +6,4 @@ pub mod Entries
 pub mod Read
 pub mod Subgoals
 pub mod Examples
+pub mod OrderViews

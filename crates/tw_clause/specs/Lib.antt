@@ -4,3 +4,5 @@ pub mod Marks
 pub mod Numbers
 pub mod Entries
 pub mod Laws
+pub mod Orders
+pub mod Tables

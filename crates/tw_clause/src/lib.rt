@@ -9,7 +9,10 @@ mod collected;
 mod copies;
 mod counts;
 mod laws;
+mod modes;
 mod name;
+#[tactic(auto, using(crate::proofs::OrderViews::orders))]
+mod order;
 #[tactic(auto, using(tw_terms::proofs::Args::types))]
 mod reading;
 #[tactic(auto, using(crate::proofs::Renumbered::renumbered))]
@@ -21,5 +24,7 @@ pub use block::{Block, Origin, Worlds};
 pub use case::{BlockVar, Case};
 pub use clause::{Clause, Subgoal};
 pub use laws::{entries_are_listed, parts_are_of_type, subgoals_are_read};
+pub use modes::{Modes, WorldRows};
 pub use name::{ClauseName, Mark3};
+pub use order::Order;
 pub use reading::{clause_of, clause_of_entry, clauses};

@@ -33,6 +33,10 @@ kind_within : (es : List Entry) (c : ℕ) (K : Kind) (o : Option Entry) → entr
 kind_within es c K None e h = absurd cc
 kind_within es c K (Some f) e h = entry_within es c f e
 
+-- a family that has a kind is an entry
+pub declared_within : (es : List Entry) (c : ℕ) (K : Kind) → (signature_of es).kinds c ≡ Some K → c < length es
+declared_within es c K e = kind_within es c K (entry es c) refl e
+
 module _ (Σ : Signature) (W : List Block) (a b : ℕ) where
   constant_below : (c : ℕ) (o : Option LfType) → Σ.types c ≡ o → Contains (constant_pairs o) (a, b) → Below Σ W a b
   constant_below c (Some A) e h = below_in_constant c A e (quantifies a b A h)

@@ -1,8 +1,8 @@
 -- The laws that the functions of this crate carry.
-use Rattle.std.specs.Prelude.{◌≡◌, ◌↔◌, ℕ, List, Bool, true, map}
+use Rattle.std.specs.Prelude.{◌≡◌, ◌↔◌, ℕ, List, Bool, true}
 use Rattle.lf.specs.Entries.{Entry, IsCanonicalSignature, signature_of}
 use Rattle.lf.specs.Extension.{Extends}
-use Rattle.lf.specs.Subordination.{AreTypedBlocks, Below, Block, IsDeclared}
+use Rattle.lf.specs.Subordination.{AreTypedBlocks, Below, Block, IsDeclared, Member}
 use Rattle.lf.specs.Syntax.{LfType, Term, rename, rename_type}
 use Rattle.lf.specs.Typing.{HasType, Signature, TypeAt}
 use Rattle.lf.specs.Variables.{FamiliesIn, IsTypedRenamingOn, target}
@@ -18,9 +18,13 @@ Tells Σ W rows = (a b : ℕ) → (is_below rows a b ≡ true) ↔ Below Σ W a 
 abbrev pub below_set : List (List ℕ) → ℕ → ℕ → Bool
 below_set rows f a = is_below rows a f
 
--- of a block its entries alone matter
+-- the type is an entry of one of the blocks
+abbrev pub IsEntryOf : List Block → LfType → Type 0
+IsEntryOf W E = (B : Block) × Member B W × Member E B.entries
+
+-- of blocks their entries alone matter: not their labels, their `some` variables, nor which of the blocks has an entry
 abbrev pub EntriesAloneMatter : Type 0
-EntriesAloneMatter = (Σ : Signature) (V W : List Block) → map (λ B. B.entries) V ≡ map (λ B. B.entries) W → (a b : ℕ) → Below Σ V a b → Below Σ W a b
+EntriesAloneMatter = (Σ : Signature) (V W : List Block) → ((E : LfType) → IsEntryOf V E → IsEntryOf W E) → (a b : ℕ) → Below Σ V a b → Below Σ W a b
 
 -- what the rows tell is a test of subordination: reflexive, transitive, and self-contained at each declared family
 abbrev pub RowsAreSubordination : Type 0
