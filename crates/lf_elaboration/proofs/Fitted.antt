@@ -12,7 +12,7 @@ use Rattle.lf_unification.specs.Patterns.{local_skeletons}
 use Rattle.lf_unification.proofs.OpenSound.{skeleton_raise}
 use Rattle.lf_elaboration.specs.BodySkeletons.{BodyHasSkeletons, CompletedHasSkeletons, due_skeleton}
 use Rattle.lf_elaboration.specs.Completions.{Completes, CompletesDomain, CompletesFamily, CompletesKind, CompletesType, FreeValue, FreesAreTyped, KindTakesAny, TakesAny, any_next, any_none, applied_completed, arrow_completed, ascribed_completed, ascribed_type_completed, bound_completed, constant_completed, definition_completed, family_applied_completed, family_ascribed_completed, family_completed, family_name_completed, free_completed, function_completed, hole_completed, kind_any_next, kind_any_none, kind_arrow_completed, kind_quantified_completed, quantified_completed, skeleton_completed, star_completed, type_completed, type_hole_completed}
-use Rattle.lf_elaboration.specs.Principal.{Completion, CompletesBody, IsCompletion, WrittenBody, written_constant, written_definition, written_definition_of, written_family}
+use Rattle.lf_elaboration.specs.Principal.{CompletesBody, WrittenBody, written_constant, written_definition, written_definition_of, written_family}
 use Rattle.lf_elaboration.specs.Written.{Written, WrittenDomain, WrittenKind, WrittenType}
 use Rattle.lf_elaboration.specs.WrittenSkeletons.{DomainHasSkeleton, FamilyHasSkeleton, KindHasSkeleton, LeavesSkeleton, SkeletonIsDeclared, WrittenHasSkeleton, WrittenTypeHasSkeleton, type_in_terms}
 use Rattle.lf_elaboration.proofs.Had.{kind_skeleton_moved, local_at_skeleton}

@@ -1,5 +1,5 @@
 -- What is written with its free variables in another order has the same completions.
-use Rattle.std.proofs.Common.{◌≡◌, ℕ, List, [], ◌∷◌, Some}
+use Rattle.std.proofs.Common.{◌≡◌, ℕ, List, Some}
 use Rattle.std.specs.Prelude.{slice_get}
 use Rattle.lf.specs.Entries.{Body, Entry, declare_constant, declare_definition, declare_family}
 use Rattle.lf.specs.Syntax.{Kind, LfType, Spine, Term}

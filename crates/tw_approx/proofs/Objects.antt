@@ -1,18 +1,18 @@
 -- What fits has no unknown name, and nothing at the level of types that can't stand there.
-use Rattle.std.proofs.Common.{◌≡◌, ℕ, zero, suc, List, [], ◌∷◌, ◌++◌, option_map, Bool, true, false, ◌||◌, Option, None, Some, if◌then◌else◌, refl, sym, ap, ap₂, ◌∙◌, subst}
+use Rattle.std.proofs.Common.{◌≡◌, ℕ, zero, suc, List, [], ◌∷◌, ◌++◌, option_map, Bool, true, false, ◌||◌, Option, None, Some, if◌then◌else◌, refl, ap, ap₂}
 use Rattle.std.specs.Str.{bytes_eq}
 use Rattle.lf.specs.Entries.{Body, Entry, declare_constant, declare_definition, declare_family, entry}
 use Rattle.lf.specs.Syntax.{Head, Skeleton, arrow as arrow_skeleton, constant, metavariable, variable}
 use Rattle.tw_approx.specs.Answer.{IsOfObjects}
-use Rattle.tw_approx.specs.Levels.{is_family, is_family_body, is_family_entry, is_type_definition, is_written_kind, is_written_type, lambdas_in_domain, lambdas_in_term, lambdas_in_type, lambdas_in_written, type_lambdas}
+use Rattle.tw_approx.specs.Levels.{is_family, is_family_body, is_family_entry, is_written_type, lambdas_in_domain, lambdas_in_term, lambdas_in_type}
 use Rattle.tw_approx.specs.Readings.{Reading, and_then, found}
-use Rattle.tw_approx.specs.Skeletons.{Family, Fits, FitsClassifier, Frees, applied, ascribed, definition_skeleton, domain_skeleton, entry_skeleton, family_applied, family_ascribed, family_named, family_skeleton, kind_due, known, name_skeleton, object_skeleton, term_skeleton, type_skeleton, whole}
+use Rattle.tw_approx.specs.Skeletons.{Family, FitsClassifier, Frees, applied, ascribed, definition_skeleton, domain_skeleton, entry_skeleton, family_applied, family_ascribed, family_named, family_skeleton, kind_due, known, name_skeleton, object_skeleton, term_skeleton, type_skeleton, whole}
 use Rattle.tw_approx.specs.Ways.{WhatFitsIsOfObjects}
 use Rattle.tw_names.specs.Scope.{binder_name, head_named, named}
 use Rattle.tw_names.specs.Texts.{ends_in_type}
-use Rattle.tw_names.specs.Unknown.{is_uppercase, unknown_in, unknown_in_domain, unknown_in_type, unknown_names, unless_named}
+use Rattle.tw_names.specs.Unknown.{is_uppercase, unknown_in_domain, unknown_names, unless_named}
 use Rattle.tw_names.specs.declared.unknown.Mention.{Mention}
-use Rattle.tw_parse.specs.Syntax.{Declaration, Domain, Term, application, arrow, ascription, declare, define, give, hole, identifier, lambda, pi, prefer, star, typed, untyped}
+use Rattle.tw_parse.specs.Syntax.{Domain, Term, application, arrow, ascription, declare, define, give, hole, identifier, lambda, pi, prefer, star, typed, untyped}
 use Rattle.tw_fixity.specs.Names.{Names, variable_of}
 use Rattle.tw_signature.specs.Names.{number_of}
 use Rattle.tw_approx.proofs.Causes.{no_type}

@@ -12,8 +12,8 @@ pub fn accepting_from_keeps_sound()
     ensures { AcceptingFromKeepsSound }
 {}
 
-/// A text that is one explicit, well typed declaration within the limits, or any other that can be completed and of which no equation is left, is refused over a
-/// canonical signature for want of memory alone.
+/// A text that is one explicit, well typed declaration within the limits, or any other that has a typed completion, isn't loose and leaves no equation, is refused
+/// over a canonical signature for want of memory alone, where nothing is too deep.
 pub fn good_is_accepted()
     ensures { GoodIsAccepted }
 {}

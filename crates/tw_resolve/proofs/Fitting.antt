@@ -1,5 +1,5 @@
 -- What is resolved and has skeletons fits.
-use Rattle.std.proofs.Common.{◌≡◌, ℕ, zero, suc, List, [], ◌∷◌, drop, slice_get, option_map, Bool, true, false, ◌&&◌, Option, None, Some, ◌⊎◌, inl, inr, if◌then◌else◌, refl, sym, ap, ap₂, ◌∙◌, subst}
+use Rattle.std.proofs.Common.{◌≡◌, ℕ, zero, suc, List, [], ◌∷◌, drop, slice_get, option_map, Bool, true, false, ◌&&◌, Option, None, Some, inl, inr, if◌then◌else◌, refl, sym, ap, ap₂, ◌∙◌, subst}
 use Rattle.std.specs.Str.{bytes_eq}
 use Rattle.lf.specs.Entries.{Body, Entry, declare_constant, declare_definition, declare_family, entry}
 use Rattle.lf.specs.SkeletonTyping.{SkeletonAt}
@@ -11,9 +11,8 @@ use Rattle.lf_elaboration.specs.Written.{Place, Written, WrittenDomain, WrittenK
 use Rattle.lf_elaboration.specs.WrittenSkeletons.{DomainHasSkeleton, FamilyHasSkeleton, FamilyNameLeaves, KindHasSkeleton, LeavesSkeleton, NameHasSkeleton, WrittenHasSkeleton, WrittenTypeHasSkeleton, type_in_terms}
 use Rattle.tw_approx.specs.Answer.{HasRow, Rows, frees_of}
 use Rattle.tw_approx.specs.Names.{IsFreeIn, IsFreeInDomain, IsFreeVariable}
-use Rattle.tw_approx.specs.Readings.{Reading, and_then, found, take}
+use Rattle.tw_approx.specs.Readings.{Reading, and_then, found}
 use Rattle.tw_approx.specs.Skeletons.{Family, Fits, FitsClassifier, applied, ascribed, behind, definition_skeleton, domain_skeleton, due, entry_skeleton, family_applied, family_ascribed, family_named, family_of_body, family_of_entry, family_skeleton, kind_due, known, name_skeleton, object_skeleton, same_skeleton, same_skeletons, term_skeleton, type_skeleton, unknown, whole}
-use Rattle.tw_approx.specs.Ways.{AreRowsOf}
 use Rattle.tw_approx.proofs.Naming.{name_is}
 use Rattle.tw_approx.proofs.Sequences.{and_then_parts, given, parts_of}
 use Rattle.tw_approx.proofs.Unifying.{lists_same, passed, skeletons_same}
@@ -26,7 +25,7 @@ use Rattle.tw_fixity.specs.Names.{Names, variable_of}
 use Rattle.tw_signature.specs.Names.{number_of}
 use Rattle.tw_written.specs.View.{place_of}
 use Rattle.tw_resolve.specs.Fitting.{ResolvedFits}
-use Rattle.tw_resolve.specs.Resolved.{body_read, classifier_read, definition_read, names_of, resolved_body, skeletons_of, taken_whole, with_one}
+use Rattle.tw_resolve.specs.Resolved.{body_read, classifier_read, definition_read, names_of, skeletons_of, taken_whole}
 use Rattle.tw_resolve.specs.Resolving.{is_higher, is_type_hole, made, of_kind, on_argument, resolved_domain, resolved_family, resolved_kind, resolved_name, resolved_term, resolved_type, with_both}
 use Rattle.tw_resolve.proofs.Names.{AreAlike, IsThinner, placed, thinner_by, thinner_empty, thinner_under}
 
@@ -182,15 +181,21 @@ module _ (es : List Entry) (rows : Rows) (upper : (x : List ℕ) → HasRow x ro
   on_argument_is N G T P o p q a x t ([], d, e) g = absurd cc
   on_argument_is N G T P o p q a x t (s ∷ ss, d, e) g =
       let s_is : s ≡ x = cc in
-      let t_is : t ≡ due_skeleton ss a = cc in
-      (ss, t_is, then_is (family_skeleton es f N G T o) (λ F r. and_then (term_skeleton es f N G P r) (family_applied F)) (known (s ∷ ss) (base a)) p (Some (known ss (base a), q)) e
-        (then_is (term_skeleton es f N G P p) (family_applied (known (s ∷ ss) (base a))) x q (Some (known ss (base a), q)) g (passed (same_skeleton s x) (known ss (base a)) q (skeletons_same s x s_is))))
+      let t_is : t ≡ due_skeleton ss a = cc in (
+        ss,
+        t_is,
+        then_is (family_skeleton es f N G T o) (λ F r. and_then (term_skeleton es f N G P r) (family_applied F)) (known (s ∷ ss) (base a)) p (Some (known ss (base a), q)) e
+            (then_is (term_skeleton es f N G P p) (family_applied (known (s ∷ ss) (base a))) x q (Some (known ss (base a), q)) g (passed (same_skeleton s x) (known ss (base a)) q (skeletons_same s x s_is))),
+      )
 
   -- a family with its kind
   of_kind_is : (N : Names) (G : List Skeleton) (T K : Term) (o p q ds : List Skeleton) (a : ℕ) (t : Skeleton) → ReadsFamily N G T o a t p → t ≡ due_skeleton ds a → kind_due es f N G K p ≡ Some (ds, q) → ReadsFamily N G (ascription T K) o a t q
-  of_kind_is N G T K o p q ds a t (ss, d, e) h g =
-      (ss, d, then_is (family_skeleton es f N G T o) (λ F r. and_then (kind_due es f N G K r) (family_ascribed F)) (known ss (base a)) p (Some (known ss (base a), q)) e
-        (then_is (kind_due es f N G K p) (family_ascribed (known ss (base a))) ds q (Some (known ss (base a), q)) g (passed (same_skeletons ss ds) (known ss (base a)) q (lists_same ss ds (same_dues ss ds a (sym d ∙ h))))))
+  of_kind_is N G T K o p q ds a t (ss, d, e) h g = (
+    ss,
+    d,
+    then_is (family_skeleton es f N G T o) (λ F r. and_then (kind_due es f N G K r) (family_ascribed F)) (known ss (base a)) p (Some (known ss (base a), q)) e
+        (then_is (kind_due es f N G K p) (family_ascribed (known ss (base a))) ds q (Some (known ss (base a), q)) g (passed (same_skeletons ss ds) (known ss (base a)) q (lists_same ss ds (same_dues ss ds a (sym d ∙ h))))),
+  )
 
   whole_ascribed : (F : Family) (s : Skeleton) (q : List Skeleton) → IsWhole F s → family_ascribed F [] q ≡ Some (known [] s, q)
   whole_ascribed (known [] t) s q h = ap (λ z. given (known [] z) q) h
@@ -198,9 +203,12 @@ module _ (es : List Entry) (rows : Rows) (upper : (x : List ℕ) → HasRow x ro
   whole_ascribed (unknown t) s q h = ap (λ z. given (known [] z) q) h
 
   of_type_is : (N : Names) (G : List Skeleton) (T K : Term) (o p q : List Skeleton) (s : Skeleton) → ReadsType N G T o s p → kind_due es f N G K p ≡ Some ([], q) → ReadsType N G (ascription T K) o s q
-  of_type_is N G T K o p q s (F, e, h) g =
-      (known [] s, then_is (family_skeleton es f N G T o) (λ X r. and_then (kind_due es f N G K r) (family_ascribed X)) F p (Some (known [] s, q)) e
-        (then_is (kind_due es f N G K p) (family_ascribed F) [] q (Some (known [] s, q)) g (whole_ascribed F s q h)), refl)
+  of_type_is N G T K o p q s (F, e, h) g = (
+    known [] s,
+    then_is (family_skeleton es f N G T o) (λ X r. and_then (kind_due es f N G K r) (family_ascribed X)) F p (Some (known [] s, q)) e
+        (then_is (kind_due es f N G K p) (family_ascribed F) [] q (Some (known [] s, q)) g (whole_ascribed F s q h)),
+    refl,
+  )
 
   unless_made : {A : Type 0} (b : Bool) (x y : A) (p q : List Skeleton) → (if b then None else given x p) ≡ given y q → (x ≡ y) × (p ≡ q)
   unless_made true x y p q e = absurd cc
@@ -235,18 +243,24 @@ module _ (es : List Entry) (rows : Rows) (upper : (x : List ℕ) → HasRow x ro
       → ((a b : Skeleton) → WrittenTypeHasSkeleton es ts H V b → ReadsType (None ∷ N) (a ∷ G) B p b r)
       → r ≡ q → WrittenTypeHasSkeleton es ts H (written.arrow U V) s → ReadsType N G (arrow A B) o s q
   arrow_fits A B N G H o q (base c) U p V r one two same h = absurd h
-  arrow_fits A B N G H o q (arrow_skeleton a b) U p V r one two same (h, k) =
-      (known [] (arrow_skeleton a b), then_is (type_skeleton es f N G A o) (λ y n. and_then (type_skeleton es f (None ∷ N) (y ∷ G) B n) (λ l m. given (known [] (arrow_skeleton y l)) m)) a p (Some (known [] (arrow_skeleton a b), q)) (reads_type N G A o a p (one a h))
-      (then_is (type_skeleton es f (None ∷ N) (a ∷ G) B p) (λ l m. given (known [] (arrow_skeleton a l)) m) b r (Some (known [] (arrow_skeleton a b), q)) (reads_type (None ∷ N) (a ∷ G) B p b r (two a b k)) (same_rest (known [] (arrow_skeleton a b)) r q same)), refl)
+  arrow_fits A B N G H o q (arrow_skeleton a b) U p V r one two same (h, k) = (
+    known [] (arrow_skeleton a b),
+    then_is (type_skeleton es f N G A o) (λ y n. and_then (type_skeleton es f (None ∷ N) (y ∷ G) B n) (λ l m. given (known [] (arrow_skeleton y l)) m)) a p (Some (known [] (arrow_skeleton a b), q)) (reads_type N G A o a p (one a h))
+        (then_is (type_skeleton es f (None ∷ N) (a ∷ G) B p) (λ l m. given (known [] (arrow_skeleton a l)) m) b r (Some (known [] (arrow_skeleton a b), q)) (reads_type (None ∷ N) (a ∷ G) B p b r (two a b k)) (same_rest (known [] (arrow_skeleton a b)) r q same)),
+    refl,
+  )
 
   quantified_fits : (x : List ℕ) (at : TextPlace) (D : Domain) (B : Term) (N : Names) (G H o q : List Skeleton) (s : Skeleton) (d : WrittenDomain) (p : List Skeleton) (V : WrittenType) (r : List Skeleton)
       → ((a : Skeleton) → DomainHasSkeleton es ts H d a → domain_skeleton es f N G D o ≡ Some (a, p))
       → ((a b : Skeleton) → WrittenTypeHasSkeleton es ts (a ∷ H) V b → ReadsType (binder_name x ∷ N) (a ∷ G) B p b r)
       → r ≡ q → WrittenTypeHasSkeleton es ts H (written.quantified d V) s → ReadsType N G (pi x at D B) o s q
   quantified_fits x at D B N G H o q (base c) d p V r one two same h = absurd h
-  quantified_fits x at D B N G H o q (arrow_skeleton a b) d p V r one two same (h, k) =
-      (known [] (arrow_skeleton a b), then_is (domain_skeleton es f N G D o) (λ y n. and_then (type_skeleton es f (binder_name x ∷ N) (y ∷ G) B n) (λ l m. given (known [] (arrow_skeleton y l)) m)) a p (Some (known [] (arrow_skeleton a b), q)) (one a h)
-      (then_is (type_skeleton es f (binder_name x ∷ N) (a ∷ G) B p) (λ l m. given (known [] (arrow_skeleton a l)) m) b r (Some (known [] (arrow_skeleton a b), q)) (reads_type (binder_name x ∷ N) (a ∷ G) B p b r (two a b k)) (same_rest (known [] (arrow_skeleton a b)) r q same)), refl)
+  quantified_fits x at D B N G H o q (arrow_skeleton a b) d p V r one two same (h, k) = (
+    known [] (arrow_skeleton a b),
+    then_is (domain_skeleton es f N G D o) (λ y n. and_then (type_skeleton es f (binder_name x ∷ N) (y ∷ G) B n) (λ l m. given (known [] (arrow_skeleton y l)) m)) a p (Some (known [] (arrow_skeleton a b), q)) (one a h)
+        (then_is (type_skeleton es f (binder_name x ∷ N) (a ∷ G) B p) (λ l m. given (known [] (arrow_skeleton a l)) m) b r (Some (known [] (arrow_skeleton a b), q)) (reads_type (binder_name x ∷ N) (a ∷ G) B p b r (two a b k)) (same_rest (known [] (arrow_skeleton a b)) r q same)),
+    refl,
+  )
 
   applied_fits : (T P : Term) (N : Names) (G H o q : List Skeleton) (s : Skeleton) (U : WrittenType) (p : List Skeleton) (w : Written) (r : List Skeleton)
       → ((a : ℕ) (u : Skeleton) → FamilyHasSkeleton es ts H U a u → ReadsFamily N G T o a u p)
@@ -276,9 +290,12 @@ module _ (es : List Entry) (rows : Rows) (upper : (x : List ℕ) → HasRow x ro
       → r ≡ q → KindHasSkeleton es ts H (written.kind_arrow U k) a u → ReadsKind N G (arrow A K) o a u q
   kind_arrow_fits A K N G H o q a (base c) U p k r one two same h = absurd h
   kind_arrow_fits A K N G H o q a (arrow_skeleton x y) U p k r one two same (h, i) =
-      let (ds, d, c) = two x y i in
-      (x ∷ ds, ap (arrow_skeleton x) d, then_is (type_skeleton es f N G A o) (λ z n. and_then (kind_due es f (None ∷ N) (z ∷ G) K n) (λ l m. given (z ∷ l) m)) x p (Some (x ∷ ds, q)) (reads_type N G A o x p (one x h))
-      (then_is (kind_due es f (None ∷ N) (x ∷ G) K p) (λ l m. given (x ∷ l) m) ds r (Some (x ∷ ds, q)) c (same_rest (x ∷ ds) r q same)))
+      let (ds, d, c) = two x y i in (
+        x ∷ ds,
+        ap (arrow_skeleton x) d,
+        then_is (type_skeleton es f N G A o) (λ z n. and_then (kind_due es f (None ∷ N) (z ∷ G) K n) (λ l m. given (z ∷ l) m)) x p (Some (x ∷ ds, q)) (reads_type N G A o x p (one x h))
+            (then_is (kind_due es f (None ∷ N) (x ∷ G) K p) (λ l m. given (x ∷ l) m) ds r (Some (x ∷ ds, q)) c (same_rest (x ∷ ds) r q same)),
+      )
 
   kind_quantified_fits : (x : List ℕ) (at : TextPlace) (D : Domain) (K : Term) (N : Names) (G H o q : List Skeleton) (a : ℕ) (u : Skeleton) (d : WrittenDomain) (p : List Skeleton) (k : WrittenKind) (r : List Skeleton)
       → ((y : Skeleton) → DomainHasSkeleton es ts H d y → domain_skeleton es f N G D o ≡ Some (y, p))
@@ -286,9 +303,12 @@ module _ (es : List Entry) (rows : Rows) (upper : (x : List ℕ) → HasRow x ro
       → r ≡ q → KindHasSkeleton es ts H (written.kind_quantified d k) a u → ReadsKind N G (pi x at D K) o a u q
   kind_quantified_fits x at D K N G H o q a (base c) d p k r one two same h = absurd h
   kind_quantified_fits x at D K N G H o q a (arrow_skeleton y z) d p k r one two same (h, i) =
-      let (ds, v, c) = two y z i in
-      (y ∷ ds, ap (arrow_skeleton y) v, then_is (domain_skeleton es f N G D o) (λ b n. and_then (kind_due es f (binder_name x ∷ N) (b ∷ G) K n) (λ l m. given (b ∷ l) m)) y p (Some (y ∷ ds, q)) (one y h)
-      (then_is (kind_due es f (binder_name x ∷ N) (y ∷ G) K p) (λ l m. given (y ∷ l) m) ds r (Some (y ∷ ds, q)) c (same_rest (y ∷ ds) r q same)))
+      let (ds, v, c) = two y z i in (
+        y ∷ ds,
+        ap (arrow_skeleton y) v,
+        then_is (domain_skeleton es f N G D o) (λ b n. and_then (kind_due es f (binder_name x ∷ N) (b ∷ G) K n) (λ l m. given (b ∷ l) m)) y p (Some (y ∷ ds, q)) (one y h)
+            (then_is (kind_due es f (binder_name x ∷ N) (y ∷ G) K p) (λ l m. given (y ∷ l) m) ds r (Some (y ∷ ds, q)) c (same_rest (y ∷ ds) r q same)),
+      )
 
   mutual
     term_fits : (T : Term) (N : Names) (G : List Skeleton) (M : Names) (H : List Skeleton) → IsThinner N G M H → (o : List Skeleton) (w : Written) (q : List Skeleton) (s : Skeleton) → resolved_term es free M T o ≡ Some (w, q) → WrittenHasSkeleton es ts H w s → term_skeleton es f N G T o ≡ Some (s, q)
@@ -451,10 +471,12 @@ module _ (es : List Entry) (rows : Rows) (upper : (x : List ℕ) → HasRow x ro
   definition_fits (Some A) T b o w e h =
       let r = two (made (λ U P. written_definition_of P U b)) (resolved_type es free [] A o) (resolved_term es free [] T) w [] e in
       let m = parts_of (written_definition_of r.second r.first b) w r.end [] r.makes in
-      let (s, g, k) = subst (BodyHasSkeletons es ts) (sym m.0) h in
-      (s, then_is (type_skeleton es f [] [] A o) (λ x p. and_then (term_skeleton es f [] [] T p) (ascribed x)) s r.middle (Some (s, [])) (reads_type [] [] A o s r.middle (type_fits A [] [] [] [] thinner_empty o r.first r.middle s r.first_is g))
-      (then_is (term_skeleton es f [] [] T r.middle) (ascribed s) s r.end (Some (s, [])) (term_fits T [] [] [] [] thinner_empty r.middle r.second r.end s r.second_is k)
-      (passed (same_skeleton s s) s r.end (skeletons_same s s refl) ∙ same_rest s r.end [] m.1)))
+      let (s, g, k) = subst (BodyHasSkeletons es ts) (sym m.0) h in (
+        s,
+        then_is (type_skeleton es f [] [] A o) (λ x p. and_then (term_skeleton es f [] [] T p) (ascribed x)) s r.middle (Some (s, [])) (reads_type [] [] A o s r.middle (type_fits A [] [] [] [] thinner_empty o r.first r.middle s r.first_is g))
+            (then_is (term_skeleton es f [] [] T r.middle) (ascribed s) s r.end (Some (s, [])) (term_fits T [] [] [] [] thinner_empty r.middle r.second r.end s r.second_is k)
+            (passed (same_skeleton s s) s r.end (skeletons_same s s refl) ∙ same_rest s r.end [] m.1)),
+      )
 
   body_fits : (d : Declaration) (o : List Skeleton) (w : WrittenBody) → body_read es free [] d o ≡ Some (w, []) → BodyHasSkeletons es ts w → Fits es f o d
   body_fits (declare c at U) o w e h = classifier_fits U o w (ends_in_type U) e h

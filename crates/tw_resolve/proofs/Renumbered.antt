@@ -1,10 +1,10 @@
 -- A text that is resolved with its free variables in another order.
-use Rattle.std.proofs.Common.{◌≡◌, ℕ, List, [], ◌∷◌, option_map, Bool, true, false, ◌&&◌, Option, None, Some, if◌then◌else◌, refl, ap, ◌∙◌}
+use Rattle.std.proofs.Common.{◌≡◌, ℕ, List, [], ◌∷◌, option_map, Bool, true, false, Option, None, Some, if◌then◌else◌, refl, ap, ◌∙◌}
 use Rattle.lf.specs.Entries.{Entry}
 use Rattle.lf.specs.Syntax.{Head, Skeleton, constant, metavariable, variable}
-use Rattle.lf_elaboration.specs.Principal.{WrittenBody, written_constant, written_definition, written_definition_of, written_family}
+use Rattle.lf_elaboration.specs.Principal.{written_constant, written_definition, written_definition_of, written_family}
 use Rattle.lf_elaboration.specs.Written as written
-use Rattle.lf_elaboration.specs.Written.{Place, Written, WrittenDomain, WrittenKind, WrittenType, written_star}
+use Rattle.lf_elaboration.specs.Written.{Place, Written, WrittenKind, WrittenType, written_star}
 use Rattle.lf_elaboration.proofs.Renumbered.{renumbered, renumbered_body, renumbered_domain, renumbered_kind, renumbered_type}
 use Rattle.tw_approx.specs.Readings.{Reading, and_then, found}
 use Rattle.tw_approx.proofs.Sequences.{given}
@@ -13,7 +13,7 @@ use Rattle.tw_names.specs.Texts.{ends_in_type}
 use Rattle.tw_parse.specs.Syntax.{Declaration, Domain, Term, application, arrow, ascription, declare, define, give, hole, identifier, lambda, pi, prefer, star, typed, untyped}
 use Rattle.tw_fixity.specs.Names.{Names, variable_of}
 use Rattle.tw_written.specs.View.{place_of}
-use Rattle.tw_resolve.specs.Resolved.{body_read, classifier_read, definition_read, taken_whole, with_one}
+use Rattle.tw_resolve.specs.Resolved.{body_read, classifier_read, taken_whole}
 use Rattle.tw_resolve.specs.Resolving.{made, of_kind, on_argument, resolved_domain, resolved_family, resolved_kind, resolved_name, resolved_term, resolved_type, with_both}
 
 -- what is read, turned into something else

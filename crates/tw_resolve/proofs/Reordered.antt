@@ -1,11 +1,11 @@
 -- The order of the free variables changes nothing of what is resolved and completed.
-use Rattle.std.proofs.Common.{◌≡◌, ℕ, zero, suc, List, [], ◌∷◌, map, slice_get, option_map, Bool, true, false, Option, None, Some, ◌⊎◌, inl, inr, if◌then◌else◌, refl, sym, ap, ◌∙◌, subst}
+use Rattle.std.proofs.Common.{◌≡◌, ℕ, zero, suc, List, [], ◌∷◌, map, slice_get, option_map, Bool, true, false, Option, None, Some, inl, inr, if◌then◌else◌, refl, sym, ap, ◌∙◌, subst}
 use Rattle.std.specs.Str.{bytes_eq}
 use Rattle.lf.specs.Entries.{Entry, signature_of}
 use Rattle.lf.specs.Syntax.{LfType, Skeleton, atom, nil, root, skeleton, variable}
 use Rattle.lf.specs.Typing.{HasType, IsType}
 use Rattle.lf_elaboration.specs.Completions.{FreeValue, FreesAreTyped}
-use Rattle.lf_elaboration.specs.Principal.{Completion, IsCompletion, WrittenBody}
+use Rattle.lf_elaboration.specs.Principal.{Completion}
 use Rattle.lf_elaboration.proofs.Fitted.{free_skeleton}
 use Rattle.lf_elaboration.proofs.Renumbered.{body_moved, renumbered_body}
 use Rattle.tw_approx.specs.Answer.{AreDistinct, HasRow, Rows, frees_of}
@@ -15,11 +15,11 @@ use Rattle.tw_approx.proofs.Naming.{is_name, name_is}
 use Rattle.tw_parse.specs.Syntax.{Declaration}
 use Rattle.tw_fixity.specs.Names.{Names, variable_of}
 use Rattle.tw_resolve.specs.Fitting.{OrderIsFree}
-use Rattle.tw_resolve.specs.Resolved.{body_read, names_of, resolved_body, skeletons_of, taken_whole}
+use Rattle.tw_resolve.specs.Resolved.{body_read, names_of, skeletons_of, taken_whole}
 use Rattle.tw_resolve.proofs.Declared.{first_row, later_row}
 use Rattle.tw_resolve.proofs.Fitting.{found_row}
 use Rattle.tw_resolve.proofs.Names.{placed}
-use Rattle.tw_resolve.proofs.Renumbered.{body_mapped, mapped, whole_mapped}
+use Rattle.tw_resolve.proofs.Renumbered.{body_mapped, whole_mapped}
 
 -- a number, or zero
 abbrev or_zero : Option ℕ → ℕ
@@ -144,12 +144,13 @@ module _ (es : List Entry) (d : Declaration) (rows others : Rows) (are : AreRows
 
 pub in_any_order : OrderIsFree
 in_any_order es d rows others o w c are too same e h =
-    let π = moves es d rows others are too same in
-    (renumbered_body π w,
-     record { quantifiers = c.quantifiers; frees = values es d rows others are too same c h.frees_typed; body = c.body },
-     ap taken_whole (body_mapped π es (names_of rows) (names_of others) (same_places es d rows others are too same) d o) ∙ whole_mapped (renumbered_body π) (body_read es (names_of rows) [] d o) w e,
-     record {
-       context = h.context;
-       frees_typed = values_typed es d rows others are too same c h.frees_typed;
-       completed = body_moved π es c.quantifiers c.frees (values es d rows others are too same c h.frees_typed) (values_moved es d rows others are too same c h.frees_typed) w c.body h.completed;
-     })
+    let π = moves es d rows others are too same in (
+      renumbered_body π w,
+      record { quantifiers = c.quantifiers; frees = values es d rows others are too same c h.frees_typed; body = c.body },
+      ap taken_whole (body_mapped π es (names_of rows) (names_of others) (same_places es d rows others are too same) d o) ∙ whole_mapped (renumbered_body π) (body_read es (names_of rows) [] d o) w e,
+      record {
+        context = h.context;
+        frees_typed = values_typed es d rows others are too same c h.frees_typed;
+        completed = body_moved π es c.quantifiers c.frees (values es d rows others are too same c h.frees_typed) (values_moved es d rows others are too same c h.frees_typed) w c.body h.completed;
+      },
+    )
