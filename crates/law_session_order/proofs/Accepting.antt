@@ -1,10 +1,10 @@
 -- A line that reads back is accepted.
-use Rattle.std.proofs.Common.{◌≡◌, ℕ, zero, suc, ◌+◌, ◌-◌, ◌≤◌, List, [], ◌∷◌, length, Bool, true, false, Option, Some, refl, sym, ap, ◌∙◌, subst, arith, append-nil, ◌++◌}
+use Rattle.std.proofs.Common.{◌≡◌, ℕ, zero, suc, ◌+◌, ◌-◌, ◌≤◌, List, [], ◌∷◌, length, Bool, true, false, Option, None, Some, refl, sym, ap, ◌∙◌, subst, arith, append-nil, ◌++◌}
 use Rattle.std.specs.Bool.{MatchBool}
 use Rattle.lf.specs.Depth.{depth_limit}
 use Rattle.lf.specs.Syntax.{LfType, Term as LfTerm}
 use Rattle.lf.specs.Entries.{Body, Entry, body_quantifiers, declare_constant, declare_definition, declare_family, signature_of, BodyIsTyped, BodyIsWithin, IsCanonicalEntry, IsCanonicalSignature}
-use Rattle.law_explicit_form.specs.Completion.{IsCompletion}
+use Rattle.law_explicit_form.specs.Completion.{IsCompletion, Completes}
 use Rattle.law_explicit_form.proofs.Hints.{body_hints}
 use Rattle.tw_lexer.specs.Places.{place_of}
 use Rattle.tw_lexer.specs.Tokens.{token, between, ends, ThroughDot, IsFew, token_count}
@@ -25,13 +25,22 @@ use Rattle.tw_parse.specs.Words.{Lexeme, lexemes}
 use Rattle.tw_parse.specs.declared.words.Word.TheVariants.{Name, Keyword, Underscore}
 use Rattle.tw_print.specs.Shown.{declaration_line}
 use Rattle.tw_recon.specs.Hints.{fitted, written_hints}
+use Rattle.tw_recon.specs.declared.fault.ReconFault.{ReconFault}
+use Rattle.tw_recon.specs.declared.fault.ReconFault.TheVariants.{Mismatch, NoMemory, TooDeep}
+use Rattle.law_explicit_agrees.specs.Definitions.{IsExplicitDefinition, DefinitionMayBeRefused}
+use Rattle.law_explicit_agrees.specs.Reconstructed.{MayBeRefused}
+use Rattle.law_explicit_agrees.proofs.Only.{no_other_cause}
+use Rattle.law_explicit_agrees.proofs.OnlyDefinitions.{definition_no_other}
 use Rattle.law_explicit_agrees.proofs.Definitions.{explicit_definition_reconstructed}
 use Rattle.law_explicit_agrees.proofs.Reconstructed.{explicit_reconstructed}
 use Rattle.tw_decl.specs.View.{View, IsSound, scene_of, with_entry}
-use Rattle.tw_decl.specs.Declaration.{IsWritten, entry_report, Makes}
+use Rattle.tw_decl.specs.Declaration.{IsWrittenAlone, entry_report, Makes}
+use Rattle.tw_decl.specs.Obstacles.{HasObstacle}
+use Rattle.tw_decl.specs.declared.refusal.Refusal.{Refusal}
 use Rattle.law_reading_back.specs.Laws.{ReadsAs, ReadsAsDefinition}
 use Rattle.law_session_order.specs.Laws.{ReadBackIsAccepted, KeptIsAccepted, OpenIsAccepted, NewIsAccepted}
-use Rattle.law_session_order.specs.Order.{IsViewInOrder, LineReadsBack, IsWithinLimits, AcceptsAgain, ReadsBody}
+use Rattle.law_session_order.specs.Order.{IsDeepOrMemory, IsViewInOrder, LineReadsBack, IsWithinLimits, AcceptsAgain, ReadsBody}
+use Rattle.law_session_order.proofs.Refusing.{nothing_else, refused_at_most_so}
 use Rattle.law_session_order.proofs.Reading.{canonical_rest, kept_back, open_back, new_line_back}
 
 -- a text has no more tokens than bytes, and one more
@@ -89,6 +98,13 @@ stands_too es c U e f k h same = record {
   hint_each = ap length h.hint_each ∙ body_hints es U f.body h.body;
 }
 
+-- an explicit declaration that gives an entry fails at most as too deep, or for want of memory
+at_most : (es : List Entry) (d : Declaration) (e : Entry) → Completes es d e → (fault : ReconFault) → MayBeRefused es d fault → DefinitionMayBeRefused fault
+at_most es d e k Mismatch h = absurd (h e k)
+at_most es d e k TooDeep h = tt
+at_most es d e k NoMemory h = tt
+at_most es d e k fault h = absurd h
+
 -- no bracket of the tokens from a byte on is nested too deep
 abbrev AreShallow : List ℕ → ℕ → ℕ → Type 0
 AreShallow text from upto = (tokens : List Token) → ThroughDot text from tokens upto → first_too_deep [] 0 (lexemes text tokens) ≡ None
@@ -99,6 +115,7 @@ pub record IsMadeAgain (v : View) (e : Entry) (text : List ℕ) (from upto : ℕ
   pub through : ThroughDot text from tokens upto
   pub entry : Entry
   pub makes : Makes v (lexemes text tokens) (entry_report v entry) (with_entry v entry)
+  pub free : (first : Place) (refusal : Refusal) → HasObstacle v makes.declaration first refusal → IsDeepOrMemory refusal
   pub name : entry.name ≡ e.name
   pub body : entry.body ≡ e.body
   pub implicit : entry.implicit ≡ zero
@@ -119,7 +136,17 @@ declared_made v e text from upto sound r k shallow =
         keeps = refl;
       };
     } in
-    record { tokens = r.tokens; through = r.through; entry = r.entry; makes = makes; name = h.name; body = r.same; implicit = h.implicit }
+    let d = declare e.name r.at r.written in
+    record {
+      tokens = r.tokens;
+      through = r.through;
+      entry = r.entry;
+      makes = makes;
+      free = nothing_else v d (λ fault q. at_most v.signature d r.entry h fault (no_other_cause v.signature sound d r.explicit fault q));
+      name = h.name;
+      body = r.same;
+      implicit = h.implicit;
+    }
 
 length_fitted : (n : ℕ) (hs : List (Option (List ℕ))) → length (fitted n hs) ≡ n
 length_fitted zero hs = refl
@@ -154,7 +181,17 @@ module _ (v : View) (e : Entry) (text : List ℕ) (from upto : ℕ) (M : LfTerm)
           keeps = refl;
         };
       } in
-      record { tokens = r.tokens; through = r.through; entry = again; makes = makes; name = refl; body = sym is; implicit = refl }
+      let form : IsExplicitDefinition v.signature r.type_written r.term_written = record { type_form = r.type_form; term_form = r.term_form } in
+      record {
+        tokens = r.tokens;
+        through = r.through;
+        entry = again;
+        makes = makes;
+        free = nothing_else v definition (λ fault q. definition_no_other v.signature sound (Some e.name) r.type_written r.term_written b A M form (r.type_gives, r.term_gives) fault q);
+        name = refl;
+        body = sym is;
+        implicit = refl;
+      }
 
 pub read_made : (v : View) (e : Entry) (text : List ℕ) (from upto : ℕ) → IsSound v → ReadsBody v.signature v.fixities text from upto e.name e.body → IsCanonicalEntry (signature_of v.signature) e → AreShallow text from upto → IsMadeAgain v e text from upto
 read_made v e text from upto sound r k shallow = by_body e.body refl r
@@ -171,17 +208,19 @@ read_accepted : (v : View) (e : Entry) (text : List ℕ) (upto : ℕ) → upto �
 read_accepted v e text upto all sound r k limits =
     let m = read_made v e text 0 upto sound r k (λ tokens h. limits.shallow tokens upto h) in
     let few : IsFew m.tokens = let c = counted text 0 upto m.tokens (omega arith) m.through in let l = limits.few in omega (arith, c, l) in
+    let words = lexemes text m.tokens in
+    let end = place_of text upto in
+    let next = token text End upto upto in
+    let written : IsWrittenAlone text words end next = record {
+      upto = upto;
+      written = record { tokens = m.tokens; through = m.through; few = few; spelled = refl; behind = refl };
+      follower = seek-end text between upto (omega (arith, all));
+    } in
     record {
       report = entry_report v m.entry;
       entry = m.entry;
-      accepts = record {
-        words = lexemes text m.tokens;
-        end = place_of text upto;
-        next = token text End upto upto;
-        written = record { upto = upto; written = record { tokens = m.tokens; through = m.through; few = few; spelled = refl; behind = refl }; follower = seek-end text between upto (omega (arith, all)) };
-        alone = refl;
-        makes = m.makes;
-      };
+      accepts = record { words = words; end = end; next = next; written = written; alone = refl; makes = m.makes };
+      refused = refused_at_most_so v text words end next written refl m.makes.declaration m.makes.reads m.free;
       name = m.name;
       body = m.body;
     }

@@ -16,7 +16,7 @@ use Rattle.tw_fixity.specs.declared.table.Fix.TheVariants.{Infix, Prefix, Postfi
 use Rattle.tw_print.specs.Arguments.{Argument, arguments, kind_as_type, type_or, kind_or, head_type, family_type, implicit_in, hidden, head_hidden, spine_length}
 use Rattle.tw_print.specs.Names.{Scene, Preferences, name_in, is_newest, is_plain, constant_word, head_word, is_taken, candidate, candidates, first_free, fresh_name, lower_base}
 use Rattle.tw_print.specs.Pieces.{Piece, token, space, render, in_parentheses}
-use Rattle.tw_print.specs.Shown.{Parts, parts, operator, head_operator, operand_count, has_operands, shown_count, is_bare, is_operation, in_parentheses_if, quantified_test, argument, operand, spaced, followed, operation, application, root_pieces, atom_pieces, quantifier, abstraction, quantifier_name, term_layout, type_layout, nesting_limit, leading_base, leading_name, leading_type, leading_kind, keyword, classifier, defined_as, declaration, declaration_line}
+use Rattle.tw_print.specs.Shown.{Parts, parts, operator, head_operator, operand_count, has_operands, shown_count, is_bare, is_operation, in_parentheses_if, quantified_test, argument, operand, spaced, followed, operation, application, root_pieces, atom_pieces, quantifier, abstraction, quantifier_name, term_layout, type_layout, nesting_limit, leading_base, leading_name, leading_type, leading_kind, keyword, classifier, defined_as, declaration_line}
 use Rattle.tw_print.specs.Variables.{occurs_in_type, occurs_in_kind}
 use Rattle.tw_signature.specs.Names.{number_of}
 use Rattle.law_session_order.specs.Order.{IsAlike, AreAlike}
@@ -32,11 +32,11 @@ lookup_same : {X : Type 0} (F : Option Entry → X) → ((e f : Entry) → IsAli
 lookup_same F one [] [] a c = refl
 lookup_same F one [] (f ∷ fs) a c = absurd a
 lookup_same F one (e ∷ es) [] a c = absurd a
-lookup_same {X} F one (e ∷ es) (f ∷ fs) (a, h) c = by_test (same_number c (length es)) ∙ ap (λ n. F (cond (same_number c n) (Some f) (entry fs c))) (same_length es fs h)
+lookup_same F one (e ∷ es) (f ∷ fs) (a, h) c = by_test (same_number c (length es)) (lookup_same F one es fs h c) ∙ ap (λ n. F (cond (same_number c n) (Some f) (entry fs c))) (same_length es fs h)
   where
-    by_test : (b : Bool) → F (cond b (Some e) (entry es c)) ≡ F (cond b (Some f) (entry fs c))
-    by_test true = one e f a
-    by_test false = lookup_same F one es fs h c
+    by_test : (b : Bool) → F (entry es c) ≡ F (entry fs c) → F (cond b (Some e) (entry es c)) ≡ F (cond b (Some f) (entry fs c))
+    by_test true k = one e f a
+    by_test false k = k
 
 number_same : (es fs : List Entry) → AreAlike es fs → (x : List ℕ) → number_of es x ≡ number_of fs x
 number_same [] [] a x = refl

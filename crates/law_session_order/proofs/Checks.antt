@@ -1,24 +1,24 @@
 -- What is reported of a definition without a name is read back.
-use Rattle.std.proofs.Common.{◌≡◌, ℕ, List, [], ◌∷◌, ◌++◌, drop, length, Bool, true, false, cond, Option, Some, None, refl, sym, ap, ◌∙◌, subst}
+use Rattle.std.proofs.Common.{◌≡◌, ℕ, ◌+◌, List, [], ◌∷◌, ◌++◌, length, Bool, false, Option, Some, None, refl, sym, ap, ◌∙◌, subst}
 use Rattle.std.specs.Prelude.{codes}
 use Rattle.std.specs.Str.{bytes_eq}
 use Rattle.std.proofs.lemmas.Bool.{cond-true}
 use Rattle.std.specs.Cmp.Lexicographic.{bytes_decides}
-use Rattle.lf.specs.Entries.{Body, Entry, declare_constant, declare_definition, declare_family, signature_of}
+use Rattle.lf.specs.Entries.{Body, Entry, declare_constant, declare_definition, declare_family}
 use Rattle.lf.specs.Syntax.{LfType, Skeleton, Term as LfTerm}
 use Rattle.lf_elaboration.specs.Completions.{FreeValue}
 use Rattle.lf_elaboration.specs.Principal.{WrittenBody, written_constant, written_definition, written_definition_of, written_family, CompletesBody, body_over}
 use Rattle.lf_elaboration.specs.Written.{Written, WrittenType}
+use Rattle.lf_unification.specs.Offering.{lambda_over, pi_over}
 use Rattle.tw_approx.specs.Readings.{Reading, and_then}
-use Rattle.tw_resolve.specs.Resolved.{taken_whole, with_one, definition_read}
+use Rattle.tw_resolve.specs.Resolved.{taken_whole, with_one, definition_read, names_of}
 use Rattle.tw_resolve.specs.Resolving.{made, resolved_term, resolved_type, with_both}
 use Rattle.tw_fixity.specs.Names.{Names}
 use Rattle.tw_parse.specs.Outlines.{Outline, Table, Shapes, Head, a_check, a_definition, an_abbreviation, declares, defines, defines_typed, prefers, prefers_both, gives}
 use Rattle.tw_parse.specs.Readings.{Declares, MeansAll, declared, defined, defined_typed, preferred, given}
 use Rattle.tw_parse.specs.Syntax.{Term, Declaration, DeclarationOf, define}
 use Rattle.tw_parse.specs.Words.{Lexeme}
-use Rattle.tw_approx.specs.Names.{IsFreeVariable}
-use Rattle.tw_print.specs.Shown.{declaration_line, scene_after}
+use Rattle.tw_print.specs.Shown.{declaration_line}
 use Rattle.tw_recon.specs.Reconstruction.{IsReconstructed}
 use Rattle.tw_decl.specs.View.{View, with_entry, scene_of, told}
 use Rattle.tw_decl.specs.Declaration.{entry_line, Does, Enters, Makes}
@@ -91,11 +91,11 @@ completed_defined es F frees b (written_definition_of M U c) (declare_constant A
 completed_defined es F frees b (written_definition_of M U c) (declare_definition N A d) i h = record { term = N; type = A; is = ap (declare_definition N A) (sym h.0 ∙ i) }
 
 over : (F : List LfType) (b : Bool) (d : Body) → IsDefined b d → IsDefined b (body_over F d)
-over F b d h = let e = ap (body_over F) h.is in record { term = _; type = _; is = e }
+over F b d h = record { term = lambda_over F h.term; type = pi_over F h.type; is = ap (body_over F) h.is }
 
 entry_defined : (es : List Entry) (A : Option Term) (M : Term) (b : Bool) (e : Entry) → IsReconstructed es (define None A M b) e → IsDefined b e.body
 entry_defined es A M b e k =
-    let w = definition_written es _ A M b k.is_written.omitted k.written k.is_written.resolved in
+    let w = definition_written es (names_of k.rows) A M b k.is_written.omitted k.written k.is_written.resolved in
     let d = over k.quantifiers b k.inner (completed_defined es k.quantifiers k.completed.frees b k.written k.inner w k.completed.principal.completion.completed) in
     record { term = d.term; type = d.type; is = k.is_entry.body ∙ d.is }
 

@@ -3,6 +3,7 @@ pub mod Binders
 pub mod Keeping
 pub mod Reading
 pub mod Steps
+pub mod Refusing
 pub mod Accepting
 pub mod Alike
 pub mod Checks

@@ -1,8 +1,8 @@
 -- The lines of a session are loaded one after the other.
-use Rattle.std.proofs.Common.{◌≡◌, ℕ, zero, suc, ◌+◌, ◌<◌, ◌≤◌, ◌^◌, List, [], ◌∷◌, ◌++◌, drop, length, Bool, true, false, cond, Ok, Some, None, refl, sym, ap, ap₂, ◌∙◌, subst, arith, append_assoc, append-nil, length-append}
-use Rattle.std.specs.Prelude.{codes}
+use Rattle.std.proofs.Common.{◌≡◌, ℕ, zero, suc, ◌+◌, ◌<◌, List, [], ◌∷◌, ◌++◌, drop, length, Bool, true, false, cond, Some, None, refl, sym, ap, ap₂, ◌∙◌, subst, arith, append_assoc, append-nil, length-append}
+use Rattle.std.specs.Prelude.{◌^◌, codes}
 use Rattle.std.specs.Cmp.Lexicographic.{nat_list_cmp_total}
-use Rattle.std.specs.FinMap.{FinMap, get, len, remove, get-remove}
+use Rattle.std.specs.FinMap.{get, len, remove, get-remove}
 use Rattle.std.specs.Ordering.{eq_by_cmp}
 use Rattle.std.proofs.Math.Seq.{drop-append_seam}
 use Rattle.lf.specs.Entries.{Entry, entry, signature_of, IsCanonicalEntry, IsCanonicalSignature}
@@ -21,6 +21,7 @@ use Rattle.tw_print.specs.Shown.{declaration_line, keyword, line_in, nesting_lim
 use Rattle.tw_decl.specs.View.{View, scene_of, with_entry}
 use Rattle.tw_decl.specs.Declaration.{entry_report, AcceptsFrom, HasNoMore}
 use Rattle.tw_server.specs.Loading.{Declares, no_more, one_more, first_lines}
+use Rattle.tw_server.specs.Replies.{opening, closing}
 use Rattle.law_reading_back.specs.Names.{AreGoodHints, EachIs, HasRoom, HasNoImplicit, IsName, IsPlainByte}
 use Rattle.law_reading_back.proofs.Lexing.{drop_on, line_feed_passed, passed}
 use Rattle.law_session_order.specs.Laws.{SignatureReadsBack}
@@ -37,11 +38,11 @@ AllEntries P (e ∷ es) = P e × AllEntries P es
 
 found_below : (es : List Entry) (c : ℕ) (f : Entry) → entry es c ≡ Some f → c < length es
 found_below [] c f q = cc
-found_below (e ∷ es) c f q = by_test (same_number c (length es)) refl q
+found_below (e ∷ es) c f q = by_test (same_number c (length es)) refl q (found_below es c f)
   where
-    by_test : (b : Bool) → same_number c (length es) ≡ b → cond b (Some e) (entry es c) ≡ Some f → c < suc (length es)
-    by_test true h k = let i = number_is c (length es) h in omega (arith, i)
-    by_test false h k = let l = found_below es c f k in omega (arith, l)
+    by_test : (b : Bool) → same_number c (length es) ≡ b → cond b (Some e) (entry es c) ≡ Some f → (entry es c ≡ Some f → c < length es) → c < suc (length es)
+    by_test true h k next = let i = number_is c (length es) h in omega (arith, i)
+    by_test false h k next = let l = next k in omega (arith, l)
 
 all_of : (P : Entry → Type 0) (es : List Entry) → ((c : ℕ) (f : Entry) → entry es c ≡ Some f → P f) → AllEntries P es
 all_of P [] h = tt
@@ -69,7 +70,7 @@ canonical_replaced (g ∷ newer) es fs a (h, c) k =
     (canonical_replaced newer es fs a h k, subst (λ Σ. IsCanonicalEntry Σ g) (same_signature (newer ++ es) (newer ++ fs) (alike_append newer es fs a)) c)
 
 -- the lines of entries, the oldest first
-all_lines : Scene → List Entry → List ℕ
+abbrev all_lines : Scene → List Entry → List ℕ
 all_lines s [] = []
 all_lines s (e ∷ es) = all_lines s es ++ (declaration_line s e ++ codes "\n")
 
@@ -110,7 +111,7 @@ module _ (v u : View) (o : IsViewInOrder v) (i : v.parameters.implicit ≡ false
     pub order : IsViewInOrder after
     pub rows : HasNoRows after
     pub alike : AreAlike older after.signature
-    pub none : AllEntries (λ e. e.implicit ≡ zero) after.signature
+    pub explicit : AllEntries (λ e. e.implicit ≡ zero) after.signature
     pub next : first_token text upto ≡ first_token text (length (all_lines (scene_of v) older))
 
   -- the session with the entries that the lines declared in place of those that they show
@@ -146,7 +147,7 @@ module _ (v u : View) (o : IsViewInOrder v) (i : v.parameters.implicit ≡ false
     }
 
     mixed_none : HasNoImplicit (scene_of mixed)
-    mixed_none = all_at (λ f. f.implicit ≡ zero) (newer ++ e ∷ fs) (all_mixed (λ f. f.implicit ≡ zero) none p.none)
+    mixed_none = all_at (λ f. f.implicit ≡ zero) (newer ++ e ∷ fs) (all_mixed (λ f. f.implicit ≡ zero) none p.explicit)
 
     mixed_room : HasRoom (scene_of mixed)
     mixed_room = subst (λ n. n + len v.fixities + nesting_limit < 2 ^ 64) (same_length v.signature (newer ++ e ∷ fs) alike) room
@@ -157,25 +158,22 @@ module _ (v u : View) (o : IsViewInOrder v) (i : v.parameters.implicit ≡ false
     mixed_plain : HasPlainLine (scene_of mixed) e
     mixed_plain = subst (λ x. EachIs IsPlainByte (drop (length (render (keyword e.body))) x)) line (middle (HasPlainLine (scene_of v)) newer e older (subst (AllEntries (HasPlainLine (scene_of v))) split plain))
 
-    from : ℕ
+    abbrev from : ℕ
     from = length (all_lines (scene_of v) older)
 
     at : drop from text ≡ declaration_line (scene_of v) e ++ (10 ∷ all_lines (scene_of v) newer)
-    unfolding from
     at = ap (drop from) (is ∙ ap (all_lines (scene_of v)) split) ∙ line_stands (scene_of v) newer older e
 
-    upto : ℕ
+    abbrev upto : ℕ
     upto = from + length (declaration_line (scene_of mixed) e)
 
     back : LineReadsBack (scene_of mixed) fs p.after.fixities e
     back = line_back mixed newer fs e p.after.fixities mixed_order i mixed_room refl (λ x q. p.rows x ∙ sym (no_rows x)) mixed_none mixed_plain
 
     again : IsMadeAgain p.after e text from upto
-    unfolding upto
     again = read_made p.after e text from upto p.order.sound (back text (10 ∷ all_lines (scene_of v) newer) from (at ∙ ap (λ x. x ++ (10 ∷ all_lines (scene_of v) newer)) line)) stands (λ tokens h. (limits tokens from upto h).1)
 
     accepts : AcceptsFrom p.after text p.upto (entry_report p.after again.entry) upto (with_entry p.after again.entry)
-    unfolding from
     accepts = record {
       words = lexemes text again.tokens;
       end = place_of text upto;
@@ -190,15 +188,14 @@ module _ (v u : View) (o : IsViewInOrder v) (i : v.parameters.implicit ≡ false
     }
 
     behind : first_token text upto ≡ first_token text (length (all_lines (scene_of v) (e ∷ older)))
-    unfolding upto
-    unfolding from
     behind =
         let rest = all_lines (scene_of v) newer in
         let l = length-append (all_lines (scene_of v) older) (declaration_line (scene_of v) e ++ codes "\n") in
-        let m = length-append (declaration_line (scene_of v) e) (codes "\n") in
+        let m : length (declaration_line (scene_of v) e ++ codes "\n") ≡ length (declaration_line (scene_of v) e) + 1 = length-append (declaration_line (scene_of v) e) (codes "\n") in
         let n = ap length line in
+        let reach : upto + 1 ≡ length (all_lines (scene_of v) (e ∷ older)) = omega (arith, l, m, n) in
         line_feed_passed text upto rest (drop_on text from (declaration_line (scene_of mixed) e) (10 ∷ rest) (at ∙ ap (λ x. x ++ (10 ∷ rest)) line))
-        ∙ ap (first_token text) (omega (arith, l, m, n))
+        ∙ ap (first_token text) reach
 
     step : Loaded (e ∷ older)
     step = record {
@@ -209,7 +206,7 @@ module _ (v u : View) (o : IsViewInOrder v) (i : v.parameters.implicit ≡ false
       order = accepting_from_keeps p.after (with_entry p.after again.entry) text (entry_report p.after again.entry) p.upto upto accepts p.order;
       rows = λ x. no_row p.after.fixities again.entry.name x (p.rows x);
       alike = (record { name = again.name; body = again.body; implicit = again.implicit ∙ sym (middle (λ f. f.implicit ≡ zero) newer e older (subst (AllEntries (λ f. f.implicit ≡ zero)) split none)) }, p.alike);
-      none = (again.implicit, p.none);
+      explicit = (again.implicit, p.explicit);
       next = behind;
     }
 
@@ -222,7 +219,7 @@ module _ (v u : View) (o : IsViewInOrder v) (i : v.parameters.implicit ≡ false
     order = begins;
     rows = rowless;
     alike = subst (AreAlike []) (sym empty) tt;
-    none = subst (AllEntries (λ e. e.implicit ≡ zero)) (sym empty) tt;
+    explicit = subst (AllEntries (λ e. e.implicit ≡ zero)) (sym empty) tt;
     next = refl;
   }
   load newer (e ∷ older) split = step newer older e split (load (newer ++ e ∷ []) older (split ∙ sym (append_assoc newer (e ∷ []) older)))
@@ -243,13 +240,16 @@ signature_back v u o i room none no_rows plain begins empty rowless limits =
     let p = load v u o i room every no_rows lines begins empty rowless text is limits [] v.signature refl in
     record {
       after = p.after;
-      loads = λ name. (_, record {
-        reports = p.lines;
-        upto = p.upto;
-        shown = [];
-        makes = p.declares;
-        ends = (nothing_left v u o i room every no_rows lines begins empty rowless text is limits p.upto p.next, refl);
-        says = refl;
-      });
+      loads = λ name. (
+        (opening name ++ p.lines) ++ ([] ++ closing name),
+        record {
+          reports = p.lines;
+          upto = p.upto;
+          shown = [];
+          makes = p.declares;
+          ends = (nothing_left v u o i room every no_rows lines begins empty rowless text is limits p.upto p.next, refl);
+          says = refl;
+        },
+      );
       alike = p.alike;
     }

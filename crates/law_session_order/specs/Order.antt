@@ -12,8 +12,10 @@ use Rattle.tw_print.specs.Shown.{declaration_line}
 use Rattle.law_reading_back.specs.Laws.{IsOpenDefinition, IsOpenEntry, ReadsAs, ReadsAsDefinition, bare_line}
 use Rattle.law_reading_back.specs.Names.{EachIs, IsPlainByte, HasRoom, HasGoodNames, AreGoodHints, HasGoodPreferences, HasGoodRows, HasNoImplicit}
 use Rattle.tw_decl.specs.View.{View, scene_of, with_entry, IsSound}
-use Rattle.tw_decl.specs.Declaration.{Accepts}
+use Rattle.tw_decl.specs.Declaration.{Accepts, HasCause}
 use Rattle.tw_decl.specs.Reports.{Reported}
+use Rattle.tw_decl.specs.declared.refusal.Refusal.{Refusal}
+use Rattle.tw_decl.specs.declared.refusal.Refusal.TheVariants as refusals
 use Rattle.tw_server.specs.Loading.{Opens}
 
 -- The signature is canonical; the names of entries, their hints and the preferred names are identifiers without a fixed meaning; the newest entry
@@ -71,11 +73,18 @@ pub record IsWithinLimits (text : List ℕ) : Type 0 where
   pub few : length text < 65536
   pub shallow : (tokens : List Token) (upto : ℕ) → ThroughDot text 0 tokens upto → first_too_deep [] 0 (lexemes text tokens) ≡ None
 
--- By the rule of acceptance the text alone is accepted, and declares an entry of the same name and body.
+-- a refusal as too deep, or for want of memory
+abbrev pub IsDeepOrMemory : Refusal → Type 0
+IsDeepOrMemory refusals.Memory = Unit {0}
+IsDeepOrMemory (refusals.TooDeep place) = Unit {0}
+IsDeepOrMemory refusal = ⊥
+
+-- By the rule of acceptance the text alone is accepted, and declares an entry of the same name and body; and there is no cause to refuse it, but as too deep or for want of memory.
 pub record AcceptsAgain (v : View) (text : List ℕ) (e : Entry) : Type 0 where
   pub report : Reported
   pub entry : Entry
   pub accepts : Accepts v text report (with_entry v entry)
+  pub refused : (refusal : Refusal) → HasCause v text refusal → IsDeepOrMemory refusal
   pub name : entry.name ≡ e.name
   pub body : entry.body ≡ e.body
 
