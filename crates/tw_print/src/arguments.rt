@@ -9,7 +9,7 @@ ghost use Rattle.tw_print.specs.ArgumentView.{argument_of, any_lambda, lambda_te
 ghost use Rattle.tw_print.specs.SceneView.{scene_in};
 ghost use Rattle.tw_print.specs.Showable.{Takes};
 
-use crate::declaration::nesting_limit;
+use crate::levels::STACK_LEVELS;
 use crate::scene::Scene;
 use std::alloc::{AllocError, Global};
 use tw_hered::instantiate;
@@ -49,12 +49,13 @@ pub fn typed_arguments<'a>(
     Ok(arguments)
 }
 
-/// The type with `arg` put in for its newest variable. What nests deeper than a text may is not shown, so past that limit memory counts as used up here too.
+/// The type with `arg` put in for its newest variable. What nests deeper than the machine's stack holds of a text is not shown, so past that memory counts as used up
+/// here too.
 pub fn instantiated(alloc: Global, body: &Ty, arg: &Term, skel: &Skeleton) -> Result<Ty, AllocError>
     requires { TypeFits (single (skeleton_of skel.now) (term_of arg.now)) (type_of body.now) }
     ensures { IfOk result (λ a. type_of a ≡ substitute_type reduce (single (skeleton_of skel.now) (term_of arg.now)) (type_of body.now)) }
 {
-    match instantiate(alloc, body, arg, skel, nesting_limit()) {
+    match instantiate(alloc, body, arg, skel, STACK_LEVELS) {
         Ok(ty) => Ok(ty),
         Err(_) => Err(AllocError),
     }

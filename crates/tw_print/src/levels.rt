@@ -8,7 +8,7 @@ use std::alloc::AllocError;
 const ALL_LEVELS: u64 = 1 << 63;
 
 /// How many of them the machine's stack holds.
-const STACK_LEVELS: u64 = 8192;
+pub const STACK_LEVELS: u64 = 8192;
 
 /// The levels with which a text begins.
 pub fn all_levels() -> u64
