@@ -1,3 +1,4 @@
 pub mod View
 pub mod Entries
 pub mod Passed
+pub mod Answers

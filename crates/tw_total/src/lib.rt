@@ -3,8 +3,10 @@
 
 mod concluding;
 mod frozen;
+mod laws;
 mod record;
 mod seen;
 
 pub use concluding::conclude;
+pub use laws::answers_pass;
 pub use record::{TotalRecord, Totals};
