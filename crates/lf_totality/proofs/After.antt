@@ -2,7 +2,7 @@
 use Rattle.lf_checks.specs.Marks.{Mark}
 use Rattle.lf_checks.specs.Order.{Order}
 use Rattle.lf_totality.specs.Total.{Lasting, Total}
-use Rattle.lf_totality.specs.Group.{Checked, GroupChecked, IsFrozenBy, IsRight}
+use Rattle.lf_totality.specs.Group.{Checked, GroupChecked, GroupCheckedBySizes, IsFrozenBy, IsRight}
 use Rattle.std.proofs.Common.{refl, ℕ, List, inl}
 use Rattle.std.specs.Prelude.{Bool}
 use Rattle.lf.specs.Typing.{Signature, IsSignature}
@@ -12,6 +12,7 @@ use Rattle.lf.specs.Extension.{Extends}
 use Rattle.lf.proofs.Conservativity.{SelfContained-extends}
 use Rattle.lf.proofs.Worlds.{world_for_callee}
 use Rattle.lf.proofs.ExtensionTyping.{extension_over_less}
+use Rattle.lf_totality.proofs.Drops.{calls_drop}
 use Rattle.lf_totality.proofs.Lasting.{lasting_on}
 use Rattle.lf_totality.proofs.Theorem.{conclude}
 
@@ -46,10 +47,32 @@ record_on Σ Σ' R x r = record {
   frozen = frozen_on Σ Σ' R x r.frozen;
 }
 
--- the record of a checked group is right
-pub record_made : (Σ : Signature) (ok : IsSignature Σ) (R : Checked) (order : ℕ → Order) (totals : List Checked) → GroupChecked Σ R order totals → ((Q : Checked) → Member Q totals → IsRight Σ Q) → IsRight Σ R
-record_made Σ ok R order totals gc rs = record {
+-- the record of a group whose sizes drop is right
+pub record_by_sizes : (Σ : Signature) (ok : IsSignature Σ) (R : Checked) (order : ℕ → Order) (totals : List Checked) → GroupCheckedBySizes Σ R order totals → ((Q : Checked) → Member Q totals → IsRight Σ Q) → IsRight Σ R
+record_by_sizes Σ ok R order totals gc rs = record {
   lasts = conclude Σ ok R order totals gc rs;
   self_contained = gc.self_contained;
   frozen = gc.frozen;
 }
+
+-- where calls descend, sizes drop
+pub by_sizes : (Σ : Signature) (R : Checked) (order : ℕ → Order) (totals : List Checked) → GroupChecked Σ R order totals → GroupCheckedBySizes Σ R order totals
+by_sizes Σ R order totals gc = record {
+  marked = gc.marked;
+  blocks_typed = gc.blocks_typed;
+  same_before = gc.same_before;
+  itself_below = gc.itself_below;
+  self_contained = gc.self_contained;
+  frozen = gc.frozen;
+  orders_at_inputs = gc.orders_at_inputs;
+  well_moded = gc.well_moded;
+  well_worlded = gc.well_worlded;
+  callees = gc.callees;
+  descending = calls_drop Σ R.worlds order R.families gc.descending;
+  covered_inputs = gc.covered_inputs;
+  covered_outputs = gc.covered_outputs;
+}
+
+-- the record of a checked group is right
+pub record_made : (Σ : Signature) (ok : IsSignature Σ) (R : Checked) (order : ℕ → Order) (totals : List Checked) → GroupChecked Σ R order totals → ((Q : Checked) → Member Q totals → IsRight Σ Q) → IsRight Σ R
+record_made Σ ok R order totals gc rs = record_by_sizes Σ ok R order totals (by_sizes Σ R order totals gc) rs

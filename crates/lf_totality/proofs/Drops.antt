@@ -1,5 +1,5 @@
 -- Calls that descend have sizes that drop.
-use Rattle.std.proofs.Common.{◌≡◌, ℕ, zero, suc, List, [], ◌∷◌, ◌++◌, ◌+◌, length, refl, sym, ap, ◌∙◌, subst, inl, inr, arith}
+use Rattle.std.proofs.Common.{◌≡◌, ℕ, zero, suc, List, [], ◌∷◌, ◌++◌, ◌+◌, ◌<◌, length, refl, sym, ap, ◌∙◌, subst, inl, inr, arith}
 use Rattle.std.specs.Prelude.{◌⊎◌}
 use Rattle.std.proofs.lemmas.List.{append_assoc, append-nil, length-append}
 use Rattle.lf.specs.Syntax.{Spine, nil, app, LfType}
@@ -65,6 +65,32 @@ without_last a b (x ∷ xs) (y ∷ ys) (inr (e, l)) = go (without_last a b xs ys
     go : AreLess xs ys ⊎ (xs ≡ ys) → AreLess (x ∷ xs) (y ∷ ys) ⊎ (x ∷ xs ≡ y ∷ ys)
     go (inl m) = inl (inr (e, m))
     go (inr q) = inr (ap (λ n. n ∷ xs) e ∙ ap (λ t. y ∷ t) q)
+
+-- and the other way round: a list that is less is so before any numbers, and one that is the same before a lesser number
+less_last : (a b : ℕ) (xs ys : List ℕ) → AreLess xs ys → LexLt (xs ++ a ∷ []) (ys ++ b ∷ [])
+less_last a b [] ys l = absurd l
+less_last a b (x ∷ xs) [] l = absurd l
+less_last a b (x ∷ xs) (y ∷ ys) (inl (l, e)) = inl (l, longer)
+  where
+    longer : length (xs ++ a ∷ []) ≡ length (ys ++ b ∷ [])
+    longer =
+        let p : length (xs ++ a ∷ []) ≡ length xs + length (a ∷ []) = length-append xs (a ∷ []) in
+        let q : length (ys ++ b ∷ []) ≡ length ys + length (b ∷ []) = length-append ys (b ∷ []) in omega arith
+less_last a b (x ∷ xs) (y ∷ ys) (inr (e, l)) = inr (e, less_last a b xs ys l)
+
+same_last : (a b : ℕ) (xs ys : List ℕ) → a < b → AreLess xs ys ⊎ (xs ≡ ys) → LexLt (xs ++ a ∷ []) (ys ++ b ∷ [])
+same_last a b xs ys l (inl h) = less_last a b xs ys h
+same_last a b xs ys l (inr e) = subst (λ zs. LexLt (xs ++ a ∷ []) (zs ++ b ∷ [])) e (equal xs)
+  where
+    equal : (zs : List ℕ) → LexLt (zs ++ a ∷ []) (zs ++ b ∷ [])
+    equal [] = inl (l, refl)
+    equal (z ∷ zs) = inr (refl, equal zs)
+
+pub less_before : (O P : Order) (S T : Spine) (a b : ℕ) → AreLess (sizes_by O S) (sizes_by P T) → LexLt (sizes O S (a ∷ [])) (sizes P T (b ∷ []))
+less_before O P S T a b h = subst (λ xs. LexLt xs (sizes P T (b ∷ []))) (sym (sizes_before O S (a ∷ []))) (subst (LexLt (sizes_by O S ++ a ∷ [])) (sym (sizes_before P T (b ∷ []))) (less_last a b (sizes_by O S) (sizes_by P T) h))
+
+pub same_before : (O P : Order) (S T : Spine) (a b : ℕ) → a < b → AreLess (sizes_by O S) (sizes_by P T) ⊎ (sizes_by O S ≡ sizes_by P T) → LexLt (sizes O S (a ∷ [])) (sizes P T (b ∷ []))
+same_before O P S T a b l h = subst (λ xs. LexLt xs (sizes P T (b ∷ []))) (sym (sizes_before O S (a ∷ []))) (subst (LexLt (sizes_by O S ++ a ∷ [])) (sym (sizes_before P T (b ∷ []))) (same_last a b (sizes_by O S) (sizes_by P T) l h))
 
 module _ (Σ : Signature) (W : List Block) (order : ℕ → Order) (group : List ℕ) (c : Clause) (A : LfType) where
   -- the orders' lists of sizes before other lists

@@ -15,10 +15,12 @@ use Rattle.lf_checks.specs.Marks.{Mark, input, output, free, input_places, free_
 use Rattle.lf_checks.specs.Ground.{UsesGoal, EachSubgoal, ground_by, ground_first, ground_after}
 use Rattle.lf_checks.specs.Modes.{AllGround, InFreePlace, occurs_at, occurs_goal, EachHypothesis, WellModedTo}
 use Rattle.lf_checks.specs.Order.{Order, KeepsVariables}
-use Rattle.lf_checks.specs.Descent.{CallDescends, EqualCall, LeadsTo, no_call, after_call}
+use Rattle.lf_checks.specs.Descent.{EqualCall, LeadsTo, no_call, after_call}
 use Rattle.lf_cases.specs.Cover.{place_of, Offered, by_constant, by_entry, AgreesOutside, CoveredBy, CoveredOutputs, OutputsCovered, AreTerms}
 use Rattle.lf_totality.specs.Total.{TotalAt, Lasting, HasTotalMarks}
-use Rattle.lf_totality.specs.Group.{Checked, IsRight, IsCallee, GroupChecked}
+use Rattle.lf_totality.specs.Group.{Checked, IsRight, IsCallee, GroupCheckedBySizes}
+use Rattle.lf_totality.specs.Sizes.{AreLess, SizesDrop, call_sizes, head_sizes}
+use Rattle.lf_totality.proofs.Drops.{less_before, same_before}
 use Rattle.lf.proofs.TypeLaws.{substitute_identity_type}
 use Rattle.lf.proofs.Partial.{skeletons_beside, PartialSubstitution, uses_type_all}
 use Rattle.lf.proofs.Target.{target_of}
@@ -34,7 +36,7 @@ use Rattle.lf_checks.proofs.Marks.{sound_inputs}
 use Rattle.lf_checks.proofs.Measure.{LexLt}
 use Rattle.lf_checks.proofs.Pigeonhole.{Distinct, no_more_than}
 use Rattle.lf_checks.proofs.Shape.{shape, shape_head}
-use Rattle.lf_checks.proofs.Sizes.{sizes, sizes_same, less_call, same_call}
+use Rattle.lf_checks.proofs.Sizes.{sizes, sizes_same}
 use Rattle.lf_cases.proofs.WellWorlded.{worlded}
 
 -- Two walks over the subgoals, joined. Each is at a subgoal; the ground sets hold what stands outside.
@@ -80,7 +82,7 @@ leads_on : (Σ : Signature) (W : List Block) (order : ℕ → Order) (group : Li
 leads_on Σ W order group a b c no_call k = k
 leads_on Σ W order group a b c (after_call {b = d} e h) k = after_call e (leads_on Σ W order group d b c h k)
 
-module _ (Σ : Signature) (ok : IsSignature Σ) (R : Checked) (order : ℕ → Order) (totals : List Checked) (gc : GroupChecked Σ R order totals) (records : (Q : Checked) → Member Q totals → IsRight Σ Q) where
+module _ (Σ : Signature) (ok : IsSignature Σ) (R : Checked) (order : ℕ → Order) (totals : List Checked) (gc : GroupCheckedBySizes Σ R order totals) (records : (Q : Checked) → Member Q totals → IsRight Σ Q) where
   clause_typed : (c : Clause) → IsClause Σ R.worlds c → IsContext Σ c.outer × IsType Σ c.outer c.type
   clause_typed c (from_constant k U e) = (tt, ok.types_ok k U e)
   clause_typed c (from_entry B later E es i q) = drop_typed Σ later E (onto es B.some) (subst (IsContext Σ) (onto_onto later (E ∷ es) B.some) (subst (λ X. IsContext Σ (onto X B.some)) (sym q) (gc.blocks_typed B i)))
@@ -222,12 +224,14 @@ module _ (Σ : Signature) (ok : IsSignature Σ) (R : Checked) (order : ℕ → O
           at_head : (r : List ℕ) → LexLt r (sizes (order (target c.type)) (substitute_spine reduce σ (target_arguments c.type)) (s.room ∷ [])) → LexLt r (sizes (order s.family) (substitute_spine reduce σ (target_arguments c.type)) (s.room ∷ []))
           at_head r l = subst (λ a. LexLt r (sizes (order a) (substitute_spine reduce σ (target_arguments c.type)) (s.room ∷ []))) fam l
 
-          by : CallDescends Σ R.worlds order R.families c A → Smaller (target A) (substitute_type reduce σ A) (substitute_spine reduce σ (target_arguments c.type))
-          by (al, inl q) = (fresh (target A) ga, refl, at_head (sizes (order (target A)) (target_arguments (substitute_type reduce σ A)) (length R.families ∷ [])) (less_call Σ order c A σ kp (length R.families ∷ []) (s.room ∷ []) al refl q))
-          by (al, inr (q, n)) =
+          by : SizesDrop Σ R.worlds order R.families c A → Smaller (target A) (substitute_type reduce σ A) (substitute_spine reduce σ (target_arguments c.type))
+          by (inl less) = (fresh (target A) ga, refl, at_head (sizes (order (target A)) (target_arguments (substitute_type reduce σ A)) (length R.families ∷ [])) (less_before (order (target A)) (order (target c.type)) (target_arguments (substitute_type reduce σ A)) (substitute_spine reduce σ (target_arguments c.type)) (length R.families) s.room (less σ kp)))
+          by (inr (q, n, least)) =
               let call : EqualCall Σ R.worlds order R.families s.family (target A) = record { clause = c; is_clause = k; caller = fam; caller_in = s.inside; index = i; subgoal = A; is_subgoal = v; callee = refl; callee_in = ga; same = q } in
               let (u, e, r) = next s (target A) ga call (λ p. n (subst (LeadsTo Σ R.worlds order R.families (target A)) (sym fam) p)) in
-              let l : LexLt (sizes (order (target A)) (target_arguments (substitute_type reduce σ A)) (u.room ∷ [])) (sizes (order s.family) (substitute_spine reduce σ (target_arguments c.type)) (s.room ∷ [])) = at_head (sizes (order (target A)) (target_arguments (substitute_type reduce σ A)) (u.room ∷ [])) (same_call Σ order c A σ kp (u.room ∷ []) (s.room ∷ []) q (inl (falls u.room s.room r, refl))) in
+              let l : LexLt (sizes (order (target A)) (target_arguments (substitute_type reduce σ A)) (u.room ∷ [])) (sizes (order s.family) (substitute_spine reduce σ (target_arguments c.type)) (s.room ∷ [])) =
+                  at_head (sizes (order (target A)) (target_arguments (substitute_type reduce σ A)) (u.room ∷ [])) (same_before (order (target A)) (order (target c.type)) (target_arguments (substitute_type reduce σ A)) (substitute_spine reduce σ (target_arguments c.type)) u.room s.room (falls u.room s.room r) (least σ kp))
+              in
               (u, e, subst (λ a. LexLt (sizes (order a) (target_arguments (substitute_type reduce σ A)) (u.room ∷ [])) (sizes (order s.family) (substitute_spine reduce σ (target_arguments c.type)) (s.room ∷ []))) (sym e) l)
             where
               falls : (a b : ℕ) → suc a ≡ b → a < b

@@ -13,6 +13,7 @@ use Rattle.lf_checks.specs.Worlded.{WellWorlded, BlocksServe}
 use Rattle.lf_checks.specs.Order.{Order, IsAtPlaces}
 use Rattle.lf_checks.specs.Descent.{GroupDescends}
 use Rattle.lf_cases.specs.Cover.{CoveredInputs, CoveredOutputs}
+use Rattle.lf_totality.specs.Sizes.{CallsDrop}
 use Rattle.lf_totality.specs.Total.{HasTotalMarks, Lasting}
 
 -- The record of a group: its families with their marks, its worlds, for each of its families which families were below it when
@@ -49,8 +50,8 @@ IsCallee R totals f b = HoldsBelow R totals f b × (Member b R.families ⊎ ((Q 
 
 -- What is checked of a group, to be recorded as R, beside the records made before. The marks of R are those of every family called.
 -- The local hypotheses looked at as clauses are those of the group's families. A family that an earlier record holds too has the
--- same marks and worlds there.
-pub record GroupChecked (Σ : Signature) (R : Checked) (order : ℕ → Order) (totals : List Checked) : Type 0 where
+-- same marks and worlds there. By what the calls to the group descend is a parameter.
+pub record GroupCheckedBy (Descending : Type 0) (Σ : Signature) (R : Checked) (order : ℕ → Order) (totals : List Checked) : Type 0 where
   pub marked : (f : ℕ) → Member f R.families → HasTotalMarks Σ f (R.marks f)
   pub blocks_typed : AreTypedBlocks Σ R.worlds
   pub same_before : (Q : Checked) → Member Q totals → (f : ℕ) → Member f R.families → Member f Q.families → (Q.marks f ≡ R.marks f) × (Q.worlds ≡ R.worlds)
@@ -61,6 +62,14 @@ pub record GroupChecked (Σ : Signature) (R : Checked) (order : ℕ → Order) (
   pub well_moded : (c : Clause) → IsClause Σ R.worlds c → Member (target c.type) R.families → WellModed Σ R.marks (λ f. is_in f R.families) c
   pub well_worlded : (c : Clause) → IsClause Σ R.worlds c → Member (target c.type) R.families → WellWorlded Σ R.worlds c
   pub callees : (c : Clause) → IsClause Σ R.worlds c → Member (target c.type) R.families → (i : ℕ) (A : LfType) → IsSubgoal c i A → IsCallee R totals (target c.type) (target A)
-  pub descending : GroupDescends Σ R.worlds order R.families
+  pub descending : Descending
   pub covered_inputs : (f : ℕ) → Member f R.families → CoveredInputs Σ R.marks R.worlds (R.below f) f
   pub covered_outputs : (c : Clause) → IsClause Σ R.worlds c → Member (target c.type) R.families → Subgoals R.marks c (λ U A. CoveredOutputs Σ R.marks R.worlds (R.below (target c.type)) c U A) (λ U. Unit {0})
+
+-- the calls descend by the orders of the families
+abbrev pub GroupChecked : Signature → Checked → (ℕ → Order) → List Checked → Type 0
+GroupChecked Σ R order totals = GroupCheckedBy (GroupDescends Σ R.worlds order R.families) Σ R order totals
+
+-- It is enough that the sizes of what the orders name drop: so other facts about sizes may come in beside the orders.
+abbrev pub GroupCheckedBySizes : Signature → Checked → (ℕ → Order) → List Checked → Type 0
+GroupCheckedBySizes Σ R order totals = GroupCheckedBy (CallsDrop Σ R.worlds order R.families) Σ R order totals

@@ -19,11 +19,15 @@ use Rattle.lf_cases.specs.OutputGoal.{output_goal, HasOutputGoal}
 use Rattle.lf_cases.specs.Raised.{RaisedPlaces, PlacesBelow, CoveredRaisedOutputs}
 use Rattle.lf_totality.specs.Total.{HasTotalMarks, Total, Lasting}
 use Rattle.lf_checks.specs.Below.{IsSubordination}
-use Rattle.lf_totality.specs.Group.{Checked, IsRight, GroupChecked}
+use Rattle.lf_totality.specs.Group.{Checked, IsRight, GroupChecked, GroupCheckedBySizes}
 
 -- the record of a checked group is right: each of its families lasts
 abbrev pub CheckedGroupIsRight : Type 0
 CheckedGroupIsRight = (Σ : Signature) → IsSignature Σ → (R : Checked) (order : ℕ → Order) (totals : List Checked) → GroupChecked Σ R order totals → ((Q : Checked) → Member Q totals → IsRight Σ Q) → IsRight Σ R
+
+-- The same where sizes drop: the totality theorem rests on the orders by this alone.
+abbrev pub GroupBySizesIsRight : Type 0
+GroupBySizesIsRight = (Σ : Signature) → IsSignature Σ → (R : Checked) (order : ℕ → Order) (totals : List Checked) → GroupCheckedBySizes Σ R order totals → ((Q : Checked) → Member Q totals → IsRight Σ Q) → IsRight Σ R
 
 -- what lasts is total now
 abbrev pub LastingIsTotal : Type 0

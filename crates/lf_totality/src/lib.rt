@@ -1,7 +1,7 @@
 //! The laws of total families of LF. They have no code: each function carries one law as its contract.
 #![tactic(auto)]
 
-ghost use Rattle.lf_totality.specs.Laws.{CheckedGroupIsRight, LastingIsTotal, LastingGoesOn, LastingOverMore, RecordStaysRight, CheckedStaysChecked, GroundFirstIsClosed, GroundAfterIsClosed, TypedTuplesAreRaised, RaisedOutputsCover, NoOutputsAreCovered, HeldOutputsAreCovered, OutputGoalCovers, ClauseGoalsCover, SubgoalContextIsWorld};
+ghost use Rattle.lf_totality.specs.Laws.{CheckedGroupIsRight, GroupBySizesIsRight, LastingIsTotal, LastingGoesOn, LastingOverMore, RecordStaysRight, CheckedStaysChecked, GroundFirstIsClosed, GroundAfterIsClosed, TypedTuplesAreRaised, RaisedOutputsCover, NoOutputsAreCovered, HeldOutputsAreCovered, OutputGoalCovers, ClauseGoalsCover, SubgoalContextIsWorld};
 ghost use Rattle.lf_totality.specs.Conclude.{RecordFreezes, CalleesAreHeld, RecordIsOne, FewerModed, BlocksServeFewer, AppendedEntryExtends, CheckedBesideFewer, DescendingCallsDrop, ChecksConclude};
 ghost use Rattle.lf_totality.specs.Examples.{AdditionLasts, AdditionStaysChecked, NumbersHaveSums, CopyingLasts, TermsHaveCopies, BlockCaseIsCovered, PlusIsCoveredBySplits, PlusOutputGoal, CopyOutputGoal};
 ghost use Rattle.lf_totality.specs.ExamplesRecords.{AdditionHasRecord, OtherRecordsAreRefused};
@@ -15,6 +15,11 @@ ghost use Rattle.lf_totality.specs.Refusals.{FreePlaceIsExempt, UnsoundMarksAreR
 /// The totality theorem: the record of a checked group is right, each of its families lasts.
 pub fn checked_group_is_right()
     ensures { CheckedGroupIsRight }
+{}
+
+/// The same where the sizes of calls drop, by whatever facts about sizes.
+pub fn group_by_sizes_is_right()
+    ensures { GroupBySizesIsRight }
 {}
 
 /// What lasts is total now.
