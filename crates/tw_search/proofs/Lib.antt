@@ -1,0 +1,15 @@
+pub mod Expanding
+pub mod Views
+pub mod Steps
+pub mod Arguments
+pub mod NewTerms
+pub mod ClashingHeads
+pub mod Offering
+pub mod Offered
+pub mod OneTry
+pub mod LeafReading
+pub mod Rooting
+pub mod FromQuery
+pub mod HeadsLeft
+pub mod Parts
+pub mod Examples

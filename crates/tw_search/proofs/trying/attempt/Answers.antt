@@ -1,0 +1,53 @@
+use Rattle.std.proofs.Common.{◌≡◌, [], Err, map, subst, rules}
+use Rattle.lf.specs.Entries.{signature_of}
+use Rattle.lf.proofs.Entries.{canonical_is_signature}
+use Rattle.tw_metas.specs.View.{equation_of}
+use Rattle.tw_putting.specs.Whole.{whole}
+use Rattle.tw_terms.specs.View.{head_of}
+use Rattle.tw_unify.specs.Answers.{Answers, StaysReady}
+use Rattle.tw_unify.proofs.Stories.{later_then}
+use Rattle.tw_search.proofs.OneTry.{left_gives, never_fits, solved_gives, tries_deep}
+use Rattle.tw_search.proofs.trying.attempt.Goals as goal
+
+pub returns-in_err-solve-clause-tried : goal.returns-in_err-solve-clause-tried
+returns-in_err-solve-clause-tried c =
+    let Σ = signature_of c.args.signature.now in
+    let es = map equation_of c.in_ok-equations.field-0.equations.items in
+    let f = c.in_err-solve.field-0.0 in
+    let e : c.from_residual-in_err-solve.result ≡ Err f = search rules in
+    rw e (tries_deep Σ (canonical_is_signature c.args.signature.now c.is_canonical.ensures) c.args.store.now.now c.args.goal.now (head_of c.args.head) es c.in_ok-equations.field-0.subgoals.items c.offer.new.store.now c.in_ok-equations.ensures.ok f c.in_err-solve.ensures.answer)
+
+pub returns-in_err-solve-clause-story : goal.returns-in_err-solve-clause-story
+returns-in_err-solve-clause-story c = later_then c.args.store.now c.offer.new.store c.solve.new.store c.in_ok-equations.ensures.story c.in_err-solve.ensures.story
+
+pub returns-in-Never-clause-tried : goal.returns-in-Never-clause-tried
+returns-in-Never-clause-tried c =
+    let Σ = signature_of c.args.signature.now in
+    let es = map equation_of c.in_ok-equations.field-0.equations.items in
+    never_fits Σ (canonical_is_signature c.args.signature.now c.is_canonical.ensures) c.args.store.now.now c.args.goal.now (head_of c.args.head) es c.in_ok-equations.field-0.subgoals.items c.offer.new.store.now c.in_ok-equations.ensures.ok
+    (subst (λ a. Answers a Σ (whole es c.offer.new.store.now) (whole [] c.solve.new.store.now)) c.in-Never.is c.in_ok-solve.ensures.answer)
+
+pub returns-in-Never-clause-story : goal.returns-in-Never-clause-story
+returns-in-Never-clause-story c = later_then c.args.store.now c.offer.new.store c.solve.new.store c.in_ok-equations.ensures.story c.in_ok-solve.ensures.story
+
+pub returns-in-Solved : goal.returns-in-Solved
+returns-in-Solved c =
+    let Σ = signature_of c.args.signature.now in
+    let es = map equation_of c.in_ok-equations.field-0.equations.items in
+    record {
+      tried = solved_gives Σ (canonical_is_signature c.args.signature.now c.is_canonical.ensures) c.args.store.now.now c.args.goal.now (head_of c.args.head) es c.in_ok-equations.field-0.subgoals.items c.offer.new.store.now c.in_ok-equations.ensures.ok c.solve.new.store.now
+          (subst (λ a. Answers a Σ (whole es c.offer.new.store.now) (whole [] c.solve.new.store.now)) c.in-Solved.is c.in_ok-solve.ensures.answer)
+          (subst (λ a. StaysReady a Σ c.solve.new.store.now) c.in-Solved.is c.in_ok-solve.ensures.ready);
+      story = later_then c.args.store.now c.offer.new.store c.solve.new.store c.in_ok-equations.ensures.story c.in_ok-solve.ensures.story;
+    }
+
+pub returns-in-Left : goal.returns-in-Left
+returns-in-Left c =
+    let Σ = signature_of c.args.signature.now in
+    let es = map equation_of c.in_ok-equations.field-0.equations.items in
+    record {
+      tried = left_gives Σ (canonical_is_signature c.args.signature.now c.is_canonical.ensures) c.args.store.now.now c.args.goal.now (head_of c.args.head) es c.in_ok-equations.field-0.subgoals.items c.offer.new.store.now c.in_ok-equations.ensures.ok c.solve.new.store.now
+          (subst (λ a. Answers a Σ (whole es c.offer.new.store.now) (whole [] c.solve.new.store.now)) c.in-Left.is c.in_ok-solve.ensures.answer)
+          (subst (λ a. StaysReady a Σ c.solve.new.store.now) c.in-Left.is c.in_ok-solve.ensures.ready);
+      story = later_then c.args.store.now c.offer.new.store c.solve.new.store c.in_ok-equations.ensures.story c.in_ok-solve.ensures.story;
+    }

@@ -1,0 +1,11 @@
+pub mod View
+pub mod Taking
+pub mod Indices
+pub mod Goals
+pub mod Clashing
+pub mod Offers
+pub mod Tries
+pub mod Leaves
+pub mod Roots
+pub mod Choosing
+pub mod Laws

@@ -1,0 +1,67 @@
+-- A head that is offered to a goal, between the states of the store before and after.
+use Rattle.std.specs.Prelude.{◌≡◌, ℕ, zero, List, [], ◌∷◌, Bool, true, false, Some, None, length, map, reverse, not}
+use Rattle.lf.specs.Syntax.{Head, Kind, LfType, Spine, atom, constant, metavariable, pi, root, variable}
+use Rattle.lf.specs.Typing.{Signature}
+use Rattle.lf.specs.Variables.{same_number}
+use Rattle.lf_unification.specs.Lists.{followed}
+use Rattle.lf_unification.specs.Offering.{lambda_over, spine_equations}
+use Rattle.lf_unification.specs.Search.{Offer, holes, occurs_type}
+use Rattle.lf_unification.specs.Solving.{IsWellFormed}
+use Rattle.lf_unification.specs.Unifiers.{Equation, Store}
+use Rattle.tw_metas.specs.State.{State, Story, changed, with_value}
+use Rattle.tw_putting.specs.Ready.{IsReady}
+use Rattle.tw_putting.specs.Stores.{bindings_of, types_of}
+use Rattle.tw_terms.specs.OpenView.{open_spine_of}
+use Rattle.tw_terms.specs.declared.canonical.MetaId.{MetaId}
+use Rattle.tw_search.specs.Goals.{node_of}
+use Rattle.tw_search.specs.Indices.{IndicesFit}
+use Rattle.tw_search.specs.Taking.{OnlyDeclares, TakesAll}
+use Rattle.tw_search.specs.declared.goal.OpenGoal.{OpenGoal}
+
+-- for each leading quantifier, the outermost first: whether it is a subgoal, as its variable doesn't occur in the rest
+abbrev pub subgoal_marks : LfType → List Bool
+subgoal_marks (atom a S) = []
+subgoal_marks (pi A B) = not (occurs_type zero B) ∷ subgoal_marks B
+
+-- those at the places that are marked
+abbrev pub marked : {A : Type 0} → List Bool → List A → List A
+marked [] xs = []
+marked (b ∷ bs) [] = []
+marked (true ∷ bs) (x ∷ xs) = x ∷ marked bs xs
+marked (false ∷ bs) (x ∷ xs) = marked bs xs
+
+-- whether the head is this variable
+abbrev pub is_variable : ℕ → Head → Bool
+is_variable i (constant c) = false
+is_variable i (variable j) = same_number i j
+is_variable i (metavariable m) = false
+
+-- the goal's hole is bound to the head on new metavariables S; the atom of the family a on T is left of the head's type
+pub record Applies (g : OpenGoal) (h : Head) (A : LfType) (old new : Story) (S : Spine) (a : ℕ) (T : Spine) : Type 0 where
+  pub middle : Story
+  pub declares : OnlyDeclares old middle
+  pub taken : TakesAll g.locals A old.now middle.now S a T
+  pub binds : new ≡ changed middle (with_value middle.now g.hole.0 (lambda_over g.locals (root h S)))
+
+-- the goal's family has a kind, which takes the goal's indices
+pub record EquationsFit (Σ : Signature) (g : OpenGoal) : Type 0 where
+  pub has_kind : Σ.kinds g.family.0 ≡ None → ⊥
+  pub fits : (K : Kind) → Σ.kinds g.family.0 ≡ Some K → IndicesFit g.locals K (open_spine_of g.indices)
+
+-- the equations between the goal's indices and T
+pub record HasEquations (Σ : Signature) (g : OpenGoal) (T : Spine) (es : List Equation) : Type 0 where
+  pub kind : Kind
+  pub kind_of : Σ.kinds g.family.0 ≡ Some kind
+  pub equations : es ≡ spine_equations g.locals kind (open_spine_of g.indices) T
+
+-- the store with the equations that an offer adds behind those that were there
+abbrev pub offered_store : List Equation → State → Store
+offered_store es s = record { metavariables = types_of s; bindings = bindings_of s; equations = followed s.equations es }
+
+-- The head is offered to the goal: the equations `es` are to be solved, and `subgoals` are the holes of the head's subgoals, in the order of its quantifiers.
+pub record IsOffered (Σ : Signature) (old : State) (g : OpenGoal) (h : Head) (es : List Equation) (subgoals : List MetaId) (new : State) : Type 0 where
+  pub head_type : LfType
+  pub offer : Offer Σ (node_of old []) g.hole.0 g.locals g.family.0 (open_spine_of g.indices) h head_type (offered_store es new) (length new.declared)
+  pub subgoals_are : reverse (map (λ m. m.0) subgoals) ≡ holes (length old.declared) head_type
+  pub well_formed : IsWellFormed Σ (offered_store es new)
+  pub ready : IsReady Σ es new

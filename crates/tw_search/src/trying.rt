@@ -1,0 +1,62 @@
+//! One try: a head is offered to a goal, and the equations are solved.
+ghost use Rattle.std.specs.Prelude.{MatchResult};
+ghost use Rattle.std.specs.Bool.{OnTrue};
+ghost use Rattle.lf.specs.Entries.{signature_of};
+ghost use Rattle.tw_putting.specs.Ready.{IsLater};
+ghost use Rattle.tw_terms.specs.View.{head_of};
+ghost use Rattle.tw_search.specs.Goals.{IsHeadFor, StandsAtGoal};
+ghost use Rattle.tw_search.specs.Tries.{IsTried, NeverFits, TriesDeep};
+
+use crate::clash::clashes;
+use crate::goal::OpenGoal;
+use crate::offer::{Offered, offer};
+use std::alloc::Global;
+use tw_metas::Store;
+use tw_signature::Signature;
+use tw_terms::{Head, MetaId};
+use tw_unify::{Unified, UnifyFault, solve};
+
+/// Tries the head at the goal. None where it gives no child; else the holes of its subgoals, in the order of the head's quantifiers. Heads that clash are found out without an
+/// allocation. Answers `TooDeep` only where the equations of the store with those of the head are deep.
+pub fn attempt(
+    alloc: Global,
+    store: &mut Store,
+    signature: &Signature,
+    goal: &OpenGoal,
+    head: Head,
+) -> Result<Option<Vec<MetaId>>, UnifyFault>
+    requires goal { StandsAtGoal (signature_of signature.now) store.old.now goal.now }
+    requires head { IsHeadFor (signature_of signature.now) goal.now (head_of head) }
+    ensures tried { MatchResult result (λ t. IsTried (signature_of signature.now) store.old.now goal.now (head_of head) t store.new.now) (λ f. TriesDeep f (signature_of signature.now) store.old.now goal.now (head_of head)) }
+    ensures story { IsLater store.old store.new }
+{
+    signature.is_canonical();
+    if heads_clash(store, signature, goal, head) {
+        return Ok(None);
+    }
+    let Offered {
+        equations,
+        subgoals,
+    } = offer(alloc, store, signature, goal, head)?;
+    match solve(alloc, store, signature, equations)? {
+        Unified::Never => Ok(None),
+        Unified::Solved => Ok(Some(subgoals)),
+        Unified::Left => Ok(Some(subgoals)),
+    }
+}
+
+/// Whether the heads of the goal's arguments and of the clause's clash, where the head is a constant.
+fn heads_clash(store: &Store, signature: &Signature, goal: &OpenGoal, head: Head) -> bool
+    requires goal { StandsAtGoal (signature_of signature.now) store.now.now goal.now }
+    requires head { IsHeadFor (signature_of signature.now) goal.now (head_of head) }
+    ensures { OnTrue result (NeverFits (signature_of signature.now) store.now.now goal.now (head_of head)) }
+{
+    signature.is_canonical();
+    match head {
+        Head::Const(id) => match signature.constant_type(id) {
+            Some(ty) => clashes(store, &goal.indices, ty),
+            None => false,
+        },
+        Head::Var(_) => false,
+    }
+}
