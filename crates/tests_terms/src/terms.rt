@@ -190,8 +190,8 @@ pub fn open_context(alloc: Global, names: &mut Names, case: &Case) -> Result<Str
     names.forget_all_but_constants(alloc);
     let mut line = String::new(alloc);
     show_open_types(alloc, &mut line, names, &context.copy(alloc)?)?;
-    let popped = context.pop();
-    show_open_or_none(alloc, &mut line, names, popped.as_ref())?;
+    show_open_or_none(alloc, &mut line, names, context.get(0))?;
+    context.pop();
     write!(line, "; {}", context.len())?;
     Ok(line)
 }
