@@ -230,7 +230,7 @@ module _ (Σ : Signature) (ok : IsSignature Σ) (R : Checked) (order : ℕ → O
               let call : EqualCall Σ R.worlds order R.families s.family (target A) = record { clause = c; is_clause = k; caller = fam; caller_in = s.inside; index = i; subgoal = A; is_subgoal = v; callee = refl; callee_in = ga; same = q } in
               let (u, e, r) = next s (target A) ga call (λ p. n (subst (LeadsTo Σ R.worlds order R.families (target A)) (sym fam) p)) in
               let l : LexLt (sizes (order (target A)) (target_arguments (substitute_type reduce σ A)) (u.room ∷ [])) (sizes (order s.family) (substitute_spine reduce σ (target_arguments c.type)) (s.room ∷ [])) =
-                  at_head (sizes (order (target A)) (target_arguments (substitute_type reduce σ A)) (u.room ∷ [])) (same_before (order (target A)) (order (target c.type)) (target_arguments (substitute_type reduce σ A)) (substitute_spine reduce σ (target_arguments c.type)) u.room s.room (falls u.room s.room r) (least σ kp))
+              at_head (sizes (order (target A)) (target_arguments (substitute_type reduce σ A)) (u.room ∷ [])) (same_before (order (target A)) (order (target c.type)) (target_arguments (substitute_type reduce σ A)) (substitute_spine reduce σ (target_arguments c.type)) u.room s.room (falls u.room s.room r) (least σ kp))
               in
               (u, e, subst (λ a. LexLt (sizes (order a) (target_arguments (substitute_type reduce σ A)) (u.room ∷ [])) (sizes (order s.family) (substitute_spine reduce σ (target_arguments c.type)) (s.room ∷ []))) (sym e) l)
             where
