@@ -60,17 +60,17 @@ variables_taken A G = variables_kept (shape A) [] A zero G [] refl refl refl ∙
 -- The subgoals.
 
 -- past the quantifiers of a type
-at_quantifier : (B : LfType) (V : ℕ → Bool) (i : ℕ) → is_variable V B (quantifiers B + i) ≡ V i
+pub at_quantifier : (B : LfType) (V : ℕ → Bool) (i : ℕ) → is_variable V B (quantifiers B + i) ≡ V i
 at_quantifier (pi A B) V i = ap (is_variable (with_newest (occurs_type zero B) V) B) (let q : suc (quantifiers B) + i ≡ quantifiers B + suc i = omega arith in q) ∙ at_quantifier B (with_newest (occurs_type zero B) V) (suc i)
 at_quantifier (atom a S) V i = ap V (let q : zero + i ≡ i = omega arith in q)
 
-moved : (q : ℕ) (X : LfType) → rename_type (shift_by q) (weaken X) ≡ rename_type (shift_by (suc q)) X
+pub moved : (q : ℕ) (X : LfType) → rename_type (shift_by q) (weaken X) ≡ rename_type (shift_by (suc q)) X
 moved q X = renamings_compose_type (shift_by q) suc X ∙ ap (λ r. rename_type r X) (fun_ext (λ i. let e : suc i + q ≡ i + suc q = omega arith in e))
 
 unmoved : (X : LfType) → rename_type (shift_by zero) (weaken X) ≡ weaken X
 unmoved X = renamings_compose_type (shift_by zero) suc X ∙ ap (λ r. rename_type r X) (fun_ext (λ i. let e : suc i + zero ≡ suc i = omega arith in e))
 
-type_past : (B : LfType) (G : List LfType) (i : ℕ) (X : LfType) → type_at G i ≡ Some (weaken X) → type_at (binders G B) (quantifiers B + i) ≡ Some (rename_type (shift_by (quantifiers B)) (weaken X))
+pub type_past : (B : LfType) (G : List LfType) (i : ℕ) (X : LfType) → type_at G i ≡ Some (weaken X) → type_at (binders G B) (quantifiers B + i) ≡ Some (rename_type (shift_by (quantifiers B)) (weaken X))
 type_past (pi A B) G i X e =
     ap (type_at (binders (A ∷ G) B)) (let q : suc (quantifiers B) + i ≡ quantifiers B + suc i = omega arith in q)
     ∙ type_past B (A ∷ G) (suc i) (weaken X) (ap weakened e)

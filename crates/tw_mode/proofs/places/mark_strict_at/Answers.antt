@@ -1,0 +1,28 @@
+use Rattle.std.proofs.Common.{◌+◌, ◌∙◌, ap, arith, drop, get_or, length}
+use Rattle.lf_checks.specs.Strict.{strict}
+use Rattle.lf_checks.specs.Tests.{both}
+use Rattle.tw_clause.specs.Marks.{marked}
+use Rattle.tw_clause.proofs.Marking.{args_at, marked_length}
+use Rattle.tw_terms.specs.View.{args_of, spine_of, term_of}
+use Rattle.tw_terms.proofs.Args.{types}
+use Rattle.tw_mode.specs.Scopes.{bound_in, fixed_in}
+use Rattle.tw_mode.proofs.Strictness.{place_next, places_done}
+use Rattle.tw_mode.proofs.places.mark_strict_at.Goals as goal
+
+pub loop-place-preserved : goal.loop-place-preserved
+loop-place-preserved c =
+    let items = c.args.spine.now.args.items in
+    let s = c.args.scope.now in
+    let k = c.loop-place.place in
+    let M = term_of c.arg-item.result in
+    let e = c.in_ok-mark_strict_if.ensures ∙ ap (λ b. marked s.depth (λ i. both b (strict (bound_in s) (fixed_in s) i M)) c.loop-place.marks) c.is_chosen.ensures in
+    record {
+      so_far = place_next (bound_in s) (fixed_in s) s.depth k c.args.places.now (args_of (drop k items)) (args_of (drop (k + 1) items)) M c.loop-place.marks c.mark_strict_if.new.marks (args_at items k c.arg-item.result (omega arith) (c.arg-item.is ∙ ap (λ xs. get_or xs k c.arg-item.result) c.deref-arg-items.ensures.value)) e ∙ c.loop-place.invariant.so_far;
+      len = ap length c.in_ok-mark_strict_if.ensures ∙ marked_length _ _ _ ∙ c.loop-place.invariant.len;
+    }
+
+pub returns : goal.returns
+returns c =
+    let items = c.args.spine.now.args.items in
+    let s = c.args.scope.now in
+    places_done (bound_in s) (fixed_in s) s.depth c.loop-place.place c.args.places.now items (spine_of c.args.spine.now) c.args.marks.now c.loop-place.marks (omega arith) c.loop-place.invariant.so_far (grind (arith, types))
