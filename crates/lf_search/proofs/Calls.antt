@@ -19,7 +19,7 @@ module _ (entries : List Entry) (limit : ℕ) (G : List LfType) where
   spent b n agenda reached seen (to_budget q e) s = q
   spent b n agenda reached seen (to_deep q h e) s = cc
 
-  goes_on : (budget more : ℕ) (agenda reached after : List Pending) (seen : Seen) (tries : ℕ) → SearchesFrom entries agenda [] budget reached → Comes entries limit G reached more seen tries after → Comes entries limit G agenda (budget + more) seen (budget + tries) after
+  pub goes_on : (budget more : ℕ) (agenda reached after : List Pending) (seen : Seen) (tries : ℕ) → SearchesFrom entries agenda [] budget reached → Comes entries limit G reached more seen tries after → Comes entries limit G agenda (budget + more) seen (budget + tries) after
   goes_on b m agenda reached after seen n r (to_answer q h e f w) = to_answer (search_then (signature_of entries) (declared_constants entries) r q) (omega arith) e f w
   goes_on b m agenda reached after seen n r (to_left_over q h e f) = to_left_over (search_then (signature_of entries) (declared_constants entries) r q) (omega arith) e f
   goes_on b m agenda reached after seen n r (to_end q h) = to_end (search_then (signature_of entries) (declared_constants entries) r q) (omega arith)

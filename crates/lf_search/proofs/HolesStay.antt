@@ -96,7 +96,7 @@ open_at part bs (n ∷ ns) (t, u, a, o) m (inl e) = (ap part e ∙ t, subst (Unb
 open_at part bs (n ∷ ns) (t, u, a, o) m (inr i) = open_at part bs ns o m i
 
 -- each hole of a clause is declared
-holes_declared : {D : List LfType} {Ψ : ℕ → Option LfType} {n : ℕ} {A : LfType} {Ψ' : ℕ → Option LfType} {n' : ℕ} {S : Spine} {a : ℕ} {T : Spine} → AppliesToNew D Ψ n A Ψ' n' S a T → ((m : ℕ) → n ≤ m → Ψ m ≡ None) → (A₀ : LfType) → SameShape A₀ A → (m : ℕ) → Member m (holes n A₀) → Declares Ψ' m
+pub holes_declared : {D : List LfType} {Ψ : ℕ → Option LfType} {n : ℕ} {A : LfType} {Ψ' : ℕ → Option LfType} {n' : ℕ} {S : Spine} {a : ℕ} {T : Spine} → AppliesToNew D Ψ n A Ψ' n' S a T → ((m : ℕ) → n ≤ m → Ψ m ≡ None) → (A₀ : LfType) → SameShape A₀ A → (m : ℕ) → Member m (holes n A₀) → Declares Ψ' m
 holes_declared applied_to_all f (atom a S) shape m i = absurd i
 holes_declared applied_to_all f (pi B C) shape m i = absurd shape
 holes_declared (applied_to_next o) f (atom a S) shape m i = absurd shape

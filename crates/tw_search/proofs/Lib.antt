@@ -13,3 +13,9 @@ pub mod FromQuery
 pub mod HeadsLeft
 pub mod Parts
 pub mod Examples
+pub mod Chaining
+pub mod AllHeads
+pub mod Standing
+pub mod Beginning
+pub mod Leaving
+pub mod StepLaws

@@ -9,3 +9,6 @@ pub mod Leaves
 pub mod Roots
 pub mod Choosing
 pub mod Laws
+pub mod Chains
+pub mod Standing
+pub mod Engine

@@ -1,0 +1,68 @@
+-- Lists of goals that share their tails.
+use Rattle.std.proofs.Common.{◌≡◌, ℕ, zero, suc, ◌+◌, ◌-◌, ◌<◌, ◌≤◌, List, [], ◌∷◌, ◌++◌, length, take, Option, Some, None, get_or, refl, sym, ap, ◌∙◌, subst, arith}
+use Rattle.std.specs.List.{slice_get}
+use Rattle.std.proofs.lemmas.Option.{slice_get_past, slice_get_read}
+use Rattle.tw_search.specs.Chains.{GoalsAre, IsFirst, IsGrown, no_goal, one_goal}
+use Rattle.tw_search.specs.declared.frames.Frame.{Frame}
+
+empty_is : {fs : List Frame} {gs : List ℕ} → GoalsAre fs zero gs → gs ≡ []
+empty_is no_goal = refl
+
+first_is : {fs : List Frame} {k : ℕ} {gs : List ℕ} (f : Frame) → slice_get fs k ≡ Some f → GoalsAre fs (suc k) gs → (hs : List ℕ) × (gs ≡ f.hole.0 ∷ hs) × GoalsAre fs f.next hs
+first_is {fs} f e (one_goal {f = g} {gs = hs} q r) = let same : g ≡ f = (let p : Some g ≡ Some f = sym q ∙ e in cc) in (hs, ap (λ (x : Frame). x.hole.0 ∷ hs) same, subst (λ (x : Frame). GoalsAre fs x.next hs) same r)
+
+none_is : {fs : List Frame} {k : ℕ} {gs : List ℕ} → slice_get fs k ≡ None → GoalsAre fs (suc k) gs → gs ≡ []
+none_is e (one_goal {f = g} q r) = (let p : None ≡ Some g = sym e ∙ q in absurd cc)
+
+pub empty_has_none : (fs : List Frame) (n : ℕ) → n ≡ zero → IsFirst fs n None
+empty_has_none fs n e gs g = empty_is (subst (λ k. GoalsAre fs k gs) e g)
+
+pub missing_has_none : (fs : List Frame) (n k : ℕ) → n ≡ suc k → length fs ≤ k → IsFirst fs n None
+missing_has_none fs n k e h gs g = none_is (slice_get_past fs k h) (subst (λ j. GoalsAre fs j gs) e g)
+
+pub frame_is_first : (fs : List Frame) (n k : ℕ) (f : Frame) → n ≡ suc k → k < length fs → f ≡ get_or fs k f → IsFirst fs n (Some f)
+frame_is_first fs n k f e h q gs g = first_is f (slice_get_read fs (length fs) k f refl h q) (subst (λ j. GoalsAre fs j gs) e g)
+
+get_grown : (fs more : List Frame) (k : ℕ) (f : Frame) → slice_get fs k ≡ Some f → slice_get (fs ++ more) k ≡ Some f
+get_grown [] more k f e = absurd cc
+get_grown (g ∷ fs) more zero f e = e
+get_grown (g ∷ fs) more (suc k) f e = get_grown fs more k f e
+
+pub goals_grow : (fs more : List Frame) {n : ℕ} {gs : List ℕ} → GoalsAre fs n gs → GoalsAre (fs ++ more) n gs
+goals_grow fs more no_goal = no_goal
+goals_grow fs more (one_goal {k = k} {f = f} e r) = one_goal (get_grown fs more k f e) (goals_grow fs more r)
+
+get_last : (fs : List Frame) (f : Frame) → slice_get (fs ++ f ∷ []) (length fs) ≡ Some f
+get_last [] f = refl
+get_last (g ∷ fs) f = get_last fs f
+
+-- one goal more, in front
+pub goal_pushed : (fs : List Frame) (f : Frame) (n : ℕ) (gs : List ℕ) → n ≡ length fs + 1 → GoalsAre fs f.next gs → GoalsAre (fs ++ f ∷ []) n (f.hole.0 ∷ gs)
+goal_pushed fs f n gs e g = let s : n ≡ suc (length fs) = omega (arith, e) in subst (λ k. GoalsAre (fs ++ f ∷ []) k (f.hole.0 ∷ gs)) (sym s) (one_goal (get_last fs f) (goals_grow fs (f ∷ []) g))
+
+-- frames that grow
+pub grown_itself : (fs : List Frame) → IsGrown fs fs
+grown_itself fs = ([], sym (append_none fs))
+  where
+    append_none : (xs : List Frame) → xs ++ [] ≡ xs
+    append_none [] = refl
+    append_none (x ∷ xs) = ap (λ l. x ∷ l) (append_none xs)
+
+pub grown_then : (a b c : List Frame) → IsGrown a b → IsGrown b c → IsGrown a c
+grown_then a b c (ms, e) (ns, f) = (ms ++ ns, f ∙ ap (λ xs. xs ++ ns) e ∙ again a)
+  where
+    again : (xs : List Frame) → (xs ++ ms) ++ ns ≡ xs ++ (ms ++ ns)
+    again [] = refl
+    again (x ∷ xs) = ap (λ l. x ∷ l) (again xs)
+
+-- the first ones are those from before
+pub first_taken : (older fs : List Frame) (n : ℕ) → n ≡ length older → IsGrown older fs → take n fs ≡ older
+first_taken older fs n e (more, q) = ap (λ k. take k fs) e ∙ ap (take (length older)) q ∙ go older
+  where
+    go : (xs : List Frame) → take (length xs) (xs ++ more) ≡ xs
+    go [] = none more
+      where
+        none : (ys : List Frame) → take zero ys ≡ []
+        none [] = refl
+        none (y ∷ ys) = refl
+    go (x ∷ xs) = ap (λ l. x ∷ l) (go xs)

@@ -1,0 +1,210 @@
+-- Where a search stands: the agenda of the tree that a value of the program stands for. Only here is it said how the program keeps it.
+use Rattle.std.specs.Prelude.{◌≡◌, ℕ, ◌+◌, ◌-◌, ◌*◌, ◌≤◌, List, [], ◌∷◌, length, map, reverse, Option, Some, None}
+use Rattle.lf.specs.Depth.{depth_limit}
+use Rattle.lf.specs.Entries.{Entry, signature_of}
+use Rattle.lf.specs.Subordination.{Member}
+use Rattle.lf.specs.Syntax.{Head, LfType}
+use Rattle.lf.specs.Typing.{IsContext, IsType, Signature}
+use Rattle.lf_unification.specs.Lists.{followed}
+use Rattle.lf_unification.specs.Search.{IsNode, Node, Pending, SearchesFrom, at_node}
+use Rattle.lf_search.specs.Coming.{Comes, Seen, answer, exhausted, left_over, out_of_budget, too_deep}
+use Rattle.lf_search.specs.Goals.{root_of}
+use Rattle.lf_search.specs.Heads.{AreOffered}
+use Rattle.tw_metas.specs.State.{State, Story}
+use Rattle.tw_metas.specs.View.{equation_of}
+use Rattle.tw_putting.specs.Ready.{IsLater, IsReady}
+use Rattle.tw_terms.specs.View.{term_of}
+use Rattle.tw_search.specs.Chains.{GoalsAre, IsGrown, frames_of}
+use Rattle.tw_search.specs.Choosing.{heads_left}
+use Rattle.tw_search.specs.Goals.{IsDeclared, IsHeadFor, StandsAtGoal, node_of}
+use Rattle.tw_search.specs.Laws.{AllFromQuery, at_goal}
+use Rattle.tw_search.specs.declared.frames.Frame.{Frame}
+use Rattle.tw_search.specs.declared.step.Choice.{Choice}
+use Rattle.tw_search.specs.declared.step.End.{End}
+use Rattle.tw_search.specs.declared.step.End.TheVariants as end
+use Rattle.tw_search.specs.declared.step.Place.{Place}
+use Rattle.tw_search.specs.declared.step.Place.TheVariants as place
+use Rattle.tw_search.specs.declared.step.Step.{Step}
+use Rattle.tw_search.specs.declared.step.Step.TheVariants as step
+use Rattle.tw_search.specs.declared.search.Search.{Search}
+
+-- these metavariables are there
+abbrev pub AllDeclared : State → List ℕ → Type 0
+AllDeclared s gs = (m : ℕ) → Member m gs → IsDeclared s m
+
+-- a state of the store of a search for a goal with n variables
+pub record IsKept (Σ : Signature) (n : ℕ) (s : State) : Type 0 where
+  pub ready : IsReady Σ [] s
+  pub node : IsNode Σ (node_of s [])
+  pub declared : (m : ℕ) → m ≤ n → IsDeclared s m
+  pub from_query : AllFromQuery s n
+
+-- The store and the frames are as at the mark of this choice point: the other goals, and the heads that are still to be tried.
+pub record AtChoice (es : List Entry) (n : ℕ) (y : Story) (fs : List Frame) (c : Choice) (goals : List ℕ) (heads : List Head) : Type 0 where
+  pub mark : c.mark ≡ length y.before
+  pub frames : c.frames ≡ length fs
+  pub kept : IsKept (signature_of es) n y.now
+  pub stands : StandsAtGoal (signature_of es) y.now c.goal
+  pub goals_are : GoalsAre fs c.rest goals
+  pub declared : AllDeclared y.now goals
+  pub offered : AreOffered (signature_of es) c.goal.locals c.goal.family.0 heads (heads_left es c.goal.family.0 c.goal.locals c.local c.constant)
+
+-- What the choice points stand for, the newest in front, over the store and the frames, which only grew since.
+pub data ChoicesStand (es : List Entry) (n : ℕ) : Story → List Frame → List Choice → List Pending → Type 0 where
+  no_choice : {y : Story} {fs : List Frame} → ChoicesStand es n y fs [] []
+  one_choice : {y first : Story} {fs older : List Frame} {c : Choice} {cs : List Choice} {gs : List ℕ} {hs : List Head} {rest : List Pending} →
+      IsLater first y → IsGrown older fs → AtChoice es n first older c gs hs → ChoicesStand es n first older cs rest →
+      ChoicesStand es n y fs (c ∷ cs) (at_goal first.now c.goal gs hs rest)
+
+-- at a node with a list of goals
+pub record NodeStands (es : List Entry) (n : ℕ) (list : ℕ) (y : Story) (fs : List Frame) (cs : List Choice) (agenda : List Pending) : Type 0 where
+  pub goals : List ℕ
+  pub goals_are : GoalsAre fs list goals
+  pub declared : AllDeclared y.now goals
+  pub kept : IsKept (signature_of es) n y.now
+  pub rest : List Pending
+  pub is : agenda ≡ at_node (node_of y.now goals) ∷ rest
+  pub choices : ChoicesStand es n y fs cs rest
+
+-- at a node, or at the newest choice point
+abbrev pub PlaceStands : List Entry → ℕ → Place → Story → List Frame → List Choice → List Pending → Type 0
+PlaceStands es n (place.Node list) y fs cs agenda = NodeStands es n list y fs cs agenda
+PlaceStands es n place.Heads y fs cs agenda = ChoicesStand es n y fs cs agenda
+PlaceStands es n (place.Over e) y fs cs agenda = ⊥
+
+-- the choice points, the newest in front
+abbrev pub choices_of : Search → List Choice
+choices_of s = reverse s.choices.items
+
+-- the agenda at which the search is
+abbrev pub IsAt : List Entry → Search → List Pending → Type 0
+IsAt es s agenda = PlaceStands es s.variables s.place s.store (frames_of s.frames) (choices_of s) agenda
+
+-- The search for the goal A over G stands at this agenda, behind these leaves.
+pub record Stands (es : List Entry) (G : List LfType) (A : LfType) (s : Search) (leaves : List Node) (agenda : List Pending) : Type 0 where
+  pub context : IsContext (signature_of es) G
+  pub goal : IsType (signature_of es) G A
+  pub variables : s.variables ≡ length G
+  pub run : SearchesFrom es (at_node (root_of G A) ∷ []) leaves s.tries agenda
+  pub at : IsAt es s agenda
+
+abbrev pub IsOver : End → Search → Type 0
+IsOver e s = s.place ≡ place.Over e
+
+-- some search over these entries, which stands or is over
+pub data IsSearch (es : List Entry) (s : Search) : Type 0 where
+  stands : (G : List LfType) (A : LfType) (leaves : List Node) (agenda : List Pending) → Stands es G A s leaves agenda → IsSearch es s
+  is_over : (e : End) → IsOver e s → IsSearch es s
+
+-- what a step shows, in the theory's words
+abbrev pub Shows : Step → Seen → Type 0
+Shows (step.Answer a) seen = seen ≡ answer a.free (reverse (map term_of a.values.items)) (term_of a.proof)
+Shows (step.Leftover e) seen = (l : Node) × (seen ≡ left_over l (equation_of e))
+Shows step.Exhausted seen = seen ≡ exhausted
+Shows step.Budget seen = seen ≡ out_of_budget
+Shows step.TooDeep seen = seen ≡ too_deep
+
+-- after it the search is at this agenda, or over
+abbrev pub IsAfter : List Entry → Step → Search → List Pending → Type 0
+IsAfter es (step.Answer a) s after = IsAt es s after
+IsAfter es (step.Leftover e) s after = IsAt es s after
+IsAfter es step.Exhausted s after = IsOver end.Exhausted s
+IsAfter es step.Budget s after = IsAt es s after
+IsAfter es step.TooDeep s after = IsOver end.TooDeep s
+
+-- From an agenda, with a budget, the search over G comes to what the step shows.
+pub record Came (es : List Entry) (G : List LfType) (old new : Search) (agenda : List Pending) (budget : ℕ) (step : Step) : Type 0 where
+  pub seen : Seen
+  pub tries : ℕ
+  pub after : List Pending
+  pub comes : Comes es depth_limit G agenda budget seen tries after
+  pub shows : Shows step seen
+  pub count : new.tries ≡ old.tries + tries
+  pub variables : new.variables ≡ old.variables
+  pub then_is : IsAfter es step new after
+
+-- The search went on to this agenda without a leaf.
+pub record WentOn (es : List Entry) (old new : Search) (agenda : List Pending) : Type 0 where
+  pub tries : ℕ
+  pub after : List Pending
+  pub run : SearchesFrom es agenda [] tries after
+  pub count : new.tries ≡ old.tries + tries
+  pub variables : new.variables ≡ old.variables
+  pub at : IsAt es new after
+
+-- what a step of the engine comes to: nothing yet, or something to show
+abbrev pub Goes : List Entry → ℕ → Search → Search → Option Step → Type 0
+Goes es last old new None = (agenda : List Pending) → IsAt es old agenda → WentOn es old new agenda
+Goes es last old new (Some s) = (G : List LfType) → length G ≡ old.variables → (agenda : List Pending) → IsAt es old agenda → Came es G old new agenda (last - old.tries) s
+
+abbrev pub place_weight : Place → ℕ
+place_weight (place.Node list) = 2
+place_weight place.Heads = 0
+place_weight (place.Over e) = 0
+
+-- how many steps of the engine are left at most, up to so many tries
+abbrev pub steps_left : ℕ → Search → ℕ
+steps_left last s = 3 * (last - s.tries) + length (choices_of s) + place_weight s.place
+
+-- where there is nothing to show yet, fewer steps are left
+abbrev pub Nears : ℕ → Search → Search → Option Step → Type 0
+Nears last old new None = (steps_left last new + 1 ≤ steps_left last old) × (new.tries ≤ last)
+Nears last old new (Some s) = Unit {0}
+
+-- after the step the search stands behind the leaf that was found, if any, or is over
+abbrev pub StandsAfter : List Entry → List LfType → LfType → Step → Search → List Node → List Pending → Type 0
+StandsAfter es G A (step.Answer a) s leaves after = (l : Node) × Stands es G A s (followed leaves (l ∷ [])) after
+StandsAfter es G A (step.Leftover e) s leaves after = (l : Node) × Stands es G A s (followed leaves (l ∷ [])) after
+StandsAfter es G A step.Exhausted s leaves after = IsOver end.Exhausted s
+StandsAfter es G A step.Budget s leaves after = Stands es G A s leaves after
+StandsAfter es G A step.TooDeep s leaves after = IsOver end.TooDeep s
+
+-- What a call of a search for A over G comes to, which stood behind these leaves.
+pub record StepIs (es : List Entry) (G : List LfType) (A : LfType) (old new : Search) (leaves : List Node) (agenda : List Pending) (budget : ℕ) (step : Step) : Type 0 where
+  pub seen : Seen
+  pub tries : ℕ
+  pub after : List Pending
+  pub comes : Comes es depth_limit G agenda budget seen tries after
+  pub shows : Shows step seen
+  pub count : new.tries ≡ old.tries + tries
+  pub then_stands : StandsAfter es G A step new leaves after
+
+-- what each call answers where the search is over: none after want of memory
+abbrev pub step_of : End → Option Step
+step_of end.Exhausted = Some step.Exhausted
+step_of end.TooDeep = Some step.TooDeep
+step_of end.NoMemory = None
+
+-- The newest choice point is taken up, with the store and the frames as at its mark, and the head h is to be tried at its goal.
+pub record TriesHead (es : List Entry) (old : Search) (c : Choice) (h : Head) (agenda : List Pending) : Type 0 where
+  pub goals : List ℕ
+  pub later : List Head
+  pub rest : List Pending
+  pub is : agenda ≡ at_goal old.store.now c.goal goals (h ∷ later) rest
+  pub at : AtChoice es old.variables old.store (frames_of old.frames) c goals later
+  pub older : ChoicesStand es old.variables old.store (frames_of old.frames) (choices_of old) rest
+  pub head : IsHeadFor (signature_of es) c.goal h
+
+-- what a try comes to
+abbrev pub Tried : List Entry → ℕ → Search → Search → Choice → Head → Option Step → Type 0
+Tried es last old new c h None = (agenda : List Pending) → TriesHead es old c h agenda → WentOn es old new agenda
+Tried es last old new c h (Some s) = (G : List LfType) → length G ≡ old.variables → (agenda : List Pending) → TriesHead es old c h agenda → Came es G old new agenda (last - old.tries) s
+
+-- after a try that goes on, fewer steps are left than with the choice point
+abbrev pub TryNears : ℕ → Search → Search → Option Step → Type 0
+TryNears last old new None = (steps_left last new + 1 ≤ 3 * (last - old.tries) + (length (choices_of old) + 1)) × (new.tries ≤ last)
+TryNears last old new (Some s) = Unit {0}
+
+-- The newest choice point is taken up, with the store and the frames as at its mark; the other ones are left.
+pub record IsTakenUp (es : List Entry) (old : Search) (c : Choice) (agenda : List Pending) : Type 0 where
+  pub goals : List ℕ
+  pub heads : List Head
+  pub rest : List Pending
+  pub is : agenda ≡ at_goal old.store.now c.goal goals heads rest
+  pub at : AtChoice es old.variables old.store (frames_of old.frames) c goals heads
+  pub older : ChoicesStand es old.variables old.store (frames_of old.frames) (choices_of old) rest
+
+-- what a step from there comes to
+abbrev pub GoesUp : List Entry → ℕ → Search → Search → Choice → Option Step → Type 0
+GoesUp es last old new c None = (agenda : List Pending) → IsTakenUp es old c agenda → WentOn es old new agenda
+GoesUp es last old new c (Some s) = (G : List LfType) → length G ≡ old.variables → (agenda : List Pending) → IsTakenUp es old c agenda → Came es G old new agenda (last - old.tries) s

@@ -1,0 +1,47 @@
+//! What a search is made of besides its store: where it stands, its choice points, and what a call shows.
+use crate::answer::Answer;
+use crate::goal::OpenGoal;
+use tw_metas::{Equation, Mark};
+
+/// What a call of a search comes to.
+#[derive(Drop, Debug)]
+pub enum Step {
+    /// A leaf where no equation is postponed.
+    Answer(Answer),
+    /// A leaf is left over. This is its first equation, as it was postponed.
+    Leftover(Equation),
+    /// The tree has no further leaf.
+    Exhausted,
+    /// The budget's tries were made, and one more is due.
+    Budget,
+    /// The equations of the next try are deep, or an answer is.
+    TooDeep,
+}
+
+/// Why a search is over.
+#[derive(Clone, Copy, PartialEq, Eq, Debug)]
+pub enum End {
+    Exhausted,
+    TooDeep,
+    NoMemory,
+}
+
+/// Where a search stands: at a node with this list of goals, or at the heads of its newest choice point; or it is over.
+#[derive(Clone, Copy, PartialEq, Eq, Debug)]
+pub enum Place {
+    Node(usize),
+    Heads,
+    Over(End),
+}
+
+/// A goal whose heads are tried, with the store's mark and the number of frames there; the list of the goals behind it; and the local variable and the
+/// constant of its family from which on they are still to be tried.
+#[derive(Drop)]
+pub struct Choice {
+    pub mark: Mark,
+    pub frames: usize,
+    pub goal: OpenGoal,
+    pub rest: usize,
+    pub local: u64,
+    pub constant: usize,
+}
