@@ -21,7 +21,7 @@ use Rattle.tw_search.specs.Chains.{IsFirst, frames_of}
 use Rattle.tw_search.specs.Goals.{node_of}
 use Rattle.tw_search.specs.Laws.{AllFromQuery, at_goal}
 use Rattle.tw_search.specs.Leaves.{IsLeaf, IsReadOff}
-use Rattle.tw_search.specs.Standing.{Came, ChoicesStand, IsAt, IsOver, IsSearch, IsTakenUp, NodeStands, PlaceStands, Stands, StandsAfter, StepIs, TriesHead, WentOn, choices_of, is_over, stands}
+use Rattle.tw_search.specs.Standing.{Came, ChoicesStand, IsAt, IsOver, IsTakenUp, NodeStands, PlaceStands, Stands, StandsAfter, StepIs, TriesHead, WentOn, choices_of}
 use Rattle.tw_search.specs.Tries.{OfferIsDeep}
 use Rattle.tw_search.specs.declared.answer.Answer.{Answer}
 use Rattle.tw_search.specs.declared.search.Search.{Search}
@@ -122,7 +122,7 @@ pub try_deep_came : (es : List Entry) (G : List LfType) (old new : Search) (c : 
 try_deep_came es G old new c h agenda budget w d b t v o =
     let f = d.has.offer in
     let offer : Offer (signature_of es) (node_of old.store.now (c.goal.hole.0 ∷ w.goals)) c.goal.hole.0 c.goal.locals c.goal.family.0 (open_spine_of c.goal.indices) h d.has.head_type d.has.offered d.has.next =
-        record { typed = f.typed; kind = f.kind; kind_of = f.kind_of; spine = f.spine; indices = f.indices; offered = f.offered; bindings = f.bindings; equations = f.equations } in
+    record { typed = f.typed; kind = f.kind; kind_of = f.kind_of; spine = f.spine; indices = f.indices; offered = f.offered; bindings = f.bindings; equations = f.equations } in
     let n : suc (budget - 1) ≡ budget = omega (arith, b) in
     let z : 0 + budget ≡ budget = omega arith in
     record {

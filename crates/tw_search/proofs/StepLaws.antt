@@ -20,8 +20,10 @@ pub due_law : laws.HeadIsDue
 due_law es s c agenda w k ks e = (standing.next_agenda es s c agenda w k ks e, standing.up_to_head es s c agenda w k ks e, standing.try_due es s c agenda w k ks e, standing.stays es s c agenda w k ks e, λ local constant q. standing.at_head es s c agenda w k ks e local constant q (laws.choice_from c local constant) refl)
 
 pub try_law : laws.TryGoesOn
-try_law es ok s c h agenda w y l = (λ n. (standing.after_none es ok s c h agenda w y l, standing.run_none es ok s c h agenda w y l n, standing.choice_after es ok s c h agenda w y l (frames_of s.frames) (standing.no_growth (frames_of s.frames))),
-    λ subgoals child fs list g gs. (standing.after_child es ok s c h agenda w y l subgoals child, standing.run_child es ok s c h agenda w y l subgoals child, standing.node_after es ok s c h agenda w y l subgoals child fs list g gs))
+try_law es ok s c h agenda w y l = (
+  λ n. (standing.after_none es ok s c h agenda w y l, standing.run_none es ok s c h agenda w y l n, standing.choice_after es ok s c h agenda w y l (frames_of s.frames) (standing.no_growth (frames_of s.frames))),
+  λ subgoals child fs list g gs. (standing.after_child es ok s c h agenda w y l subgoals child, standing.run_child es ok s c h agenda w y l subgoals child, standing.node_after es ok s c h agenda w y l subgoals child fs list g gs),
+)
 
 pub answer_law : laws.LeafIsAnswer
 answer_law es ok old new list G len agenda budget w first t v e a r at = leaving.answer_came es ok old new list G len agenda budget w first t v e a r at

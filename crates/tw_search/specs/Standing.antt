@@ -1,5 +1,5 @@
 -- Where a search stands: the agenda of the tree that a value of the program stands for. Only here is it said how the program keeps it.
-use Rattle.std.specs.Prelude.{◌≡◌, ℕ, ◌+◌, ◌-◌, ◌*◌, ◌≤◌, List, [], ◌∷◌, length, map, reverse, Option, Some, None}
+use Rattle.std.specs.Prelude.{◌≡◌, ℕ, ◌+◌, ◌≤◌, List, [], ◌∷◌, length, map, reverse}
 use Rattle.lf.specs.Depth.{depth_limit}
 use Rattle.lf.specs.Entries.{Entry, signature_of}
 use Rattle.lf.specs.Subordination.{Member}
@@ -91,11 +91,6 @@ pub record Stands (es : List Entry) (G : List LfType) (A : LfType) (s : Search) 
 abbrev pub IsOver : End → Search → Type 0
 IsOver e s = s.place ≡ place.Over e
 
--- some search over these entries, which stands or is over
-pub data IsSearch (es : List Entry) (s : Search) : Type 0 where
-  stands : (G : List LfType) (A : LfType) (leaves : List Node) (agenda : List Pending) → Stands es G A s leaves agenda → IsSearch es s
-  is_over : (e : End) → IsOver e s → IsSearch es s
-
 -- what a step shows, in the theory's words
 abbrev pub Shows : Step → Seen → Type 0
 Shows (step.Answer a) seen = seen ≡ answer a.free (reverse (map term_of a.values.items)) (term_of a.proof)
@@ -132,25 +127,6 @@ pub record WentOn (es : List Entry) (old new : Search) (agenda : List Pending) :
   pub variables : new.variables ≡ old.variables
   pub at : IsAt es new after
 
--- what a step of the engine comes to: nothing yet, or something to show
-abbrev pub Goes : List Entry → ℕ → Search → Search → Option Step → Type 0
-Goes es last old new None = (agenda : List Pending) → IsAt es old agenda → WentOn es old new agenda
-Goes es last old new (Some s) = (G : List LfType) → length G ≡ old.variables → (agenda : List Pending) → IsAt es old agenda → Came es G old new agenda (last - old.tries) s
-
-abbrev pub place_weight : Place → ℕ
-place_weight (place.Node list) = 2
-place_weight place.Heads = 0
-place_weight (place.Over e) = 0
-
--- how many steps of the engine are left at most, up to so many tries
-abbrev pub steps_left : ℕ → Search → ℕ
-steps_left last s = 3 * (last - s.tries) + length (choices_of s) + place_weight s.place
-
--- where there is nothing to show yet, fewer steps are left
-abbrev pub Nears : ℕ → Search → Search → Option Step → Type 0
-Nears last old new None = (steps_left last new + 1 ≤ steps_left last old) × (new.tries ≤ last)
-Nears last old new (Some s) = Unit {0}
-
 -- after the step the search stands behind the leaf that was found, if any, or is over
 abbrev pub StandsAfter : List Entry → List LfType → LfType → Step → Search → List Node → List Pending → Type 0
 StandsAfter es G A (step.Answer a) s leaves after = (l : Node) × Stands es G A s (followed leaves (l ∷ [])) after
@@ -169,12 +145,6 @@ pub record StepIs (es : List Entry) (G : List LfType) (A : LfType) (old new : Se
   pub count : new.tries ≡ old.tries + tries
   pub then_stands : StandsAfter es G A step new leaves after
 
--- what each call answers where the search is over: none after want of memory
-abbrev pub step_of : End → Option Step
-step_of end.Exhausted = Some step.Exhausted
-step_of end.TooDeep = Some step.TooDeep
-step_of end.NoMemory = None
-
 -- The newest choice point is taken up, with the store and the frames as at its mark, and the head h is to be tried at its goal.
 pub record TriesHead (es : List Entry) (old : Search) (c : Choice) (h : Head) (agenda : List Pending) : Type 0 where
   pub goals : List ℕ
@@ -185,16 +155,6 @@ pub record TriesHead (es : List Entry) (old : Search) (c : Choice) (h : Head) (a
   pub older : ChoicesStand es old.variables old.store (frames_of old.frames) (choices_of old) rest
   pub head : IsHeadFor (signature_of es) c.goal h
 
--- what a try comes to
-abbrev pub Tried : List Entry → ℕ → Search → Search → Choice → Head → Option Step → Type 0
-Tried es last old new c h None = (agenda : List Pending) → TriesHead es old c h agenda → WentOn es old new agenda
-Tried es last old new c h (Some s) = (G : List LfType) → length G ≡ old.variables → (agenda : List Pending) → TriesHead es old c h agenda → Came es G old new agenda (last - old.tries) s
-
--- after a try that goes on, fewer steps are left than with the choice point
-abbrev pub TryNears : ℕ → Search → Search → Option Step → Type 0
-TryNears last old new None = (steps_left last new + 1 ≤ 3 * (last - old.tries) + (length (choices_of old) + 1)) × (new.tries ≤ last)
-TryNears last old new (Some s) = Unit {0}
-
 -- The newest choice point is taken up, with the store and the frames as at its mark; the other ones are left.
 pub record IsTakenUp (es : List Entry) (old : Search) (c : Choice) (agenda : List Pending) : Type 0 where
   pub goals : List ℕ
@@ -203,8 +163,3 @@ pub record IsTakenUp (es : List Entry) (old : Search) (c : Choice) (agenda : Lis
   pub is : agenda ≡ at_goal old.store.now c.goal goals heads rest
   pub at : AtChoice es old.variables old.store (frames_of old.frames) c goals heads
   pub older : ChoicesStand es old.variables old.store (frames_of old.frames) (choices_of old) rest
-
--- what a step from there comes to
-abbrev pub GoesUp : List Entry → ℕ → Search → Search → Choice → Option Step → Type 0
-GoesUp es last old new c None = (agenda : List Pending) → IsTakenUp es old c agenda → WentOn es old new agenda
-GoesUp es last old new c (Some s) = (G : List LfType) → length G ≡ old.variables → (agenda : List Pending) → IsTakenUp es old c agenda → Came es G old new agenda (last - old.tries) s
