@@ -284,6 +284,45 @@ outside_applies κ Γ a N S c n s = record {
 pub outside_value : (a : Skeleton) (N : Term) (S : Spine) → applied_in a N outside S outside ≡ reduce a N S
 outside_value a N S = ap₂ (reduce a) (substitute_identity reduce N) (substitute_identity_spine reduce S)
 
+-- An argument may be taken in its canonical form, which stands outside all binders of the closure.
+pub made_argument_taken : (t a b : Skeleton) (M N L K : Term) (e e' : Environment) (S T : Spine) (c : Environment) → t ≡ arrow a b → N ≡ lambda M → S ≡ app L T → K ≡ value_in c L → e' ≡ extended a K outside e → ClosureApplies t N e S c → Taken b M e' T c (applied_in t N e S c)
+made_argument_taken t a b M N L K e e' S T c p q r k u f =
+    let taken = argument_taken t a b M N L e (extended a L c e) S T c p q r refl f in
+    let same : value_in outside K ≡ value_in c L = substitute_identity reduce K ∙ k in
+    subst (λ E. Taken b M E T c (applied_in t N e S c)) (sym u) (record {
+      applies = made_applies f;
+      value = ap (λ X. reduce b (substitute reduce (in_front (put a X) (substitution_in e)) M) (spine_value_in c T)) same ∙ taken.value;
+    })
+  where
+    made_applies : ClosureApplies t N e S c → ClosureApplies b M (extended a K outside e) T c
+    made_applies f =
+        let g : ClosureApplies (arrow a b) (lambda M) e (app L T) c = subst (λ X. ClosureApplies (arrow a b) (lambda M) e X c) r (subst (λ X. ClosureApplies (arrow a b) X e S c) q (subst (λ x. ClosureApplies x N e S c) p f)) in
+        let τ = environment_by_skeletons g.heads c g.arguments_context g.target g.arguments_fit in
+        let typed : TermSkeleton g.heads g.target K a = subst (λ X. TermSkeleton g.heads g.target X a) (sym k) (substitution_keeps_skeletons g.heads g.arguments_context g.target (substitution_in c) L a τ g.spine_typed.0) in
+        record {
+          heads = g.heads;
+          context = a ∷ g.context;
+          arguments_context = g.arguments_context;
+          target = g.target;
+          family = g.family;
+          environment_fits = (refl, (g.target, outside_fits g.heads g.target, typed), g.environment_fits);
+          term_typed = g.term_typed;
+          arguments_fit = g.arguments_fit;
+          spine_typed = g.spine_typed.1;
+        }
+
+-- the arguments of a closure fit
+pub applied_spine_fits : (a : Skeleton) (N : Term) (e : Environment) (S : Spine) (c : Environment) → ClosureApplies a N e S c → SpineClosureFits c S
+applied_spine_fits a N e S c f = record {
+  heads = f.heads;
+  context = f.arguments_context;
+  target = f.target;
+  head_skeleton = a;
+  result_skeleton = base f.family;
+  environment_fits = f.arguments_fit;
+  spine_typed = f.spine_typed;
+}
+
 -- A closure does not meet an argument that it does not take.
 pub not_at_base : (t : Skeleton) (d : ℕ) (N L : Term) (S T : Spine) → t ≡ base d → S ≡ app L T → TakesAll t N S → ⊥
 not_at_base t d N L S T p q f = subst (TakesAll (base d) N) q (subst (λ x. TakesAll x N S) p f)

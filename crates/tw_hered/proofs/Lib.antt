@@ -5,3 +5,4 @@ pub mod Expanded
 pub mod FromTyping
 pub mod Known
 pub mod Whole
+pub mod Making

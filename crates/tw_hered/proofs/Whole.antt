@@ -72,6 +72,12 @@ too_many_wait k l ws M h e =
     let p = depth_positive M in
     omega (arith, h, e, d, p)
 
+-- what is deeper than the levels that are left makes the whole deeper
+pub deep_inside : (k l : ℕ) (ws : List Waiting) (M : lf.Term) → l ≡ length ws → k - l < depth M → k < depth (whole ws M)
+deep_inside k l ws M e h =
+    let d = whole_depth ws M in
+    omega (arith, d, e, h)
+
 -- ws make of M what vs make of N, and nothing deeper is in them
 pub record Same (ws : List Waiting) (M : lf.Term) (vs : List Waiting) (N : lf.Term) : Type 0 where
   pub fits : AllFit ws

@@ -1,9 +1,9 @@
 -- The environments that values of the program stand for.
 use Rattle.lf.specs.Syntax as lf
 use Rattle.lf_closures.specs.Environments as pure
-use Rattle.lf_closures.specs.Environments.{stays, closure, value_in, spine_value_in}
-use Rattle.lf_closures.specs.Typing.{ClosureFits, SpineClosureFits}
-use Rattle.tw_terms.specs.View.{head_of, term_of, spine_of, skeleton_of}
+use Rattle.lf_closures.specs.Environments.{stays, closure, move_by, value_in, spine_value_in, applied_in}
+use Rattle.lf_closures.specs.Typing.{ClosureFits, SpineClosureFits, ClosureApplies}
+use Rattle.tw_terms.specs.View.{head_of, term_of, spine_of, args_of, skeleton_of}
 use Rattle.tw_hered.specs.declared.environment.Environment.{Environment, fold-Environment}
 use Rattle.tw_hered.specs.declared.environment.Environment.TheOpen.{Environment-F}
 use Rattle.tw_hered.specs.declared.environment.Found.{Found}
@@ -29,11 +29,13 @@ found_of (Found.Closure x) = closure (skeleton_of x.skeleton.now) (term_of x.ter
 abbrev pub value_of_exposed : Exposed → lf.Term
 value_of_exposed (Exposed.Lam M e) = value_in (environment_of e.now) (lf.lambda (term_of M.now))
 value_of_exposed (Exposed.Root h S e) = lf.root (head_of h) (spine_value_in (environment_of e.now) (spine_of S.now))
+value_of_exposed (Exposed.Applied x ts e) = applied_in (skeleton_of x.skeleton.now) (term_of x.term.now) (move_by x.binders (environment_of x.scope.now)) (args_of ts.now) (environment_of e.now)
 
 -- its parts have skeletons
 abbrev pub ExposedFits : Exposed → Type 0
 ExposedFits (Exposed.Lam M e) = ClosureFits (environment_of e.now) (lf.lambda (term_of M.now))
 ExposedFits (Exposed.Root h S e) = SpineClosureFits (environment_of e.now) (spine_of S.now)
+ExposedFits (Exposed.Applied x ts e) = ClosureApplies (skeleton_of x.skeleton.now) (term_of x.term.now) (move_by x.binders (environment_of x.scope.now)) (args_of ts.now) (environment_of e.now)
 
 -- the same after one step
 abbrev pub value_of_step : Step → lf.Term

@@ -4,14 +4,15 @@ ghost use Rattle.lf.specs.Substitution.{single, substitute as put_in, substitute
 ghost use Rattle.lf.specs.Depth.{depth, type_depth, depth_limit};
 ghost use Rattle.lf.specs.Deep.{DeepSubstitution, DeepTypeSubstitution, DeepReduction};
 ghost use Rattle.tw_terms.specs.View.{term_of, spine_of, type_of, skeleton_of};
-ghost use Rattle.lf_closures.specs.Environments.{outside, under, extended};
+ghost use Rattle.lf_closures.specs.Environments.{outside, under, extended, value_in};
+ghost use Rattle.lf_closures.specs.Typing.{ClosureFits};
 ghost use Rattle.tw_hered.specs.Fits.{put_at, TermFits, TypeFits, Applies};
 ghost use Rattle.tw_hered.specs.View.{environment_of};
 
 use crate::environment::{Closure, Environment, placed};
 use crate::fault::HeredFault;
 use crate::head::enter;
-use crate::normal::{LEVELS, normal_term, normal_type};
+use crate::normal::{LEVELS, NESTED, STEPS, normal_term, normal_type};
 use bumpalo::Bump;
 use std::alloc::{AllocError, Global};
 use tw_terms::{Skeleton, Spine, Term, Ty};
@@ -34,7 +35,7 @@ pub fn substitute(
 {
     let arena = Bump::new(alloc);
     let environment = environment_for(&arena, index, arg, skel)?;
-    normal_term(alloc, &arena, body, environment, LEVELS)
+    canonical(alloc, &arena, body, environment)
 }
 
 /// The same in a type.
@@ -52,7 +53,8 @@ pub fn substitute_ty(
 {
     let arena = Bump::new(alloc);
     let environment = environment_for(&arena, index, arg, skel)?;
-    normal_type(alloc, &arena, body, environment, LEVELS)
+    let mut steps = STEPS;
+    normal_type(alloc, &arena, body, environment, LEVELS, &mut steps)
 }
 
 /// The type with `arg` put in for its newest variable, up to a depth that the caller states. Answers `TooDeep` only where that type is deeper than `levels`, and
@@ -71,7 +73,8 @@ pub fn instantiate(
 {
     let arena = Bump::new(alloc);
     let environment = environment_for(&arena, 0, arg, skel)?;
-    normal_type(alloc, &arena, body, environment, levels)
+    let mut steps = STEPS;
+    normal_type(alloc, &arena, body, environment, levels, &mut steps)
 }
 
 /// The canonical form of `term`, of the skeleton `skel`, applied to all the arguments that it takes.
@@ -96,8 +99,34 @@ pub fn apply_spine(
         scope: outside,
         binders: 0,
     };
-    let entered = enter(&arena, closure, &spine.args, outside)?;
-    normal_term(alloc, &arena, entered.body, entered.environment, LEVELS)
+    let entered = enter(&arena, closure, &spine.args, &[], outside)?;
+    canonical(alloc, &arena, entered.body, entered.environment)
+}
+
+/// The canonical form of the term in the environment. Answers `TooDeep` where it is deeper than 4,096.
+fn canonical<'a>(
+    alloc: Global,
+    arena: &'a Bump,
+    term: &'a Term,
+    environment: &'a Environment<'a>,
+) -> Result<Term, HeredFault>
+    requires { ClosureFits (environment_of environment.now) (term_of term.now) }
+    ensures ok { IfOk result (λ m. term_of m ≡ value_in (environment_of environment.now) (term_of term.now)) }
+    ensures shallow { IfOk result (λ m. depth (term_of m) ≤ depth_limit) }
+    ensures too_deep { IsErrOf result HeredFault.TooDeep → depth_limit < depth (value_in (environment_of environment.now) (term_of term.now)) }
+{
+    let levels = LEVELS;
+    let mut steps = STEPS;
+    normal_term(
+        alloc,
+        arena,
+        term,
+        environment,
+        levels,
+        NESTED,
+        false,
+        &mut steps,
+    )
 }
 
 /// The environment that puts `arg` in for the variable `index`.
