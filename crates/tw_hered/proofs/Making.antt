@@ -1,5 +1,5 @@
 -- Arguments that are made before a closure takes them.
-use Rattle.std.proofs.Common.{◌≡◌, ℕ, zero, suc, ◌+◌, ◌<◌, List, [], ◌∷◌, ◌++◌, length, get_or, Option, Some, None, refl, sym, ap, ◌∙◌, subst, arith}
+use Rattle.std.proofs.Common.{◌≡◌, ℕ, ◌+◌, ◌<◌, List, [], ◌∷◌, ◌++◌, length, get_or, Option, Some, None, refl, sym, ap, ◌∙◌, subst, arith}
 use Rattle.lf.specs.Syntax as lf
 use Rattle.lf.specs.Syntax.{lambda, app, Skeleton, arrow}
 use Rattle.lf_closures.specs.Environments as pure
@@ -8,7 +8,7 @@ use Rattle.lf_closures.specs.Typing.{ClosureApplies}
 use Rattle.lf_closures.proofs.Steps.{Taken, argument_taken, made_argument_taken}
 use Rattle.tw_terms.specs.View.{term_of}
 use Rattle.tw_terms.specs.declared.canonical.Term.{Term}
-use Rattle.tw_hered.specs.Made.{IsMade, first_made, rest_made, AreMade, with_argument}
+use Rattle.tw_hered.specs.Made.{IsMade, AreMade, with_argument}
 
 -- a lambda takes an argument as it is made, or else as a closure
 pub either_taken : (t a b : Skeleton) (M N : lf.Term) (x : Term) (m : Option Term) (e e' : pure.Environment) (S T : lf.Spine) (c : pure.Environment) → t ≡ arrow a b → N ≡ lambda M → S ≡ app (term_of x) T → IsMade c m x → e' ≡ with_argument a (term_of x) m c e → ClosureApplies t N e S c → Taken b M e' T c (applied_in t N e S c)

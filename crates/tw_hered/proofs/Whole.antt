@@ -1,5 +1,5 @@
 -- What waits, as it grows and is taken back at its end.
-use Rattle.std.proofs.Common.{◌≡◌, ℕ, zero, suc, ◌+◌, ◌-◌, ◌<◌, ◌≤◌, max, List, [], ◌∷◌, ◌++◌, length, refl, sym, ap, ◌∙◌, subst, arith, Bor, Vec, Global}
+use Rattle.std.proofs.Common.{◌≡◌, ℕ, suc, ◌+◌, ◌-◌, ◌<◌, ◌≤◌, List, [], ◌∷◌, ◌++◌, length, refl, sym, ap, ◌∙◌, subst, arith, Bor, Vec, Global}
 use Rattle.std.proofs.Math.Nat.{le-max_left, le-max_right}
 use Rattle.lf.specs.Syntax as lf
 use Rattle.lf.specs.Syntax.{Spine, nil, app, lambda, root}

@@ -1,5 +1,5 @@
 -- What waits for a canonical form, and what comes of it: the outermost first.
-use Rattle.std.specs.Prelude.{◌≡◌, ℕ, ◌<◌, ◌≤◌, ◌-◌, length, List, [], ◌∷◌}
+use Rattle.std.specs.Prelude.{ℕ, ◌≤◌, ◌-◌, length, List, [], ◌∷◌}
 use Rattle.lf.specs.Syntax as lf
 use Rattle.lf.specs.Depth.{depth, spine_depth}
 use Rattle.lf.specs.Eta.{append}

@@ -1,5 +1,4 @@
-use Rattle.std.proofs.Common.{◌≡◌, ◌<◌, ◌≤◌, ◌∙◌, arith}
-use Rattle.lf.specs.Eta.{eta_arguments}
+use Rattle.std.proofs.Common.{◌∙◌, arith}
 use Rattle.tw_terms.specs.declared.canonical.Term.{Root}
 use Rattle.tw_terms.specs.View.{head_of, term_of, spine_of, skeleton_of}
 use Rattle.tw_terms.proofs.Views.{term_of-Root}

@@ -1,9 +1,9 @@
 use Rattle.std.proofs.Common.{◌≡◌, ◌+◌, ◌∷◌, drop, sym, ap, ◌∙◌, subst, arith}
-use Rattle.lf.specs.Syntax.{lambda, root, app, base, arrow}
+use Rattle.lf.specs.Syntax.{lambda, app, arrow}
 use Rattle.lf_closures.specs.Environments.{move_by, applied_in}
 use Rattle.lf_closures.specs.Typing.{ClosureApplies}
-use Rattle.lf_closures.proofs.Steps.{takes_all, not_at_base, not_at_root}
-use Rattle.tw_terms.specs.View.{head_of, term_of, spine_of, args_of, skeleton_of}
+use Rattle.lf_closures.proofs.Steps.{takes_all}
+use Rattle.tw_terms.specs.View.{term_of, args_of, skeleton_of}
 use Rattle.tw_hered.specs.View.{environment_of}
 use Rattle.tw_hered.proofs.Environments.{environments}
 use Rattle.tw_hered.specs.Made.{AreMade, first_made, with_argument}

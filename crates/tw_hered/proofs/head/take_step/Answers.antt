@@ -1,9 +1,9 @@
-use Rattle.std.proofs.Common.{◌≡◌, sym, ap, ◌∙◌, arith}
+use Rattle.std.proofs.Common.{◌≡◌, ◌∙◌, arith}
 use Rattle.lf.specs.Syntax.{variable, root}
 use Rattle.lf_closures.specs.Environments.{found, stays, closure}
 use Rattle.lf_closures.proofs.Steps.{closure_applies_by, closure_value_by, variable_value_by}
 use Rattle.tw_terms.specs.View.{term_of, spine_of, args_of, skeleton_of}
-use Rattle.tw_hered.specs.View.{environment_of, found_of}
+use Rattle.tw_hered.specs.View.{environment_of}
 use Rattle.tw_hered.proofs.Environments.{environments}
 use Rattle.tw_hered.proofs.Making.{none_made}
 use Rattle.tw_hered.proofs.head.take_step.Goals as goal

@@ -1,4 +1,4 @@
-use Rattle.std.proofs.Common.{rules, ◌≡◌, ◌-◌, ◌<◌, [], length, refl, sym, ap, ◌∙◌, subst, arith}
+use Rattle.std.proofs.Common.{rules, ◌≡◌, ◌-◌, ◌<◌, length, refl, sym, ap, ◌∙◌, subst, arith}
 use Rattle.lf.specs.Syntax.{lambda}
 use Rattle.lf.specs.Depth.{depth}
 use Rattle.lf_closures.specs.Environments.{move_by, value_in, applied_in}

@@ -1,17 +1,12 @@
 use Rattle.std.proofs.Common.{◌≡◌, ◌-◌, ◌∷◌, length, ap, ◌∙◌, subst, IfOk, arith}
 use Rattle.std.proofs.lemmas.List.{nil_from_length}
-use Rattle.lf.specs.Syntax.{root}
-use Rattle.lf.specs.Depth.{depth}
-use Rattle.lf_closures.specs.Environments.{value_in, spine_value_in}
+use Rattle.lf_closures.specs.Environments.{value_in}
 use Rattle.lf_closures.specs.Typing.{SpineClosureFits}
 use Rattle.lf_closures.proofs.Steps.{first_fits, rest_fits}
-use Rattle.tw_terms.specs.View.{head_of, term_of, args_of}
-use Rattle.tw_terms.specs.declared.canonical.Spine.{roll-Spine}
-use Rattle.tw_terms.specs.declared.canonical.Term.{Root}
+use Rattle.tw_terms.specs.View.{term_of, args_of}
 use Rattle.tw_hered.specs.View.{environment_of}
-use Rattle.tw_hered.specs.Waiting.{whole, value_of_next, NextIsShallow}
+use Rattle.tw_hered.specs.Waiting.{whole, value_of_next}
 use Rattle.tw_hered.specs.declared.waiting.Waiting.TheVariants.{Argument}
-use Rattle.tw_hered.proofs.Expanded.{root_of}
 use Rattle.tw_hered.proofs.Whole.{more-fit, more-value, more-shallow, first-value, begun-shallow, only-head, only-head-shallow}
 use Rattle.tw_hered.proofs.waiting.begin_arguments.Goals as goal
 
