@@ -5,7 +5,8 @@ use Rattle.lf.specs.Syntax.{atom}
 use Rattle.tw_terms.specs.OpenView.{open_spine_of, open_term_of, open_type_of}
 use Rattle.tw_terms.proofs.OpenViews.{open_spine_of-roll, open_type_of-Atom}
 use Rattle.tw_terms.specs.declared.open_terms.OpenSpine.{roll-OpenSpine}
-use Rattle.tw_search.proofs.NewTerms.{TakesBefore, declares_same, declares_then, numbers_end, numbers_step, stands_after, takes_end, takes_start, takes_step}
+use Rattle.tw_open.proofs.NewTerms.{declares_same, declares_then}
+use Rattle.tw_search.proofs.NewTerms.{TakesBefore, numbers_end, numbers_step, stands_after, takes_end, takes_start, takes_step}
 use Rattle.tw_search.proofs.taking.take_all.Goals as goal
 
 pub loop-init : goal.loop-init
