@@ -1,5 +1,5 @@
 -- Eta-long forms as they are built, the variables in scope as arguments, and types closed over them.
-use Rattle.std.proofs.Common.{◌≡◌, ℕ, zero, suc, ◌+◌, ◌≤◌, List, [], ◌∷◌, ◌++◌, length, drop, Option, Some, None, refl, sym, ap, ap₂, ◌∙◌, arith, add-one, Vec, Global}
+use Rattle.std.proofs.Common.{◌≡◌, ℕ, zero, suc, ◌+◌, ◌<◌, ◌≤◌, List, [], ◌∷◌, ◌++◌, length, drop, Option, Some, None, refl, sym, ap, ap₂, ◌∙◌, arith, add-one, Vec, Global}
 use Rattle.std.specs.List.{slice_get}
 use Rattle.std.proofs.lemmas.List.{drop_all}
 use Rattle.lf.specs.AtOnce.{shift_by}
@@ -70,6 +70,11 @@ next_argument D n k A ts us t R e g m u r =
 pub no_more_arguments : (D : List LfType) (n : ℕ) (ts : List Open) (R : Spine) → n ≡ 0 → R ≡ append (open_args_of ts) (newest_arguments n D) → open_args_of ts ≡ R
 unfolding newest_arguments
 no_more_arguments D n ts R e r = sym (r ∙ ap (λ k. append (open_args_of ts) (newest_arguments k D)) e ∙ append-nil (open_args_of ts))
+
+pub there_is : (D : List LfType) (i : ℕ) → i < length D → slice_get D i ≡ None → ⊥
+there_is [] i h e = absurd (omega (arith, h))
+there_is (A ∷ D) zero h e = cc
+there_is (A ∷ D) (suc i) h e = there_is D i (omega (arith, h)) e
 
 -- a type closed over more of the variables
 pub drop_first : (D : List LfType) (i : ℕ) (A : LfType) → Some A ≡ slice_get D i → drop i D ≡ A ∷ drop (i + 1) D

@@ -1,5 +1,5 @@
 -- New metavariables, step by step.
-use Rattle.std.proofs.Common.{◌≡◌, ℕ, suc, List, [], ◌∷◌, ◌++◌, length, map, Some, refl, sym, ap, ap₂, ◌∙◌, subst}
+use Rattle.std.proofs.Common.{◌≡◌, ℕ, suc, ◌<◌, List, [], ◌∷◌, ◌++◌, length, map, Some, refl, sym, ap, ap₂, ◌∙◌, subst, arith}
 use Rattle.lf.specs.Eta.{append}
 use Rattle.lf.specs.Substitution.{Image, lift, reduce, single, substitute_type}
 use Rattle.lf.specs.Syntax.{LfType, Skeleton, Spine, Term, app, atom, nil, pi, skeleton}
@@ -60,6 +60,18 @@ takes_end D A B s t ts S a T e q f = subst (λ R. TakesAll D A s t R a T) (appen
 numbers_substituted : (r : Skeleton → Term → Spine → Term) (σ : ℕ → Image) (n : ℕ) (A : LfType) → numbers_from n (substitute_type r σ A) ≡ numbers_from n A
 numbers_substituted r σ n (pi A B) = ap (λ l. n ∷ l) (numbers_substituted r (lift σ) (suc n) B)
 numbers_substituted r σ n (atom a S) = refl
+
+-- an argument less is left
+pub fewer_left : (D : List LfType) (A B Y : LfType) (M : Term) (a b : metas.State) → TakesOne D (pi A B) M Y a b → length (numbers_from 0 Y) < length (numbers_from 0 (pi A B))
+fewer_left D A B Y M a b o =
+    let e : B ≡ o.range = (let p : pi A B ≡ pi o.domain o.range = o.is in cc) in
+    let y : numbers_from 0 Y ≡ numbers_from 0 B = ap (numbers_from 0) o.left_over ∙ numbers_substituted reduce (single (skeleton o.domain) M) 0 o.range ∙ sym (ap (numbers_from 0) e) in
+    let n : length (numbers_from 0 Y) ≡ length (numbers_from 1 B) = ap length y ∙ same_count 0 1 B in
+    omega (arith, n)
+  where
+    same_count : (i j : ℕ) (Z : LfType) → length (numbers_from i Z) ≡ length (numbers_from j Z)
+    same_count i j (atom c S) = refl
+    same_count i j (pi Z W) = let h = same_count (suc i) (suc j) W in omega (arith, h)
 
 pub numbers_start : (A : LfType) (s : metas.State) → numbers_from (length s.declared) A ≡ map (λ (m : MetaId). m.0) [] ++ numbers_from (length s.declared) A
 numbers_start A s = refl

@@ -16,3 +16,6 @@ invariant-loop l = record {
   numbers : numbers_from (length l.fn.store.now.declared) (open_type_of l.fn.ty) ≡ map (λ (m : MetaId). m.0) l.metas.items ++ numbers_from (length l.store.now.declared) (open_type_of l.rest);
   so_far : TakesBefore l.locals (open_type_of l.fn.ty) l.fn.store.now (open_type_of l.rest) l.store.now l.args.items;
 }
+
+abbrev pub decreases-loop : goal.decreases-loop
+decreases-loop l = length (numbers_from 0 (open_type_of l.rest))
