@@ -14,7 +14,8 @@ use Rattle.tw_elaborate.specs.Fresh.{Keeps}
 use Rattle.tw_elaborate.specs.View.{made}
 use Rattle.tw_elaborate.specs.declared.equations.Comparison.{Comparison}
 use Rattle.tw_elaborate.specs.declared.state.Elaboration.{Elaboration}
-use Rattle.tw_elaborate.proofs.Equating.{equations_twice, followed_after, followed_none, no_equations}
+use Rattle.tw_open.proofs.Arguments.{followed_after, followed_none}
+use Rattle.tw_elaborate.proofs.Equating.{equations_twice, no_equations}
 use Rattle.tw_elaborate.proofs.Taking.{keeps_same, keeps_then}
 
 parts_push : (cs : List Comparison) (c : Comparison) → parts_left (cs ++ c ∷ []) ≡ parts (open_type_of c.found.now) + parts_left cs

@@ -15,7 +15,8 @@ use Rattle.lf_elaboration.specs.Written.{Place, declared, family}
 use Rattle.lf_unification.specs.Patterns.{local_skeletons}
 use Rattle.lf_elaboration.proofs.Skeletons.{closed_term_skeleton, constant_type, entry_typed, kind_closed, kind_declared, takes_skeletons, type_declared}
 use Rattle.tw_elaborate.specs.Deep.{InfersDeep, TakesDeep, deep_definition}
-use Rattle.tw_elaborate.specs.Fits.{GivesArguments, KindStands, Stands, TypeStands}
+use Rattle.tw_open.specs.Fits.{KindStands, TypeStands}
+use Rattle.tw_elaborate.specs.Fits.{GivesArguments, Stands}
 
 module _ (es : List Entry) (o : IsCanonicalSignature es) where
   abbrev Σ : Signature
@@ -26,13 +27,13 @@ module _ (es : List Entry) (o : IsCanonicalSignature es) where
 
   module _ (s : State) (D : List LfType) (w : Stands (signature_of es) s D) (c : ℕ) (e : Entry) (q : entry es c ≡ Some e) where
     pub declared_kind_stands : (K L : Kind) → L ≡ K → e.body ≡ declare_family K → KindStands s D L
-    declared_kind_stands K L l b = subst (KindStands s D) (sym l) (record { signature = Σ; typed_signature = ok; stands = w; of_kind = kind_closed Σ ok s D K (ok.kinds_ok c K (kind_declared es c e K q b)) })
+    declared_kind_stands K L l b = subst (KindStands s D) (sym l) (record { signature = Σ; typed_signature = ok; numbered = w.state.numbered; local = w.local; of_kind = kind_closed Σ ok s D K (ok.kinds_ok c K (kind_declared es c e K q b)) })
 
     pub declared_type_stands : (B X : LfType) → X ≡ B → e.body ≡ declare_constant B → TypeStands s D X
-    declared_type_stands B X x b = subst (TypeStands s D) (sym x) (record { signature = Σ; typed_signature = ok; stands = w; of_type = constant_type Σ ok s D B (ok.types_ok c B (type_declared es c e B q b)) })
+    declared_type_stands B X x b = subst (TypeStands s D) (sym x) (record { signature = Σ; typed_signature = ok; numbered = w.state.numbered; local = w.local; of_type = constant_type Σ ok s D B (ok.types_ok c B (type_declared es c e B q b)) })
 
     pub defined_type_stands : (N : Term) (B X : LfType) (b : Bool) → X ≡ B → e.body ≡ declare_definition N B b → TypeStands s D X
-    defined_type_stands N B X b x d = subst (TypeStands s D) (sym x) (record { signature = Σ; typed_signature = ok; stands = w; of_type = constant_type Σ ok s D B (subst (BodyIsTyped Σ) d (entry_typed es o c e q)).0 })
+    defined_type_stands N B X b x d = subst (TypeStands s D) (sym x) (record { signature = Σ; typed_signature = ok; numbered = w.state.numbered; local = w.local; of_type = constant_type Σ ok s D B (subst (BodyIsTyped Σ) d (entry_typed es o c e q)).0 })
 
     pub defined_gives : (N P : Term) (B X A : LfType) (b : Bool) (k : ℕ) (s' : State) (S : Spine) → P ≡ N → X ≡ B → e.body ≡ declare_definition N B b → TakesNew k D B s s' S A → GivesArguments (skeleton X) P S
     defined_gives N P B X A b k s' S p x d t = subst (λ (Y : LfType). GivesArguments (skeleton Y) P S) (sym x) (subst (λ (M : Term). GivesArguments (skeleton B) M S) (sym p) (record {

@@ -18,7 +18,7 @@ use Rattle.tw_elaborate.specs.Fits.{Stands}
 use Rattle.tw_elaborate.specs.Fresh.{Keeps}
 use Rattle.tw_elaborate.specs.Operators.{Applies}
 use Rattle.tw_elaborate.specs.declared.state.Elaboration.{Elaboration}
-use Rattle.tw_elaborate.proofs.Taking.{declares_same, declares_then}
+use Rattle.tw_open.proofs.NewTerms.{declares_same, declares_then}
 use Rattle.lf.specs.Substitution.{single}
 
 -- a variable is in scope, and then no more

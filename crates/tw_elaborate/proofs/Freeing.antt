@@ -19,7 +19,7 @@ use Rattle.tw_elaborate.specs.Frees.{IsNewFree}
 use Rattle.tw_elaborate.specs.Fresh.{Keeps}
 use Rattle.tw_elaborate.specs.View.{made, numbers_of}
 use Rattle.tw_elaborate.specs.declared.state.Elaboration.{Elaboration}
-use Rattle.tw_elaborate.proofs.Taking.{declares_fresh, declares_same, declares_then, made_with}
+use Rattle.tw_open.proofs.NewTerms.{declares_fresh, declares_same, declares_then, one_more_made}
 
 module _ (es : List Entry) (canonical : IsCanonicalSignature es) where
   -- what stands behind one

@@ -1,9 +1,4 @@
-pub mod Steps
-pub mod Views
-pub mod Expanding
-pub mod Standing
 pub mod Taking
-pub mod KindMoves
 pub mod Scoping
 pub mod Freeing
 pub mod Equating

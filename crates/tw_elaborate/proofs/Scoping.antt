@@ -8,10 +8,12 @@ use Rattle.lf_elaboration.specs.Elaboration.{NewType, TakesAllNew, new_atom, new
 use Rattle.lf_elaboration.specs.State.{State}
 use Rattle.lf_elaboration.proofs.Adds.{new_type_adds}
 use Rattle.lf_elaboration.proofs.Skeletons.{kind_closed, local_grows, new_type_skeletons}
-use Rattle.tw_elaborate.specs.Fits.{KindStands, Stands}
-use Rattle.tw_elaborate.specs.Fresh.{Keeps, OnlyDeclares}
+use Rattle.tw_open.specs.Fits.{KindStands}
+use Rattle.tw_elaborate.specs.Fits.{Stands}
+use Rattle.tw_open.specs.Fresh.{OnlyDeclares}
+use Rattle.tw_elaborate.specs.Fresh.{Keeps}
 use Rattle.tw_elaborate.specs.declared.state.Elaboration.{Elaboration}
-use Rattle.tw_elaborate.proofs.Taking.{declares_then}
+use Rattle.tw_open.proofs.NewTerms.{declares_then}
 
 -- E are the variables in scope in between
 pub keeps_inside : (a b d e : Elaboration) (E : List LfType) (X : LfType) → Keeps a b → E ≡ X ∷ b.locals → d.locals ≡ E → OnlyDeclares b.store d.store → e.store ≡ d.store → e.locals ≡ drop 1 d.locals → Keeps a e
@@ -33,7 +35,8 @@ module _ (es : List Entry) (canonical : IsCanonicalSignature es) where
   family_kind_stands s D a K L w e l = subst (KindStands s D) (sym l) (record {
     signature = signature_of es;
     typed_signature = canonical_is_signature es canonical;
-    stands = w;
+    numbered = w.state.numbered;
+    local = w.local;
     of_kind = kind_closed (signature_of es) ok s D K (ok.kinds_ok a K (sym e));
   })
 

@@ -1,65 +1,27 @@
 -- New metavariables, step by step.
-use Rattle.std.proofs.Common.{◌≡◌, ℕ, zero, suc, ◌+◌, ◌-◌, ◌<◌, List, [], ◌∷◌, ◌++◌, length, Option, Some, refl, sym, ap, ap₂, ◌∙◌, subst, length-append, arith}
-use Rattle.std.specs.List.{slice_get}
-use Rattle.std.specs.Option.{option_map}
-use mathlib.Core.Path.{fun_ext}
+use Rattle.std.proofs.Common.{◌≡◌, ℕ, suc, ◌+◌, ◌-◌, ◌<◌, List, [], ◌∷◌, ◌++◌, refl, sym, ap, ◌∙◌, subst, arith}
 use Rattle.lf.specs.Eta.{append}
 use Rattle.lf.specs.Syntax.{Kind, LfType, Spine, Term, app, kind_pi, nil, pi, star}
 use Rattle.lf.specs.Typing.{instantiate_kind, instantiate_type}
 use Rattle.lf_elaboration.specs.Elaboration.{KindTakesNew, TakesAllNew, TakesNew, kind_takes_next, kind_takes_none, takes_all, takes_first, takes_next, takes_none}
 use Rattle.lf_elaboration.specs.State.{State, with_metavariable}
-use Rattle.lf_unification.specs.Offering.{pi_over, raised}
-use Rattle.lf_unification.specs.OpenTyping.{set_at}
-use Rattle.lf_unification.specs.Unifiers.{Equation}
-use Rattle.tw_metas.specs.State.{Declaration, Story, changed, with_declared}
-use Rattle.tw_metas.specs.State as metas
-use Rattle.tw_putting.specs.Stores.{types_of}
+use Rattle.lf_unification.specs.Offering.{raised}
 use Rattle.tw_terms.specs.OpenView.{open_args_of, open_term_of}
 use Rattle.tw_terms.specs.declared.open_terms.Open.{Open}
-use Rattle.tw_prune.proofs.Walking.{append-nil, append-push}
-use Rattle.tw_elaborate.specs.Fits.{KindStands, TypeStands}
-use Rattle.tw_elaborate.specs.Fresh.{Keeps, KindTakesOne, OnlyDeclares, TakesOne, declares_nothing, declares_one}
+use Rattle.tw_prune.proofs.Walking.{append-nil}
+use Rattle.tw_open.specs.Fits.{KindStands, TypeStands}
+use Rattle.tw_open.specs.Fresh.{declares_nothing}
+use Rattle.tw_elaborate.specs.Fresh.{Keeps, KindTakesOne, TakesOne}
 use Rattle.tw_elaborate.specs.View.{made}
 use Rattle.tw_elaborate.specs.declared.state.Elaboration.{Elaboration}
-use Rattle.tw_elaborate.proofs.Standing.{kind_rest_stands, rest_stands}
-
--- the store grows
-pub declares_then : {a b c : Story} → OnlyDeclares a b → OnlyDeclares b c → OnlyDeclares a c
-declares_then d declares_nothing = d
-declares_then d (declares_one A e) = declares_one A (declares_then d e)
+use Rattle.tw_open.proofs.NewTerms.{declares_then, longer}
+use Rattle.tw_open.proofs.Standing.{kind_rest_stands, rest_stands}
 
 pub keeps_same : (a : Elaboration) → Keeps a a
 keeps_same a = record { locals = refl; store = declares_nothing }
 
 pub keeps_then : (a b c : Elaboration) → Keeps a b → Keeps b c → Keeps a c
 keeps_then a b c k l = record { locals = l.locals ∙ k.locals; store = declares_then k.store l.store }
-
-one_more_type : (ds : List Declaration) (d : Declaration) (k : ℕ) → option_map (λ (e : Declaration). e.of_type) (slice_get (ds ++ d ∷ []) k) ≡ set_at (length ds) (Some d.of_type) (λ j. option_map (λ (e : Declaration). e.of_type) (slice_get ds j)) k
-one_more_type [] d zero = refl
-one_more_type [] d (suc k) = refl
-one_more_type (x ∷ ds) d zero = refl
-one_more_type (x ∷ ds) d (suc k) = one_more_type ds d k
-
-types_with_declared : (s : metas.State) (G : List LfType) (Y : LfType) → types_of (with_declared s G Y) ≡ set_at (length s.declared) (Some Y) (types_of s)
-types_with_declared s G Y = fun_ext (one_more_type s.declared (record { context = G; of_type = Y }))
-
--- the state with one metavariable more
-pub made_with : (s t : metas.State) (es : List Equation) (D : List LfType) (G : List LfType) (A P : LfType) → t ≡ with_declared s G P → P ≡ pi_over D A →
-    record { metavariables = types_of t; next = length t.declared; equations = es } ≡ with_metavariable D A (record { metavariables = types_of s; next = length s.declared; equations = es })
-made_with s t es D G A P e p =
-    ap (λ (x : metas.State). record { metavariables = types_of x; next = length x.declared; equations = es }) e
-    ∙ ap₂ (λ (ψ : ℕ → Option LfType) (n : ℕ). record { metavariables = ψ; next = n; equations = es }) (types_with_declared s G P) (length-append s.declared (record { context = G; of_type = P } ∷ []) ∙ omega arith)
-    ∙ ap (λ (X : LfType). record { metavariables = set_at (length s.declared) (Some X) (types_of s); next = suc (length s.declared); equations = es }) p
-
-pub declares_fresh : (a b : Story) (G : List LfType) (P : LfType) → G ≡ [] → b ≡ changed a (with_declared a.now G P) → OnlyDeclares a b
-declares_fresh a b G P g e = subst (OnlyDeclares a) (sym (e ∙ ap (λ D. changed a (with_declared a.now D P)) g)) (declares_one P declares_nothing)
-
-pub declares_same : (a b : Story) → b ≡ a → OnlyDeclares a b
-declares_same a b e = subst (OnlyDeclares a) (sym e) declares_nothing
-
--- one more argument
-longer : (ts us : List Open) (t : Open) (T : Spine) → us ≡ ts ++ t ∷ [] → append (open_args_of ts) (app (open_term_of t) T) ≡ append (open_args_of us) T
-longer ts us t T u = sym (append-push ts t T) ∙ ap (λ l. append (open_args_of l) T) (sym u)
 
 -- what stands after one
 pub stands_after : (X Y : LfType) (M : Term) (a b : Elaboration) → Keeps a b → TakesOne X M Y a b → TypeStands (made a) a.locals X → TypeStands (made b) b.locals Y

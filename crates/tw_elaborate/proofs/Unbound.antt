@@ -3,7 +3,7 @@ use Rattle.std.proofs.Common.{◌≡◌, ℕ, zero, suc, List, [], ◌∷◌, �
 use Rattle.std.specs.List.{slice_get}
 use Rattle.lf.specs.Syntax.{LfType, Term}
 use Rattle.tw_metas.specs.State.{Declaration, State, Story, empty_state, empty_story, joined, with_declared}
-use Rattle.tw_elaborate.specs.Fresh.{OnlyDeclares, declares_nothing, declares_one}
+use Rattle.tw_open.specs.Fresh.{OnlyDeclares, declares_nothing, declares_one}
 use Rattle.tw_elaborate.specs.Unbound.{NothingBound}
 
 value_behind : (vs : List (Option Term)) (m : ℕ) (N : Term) → joined (slice_get (vs ++ None ∷ []) m) ≡ Some N → joined (slice_get vs m) ≡ Some N

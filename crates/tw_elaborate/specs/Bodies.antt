@@ -10,9 +10,10 @@ use Rattle.lf_elaboration.specs.Written.{Written, WrittenKind, WrittenType}
 use Rattle.tw_metas.specs.State.{empty_story}
 use Rattle.tw_terms.specs.OpenView.{open_term_of, open_type_of}
 use Rattle.tw_elaborate.specs.Deep.{ChecksDeep, InfersDeep, KindDeep, TypeDeep}
-use Rattle.tw_elaborate.specs.Fresh.{OnlyDeclares}
+use Rattle.tw_open.specs.Fresh.{OnlyDeclares}
 use Rattle.tw_elaborate.specs.Unbound.{NothingBound}
-use Rattle.tw_elaborate.specs.View.{made, numbers_of, open_kind_of}
+use Rattle.tw_open.specs.View.{open_kind_of}
+use Rattle.tw_elaborate.specs.View.{made, numbers_of}
 use Rattle.tw_elaborate.specs.declared.bodies.Elaborated.{Elaborated}
 use Rattle.tw_elaborate.specs.declared.bodies.OpenBody.{OpenBody}
 use Rattle.tw_elaborate.specs.declared.bodies.OpenBody.TheVariants.{Constant, Definition, Family}

@@ -1,29 +1,15 @@
 -- What elaboration asks of what was made so far: that skeletons type it.
 use Rattle.std.specs.Prelude.{List}
 use Rattle.lf.specs.SkeletonTyping.{HeadSkeletons, SpineSkeleton, TermSkeleton}
-use Rattle.lf.specs.Syntax.{Kind, LfType, Skeleton, Spine, Term}
-use Rattle.lf.specs.Typing.{IsSignature, Signature}
-use Rattle.lf_elaboration.specs.Skeletons.{KindHasSkeletons, LocalHasSkeletons, StateHasSkeletons, TypeHasSkeletons}
+use Rattle.lf.specs.Syntax.{LfType, Skeleton, Spine, Term}
+use Rattle.lf.specs.Typing.{Signature}
+use Rattle.lf_elaboration.specs.Skeletons.{LocalHasSkeletons, StateHasSkeletons}
 use Rattle.lf_elaboration.specs.State.{State}
 
 -- what was made, and the local context
 pub record Stands (Σ : Signature) (s : State) (D : List LfType) : Type 0 where
   pub state : StateHasSkeletons Σ s
   pub local : LocalHasSkeletons Σ s D
-
--- a type over them, in some signature
-pub record TypeStands (s : State) (D : List LfType) (A : LfType) : Type 0 where
-  pub signature : Signature
-  pub typed_signature : IsSignature signature
-  pub stands : Stands signature s D
-  pub of_type : TypeHasSkeletons signature s D A
-
--- and a kind
-pub record KindStands (s : State) (D : List LfType) (K : Kind) : Type 0 where
-  pub signature : Signature
-  pub typed_signature : IsSignature signature
-  pub stands : Stands signature s D
-  pub of_kind : KindHasSkeletons signature s D K
 
 -- the term has this skeleton, and the spine gives it some of its arguments
 pub record GivesArguments (a : Skeleton) (N : Term) (S : Spine) : Type 0 where

@@ -1,17 +1,12 @@
 -- Metavariables that are new, between the values of the program before and after.
-use Rattle.std.specs.Prelude.{◌≡◌, []}
+use Rattle.std.specs.Prelude.{◌≡◌}
 use Rattle.lf.specs.Syntax.{Kind, LfType, Term, kind_pi, pi}
 use Rattle.lf.specs.Typing.{instantiate_kind, instantiate_type}
 use Rattle.lf_elaboration.specs.State.{with_metavariable}
 use Rattle.lf_unification.specs.Offering.{raised}
-use Rattle.tw_metas.specs.State.{Story, changed, with_declared}
+use Rattle.tw_open.specs.Fresh.{OnlyDeclares}
 use Rattle.tw_elaborate.specs.declared.state.Elaboration.{Elaboration}
 use Rattle.tw_elaborate.specs.View.{made}
-
--- metavariables were declared in the empty context, one after another, and nothing else changed
-pub data OnlyDeclares : Story → Story → Type 0 where
-  declares_nothing : {s : Story} → OnlyDeclares s s
-  declares_one : {s t : Story} (A : LfType) → OnlyDeclares s t → OnlyDeclares s (changed t (with_declared t.now [] A))
 
 -- the variables in scope stay, and the store only grows
 pub record Keeps (old new : Elaboration) : Type 0 where

@@ -11,10 +11,11 @@ ghost use Rattle.tw_written.specs.View.{written_body_of};
 
 use crate::frames::FRAMES;
 use crate::frees::new_frees;
-use crate::state::{Elaboration, OpenKind};
+use crate::state::Elaboration;
 use crate::terms::{check, elaborate_kind, elaborate_type, infer};
 use std::alloc::Global;
 use tw_hered::HeredFault;
+use tw_open::OpenKind;
 use tw_signature::Signature;
 use tw_terms::{MetaId, Open, OpenTy, Skeleton};
 use tw_written::WrittenBody;

@@ -1,23 +1,22 @@
 //! Equations between two types, or two kinds, of one skeleton: equal where their indices are.
-ghost use Rattle.std.specs.Prelude.{◌≡◌, ◌↔◌, [], ◌∷◌, IfOk, IsTrue, MatchOption, OnOk};
+ghost use Rattle.std.specs.Prelude.{◌≡◌, ◌↔◌, IsTrue, OnOk};
 ghost use Rattle.lf.specs.Entries.{signature_of, IsCanonicalSignature};
-ghost use Rattle.lf.specs.Syntax.{app, atom, nil, star, skeleton as skeleton_of_type};
+ghost use Rattle.lf.specs.Syntax.{atom, skeleton as skeleton_of_type};
 ghost use Rattle.lf_elaboration.specs.Skeletons.{KindHasSkeletons, TypeHasSkeletons};
-ghost use Rattle.lf_elaboration.specs.State.{differing, index_equations, with_equations};
-ghost use Rattle.lf_unification.specs.Offering.{spine_equations};
-ghost use Rattle.tw_terms.specs.OpenView.{open_spine_of, open_term_of, open_type_of};
+ghost use Rattle.lf_elaboration.specs.State.{index_equations as index_equations_of, with_equations};
+ghost use Rattle.tw_terms.specs.OpenView.{open_spine_of, open_type_of};
 ghost use Rattle.tw_terms.specs.View.{skeleton_of};
-ghost use Rattle.tw_elaborate.specs.Comparing.{ComparesIn, ComparesKinds, ComparesTypes, SpineStands, TakesBoth};
+ghost use Rattle.tw_elaborate.specs.Comparing.{ComparesIn, ComparesKinds, ComparesTypes};
 ghost use Rattle.tw_elaborate.specs.Compared.{ComparesNext};
 ghost use Rattle.tw_elaborate.specs.Fresh.{Keeps};
-ghost use Rattle.tw_elaborate.specs.View.{made, open_kind_of};
+ghost use Rattle.tw_open.specs.View.{open_kind_of};
+ghost use Rattle.tw_elaborate.specs.View.{made};
 
-use crate::kinds::{instantiate_kind, open_kind};
-use crate::state::{Elaboration, OpenKind};
+use crate::state::Elaboration;
 use std::alloc::{AllocError, Global};
-use tw_metas::Equation;
+use tw_open::{OpenKind, Wanted, index_equations, open_kind};
 use tw_signature::Signature;
-use tw_terms::{ConstId, Open, OpenContext, OpenSpine, OpenTy, Skeleton};
+use tw_terms::{ConstId, OpenContext, OpenSpine, OpenTy, Skeleton};
 
 /// Whether the type has this skeleton.
 pub fn has_skeleton(ty: &OpenTy, skeleton: &Skeleton) -> bool
@@ -147,88 +146,25 @@ fn compare_indices(
 ) -> Result<(), AllocError>
     requires canonical { IsCanonicalSignature signature.now }
     requires found { TypeHasSkeletons (signature_of signature.now) (made state.old) context.now (atom family.0 (open_spine_of left.now)) }
-    ensures ok { OnOk result (made state.new ≡ with_equations (index_equations (signature_of signature.now) ((signature_of signature.now).kinds family.0) context.now (open_spine_of left.now) (open_spine_of right.now)) (made state.old)) }
+    ensures ok { OnOk result (made state.new ≡ with_equations (index_equations_of (signature_of signature.now) ((signature_of signature.now).kinds family.0) context.now (open_spine_of left.now) (open_spine_of right.now)) (made state.old)) }
     ensures keeps { Keeps state.old state.new }
 {
     match signature.family_kind(family) {
         Some(kind) => {
-            compare_arguments(alloc, state, context, open_kind(alloc, kind)?, left, right)
+            let kind = open_kind(alloc, kind)?;
+            let found = &mut state.equations;
+            index_equations(
+                alloc,
+                context,
+                kind,
+                left,
+                right,
+                Wanted::Differing,
+                found,
+            )
         }
         None => Ok(()),
     }
-}
-
-/// Adds the equations between the arguments of two spines that a kind takes, in order, where these differ.
-fn compare_arguments(
-    alloc: Global,
-    state: &mut Elaboration,
-    context: &OpenContext,
-    kind: OpenKind,
-    left: &OpenSpine,
-    right: &OpenSpine,
-) -> Result<(), AllocError>
-    requires { SpineStands (made state.old) context.now (open_kind_of kind) (open_spine_of left.now) }
-    ensures ok { OnOk result (made state.new ≡ with_equations (differing (spine_equations context.now (open_kind_of kind) (open_spine_of left.now) (open_spine_of right.now))) (made state.old)) }
-    ensures keeps { Keeps state.old state.new }
-{
-    let mut rest = kind;
-    for (place, arg) in left.args.iter().enumerate() {
-        match right.args.get(place) {
-            Some(other) => match take_argument(alloc, state, context, rest, arg, other)? {
-                Some(range) => rest = range,
-                None => return Ok(()),
-            },
-            None => return Ok(()),
-        }
-    }
-    Ok(())
-}
-
-/// Adds the equation between two arguments, unless they are the same, and gives the kind that is left; None where the kind takes no argument.
-fn take_argument(
-    alloc: Global,
-    state: &mut Elaboration,
-    context: &OpenContext,
-    kind: OpenKind,
-    left: &Open,
-    right: &Open,
-) -> Result<Option<OpenKind>, AllocError>
-    requires { SpineStands (made state.old) context.now (open_kind_of kind) (app (open_term_of left.now) nil) }
-    ensures ok { IfOk result (λ r. MatchOption r ((open_kind_of kind ≡ star) × (made state.new ≡ made state.old)) (λ k. TakesBoth context.now (open_kind_of kind) (open_term_of left.now) (open_term_of right.now) (open_kind_of k) state.old state.new)) }
-    ensures keeps { Keeps state.old state.new }
-{
-    match kind {
-        OpenKind::Pi(domain, range) => {
-            let rest = instantiate_kind(alloc, &range, 0, left, &domain)?;
-            add_equation(alloc, state, context, left, right, Box::into_inner(domain))?;
-            Ok(Some(rest))
-        }
-        OpenKind::Star => Ok(None),
-    }
-}
-
-/// Adds the equation of two terms of the type, unless they are the same.
-fn add_equation(
-    alloc: Global,
-    state: &mut Elaboration,
-    context: &OpenContext,
-    left: &Open,
-    right: &Open,
-    ty: OpenTy,
-) -> Result<(), AllocError>
-    ensures ok { OnOk result (made state.new ≡ with_equations (differing (record { local = context.now; left = open_term_of left.now; right = open_term_of right.now; of_type = open_type_of ty } ∷ [])) (made state.old)) }
-    ensures keeps { Keeps state.old state.new }
-{
-    if left.same(right) {
-        return Ok(());
-    }
-    state.equations.push(Equation {
-        context: context.copy(alloc)?,
-        left: left.copy(alloc)?,
-        right: right.copy(alloc)?,
-        ty,
-    })?;
-    Ok(())
 }
 
 /// Adds the equations between the kind that was found and the expected one, where they differ. Where their skeletons differ, memory counts as used up.

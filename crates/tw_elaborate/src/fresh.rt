@@ -5,29 +5,27 @@ ghost use Rattle.lf.specs.Syntax.{base};
 ghost use Rattle.lf_elaboration.specs.Elaboration.{KindTakesNew, NewType, TakesAllNew, TakesNew};
 ghost use Rattle.tw_terms.specs.OpenView.{open_spine_of, open_term_of, open_type_of};
 ghost use Rattle.tw_terms.specs.View.{skeleton_of};
-ghost use Rattle.tw_elaborate.specs.Fits.{KindStands, Stands, TypeStands};
+ghost use Rattle.tw_open.specs.Fits.{KindStands, TypeStands};
+ghost use Rattle.tw_elaborate.specs.Fits.{Stands};
 ghost use Rattle.tw_elaborate.specs.Fresh.{IsNew, Keeps, KindTakesOne, TakesOne};
-ghost use Rattle.tw_elaborate.specs.View.{made, open_kind_of};
+ghost use Rattle.tw_open.specs.View.{open_kind_of};
+ghost use Rattle.tw_elaborate.specs.View.{made};
 
-use crate::expand::{closed_over, expanded, local_arguments, pi};
-use crate::kinds::{instantiate_kind, open_kind};
 use crate::operators::instantiated;
-use crate::state::{Elaboration, OpenKind};
+use crate::state::Elaboration;
 use std::alloc::{AllocError, Global};
+use tw_open::{OpenKind, instantiate_kind, open_kind, pi};
 use tw_signature::Signature;
 use tw_terms::numbers::nested;
-use tw_terms::{ConstId, Open, OpenContext, OpenHead, OpenSpine, OpenTy, Skeleton};
+use tw_terms::{ConstId, Open, OpenSpine, OpenTy, Skeleton};
 
 /// A new metavariable for a term of this type, at the variables in scope. Fails only for want of memory.
 pub fn new_term(alloc: Global, state: &mut Elaboration, ty: &OpenTy) -> Result<Open, AllocError>
     ensures ok { IfOk result (λ m. IsNew (open_type_of ty.now) (open_term_of m) state.old state.new) }
     ensures keeps { Keeps state.old state.new }
 {
-    let copied = ty.copy(alloc)?;
-    let closed = closed_over(alloc, &state.locals, copied)?;
-    let spine = local_arguments(alloc, &state.locals)?;
-    let meta = state.store.fresh(OpenContext::new(alloc), closed)?;
-    expanded(alloc, OpenHead::Meta(meta), spine, ty)
+    let (_, term) = tw_open::new_term(alloc, &mut state.store, &state.locals, ty)?;
+    Ok(term)
 }
 
 /// A new metavariable for the first argument of the type, and the type that is left. An atom takes none, and memory counts as used up.

@@ -11,14 +11,15 @@ ghost use Rattle.tw_elaborate.specs.Deep.{InfersDeep, IsDefined, TakesDeep};
 ghost use Rattle.tw_elaborate.specs.Fits.{GivesArguments, Stands};
 ghost use Rattle.tw_elaborate.specs.Fresh.{Keeps};
 ghost use Rattle.tw_elaborate.specs.Operators.{IsTerm, operator_of};
-ghost use Rattle.tw_elaborate.specs.View.{made, numbers_of, open_kind_of};
+ghost use Rattle.tw_open.specs.View.{open_kind_of};
+ghost use Rattle.tw_elaborate.specs.View.{made, numbers_of};
 
 use crate::fresh::{kind_take_new, take_new};
-use crate::kinds::open_kind;
 use crate::operators::Operator;
-use crate::state::{Elaboration, OpenKind};
+use crate::state::Elaboration;
 use std::alloc::{AllocError, Global};
 use tw_hered::HeredFault;
+use tw_open::{OpenKind, open_kind};
 use tw_putting::{open_term, open_type, shift_type, substitute};
 use tw_signature::{Body, Signature};
 use tw_terms::{ConstId, MetaId, Open, OpenHead, OpenSpine, OpenTy};

@@ -8,9 +8,9 @@ ghost use Rattle.tw_terms.specs.OpenView.{open_term_of, open_type_of};
 ghost use Rattle.tw_written.specs.View.{written_of};
 ghost use Rattle.tw_elaborate.specs.Operators.{Applies, IsTerm, PutsIn, PutsInDeep, applied_to, operator_of, written_terms};
 
-use crate::expand::{expanded, with_argument};
 use std::alloc::{AllocError, Global};
 use tw_hered::HeredFault;
+use tw_open::{expanded, with_argument};
 use tw_putting::{substitute, substitute_type};
 use tw_terms::{Open, OpenHead, OpenSpine, OpenTy};
 use tw_written::Written;

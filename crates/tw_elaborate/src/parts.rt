@@ -11,13 +11,13 @@ ghost use Rattle.tw_elaborate.specs.Arrows.{arrows_to, kind_arrows_to};
 ghost use Rattle.tw_elaborate.specs.Comparing.{ComparesKinds, IsProduct};
 ghost use Rattle.tw_hered.specs.Fits.{KindFits};
 ghost use Rattle.tw_elaborate.specs.Fresh.{Keeps};
-ghost use Rattle.tw_elaborate.specs.View.{made, open_kind_of};
+ghost use Rattle.tw_open.specs.View.{open_kind_of};
+ghost use Rattle.tw_elaborate.specs.View.{made};
 
 use crate::equations::compare_kinds;
-use crate::expand::{lambda, pi, with_argument};
-use crate::kinds::{instantiate_kind, kind_pi, shift_kind};
-use crate::state::{Elaboration, OpenKind};
+use crate::state::Elaboration;
 use std::alloc::{AllocError, Global};
+use tw_open::{OpenKind, instantiate_kind, kind_pi, lambda, pi, shift_kind, with_argument};
 use tw_putting::shift_type;
 use tw_signature::Signature;
 use tw_terms::{Open, OpenSpine, OpenTy};

@@ -1,4 +1,4 @@
-//! What elaboration has made so far, and open kinds.
+//! What elaboration has made so far.
 ghost use Rattle.std.specs.Prelude.{◌≡◌, []};
 ghost use Rattle.lf_elaboration.specs.State.{nothing_yet};
 ghost use Rattle.tw_metas.specs.State.{empty_story};
@@ -6,7 +6,7 @@ ghost use Rattle.tw_elaborate.specs.View.{made};
 
 use std::alloc::Global;
 use tw_metas::{Equation, Store};
-use tw_terms::{OpenContext, OpenTy};
+use tw_terms::OpenContext;
 
 /// What was made so far: metavariables for what isn't written, each in the empty context and none of them bound; the equations where types were compared, the oldest first;
 /// and the types of the variables in scope.
@@ -30,11 +30,4 @@ impl Elaboration {
             locals: OpenContext::new(alloc),
         }
     }
-}
-
-/// A kind with metavariables.
-#[derive(Drop, Debug)]
-pub enum OpenKind {
-    Pi(Box<OpenTy>, Box<OpenKind>),
-    Star,
 }

@@ -12,22 +12,22 @@ ghost use Rattle.tw_elaborate.specs.Fits.{Stands};
 ghost use Rattle.tw_elaborate.specs.Fresh.{Keeps};
 ghost use Rattle.tw_elaborate.specs.Operators.{IsTerm, operator_of, written_terms};
 ghost use Rattle.tw_elaborate.specs.Rows.{Reached};
-ghost use Rattle.tw_elaborate.specs.View.{made, numbers_of, open_kind_of};
+ghost use Rattle.tw_open.specs.View.{open_kind_of};
+ghost use Rattle.tw_elaborate.specs.View.{made, numbers_of};
 ghost use Rattle.tw_written.specs.View.{written_domain_of, written_kind_of, written_of, written_type_of};
 
 use crate::equations::compare_types;
-use crate::expand::{lambda, pi};
 use crate::fresh::new_type;
 use crate::heads::{bound, declared, free, named_family};
 use crate::holes::{checked_hole, term_hole};
-use crate::kinds::kind_pi;
 use crate::operators::{Begun, Operator, finish, push_waiting, resume, row, wait};
 use crate::parts::{
     arrows, compare_ascribed, family_application, function, kind_arrows, push_domain,
 };
-use crate::state::{Elaboration, OpenKind};
+use crate::state::Elaboration;
 use std::alloc::Global;
 use tw_hered::HeredFault;
+use tw_open::{OpenKind, kind_pi, lambda, pi};
 use tw_signature::Signature;
 use tw_terms::numbers::nested;
 use tw_terms::{ConstId, MetaId, Open, OpenSpine, OpenTy};

@@ -34,7 +34,7 @@ use Rattle.lf_elaboration.specs.State.{State, nothing_yet, store_of}
 use Rattle.lf_elaboration.proofs.Made.{elaborated_skeletons, nothing_skeletons, state_scoped}
 use Rattle.lf_elaboration.proofs.Principal.{BodyIsMade, body_made}
 use Rattle.tw_elaborate.specs.Bodies.{IsElaborated, open_body_of}
-use Rattle.tw_elaborate.specs.Fresh.{OnlyDeclares, declares_nothing, declares_one}
+use Rattle.tw_open.specs.Fresh.{OnlyDeclares, declares_nothing, declares_one}
 use Rattle.tw_elaborate.specs.View.{made, numbers_of}
 use Rattle.tw_elaborate.specs.declared.bodies.Elaborated.{Elaborated}
 use Rattle.tw_metas.specs.State as metas

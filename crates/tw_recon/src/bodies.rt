@@ -1,7 +1,7 @@
 //! The body of a declaration as it is read off a solved store.
 ghost use Rattle.std.specs.Prelude.{◌≡◌, ◌++◌, ℕ, List, [], ◌∷◌, map, IfOk, IsErrOf, OnOk};
 ghost use Rattle.tw_elaborate.specs.Bodies.{open_body_of};
-ghost use Rattle.tw_elaborate.specs.View.{open_kind_of};
+ghost use Rattle.tw_open.specs.View.{open_kind_of};
 ghost use Rattle.tw_signature.specs.View.{body_of};
 ghost use Rattle.tw_terms.specs.View.{kind_of, type_of};
 ghost use Rattle.tw_abstract.specs.Quantifiers.{AreQuantifiers};

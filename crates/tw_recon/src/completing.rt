@@ -46,7 +46,7 @@ pub fn complete(alloc: Global, signature: &Signature, told: Told) -> Result<Comp
     read(alloc, signature, &solution)
 }
 
-/// The store of a solution is settled, over a canonical signature.
+/// The store of a solution is settled, over a canonical signature. A law: it has no code.
 fn is_settled(signature: &Signature, solution: &Solution)
     requires { IsSolution signature.now solution.now }
     ensures canonical { IsCanonicalSignature signature.now }

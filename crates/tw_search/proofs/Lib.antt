@@ -1,7 +1,3 @@
-pub mod Expanding
-pub mod Views
-pub mod Steps
-pub mod Arguments
 pub mod NewTerms
 pub mod ClashingHeads
 pub mod Offering

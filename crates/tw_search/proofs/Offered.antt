@@ -25,7 +25,7 @@ use Rattle.tw_terms.specs.declared.canonical.MetaId.{MetaId}
 use Rattle.tw_search.specs.Goals.{StandsAtGoal, goal_type, node_of}
 use Rattle.tw_search.specs.Offers.{Applies, EquationsFit, HasEquations, IsOffered, marked, offered_store, subgoal_marks}
 use Rattle.tw_search.specs.Taking.{numbers_from}
-use Rattle.tw_search.specs.View.{made}
+use Rattle.tw_open.specs.View.{made_with}
 use Rattle.tw_search.specs.declared.goal.OpenGoal.{OpenGoal}
 use Rattle.tw_search.proofs.Offering.{Keeps, goal_spine, has_kind, holes_marked, indices_fit, new_first, only_keeps, parts_typed, spine_types}
 
@@ -84,7 +84,7 @@ module _ (Σ : Signature) (ok : IsSignature Σ) (g : OpenGoal) (h : Head) where
     new_types = subst (TypesBySkeletons Σ (types_of p.middle.now)) (sym q.equations)
         (types_grow Σ (types_of old.now) (types_of p.middle.now) keeps.grows (spine_equations g.locals q.kind (open_spine_of g.indices) T)
         (spine_types Σ ok (types_of old.now) g.locals (parts_typed Σ ok old.now g w).0 g.family.0 (base g.family.0) q.kind (open_spine_of g.indices) T
-        (kind_closed Σ ok (made old.now) g.locals q.kind (ok.kinds_ok g.family.0 q.kind q.kind_of)) (goal_spine Σ ok old.now g w q.kind q.kind_of)))
+        (kind_closed Σ ok (made_with [] old.now) g.locals q.kind (ok.kinds_ok g.family.0 q.kind q.kind_of)) (goal_spine Σ ok old.now g w q.kind q.kind_of)))
 
     old_types : TypesBySkeletons Σ (types_of p.middle.now) p.middle.now.equations
     old_types = subst (TypesBySkeletons Σ (types_of p.middle.now)) (sym keeps.equations) (types_grow Σ (types_of old.now) (types_of p.middle.now) keeps.grows old.now.equations w.ready.types)

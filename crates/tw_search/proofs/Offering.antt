@@ -35,10 +35,12 @@ use Rattle.tw_putting.proofs.Kept.{declared_types}
 use Rattle.tw_putting.proofs.Skeletons.{type_declared}
 use Rattle.tw_terms.specs.OpenView.{open_spine_of}
 use Rattle.tw_search.specs.Goals.{StandsAtGoal, goal_type}
-use Rattle.tw_search.specs.Indices.{IndicesFit}
+use Rattle.tw_open.specs.Indices.{IndicesFit}
 use Rattle.tw_search.specs.Offers.{subgoal_marks, marked}
-use Rattle.tw_search.specs.Taking.{CanTake, OnlyDeclares, declares_nothing, declares_one, numbers_from}
-use Rattle.tw_search.specs.View.{made}
+use Rattle.tw_open.specs.Fits.{TypeStands}
+use Rattle.tw_open.specs.Fresh.{OnlyDeclares, declares_nothing, declares_one}
+use Rattle.tw_search.specs.Taking.{numbers_from}
+use Rattle.tw_open.specs.View.{made_with}
 use Rattle.tw_search.specs.declared.goal.OpenGoal.{OpenGoal}
 
 -- what stays while metavariables are declared
@@ -73,7 +75,7 @@ later_declared {a = a} declares_nothing = later_nothing a
 later_declared {a = a} (declares_one {t = t} A d) = later_changed a t (changed t (with_declared t.now [] A)) (with_declared t.now [] A) refl (later_declared d)
 
 -- the numbers of a state
-pub is_numbered : (s : State) → IsNumbered (made s)
+pub is_numbered : (s : State) → IsNumbered (made_with [] s)
 is_numbered s = record {
   fresh = λ m h. ap (option_map (λ (d : Declaration). d.of_type)) (past_end s.declared m h);
   full = λ m h. let (d, e) = there_is s.declared m h in (d.of_type, ap (option_map (λ (d : Declaration). d.of_type)) e);
@@ -89,17 +91,17 @@ module _ (Σ : Signature) (ok : IsSignature Σ) where
     pub parts_typed : LocalsBySkeletons Σ (types_of s) g.locals × TypeBySkeletons (family_skeletons Σ) (declared_skeletons Σ (types_of s)) (local_skeletons g.locals []) (atom g.family.0 (open_spine_of g.indices))
     parts_typed = goal_parts (types_of s) g.locals (atom g.family.0 (open_spine_of g.indices)) (type_declared Σ (types_of s) (IsFilling Σ [] (whole [] s)) [] (goal_type g) (w.ready.well_formed.typed.declarations_typed.metavariables_typed g.hole.0 (goal_type g) w.declared))
 
-    locals_have : (D : List LfType) → LocalsBySkeletons Σ (types_of s) D → LocalHasSkeletons Σ (made s) D
+    locals_have : (D : List LfType) → LocalsBySkeletons Σ (types_of s) D → LocalHasSkeletons Σ (made_with [] s) D
     locals_have [] l = tt
     locals_have (A ∷ D) (l, a) = (locals_have D l, a)
 
-    head_has : (h : Head) (A : LfType) → OfferedHeadHasType Σ g.locals h A → TypeHasSkeletons Σ (made s) g.locals A
-    head_has (constant c) A e = constant_type Σ ok (made s) g.locals A (ok.types_ok c A e)
-    head_has (variable i) A e = local_type Σ ok (made s) g.locals (locals_have g.locals parts_typed.0) i A e
+    head_has : (h : Head) (A : LfType) → OfferedHeadHasType Σ g.locals h A → TypeHasSkeletons Σ (made_with [] s) g.locals A
+    head_has (constant c) A e = constant_type Σ ok (made_with [] s) g.locals A (ok.types_ok c A e)
+    head_has (variable i) A e = local_type Σ ok (made_with [] s) g.locals (locals_have g.locals parts_typed.0) i A e
     head_has (metavariable m) A e = absurd e
 
     -- a head's type can be applied
-    pub can_take : (h : Head) (A : LfType) → OfferedHeadHasType Σ g.locals h A → CanTake s g.locals A
+    pub can_take : (h : Head) (A : LfType) → OfferedHeadHasType Σ g.locals h A → TypeStands (made_with [] s) g.locals A
     can_take h A e = record {
       signature = Σ;
       typed_signature = ok;
@@ -122,10 +124,10 @@ module _ (Σ : Signature) (ok : IsSignature Σ) where
     pub indices_fit : (K : Kind) → Σ.kinds g.family.0 ≡ Some K → IndicesFit g.locals K (open_spine_of g.indices)
     indices_fit K e = record {
       families = family_skeletons Σ;
-      heads = heads_of Σ (made s);
+      heads = heads_of Σ (made_with [] s);
       family = g.family.0;
       result = base g.family.0;
-      kind_typed = kind_closed Σ ok (made s) g.locals K (ok.kinds_ok g.family.0 K e);
+      kind_typed = kind_closed Σ ok (made_with [] s) g.locals K (ok.kinds_ok g.family.0 K e);
       spine_typed = goal_spine K e;
     }
 

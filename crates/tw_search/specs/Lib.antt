@@ -1,6 +1,4 @@
-pub mod View
 pub mod Taking
-pub mod Indices
 pub mod Goals
 pub mod Clashing
 pub mod Offers

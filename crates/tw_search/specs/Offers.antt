@@ -14,8 +14,9 @@ use Rattle.tw_putting.specs.Stores.{bindings_of, types_of}
 use Rattle.tw_terms.specs.OpenView.{open_spine_of}
 use Rattle.tw_terms.specs.declared.canonical.MetaId.{MetaId}
 use Rattle.tw_search.specs.Goals.{node_of}
-use Rattle.tw_search.specs.Indices.{IndicesFit}
-use Rattle.tw_search.specs.Taking.{OnlyDeclares, TakesAll}
+use Rattle.tw_open.specs.Indices.{IndicesFit}
+use Rattle.tw_open.specs.Fresh.{OnlyDeclares}
+use Rattle.tw_search.specs.Taking.{TakesAll}
 use Rattle.tw_search.specs.declared.goal.OpenGoal.{OpenGoal}
 
 -- for each leading quantifier, the outermost first: whether it is a subgoal, as its variable doesn't occur in the rest

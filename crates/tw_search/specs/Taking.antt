@@ -1,31 +1,11 @@
 -- A head is applied to new metavariables: between the states of the store before and after.
 use Rattle.std.specs.Prelude.{◌≡◌, ℕ, suc, List, [], ◌∷◌, length}
 use Rattle.lf.specs.Syntax.{LfType, Spine, Term, atom, pi}
-use Rattle.lf.specs.Typing.{IsSignature, Signature, instantiate_type}
-use Rattle.lf_elaboration.specs.Skeletons.{IsNumbered, LocalHasSkeletons, TypeHasSkeletons}
-use Rattle.lf_elaboration.specs.State.{with_metavariable}
-use Rattle.lf_unification.specs.Offering.{AppliesToNew, raised}
-use Rattle.tw_metas.specs.State.{State, Story, changed, with_declared}
+use Rattle.lf.specs.Typing.{instantiate_type}
+use Rattle.lf_unification.specs.Offering.{AppliesToNew}
+use Rattle.tw_metas.specs.State.{State}
 use Rattle.tw_putting.specs.Stores.{types_of}
-use Rattle.tw_search.specs.View.{made}
-
--- metavariables were declared in the empty context, one after another, and nothing else changed
-pub data OnlyDeclares : Story → Story → Type 0 where
-  declares_nothing : {s : Story} → OnlyDeclares s s
-  declares_one : {s t : Story} (A : LfType) → OnlyDeclares s t → OnlyDeclares s (changed t (with_declared t.now [] A))
-
--- skeletons type a type in the local context D
-pub record CanTake (s : State) (D : List LfType) (A : LfType) : Type 0 where
-  pub signature : Signature
-  pub typed_signature : IsSignature signature
-  pub numbered : IsNumbered (made s)
-  pub local : LocalHasSkeletons signature (made s) D
-  pub of_type : TypeHasSkeletons signature (made s) D A
-
--- M is a new metavariable of type A at the local variables
-pub record IsNew (D : List LfType) (A : LfType) (M : Term) (old new : State) : Type 0 where
-  pub state : made new ≡ with_metavariable D A (made old)
-  pub term : M ≡ raised D A (length old.declared)
+use Rattle.tw_open.specs.Fresh.{IsNew}
 
 -- M is a new metavariable for the first argument of X, and Y the type that is left
 pub record TakesOne (D : List LfType) (X : LfType) (M : Term) (Y : LfType) (old new : State) : Type 0 where

@@ -3,28 +3,22 @@
 
 mod answer;
 mod choice;
-#[tactic(auto, using(crate::proofs::Steps::steps))]
+#[tactic(auto, using(tw_open::proofs::Steps::steps))]
 mod clash;
 mod engine;
 mod frames;
-#[tactic(auto, using(crate::proofs::Steps::steps))]
+#[tactic(auto, using(tw_open::proofs::Steps::steps))]
 mod goal;
-#[tactic(auto, using(crate::proofs::Steps::steps))]
-mod indices;
-#[tactic(auto, using(crate::proofs::Steps::steps))]
-mod kinds;
 mod laws;
-#[tactic(auto, using(crate::proofs::Steps::steps))]
+#[tactic(auto, using(tw_open::proofs::Steps::steps))]
 mod occurs;
-#[tactic(auto, using(crate::proofs::Steps::steps))]
+#[tactic(auto, using(tw_open::proofs::Steps::steps))]
 mod offer;
-#[tactic(auto, using(crate::proofs::Steps::steps))]
-mod raising;
 #[tactic(auto, using(crate::proofs::Rooting::rooting))]
 mod root;
 mod search;
 mod step;
-#[tactic(auto, using(crate::proofs::Steps::steps))]
+#[tactic(auto, using(tw_open::proofs::Steps::steps))]
 mod taking;
 mod trying;
 

@@ -11,15 +11,16 @@ ghost use Rattle.tw_terms.specs.OpenView.{open_head_of, open_spine_of, open_term
 ghost use Rattle.tw_terms.specs.View.{head_of};
 ghost use Rattle.tw_search.specs.Goals.{IsHeadFor, StandsAtGoal};
 ghost use Rattle.tw_search.specs.Offers.{Applies, EquationsFit, HasEquations, IsOffered, marked as marked_of};
-ghost use Rattle.tw_search.specs.Taking.{CanTake, numbers_from};
+ghost use Rattle.tw_open.specs.Fits.{TypeStands};
+ghost use Rattle.tw_open.specs.View.{made_with};
+ghost use Rattle.tw_search.specs.Taking.{numbers_from};
 
 use crate::goal::OpenGoal;
-use crate::indices::index_equations;
-use crate::kinds::open_kind;
 use crate::occurs::marks;
 use crate::taking::{Taken, take_all};
 use std::alloc::{AllocError, Global};
 use tw_metas::{Equation, Store};
+use tw_open::{Wanted, index_equations, open_kind};
 use tw_putting::{open_type, shift_type};
 use tw_signature::Signature;
 use tw_terms::{Head, MetaId, Open, OpenContext, OpenHead, OpenSpine, OpenTy};
@@ -64,7 +65,7 @@ fn apply(
     head: Head,
     ty: OpenTy,
 ) -> Result<Taken, AllocError>
-    requires can { CanTake store.old.now goal.now.locals (open_type_of ty) }
+    requires can { TypeStands (made_with [] store.old.now) goal.now.locals (open_type_of ty) }
     requires unbound { IsUnbound store.old.now goal.now.hole.0 }
     ensures ok { IfOk result (λ t. Applies goal.now (head_of head) (open_type_of ty) store.old store.new (open_spine_of t.spine) t.family.0 (open_spine_of t.indices)) }
     ensures metas { IfOk result (λ t. map (λ m. m.0) t.metas.items ≡ numbers_from (length store.old.now.declared) (open_type_of ty)) }
@@ -90,7 +91,17 @@ fn equations(
     match signature.family_kind(goal.family) {
         Some(kind) => {
             let kind = open_kind(alloc, kind)?;
-            index_equations(alloc, &goal.locals, kind, &goal.indices, indices)
+            let mut found = Vec::new(alloc);
+            index_equations(
+                alloc,
+                &goal.locals,
+                kind,
+                &goal.indices,
+                indices,
+                Wanted::Every,
+                &mut found,
+            )?;
+            Ok(found)
         }
         None => unreachable!(),
     }

@@ -1,13 +1,17 @@
 //! A head applied to new metavariables, one for each quantifier of its type.
-ghost use Rattle.std.specs.Prelude.{◌≡◌, IfOk, length, map};
+ghost use Rattle.std.specs.Prelude.{◌≡◌, [], IfOk, length, map};
+ghost use Rattle.lf.specs.Syntax.{pi};
 ghost use Rattle.tw_terms.specs.OpenView.{open_spine_of, open_term_of, open_type_of};
-ghost use Rattle.tw_search.specs.Taking.{CanTake, IsNew, OnlyDeclares, TakesAll, TakesOne, numbers_from};
+ghost use Rattle.tw_open.specs.Fits.{TypeStands};
+ghost use Rattle.tw_open.specs.Fresh.{OnlyDeclares};
+ghost use Rattle.tw_open.specs.View.{made_with};
+ghost use Rattle.tw_search.specs.Taking.{TakesAll, TakesOne, numbers_from};
 
-use crate::raising::{closed_over, expanded, local_arguments};
 use std::alloc::{AllocError, Global};
 use tw_metas::Store;
+use tw_open::new_term;
 use tw_putting::instantiate;
-use tw_terms::{ConstId, MetaId, Open, OpenContext, OpenHead, OpenSpine, OpenTy};
+use tw_terms::{ConstId, MetaId, Open, OpenContext, OpenSpine, OpenTy};
 
 /// What a head is applied to, the numbers of the new metavariables, and the atom that is left of its type.
 #[derive(Drop)]
@@ -26,45 +30,22 @@ struct One {
     rest: OpenTy,
 }
 
-/// A new metavariable for a term of this type, at the local variables. Fails only for want of memory.
-fn new_term(
-    alloc: Global,
-    store: &mut Store,
-    locals: &OpenContext,
-    ty: &OpenTy,
-) -> Result<(MetaId, Open), AllocError>
-    ensures ok { IfOk result (λ p. IsNew locals.now (open_type_of ty.now) (open_term_of p.1) store.old.now store.new.now) }
-    ensures number { IfOk result (λ p. p.0.0 ≡ length store.old.now.declared) }
-    ensures keeps { OnlyDeclares store.old store.new }
-{
-    let copied = ty.copy(alloc)?;
-    let closed = closed_over(alloc, locals, copied)?;
-    let spine = local_arguments(alloc, locals)?;
-    let meta = store.fresh(OpenContext::new(alloc), closed)?;
-    let term = expanded(alloc, OpenHead::Meta(meta), spine, ty)?;
-    Ok((meta, term))
-}
-
 /// A new metavariable for the first argument of a product, and the type that is left.
 fn take_one(
     alloc: Global,
     store: &mut Store,
     locals: &OpenContext,
-    ty: OpenTy,
+    domain: &OpenTy,
+    range: &OpenTy,
 ) -> Result<One, AllocError>
-    requires { CanTake store.old.now locals.now (open_type_of ty) }
-    ensures ok { IfOk result (λ o. TakesOne locals.now (open_type_of ty) (open_term_of o.arg) (open_type_of o.rest) store.old.now store.new.now) }
+    requires { TypeStands (made_with [] store.old.now) locals.now (pi (open_type_of domain.now) (open_type_of range.now)) }
+    ensures ok { IfOk result (λ o. TakesOne locals.now (pi (open_type_of domain.now) (open_type_of range.now)) (open_term_of o.arg) (open_type_of o.rest) store.old.now store.new.now) }
     ensures number { IfOk result (λ o. o.meta.0 ≡ length store.old.now.declared) }
     ensures keeps { OnlyDeclares store.old store.new }
 {
-    match ty {
-        OpenTy::Pi(domain, range) => {
-            let (meta, arg) = new_term(alloc, store, locals, &domain)?;
-            let rest = instantiate(alloc, &range, &arg, &domain)?;
-            Ok(One { meta, arg, rest })
-        }
-        OpenTy::Atom(_, _) => Err(AllocError),
-    }
+    let (meta, arg) = new_term(alloc, store, locals, domain)?;
+    let rest = instantiate(alloc, range, &arg, domain)?;
+    Ok(One { meta, arg, rest })
 }
 
 /// New metavariables for all quantifiers of the type, and the atom that is left. It fails only for want of memory.
@@ -74,7 +55,7 @@ pub fn take_all(
     locals: &OpenContext,
     ty: OpenTy,
 ) -> Result<Taken, AllocError>
-    requires { CanTake store.old.now locals.now (open_type_of ty) }
+    requires { TypeStands (made_with [] store.old.now) locals.now (open_type_of ty) }
     ensures ok { IfOk result (λ t. TakesAll locals.now (open_type_of ty) store.old.now store.new.now (open_spine_of t.spine) t.family.0 (open_spine_of t.indices)) }
     ensures metas { IfOk result (λ t. map (λ m. m.0) t.metas.items ≡ numbers_from (length store.old.now.declared) (open_type_of ty)) }
     ensures keeps { OnlyDeclares store.old store.new }
@@ -82,7 +63,7 @@ pub fn take_all(
     let mut metas = Vec::new(alloc);
     let mut args = Vec::new(alloc);
     let mut rest = ty;
-    for _ in 0..u64::MAX {
+    loop {
         match rest {
             OpenTy::Atom(family, indices) => {
                 let spine = OpenSpine { args };
@@ -93,13 +74,12 @@ pub fn take_all(
                     indices,
                 });
             }
-            OpenTy::Pi(_, _) => {
-                let one = take_one(alloc, store, locals, rest)?;
+            OpenTy::Pi(domain, range) => {
+                let one = take_one(alloc, store, locals, &domain, &range)?;
                 metas.push(one.meta)?;
                 args.push(one.arg)?;
                 rest = one.rest;
             }
         }
     }
-    Err(AllocError)
 }

@@ -5,10 +5,10 @@ use Rattle.tw_written.specs.View.{written_body_of}
 use Rattle.tw_elaborate.specs.Bodies.{open_body_of}
 use Rattle.tw_terms.specs.View.{skeleton_of}
 use Rattle.tw_metas.specs.State.{empty_story}
-use Rattle.tw_elaborate.specs.Fresh.{OnlyDeclares}
+use Rattle.tw_open.specs.Fresh.{OnlyDeclares}
 use Rattle.tw_elaborate.specs.View.{made, numbers_of}
 use Rattle.tw_elaborate.proofs.Bodying.{frees_stand, nothing_stands}
-use Rattle.tw_elaborate.proofs.Taking.{declares_then}
+use Rattle.tw_open.proofs.NewTerms.{declares_then}
 use Rattle.tw_elaborate.proofs.Unbound.{only_declared_unbound}
 use Rattle.tw_elaborate.proofs.bodies.elaborate.Goals as goal
 

@@ -1,6 +1,7 @@
 use Rattle.tw_terms.specs.OpenView.{open_spine_of}
 use Rattle.tw_terms.specs.View.{kind_of}
-use Rattle.tw_elaborate.specs.View.{made, open_kind_of}
+use Rattle.tw_open.specs.View.{open_kind_of}
+use Rattle.tw_elaborate.specs.View.{made}
 use Rattle.tw_elaborate.proofs.Equating.{indices_stand}
 use Rattle.tw_elaborate.proofs.Taking.{keeps_same}
 use Rattle.tw_elaborate.proofs.equations.compare_indices.Goals as goal

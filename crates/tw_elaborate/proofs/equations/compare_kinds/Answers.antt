@@ -2,9 +2,9 @@ use Rattle.std.proofs.Common.{◌≡◌, ◌∷◌, sym, ap, ◌∙◌, arith}
 use Rattle.lf.specs.Entries.{signature_of}
 use Rattle.lf.specs.Syntax.{kind_pi}
 use Rattle.tw_terms.specs.OpenView.{open_type_of}
-use Rattle.tw_elaborate.specs.View.{open_kind_of}
+use Rattle.tw_open.specs.View.{open_kind_of}
 use Rattle.tw_elaborate.proofs.ComparedKinds.{comparing_kinds, kinds_on}
-use Rattle.tw_elaborate.proofs.Steps.{steps}
+use Rattle.tw_open.proofs.Steps.{steps}
 use Rattle.tw_elaborate.proofs.Taking.{keeps_same, keeps_then}
 use Rattle.tw_elaborate.proofs.equations.compare_kinds.Goals as goal
 

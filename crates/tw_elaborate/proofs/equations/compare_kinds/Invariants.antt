@@ -1,5 +1,5 @@
 use Rattle.lf.specs.Entries.{signature_of}
-use Rattle.tw_elaborate.specs.View.{open_kind_of}
+use Rattle.tw_open.specs.View.{open_kind_of}
 use Rattle.tw_elaborate.proofs.ComparedKinds.{IsComparingKinds}
 use Rattle.tw_elaborate.proofs.equations.compare_kinds.Given as goal
 

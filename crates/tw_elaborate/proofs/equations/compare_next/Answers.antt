@@ -4,7 +4,7 @@ use Rattle.lf.specs.Entries.{signature_of}
 use Rattle.lf.specs.Syntax.{atom, pi}
 use Rattle.tw_terms.specs.OpenView.{open_spine_of, open_type_of}
 use Rattle.tw_elaborate.proofs.Compared.{compares_atoms, compares_parts}
-use Rattle.tw_elaborate.proofs.Steps.{steps}
+use Rattle.tw_open.proofs.Steps.{steps}
 use Rattle.tw_elaborate.proofs.Taking.{keeps_same}
 use Rattle.tw_elaborate.proofs.equations.compare_next.Goals as goal
 

@@ -5,7 +5,7 @@ use Rattle.tw_terms.specs.OpenView.{open_type_of}
 use Rattle.tw_terms.specs.View.{skeleton_of}
 use Rattle.tw_elaborate.specs.View.{made}
 use Rattle.tw_elaborate.proofs.Scoping.{keeps_inside, pi_is_new, stands_with_new}
-use Rattle.tw_elaborate.proofs.Steps.{steps}
+use Rattle.tw_open.proofs.Steps.{steps}
 use Rattle.tw_elaborate.proofs.Taking.{keeps_same}
 use Rattle.tw_elaborate.proofs.fresh.+new_type.Goals as goal
 

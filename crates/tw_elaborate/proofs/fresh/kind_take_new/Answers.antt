@@ -3,7 +3,8 @@ use Rattle.tw_terms.specs.OpenView.{open_term_of}
 use Rattle.tw_terms.proofs.OpenViews.{open_spine_of-roll}
 use Rattle.tw_terms.specs.declared.open_terms.OpenSpine.{roll-OpenSpine}
 use Rattle.tw_terms.specs.OpenView.{open_spine_of}
-use Rattle.tw_elaborate.specs.View.{made, open_kind_of}
+use Rattle.tw_open.specs.View.{open_kind_of}
+use Rattle.tw_elaborate.specs.View.{made}
 use Rattle.tw_elaborate.proofs.Taking.{KindTakesBefore, keeps_same, keeps_then, kind_stands_after, kind_takes_end, kind_takes_start, kind_takes_step}
 use Rattle.tw_elaborate.proofs.fresh.kind_take_new.Goals as goal
 

@@ -4,10 +4,11 @@ use Rattle.lf_unification.specs.Offering.{raised}
 use Rattle.tw_hered.specs.Fits.{put_at}
 use Rattle.tw_terms.specs.OpenView.{open_term_of, open_type_of}
 use Rattle.tw_hered.specs.Fits.{KindFits}
-use Rattle.tw_elaborate.specs.Fits.{KindStands}
-use Rattle.tw_elaborate.specs.View.{made, open_kind_of}
-use Rattle.tw_elaborate.proofs.Standing.{kind_range_fits}
-use Rattle.tw_elaborate.proofs.Steps.{steps}
+use Rattle.tw_open.specs.Fits.{KindStands}
+use Rattle.tw_open.specs.View.{open_kind_of}
+use Rattle.tw_elaborate.specs.View.{made}
+use Rattle.tw_open.proofs.Standing.{kind_range_fits}
+use Rattle.tw_open.proofs.Steps.{steps}
 use Rattle.tw_elaborate.proofs.Taking.{keeps_same}
 use Rattle.tw_elaborate.proofs.fresh.kind_take_one.Goals as goal
 

@@ -1,7 +1,8 @@
 use Rattle.tw_terms.specs.OpenView.{open_spine_of}
 use Rattle.tw_terms.specs.View.{kind_of}
 use Rattle.tw_terms.proofs.OpenViews.{open_type_of-Atom}
-use Rattle.tw_elaborate.specs.View.{made, open_kind_of}
+use Rattle.tw_open.specs.View.{open_kind_of}
+use Rattle.tw_elaborate.specs.View.{made}
 use Rattle.tw_elaborate.proofs.Scoping.{atom_is_new, family_kind_stands}
 use Rattle.tw_elaborate.proofs.Taking.{keeps_same}
 use Rattle.tw_elaborate.proofs.fresh.new_atom.Goals as goal

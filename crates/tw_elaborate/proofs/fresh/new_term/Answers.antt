@@ -8,7 +8,8 @@ use Rattle.tw_terms.specs.OpenView.{open_head_of, open_type_of}
 use Rattle.tw_terms.specs.declared.open_terms.OpenHead.TheVariants.{Meta}
 use Rattle.tw_terms.proofs.OpenViews.{open_head_of-Meta}
 use Rattle.tw_prune.proofs.Options.{if_ok}
-use Rattle.tw_elaborate.proofs.Taking.{declares_fresh, declares_same, keeps_same, made_with}
+use Rattle.tw_open.proofs.NewTerms.{declares_fresh, declares_same, one_more_made}
+use Rattle.tw_elaborate.proofs.Taking.{keeps_same}
 use Rattle.tw_elaborate.proofs.fresh.new_term.Goals as goal
 
 pub returns-in_err-copied-clause-keeps : goal.returns-in_err-copied-clause-keeps

@@ -3,8 +3,9 @@ use Rattle.lf.specs.Syntax.{star}
 use Rattle.tw_terms.specs.OpenView.{open_spine_of, open_term_of}
 use Rattle.tw_terms.proofs.OpenViews.{open_spine_of-roll}
 use Rattle.tw_terms.specs.declared.open_terms.OpenSpine.{roll-OpenSpine}
-use Rattle.tw_elaborate.specs.View.{made, open_kind_of}
-use Rattle.tw_elaborate.proofs.Views.{open_kind_of-Star}
+use Rattle.tw_open.specs.View.{open_kind_of}
+use Rattle.tw_elaborate.specs.View.{made}
+use Rattle.tw_open.proofs.Views.{open_kind_of-Star}
 use Rattle.tw_elaborate.proofs.Taking.{TakesAllBefore, keeps_same, keeps_then, kind_stands_after, takes_all_end, takes_all_start, takes_all_step}
 use Rattle.tw_elaborate.proofs.fresh.take_all_new.Goals as goal
 

@@ -1,6 +1,7 @@
-use Rattle.tw_elaborate.specs.Fits.{KindStands}
+use Rattle.tw_open.specs.Fits.{KindStands}
 use Rattle.tw_elaborate.specs.Fresh.{Keeps}
-use Rattle.tw_elaborate.specs.View.{made, open_kind_of}
+use Rattle.tw_open.specs.View.{open_kind_of}
+use Rattle.tw_elaborate.specs.View.{made}
 use Rattle.tw_elaborate.proofs.Taking.{TakesAllBefore}
 use Rattle.tw_elaborate.proofs.fresh.take_all_new.Given as goal
 

@@ -1,5 +1,5 @@
 use Rattle.tw_terms.specs.OpenView.{open_type_of}
-use Rattle.tw_elaborate.specs.Fits.{TypeStands}
+use Rattle.tw_open.specs.Fits.{TypeStands}
 use Rattle.tw_elaborate.specs.Fresh.{Keeps}
 use Rattle.tw_elaborate.specs.View.{made}
 use Rattle.tw_elaborate.proofs.Taking.{TakesBefore}

@@ -4,10 +4,10 @@ use Rattle.lf.specs.Syntax.{pi, skeleton}
 use Rattle.lf_unification.specs.Offering.{raised}
 use Rattle.tw_hered.specs.Fits.{TypeFits}
 use Rattle.tw_terms.specs.OpenView.{open_term_of, open_type_of}
-use Rattle.tw_elaborate.specs.Fits.{TypeStands}
+use Rattle.tw_open.specs.Fits.{TypeStands}
 use Rattle.tw_elaborate.specs.View.{made}
-use Rattle.tw_elaborate.proofs.Standing.{range_fits}
-use Rattle.tw_elaborate.proofs.Steps.{steps}
+use Rattle.tw_open.proofs.Standing.{range_fits}
+use Rattle.tw_open.proofs.Steps.{steps}
 use Rattle.tw_elaborate.proofs.Taking.{keeps_same}
 use Rattle.tw_elaborate.proofs.fresh.take_one.Goals as goal
 

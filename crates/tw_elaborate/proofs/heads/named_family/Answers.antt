@@ -3,7 +3,8 @@ use Rattle.tw_prune.proofs.Options.{if_ok}
 use Rattle.tw_signature.specs.View.{body_of, entry_of}
 use Rattle.tw_terms.specs.OpenView.{open_spine_of}
 use Rattle.tw_terms.specs.View.{kind_of}
-use Rattle.tw_elaborate.specs.View.{made, open_kind_of}
+use Rattle.tw_open.specs.View.{open_kind_of}
+use Rattle.tw_elaborate.specs.View.{made}
 use Rattle.tw_elaborate.proofs.Declaring.{declared_kind_stands, family_named}
 use Rattle.tw_elaborate.proofs.Taking.{keeps_same}
 use Rattle.tw_elaborate.proofs.heads.named_family.Goals as goal

@@ -4,7 +4,7 @@ use Rattle.lf.specs.Syntax.{arrow, lambda, skeleton}
 use Rattle.tw_terms.specs.OpenView.{open_args_of, open_spine_of, open_term_of, open_type_of}
 use Rattle.tw_hered.specs.declared.fault.HeredFault.TheVariants.{TooDeep}
 use Rattle.tw_elaborate.proofs.Naming.{argument_fits, next_spine, taken_all, taken_at, taken_deep, taken_next}
-use Rattle.tw_elaborate.proofs.Steps.{steps}
+use Rattle.tw_open.proofs.Steps.{steps}
 use Rattle.tw_elaborate.proofs.heads.on_arguments.Goals as goal
 
 pub substitute-requires : goal.substitute-requires

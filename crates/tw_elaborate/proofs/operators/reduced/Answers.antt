@@ -2,7 +2,7 @@ use Rattle.std.proofs.Common.{◌≡◌, Err, ap, arith, rules}
 use Rattle.lf.specs.Syntax.{lambda}
 use Rattle.tw_terms.specs.OpenView.{open_term_of}
 use Rattle.tw_hered.specs.declared.fault.HeredFault.TheVariants.{TooDeep}
-use Rattle.tw_elaborate.proofs.Steps.{steps}
+use Rattle.tw_open.proofs.Steps.{steps}
 use Rattle.tw_elaborate.proofs.operators.reduced.Goals as goal
 
 pub substitute-requires : goal.substitute-requires

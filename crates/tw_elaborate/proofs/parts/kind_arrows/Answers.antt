@@ -1,6 +1,6 @@
 use Rattle.std.proofs.Common.{arith}
 use Rattle.tw_terms.specs.OpenView.{open_type_of}
-use Rattle.tw_elaborate.specs.View.{open_kind_of}
+use Rattle.tw_open.specs.View.{open_kind_of}
 use Rattle.tw_elaborate.proofs.Arrows.{kind_arrows_all, kind_arrows_more}
 use Rattle.tw_elaborate.proofs.parts.kind_arrows.Goals as goal
 

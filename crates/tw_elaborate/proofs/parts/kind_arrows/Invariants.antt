@@ -1,5 +1,5 @@
 use Rattle.std.proofs.Common.{vec_len}
-use Rattle.tw_elaborate.specs.View.{open_kind_of}
+use Rattle.tw_open.specs.View.{open_kind_of}
 use Rattle.tw_elaborate.proofs.Arrows.{KindArrowsMade}
 use Rattle.tw_elaborate.proofs.parts.kind_arrows.Given as goal
 

@@ -16,15 +16,16 @@ use Rattle.tw_elaborate.specs.Deep.{ChecksDeep, DomainDeep, FamilyDeep, InfersDe
 use Rattle.tw_hered.specs.Fits.{KindFits}
 use Rattle.tw_elaborate.specs.Operators.{operator_of, written_terms}
 use Rattle.tw_elaborate.specs.Rows.{Reached}
-use Rattle.tw_elaborate.specs.View.{made, numbers_of, open_kind_of}
+use Rattle.tw_open.specs.View.{open_kind_of}
+use Rattle.tw_elaborate.specs.View.{made, numbers_of}
 use Rattle.tw_hered.specs.declared.fault.HeredFault.TheVariants.{TooDeep}
-use Rattle.tw_elaborate.specs.declared.state.OpenKind.{Star as OpenKind-Star}
+use Rattle.tw_open.specs.declared.kinds.OpenKind.{Star as OpenKind-Star}
 use Rattle.tw_elaborate.proofs.Answering.{body_deep, domain_checked, domain_compared, domain_deep, family_compared, family_elaborated, family_on_argument, fault_of_call, function_checked, function_inferred, inferred_checked, is_inferred, is_reducible, kind_quantified_elaborated, quantified_elaborated}
 use Rattle.tw_elaborate.proofs.Arrows.{domain_too_deep, kind_domain_too_deep, no_domains, no_kind_domains, one_more_domain, one_more_kind_domain}
 use Rattle.tw_elaborate.proofs.Following.{domain_found, domain_under, family_found, family_stands, in_scope, inferred_type, keeps_under, kind_range_fits, kind_stands, type_found, type_stands, under_stands}
 use Rattle.tw_elaborate.proofs.Rows.{asked_applies, asked_deep, asked_domain, asked_put_deep, asked_range_fits, asked_stands, asks_next, deep_row, finished, none_left, resumed, row_asked, rows_stay}
 use Rattle.tw_elaborate.proofs.Taking.{keeps_same, keeps_then}
-use Rattle.tw_elaborate.proofs.Views.{open_kind_of-Pi, open_kind_of-Star}
+use Rattle.tw_open.proofs.Views.{open_kind_of-Pi, open_kind_of-Star}
 use Rattle.tw_elaborate.proofs.terms.+elaborate.Goals as goal
 use Rattle.tw_elaborate.proofs.terms.+elaborate.Goals.{infer_applied-in-Some+in_ok-outer-in-Some+in-Applied+in_ok-push_waiting-in-Applied+in_ok-begun-in-Applied, infer_applied-in-Some+in_ok-outer-in-Some+in-Free+in_ok-arg-in-Free+in_ok-begun-in-Free, infer_applied-in-None+in_ok-term-in-None+in-Some-pop+in_ok-compare_types-in-Some-pop+in_ok-begun-in-Some-pop+in-Pi-1, infer_applied-in-None+in_ok-term-in-None+in-Some-pop+in_ok-compare_types-in-Some-pop+in_ok-begun-in-Some-pop+in-Atom-1}
 

@@ -1,7 +1,7 @@
 use Rattle.std.proofs.Common.{◌≡◌, length, ap, ◌∙◌, subst, arith}
 use Rattle.lf.specs.Syntax.{kind_pi, star}
-use Rattle.tw_elaborate.specs.View.{open_kind_of}
-use Rattle.tw_elaborate.proofs.Views.{open_kind_of-Star}
+use Rattle.tw_open.specs.View.{open_kind_of}
+use Rattle.tw_open.proofs.Views.{open_kind_of-Star}
 use Rattle.tw_abstract.specs.Reading.{IsTypeReadAs}
 use Rattle.tw_terms.specs.OpenView.{open_type_of}
 use Rattle.tw_terms.specs.View.{kind_of, type_of}

@@ -1,4 +1,4 @@
-use Rattle.tw_elaborate.specs.View.{open_kind_of}
+use Rattle.tw_open.specs.View.{open_kind_of}
 use Rattle.tw_recon.proofs.Domains.{ReadsOn}
 use Rattle.tw_recon.proofs.bodies.read_kind.Given as goal
 

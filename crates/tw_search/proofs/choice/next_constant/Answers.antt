@@ -2,7 +2,7 @@ use Rattle.std.proofs.Common.{◌+◌, ◌∷◌, ap, sym, length, ◌∙◌}
 use Rattle.lf.specs.Constants.{constants_of}
 use Rattle.tw_terms.proofs.Views.{head_of-Const}
 use Rattle.tw_search.specs.Choosing.{constants_left}
-use Rattle.tw_search.proofs.Arguments.{surely_below}
+use Rattle.tw_open.proofs.Arguments.{surely_below}
 use Rattle.tw_search.proofs.HeadsLeft.{constant_found}
 use Rattle.tw_search.proofs.choice.next_constant.Goals as goal
 

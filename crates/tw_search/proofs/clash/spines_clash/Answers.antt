@@ -4,7 +4,7 @@ use Rattle.tw_terms.specs.OpenView.{open_args_of, open_spine_of, open_term_of}
 use Rattle.tw_terms.specs.View.{args_of, spine_of, term_of}
 use Rattle.tw_terms.proofs.OpenViews.{open_spine_of-args}
 use Rattle.tw_terms.proofs.Views.{spine_of-args}
-use Rattle.tw_search.proofs.Arguments.{arguments_from, surely_below}
+use Rattle.tw_open.proofs.Arguments.{arguments_from, surely_below}
 use Rattle.tw_search.proofs.ClashingHeads.{closed_arguments_from, clash_first, walks_nowhere, walks_on}
 use Rattle.tw_search.proofs.clash.spines_clash.Goals as goal
 

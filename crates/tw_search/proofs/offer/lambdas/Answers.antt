@@ -4,7 +4,7 @@ use Rattle.lf_unification.specs.Offering.{lambda_over}
 use Rattle.tw_terms.specs.OpenView.{open_term_of}
 use Rattle.tw_terms.specs.declared.open_terms.Open.TheVariants.{Lam}
 use Rattle.tw_search.proofs.Offering.{lambda_step}
-use Rattle.tw_search.proofs.Steps.{steps}
+use Rattle.tw_open.proofs.Steps.{steps}
 use Rattle.tw_search.proofs.offer.lambdas.Goals as goal
 
 pub loop-preserved : goal.loop-preserved

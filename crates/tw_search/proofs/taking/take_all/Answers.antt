@@ -1,11 +1,15 @@
-use Rattle.std.proofs.Common.{◌≡◌, ◌++◌, List, ap, length, map, refl, sym, subst, ◌∙◌}
+use Rattle.std.proofs.Common.{◌≡◌, [], ◌++◌, arith, List, ap, length, map, refl, sym, subst, ◌∙◌}
 use Rattle.tw_terms.specs.declared.canonical.MetaId.{MetaId}
-use Rattle.tw_search.specs.Taking.{numbers_from}
-use Rattle.lf.specs.Syntax.{atom}
+use Rattle.tw_open.specs.Fits.{TypeStands}
+use Rattle.tw_open.specs.View.{made_with}
+use Rattle.tw_open.proofs.Steps.{steps}
+use Rattle.tw_search.specs.Taking.{TakesOne, numbers_from}
+use Rattle.lf.specs.Syntax.{atom, pi}
 use Rattle.tw_terms.specs.OpenView.{open_spine_of, open_term_of, open_type_of}
 use Rattle.tw_terms.proofs.OpenViews.{open_spine_of-roll, open_type_of-Atom}
 use Rattle.tw_terms.specs.declared.open_terms.OpenSpine.{roll-OpenSpine}
-use Rattle.tw_search.proofs.NewTerms.{TakesBefore, declares_same, declares_then, numbers_end, numbers_step, stands_after, takes_end, takes_start, takes_step}
+use Rattle.tw_open.proofs.NewTerms.{declares_same, declares_then}
+use Rattle.tw_search.proofs.NewTerms.{TakesBefore, fewer_left, numbers_end, numbers_step, stands_after, takes_end, takes_start, takes_step}
 use Rattle.tw_search.proofs.taking.take_all.Goals as goal
 
 pub loop-init : goal.loop-init
@@ -26,19 +30,36 @@ returns-in_err-one-in-Pi-clause-keeps c = declares_then c.loop.invariant.keeps c
 pub returns-in_err-push-in-Pi-clause-keeps : goal.returns-in_err-push-in-Pi-clause-keeps
 returns-in_err-push-in-Pi-clause-keeps c = declares_then c.loop.invariant.keeps c.in_ok-one-in-Pi.ensures.keeps
 
+pub take_one-requires : goal.take_one-requires
+take_one-requires c =
+    let D = c.args.locals.now in
+    let X = open_type_of c.loop.rest in
+    let A = open_type_of c.deref.result.now in
+    let B = open_type_of c.deref-in-Pi.result.now in
+    let e : X ≡ pi A B = grind (arith, steps) in
+    subst (TypeStands (made_with [] c.loop.store.now) D) e c.loop.invariant.stands
+
 pub loop-preserved : goal.loop-preserved
 loop-preserved c =
     let D = c.args.locals.now in
     let X = open_type_of c.loop.rest in
+    let A = open_type_of c.deref.result.now in
+    let B = open_type_of c.deref-in-Pi.result.now in
     let Y = open_type_of c.in_ok-one-in-Pi.one.rest in
+    let M = open_term_of c.in_ok-one-in-Pi.one.arg in
     let a = c.loop.store.now in
     let b = c.take_one.new.store.now in
+    let e : X ≡ pi A B = grind (arith, steps) in
+    let o : TakesOne D X M Y a b = subst (λ Z. TakesOne D Z M Y a b) (sym e) c.in_ok-one-in-Pi.ensures.ok in
     record {
-      stands = stands_after D X Y (open_term_of c.in_ok-one-in-Pi.one.arg) a b c.in_ok-one-in-Pi.ensures.ok c.loop.invariant.stands;
+      stands = stands_after D X Y M a b o c.loop.invariant.stands;
       keeps = declares_then c.loop.invariant.keeps c.in_ok-one-in-Pi.ensures.keeps;
-      numbers = numbers_step D X Y (open_term_of c.in_ok-one-in-Pi.one.arg) a b c.loop.metas.items c.push.new.self.items c.in_ok-one-in-Pi.one.meta (numbers_from (length c.args.store.now.now.declared) (open_type_of c.args.ty)) c.in_ok-one-in-Pi.ensures.ok c.in_ok-one-in-Pi.ensures.number c.in_ok-push-in-Pi.ensures.items c.loop.invariant.numbers;
-      so_far = takes_step D (open_type_of c.args.ty) X Y c.args.store.now.now c.loop.args.items c.push-in-Pi.new.self.items c.in_ok-one-in-Pi.one.arg a b c.in_ok-push-in-Pi-2.ensures.items c.in_ok-one-in-Pi.ensures.ok c.loop.invariant.so_far;
+      numbers = numbers_step D X Y M a b c.loop.metas.items c.push.new.self.items c.in_ok-one-in-Pi.one.meta (numbers_from (length c.args.store.now.now.declared) (open_type_of c.args.ty)) o c.in_ok-one-in-Pi.ensures.number c.in_ok-push-in-Pi.ensures.items c.loop.invariant.numbers;
+      so_far = takes_step D (open_type_of c.args.ty) X Y c.args.store.now.now c.loop.args.items c.push-in-Pi.new.self.items c.in_ok-one-in-Pi.one.arg a b c.in_ok-push-in-Pi-2.ensures.items o c.loop.invariant.so_far;
     }
+
+pub loop-decreases : goal.loop-decreases
+loop-decreases c = fewer_left c.args.locals.now (open_type_of c.loop.rest) (open_type_of c.in_ok-one-in-Pi.one.rest) c.loop.store.now c.take_one.new.store.now c.in_ok-one-in-Pi.ensures.ok
 
 pub returns-in-Atom-clause-ok : goal.returns-in-Atom-clause-ok
 returns-in-Atom-clause-ok c =

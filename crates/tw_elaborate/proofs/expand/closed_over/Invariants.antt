@@ -1,8 +1,0 @@
-use Rattle.std.proofs.Common.{◌≡◌, drop}
-use Rattle.lf_unification.specs.Offering.{pi_over}
-use Rattle.tw_terms.specs.OpenView.{open_type_of}
-use Rattle.tw_elaborate.proofs.expand.closed_over.Given as goal
-
--- closed over the variables so far
-abbrev pub invariant-loop-variable : goal.invariant-loop-variable
-invariant-loop-variable l = pi_over l.locals (open_type_of l.fn.ty) ≡ pi_over (drop l.variable l.locals) (open_type_of l.closed)
