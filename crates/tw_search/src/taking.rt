@@ -60,7 +60,9 @@ fn take_one(
     match ty {
         OpenTy::Pi(domain, range) => {
             let (meta, arg) = new_term(alloc, store, locals, &domain)?;
-            let rest = instantiate(alloc, &range, &arg, &domain)?;
+            let Ok(rest) = instantiate(alloc, &range, &arg, &domain) else {
+                return Err(AllocError);
+            };
             Ok(One { meta, arg, rest })
         }
         OpenTy::Atom(_, _) => Err(AllocError),
