@@ -1,5 +1,5 @@
 //! The types of the arguments that a type takes. The type goes along them in an environment, and only the domain that is due is read off.
-ghost use Rattle.std.specs.Prelude.{◌≡◌, IfOk, IsErrOf, map};
+ghost use Rattle.std.specs.Prelude.{◌≡◌, ◌++◌, ◌∷◌, [], IfOk, IsErrOf, map};
 ghost use Rattle.tw_terms.specs.OpenView.{open_args_of, open_type_of};
 ghost use Rattle.tw_metas.specs.State.{empty_story};
 ghost use Rattle.tw_putting.specs.Domains.{domains as domains_of, AnyDeep, TakesArguments, most_levels};
@@ -8,7 +8,7 @@ use crate::environment::{Environment, placed};
 use crate::hereditary::STACK_LEVELS;
 use crate::normal::normal_type;
 use bumpalo::Bump;
-use std::alloc::Global;
+use std::alloc::{AllocError, Global};
 use tw_hered::HeredFault;
 use tw_metas::Store;
 use tw_terms::{Open, OpenTy};
@@ -57,7 +57,7 @@ fn read_off<'a>(
                     Ok(due) => due,
                     Err(fault) => return Err(fault),
                 };
-                found.push(due)?;
+                push(&mut found, due)?;
                 let extended = Environment::Extended {
                     ty: domain,
                     term: arg,
@@ -71,4 +71,11 @@ fn read_off<'a>(
         }
     }
     Ok(found)
+}
+
+/// One more type at the end.
+fn push(found: &mut Vec<OpenTy>, ty: OpenTy) -> Result<(), AllocError>
+    ensures { IfOk result (λ _. found.new.items ≡ found.old.items ++ ty ∷ []) }
+{
+    Ok(found.push(ty)?)
 }

@@ -43,8 +43,8 @@ loop-arg-preserved c =
     let q : U ≡ app M S = grind (arith, environments) in
     let x : e' ≡ extended (skeleton A) M (environment_of c.in_ok-outside.outside.now) e = grind (arith, environments) in
     let r : e' ≡ extended (skeleton A) M outside e = x ∙ ap (λ E. extended (skeleton A) M E e) o in
-    one_more_read (open_type_of c.args.ty.now) (open_args_of c.args.args.now) (map open_type_of c.loop-arg.found.items) (map open_type_of c.push.new.self.items) c.args.store.now e e' C A B (open_type_of D) M S U c.requires.empty p q r c.in-Ok.ensures.ok
-    (ap (map open_type_of) c.in_ok-push-in-Pi.ensures.items ∙ map-append open_type_of c.loop-arg.found.items (D ∷ [])) c.loop-arg.invariant
+    one_more_read (open_type_of c.args.ty.now) (open_args_of c.args.args.now) (map open_type_of c.loop-arg.found.items) (map open_type_of c.push.new.found.items) c.args.store.now e e' C A B (open_type_of D) M S U c.requires.empty p q r c.in-Ok.ensures.ok
+    (ap (map open_type_of) c.in_ok-push-in-Pi.ensures ∙ map-append open_type_of c.loop-arg.found.items (D ∷ [])) c.loop-arg.invariant
 
 pub returns-in-Err-clause-too_deep : goal.returns-in-Err-clause-too_deep
 returns-in-Err-clause-too_deep c =
