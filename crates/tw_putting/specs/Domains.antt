@@ -1,5 +1,5 @@
 -- The types of the arguments that a type takes.
-use Rattle.std.specs.Prelude.{ℕ, ◌<◌, ◌⊎◌, ⊥, List, [], ◌∷◌, Option}
+use Rattle.std.specs.Prelude.{ℕ, ◌<◌, ◌⊎◌, List, [], ◌∷◌, Option}
 use Rattle.lf.specs.Depth.{type_depth}
 use Rattle.lf.specs.SkeletonTyping.{HeadSkeletons, SpineSkeleton, TypeBySkeletons}
 use Rattle.lf.specs.Syntax.{LfType, Skeleton, Spine, app, atom, nil, pi, skeleton}
