@@ -91,7 +91,10 @@ fn takes(
         if !has_type(alloc, signature, store, limit, context, arg, &domain)? {
             return Ok(false);
         }
-        rest = instantiate(alloc, &range, arg, &domain)?;
+        let Ok(left) = instantiate(alloc, &range, arg, &domain) else {
+            return Err(AllocError);
+        };
+        rest = left;
     }
     Ok(rest.same(ty))
 }

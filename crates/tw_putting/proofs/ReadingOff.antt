@@ -1,7 +1,8 @@
 -- A type goes along its arguments in an environment.
-use Rattle.std.proofs.Common.{◌≡◌, ℕ, zero, suc, List, [], ◌∷◌, ◌++◌, Option, refl, sym, ap, ◌∙◌, subst, append_assoc, append-nil}
+use Rattle.std.proofs.Common.{◌≡◌, ℕ, zero, suc, ◌<◌, inl, inr, List, [], ◌∷◌, ◌++◌, Option, refl, sym, ap, ◌∙◌, subst, append_assoc, append-nil}
 use mathlib.Core.Path.{fun_ext}
 use Rattle.lf.specs.AtOnce.{in_front}
+use Rattle.lf.specs.Depth.{type_depth}
 use Rattle.lf.specs.SkeletonTyping.{HeadSkeletons, SpineSkeleton, SubstitutionBySkeletons, TermSkeleton, TypeBySkeletons}
 use Rattle.lf.specs.Substitution.{Image, after, keep, lift, put, reduce, single, substitute, substitute_type}
 use Rattle.lf.specs.Syntax.{LfType, Skeleton, Spine, Term, app, atom, nil, pi, skeleton}
@@ -15,7 +16,7 @@ use Rattle.lf_closures.specs.Environments.{Environment, extended, outside, subst
 use Rattle.lf_closures.specs.Typing.{EnvironmentFits}
 use Rattle.lf_closures.proofs.Values.{environment_by_skeletons}
 use Rattle.tw_metas.specs.State.{Story, empty_story}
-use Rattle.tw_putting.specs.Domains.{TakesArguments, domains}
+use Rattle.tw_putting.specs.Domains.{AnyDeep, TakesArguments, domains}
 use Rattle.tw_putting.specs.Frames.{WalkTypeFits}
 use Rattle.tw_putting.specs.Values.{put_type_value}
 use Rattle.tw_putting.proofs.Calls.{empty_type_value, nothing_there}
@@ -113,6 +114,18 @@ one_more_read X V old new y e e' C A B D M S U n p q r d w t =
       takes = takes_next e e' C A B M S U p q r t.takes;
       so_far = t.so_far ∙ ap (λ Ys. old ++ Ys) next ∙ sym (append_assoc old (D ∷ []) (domains (type_value_in e' B) S)) ∙ ap (λ Ys. Ys ++ domains (type_value_in e' B) S) (sym w);
     }
+
+-- a domain that is too deep is one of the types
+deep_among : (k : ℕ) (found : List LfType) (D : LfType) (rest : List LfType) → k < type_depth D → AnyDeep k (found ++ D ∷ rest)
+deep_among k [] D rest h = inl h
+deep_among k (A ∷ found) D rest h = inr (deep_among k found D rest h)
+
+pub deep_domain : (k : ℕ) (X : LfType) (V : Spine) (old : List LfType) (y : Story) (e : Environment) (C A B : LfType) (M : Term) (S U : Spine) → y ≡ empty_story → C ≡ pi A B → U ≡ app M S → ReadOff X V old e C U → k < type_depth (put_type_value y.now 0 e A) → AnyDeep k (domains X V)
+deep_domain k X V old y e C A B M S U n p q t h =
+    let due : put_type_value y.now 0 e A ≡ type_value_in e A = ap (λ z. put_type_value z.now 0 e A) n ∙ empty_type_value 0 e A in
+    let R : List LfType = domains (instantiate_type (type_value_in e A) M (substitute_type reduce (lift (substitution_in e)) B)) S in
+    let next : domains (type_value_in e C) U ≡ type_value_in e A ∷ R = ap (λ Y. domains (type_value_in e Y) U) p ∙ ap (domains (type_value_in e (pi A B))) q in
+    subst (AnyDeep k) (sym (t.so_far ∙ ap (λ Ys. old ++ Ys) next)) (deep_among k old (type_value_in e A) R (subst (λ Y. k < type_depth Y) due h))
 
 no_domain : (X : LfType) → domains X nil ≡ []
 no_domain (pi A B) = refl

@@ -1,5 +1,5 @@
 //! Substitution for one variable, and the application of a term to all its arguments.
-ghost use Rattle.std.specs.Prelude.{◌≡◌, ◌≤◌, IfOk, IsErrOf};
+ghost use Rattle.std.specs.Prelude.{◌≡◌, ◌≤◌, ◌<◌, IfOk, IsErrOf};
 ghost use Rattle.lf.specs.Syntax.{skeleton};
 ghost use Rattle.lf.specs.Substitution.{single, substitute as put_in, substitute_type as put_in_type, reduce};
 ghost use Rattle.lf.specs.Depth.{depth, type_depth, depth_limit};
@@ -7,6 +7,7 @@ ghost use Rattle.lf.specs.Deep.{DeepSubstitution, DeepTypeSubstitution, DeepRedu
 ghost use Rattle.lf_closures.specs.Environments.{outside, under, extended};
 ghost use Rattle.tw_hered.specs.Fits.{put_at, TermFits, TypeFits, Applies};
 ghost use Rattle.tw_terms.specs.OpenView.{open_term_of, open_spine_of, open_type_of};
+ghost use Rattle.tw_putting.specs.Domains.{most_levels};
 ghost use Rattle.tw_putting.specs.View.{environment_of};
 
 use crate::environment::{Closure, Environment, placed};
@@ -21,7 +22,7 @@ use tw_terms::{Open, OpenSpine, OpenTy};
 /// The greatest depth of a result.
 const DEPTH_LIMIT: u64 = 4_096;
 
-/// The greatest depth of what `instantiate` and `domains` give: past it, the machine's stack counts as used up.
+/// The greatest depth of what `instantiate` and `domains` give. The machine's stack nests as deep.
 pub const STACK_LEVELS: u64 = 8_500;
 
 /// Hereditary substitution of `arg`, a term of the skeleton of `ty`, for the variable `index` of `body`. Metavariables stay.
@@ -65,23 +66,21 @@ pub fn substitute_type(
     normal_type(alloc, &arena, &store, 0, body, environment, DEPTH_LIMIT)
 }
 
-/// The type with `arg` put in for its newest variable, as deep as it comes. Fails only for want of memory.
+/// The type with `arg` put in for its newest variable. Answers `TooDeep` only where that type is deeper than 8,500, and `NoMemory` where memory is wanting.
 pub fn instantiate(
     alloc: Global,
     body: &OpenTy,
     arg: &Open,
     ty: &OpenTy,
-) -> Result<OpenTy, AllocError>
+) -> Result<OpenTy, HeredFault>
     requires { TypeFits (single (skeleton (open_type_of ty.now)) (open_term_of arg.now)) (open_type_of body.now) }
-    ensures { IfOk result (λ a. open_type_of a ≡ put_in_type reduce (single (skeleton (open_type_of ty.now)) (open_term_of arg.now)) (open_type_of body.now)) }
+    ensures ok { IfOk result (λ a. open_type_of a ≡ put_in_type reduce (single (skeleton (open_type_of ty.now)) (open_term_of arg.now)) (open_type_of body.now)) }
+    ensures too_deep { IsErrOf result HeredFault.TooDeep → most_levels < type_depth (put_in_type reduce (single (skeleton (open_type_of ty.now)) (open_term_of arg.now)) (open_type_of body.now)) }
 {
     let arena = Bump::new(alloc);
     let store = Store::new(alloc);
     let environment = environment_for(&arena, 0, arg, ty)?;
-    match normal_type(alloc, &arena, &store, 0, body, environment, STACK_LEVELS) {
-        Ok(ty) => Ok(ty),
-        Err(_) => Err(AllocError),
-    }
+    normal_type(alloc, &arena, &store, 0, body, environment, STACK_LEVELS)
 }
 
 /// The canonical form of `term`, of the skeleton of `ty`, applied to all the arguments that it takes. Metavariables stay.

@@ -4,8 +4,8 @@
 //! stands for a closure is replaced by the closure's body, and a metavariable that is bound by its value's body, with the arguments as closures in the
 //! environment. Then the head of the result is known, and its arguments are made in turn. So the stack nests as deep as the result, and no deeper.
 //!
-//! A call answers `TooDeep` where its result is deeper than 4,096 (`instantiate` and `domains` never do), and `NoMemory` where memory is wanting.
-//! The machine's stack is memory too: `instantiate` and `domains` give results of depth up to 8,500, and past these they want memory.
+//! A call answers `TooDeep` where its result is deeper than 4,096 (`instantiate` and `domains` where a type comes out deeper than 8,500), and `NoMemory` where memory is
+//! wanting. No depth is told as want of memory.
 #![tactic(auto)]
 
 #[tactic(auto, using(crate::proofs::Openings::openings))]

@@ -44,7 +44,10 @@ fn take_one(
     ensures keeps { OnlyDeclares store.old store.new }
 {
     let (meta, arg) = new_term(alloc, store, locals, domain)?;
-    let rest = instantiate(alloc, range, &arg, domain)?;
+    // A type of a signature has at most 4,096 levels, and a metavariable in eta-long form adds few.
+    let Ok(rest) = instantiate(alloc, range, &arg, domain) else {
+        return Err(AllocError);
+    };
     Ok(One { meta, arg, rest })
 }
 

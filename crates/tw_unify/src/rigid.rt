@@ -120,7 +120,9 @@ fn argument_equations(
     requires { ArgumentsFit context.now (open_type_of ty.now) (open_spine_of left) }
     ensures { IfOk result (λ v. map equation_of v.items ≡ equations_of_arguments context.now (open_type_of ty.now) (open_spine_of left) (open_spine_of right)) }
 {
-    let mut types = domains(alloc, ty, &left.args)?;
+    let Ok(mut types) = domains(alloc, ty, &left.args) else {
+        return Err(AllocError);
+    };
     types.reverse();
     let mut lefts = left.args;
     lefts.reverse();

@@ -45,7 +45,7 @@ takes-loop-arg-preserved t c =
     let n = c.args.limit in
     let D = c.args.context.now in
     let X = open_type_of c.loop-arg.rest in
-    let Y = open_type_of c.in_ok-rest.rest in
+    let Y = open_type_of c.in-Ok.left in
     let A = open_type_of c.in-Some.domain in
     let B = open_type_of c.in-Some.range in
     let M = open_term_of c.arg-item.result in
@@ -53,6 +53,6 @@ takes-loop-arg-preserved t c =
     let m : IsTyped Σ Ψ n D M A = at_true c.in_ok-has_type.field-0 (IsTyped Σ Ψ n D M A) c.if-not-branch.false c.in_ok-has_type.ensures in
     record {
       so_far = continues_next Σ Ψ n D (open_spine_of c.args.spine.now) (open_args_of (drop c.loop-arg.arg-index items)) (open_args_of (drop (c.loop-arg.arg-index + 1) items)) (open_type_of c.args.function) X Y A B M
-          (open_args_at items c.loop-arg.arg-index c.arg-item.result (omega arith) c.arg-item.is) c.in-Some.ensures m c.in_ok-rest.ensures c.loop-arg.invariant.so_far;
-      skeletons = next_skeletons Σ Ψ n D X Y A B M c.loop-arg.invariant.skeletons c.in-Some.ensures m c.in_ok-rest.ensures;
+          (open_args_at items c.loop-arg.arg-index c.arg-item.result (omega arith) c.arg-item.is) c.in-Some.ensures m c.in-Ok.ensures.ok c.loop-arg.invariant.so_far;
+      skeletons = next_skeletons Σ Ψ n D X Y A B M c.loop-arg.invariant.skeletons c.in-Some.ensures m c.in-Ok.ensures.ok;
     }
