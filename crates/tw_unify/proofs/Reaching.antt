@@ -213,8 +213,8 @@ module _ (Ψ : ℕ → Option LfType) (bs : List Binding) where
   -- what wasn't marked at first is reached where it is marked now
   pub search_answer : (o : Marking) (N : Term) (w : Marking) (m : ℕ) (b : Bool) → (IsMarked o m → ⊥) → IsClosed Ψ bs w → MetavariablesIn (IsMarked w) N → ((k : ℕ) → IsMarked w k → IsMarked o k ⊎ IsReached Ψ bs N k) →
       MatchBool b (IsMarked w m) (IsMarked w m → ⊥) → MatchBool b (IsReached Ψ bs N m) (IsAvoided Ψ bs N m)
-  search_answer o N w m true no c i r h = elim (r m h) [ inl a ↦ absurd (no a) | inr a ↦ a ]
-  search_answer o N w m false no c i r h = closed_avoids N w m c i h
+  search_answer o N w m true n c i r h = elim (r m h) [ inl a ↦ absurd (n a) | inr a ↦ a ]
+  search_answer o N w m false n c i r h = closed_avoids N w m c i h
 
 -- The search from two terms: what is marked is reached from one of them, its type and value are met or due, and what is not due any more passes the test.
 module _ (Ψ : ℕ → Option LfType) (bs : List Binding) (P : ℕ → Type 0) where
