@@ -9,6 +9,7 @@ use Rattle.lf_unification.specs.DeepEquations.{AreDeep}
 use Rattle.lf_unification.specs.Search.{IsChild, Offer, holes}
 use Rattle.lf_unification.specs.Solving.{Never}
 use Rattle.lf_unification.specs.Unifiers.{Store}
+use Rattle.lf_search.specs.Holes.{RunRenewsReached}
 use Rattle.tw_metas.specs.State.{State}
 use Rattle.tw_putting.specs.Ready.{IsReady}
 use Rattle.tw_putting.specs.Whole.{whole}
@@ -31,10 +32,12 @@ pub record NeverFits (Σ : Signature) (s : State) (g : OpenGoal) (h : Head) : Ty
   pub has : HasOffer Σ s g h
   pub never : Never Σ [] has.offered
 
--- The try gives a child, which holds in the state `new`; `subgoals` are the holes of the head's subgoals, in the order of its quantifiers.
+-- The try gives a child, which holds in the state `new`; `subgoals` are the holes of the head's subgoals, in the order of its quantifiers. Its
+-- steps renew only what is reached from an equation.
 pub record GivesChild (Σ : Signature) (old : State) (g : OpenGoal) (h : Head) (subgoals : List MetaId) (new : State) : Type 0 where
   pub has : HasOffer Σ old g h
   pub child : IsChild Σ has.offered (whole [] new)
+  pub renews : RunRenewsReached child.run
   pub ready : IsReady Σ [] new
   pub subgoals_are : reverse (map (λ m. m.0) subgoals) ≡ holes (length old.declared) has.head_type
 

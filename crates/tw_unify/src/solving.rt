@@ -5,13 +5,14 @@ ghost use Rattle.tw_metas.specs.View.{equation_of};
 ghost use Rattle.tw_putting.specs.Whole.{IsConsistent, whole};
 ghost use Rattle.tw_putting.specs.Ready.{IsLater, IsReady};
 ghost use Rattle.tw_unify.specs.Outcomes.{Explains, stacked};
-ghost use Rattle.tw_unify.specs.Answers.{Answers, KeepsSides, RestIs, StaysReady};
+ghost use Rattle.tw_unify.specs.Answers.{Answers, KeepsSides, RenewsOnlyReached, RestIs, StaysReady};
 ghost use Rattle.tw_unify.specs.Sides.{AllLeft};
-ghost use Rattle.tw_unify.specs.Watching.{Watches, diary_of};
-ghost use Rattle.lf_unification.specs.Steps.{Run};
+ghost use Rattle.tw_unify.specs.Watching.{KeepsBindings, Watches, diary_of};
+ghost use Rattle.tw_unify.specs.Runs.{ReachedRun};
 
 use crate::fault::UnifyFault;
 use crate::postponed::wake;
+use crate::reach::Walk;
 use crate::step::advance;
 use crate::watch::Watch;
 use crate::work::Advance;
@@ -41,6 +42,7 @@ pub fn solve(
 ) -> Result<Unified, UnifyFault>
     requires { IsReady (signature_of signature.now) (map equation_of equations.items) store.old.now }
     ensures answer { MatchResult result (λ a. Answers a (signature_of signature.now) (whole (map equation_of equations.items) store.old.now) (whole [] store.new.now)) (λ f. Explains f (signature_of signature.now) (whole (map equation_of equations.items) store.old.now)) }
+    ensures renews { IfOk result (λ a. RenewsOnlyReached a (signature_of signature.now) (whole (map equation_of equations.items) store.old.now) (whole [] store.new.now)) }
     ensures sides { IfOk result (λ a. KeepsSides a (whole (map equation_of equations.items) store.old.now) (whole [] store.new.now)) }
     ensures ready { IfOk result (λ a. StaysReady a (signature_of signature.now) store.new.now) }
     ensures consistent { IsConsistent store.new.now }
@@ -60,6 +62,7 @@ pub fn solve_more(
     requires ready { IsReady (signature_of signature.now) (map equation_of equations.items) store.old.now }
     requires left { AllLeft store.old.now store.old.now.equations }
     ensures answer { MatchResult result (λ a. Answers a (signature_of signature.now) (whole (map equation_of equations.items) store.old.now) (whole [] store.new.now)) (λ f. Explains f (signature_of signature.now) (whole (map equation_of equations.items) store.old.now)) }
+    ensures renews { IfOk result (λ a. RenewsOnlyReached a (signature_of signature.now) (whole (map equation_of equations.items) store.old.now) (whole [] store.new.now)) }
     ensures sides { IfOk result (λ a. KeepsSides a (whole (map equation_of equations.items) store.old.now) (whole [] store.new.now)) }
     ensures ready { IfOk result (λ a. StaysReady a (signature_of signature.now) store.new.now) }
     ensures consistent { IsConsistent store.new.now }
@@ -80,6 +83,7 @@ fn solve_watched(
     requires ready { IsReady (signature_of signature.now) (map equation_of equations.items) store.old.now }
     requires watches { Watches store.old.now (diary_of watch.old) }
     ensures answer { MatchResult result (λ a. Answers a (signature_of signature.now) (whole (map equation_of equations.items) store.old.now) (whole [] store.new.now)) (λ f. Explains f (signature_of signature.now) (whole (map equation_of equations.items) store.old.now)) }
+    ensures renews { IfOk result (λ a. RenewsOnlyReached a (signature_of signature.now) (whole (map equation_of equations.items) store.old.now) (whole [] store.new.now)) }
     ensures sides { IfOk result (λ a. KeepsSides a (whole (map equation_of equations.items) store.old.now) (whole [] store.new.now)) }
     ensures ready { IfOk result (λ a. StaysReady a (signature_of signature.now) store.new.now) }
     ensures consistent { IsConsistent store.new.now }
@@ -89,6 +93,7 @@ fn solve_watched(
     let mut work = equations;
     work.reverse();
     let mut fresh = work.len();
+    let mut met = Walk::new(alloc);
     for _ in 0..u64::MAX {
         let next = next_equation(alloc, store, signature, &mut work, watch)?;
         match next {
@@ -96,7 +101,9 @@ fn solve_watched(
             Some(equation) => {
                 let is_fresh = work.len() < fresh;
                 fresh = fresh.min(work.len());
-                let outcome = advance(alloc, store, signature, &mut work, equation, is_fresh)?;
+                let outcome = advance(
+                    alloc, store, signature, &mut work, &mut met, equation, is_fresh,
+                )?;
                 match outcome {
                     Advance::Refuted => return Ok(Unified::Never),
                     came => watch.note(came)?,
@@ -119,7 +126,8 @@ fn next_equation(
     requires canonical { IsCanonicalSignature signature.now }
     requires ready { IsReady (signature_of signature.now) (stacked work.old.items) store.old.now }
     requires watches { Watches store.old.now (diary_of watch.old) }
-    ensures next { MatchResult result (λ r. MatchOption r ((stacked work.old.items ≡ []) × AllLeft store.old.now store.old.now.equations × (store.new ≡ store.old)) (λ e. Run (signature_of signature.now) (whole (stacked work.old.items) store.old.now) (whole (equation_of e ∷ stacked work.new.items) store.new.now))) (λ f. Explains f (signature_of signature.now) (whole (stacked work.old.items) store.old.now)) }
+    ensures next { MatchResult result (λ r. MatchOption r ((stacked work.old.items ≡ []) × AllLeft store.old.now store.old.now.equations × (store.new ≡ store.old)) (λ e. ReachedRun (signature_of signature.now) (whole (stacked work.old.items) store.old.now) (whole (equation_of e ∷ stacked work.new.items) store.new.now))) (λ f. Explains f (signature_of signature.now) (whole (stacked work.old.items) store.old.now)) }
+    ensures keeps { IfOk result (λ r. KeepsBindings store.old.now store.new.now) }
     ensures watches { IfOk result (λ r. Watches store.new.now (diary_of watch.new)) }
     ensures consistent { IsConsistent store.new.now }
     ensures story { IsLater store.old store.new }
