@@ -8,6 +8,7 @@ pub mod Spines
 pub mod Naming
 pub mod Known
 pub mod Applying
+pub mod Nested
 pub mod Families
 pub mod Answering
 pub mod Places

@@ -63,9 +63,7 @@ fn open_term<'a>(waiting: &mut Vec<Part<'a>>, term: &'a ExtTerm) -> Result<(), A
     match term {
         ExtTerm::Ident(_, _) | ExtTerm::Hole(_) | ExtTerm::Star => Ok(()),
         ExtTerm::Arrow(domain, range) => wait_for(waiting, Part::Type(domain), Part::Type(range)),
-        ExtTerm::Pi(_, _, domain, range) => {
-            wait_for_domain(waiting, domain, Part::Type(range))
-        }
+        ExtTerm::Pi(_, _, domain, range) => { wait_for_domain(waiting, domain, Part::Type(range)) }
         ExtTerm::Lam(_, _, domain, body) => wait_for_domain(waiting, domain, Part::Term(body)),
         ExtTerm::App(function, argument) => {
             wait_for(waiting, Part::Term(argument), Part::Term(function))

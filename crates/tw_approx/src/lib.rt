@@ -21,6 +21,7 @@ mod skeletons;
 #[tactic(auto, using(crate::proofs::Views::shapes))]
 mod solving;
 mod variables;
+mod waiting;
 #[tactic(auto, using(crate::proofs::Views::shapes))]
 mod walk;
 

@@ -19,11 +19,7 @@ pub fn implicit_arguments(signature: &Signature, id: ConstId) -> u64
 }
 
 /// The arguments of the families of the skeleton. Parts of it wait on the heap. Fails for want of memory, and past 2 ^ 64 - 1 arguments, which no memory holds.
-pub fn indices(
-    alloc: Global,
-    signature: &Signature,
-    skeleton: &Skeleton,
-) -> Result<u64, AllocError>
+pub fn indices(alloc: Global, signature: &Signature, skeleton: &Skeleton) -> Result<u64, AllocError>
     ensures { IfOk result (λ n. n ≡ indices_of signature.now (skeleton_of skeleton.now)) }
 {
     let mut waiting: Vec<&Skeleton> = Vec::new(alloc);
@@ -67,7 +63,7 @@ fn family_arguments(signature: &Signature, family: ConstId) -> Result<u64, Alloc
     }
 }
 
-/// The arguments that the kind takes.
+/// The arguments that the kind takes. Fails past 2 ^ 64 - 1, which no memory holds.
 fn kind_arguments(kind: &Kind) -> Result<u64, AllocError>
     ensures { IfOk result (λ n. n ≡ kind_quantifiers (kind_of kind.now)) }
 {

@@ -31,11 +31,7 @@ pub fn body_frees(
 
 /// Adds those of a part.
 #[inline(never)]
-fn part_frees<'a>(
-    alloc: Global,
-    found: &mut Vec<Site>,
-    part: Part<'a>,
-) -> Result<(), AllocError>
+fn part_frees<'a>(alloc: Global, found: &mut Vec<Site>, part: Part<'a>) -> Result<(), AllocError>
     ensures { OnOk result (sites_of found.new.items ≡ sites_of found.old.items ++ frees_in part.entry) }
 {
     let mut waiting = Vec::new(alloc);
