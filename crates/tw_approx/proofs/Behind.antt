@@ -5,13 +5,13 @@ use Rattle.tw_approx.specs.Lambdas.{work}
 use Rattle.tw_approx.specs.declared.lambdas.Part.{Part}
 use Rattle.tw_approx.proofs.Places.{places}
 
-next-first : {X : Type 0} (xs : List X) (x : X) → reverse (xs ++ x ∷ []) ≡ x ∷ reverse xs
+pub next-first : {X : Type 0} (xs : List X) (x : X) → reverse (xs ++ x ∷ []) ≡ x ∷ reverse xs
 next-first xs x = reverse-append xs (x ∷ [])
 
-both-first : {X : Type 0} (xs : List X) (x y : X) → reverse (xs ++ y ∷ x ∷ []) ≡ x ∷ y ∷ reverse xs
+pub both-first : {X : Type 0} (xs : List X) (x y : X) → reverse (xs ++ y ∷ x ∷ []) ≡ x ∷ y ∷ reverse xs
 both-first xs x y = reverse-append xs (y ∷ x ∷ [])
 
-work-more : (ps qs : List Part) → work (ps ++ qs) ≡ work qs + work ps
+pub work-more : (ps qs : List Part) → work (ps ++ qs) ≡ work qs + work ps
 work-more [] qs = omega arith
 work-more (p ∷ ps) qs = let e = work-more ps qs in omega (arith, e)
 

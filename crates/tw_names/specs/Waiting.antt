@@ -49,7 +49,7 @@ work [] = 0
 work (w ∷ ws) = steps w + work ws
 
 -- what waits later leaves these names and so many steps more, and the same scope behind it
-pub record Adds (names : List Entry → Names → List Mention) (more : ℕ) (old new : List Waiting) : Type 0 where
-  pub names : (es : List Entry) (N : Names) → names_left es N (reverse new) ≡ names es N ++ names_left es N (reverse old)
-  pub scope : (N : Names) → scope_left N (reverse new) ≡ scope_left N (reverse old)
-  pub work : work new ≡ more + work old
+pub record Adds (adds : List Entry → Names → List Mention) (more : ℕ) (old new : List Waiting) : Type 0 where
+  pub found : (es : List Entry) (N : Names) → names_left es N (reverse new) ≡ adds es N ++ names_left es N (reverse old)
+  pub behind : (N : Names) → scope_left N (reverse new) ≡ scope_left N (reverse old)
+  pub left : work new ≡ more + work old

@@ -7,13 +7,13 @@ use Rattle.tw_parse.specs.declared.term.ExtTerm.{ExtTerm}
 use Rattle.tw_parse.proofs.Views.{views}
 use Rattle.tw_parse.proofs.Weights.{weights}
 
-next-first : {X : Type 0} (xs : List X) (x : X) → reverse (xs ++ x ∷ []) ≡ x ∷ reverse xs
+pub next-first : {X : Type 0} (xs : List X) (x : X) → reverse (xs ++ x ∷ []) ≡ x ∷ reverse xs
 next-first xs x = reverse-append xs (x ∷ [])
 
-both-first : {X : Type 0} (xs : List X) (x y : X) → reverse (xs ++ y ∷ x ∷ []) ≡ x ∷ y ∷ reverse xs
+pub both-first : {X : Type 0} (xs : List X) (x y : X) → reverse (xs ++ y ∷ x ∷ []) ≡ x ∷ y ∷ reverse xs
 both-first xs x y = reverse-append xs (y ∷ x ∷ [])
 
-weight-more : (ts us : List (Bor ExtTerm)) → weight_of_all (ts ++ us) ≡ weight_of_all us + weight_of_all ts
+pub weight-more : (ts us : List (Bor ExtTerm)) → weight_of_all (ts ++ us) ≡ weight_of_all us + weight_of_all ts
 weight-more [] us = omega arith
 weight-more (t ∷ ts) us = let e = weight-more ts us in omega (arith, e)
 
