@@ -8,7 +8,6 @@ pub mod Spines
 pub mod Naming
 pub mod Known
 pub mod Applying
-pub mod Nested
 pub mod Families
 pub mod Answering
 pub mod Places

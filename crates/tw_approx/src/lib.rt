@@ -21,7 +21,6 @@ mod skeletons;
 #[tactic(auto, using(crate::proofs::Views::shapes))]
 mod solving;
 mod variables;
-mod waiting;
 #[tactic(auto, using(crate::proofs::Views::shapes))]
 mod walk;
 

@@ -15,7 +15,6 @@ ghost use Rattle.tw_shapes.specs.Shapes.{count_of, IsWithin};
 ghost use Rattle.tw_shapes.specs.View.{shape_of};
 
 use crate::family::{Due, FamilyShape, closed_shape, family_due, kind_behind, type_behind};
-use crate::waiting::Waiting;
 use crate::walk::Walk;
 use std::alloc::{AllocError, Global};
 use tw_fixity::{Name, Scope};
@@ -81,50 +80,32 @@ fn arrow(alloc: Global, domain: Shape, range: Shape) -> Result<Shape, AllocError
     Ok(Shape::Arrow(Box::new(alloc, domain)?, Box::new(alloc, range)?))
 }
 
-/// Of an application. Where an argument is an application too, what stands around it waits on the heap.
+/// Of an application.
 #[cycle(shapes)]
-fn application_shape<'a>(
+fn application_shape(
     alloc: Global,
     signature: &Signature,
     walk: &mut Walk,
-    term: &'a ExtTerm,
+    term: &ExtTerm,
     frames: u32,
 ) -> Result<Option<Shape>, AllocError>
     requires { IsSound (state_of walk.old) }
     ensures { IfOk result (λ o. TermIsRead signature.now (state_of walk.old) (state_of walk.new) (term_of term.now) o) }
 {
-    let mut waiting: Vec<Waiting<'a>> = Vec::new(alloc);
     let (head, mut arguments) = term.spine(alloc)?;
     let Some(mut function) = term_shape(alloc, signature, walk, head, frames)? else {
         return Ok(None);
     };
-    'row: loop {
-        match arguments.pop() {
-            Some(argument) => {
-                let (head, inner) = argument.spine(alloc)?;
-                let Some(shape) = term_shape(alloc, signature, walk, head, frames)? else {
-                    return Ok(None);
-                };
-                let row = Waiting {
-                    function,
-                    arguments,
-                };
-                waiting.push(row)?;
-                function = shape;
-                arguments = inner;
-            }
-            None => match waiting.pop() {
-                Some(row) => match applied(alloc, walk, row.function, function)? {
-                    Some(result) => {
-                        function = result;
-                        arguments = row.arguments;
-                    }
-                    None => return Ok(None),
-                },
-                None => return Ok(Some(function)),
-            },
+    while let Some(argument) = arguments.pop() {
+        let Some(argument) = term_shape(alloc, signature, walk, argument, frames)? else {
+            return Ok(None);
+        };
+        match applied(alloc, walk, function, argument)? {
+            Some(result) => function = result,
+            None => return Ok(None),
         }
     }
+    Ok(Some(function))
 }
 
 /// Of a term with its type.

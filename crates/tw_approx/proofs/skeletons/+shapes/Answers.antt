@@ -20,6 +20,30 @@ use Rattle.tw_approx.specs.declared.family.FamilyShape.TheVariants.{Unknown}
 use Rattle.tw_shapes.specs.Shapes.{count_of}
 use Rattle.tw_approx.proofs.skeletons.+shapes.Goals as goal
 
+pub application_shape-returns-in_default : goal.application_shape-returns-in_default
+application_shape-returns-in_default t c =
+    head_refuses c.args.signature.now (state_of c.args.walk.now) c.requires (term_of c.in_ok-head.head.now) (term_of c.args.term.now) (written_terms c.in_ok-head.arguments.items) c.in_ok-head.ensures (subst (TermIsRead c.args.signature.now (state_of c.args.walk.now) (state_of c.term_shape.new.walk) (term_of c.in_ok-head.head.now)) c.in_default.is c.in_ok-function.ensures)
+
+pub application_shape-returns-in_default-2 : goal.application_shape-returns-in_default-2
+application_shape-returns-in_default-2 t c =
+    applying_argument c.args.signature.now (state_of c.args.walk.now) c.requires (term_of c.args.term.now) c.loop-argument.arguments.items c.pop.new.self.items c.in-Some-pop.argument (state_of c.loop-argument.walk) (shape_of c.loop-argument.function) c.in-Some-pop.ensures.items c.loop-argument.invariant (subst (TermIsRead c.args.signature.now (state_of c.loop-argument.walk) (state_of c.term_shape-in-Some-pop.new.walk) (term_of c.in-Some-pop.argument.now)) c.in_default-2.is c.in_ok-argument.ensures)
+
+pub application_shape-applied-requires-clause-function : goal.application_shape-applied-requires-clause-function
+application_shape-applied-requires-clause-function t c =
+    let r = c.loop-argument.invariant.2 in
+    let u = subst (TermIsRead c.args.signature.now (state_of c.loop-argument.walk) (state_of c.term_shape-in-Some-pop.new.walk) (term_of c.in-Some-pop.argument.now)) c.in-Some-2.is c.in_ok-argument.ensures in
+    shape_more (count_of c.loop-argument.walk.shapes) (count_of c.term_shape-in-Some-pop.new.walk.shapes) (shape_of c.loop-argument.function) u.reading.count r.within
+
+pub application_shape-loop-argument-preserved : goal.application_shape-loop-argument-preserved
+application_shape-loop-argument-preserved t c =
+    applying_next c.args.signature.now (state_of c.args.walk.now) c.requires (term_of c.args.term.now) c.loop-argument.arguments.items c.pop.new.self.items c.in-Some-pop.argument (state_of c.loop-argument.walk) (state_of c.term_shape-in-Some-pop.new.walk) (state_of c.applied.new.walk) (shape_of c.loop-argument.function) (shape_of c.in-Some-2.argument) (shape_of c.in-Some-3.result) c.in-Some-pop.ensures.items c.loop-argument.invariant (subst (TermIsRead c.args.signature.now (state_of c.loop-argument.walk) (state_of c.term_shape-in-Some-pop.new.walk) (term_of c.in-Some-pop.argument.now)) c.in-Some-2.is c.in_ok-argument.ensures)
+    (subst (IsApplied (state_of c.term_shape-in-Some-pop.new.walk) (state_of c.applied.new.walk) (shape_of c.loop-argument.function) (shape_of c.in-Some-2.argument)) c.in-Some-3.is c.in_ok-result.ensures)
+
+pub application_shape-returns-in-None : goal.application_shape-returns-in-None
+application_shape-returns-in-None t c =
+    applying_refuses c.args.signature.now (state_of c.args.walk.now) c.requires (term_of c.args.term.now) c.loop-argument.arguments.items c.pop.new.self.items c.in-Some-pop.argument (state_of c.loop-argument.walk) (state_of c.term_shape-in-Some-pop.new.walk) (shape_of c.loop-argument.function) (shape_of c.in-Some-2.argument) c.in-Some-pop.ensures.items c.loop-argument.invariant (subst (TermIsRead c.args.signature.now (state_of c.loop-argument.walk) (state_of c.term_shape-in-Some-pop.new.walk) (term_of c.in-Some-pop.argument.now)) c.in-Some-2.is c.in_ok-argument.ensures)
+    (subst (IsApplied (state_of c.term_shape-in-Some-pop.new.walk) (state_of c.applied.new.walk) (shape_of c.loop-argument.function) (shape_of c.in-Some-2.argument)) c.in-None.is c.in_ok-result.ensures)
+
 pub applied_family-returns-in_default : goal.applied_family-returns-in_default
 applied_family-returns-in_default t c =
     family_head_refuses c.args.signature.now (state_of c.args.walk.now) c.requires (term_of c.in_ok-head.head.now) (term_of c.args.term.now) (written_terms c.in_ok-head.arguments.items) c.in_ok-head.ensures (subst (FamilyIsRead c.args.signature.now (state_of c.args.walk.now) (state_of c.family_shape.new.walk) (term_of c.in_ok-head.head.now)) c.in_default.is c.in_ok-family.ensures)

@@ -1,11 +1,10 @@
-use Rattle.std.proofs.Common.{◌≡◌, ◌+◌, ◌*◌, reverse, vec_len}
+use Rattle.std.proofs.Common.{◌≡◌, ◌+◌, ◌*◌, vec_len}
 use Rattle.tw_parse.specs.Applied.{applied_to, written_terms}
 use Rattle.tw_approx.specs.Reading.{state_of}
 use Rattle.tw_approx.specs.Walks.{IsSound}
 use Rattle.tw_parse.specs.View.{term_of}
 use Rattle.tw_shapes.specs.View.{shape_of}
-use Rattle.tw_approx.proofs.Applying.{IsFamilyApplying}
-use Rattle.tw_approx.proofs.Nested.{IsNested, sizes, work}
+use Rattle.tw_approx.proofs.Applying.{IsApplying, IsFamilyApplying}
 use Rattle.tw_approx.proofs.skeletons.+shapes.Given as goal
 
 abbrev pub decreases-term_shape : goal.decreases-term_shape
@@ -50,12 +49,11 @@ decreases-applied_family l = 10 * l.frames + 2
 abbrev pub decreases-ascribed_family : goal.decreases-ascribed_family
 decreases-ascribed_family l = 10 * l.frames + 2
 
--- the rows that wait, and the innermost one
-abbrev pub invariant-application_shape-row : goal.invariant-application_shape-row
-invariant-application_shape-row l = IsNested l.signature (state_of l.fn.walk) (term_of l.fn.term) (reverse l.waiting.items) (state_of l.walk) (written_terms l.arguments.items) (shape_of l.function)
+abbrev pub invariant-application_shape-loop-argument : goal.invariant-application_shape-loop-argument
+invariant-application_shape-loop-argument l = IsApplying l.signature (state_of l.fn.walk) (state_of l.walk) (term_of l.fn.term) (written_terms l.arguments.items) (shape_of l.function)
 
-abbrev pub decreases-application_shape-row : goal.decreases-application_shape-row
-decreases-application_shape-row l = 2 * sizes l.arguments.items + work l.waiting.items
+abbrev pub decreases-application_shape-loop-argument : goal.decreases-application_shape-loop-argument
+decreases-application_shape-loop-argument l = vec_len l.arguments
 
 abbrev pub invariant-applied_family-loop-argument : goal.invariant-applied_family-loop-argument
 invariant-applied_family-loop-argument l = IsFamilyApplying l.signature (state_of l.fn.walk) (state_of l.walk) (term_of l.fn.term) (written_terms l.arguments.items) l.family
