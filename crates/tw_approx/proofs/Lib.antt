@@ -11,6 +11,7 @@ pub mod Applying
 pub mod Families
 pub mod Answering
 pub mod Places
+pub mod Behind
 pub mod Fitting
 pub mod Causes
 pub mod Declaring

@@ -7,3 +7,4 @@ pub mod Walks
 pub mod Reading
 pub mod Solving
 pub mod Ways
+pub mod Lambdas

@@ -14,14 +14,16 @@ ghost use Rattle.tw_parse.specs.View.{term_of, declaration_of};
 ghost use Rattle.tw_terms.specs.View.{skeleton_of};
 
 use crate::fault::ApproxFault;
-use crate::levels::{first_in_term, first_in_type, is_written_kind, is_written_type};
+use crate::frames::FRAMES;
+use crate::lambdas::{Part, first_lambda};
+use crate::levels::{is_written_kind, is_written_type};
 use crate::skeletons::{ascribed, kind_due, term_shape, type_shape};
 use crate::solving::{solved_all, solved_rows};
 use crate::walk::Walk;
 use std::alloc::{AllocError, Global};
 use tw_fixity::{Name, Scope};
 use tw_lexer::Place;
-use tw_names::{FRAMES, Mention, ends_in_type, first_mention};
+use tw_names::{Mention, ends_in_type, first_mention};
 use tw_parse::{ExtDecl, ExtTerm};
 use tw_shapes::Shape;
 use tw_signature::Signature;
@@ -114,7 +116,7 @@ fn of_objects(alloc: Global, signature: &Signature, decl: &ExtDecl) -> Result<()
     if is_type_definition(alloc, signature, decl)? {
         return Err(ApproxFault::TypeLevel(None));
     }
-    match first_type_lambda(decl)? {
+    match first_type_lambda(alloc, decl)? {
         Some(place) => Err(ApproxFault::TypeLevel(Some(place))),
         None => Ok(()),
     }
@@ -138,22 +140,24 @@ fn is_type_definition(
 }
 
 /// The earliest lambda at the level of types.
-fn first_type_lambda(decl: &ExtDecl) -> Result<Option<Place>, AllocError>
+fn first_type_lambda(alloc: Global, decl: &ExtDecl) -> Result<Option<Place>, AllocError>
     ensures { IfOk result (λ p. p ≡ earliest None (type_lambdas (declaration_of decl.now))) }
 {
     match decl {
-        ExtDecl::Declare(_, _, term) => first_in_type(term, None, FRAMES),
-        ExtDecl::Define(_, ty, term, _) => first_in_term(term, first_in_written(ty)?, FRAMES),
+        ExtDecl::Declare(_, _, term) => first_lambda(alloc, Part::Type(term), None),
+        ExtDecl::Define(_, ty, term, _) => {
+            first_lambda(alloc, Part::Term(term), first_in_written(alloc, ty)?)
+        }
         ExtDecl::NamePref(_, _, _) | ExtDecl::Fixity(_, _) => Ok(None),
     }
 }
 
 /// The same of a type, if it is written.
-fn first_in_written(ty: &Option<ExtTerm>) -> Result<Option<Place>, AllocError>
+fn first_in_written(alloc: Global, ty: &Option<ExtTerm>) -> Result<Option<Place>, AllocError>
     ensures { IfOk result (λ p. p ≡ earliest None (lambdas_in_written (option_map term_of ty.now))) }
 {
     match ty {
-        Some(ty) => first_in_type(ty, None, FRAMES),
+        Some(ty) => first_lambda(alloc, Part::Type(ty), None),
         None => Ok(None),
     }
 }

@@ -8,6 +8,9 @@ mod approximation;
 #[tactic(auto, using(crate::proofs::Views::shapes))]
 mod family;
 mod fault;
+mod frames;
+#[tactic(auto, using(crate::proofs::Behind::gone_over))]
+mod lambdas;
 pub mod laws;
 #[tactic(auto, using(crate::proofs::Places::places))]
 mod levels;

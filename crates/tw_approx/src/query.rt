@@ -9,9 +9,9 @@ ghost use Rattle.tw_terms.specs.View.{skeleton_of};
 
 use crate::approximation::{Approx, constant, solved};
 use crate::fault::ApproxFault;
-use crate::levels::first_in_type;
+use crate::lambdas::{Part, first_lambda};
 use std::alloc::{AllocError, Global};
-use tw_names::{FRAMES, Mention, first_mention};
+use tw_names::{Mention, first_mention};
 use tw_parse::{ExtQuery, ExtTerm};
 use tw_signature::Signature;
 
@@ -41,7 +41,7 @@ fn of_objects(alloc: Global, signature: &Signature, goal: &ExtTerm) -> Result<()
     ensures refused { IfErr result (λ f. HasQueryCause signature.now (term_of goal.now) f) }
 {
     known(alloc, signature, goal)?;
-    match first_in_type(goal, None, FRAMES)? {
+    match first_lambda(alloc, Part::Type(goal), None)? {
         Some(place) => Err(ApproxFault::TypeLevel(Some(place))),
         None => Ok(()),
     }

@@ -1,3 +1,4 @@
 pub mod Views
 pub mod Unknowns
+pub mod Behind
 pub mod Order

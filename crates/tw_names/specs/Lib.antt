@@ -3,3 +3,4 @@ pub mod Unknown
 pub mod Earliest
 pub mod Domains
 pub mod Texts
+pub mod Waiting

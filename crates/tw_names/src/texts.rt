@@ -5,7 +5,6 @@ ghost use Rattle.tw_names.specs.Texts.{ends_in_type, hints};
 ghost use Rattle.tw_names.specs.Unknown.{unknown_in_type, unknown_names};
 ghost use Rattle.tw_parse.specs.View.{term_of};
 
-use crate::frames::FRAMES;
 use crate::scope::binder_name;
 use crate::unknown::{Mention, first_unknown};
 use std::alloc::{AllocError, Global};
@@ -26,10 +25,10 @@ pub fn first_mention(
     let mut scope = Scope::new(alloc);
     match ty {
         Some(ty) => {
-            let found = first_unknown(alloc, signature, &mut scope, ty, None, FRAMES)?;
-            Ok(first_unknown(alloc, signature, &mut scope, term, found, FRAMES)?)
+            let found = first_unknown(alloc, signature, &mut scope, ty, None)?;
+            Ok(first_unknown(alloc, signature, &mut scope, term, found)?)
         }
-        None => Ok(first_unknown(alloc, signature, &mut scope, term, None, FRAMES)?),
+        None => Ok(first_unknown(alloc, signature, &mut scope, term, None)?),
     }
 }
 

@@ -25,3 +25,4 @@ pub mod OneDeclaration
 pub mod OneReading
 pub mod Asking
 pub mod Spines
+pub mod Behind

@@ -18,3 +18,4 @@ pub mod Faults
 pub mod Laws
 pub mod Queries
 pub mod Applied
+pub mod Mentions

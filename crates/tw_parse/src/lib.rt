@@ -6,6 +6,8 @@ mod fault;
 mod keywords;
 mod laws;
 mod lookahead;
+#[tactic(auto, using(crate::proofs::Behind::mentioned))]
+mod mentions;
 mod nesting;
 #[tactic(auto, using(crate::proofs::Views::views))]
 mod parse;

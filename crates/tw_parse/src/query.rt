@@ -1,14 +1,15 @@
 //! Reading queries.
-ghost use Rattle.std.specs.Prelude.{◌≡◌, ℕ, [], length, All, IfOk, IfErr, OnOk, ◌||◌, option_map};
+ghost use Rattle.std.specs.Prelude.{◌≡◌, ℕ, [], length, All, IfOk, IfErr, OnOk, option_map};
 ghost use Rattle.tw_lexer.specs.Tokens.{IsWithin, ThroughDot};
 ghost use Rattle.tw_parse.specs.Faults.{DotEnds};
-ghost use Rattle.tw_parse.specs.Queries.{Asks, AsksAll, AskingFaultOf, IsAskable, IsOfLanguage, QueryFaultStands, asked, goal_tokens, has_proof, mentions, mentions_domain, names_proof, proved_by, query_of, with_goal};
+ghost use Rattle.tw_parse.specs.Queries.{Asks, AsksAll, AskingFaultOf, IsAskable, IsOfLanguage, QueryFaultStands, asked, goal_tokens, has_proof, names_proof, proved_by, query_of, with_goal};
 ghost use Rattle.tw_parse.specs.Sources.{lexemes_from};
-ghost use Rattle.tw_parse.specs.View.{boxed_domain, term_of};
+ghost use Rattle.tw_parse.specs.View.{term_of};
 ghost use Rattle.tw_parse.specs.Words.{first_bytes, first_word, lexemes};
 
 use crate::fault::SyntaxFault;
 use crate::keywords::{is_in_language, is_upper};
+use crate::mentions::mentions;
 use crate::nesting::too_deep;
 use crate::parts::Part;
 use crate::sequences::sequence;
@@ -26,70 +27,6 @@ use tw_lexer::Tokens;
 pub struct ExtQuery {
     pub proof: Option<Name>,
     pub goal: ExtTerm,
-}
-
-/// How deep a goal with a name may be; past that memory counts as wanting.
-const FRAMES: u32 = 4096;
-
-/// Whether a name stands in a term, also as that of a binder.
-#[cycle(mentions)]
-fn mentions(term: &ExtTerm, name: &[u8], frames: u32) -> Result<bool, AllocError>
-    ensures { IfOk result (λ found. found ≡ mentions name.now (term_of term.now)) }
-{
-    let frames = frames.checked_sub(1).ok_or(AllocError)?;
-    match term {
-        ExtTerm::Ident(other, _) => Ok(other.as_bytes() == name),
-        ExtTerm::Hole(_) | ExtTerm::Star => Ok(false),
-        ExtTerm::Arrow(left, right) => mentions_either(left, right, name, frames),
-        ExtTerm::App(left, right) => mentions_either(left, right, name, frames),
-        ExtTerm::Ascribe(left, right) => mentions_either(left, right, name, frames),
-        ExtTerm::Pi(other, _, domain, body) => {
-            if other.as_bytes() == name {
-                return Ok(true);
-            }
-            mentions_in_binder(domain, body, name, frames)
-        }
-        ExtTerm::Lam(other, _, domain, body) => {
-            if other.as_bytes() == name {
-                return Ok(true);
-            }
-            mentions_in_binder(domain, body, name, frames)
-        }
-    }
-}
-
-// Whether a name stands in one of two terms.
-#[cycle(mentions)]
-fn mentions_either(
-    left: &ExtTerm,
-    right: &ExtTerm,
-    name: &[u8],
-    frames: u32,
-) -> Result<bool, AllocError>
-    ensures { IfOk result (λ found. found ≡ mentions name.now (term_of left.now) || mentions name.now (term_of right.now)) }
-{
-    if mentions(left, name, frames)? {
-        return Ok(true);
-    }
-    mentions(right, name, frames)
-}
-
-// Whether a name stands in a type, if it is written, or in a body.
-#[cycle(mentions)]
-fn mentions_in_binder(
-    domain: &Option<Box<ExtTerm>>,
-    body: &ExtTerm,
-    name: &[u8],
-    frames: u32,
-) -> Result<bool, AllocError>
-    ensures { IfOk result (λ found. found ≡ mentions_domain name.now (boxed_domain domain.now) || mentions name.now (term_of body.now)) }
-{
-    if let Some(domain) = domain {
-        if mentions(domain, name, frames)? {
-            return Ok(true);
-        }
-    }
-    mentions(body, name, frames)
 }
 
 // Whether tokens with these words in front name a proof.
@@ -124,7 +61,7 @@ fn proof(alloc: Global, source: &Source<'_>, goal: &ExtTerm) -> Result<Option<Na
     ensures { IfOk result (λ name. proved_by (first_word (lexemes_from source.now 0)) (first_bytes (lexemes_from source.now 0)) (term_of goal.now) ≡ option_map (with_goal (term_of goal.now)) name) }
 {
     let name = source.bytes(0);
-    if source.word(0) != Word::Name || !is_upper(name) || mentions(goal, name, FRAMES)? {
+    if source.word(0) != Word::Name || !is_upper(name) || mentions(alloc, goal, name)? {
         return Ok(None);
     }
     Ok(Some(source.name(alloc, 0)?))

@@ -9,9 +9,12 @@ ghost use Rattle.tw_recon.specs.FreeNames.{HasNoFreeVariable, IsFirstFreeVariabl
 use std::alloc::{AllocError, Global};
 use tw_fixity::{Name, Scope};
 use tw_lexer::Place;
-use tw_names::{FRAMES, Mention, binder_name, is_no_later, is_uppercase, named, nested};
+use tw_names::{Mention, binder_name, is_no_later, is_uppercase, named, nested};
 use tw_parse::ExtTerm;
 use tw_signature::Signature;
+
+/// How many calls the walk nests at most; past these it wants memory, since the machine's stack is memory too.
+const FRAMES: u32 = 10_500;
 
 /// The free variable that stands first in the text, with its place, if there is one. Fails for want of memory alone.
 pub fn first_free_variable(

@@ -1,3 +1,4 @@
 pub mod View
 pub mod SiteView
 pub mod First
+pub mod Parts

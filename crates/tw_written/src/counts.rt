@@ -1,12 +1,11 @@
 //! How many metavariables a name or a skeleton leaves open.
-ghost use Rattle.std.specs.Prelude.{◌≡◌, IfOk};
+ghost use Rattle.std.specs.Prelude.{◌≡◌, ◌+◌, ◌++◌, ◌∷◌, [], IfOk, OnOk};
 ghost use Rattle.lf.specs.Entries.{entry, kind_quantifiers, signature_of};
 ghost use Rattle.lf_elaboration.specs.Sites.{arguments_in, implicit_in, indices as indices_of};
 ghost use Rattle.tw_terms.specs.View.{kind_of, skeleton_of};
 
-use std::alloc::AllocError;
+use std::alloc::{AllocError, Global};
 use tw_signature::Signature;
-use tw_terms::numbers::nested;
 use tw_terms::{ConstId, Kind, Skeleton};
 
 /// The implicit arguments of a constant or family.
@@ -19,19 +18,39 @@ pub fn implicit_arguments(signature: &Signature, id: ConstId) -> u64
     }
 }
 
-/// The arguments of the families of the skeleton.
-pub fn indices(signature: &Signature, skeleton: &Skeleton, frames: u32) -> Result<u64, AllocError>
+/// The arguments of the families of the skeleton. Parts of it wait on the heap. Fails for want of memory, and past 2 ^ 64 - 1 arguments, which no memory holds.
+pub fn indices(alloc: Global, signature: &Signature, skeleton: &Skeleton) -> Result<u64, AllocError>
     ensures { IfOk result (λ n. n ≡ indices_of signature.now (skeleton_of skeleton.now)) }
 {
-    let frames = nested(frames)?;
-    match skeleton {
-        Skeleton::Base(family) => family_arguments(signature, *family),
-        Skeleton::Arrow(domain, range) => {
-            let domain = indices(signature, domain, frames)?;
-            let range = indices(signature, range, frames)?;
-            domain.checked_add(range).ok_or(AllocError)
+    let mut waiting: Vec<&Skeleton> = Vec::new(alloc);
+    let mut count: u64 = 0;
+    waiting.push(skeleton)?;
+    while let Some(next) = waiting.pop() {
+        match next {
+            Skeleton::Base(family) => count = added(count, family_arguments(signature, *family)?)?,
+            Skeleton::Arrow(domain, range) => wait_for_both(&mut waiting, domain, range)?,
         }
     }
+    Ok(count)
+}
+
+#[inline(never)]
+fn wait_for_both<'a>(
+    waiting: &mut Vec<&'a Skeleton>,
+    domain: &'a Skeleton,
+    range: &'a Skeleton,
+) -> Result<(), AllocError>
+    ensures { OnOk result (waiting.new.items ≡ waiting.old.items ++ range.entry ∷ domain.entry ∷ []) }
+{
+    waiting.push(range)?;
+    waiting.push(domain)?;
+    Ok(())
+}
+
+fn added(count: u64, more: u64) -> Result<u64, AllocError>
+    ensures { IfOk result (λ n. n ≡ count + more) }
+{
+    count.checked_add(more).ok_or(AllocError)
 }
 
 /// The arguments of the family; none where it isn't declared.
@@ -44,7 +63,7 @@ fn family_arguments(signature: &Signature, family: ConstId) -> Result<u64, Alloc
     }
 }
 
-/// The arguments that the kind takes.
+/// The arguments that the kind takes. Fails past 2 ^ 64 - 1, which no memory holds.
 fn kind_arguments(kind: &Kind) -> Result<u64, AllocError>
     ensures { IfOk result (λ n. n ≡ kind_quantifiers (kind_of kind.now)) }
 {

@@ -20,7 +20,7 @@ pub fn first_places(
     ensures { IfOk result (λ v. AreFirstPlaces (frees_of_body (written_body_of written.now)) count v.items) }
 {
     let mut occurrences = Vec::new(alloc);
-    body_frees(&mut occurrences, written)?;
+    body_frees(alloc, &mut occurrences, written)?;
     first_of(alloc, &occurrences, count)
 }
 

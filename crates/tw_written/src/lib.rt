@@ -6,11 +6,12 @@
 mod counts;
 #[tactic(auto, using(crate::proofs::Steps::steps))]
 mod first;
-mod frames;
 #[tactic(auto, using(crate::proofs::Steps::steps))]
 mod occurrences;
 #[tactic(auto, using(crate::proofs::Steps::steps))]
 mod order;
+#[tactic(auto, using(crate::proofs::Steps::steps))]
+mod part;
 #[tactic(auto, using(crate::proofs::Steps::steps))]
 mod places;
 #[tactic(auto, using(crate::proofs::Steps::steps))]
@@ -19,6 +20,5 @@ mod site;
 mod spots;
 mod written;
 
-pub use frames::FRAMES;
 pub use places::{frees_in_text_order, sites};
 pub use written::{Written, WrittenBody, WrittenDomain, WrittenKind, WrittenType};

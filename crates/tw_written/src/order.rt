@@ -19,7 +19,7 @@ pub fn expanded(alloc: Global, spots: &[Spot]) -> Result<Vec<Site>, AllocError>
     Ok(sites)
 }
 
-/// Adds those of one spot, from this number on, and gives the number behind them.
+/// Adds those of one spot, from this number on, and gives the number behind them. Fails for want of memory, and past 2 ^ 64 - 1 metavariables, which no memory holds.
 pub fn add_spot(sites: &mut Vec<Site>, spot: &Spot, first: u64) -> Result<u64, AllocError>
     ensures behind { IfOk result (λ n. n ≡ first + spot.now.count) }
     ensures sites { OnOk result (sites_of sites.new.items ≡ sites_of sites.old.items ++ sites_at (option_map place_of spot.now.at) first spot.now.count) }

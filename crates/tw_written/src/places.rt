@@ -9,7 +9,6 @@ ghost use Rattle.tw_written.specs.View.{written_body_of};
 use crate::WrittenBody;
 use crate::counts::indices;
 use crate::first::first_places;
-use crate::frames::FRAMES;
 use crate::order::{add_spot, expanded, in_text_order};
 use crate::site::{Site, Spot};
 use crate::spots::body_spots;
@@ -29,8 +28,8 @@ pub fn sites(
 {
     let places = first_places(alloc, written, skeletons.len())?;
     let mut spots = Vec::new(alloc);
-    free_spots(signature, &mut spots, skeletons, &places)?;
-    body_spots(signature, &mut spots, written)?;
+    free_spots(alloc, signature, &mut spots, skeletons, &places)?;
+    body_spots(alloc, signature, &mut spots, written)?;
     let sites = in_text_order(expanded(alloc, &spots)?)?;
     numbers(alloc, &sites)
 }
@@ -50,6 +49,7 @@ pub fn frees_in_text_order(
 
 /// Adds the spots of the free variables, of these skeletons and at these places.
 fn free_spots(
+    alloc: Global,
     signature: &Signature,
     spots: &mut Vec<Spot>,
     skeletons: &[Skeleton],
@@ -59,7 +59,7 @@ fn free_spots(
     ensures { OnOk result ((fs : List PlainSite) → AreFirstPlaces fs (length skeletons.now) places.now → spots_of spots.new.items ≡ spots_of spots.old.items ++ spots_of_frees signature.now fs 0 (map skeleton_of skeletons.now)) }
 {
     for variable in 0..skeletons.len() {
-        let count = indices(signature, &skeletons[variable], FRAMES)?;
+        let count = indices(alloc, signature, &skeletons[variable])?;
         spots.push(Spot {
             at: places[variable],
             count: count.checked_add(1).ok_or(AllocError)?,

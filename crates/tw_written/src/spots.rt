@@ -1,20 +1,22 @@
 //! The spots of what is written: where metavariables are made, in the order in which elaboration makes them.
-ghost use Rattle.std.specs.Prelude.{◌≡◌, ◌++◌, ◌∷◌, [], Some, OnOk};
-ghost use Rattle.lf_elaboration.specs.Sites.{body_spots as spots_of_body, domain_spots as spots_of_domain, kind_spots as spots_of_kind, term_spots as spots_of_term, type_spots as spots_of_type};
+ghost use Rattle.std.specs.Prelude.{◌≡◌, ◌<◌, ◌+◌, ◌++◌, ◌∷◌, [], reverse, Some, OnOk};
+ghost use Rattle.lf_elaboration.specs.Sites.{body_spots as spots_of_body, domain_spots as spots_of_domain, term_spots as spots_of_term, type_spots as spots_of_type};
+ghost use Rattle.tw_written.specs.Parts.{domain_size, size, spots_in, spots_left, term_size, type_size, work};
 ghost use Rattle.tw_written.specs.SiteView.{spots_of};
-ghost use Rattle.tw_written.specs.View.{place_of, written_body_of, written_domain_of, written_kind_of, written_of, written_type_of};
+ghost use Rattle.tw_written.specs.View.{place_of, written_body_of, written_domain_of, written_of, written_type_of};
 
 use crate::counts::{implicit_arguments, indices};
-use crate::frames::FRAMES;
+use crate::part::{Part, wait_for};
 use crate::site::Spot;
 use crate::{Written, WrittenBody, WrittenDomain, WrittenKind, WrittenType};
-use std::alloc::AllocError;
+use std::alloc::{AllocError, Global};
 use tw_lexer::Place;
 use tw_signature::Signature;
-use tw_terms::numbers::nested;
+use tw_terms::numbers::one_more;
 
 /// Adds those of a declaration.
 pub fn body_spots(
+    alloc: Global,
     signature: &Signature,
     spots: &mut Vec<Spot>,
     written: &WrittenBody,
@@ -22,13 +24,63 @@ pub fn body_spots(
     ensures { OnOk result (spots_of spots.new.items ≡ spots_of spots.old.items ++ spots_of_body signature.now (written_body_of written.now)) }
 {
     match written {
-        WrittenBody::Family(kind) => kind_spots(signature, spots, kind, FRAMES),
-        WrittenBody::Constant(ty) => type_spots(signature, spots, ty, FRAMES),
-        WrittenBody::Definition(term, _) => term_spots(signature, spots, false, term, FRAMES),
-        WrittenBody::DefinitionOf(term, ty, _) => {
-            type_spots(signature, spots, ty, FRAMES)?;
-            term_spots(signature, spots, true, term, FRAMES)
+        WrittenBody::Family(kind) => part_spots(alloc, signature, spots, Part::Kind(kind)),
+        WrittenBody::Constant(ty) => part_spots(alloc, signature, spots, Part::Type(ty)),
+        WrittenBody::Definition(term, _) => {
+            part_spots(alloc, signature, spots, Part::Term(term, false))
         }
+        WrittenBody::DefinitionOf(term, ty, _) => {
+            part_spots(alloc, signature, spots, Part::Type(ty))?;
+            part_spots(alloc, signature, spots, Part::Term(term, true))
+        }
+    }
+}
+
+/// Adds those of a part.
+#[inline(never)]
+fn part_spots<'a>(
+    alloc: Global,
+    signature: &Signature,
+    spots: &mut Vec<Spot>,
+    part: Part<'a>,
+) -> Result<(), AllocError>
+    ensures { OnOk result (spots_of spots.new.items ≡ spots_of spots.old.items ++ spots_in signature.now part.entry) }
+{
+    let mut waiting = Vec::new(alloc);
+    waiting.push(part)?;
+    while let Some(next) = waiting.pop() {
+        first_spots(alloc, signature, spots, &mut waiting, next)?;
+    }
+    Ok(())
+}
+
+/// Adds those of a part itself. Its own parts wait.
+#[inline(never)]
+fn first_spots<'a>(
+    alloc: Global,
+    signature: &Signature,
+    spots: &mut Vec<Spot>,
+    waiting: &mut Vec<Part<'a>>,
+    part: Part<'a>,
+) -> Result<(), AllocError>
+    ensures spots { OnOk result (spots_of spots.new.items ++ spots_left signature.now (reverse waiting.new.items) ≡ spots_of spots.old.items ++ (spots_in signature.now part.entry ++ spots_left signature.now (reverse waiting.old.items))) }
+    ensures work { OnOk result (work waiting.new.items < size part.entry + work waiting.old.items) }
+{
+    match part {
+        Part::Term(term, expected) => {
+            term_spots(alloc, signature, spots, waiting, expected, term)
+        }
+        Part::Domain(domain) => domain_spots(alloc, signature, spots, waiting, domain),
+        Part::Type(ty) => type_spots(alloc, signature, spots, waiting, ty),
+        Part::Kind(kind) => match kind {
+            WrittenKind::Star => Ok(()),
+            WrittenKind::Arrow(domain, range) => {
+                wait_for(waiting, Part::Type(domain), Part::Kind(range))
+            }
+            WrittenKind::Quantified(domain, range) => {
+                wait_for(waiting, Part::Domain(domain), Part::Kind(range))
+            }
+        },
     }
 }
 
@@ -43,109 +95,78 @@ fn add(spots: &mut Vec<Spot>, at: Place, count: u64) -> Result<(), AllocError>
 }
 
 /// `expected` tells whether the type is given from outside.
-#[cycle(spots)]
-fn term_spots(
+#[inline(never)]
+fn term_spots<'a>(
+    alloc: Global,
     signature: &Signature,
     spots: &mut Vec<Spot>,
+    waiting: &mut Vec<Part<'a>>,
     expected: bool,
-    written: &Written,
-    frames: u32,
+    written: &'a Written,
 ) -> Result<(), AllocError>
-    ensures { OnOk result (spots_of spots.new.items ≡ spots_of spots.old.items ++ spots_of_term signature.now expected (written_of written.now)) }
+    ensures spots { OnOk result (spots_of spots.new.items ++ spots_left signature.now (reverse waiting.new.items) ≡ spots_of spots.old.items ++ (spots_of_term signature.now expected (written_of written.now) ++ spots_left signature.now (reverse waiting.old.items))) }
+    ensures work { OnOk result (work waiting.new.items < term_size (written_of written.now) + work waiting.old.items) }
 {
-    let frames = nested(frames)?;
     match written {
         Written::Free(_, _) | Written::Bound(_) => Ok(()),
         Written::Declared(id, at) => add(spots, *at, implicit_arguments(signature, *id)),
         Written::Hole(_, at) if expected => add(spots, *at, 1),
         Written::Hole(skeleton, at) => {
-            let count = indices(signature, skeleton, frames)?;
-            add(spots, *at, count.checked_add(1).ok_or(AllocError)?)
+            let count = indices(alloc, signature, skeleton)?;
+            add(spots, *at, one_more(count)?)
         }
         Written::Function(domain, body) => {
-            domain_spots(signature, spots, domain, frames)?;
-            term_spots(signature, spots, expected, body, frames)
+            wait_for(waiting, Part::Domain(domain), Part::Term(body, expected))
         }
         Written::Applied(function, arg) => {
-            term_spots(signature, spots, false, function, frames)?;
-            term_spots(signature, spots, true, arg, frames)
+            wait_for(waiting, Part::Term(function, false), Part::Term(arg, true))
         }
-        Written::Ascribed(term, ty) => {
-            type_spots(signature, spots, ty, frames)?;
-            term_spots(signature, spots, true, term, frames)
-        }
+        Written::Ascribed(term, ty) => wait_for(waiting, Part::Type(ty), Part::Term(term, true)),
     }
 }
 
-#[cycle(spots)]
-fn domain_spots(
+#[inline(never)]
+fn domain_spots<'a>(
+    alloc: Global,
     signature: &Signature,
     spots: &mut Vec<Spot>,
-    written: &WrittenDomain,
-    frames: u32,
+    waiting: &mut Vec<Part<'a>>,
+    written: &'a WrittenDomain,
 ) -> Result<(), AllocError>
-    ensures { OnOk result (spots_of spots.new.items ≡ spots_of spots.old.items ++ spots_of_domain signature.now (written_domain_of written.now)) }
+    ensures spots { OnOk result (spots_of spots.new.items ++ spots_left signature.now (reverse waiting.new.items) ≡ spots_of spots.old.items ++ (spots_of_domain signature.now (written_domain_of written.now) ++ spots_left signature.now (reverse waiting.old.items))) }
+    ensures work { OnOk result (work waiting.new.items < domain_size (written_domain_of written.now) + work waiting.old.items) }
 {
-    let frames = nested(frames)?;
     match written {
         WrittenDomain::OfSkeleton(skeleton, at) => {
-            add(spots, *at, indices(signature, skeleton, frames)?)
+            add(spots, *at, indices(alloc, signature, skeleton)?)
         }
-        WrittenDomain::OfType(ty) => type_spots(signature, spots, ty, frames),
+        WrittenDomain::OfType(ty) => Ok(waiting.push(Part::Type(ty))?),
     }
 }
 
-#[cycle(spots)]
-fn type_spots(
+#[inline(never)]
+fn type_spots<'a>(
+    alloc: Global,
     signature: &Signature,
     spots: &mut Vec<Spot>,
-    written: &WrittenType,
-    frames: u32,
+    waiting: &mut Vec<Part<'a>>,
+    written: &'a WrittenType,
 ) -> Result<(), AllocError>
-    ensures { OnOk result (spots_of spots.new.items ≡ spots_of spots.old.items ++ spots_of_type signature.now (written_type_of written.now)) }
+    ensures spots { OnOk result (spots_of spots.new.items ++ spots_left signature.now (reverse waiting.new.items) ≡ spots_of spots.old.items ++ (spots_of_type signature.now (written_type_of written.now) ++ spots_left signature.now (reverse waiting.old.items))) }
+    ensures work { OnOk result (work waiting.new.items < type_size (written_type_of written.now) + work waiting.old.items) }
 {
-    let frames = nested(frames)?;
     match written {
-        WrittenType::Hole(skeleton, at) => add(spots, *at, indices(signature, skeleton, frames)?),
+        WrittenType::Hole(skeleton, at) => add(spots, *at, indices(alloc, signature, skeleton)?),
         WrittenType::Family(id, at) => add(spots, *at, implicit_arguments(signature, *id)),
         WrittenType::Arrow(domain, range) => {
-            type_spots(signature, spots, domain, frames)?;
-            type_spots(signature, spots, range, frames)
+            wait_for(waiting, Part::Type(domain), Part::Type(range))
         }
         WrittenType::Quantified(domain, range) => {
-            domain_spots(signature, spots, domain, frames)?;
-            type_spots(signature, spots, range, frames)
+            wait_for(waiting, Part::Domain(domain), Part::Type(range))
         }
         WrittenType::Applied(family, arg) => {
-            type_spots(signature, spots, family, frames)?;
-            term_spots(signature, spots, true, arg, frames)
+            wait_for(waiting, Part::Type(family), Part::Term(arg, true))
         }
-        WrittenType::Ascribed(ty, kind) => {
-            kind_spots(signature, spots, kind, frames)?;
-            type_spots(signature, spots, ty, frames)
-        }
-    }
-}
-
-#[cycle(spots)]
-fn kind_spots(
-    signature: &Signature,
-    spots: &mut Vec<Spot>,
-    written: &WrittenKind,
-    frames: u32,
-) -> Result<(), AllocError>
-    ensures { OnOk result (spots_of spots.new.items ≡ spots_of spots.old.items ++ spots_of_kind signature.now (written_kind_of written.now)) }
-{
-    let frames = nested(frames)?;
-    match written {
-        WrittenKind::Star => Ok(()),
-        WrittenKind::Arrow(domain, range) => {
-            type_spots(signature, spots, domain, frames)?;
-            kind_spots(signature, spots, range, frames)
-        }
-        WrittenKind::Quantified(domain, range) => {
-            domain_spots(signature, spots, domain, frames)?;
-            kind_spots(signature, spots, range, frames)
-        }
+        WrittenType::Ascribed(ty, kind) => wait_for(waiting, Part::Kind(kind), Part::Type(ty)),
     }
 }

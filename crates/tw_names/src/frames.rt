@@ -1,5 +1,0 @@
-//! The machine's stack, which is memory too.
-
-/// How many calls a walk over a text nests at most; past these it wants memory. A level of a type takes two calls, so a type of some 5,000 arrows is still
-/// looked through, and told to be too deep later.
-pub const FRAMES: u32 = 10_500;
