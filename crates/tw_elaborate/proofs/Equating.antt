@@ -1,5 +1,5 @@
 -- Equations between types, kinds and arguments, one after another.
-use Rattle.std.proofs.Common.{◌≡◌, ℕ, List, [], ◌∷◌, Option, Some, None, sym, ap, ◌∙◌, subst}
+use Rattle.std.proofs.Common.{◌≡◌, ℕ, List, [], Option, Some, None, Result, Ok, Err, OnOk, map, sym, ap, ◌∙◌, subst}
 use Rattle.lf.specs.Entries.{Entry, IsCanonicalSignature, signature_of}
 use Rattle.lf.specs.SkeletonTyping.{SpineSkeleton}
 use Rattle.lf.specs.Skeletons.{family_skeleton, family_skeletons}
@@ -13,7 +13,11 @@ use Rattle.lf_unification.specs.Lists.{followed}
 use Rattle.lf_unification.specs.Offering.{spine_equations}
 use Rattle.lf_unification.specs.Patterns.{local_skeletons}
 use Rattle.lf_unification.specs.Unifiers.{Equation}
+use Rattle.tw_metas.specs.State as metas
+use Rattle.tw_metas.specs.View.{equation_of}
+use Rattle.tw_metas.specs.declared.equation.Equation.{Equation as TwEquation}
 use Rattle.tw_open.specs.Indices.{IndicesFit}
+use Rattle.tw_open.specs.View.{made_with}
 use Rattle.tw_open.proofs.Arguments.{followed_after, followed_none}
 
 pub equations_twice : (es fs : List Equation) (s : State) → with_equations fs (with_equations es s) ≡ with_equations (followed es fs) s
@@ -40,8 +44,12 @@ module _ (es : List Entry) (canonical : IsCanonicalSignature es) where
     spine_typed = subst (λ x. SpineSkeleton (heads_of (signature_of es) s) (local_skeletons D []) S x (base a)) (some_kind a K t ((signature_of es).kinds a) e f) r;
   })
 
-pub some_index_equations : (Σ : Signature) (s s' : State) (D : List LfType) (x : Option Kind) (S T : Spine) (K L : Kind) → Some K ≡ x → L ≡ K → s' ≡ with_equations (differing (spine_equations D L S T)) s → s' ≡ with_equations (index_equations Σ x D S T) s
-some_index_equations Σ s s' D x S T K L e l q = q ∙ ap (λ k. with_equations (differing (spine_equations D k S T)) s) l ∙ ap (λ y. with_equations (index_equations Σ y D S T) s) e
+-- the equations that are added to the vector are those of the theory
+pub equations_added : (Σ : Signature) (s : metas.State) (D : List LfType) (x : Option Kind) (S T : Spine) (K L : Kind) {X Y : Type 0} (old new : List TwEquation) (r : Result X Y) → Some K ≡ x → L ≡ K
+    → OnOk r (map equation_of new ≡ followed (map equation_of old) (differing (spine_equations D L S T))) → OnOk r (made_with (map equation_of new) s ≡ with_equations (index_equations Σ x D S T) (made_with (map equation_of old) s))
+equations_added Σ s D x S T K L old new (Ok v) e l q =
+    ap (λ (es : List Equation). made_with es s) q ∙ ap (λ k. with_equations (differing (spine_equations D k S T)) (made_with (map equation_of old) s)) l ∙ ap (λ y. with_equations (index_equations Σ y D S T) (made_with (map equation_of old) s)) e
+equations_added Σ s D x S T K L old new (Err f) e l q = tt
 
 pub no_index_equations : (Σ : Signature) (s : State) (D : List LfType) (x : Option Kind) (S T : Spine) → None ≡ x → s ≡ with_equations (index_equations Σ x D S T) s
 no_index_equations Σ s D x S T e = sym (no_equations s) ∙ ap (λ y. with_equations (index_equations Σ y D S T) s) e

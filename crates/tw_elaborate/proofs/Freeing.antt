@@ -77,6 +77,6 @@ free_made es t a b c (Ok m) G P l g q n h k = record {
   between = made b;
   type_made = subst (λ D. NewType es D t (made a) (made b) P) l n;
   number = k;
-  state = made_with b.store.now c.store.now (map equation_of c.equations.items) [] G P P (ap (λ (s : Story). s.now) h) refl ∙ ap (λ (es : Vec TwEquation Global). record { metavariables = (with_metavariable [] P (made b)).metavariables; next = (with_metavariable [] P (made b)).next; equations = map equation_of es.items }) q;
+  state = one_more_made b.store.now c.store.now (map equation_of c.equations.items) [] G P P (ap (λ (s : Story). s.now) h) refl ∙ ap (λ (es : Vec TwEquation Global). record { metavariables = (with_metavariable [] P (made b)).metavariables; next = (with_metavariable [] P (made b)).next; equations = map equation_of es.items }) q;
 }
 free_made es t a b c (Err x) G P l g q n h k = tt
