@@ -1,5 +1,5 @@
 -- A head on arguments takes one more, and a row of arguments is put to what stands before it.
-use Rattle.std.proofs.Common.{◌≡◌, ℕ, zero, suc, List, [], ◌∷◌, ◌++◌, length, Bor, Box, Global, MatchOption, None, Option, Some, Vec, refl, sym, ap, ap₂, ◌∙◌, subst}
+use Rattle.std.proofs.Common.{◌≡◌, ℕ, zero, suc, List, [], ◌∷◌, ◌++◌, Bor, Box, Global, MatchOption, None, Option, Some, Vec, refl, sym, ap, ap₂, ◌∙◌, subst}
 use Rattle.std.proofs.lemmas.List.{map-append}
 use Rattle.lf.specs.Entries.{Entry, IsCanonicalSignature, signature_of}
 use Rattle.lf.specs.Eta.{add_last, eta_expand}
@@ -78,12 +78,8 @@ pub applied_to-push : (F P : Written) (Ps : List Written) → applied_to F (Ps +
 applied_to-push F P [] = refl
 applied_to-push F P (Q ∷ Ps) = ap (λ M. applied M Q) (applied_to-push F P Ps)
 
-pub arguments_less : (old new : List (Bor Syntax)) (p : Bor Syntax) → old ≡ new ++ p ∷ [] → written_terms old ≡ written_terms new ++ written_of p.now ∷ []
+arguments_less : (old new : List (Bor Syntax)) (p : Bor Syntax) → old ≡ new ++ p ∷ [] → written_terms old ≡ written_terms new ++ written_of p.now ∷ []
 arguments_less old new p e = ap written_terms e ∙ map-append (λ (x : Bor Syntax). written_of x.now) new (p ∷ [])
-
-pub none_left : (xs : List (Bor Syntax)) → length xs ≡ 0 → written_terms xs ≡ []
-none_left [] e = refl
-none_left (x ∷ xs) e = absurd cc
 
 module _ (es : List Entry) (ns : List ℕ) (D : List LfType) where
   pub deep_row : (F : Written) (s : State) (Ps : List Written) → InfersDeep es ns D F s → InfersDeep es ns D (applied_to F Ps) s
@@ -197,7 +193,7 @@ module _ (es : List Entry) (ns : List ℕ) (D : List LfType) where
   first_reached {W = W} {s = s} ps e r = record { inner = W; begin = s; waits = subst (λ qs. Waits qs W s W s) (sym e) (refl, refl); reached = r }
 
   -- the next argument
-  pub asks_next : {ps : List Waiting} {W : Written} {s t : State} {o : Operator} {A : LfType} (old : List (Bor Syntax)) (new : Vec (Bor Syntax) Global) (arg : Bor Syntax) (p : Waiting) →
+  asks_next : {ps : List Waiting} {W : Written} {s t : State} {o : Operator} {A : LfType} (old : List (Bor Syntax)) (new : Vec (Bor Syntax) Global) (arg : Bor Syntax) (p : Waiting) →
       AllReached ps W s (written_terms old) t o A → old ≡ new.items ++ arg ∷ [] → p.operator ≡ o → A ≡ pi (open_type_of p.domain) (open_type_of p.range) → p.args ≡ new → Asks ps p W s (written_of arg.now) t
   asks_next {t = t} {o = o} {A = A} old new arg p r q e a x =
       let P = written_of arg.now in
@@ -223,7 +219,7 @@ module _ (es : List Entry) (ns : List ℕ) (D : List LfType) where
     pub is_inferred : IsInferred row
     pub inferred : Infers es ns D row begin t M A
 
-  pub finished : {W : Written} {s t : State} {o : Operator} {A : LfType} (old new : List Waiting) (p : Waiting) (xs : List (Bor Syntax)) (M : Term) (Y : LfType) → old ≡ new ++ p ∷ [] → written_terms xs ≡ [] → M ≡ operator_of (skeleton A) o → Y ≡ A → AllReached old W s (written_terms xs) t o A → Finished new p W s t M Y
+  finished : {W : Written} {s t : State} {o : Operator} {A : LfType} (old new : List Waiting) (p : Waiting) (xs : List (Bor Syntax)) (M : Term) (Y : LfType) → old ≡ new ++ p ∷ [] → written_terms xs ≡ [] → M ≡ operator_of (skeleton A) o → Y ≡ A → AllReached old W s (written_terms xs) t o A → Finished new p W s t M Y
   finished {W = W} {s = s} {t = t} {o = o} {A = A} old new p xs M Y e n m x r =
       let i : Infers es ns D r.inner r.begin t M A = all_reached es ns D r.inner r.begin t (written_terms xs) o A M n m r.reached in
       let (Q, u, y, w, k) = last_waits new p W r.inner s r.begin (subst (λ qs. Waits qs W s r.inner r.begin) e r.waits) in
