@@ -1,5 +1,5 @@
 -- A head on arguments takes one more, and a row of arguments is put to what stands before it.
-use Rattle.std.proofs.Common.{◌≡◌, ℕ, zero, suc, List, [], ◌∷◌, ◌++◌, length, Bor, Global, Vec, refl, sym, ap, ap₂, ◌∙◌, subst}
+use Rattle.std.proofs.Common.{◌≡◌, ℕ, zero, suc, List, [], ◌∷◌, ◌++◌, Bor, Box, Global, MatchOption, None, Option, Some, Vec, refl, sym, ap, ap₂, ◌∙◌, subst}
 use Rattle.std.proofs.lemmas.List.{map-append}
 use Rattle.lf.specs.Entries.{Entry, IsCanonicalSignature, signature_of}
 use Rattle.lf.specs.Eta.{add_last, eta_expand}
@@ -17,6 +17,7 @@ use Rattle.lf_elaboration.specs.State.{State}
 use Rattle.lf_elaboration.specs.Written.{Written, applied}
 use Rattle.tw_hered.specs.Fits.{TermFits, TypeFits}
 use Rattle.tw_terms.specs.OpenView.{open_type_of}
+use Rattle.tw_terms.specs.declared.open_terms.OpenTy.{OpenTy}
 use Rattle.tw_terms.proofs.Args.{types_and_skeletons}
 use Rattle.tw_written.proofs.Views.{written_views}
 use Rattle.tw_written.specs.View.{written_of}
@@ -24,8 +25,10 @@ use Rattle.tw_written.specs.declared.written.Written.{Written as Syntax}
 use Rattle.tw_elaborate.specs.Deep.{ChecksDeep, InfersDeep, deep_application, deep_argument, deep_function, deep_inferred}
 use Rattle.tw_elaborate.specs.Fits.{Stands}
 use Rattle.tw_elaborate.specs.Fresh.{Keeps}
-use Rattle.tw_elaborate.specs.Operators.{Applies, IsTerm, PutsIn, PutsInDeep, applied_to, operator_of, written_terms}
+use Rattle.tw_elaborate.specs.Operators.{Applies, IsNext, IsTerm, PutsIn, PutsInDeep, applied_to, operator_of, written_terms}
 use Rattle.tw_elaborate.specs.Rows.{Reached}
+use Rattle.tw_elaborate.specs.declared.operators.Next.{Next}
+use Rattle.tw_elaborate.specs.declared.operators.Next.TheVariants.{Argument, Nothing}
 use Rattle.tw_elaborate.specs.declared.operators.Operator.{Operator}
 use Rattle.tw_elaborate.specs.View.{made}
 use Rattle.tw_elaborate.specs.declared.operators.Begun.{Begun}
@@ -75,12 +78,8 @@ pub applied_to-push : (F P : Written) (Ps : List Written) → applied_to F (Ps +
 applied_to-push F P [] = refl
 applied_to-push F P (Q ∷ Ps) = ap (λ M. applied M Q) (applied_to-push F P Ps)
 
-pub arguments_less : (old new : List (Bor Syntax)) (p : Bor Syntax) → old ≡ new ++ p ∷ [] → written_terms old ≡ written_terms new ++ written_of p.now ∷ []
+arguments_less : (old new : List (Bor Syntax)) (p : Bor Syntax) → old ≡ new ++ p ∷ [] → written_terms old ≡ written_terms new ++ written_of p.now ∷ []
 arguments_less old new p e = ap written_terms e ∙ map-append (λ (x : Bor Syntax). written_of x.now) new (p ∷ [])
-
-pub none_left : (xs : List (Bor Syntax)) → length xs ≡ 0 → written_terms xs ≡ []
-none_left [] e = refl
-none_left (x ∷ xs) e = absurd cc
 
 module _ (es : List Entry) (ns : List ℕ) (D : List LfType) where
   pub deep_row : (F : Written) (s : State) (Ps : List Written) → InfersDeep es ns D F s → InfersDeep es ns D (applied_to F Ps) s
@@ -138,6 +137,13 @@ module _ (es : List Entry) (ns : List ℕ) (D : List LfType) where
       pub next_range_fits : {u : State} {Q : Term} → Checks es ns D P X t u Q → TypeFits (single (skeleton X) Q) B
       next_range_fits c = range_fits es canonical ns (next_stands D refl) next_type.0 c B next_type
 
+-- the last row that waits is taken off, or none waits
+pub popped : (r : Option (Box Waiting Global)) (p : Box Waiting Global) (old new : List Waiting) → r ≡ Some p → MatchOption r (old ≡ []) (λ w. old ≡ new ++ w.value ∷ []) → old ≡ new ++ p.value ∷ []
+popped r p old new e m = subst (λ x. MatchOption x (old ≡ []) (λ w. old ≡ new ++ w.value ∷ [])) e m
+
+pub none_popped : (r : Option (Box Waiting Global)) (old new : List Waiting) → r ≡ None → MatchOption r (old ≡ []) (λ w. old ≡ new ++ w.value ∷ []) → old ≡ []
+none_popped r old new e m = subst (λ x. MatchOption x (old ≡ []) (λ w. old ≡ new ++ w.value ∷ [])) e m
+
 -- rows that wait, each for the next one
 module _ (es : List Entry) (ns : List ℕ) (D : List LfType) where
   -- p is the row W, from s, and waits for P, from t
@@ -187,7 +193,7 @@ module _ (es : List Entry) (ns : List ℕ) (D : List LfType) where
   first_reached {W = W} {s = s} ps e r = record { inner = W; begin = s; waits = subst (λ qs. Waits qs W s W s) (sym e) (refl, refl); reached = r }
 
   -- the next argument
-  pub asks_next : {ps : List Waiting} {W : Written} {s t : State} {o : Operator} {A : LfType} (old : List (Bor Syntax)) (new : Vec (Bor Syntax) Global) (arg : Bor Syntax) (p : Waiting) →
+  asks_next : {ps : List Waiting} {W : Written} {s t : State} {o : Operator} {A : LfType} (old : List (Bor Syntax)) (new : Vec (Bor Syntax) Global) (arg : Bor Syntax) (p : Waiting) →
       AllReached ps W s (written_terms old) t o A → old ≡ new.items ++ arg ∷ [] → p.operator ≡ o → A ≡ pi (open_type_of p.domain) (open_type_of p.range) → p.args ≡ new → Asks ps p W s (written_of arg.now) t
   asks_next {t = t} {o = o} {A = A} old new arg p r q e a x =
       let P = written_of arg.now in
@@ -199,6 +205,12 @@ module _ (es : List Entry) (ns : List ℕ) (D : List LfType) where
         asks = subst (λ Y. Reached es ns D r.inner r.begin (written_terms p.args.items ++ P ∷ []) t p.operator Y) a (subst (λ u. Reached es ns D r.inner r.begin (written_terms p.args.items ++ P ∷ []) t u A) (sym e) (subst (λ Qs. Reached es ns D r.inner r.begin Qs t o A) l r.reached));
       }
 
+  pub next_asks : {ps : List Waiting} {W : Written} {s t : State} (b : Begun) (n : Next) (arg : Bor Syntax) (p : Box Waiting Global) →
+      n ≡ Argument arg p → IsNext b n → AllReached ps W s (written_terms b.args.items) t b.operator (open_type_of b.ty) → Asks ps p.value W s (written_of arg.now) t
+  next_asks b n arg p e i r =
+      let j : IsNext b (Argument arg p) = subst (IsNext b) e i in
+      asks_next b.args.items p.value.args arg p.value r j.0 j.1 j.2 refl
+
   -- and a row waits for this one
   pub record Finished (ps : List Waiting) (p : Waiting) (W : Written) (s t : State) (M : Term) (A : LfType) : Type 0 where
     pub row : Written
@@ -207,7 +219,7 @@ module _ (es : List Entry) (ns : List ℕ) (D : List LfType) where
     pub is_inferred : IsInferred row
     pub inferred : Infers es ns D row begin t M A
 
-  pub finished : {W : Written} {s t : State} {o : Operator} {A : LfType} (old new : List Waiting) (p : Waiting) (xs : List (Bor Syntax)) (M : Term) (Y : LfType) → old ≡ new ++ p ∷ [] → written_terms xs ≡ [] → M ≡ operator_of (skeleton A) o → Y ≡ A → AllReached old W s (written_terms xs) t o A → Finished new p W s t M Y
+  finished : {W : Written} {s t : State} {o : Operator} {A : LfType} (old new : List Waiting) (p : Waiting) (xs : List (Bor Syntax)) (M : Term) (Y : LfType) → old ≡ new ++ p ∷ [] → written_terms xs ≡ [] → M ≡ operator_of (skeleton A) o → Y ≡ A → AllReached old W s (written_terms xs) t o A → Finished new p W s t M Y
   finished {W = W} {s = s} {t = t} {o = o} {A = A} old new p xs M Y e n m x r =
       let i : Infers es ns D r.inner r.begin t M A = all_reached es ns D r.inner r.begin t (written_terms xs) o A M n m r.reached in
       let (Q, u, y, w, k) = last_waits new p W r.inner s r.begin (subst (λ qs. Waits qs W s r.inner r.begin) e r.waits) in
@@ -219,11 +231,30 @@ module _ (es : List Entry) (ns : List ℕ) (D : List LfType) where
         inferred = subst (λ X. Infers es ns D r.inner r.begin t M X) (sym x) i;
       }
 
-  -- the same, between the values of the program
-  abbrev pub RowsOf : Vec Waiting Global → Begun → Elaboration → Elaboration → Written → Type 0
-  RowsOf waiting begun start now W = AllReached waiting.items W (made start) (written_terms begun.args.items) (made now) begun.operator (open_type_of begun.ty) × Keeps start now
+  -- all arguments are there
+  pub nothing_left : {ps : List Waiting} {W : Written} {s t : State} (b : Begun) (n : Next) (d : Box Begun Global) →
+      n ≡ Nothing d → IsNext b n → AllReached ps W s (written_terms b.args.items) t b.operator (open_type_of b.ty) → AllReached ps W s [] t d.value.operator (open_type_of d.value.ty)
+  nothing_left {ps = ps} {W = W} {s = s} {t = t} b n d e i r =
+      let j : IsNext b (Nothing d) = subst (IsNext b) e i in
+      subst (λ X. AllReached ps W s [] t d.value.operator (open_type_of X)) (sym j.2) (subst (λ o. AllReached ps W s [] t o (open_type_of b.ty)) (sym j.1) (subst (λ xs. AllReached ps W s (written_terms xs) t b.operator (open_type_of b.ty)) j.0 r))
 
-  pub rows_stay : (v w : Vec Waiting Global) (b d : Begun) (start s t : Elaboration) (W : Written) → s ≡ t → v ≡ w → b ≡ d → RowsOf w d start t W → RowsOf v b start s W
+  pub all_found : {W : Written} {s t : State} (ps : List Waiting) (d : Begun) (M : Term) (Y : OpenTy) →
+      ps ≡ [] → M ≡ operator_of (skeleton (open_type_of d.ty)) d.operator → Y ≡ d.ty → AllReached ps W s [] t d.operator (open_type_of d.ty) → Infers es ns D W s t M (open_type_of Y)
+  all_found {W = W} {s = s} {t = t} ps d M Y e m y r =
+      let A = open_type_of d.ty in
+      let w : (W ≡ r.inner) × (s ≡ r.begin) = subst (λ qs. Waits qs W s r.inner r.begin) e r.waits in
+      let i : Infers es ns D r.inner r.begin t M A = all_reached es ns D r.inner r.begin t [] d.operator A M refl m r.reached in
+      subst (λ X. Infers es ns D W s t M X) (sym (ap open_type_of y)) (subst (λ F. Infers es ns D F s t M A) (sym w.0) (subst (λ v. Infers es ns D r.inner v t M A) (sym w.1) i))
+
+  pub next_finished : {W : Written} {s t : State} (old new : List Waiting) (p : Waiting) (b : Begun) (n : Next) (d : Box Begun Global) (M : Term) (Y : OpenTy) →
+      n ≡ Nothing d → IsNext b n → old ≡ new ++ p ∷ [] → M ≡ operator_of (skeleton (open_type_of d.value.ty)) d.value.operator → Y ≡ d.value.ty → AllReached old W s (written_terms b.args.items) t b.operator (open_type_of b.ty) → Finished new p W s t M (open_type_of Y)
+  next_finished old new p b n d M Y e i q m y r = finished old new p [] M (open_type_of Y) q refl m (ap open_type_of y) (nothing_left b n d e i r)
+
+  -- the same, between the values of the program
+  abbrev pub RowsOf : Vec Waiting Global → Box Begun Global → Elaboration → Elaboration → Written → Type 0
+  RowsOf waiting begun start now W = AllReached waiting.items W (made start) (written_terms begun.value.args.items) (made now) begun.value.operator (open_type_of begun.value.ty) × Keeps start now
+
+  pub rows_stay : (v w : Vec Waiting Global) (b d : Box Begun Global) (start s t : Elaboration) (W : Written) → s ≡ t → v ≡ w → b ≡ d → RowsOf w d start t W → RowsOf v b start s W
   rows_stay v w b d start s t W e f g r = subst (λ x. RowsOf v b start x W) (sym e) (subst (λ x. RowsOf x b start t W) (sym f) (subst (λ x. RowsOf w x start t W) (sym g) r))
 
   module _ {ps : List Waiting} {p : Waiting} {W P : Written} {s t : State} (k : Asks ps p W s P t) where

@@ -1,6 +1,6 @@
 -- What is applied to arguments.
 use Rattle.std.specs.Borrow.{Bor}
-use Rattle.std.specs.Prelude.{◌≡◌, List, [], ◌∷◌, map}
+use Rattle.std.specs.Prelude.{◌≡◌, List, [], ◌∷◌, ◌++◌, map}
 use Rattle.lf.specs.Deep.{DeepSubstitution}
 use Rattle.lf.specs.Depth.{depth_limit}
 use Rattle.lf.specs.Eta.{eta_expand}
@@ -8,9 +8,12 @@ use Rattle.lf.specs.SkeletonTyping.{HeadSkeletons, TermSkeleton}
 use Rattle.lf.specs.Substitution.{reduce, single, substitute}
 use Rattle.lf.specs.Syntax as lf
 use Rattle.lf_elaboration.specs.Written as theory
-use Rattle.tw_terms.specs.OpenView.{open_head_of, open_spine_of, open_term_of}
+use Rattle.tw_terms.specs.OpenView.{open_head_of, open_spine_of, open_term_of, open_type_of}
 use Rattle.tw_written.specs.View.{written_of}
 use Rattle.tw_written.specs.declared.written.Written.{Written}
+use Rattle.tw_elaborate.specs.declared.operators.Begun.{Begun}
+use Rattle.tw_elaborate.specs.declared.operators.Next.{Next}
+use Rattle.tw_elaborate.specs.declared.operators.Next.TheVariants.{Argument, Nothing}
 use Rattle.tw_elaborate.specs.declared.operators.Operator.{Operator}
 use Rattle.tw_elaborate.specs.declared.operators.Operator.TheVariants.{Head, Term}
 
@@ -50,3 +53,8 @@ applied_to F (P ∷ Ps) = theory.applied (applied_to F Ps) P
 
 abbrev pub written_terms : List (Bor Written) → List theory.Written
 written_terms xs = map (λ x. written_of x.now) xs
+
+-- a row that is begun takes its next argument, or has all
+abbrev pub IsNext : Begun → Next → Type 0
+IsNext b (Argument P p) = (b.args.items ≡ p.value.args.items ++ P ∷ []) × (p.value.operator ≡ b.operator) × (open_type_of b.ty ≡ lf.pi (open_type_of p.value.domain) (open_type_of p.value.range))
+IsNext b (Nothing d) = (b.args.items ≡ []) × (d.value.operator ≡ b.operator) × (d.value.ty ≡ b.ty)

@@ -162,6 +162,7 @@ pub fn new_type(
 }
 
 /// A family on new metavariables.
+#[inline(never)]
 fn new_atom(
     alloc: Global,
     signature: &Signature,

@@ -1,12 +1,12 @@
 //! What is applied, and arguments that are put to it.
-ghost use Rattle.std.specs.Prelude.{◌≡◌, ℕ, [], ◌∷◌, ◌++◌, IfOk, IsErrOf, IsTrue, OnOk};
+ghost use Rattle.std.specs.Prelude.{◌≡◌, ℕ, [], ◌∷◌, ◌++◌, IfOk, IsErrOf, IsTrue, MatchOption, OnOk};
 ghost use Rattle.lf.specs.Syntax.{Term as LfTerm, arrow, lambda, pi, skeleton};
 ghost use Rattle.lf.specs.Substitution.{Image, reduce, single, substitute_type};
 ghost use Rattle.lf.specs.Typing.{instantiate_type};
 ghost use Rattle.tw_hered.specs.Fits.{TermFits, TypeFits};
 ghost use Rattle.tw_terms.specs.OpenView.{open_term_of, open_type_of};
 ghost use Rattle.tw_written.specs.View.{written_of};
-ghost use Rattle.tw_elaborate.specs.Operators.{Applies, IsTerm, PutsIn, PutsInDeep, applied_to, operator_of, written_terms};
+ghost use Rattle.tw_elaborate.specs.Operators.{Applies, IsNext, IsTerm, PutsIn, PutsInDeep, applied_to, operator_of, written_terms};
 
 use std::alloc::{AllocError, Global};
 use tw_hered::HeredFault;
@@ -44,9 +44,45 @@ pub struct Waiting<'a> {
     pub args: Vec<&'a Written>,
 }
 
-/// A row whose next argument was taken off waits for it. What isn't of a function type takes none, and memory counts as used up.
+/// What a row that is begun is to do next.
+#[derive(Drop)]
+pub enum Next<'a> {
+    /// It waits for this argument.
+    Argument(&'a Written, Box<Waiting<'a>>),
+    /// All its arguments are there.
+    Nothing(Box<Begun<'a>>),
+}
+
+/// A row as far as it is elaborated.
 #[inline(never)]
-pub fn wait<'a>(begun: Begun<'a>) -> Result<Waiting<'a>, AllocError>
+pub fn begun_with<'a>(
+    alloc: Global,
+    operator: Operator,
+    ty: OpenTy,
+    args: Vec<&'a Written>,
+) -> Result<Box<Begun<'a>>, AllocError>
+    ensures { IfOk result (λ r. (r.value.operator ≡ operator) × (r.value.ty ≡ ty) × (r.value.args ≡ args.entry)) }
+{
+    Ok(Box::new(alloc, Begun { operator, ty, args })?)
+}
+
+/// What the row is to do next.
+#[inline(never)]
+pub fn advance<'a>(alloc: Global, begun: Box<Begun<'a>>) -> Result<Next<'a>, AllocError>
+    ensures { IfOk result (IsNext begun.entry.value) }
+{
+    let mut begun = Box::into_inner(begun);
+    match begun.args.pop() {
+        Some(arg) => {
+            let row = wait(begun)?;
+            Ok(Next::Argument(arg, Box::new(alloc, row)?))
+        }
+        None => Ok(Next::Nothing(Box::new(alloc, begun)?)),
+    }
+}
+
+/// A row whose next argument was taken off waits for it. What isn't of a function type takes none, and memory counts as used up.
+fn wait<'a>(begun: Begun<'a>) -> Result<Waiting<'a>, AllocError>
     ensures { IfOk result (λ w. (w.operator ≡ begun.entry.operator) × (open_type_of begun.entry.ty ≡ pi (open_type_of w.domain) (open_type_of w.range)) × (w.args ≡ begun.entry.args)) }
 {
     let (domain, range) = product(begun.ty)?;
@@ -60,42 +96,62 @@ pub fn wait<'a>(begun: Begun<'a>) -> Result<Waiting<'a>, AllocError>
 
 /// One row more waits, for the next one.
 #[inline(never)]
-pub fn push_waiting<'a>(waiting: &mut Vec<Waiting<'a>>, row: Waiting<'a>) -> Result<(), AllocError>
-    ensures { OnOk result (waiting.new.items ≡ waiting.old.items ++ (row.entry ∷ [])) }
+pub fn push_waiting<'a>(
+    waiting: &mut Vec<Waiting<'a>>,
+    row: Box<Waiting<'a>>,
+) -> Result<(), AllocError>
+    ensures { OnOk result (waiting.new.items ≡ waiting.old.items ++ (row.entry.value ∷ [])) }
 {
     if waiting.len() >= WAITING {
         return Err(AllocError);
     }
-    waiting.push(row)?;
+    waiting.push(Box::into_inner(row))?;
     Ok(())
+}
+
+/// The row that waits for the last one, which is taken off, if one waits.
+#[inline(never)]
+pub fn pop_waiting<'a>(
+    alloc: Global,
+    waiting: &mut Vec<Waiting<'a>>,
+) -> Result<Option<Box<Waiting<'a>>>, AllocError>
+    ensures { IfOk result (λ r. MatchOption r (waiting.old.items ≡ []) (λ w. waiting.old.items ≡ waiting.new.items ++ (w.value ∷ []))) }
+{
+    match waiting.pop() {
+        Some(row) => Ok(Some(Box::new(alloc, row)?)),
+        None => Ok(None),
+    }
 }
 
 /// The term and the type of a row whose arguments are all elaborated. Fails only for want of memory.
 #[inline(never)]
-pub fn finish<'a>(alloc: Global, begun: Begun<'a>) -> Result<(Open, OpenTy), AllocError>
-    ensures { IfOk result (λ p. (open_term_of p.0 ≡ operator_of (skeleton (open_type_of begun.entry.ty)) begun.entry.operator) × (p.1 ≡ begun.entry.ty)) }
+pub fn finish<'a>(alloc: Global, begun: Box<Begun<'a>>) -> Result<(Open, OpenTy), AllocError>
+    ensures { IfOk result (λ p. (open_term_of p.0 ≡ operator_of (skeleton (open_type_of begun.entry.value.ty)) begun.entry.value.operator) × (p.1 ≡ begun.entry.value.ty)) }
 {
+    let begun = Box::into_inner(begun);
     let ty = begun.ty;
     Ok((whole(alloc, begun.operator, &ty)?, ty))
 }
 
 /// The row with the argument that it waits for.
 #[inline(never)]
-pub fn resume<'a>(alloc: Global, row: Waiting<'a>, arg: Open) -> Result<Begun<'a>, HeredFault>
-    requires applies { Applies (skeleton (open_type_of row.domain)) (skeleton (open_type_of row.range)) (operator_of (arrow (skeleton (open_type_of row.domain)) (skeleton (open_type_of row.range))) row.operator) (open_term_of arg) }
-    requires range { TypeFits (single (skeleton (open_type_of row.domain)) (open_term_of arg)) (open_type_of row.range) }
-    ensures ok { IfOk result (λ r. let a = skeleton (open_type_of row.entry.domain) in let b = skeleton (open_type_of row.entry.range) in PutsIn a (operator_of (arrow a b) row.entry.operator) (open_term_of arg) (operator_of b r.operator) × (open_type_of r.ty ≡ instantiate_type (open_type_of row.entry.domain) (open_term_of arg) (open_type_of row.entry.range)) × (r.args ≡ row.entry.args)) }
-    ensures stays { IfOk result (λ r. IsTerm r.operator → IsTerm row.entry.operator) }
-    ensures too_deep { IsErrOf result HeredFault.TooDeep → let a = skeleton (open_type_of row.entry.domain) in PutsInDeep a (operator_of (arrow a (skeleton (open_type_of row.entry.range))) row.entry.operator) (open_term_of arg) }
-    ensures in_term { IsErrOf result HeredFault.TooDeep → IsTerm row.entry.operator }
+pub fn resume<'a>(
+    alloc: Global,
+    row: Box<Waiting<'a>>,
+    arg: Open,
+) -> Result<Box<Begun<'a>>, HeredFault>
+    requires applies { Applies (skeleton (open_type_of row.value.domain)) (skeleton (open_type_of row.value.range)) (operator_of (arrow (skeleton (open_type_of row.value.domain)) (skeleton (open_type_of row.value.range))) row.value.operator) (open_term_of arg) }
+    requires range { TypeFits (single (skeleton (open_type_of row.value.domain)) (open_term_of arg)) (open_type_of row.value.range) }
+    ensures ok { IfOk result (λ r. let a = skeleton (open_type_of row.entry.value.domain) in let b = skeleton (open_type_of row.entry.value.range) in PutsIn a (operator_of (arrow a b) row.entry.value.operator) (open_term_of arg) (operator_of b r.value.operator) × (open_type_of r.value.ty ≡ instantiate_type (open_type_of row.entry.value.domain) (open_term_of arg) (open_type_of row.entry.value.range)) × (r.value.args ≡ row.entry.value.args)) }
+    ensures stays { IfOk result (λ r. IsTerm r.value.operator → IsTerm row.entry.value.operator) }
+    ensures too_deep { IsErrOf result HeredFault.TooDeep → let a = skeleton (open_type_of row.entry.value.domain) in PutsInDeep a (operator_of (arrow a (skeleton (open_type_of row.entry.value.range))) row.entry.value.operator) (open_term_of arg) }
+    ensures in_term { IsErrOf result HeredFault.TooDeep → IsTerm row.entry.value.operator }
 {
+    let row = Box::into_inner(row);
     let domain = row.domain;
     let (operator, ty) = put(alloc, row.operator, &domain, row.range, arg)?;
-    Ok(Begun {
-        operator,
-        ty,
-        args: row.args,
-    })
+    let args = row.args;
+    Ok(begun_with(alloc, operator, ty, args)?)
 }
 
 /// The term that the operator stands for at its type. Fails only for want of memory.

@@ -4,7 +4,7 @@ ghost use Rattle.lf.specs.Entries.{signature_of, IsCanonicalSignature};
 ghost use Rattle.lf.specs.Syntax.{skeleton as skeleton_of_type};
 ghost use Rattle.lf_elaboration.specs.Elaboration.{Checks, ElaboratesDomain, ElaboratesFamily, ElaboratesKind, ElaboratesType, Infers};
 ghost use Rattle.lf_elaboration.specs.Skeletons.{TypeHasSkeletons};
-ghost use Rattle.lf_elaboration.specs.Written.{function as function_of};
+ghost use Rattle.lf_elaboration.specs.Written.{function as function_of, quantified as quantified_of};
 ghost use Rattle.tw_terms.specs.OpenView.{open_spine_of, open_term_of, open_type_of};
 ghost use Rattle.tw_elaborate.specs.Comparing.{ChecksDomain};
 ghost use Rattle.tw_elaborate.specs.Deep.{ChecksDeep, DomainDeep, FamilyDeep, InfersDeep, IsReducible, KindDeep, TypeDeep};
@@ -20,7 +20,9 @@ use crate::equations::compare_types;
 use crate::fresh::new_type;
 use crate::heads::{bound, declared, free, named_family};
 use crate::holes::{checked_hole, term_hole};
-use crate::operators::{Begun, Operator, finish, push_waiting, resume, row, wait};
+use crate::operators::{
+    Begun, Next, Operator, advance, begun_with, finish, pop_waiting, push_waiting, resume, row,
+};
 use crate::parts::{
     arrows, compare_ascribed, family_application, function, kind_arrows, push_domain,
 };
@@ -115,36 +117,25 @@ fn infer_applied(
     let mut waiting = Vec::new(alloc);
     let mut begun = begin(alloc, signature, frees, state, written, frames)?;
     for _ in 0..u64::MAX {
-        match begun.args.pop() {
-            Some(arg) => {
-                let outer = wait(begun)?;
-                match arg {
-                    Written::Applied(_, _) => {
-                        push_waiting(&mut waiting, outer)?;
-                        begun = begin(alloc, signature, frees, state, arg, frames)?;
-                    }
-                    Written::Free(_, _)
-                    | Written::Bound(_)
-                    | Written::Declared(_, _)
-                    | Written::Hole(_, _)
-                    | Written::Function(_, _)
-                    | Written::Ascribed(_, _) => {
-                        let arg = check(
-                            alloc,
-                            signature,
-                            frees,
-                            state,
-                            arg,
-                            &outer.domain,
-                            frames,
-                        )?;
-                        begun = resume(alloc, outer, arg)?;
-                    }
+        match advance(alloc, begun)? {
+            Next::Argument(arg, outer) => match arg {
+                Written::Applied(_, _) => {
+                    push_waiting(&mut waiting, outer)?;
+                    begun = begin(alloc, signature, frees, state, arg, frames)?;
                 }
-            }
-            None => {
-                let (term, ty) = finish(alloc, begun)?;
-                match waiting.pop() {
+                Written::Free(_, _)
+                | Written::Bound(_)
+                | Written::Declared(_, _)
+                | Written::Hole(_, _)
+                | Written::Function(_, _)
+                | Written::Ascribed(_, _) => {
+                    let arg = check(alloc, signature, frees, state, arg, &outer.domain, frames)?;
+                    begun = resume(alloc, outer, arg)?;
+                }
+            },
+            Next::Nothing(whole) => {
+                let (term, ty) = finish(alloc, whole)?;
+                match pop_waiting(alloc, &mut waiting)? {
                     Some(outer) => {
                         compare_types(alloc, signature, state, &ty, &outer.domain)?;
                         begun = resume(alloc, outer, term)?;
@@ -167,16 +158,16 @@ fn begin<'a>(
     state: &mut Elaboration,
     written: &'a Written,
     frames: u32,
-) -> Result<Begun<'a>, HeredFault>
+) -> Result<Box<Begun<'a>>, HeredFault>
     requires canonical { IsCanonicalSignature signature.now }
     requires stands { Stands (signature_of signature.now) (made state.old) state.old.locals }
-    ensures ok { IfOk result (λ r. Reached signature.now (numbers_of frees.now) state.old.locals (written_of written.now) (made state.old) (written_terms r.args.items) (made state.new) r.operator (open_type_of r.ty)) }
+    ensures ok { IfOk result (λ r. Reached signature.now (numbers_of frees.now) state.old.locals (written_of written.now) (made state.old) (written_terms r.value.args.items) (made state.new) r.value.operator (open_type_of r.value.ty)) }
     ensures too_deep { IsErrOf result HeredFault.TooDeep → InfersDeep signature.now (numbers_of frees.now) state.old.locals (written_of written.now) (made state.old) }
     ensures keeps { Keeps state.old state.new }
 {
     let (head, args) = row(alloc, written)?;
     let (operator, ty) = elaborate_operator(alloc, signature, frees, state, head, frames)?;
-    Ok(Begun { operator, ty, args })
+    Ok(begun_with(alloc, operator, ty, args)?)
 }
 
 /// What stands before arguments, and its type. A row itself stands before none, and memory counts as used up.
@@ -322,13 +313,9 @@ pub fn elaborate_type(
         WrittenType::Arrow(_, _) => elaborate_arrows(
             alloc, signature, frees, state, written, frames,
         ),
-        WrittenType::Quantified(domain, range) => {
-            let domain = elaborate_domain(alloc, signature, frees, state, domain, frames)?;
-            state.locals.push(domain.copy(alloc)?)?;
-            let range = elaborate_type(alloc, signature, frees, state, range, frames);
-            state.locals.pop();
-            Ok(pi(alloc, domain, range?)?)
-        }
+        WrittenType::Quantified(domain, range) => elaborate_quantified(
+            alloc, signature, frees, state, domain, range, frames,
+        ),
         WrittenType::Ascribed(ty, kind) => match &**kind {
             WrittenKind::Star => elaborate_type(alloc, signature, frees, state, ty, frames),
             WrittenKind::Arrow(_, _) | WrittenKind::Quantified(_, _) => Err(HeredFault::NoMemory),
@@ -343,6 +330,31 @@ pub fn elaborate_type(
             }
         }
     }
+}
+
+/// A product, whose variable is in scope in its range.
+#[cycle(elaborate)]
+#[inline(never)]
+fn elaborate_quantified(
+    alloc: Global,
+    signature: &Signature,
+    frees: &[MetaId],
+    state: &mut Elaboration,
+    domain: &WrittenDomain,
+    range: &WrittenType,
+    frames: u32,
+) -> Result<OpenTy, HeredFault>
+    requires canonical { IsCanonicalSignature signature.now }
+    requires stands { Stands (signature_of signature.now) (made state.old) state.old.locals }
+    ensures ok { IfOk result (λ a. ElaboratesType signature.now (numbers_of frees.now) state.old.locals (quantified_of (written_domain_of domain.now) (written_type_of range.now)) (made state.old) (made state.new) (open_type_of a)) }
+    ensures too_deep { IsErrOf result HeredFault.TooDeep → TypeDeep signature.now (numbers_of frees.now) state.old.locals (quantified_of (written_domain_of domain.now) (written_type_of range.now)) (made state.old) }
+    ensures keeps { Keeps state.old state.new }
+{
+    let domain = elaborate_domain(alloc, signature, frees, state, domain, frames)?;
+    state.locals.push(domain.copy(alloc)?)?;
+    let range = elaborate_type(alloc, signature, frees, state, range, frames);
+    state.locals.pop();
+    Ok(pi(alloc, domain, range?)?)
 }
 
 /// A chain of arrows, none or more, and the type at its end.

@@ -11,7 +11,7 @@ use Rattle.tw_terms.specs.OpenView.{open_spine_of, open_term_of, open_type_of}
 use Rattle.tw_terms.proofs.OpenViews.{open_type_of-Atom, open_type_of-Pi}
 use Rattle.tw_written.specs.View.{place_of, written_domain_of, written_kind_of, written_of, written_type_of}
 use Rattle.tw_written.proofs.Views.{written_domain_of-OfSkeleton, written_domain_of-OfType, written_kind_of-Arrow, written_kind_of-Quantified, written_kind_of-Star, written_of-Ascribed, written_of-Bound, written_of-Declared, written_of-Free, written_of-Function, written_of-Hole, written_type_of-Applied, written_type_of-Arrow, written_type_of-Ascribed, written_type_of-Family, written_type_of-Hole, written_type_of-Quantified}
-use Rattle.tw_elaborate.specs.Comparing.{ChecksDomain}
+use Rattle.tw_elaborate.specs.Comparing.{ChecksDomain, ComparesTypes}
 use Rattle.tw_elaborate.specs.Deep.{ChecksDeep, DomainDeep, FamilyDeep, InfersDeep, IsReducible, KindDeep, TypeDeep, deep_applied_family, deep_ascribed, deep_ascribed_family, deep_ascription, deep_body, deep_domain, deep_family, deep_family_kind, deep_index, deep_inferred, deep_quantified_domain, deep_quantified_kind_domain, deep_quantified_kind_range, deep_quantified_range, deep_type_ascribed, deep_written_domain}
 use Rattle.tw_hered.specs.Fits.{KindFits}
 use Rattle.tw_elaborate.specs.Operators.{operator_of, written_terms}
@@ -19,15 +19,16 @@ use Rattle.tw_elaborate.specs.Rows.{Reached}
 use Rattle.tw_open.specs.View.{open_kind_of}
 use Rattle.tw_elaborate.specs.View.{made, numbers_of}
 use Rattle.tw_hered.specs.declared.fault.HeredFault.TheVariants.{TooDeep}
+use Rattle.tw_elaborate.specs.declared.operators.Waiting.{Waiting}
 use Rattle.tw_open.specs.declared.kinds.OpenKind.{Star as OpenKind-Star}
 use Rattle.tw_elaborate.proofs.Answering.{body_deep, domain_checked, domain_compared, domain_deep, family_compared, family_elaborated, family_on_argument, fault_of_call, function_checked, function_inferred, inferred_checked, is_inferred, is_reducible, kind_quantified_elaborated, quantified_elaborated}
 use Rattle.tw_elaborate.proofs.Arrows.{domain_too_deep, kind_domain_too_deep, no_domains, no_kind_domains, one_more_domain, one_more_kind_domain}
 use Rattle.tw_elaborate.proofs.Following.{domain_found, domain_under, family_found, family_stands, in_scope, inferred_type, keeps_under, kind_range_fits, kind_stands, type_found, type_stands, under_stands}
-use Rattle.tw_elaborate.proofs.Rows.{asked_applies, asked_deep, asked_domain, asked_put_deep, asked_range_fits, asked_stands, asks_next, deep_row, finished, none_left, resumed, row_asked, rows_stay}
+use Rattle.tw_elaborate.proofs.Rows.{asked_applies, asked_deep, asked_domain, asked_put_deep, asked_range_fits, asked_stands, deep_row, all_found, next_asks, next_finished, none_popped, nothing_left, popped, resumed, row_asked, rows_stay}
 use Rattle.tw_elaborate.proofs.Taking.{keeps_same, keeps_then}
 use Rattle.tw_open.proofs.Views.{open_kind_of-Pi, open_kind_of-Star}
 use Rattle.tw_elaborate.proofs.terms.+elaborate.Goals as goal
-use Rattle.tw_elaborate.proofs.terms.+elaborate.Goals.{infer_applied-in-Some+in_ok-outer-in-Some+in-Applied+in_ok-push_waiting-in-Applied+in_ok-begun-in-Applied, infer_applied-in-Some+in_ok-outer-in-Some+in-Free+in_ok-arg-in-Free+in_ok-begun-in-Free, infer_applied-in-None+in_ok-term-in-None+in-Some-pop+in_ok-compare_types-in-Some-pop+in_ok-begun-in-Some-pop+in-Pi-1, infer_applied-in-None+in_ok-term-in-None+in-Some-pop+in_ok-compare_types-in-Some-pop+in_ok-begun-in-Some-pop+in-Atom-1}
+use Rattle.tw_elaborate.proofs.terms.+elaborate.Goals.{infer_applied-in-Argument+in-Applied+in_ok-push_waiting-in-Applied+in_ok-begun-in-Applied, infer_applied-in-Argument+in-Free+in_ok-arg-in-Free+in_ok-begun-in-Free, infer_applied-in-Nothing+in_ok-term-in-Nothing+in_ok-outer-in-Nothing+in-Some+in_ok-compare_types-in-Some+in_ok-begun-in-Some+in-Pi-1, infer_applied-in-Nothing+in_ok-term-in-Nothing+in_ok-outer-in-Nothing+in-Some+in_ok-compare_types-in-Some+in_ok-begun-in-Some+in-Atom-1}
 
 pub infer-returns-in_err-frames-clause-keeps : goal.infer-returns-in_err-frames-clause-keeps
 infer-returns-in_err-frames-clause-keeps t c = keeps_same c.args.state.now
@@ -120,48 +121,55 @@ infer_function-returns-clause-ok t c =
 pub elaborate_type-returns-in_err-frames-clause-keeps : goal.elaborate_type-returns-in_err-frames-clause-keeps
 elaborate_type-returns-in_err-frames-clause-keeps t c = keeps_same c.args.state.now
 
-pub elaborate_type-returns-in_err-domain-in-Quantified-clause-too_deep : goal.elaborate_type-returns-in_err-domain-in-Quantified-clause-too_deep
-elaborate_type-returns-in_err-domain-in-Quantified-clause-too_deep t c = λ is.
-    let v = ap written_type_of c.in-Quantified.is ∙ written_type_of-Quantified c.in-Quantified.domain c.in-Quantified.range in
-    subst (λ W. TypeDeep c.args.signature.now (numbers_of c.args.frees.now) c.args.state.now.locals W (made c.args.state.now)) (sym v) (deep_quantified_domain (c.in_err-domain-in-Quantified.ensures.too_deep (fault_of_call c.from_residual-in_err-domain-in-Quantified.result c.in_err-domain-in-Quantified.field-0.0 TooDeep (search rules) is)))
+pub elaborate_type-returns-in-Quantified-clause-ok : goal.elaborate_type-returns-in-Quantified-clause-ok
+elaborate_type-returns-in-Quantified-clause-ok t c =
+    let v = ap written_type_of c.in-Quantified.is ∙ written_type_of-Quantified c.in-Quantified.domain c.in-Quantified.range ∙ ap (quantified (written_domain_of c.in-Quantified.domain)) (ap written_type_of (sym c.deref.ensures)) in
+    subst (λ W. IfOk c.elaborate_quantified.result (λ a. ElaboratesType c.args.signature.now (numbers_of c.args.frees.now) c.args.state.now.locals W (made c.args.state.now) (made c.elaborate_quantified.new.state) (open_type_of a))) (sym v) c.elaborate_quantified.ensures.ok
 
-pub elaborate_type-elaborate_type-range-requires : goal.elaborate_type-elaborate_type-range-requires
-elaborate_type-elaborate_type-range-requires t c =
+pub elaborate_type-returns-in-Quantified-clause-too_deep : goal.elaborate_type-returns-in-Quantified-clause-too_deep
+elaborate_type-returns-in-Quantified-clause-too_deep t c = λ is.
+    let v = ap written_type_of c.in-Quantified.is ∙ written_type_of-Quantified c.in-Quantified.domain c.in-Quantified.range ∙ ap (quantified (written_domain_of c.in-Quantified.domain)) (ap written_type_of (sym c.deref.ensures)) in
+    subst (λ W. TypeDeep c.args.signature.now (numbers_of c.args.frees.now) c.args.state.now.locals W (made c.args.state.now)) (sym v) (c.elaborate_quantified.ensures.too_deep is)
+
+pub elaborate_quantified-returns-in_err-domain-clause-too_deep : goal.elaborate_quantified-returns-in_err-domain-clause-too_deep
+elaborate_quantified-returns-in_err-domain-clause-too_deep t c = λ is.
+    deep_quantified_domain (c.in_err-domain.ensures.too_deep (fault_of_call c.from_residual.result c.in_err-domain.field-0.0 TooDeep (search rules) is))
+
+pub elaborate_quantified-elaborate_type-range-requires : goal.elaborate_quantified-elaborate_type-range-requires
+elaborate_quantified-elaborate_type-range-requires t c =
     let l = c.elaborate_domain.ensures.keeps.locals in
-    let i = c.in_ok-domain-in-Quantified.ensures.ok in
-    let e : c.push.new.self ≡ (open_type_of c.in_ok-domain-in-Quantified.domain) ∷ c.args.state.now.locals = in_scope c.args.state.now.locals c.push.new.self c.elaborate_domain.new.state.locals (open_type_of c.in_ok-domain-in-Quantified.domain) (open_type_of c.in_ok-copy-in-Quantified.field-0) c.in_ok-push-in-Quantified.ensures.ok c.in_ok-copy-in-Quantified.ensures l in
+    let i = c.in_ok-domain.ensures.ok in
+    let e : c.push.new.self ≡ (open_type_of c.in_ok-domain.domain) ∷ c.args.state.now.locals = in_scope c.args.state.now.locals c.push.new.self c.elaborate_domain.new.state.locals (open_type_of c.in_ok-domain.domain) (open_type_of c.in_ok-copy.field-0) c.in_ok-push.ensures.ok c.in_ok-copy.ensures l in
     (omega arith, (c.requires.canonical, domain_under c.args.signature.now c.requires.canonical (numbers_of c.args.frees.now) c.requires.stands i c.push.new.self e))
 
-pub elaborate_type-returns-in_err-range-in-Quantified-clause-too_deep : goal.elaborate_type-returns-in_err-range-in-Quantified-clause-too_deep
-elaborate_type-returns-in_err-range-in-Quantified-clause-too_deep t c = λ is.
-    let v = ap written_type_of c.in-Quantified.is ∙ written_type_of-Quantified c.in-Quantified.domain c.in-Quantified.range ∙ ap (quantified (written_domain_of c.in-Quantified.domain)) (ap written_type_of (sym c.deref.ensures)) in
+pub elaborate_quantified-returns-in_err-range-clause-too_deep : goal.elaborate_quantified-returns-in_err-range-clause-too_deep
+elaborate_quantified-returns-in_err-range-clause-too_deep t c = λ is.
     let l = c.elaborate_domain.ensures.keeps.locals in
-    let i = c.in_ok-domain-in-Quantified.ensures.ok in
-    let e : c.push.new.self ≡ (open_type_of c.in_ok-domain-in-Quantified.domain) ∷ c.args.state.now.locals = in_scope c.args.state.now.locals c.push.new.self c.elaborate_domain.new.state.locals (open_type_of c.in_ok-domain-in-Quantified.domain) (open_type_of c.in_ok-copy-in-Quantified.field-0) c.in_ok-push-in-Quantified.ensures.ok c.in_ok-copy-in-Quantified.ensures l in
-    subst (λ W. TypeDeep c.args.signature.now (numbers_of c.args.frees.now) c.args.state.now.locals W (made c.args.state.now)) (sym v) (deep_quantified_range i (subst (λ F. TypeDeep c.args.signature.now (numbers_of c.args.frees.now) F (written_type_of c.deref.result.now) (made c.elaborate_domain.new.state)) e (c.in_err-range-in-Quantified.ensures.too_deep (fault_of_call c.from_residual-in_err-range-in-Quantified.result c.in_err-range-in-Quantified.field-0.0 TooDeep (search rules) is))))
+    let i = c.in_ok-domain.ensures.ok in
+    let e : c.push.new.self ≡ (open_type_of c.in_ok-domain.domain) ∷ c.args.state.now.locals = in_scope c.args.state.now.locals c.push.new.self c.elaborate_domain.new.state.locals (open_type_of c.in_ok-domain.domain) (open_type_of c.in_ok-copy.field-0) c.in_ok-push.ensures.ok c.in_ok-copy.ensures l in
+    deep_quantified_range i (subst (λ F. TypeDeep c.args.signature.now (numbers_of c.args.frees.now) F (written_type_of c.args.range.now) (made c.elaborate_domain.new.state)) e (c.in_err-range.ensures.too_deep (fault_of_call c.from_residual-in_err-range.result c.in_err-range.field-0.0 TooDeep (search rules) is)))
 
-pub elaborate_type-returns-in_err-range-in-Quantified-clause-keeps : goal.elaborate_type-returns-in_err-range-in-Quantified-clause-keeps
-elaborate_type-returns-in_err-range-in-Quantified-clause-keeps t c =
-    let p : c.push.new.self ≡ (open_type_of c.in_ok-domain-in-Quantified.domain) ∷ c.elaborate_domain.new.state.locals = in_scope c.elaborate_domain.new.state.locals c.push.new.self c.elaborate_domain.new.state.locals (open_type_of c.in_ok-domain-in-Quantified.domain) (open_type_of c.in_ok-copy-in-Quantified.field-0) c.in_ok-push-in-Quantified.ensures.ok c.in_ok-copy-in-Quantified.ensures refl in
-    keeps_under (open_type_of c.in_ok-domain-in-Quantified.domain) c.elaborate_domain.ensures.keeps p refl c.elaborate_type-range.ensures.keeps c.pop.ensures.rest refl
+pub elaborate_quantified-returns-in_err-range-clause-keeps : goal.elaborate_quantified-returns-in_err-range-clause-keeps
+elaborate_quantified-returns-in_err-range-clause-keeps t c =
+    let p : c.push.new.self ≡ (open_type_of c.in_ok-domain.domain) ∷ c.elaborate_domain.new.state.locals = in_scope c.elaborate_domain.new.state.locals c.push.new.self c.elaborate_domain.new.state.locals (open_type_of c.in_ok-domain.domain) (open_type_of c.in_ok-copy.field-0) c.in_ok-push.ensures.ok c.in_ok-copy.ensures refl in
+    keeps_under (open_type_of c.in_ok-domain.domain) c.elaborate_domain.ensures.keeps p refl c.elaborate_type-range.ensures.keeps c.pop.ensures.rest refl
 
-pub elaborate_type-returns-in_err-pi-in-Quantified-clause-keeps : goal.elaborate_type-returns-in_err-pi-in-Quantified-clause-keeps
-elaborate_type-returns-in_err-pi-in-Quantified-clause-keeps t c =
-    let p : c.push.new.self ≡ (open_type_of c.in_ok-domain-in-Quantified.domain) ∷ c.elaborate_domain.new.state.locals = in_scope c.elaborate_domain.new.state.locals c.push.new.self c.elaborate_domain.new.state.locals (open_type_of c.in_ok-domain-in-Quantified.domain) (open_type_of c.in_ok-copy-in-Quantified.field-0) c.in_ok-push-in-Quantified.ensures.ok c.in_ok-copy-in-Quantified.ensures refl in
-    keeps_under (open_type_of c.in_ok-domain-in-Quantified.domain) c.elaborate_domain.ensures.keeps p refl c.elaborate_type-range.ensures.keeps c.pop.ensures.rest refl
+pub elaborate_quantified-returns-in_err-pi-clause-keeps : goal.elaborate_quantified-returns-in_err-pi-clause-keeps
+elaborate_quantified-returns-in_err-pi-clause-keeps t c =
+    let p : c.push.new.self ≡ (open_type_of c.in_ok-domain.domain) ∷ c.elaborate_domain.new.state.locals = in_scope c.elaborate_domain.new.state.locals c.push.new.self c.elaborate_domain.new.state.locals (open_type_of c.in_ok-domain.domain) (open_type_of c.in_ok-copy.field-0) c.in_ok-push.ensures.ok c.in_ok-copy.ensures refl in
+    keeps_under (open_type_of c.in_ok-domain.domain) c.elaborate_domain.ensures.keeps p refl c.elaborate_type-range.ensures.keeps c.pop.ensures.rest refl
 
-pub elaborate_type-returns-in_ok-pi-in-Quantified-clause-keeps : goal.elaborate_type-returns-in_ok-pi-in-Quantified-clause-keeps
-elaborate_type-returns-in_ok-pi-in-Quantified-clause-keeps t c =
-    let p : c.push.new.self ≡ (open_type_of c.in_ok-domain-in-Quantified.domain) ∷ c.elaborate_domain.new.state.locals = in_scope c.elaborate_domain.new.state.locals c.push.new.self c.elaborate_domain.new.state.locals (open_type_of c.in_ok-domain-in-Quantified.domain) (open_type_of c.in_ok-copy-in-Quantified.field-0) c.in_ok-push-in-Quantified.ensures.ok c.in_ok-copy-in-Quantified.ensures refl in
-    keeps_under (open_type_of c.in_ok-domain-in-Quantified.domain) c.elaborate_domain.ensures.keeps p refl c.elaborate_type-range.ensures.keeps c.pop.ensures.rest refl
+pub elaborate_quantified-returns-clause-keeps : goal.elaborate_quantified-returns-clause-keeps
+elaborate_quantified-returns-clause-keeps t c =
+    let p : c.push.new.self ≡ (open_type_of c.in_ok-domain.domain) ∷ c.elaborate_domain.new.state.locals = in_scope c.elaborate_domain.new.state.locals c.push.new.self c.elaborate_domain.new.state.locals (open_type_of c.in_ok-domain.domain) (open_type_of c.in_ok-copy.field-0) c.in_ok-push.ensures.ok c.in_ok-copy.ensures refl in
+    keeps_under (open_type_of c.in_ok-domain.domain) c.elaborate_domain.ensures.keeps p refl c.elaborate_type-range.ensures.keeps c.pop.ensures.rest refl
 
-pub elaborate_type-returns-in_ok-pi-in-Quantified-clause-ok : goal.elaborate_type-returns-in_ok-pi-in-Quantified-clause-ok
-elaborate_type-returns-in_ok-pi-in-Quantified-clause-ok t c =
-    let v = ap written_type_of c.in-Quantified.is ∙ written_type_of-Quantified c.in-Quantified.domain c.in-Quantified.range ∙ ap (quantified (written_domain_of c.in-Quantified.domain)) (ap written_type_of (sym c.deref.ensures)) in
+pub elaborate_quantified-returns-clause-ok : goal.elaborate_quantified-returns-clause-ok
+elaborate_quantified-returns-clause-ok t c =
     let l = c.elaborate_domain.ensures.keeps.locals in
-    let i = c.in_ok-domain-in-Quantified.ensures.ok in
-    let e : c.push.new.self ≡ (open_type_of c.in_ok-domain-in-Quantified.domain) ∷ c.args.state.now.locals = in_scope c.args.state.now.locals c.push.new.self c.elaborate_domain.new.state.locals (open_type_of c.in_ok-domain-in-Quantified.domain) (open_type_of c.in_ok-copy-in-Quantified.field-0) c.in_ok-push-in-Quantified.ensures.ok c.in_ok-copy-in-Quantified.ensures l in
-    subst (λ W. ElaboratesType c.args.signature.now (numbers_of c.args.frees.now) c.args.state.now.locals W (made c.args.state.now) (made c.elaborate_type-range.new.state) (open_type_of c.in_ok-pi-in-Quantified.field-0)) (sym v) (quantified_elaborated c.args.signature.now (numbers_of c.args.frees.now) c.args.state.now.locals c.push.new.self (written_domain_of c.in-Quantified.domain) (written_type_of c.deref.result.now) (made c.args.state.now) (made c.elaborate_domain.new.state) (made c.elaborate_type-range.new.state) (open_type_of c.in_ok-domain-in-Quantified.domain) (open_type_of c.in_ok-range-in-Quantified.field-0) _ e c.in_ok-pi-in-Quantified.ensures i c.in_ok-range-in-Quantified.ensures.ok)
+    let i = c.in_ok-domain.ensures.ok in
+    let e : c.push.new.self ≡ (open_type_of c.in_ok-domain.domain) ∷ c.args.state.now.locals = in_scope c.args.state.now.locals c.push.new.self c.elaborate_domain.new.state.locals (open_type_of c.in_ok-domain.domain) (open_type_of c.in_ok-copy.field-0) c.in_ok-push.ensures.ok c.in_ok-copy.ensures l in
+    quantified_elaborated c.args.signature.now (numbers_of c.args.frees.now) c.args.state.now.locals c.push.new.self (written_domain_of c.args.domain.now) (written_type_of c.args.range.now) (made c.args.state.now) (made c.elaborate_domain.new.state) (made c.elaborate_type-range.new.state) (open_type_of c.in_ok-domain.domain) (open_type_of c.in_ok-range.field-0) _ e c.in_ok-pi.ensures i c.in_ok-range.ensures.ok
 
 pub elaborate_type-returns-in_err-family-in-Family-clause-too_deep : goal.elaborate_type-returns-in_err-family-in-Family-clause-too_deep
 elaborate_type-returns-in_err-family-in-Family-clause-too_deep t c = λ is. deep_family (c.in_err-family-in-Family.ensures.too_deep (fault_of_call c.from_residual-in_err-family-in-Family.result c.in_err-family-in-Family.field-0.0 TooDeep (search rules) is))
@@ -537,9 +545,8 @@ infer_applied-begin-requires-in-Applied t c =
     let es = c.args.signature.now in
     let ns = numbers_of c.args.frees.now in
     let D = c.args.state.now.locals in
-    let p = c.in_ok-outer-in-Some.outer in
-    let e = c.in_ok-outer-in-Some.ensures in
-    let k = asks_next es ns D c.loop.begun.args.items c.pop.new.self c.in-Some.arg p c.loop.invariant.0 c.in-Some.ensures.items e.0 e.1 e.2 in
+    let p = c.in-Argument.outer.value in
+    let k = next_asks es ns D c.loop.begun.value c.in_ok-arg.field-0 c.in-Argument.arg c.in-Argument.outer c.in-Argument.is c.in_ok-arg.ensures c.loop.invariant.0 in
     let l = c.loop.invariant.1.locals in
     (omega arith, (c.requires.canonical, asked_stands es ns D k c.requires.canonical c.requires.stands c.loop.state.locals l))
 
@@ -548,12 +555,11 @@ infer_applied-returns-in_err-begun-in-Applied-clause-too_deep t c = λ is.
     let es = c.args.signature.now in
     let ns = numbers_of c.args.frees.now in
     let D = c.args.state.now.locals in
-    let p = c.in_ok-outer-in-Some.outer in
-    let e = c.in_ok-outer-in-Some.ensures in
-    let k = asks_next es ns D c.loop.begun.args.items c.pop.new.self c.in-Some.arg p c.loop.invariant.0 c.in-Some.ensures.items e.0 e.1 e.2 in
+    let p = c.in-Argument.outer.value in
+    let k = next_asks es ns D c.loop.begun.value c.in_ok-arg.field-0 c.in-Argument.arg c.in-Argument.outer c.in-Argument.is c.in_ok-arg.ensures c.loop.invariant.0 in
     let l = c.loop.invariant.1.locals in
-    let n = is_inferred c.in-Some.arg.now (inr (inr (inr (inl (c.in-Applied.field-0, c.in-Applied.field-1, c.in-Applied.is))))) in
-    let P = written_of c.in-Some.arg.now in
+    let n = is_inferred c.in-Argument.arg.now (inr (inr (inr (inl (c.in-Applied.field-0, c.in-Applied.field-1, c.in-Applied.is))))) in
+    let P = written_of c.in-Argument.arg.now in
     asked_deep es ns D k c.requires.canonical c.requires.stands (deep_inferred n (subst (λ F. InfersDeep es ns F P (made c.loop.state)) l (c.in_err-begun-in-Applied.ensures.too_deep (fault_of_call c.from_residual-in_err-begun-in-Applied.result c.in_err-begun-in-Applied.field-0.0 TooDeep (search rules) is))))
 
 pub infer_applied-returns-in_err-begun-in-Applied-clause-keeps : goal.infer_applied-returns-in_err-begun-in-Applied-clause-keeps
@@ -564,23 +570,21 @@ infer_applied-check-requires t c =
     let es = c.args.signature.now in
     let ns = numbers_of c.args.frees.now in
     let D = c.args.state.now.locals in
-    let p = c.in_ok-outer-in-Some.outer in
-    let e = c.in_ok-outer-in-Some.ensures in
-    let k = asks_next es ns D c.loop.begun.args.items c.pop.new.self c.in-Some.arg p c.loop.invariant.0 c.in-Some.ensures.items e.0 e.1 e.2 in
+    let p = c.in-Argument.outer.value in
+    let k = next_asks es ns D c.loop.begun.value c.in_ok-arg.field-0 c.in-Argument.arg c.in-Argument.outer c.in-Argument.is c.in_ok-arg.ensures c.loop.invariant.0 in
     let l = c.loop.invariant.1.locals in
-    (omega arith, (c.requires.canonical, (asked_stands es ns D k c.requires.canonical c.requires.stands c.loop.state.locals l, asked_domain es ns D k c.requires.canonical c.requires.stands c.loop.state.locals l)))
+    (omega arith, (c.requires.canonical, (asked_stands es ns D k c.requires.canonical c.requires.stands c.loop.state.locals l, subst (λ (q : Waiting). TypeHasSkeletons (signature_of es) (made c.loop.state) c.loop.state.locals (open_type_of q.domain)) (sym c.deref.ensures) (asked_domain es ns D k c.requires.canonical c.requires.stands c.loop.state.locals l))))
 
 pub infer_applied-returns-in_err-arg-in-Free-clause-too_deep : goal.infer_applied-returns-in_err-arg-in-Free-clause-too_deep
 infer_applied-returns-in_err-arg-in-Free-clause-too_deep t c = λ is.
     let es = c.args.signature.now in
     let ns = numbers_of c.args.frees.now in
     let D = c.args.state.now.locals in
-    let p = c.in_ok-outer-in-Some.outer in
-    let e = c.in_ok-outer-in-Some.ensures in
-    let k = asks_next es ns D c.loop.begun.args.items c.pop.new.self c.in-Some.arg p c.loop.invariant.0 c.in-Some.ensures.items e.0 e.1 e.2 in
+    let p = c.in-Argument.outer.value in
+    let k = next_asks es ns D c.loop.begun.value c.in_ok-arg.field-0 c.in-Argument.arg c.in-Argument.outer c.in-Argument.is c.in_ok-arg.ensures c.loop.invariant.0 in
     let l = c.loop.invariant.1.locals in
-    let P = written_of c.in-Some.arg.now in
-    asked_deep es ns D k c.requires.canonical c.requires.stands (subst (λ F. ChecksDeep es ns F P (open_type_of p.domain) (made c.loop.state)) l (c.in_err-arg-in-Free.ensures.too_deep (fault_of_call c.from_residual-in_err-arg-in-Free.result c.in_err-arg-in-Free.field-0.0 TooDeep (search rules) is)))
+    let P = written_of c.in-Argument.arg.now in
+    asked_deep es ns D k c.requires.canonical c.requires.stands (subst (λ (q : Waiting). ChecksDeep es ns D P (open_type_of q.domain) (made c.loop.state)) c.deref.ensures (subst (λ F. ChecksDeep es ns F P (open_type_of c.deref.result.now.domain) (made c.loop.state)) l (c.in_err-arg-in-Free.ensures.too_deep (fault_of_call c.from_residual-in_err-arg-in-Free.result c.in_err-arg-in-Free.field-0.0 TooDeep (search rules) is))))
 
 pub infer_applied-returns-in_err-arg-in-Free-clause-keeps : goal.infer_applied-returns-in_err-arg-in-Free-clause-keeps
 infer_applied-returns-in_err-arg-in-Free-clause-keeps t c = keeps_then c.args.state.now c.loop.state c.check.new.state c.loop.invariant.1 c.check.ensures.keeps
@@ -590,13 +594,12 @@ infer_applied-resume-requires-clause-applies t c =
     let es = c.args.signature.now in
     let ns = numbers_of c.args.frees.now in
     let D = c.args.state.now.locals in
-    let p = c.in_ok-outer-in-Some.outer in
-    let e = c.in_ok-outer-in-Some.ensures in
-    let k = asks_next es ns D c.loop.begun.args.items c.pop.new.self c.in-Some.arg p c.loop.invariant.0 c.in-Some.ensures.items e.0 e.1 e.2 in
+    let p = c.in-Argument.outer.value in
+    let k = next_asks es ns D c.loop.begun.value c.in_ok-arg.field-0 c.in-Argument.arg c.in-Argument.outer c.in-Argument.is c.in_ok-arg.ensures c.loop.invariant.0 in
     let l = c.loop.invariant.1.locals in
-    let P = written_of c.in-Some.arg.now in
+    let P = written_of c.in-Argument.arg.now in
     let X = open_type_of p.domain in
-    let i : Checks es ns D P X (made c.loop.state) (made c.check.new.state) (open_term_of c.in_ok-arg-in-Free.arg) = subst (λ F. Checks es ns F P X (made c.loop.state) (made c.check.new.state) (open_term_of c.in_ok-arg-in-Free.arg)) l c.in_ok-arg-in-Free.ensures.ok in
+    let i : Checks es ns D P X (made c.loop.state) (made c.check.new.state) (open_term_of c.in_ok-arg-in-Free.arg) = subst (λ (q : Waiting). Checks es ns D P (open_type_of q.domain) (made c.loop.state) (made c.check.new.state) (open_term_of c.in_ok-arg-in-Free.arg)) c.deref.ensures (subst (λ F. Checks es ns F P (open_type_of c.deref.result.now.domain) (made c.loop.state) (made c.check.new.state) (open_term_of c.in_ok-arg-in-Free.arg)) l c.in_ok-arg-in-Free.ensures.ok) in
     asked_applies es ns D k c.requires.canonical c.requires.stands i
 
 pub infer_applied-resume-requires-clause-range : goal.infer_applied-resume-requires-clause-range
@@ -604,13 +607,12 @@ infer_applied-resume-requires-clause-range t c =
     let es = c.args.signature.now in
     let ns = numbers_of c.args.frees.now in
     let D = c.args.state.now.locals in
-    let p = c.in_ok-outer-in-Some.outer in
-    let e = c.in_ok-outer-in-Some.ensures in
-    let k = asks_next es ns D c.loop.begun.args.items c.pop.new.self c.in-Some.arg p c.loop.invariant.0 c.in-Some.ensures.items e.0 e.1 e.2 in
+    let p = c.in-Argument.outer.value in
+    let k = next_asks es ns D c.loop.begun.value c.in_ok-arg.field-0 c.in-Argument.arg c.in-Argument.outer c.in-Argument.is c.in_ok-arg.ensures c.loop.invariant.0 in
     let l = c.loop.invariant.1.locals in
-    let P = written_of c.in-Some.arg.now in
+    let P = written_of c.in-Argument.arg.now in
     let X = open_type_of p.domain in
-    let i : Checks es ns D P X (made c.loop.state) (made c.check.new.state) (open_term_of c.in_ok-arg-in-Free.arg) = subst (λ F. Checks es ns F P X (made c.loop.state) (made c.check.new.state) (open_term_of c.in_ok-arg-in-Free.arg)) l c.in_ok-arg-in-Free.ensures.ok in
+    let i : Checks es ns D P X (made c.loop.state) (made c.check.new.state) (open_term_of c.in_ok-arg-in-Free.arg) = subst (λ (q : Waiting). Checks es ns D P (open_type_of q.domain) (made c.loop.state) (made c.check.new.state) (open_term_of c.in_ok-arg-in-Free.arg)) c.deref.ensures (subst (λ F. Checks es ns F P (open_type_of c.deref.result.now.domain) (made c.loop.state) (made c.check.new.state) (open_term_of c.in_ok-arg-in-Free.arg)) l c.in_ok-arg-in-Free.ensures.ok) in
     asked_range_fits es ns D k c.requires.canonical c.requires.stands i
 
 pub infer_applied-returns-in_err-begun-in-Free-clause-too_deep : goal.infer_applied-returns-in_err-begun-in-Free-clause-too_deep
@@ -618,13 +620,12 @@ infer_applied-returns-in_err-begun-in-Free-clause-too_deep t c = λ is.
     let es = c.args.signature.now in
     let ns = numbers_of c.args.frees.now in
     let D = c.args.state.now.locals in
-    let p = c.in_ok-outer-in-Some.outer in
-    let e = c.in_ok-outer-in-Some.ensures in
-    let k = asks_next es ns D c.loop.begun.args.items c.pop.new.self c.in-Some.arg p c.loop.invariant.0 c.in-Some.ensures.items e.0 e.1 e.2 in
+    let p = c.in-Argument.outer.value in
+    let k = next_asks es ns D c.loop.begun.value c.in_ok-arg.field-0 c.in-Argument.arg c.in-Argument.outer c.in-Argument.is c.in_ok-arg.ensures c.loop.invariant.0 in
     let l = c.loop.invariant.1.locals in
-    let P = written_of c.in-Some.arg.now in
+    let P = written_of c.in-Argument.arg.now in
     let X = open_type_of p.domain in
-    let i : Checks es ns D P X (made c.loop.state) (made c.check.new.state) (open_term_of c.in_ok-arg-in-Free.arg) = subst (λ F. Checks es ns F P X (made c.loop.state) (made c.check.new.state) (open_term_of c.in_ok-arg-in-Free.arg)) l c.in_ok-arg-in-Free.ensures.ok in
+    let i : Checks es ns D P X (made c.loop.state) (made c.check.new.state) (open_term_of c.in_ok-arg-in-Free.arg) = subst (λ (q : Waiting). Checks es ns D P (open_type_of q.domain) (made c.loop.state) (made c.check.new.state) (open_term_of c.in_ok-arg-in-Free.arg)) c.deref.ensures (subst (λ F. Checks es ns F P (open_type_of c.deref.result.now.domain) (made c.loop.state) (made c.check.new.state) (open_term_of c.in_ok-arg-in-Free.arg)) l c.in_ok-arg-in-Free.ensures.ok) in
     asked_put_deep es ns D k c.requires.canonical c.requires.stands i (c.in_err-begun-in-Free.ensures.too_deep (fault_of_call c.from_residual-in_err-begun-in-Free.result c.in_err-begun-in-Free.field-0.0 TooDeep (search rules) is)) (c.in_err-begun-in-Free.ensures.in_term (fault_of_call c.from_residual-in_err-begun-in-Free.result c.in_err-begun-in-Free.field-0.0 TooDeep (search rules) is))
 
 pub infer_applied-returns-in_err-begun-in-Free-clause-keeps : goal.infer_applied-returns-in_err-begun-in-Free-clause-keeps
@@ -635,60 +636,65 @@ infer_applied-compare_types-requires-clause-found t c =
     let es = c.args.signature.now in
     let ns = numbers_of c.args.frees.now in
     let D = c.args.state.now.locals in
-    let p = c.in-Some-pop.outer in
-    let M = open_term_of c.in_ok-term-in-None.term in
-    let Y = open_type_of c.in_ok-term-in-None.ty in
-    let none = none_left c.loop.begun.args.items (omega (arith, c.in-None.ensures.cases)) in
-    let f = finished es ns D c.loop.waiting.items c.pop-in-None.new.self.items p c.loop.begun.args.items M Y c.in-Some-pop.ensures.items none c.in_ok-term-in-None.ensures.0 (ap open_type_of c.in_ok-term-in-None.ensures.1) c.loop.invariant.0 in
+    let p = c.in-Some.outer.value in
+    let M = open_term_of c.in_ok-term-in-Nothing.term in
+    let Y = open_type_of c.in_ok-term-in-Nothing.ty in
+    let f = next_finished es ns D c.loop.waiting.items c.pop_waiting.new.waiting.items p c.loop.begun.value c.in_ok-arg.field-0 c.in-Nothing.whole M c.in_ok-term-in-Nothing.ty c.in-Nothing.is c.in_ok-arg.ensures (popped c.in_ok-outer-in-Nothing.field-0 c.in-Some.outer c.loop.waiting.items c.pop_waiting.new.waiting.items c.in-Some.is c.in_ok-outer-in-Nothing.ensures) c.in_ok-term-in-Nothing.ensures.0 c.in_ok-term-in-Nothing.ensures.1 c.loop.invariant.0 in
     inferred_type es c.requires.canonical ns (asked_stands es ns D f.asks c.requires.canonical c.requires.stands D refl) f.inferred c.loop.state.locals c.loop.invariant.1.locals
 
-pub infer_applied-returns-in_err-compare_types-in-Some-pop-clause-keeps : goal.infer_applied-returns-in_err-compare_types-in-Some-pop-clause-keeps
-infer_applied-returns-in_err-compare_types-in-Some-pop-clause-keeps t c = keeps_then c.args.state.now c.loop.state c.compare_types.new.state c.loop.invariant.1 c.compare_types.ensures.keeps
+pub infer_applied-returns-in_err-compare_types-in-Some-clause-keeps : goal.infer_applied-returns-in_err-compare_types-in-Some-clause-keeps
+infer_applied-returns-in_err-compare_types-in-Some-clause-keeps t c = keeps_then c.args.state.now c.loop.state c.compare_types.new.state c.loop.invariant.1 c.compare_types.ensures.keeps
 
-pub infer_applied-resume-requires-in-Some-pop-clause-applies : goal.infer_applied-resume-requires-in-Some-pop-clause-applies
-infer_applied-resume-requires-in-Some-pop-clause-applies t c =
+pub infer_applied-resume-requires-in-Some-clause-applies : goal.infer_applied-resume-requires-in-Some-clause-applies
+infer_applied-resume-requires-in-Some-clause-applies t c =
     let es = c.args.signature.now in
     let ns = numbers_of c.args.frees.now in
     let D = c.args.state.now.locals in
-    let p = c.in-Some-pop.outer in
-    let M = open_term_of c.in_ok-term-in-None.term in
-    let Y = open_type_of c.in_ok-term-in-None.ty in
-    let none = none_left c.loop.begun.args.items (omega (arith, c.in-None.ensures.cases)) in
-    let f = finished es ns D c.loop.waiting.items c.pop-in-None.new.self.items p c.loop.begun.args.items M Y c.in-Some-pop.ensures.items none c.in_ok-term-in-None.ensures.0 (ap open_type_of c.in_ok-term-in-None.ensures.1) c.loop.invariant.0 in
+    let p = c.in-Some.outer.value in
+    let M = open_term_of c.in_ok-term-in-Nothing.term in
+    let Y = open_type_of c.in_ok-term-in-Nothing.ty in
+    let f = next_finished es ns D c.loop.waiting.items c.pop_waiting.new.waiting.items p c.loop.begun.value c.in_ok-arg.field-0 c.in-Nothing.whole M c.in_ok-term-in-Nothing.ty c.in-Nothing.is c.in_ok-arg.ensures (popped c.in_ok-outer-in-Nothing.field-0 c.in-Some.outer c.loop.waiting.items c.pop_waiting.new.waiting.items c.in-Some.is c.in_ok-outer-in-Nothing.ensures) c.in_ok-term-in-Nothing.ensures.0 c.in_ok-term-in-Nothing.ensures.1 c.loop.invariant.0 in
     let l = c.loop.invariant.1.locals in
-    let i = inferred_checked es ns D f.row M Y (open_type_of p.domain) f.begin c.loop.state c.compare_types.new.state f.is_inferred l f.inferred c.in_ok-compare_types-in-Some-pop.ensures.ok in
+    let i = inferred_checked es ns D f.row M Y (open_type_of p.domain) f.begin c.loop.state c.compare_types.new.state f.is_inferred l f.inferred (subst (λ (q : Waiting). ComparesTypes (signature_of es) Y (open_type_of q.domain) c.loop.state c.compare_types.new.state) c.deref-in-Some.ensures c.in_ok-compare_types-in-Some.ensures.ok) in
     asked_applies es ns D f.asks c.requires.canonical c.requires.stands i
 
-pub infer_applied-resume-requires-in-Some-pop-clause-range : goal.infer_applied-resume-requires-in-Some-pop-clause-range
-infer_applied-resume-requires-in-Some-pop-clause-range t c =
+pub infer_applied-resume-requires-in-Some-clause-range : goal.infer_applied-resume-requires-in-Some-clause-range
+infer_applied-resume-requires-in-Some-clause-range t c =
     let es = c.args.signature.now in
     let ns = numbers_of c.args.frees.now in
     let D = c.args.state.now.locals in
-    let p = c.in-Some-pop.outer in
-    let M = open_term_of c.in_ok-term-in-None.term in
-    let Y = open_type_of c.in_ok-term-in-None.ty in
-    let none = none_left c.loop.begun.args.items (omega (arith, c.in-None.ensures.cases)) in
-    let f = finished es ns D c.loop.waiting.items c.pop-in-None.new.self.items p c.loop.begun.args.items M Y c.in-Some-pop.ensures.items none c.in_ok-term-in-None.ensures.0 (ap open_type_of c.in_ok-term-in-None.ensures.1) c.loop.invariant.0 in
+    let p = c.in-Some.outer.value in
+    let M = open_term_of c.in_ok-term-in-Nothing.term in
+    let Y = open_type_of c.in_ok-term-in-Nothing.ty in
+    let f = next_finished es ns D c.loop.waiting.items c.pop_waiting.new.waiting.items p c.loop.begun.value c.in_ok-arg.field-0 c.in-Nothing.whole M c.in_ok-term-in-Nothing.ty c.in-Nothing.is c.in_ok-arg.ensures (popped c.in_ok-outer-in-Nothing.field-0 c.in-Some.outer c.loop.waiting.items c.pop_waiting.new.waiting.items c.in-Some.is c.in_ok-outer-in-Nothing.ensures) c.in_ok-term-in-Nothing.ensures.0 c.in_ok-term-in-Nothing.ensures.1 c.loop.invariant.0 in
     let l = c.loop.invariant.1.locals in
-    let i = inferred_checked es ns D f.row M Y (open_type_of p.domain) f.begin c.loop.state c.compare_types.new.state f.is_inferred l f.inferred c.in_ok-compare_types-in-Some-pop.ensures.ok in
+    let i = inferred_checked es ns D f.row M Y (open_type_of p.domain) f.begin c.loop.state c.compare_types.new.state f.is_inferred l f.inferred (subst (λ (q : Waiting). ComparesTypes (signature_of es) Y (open_type_of q.domain) c.loop.state c.compare_types.new.state) c.deref-in-Some.ensures c.in_ok-compare_types-in-Some.ensures.ok) in
     asked_range_fits es ns D f.asks c.requires.canonical c.requires.stands i
 
-pub infer_applied-returns-in_err-begun-in-Some-pop-clause-too_deep : goal.infer_applied-returns-in_err-begun-in-Some-pop-clause-too_deep
-infer_applied-returns-in_err-begun-in-Some-pop-clause-too_deep t c = λ is.
+pub infer_applied-returns-in_err-begun-in-Some-clause-too_deep : goal.infer_applied-returns-in_err-begun-in-Some-clause-too_deep
+infer_applied-returns-in_err-begun-in-Some-clause-too_deep t c = λ is.
     let es = c.args.signature.now in
     let ns = numbers_of c.args.frees.now in
     let D = c.args.state.now.locals in
-    let p = c.in-Some-pop.outer in
-    let M = open_term_of c.in_ok-term-in-None.term in
-    let Y = open_type_of c.in_ok-term-in-None.ty in
-    let none = none_left c.loop.begun.args.items (omega (arith, c.in-None.ensures.cases)) in
-    let f = finished es ns D c.loop.waiting.items c.pop-in-None.new.self.items p c.loop.begun.args.items M Y c.in-Some-pop.ensures.items none c.in_ok-term-in-None.ensures.0 (ap open_type_of c.in_ok-term-in-None.ensures.1) c.loop.invariant.0 in
+    let p = c.in-Some.outer.value in
+    let M = open_term_of c.in_ok-term-in-Nothing.term in
+    let Y = open_type_of c.in_ok-term-in-Nothing.ty in
+    let f = next_finished es ns D c.loop.waiting.items c.pop_waiting.new.waiting.items p c.loop.begun.value c.in_ok-arg.field-0 c.in-Nothing.whole M c.in_ok-term-in-Nothing.ty c.in-Nothing.is c.in_ok-arg.ensures (popped c.in_ok-outer-in-Nothing.field-0 c.in-Some.outer c.loop.waiting.items c.pop_waiting.new.waiting.items c.in-Some.is c.in_ok-outer-in-Nothing.ensures) c.in_ok-term-in-Nothing.ensures.0 c.in_ok-term-in-Nothing.ensures.1 c.loop.invariant.0 in
     let l = c.loop.invariant.1.locals in
-    let i = inferred_checked es ns D f.row M Y (open_type_of p.domain) f.begin c.loop.state c.compare_types.new.state f.is_inferred l f.inferred c.in_ok-compare_types-in-Some-pop.ensures.ok in
-    asked_put_deep es ns D f.asks c.requires.canonical c.requires.stands i (c.in_err-begun-in-Some-pop.ensures.too_deep (fault_of_call c.from_residual-in_err-begun-in-Some-pop.result c.in_err-begun-in-Some-pop.field-0.0 TooDeep (search rules) is)) (c.in_err-begun-in-Some-pop.ensures.in_term (fault_of_call c.from_residual-in_err-begun-in-Some-pop.result c.in_err-begun-in-Some-pop.field-0.0 TooDeep (search rules) is))
+    let i = inferred_checked es ns D f.row M Y (open_type_of p.domain) f.begin c.loop.state c.compare_types.new.state f.is_inferred l f.inferred (subst (λ (q : Waiting). ComparesTypes (signature_of es) Y (open_type_of q.domain) c.loop.state c.compare_types.new.state) c.deref-in-Some.ensures c.in_ok-compare_types-in-Some.ensures.ok) in
+    asked_put_deep es ns D f.asks c.requires.canonical c.requires.stands i (c.in_err-begun-in-Some.ensures.too_deep (fault_of_call c.from_residual-in_err-begun-in-Some.result c.in_err-begun-in-Some.field-0.0 TooDeep (search rules) is)) (c.in_err-begun-in-Some.ensures.in_term (fault_of_call c.from_residual-in_err-begun-in-Some.result c.in_err-begun-in-Some.field-0.0 TooDeep (search rules) is))
 
-pub infer_applied-returns-in_err-begun-in-Some-pop-clause-keeps : goal.infer_applied-returns-in_err-begun-in-Some-pop-clause-keeps
-infer_applied-returns-in_err-begun-in-Some-pop-clause-keeps t c = keeps_then c.args.state.now c.loop.state c.compare_types.new.state c.loop.invariant.1 c.compare_types.ensures.keeps
+pub infer_applied-returns-in_err-begun-in-Some-clause-keeps : goal.infer_applied-returns-in_err-begun-in-Some-clause-keeps
+infer_applied-returns-in_err-begun-in-Some-clause-keeps t c = keeps_then c.args.state.now c.loop.state c.compare_types.new.state c.loop.invariant.1 c.compare_types.ensures.keeps
+
+pub infer_applied-returns-in-None-clause-ok : goal.infer_applied-returns-in-None-clause-ok
+infer_applied-returns-in-None-clause-ok t c =
+    let es = c.args.signature.now in
+    let ns = numbers_of c.args.frees.now in
+    let D = c.args.state.now.locals in
+    let r = nothing_left es ns D c.loop.begun.value c.in_ok-arg.field-0 c.in-Nothing.whole c.in-Nothing.is c.in_ok-arg.ensures c.loop.invariant.0 in
+    let n = none_popped c.in_ok-outer-in-Nothing.field-0 c.loop.waiting.items c.pop_waiting.new.waiting.items c.in-None.is c.in_ok-outer-in-Nothing.ensures in
+    all_found es ns D c.loop.waiting.items c.in-Nothing.whole.value (open_term_of c.in_ok-term-in-Nothing.term) c.in_ok-term-in-Nothing.ty n c.in_ok-term-in-Nothing.ensures.0 c.in_ok-term-in-Nothing.ensures.1 r
 
 pub infer_applied-loop-preserved : goal.infer_applied-loop-preserved
 infer_applied-loop-preserved t c =
@@ -696,43 +702,39 @@ infer_applied-loop-preserved t c =
     let ns = numbers_of c.args.frees.now in
     let D = c.args.state.now.locals in
     let l = c.loop.invariant.1.locals in
-    elim c.match-pop.branch [
-      | infer_applied-in-Some+in_ok-outer-in-Some+in-Applied+in_ok-push_waiting-in-Applied+in_ok-begun-in-Applied w ↦
-          let p = w.in_ok-outer-in-Some.outer in
-          let e = w.in_ok-outer-in-Some.ensures in
-          let k = asks_next es ns D c.loop.begun.args.items c.pop.new.self w.in-Some.arg p c.loop.invariant.0 w.in-Some.ensures.items e.0 e.1 e.2 in
-          let n = is_inferred w.in-Some.arg.now (inr (inr (inr (inl (w.in-Applied.field-0, w.in-Applied.field-1, w.in-Applied.is))))) in
-          let P = written_of w.in-Some.arg.now in
+    elim c.match-branch-3.branch [
+      | infer_applied-in-Argument+in-Applied+in_ok-push_waiting-in-Applied+in_ok-begun-in-Applied w ↦
+          let p = w.in-Argument.outer.value in
+          let k = next_asks es ns D c.loop.begun.value c.in_ok-arg.field-0 w.in-Argument.arg w.in-Argument.outer w.in-Argument.is c.in_ok-arg.ensures c.loop.invariant.0 in
+          let n = is_inferred w.in-Argument.arg.now (inr (inr (inr (inl (w.in-Applied.field-0, w.in-Applied.field-1, w.in-Applied.is))))) in
+          let P = written_of w.in-Argument.arg.now in
           let b = w.in_ok-begun-in-Applied.begun in
-          let r = subst (λ F. Reached es ns F P (made c.loop.state) (written_terms b.args.items) (made w.begin-in-Applied.new.state) b.operator (open_type_of b.ty)) l w.in_ok-begun-in-Applied.ensures.ok in
-          rows_stay es ns D c.match-pop.waiting w.push_waiting.new.waiting c.match-pop.begun b c.args.state.now c.match-pop.state w.begin-in-Applied.new.state (written_of c.args.written.now) w.state-is w.waiting-is w.begun-is (row_asked es ns D k w.push_waiting.new.waiting.items w.in_ok-push_waiting-in-Applied.ensures n r, keeps_then c.args.state.now c.loop.state w.begin-in-Applied.new.state c.loop.invariant.1 w.begin-in-Applied.ensures.keeps)
-      | infer_applied-in-Some+in_ok-outer-in-Some+in-Free+in_ok-arg-in-Free+in_ok-begun-in-Free w ↦
-          let p = w.in_ok-outer-in-Some.outer in
-          let e = w.in_ok-outer-in-Some.ensures in
-          let k = asks_next es ns D c.loop.begun.args.items c.pop.new.self w.in-Some.arg p c.loop.invariant.0 w.in-Some.ensures.items e.0 e.1 e.2 in
-          let P = written_of w.in-Some.arg.now in
+          let r = subst (λ F. Reached es ns F P (made c.loop.state) (written_terms b.value.args.items) (made w.begin-in-Applied.new.state) b.value.operator (open_type_of b.value.ty)) l w.in_ok-begun-in-Applied.ensures.ok in
+          rows_stay es ns D c.match-branch-3.waiting w.push_waiting.new.waiting c.match-branch-3.begun b c.args.state.now c.match-branch-3.state w.begin-in-Applied.new.state (written_of c.args.written.now) w.state-is w.waiting-is w.begun-is (row_asked es ns D k w.push_waiting.new.waiting.items w.in_ok-push_waiting-in-Applied.ensures n r, keeps_then c.args.state.now c.loop.state w.begin-in-Applied.new.state c.loop.invariant.1 w.begin-in-Applied.ensures.keeps)
+      | infer_applied-in-Argument+in-Free+in_ok-arg-in-Free+in_ok-begun-in-Free w ↦
+          let p = w.in-Argument.outer.value in
+          let k = next_asks es ns D c.loop.begun.value c.in_ok-arg.field-0 w.in-Argument.arg w.in-Argument.outer w.in-Argument.is c.in_ok-arg.ensures c.loop.invariant.0 in
+          let P = written_of w.in-Argument.arg.now in
           let X = open_type_of p.domain in
-          let i : Checks es ns D P X (made c.loop.state) (made w.check.new.state) (open_term_of w.in_ok-arg-in-Free.arg) = subst (λ F. Checks es ns F P X (made c.loop.state) (made w.check.new.state) (open_term_of w.in_ok-arg-in-Free.arg)) l w.in_ok-arg-in-Free.ensures.ok in
+          let i : Checks es ns D P X (made c.loop.state) (made w.check.new.state) (open_term_of w.in_ok-arg-in-Free.arg) = subst (λ (q : Waiting). Checks es ns D P (open_type_of q.domain) (made c.loop.state) (made w.check.new.state) (open_term_of w.in_ok-arg-in-Free.arg)) w.deref.ensures (subst (λ F. Checks es ns F P (open_type_of w.deref.result.now.domain) (made c.loop.state) (made w.check.new.state) (open_term_of w.in_ok-arg-in-Free.arg)) l w.in_ok-arg-in-Free.ensures.ok) in
           let b = w.in_ok-begun-in-Free.begun in
-          rows_stay es ns D c.match-pop.waiting c.loop.waiting c.match-pop.begun b c.args.state.now c.match-pop.state w.check.new.state (written_of c.args.written.now) w.state-is w.waiting-is w.begun-is (resumed es ns D k b.args b.operator (open_type_of b.ty) i w.in_ok-begun-in-Free.ensures.ok.0 w.in_ok-begun-in-Free.ensures.ok.1 w.in_ok-begun-in-Free.ensures.ok.2 w.in_ok-begun-in-Free.ensures.stays, keeps_then c.args.state.now c.loop.state w.check.new.state c.loop.invariant.1 w.check.ensures.keeps)
-      | infer_applied-in-None+in_ok-term-in-None+in-Some-pop+in_ok-compare_types-in-Some-pop+in_ok-begun-in-Some-pop+in-Pi-1 w ↦
-          let p = w.in-Some-pop.outer in
-          let M = open_term_of w.in_ok-term-in-None.term in
-          let Y = open_type_of w.in_ok-term-in-None.ty in
-          let none = none_left c.loop.begun.args.items (omega (arith, w.in-None.ensures.cases)) in
-          let f = finished es ns D c.loop.waiting.items w.pop-in-None.new.self.items p c.loop.begun.args.items M Y w.in-Some-pop.ensures.items none w.in_ok-term-in-None.ensures.0 (ap open_type_of w.in_ok-term-in-None.ensures.1) c.loop.invariant.0 in
-          let i = inferred_checked es ns D f.row M Y (open_type_of p.domain) f.begin c.loop.state w.compare_types.new.state f.is_inferred l f.inferred w.in_ok-compare_types-in-Some-pop.ensures.ok in
-          let b = w.in_ok-begun-in-Some-pop.begun in
-          rows_stay es ns D c.match-pop.waiting w.pop-in-None.new.self c.match-pop.begun b c.args.state.now c.match-pop.state w.compare_types.new.state (written_of c.args.written.now) w.state-is w.waiting-is w.begun-is (resumed es ns D f.asks b.args b.operator (open_type_of b.ty) i w.in_ok-begun-in-Some-pop.ensures.ok.0 w.in_ok-begun-in-Some-pop.ensures.ok.1 w.in_ok-begun-in-Some-pop.ensures.ok.2 w.in_ok-begun-in-Some-pop.ensures.stays, keeps_then c.args.state.now c.loop.state w.compare_types.new.state c.loop.invariant.1 w.compare_types.ensures.keeps)
-      | infer_applied-in-None+in_ok-term-in-None+in-Some-pop+in_ok-compare_types-in-Some-pop+in_ok-begun-in-Some-pop+in-Atom-1 w ↦
-          let p = w.in-Some-pop.outer in
-          let M = open_term_of w.in_ok-term-in-None.term in
-          let Y = open_type_of w.in_ok-term-in-None.ty in
-          let none = none_left c.loop.begun.args.items (omega (arith, w.in-None.ensures.cases)) in
-          let f = finished es ns D c.loop.waiting.items w.pop-in-None.new.self.items p c.loop.begun.args.items M Y w.in-Some-pop.ensures.items none w.in_ok-term-in-None.ensures.0 (ap open_type_of w.in_ok-term-in-None.ensures.1) c.loop.invariant.0 in
-          let i = inferred_checked es ns D f.row M Y (open_type_of p.domain) f.begin c.loop.state w.compare_types.new.state f.is_inferred l f.inferred w.in_ok-compare_types-in-Some-pop.ensures.ok in
-          let b = w.in_ok-begun-in-Some-pop.begun in
-          rows_stay es ns D c.match-pop.waiting w.pop-in-None.new.self c.match-pop.begun b c.args.state.now c.match-pop.state w.compare_types.new.state (written_of c.args.written.now) w.state-is w.waiting-is w.begun-is (resumed es ns D f.asks b.args b.operator (open_type_of b.ty) i w.in_ok-begun-in-Some-pop.ensures.ok.0 w.in_ok-begun-in-Some-pop.ensures.ok.1 w.in_ok-begun-in-Some-pop.ensures.ok.2 w.in_ok-begun-in-Some-pop.ensures.stays, keeps_then c.args.state.now c.loop.state w.compare_types.new.state c.loop.invariant.1 w.compare_types.ensures.keeps)
+          rows_stay es ns D c.match-branch-3.waiting c.loop.waiting c.match-branch-3.begun b c.args.state.now c.match-branch-3.state w.check.new.state (written_of c.args.written.now) w.state-is w.waiting-is w.begun-is (resumed es ns D k b.value.args b.value.operator (open_type_of b.value.ty) i w.in_ok-begun-in-Free.ensures.ok.0 w.in_ok-begun-in-Free.ensures.ok.1 w.in_ok-begun-in-Free.ensures.ok.2 w.in_ok-begun-in-Free.ensures.stays, keeps_then c.args.state.now c.loop.state w.check.new.state c.loop.invariant.1 w.check.ensures.keeps)
+      | infer_applied-in-Nothing+in_ok-term-in-Nothing+in_ok-outer-in-Nothing+in-Some+in_ok-compare_types-in-Some+in_ok-begun-in-Some+in-Pi-1 w ↦
+          let p = w.in-Some.outer.value in
+          let M = open_term_of w.in_ok-term-in-Nothing.term in
+          let Y = open_type_of w.in_ok-term-in-Nothing.ty in
+          let f = next_finished es ns D c.loop.waiting.items w.pop_waiting.new.waiting.items p c.loop.begun.value c.in_ok-arg.field-0 w.in-Nothing.whole M w.in_ok-term-in-Nothing.ty w.in-Nothing.is c.in_ok-arg.ensures (popped w.in_ok-outer-in-Nothing.field-0 w.in-Some.outer c.loop.waiting.items w.pop_waiting.new.waiting.items w.in-Some.is w.in_ok-outer-in-Nothing.ensures) w.in_ok-term-in-Nothing.ensures.0 w.in_ok-term-in-Nothing.ensures.1 c.loop.invariant.0 in
+          let i = inferred_checked es ns D f.row M Y (open_type_of p.domain) f.begin c.loop.state w.compare_types.new.state f.is_inferred l f.inferred (subst (λ (q : Waiting). ComparesTypes (signature_of es) Y (open_type_of q.domain) c.loop.state w.compare_types.new.state) w.deref-in-Some.ensures w.in_ok-compare_types-in-Some.ensures.ok) in
+          let b = w.in_ok-begun-in-Some.begun in
+          rows_stay es ns D c.match-branch-3.waiting w.pop_waiting.new.waiting c.match-branch-3.begun b c.args.state.now c.match-branch-3.state w.compare_types.new.state (written_of c.args.written.now) w.state-is w.waiting-is w.begun-is (resumed es ns D f.asks b.value.args b.value.operator (open_type_of b.value.ty) i w.in_ok-begun-in-Some.ensures.ok.0 w.in_ok-begun-in-Some.ensures.ok.1 w.in_ok-begun-in-Some.ensures.ok.2 w.in_ok-begun-in-Some.ensures.stays, keeps_then c.args.state.now c.loop.state w.compare_types.new.state c.loop.invariant.1 w.compare_types.ensures.keeps)
+      | infer_applied-in-Nothing+in_ok-term-in-Nothing+in_ok-outer-in-Nothing+in-Some+in_ok-compare_types-in-Some+in_ok-begun-in-Some+in-Atom-1 w ↦
+          let p = w.in-Some.outer.value in
+          let M = open_term_of w.in_ok-term-in-Nothing.term in
+          let Y = open_type_of w.in_ok-term-in-Nothing.ty in
+          let f = next_finished es ns D c.loop.waiting.items w.pop_waiting.new.waiting.items p c.loop.begun.value c.in_ok-arg.field-0 w.in-Nothing.whole M w.in_ok-term-in-Nothing.ty w.in-Nothing.is c.in_ok-arg.ensures (popped w.in_ok-outer-in-Nothing.field-0 w.in-Some.outer c.loop.waiting.items w.pop_waiting.new.waiting.items w.in-Some.is w.in_ok-outer-in-Nothing.ensures) w.in_ok-term-in-Nothing.ensures.0 w.in_ok-term-in-Nothing.ensures.1 c.loop.invariant.0 in
+          let i = inferred_checked es ns D f.row M Y (open_type_of p.domain) f.begin c.loop.state w.compare_types.new.state f.is_inferred l f.inferred (subst (λ (q : Waiting). ComparesTypes (signature_of es) Y (open_type_of q.domain) c.loop.state w.compare_types.new.state) w.deref-in-Some.ensures w.in_ok-compare_types-in-Some.ensures.ok) in
+          let b = w.in_ok-begun-in-Some.begun in
+          rows_stay es ns D c.match-branch-3.waiting w.pop_waiting.new.waiting c.match-branch-3.begun b c.args.state.now c.match-branch-3.state w.compare_types.new.state (written_of c.args.written.now) w.state-is w.waiting-is w.begun-is (resumed es ns D f.asks b.value.args b.value.operator (open_type_of b.value.ty) i w.in_ok-begun-in-Some.ensures.ok.0 w.in_ok-begun-in-Some.ensures.ok.1 w.in_ok-begun-in-Some.ensures.ok.2 w.in_ok-begun-in-Some.ensures.stays, keeps_then c.args.state.now c.loop.state w.compare_types.new.state c.loop.invariant.1 w.compare_types.ensures.keeps)
     ]
 
 pub elaborate_arrows-loop-rest-init : goal.elaborate_arrows-loop-rest-init

@@ -35,6 +35,9 @@ decreases-check_domain l = 4 * l.frames + 1
 abbrev pub decreases-elaborate_type : goal.decreases-elaborate_type
 decreases-elaborate_type l = 4 * l.frames
 
+abbrev pub decreases-elaborate_quantified : goal.decreases-elaborate_quantified
+decreases-elaborate_quantified l = 4 * l.frames + 1
+
 abbrev pub decreases-elaborate_domain : goal.decreases-elaborate_domain
 decreases-elaborate_domain l = 4 * l.frames
 
