@@ -1,12 +1,12 @@
 -- What waits, where more comes behind it.
-use Rattle.std.proofs.Common.{◌≡◌, ℕ, ◌+◌, List, [], ◌∷◌, ◌++◌, reverse, refl, Bor, arith}
+use Rattle.std.proofs.Common.{◌≡◌, ℕ, ◌+◌, List, [], ◌∷◌, ◌++◌, reverse, Bor, arith}
 use Rattle.std.proofs.lemmas.List.{reverse-append}
 use Rattle.lf.specs.Entries.{Entry}
 use Rattle.lf.specs.AtOnce.{skeleton_size}
 use Rattle.lf_elaboration.specs.Sites.{indices}
 use Rattle.tw_terms.specs.View.{skeleton_of}
 use Rattle.tw_terms.specs.declared.canonical.Skeleton.{Skeleton}
-use Rattle.tw_written.specs.Parts.{size, work}
+use Rattle.tw_written.specs.Parts.{work}
 use Rattle.tw_written.specs.declared.part.Part.{Part}
 
 pub next-first : {X : Type 0} (xs : List X) (x : X) → reverse (xs ++ x ∷ []) ≡ x ∷ reverse xs
