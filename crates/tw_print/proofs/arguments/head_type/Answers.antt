@@ -7,6 +7,7 @@ use Rattle.tw_print.proofs.Typed.{no_variable}
 use Rattle.tw_print.proofs.arguments.head_type.Goals as goal
 
 pub unreachable-requires-in-None-get : goal.unreachable-requires-in-None-get
+unfolding head_of
 unreachable-requires-in-None-get c =
     let Σ = signature_of (scene_in c.args.scene.now).entries in
     let G = c.args.context.now in
