@@ -45,5 +45,5 @@ loop-ty-preserved c =
 
 pub returns : goal.returns
 returns c =
-    let none = no_type_left c.loop-ty.types.items (omega (arith, c.in_default.ensures.cases)) in
+    let none = no_type_left c.loop-ty.types.items (omega (arith, c.in_default-pop.ensures.cases)) in
     sym (c.loop-ty.invariant ∙ none_due c.args.context.now (map open_type_of (reverse c.loop-ty.types.items)) (open_args_of (reverse c.loop-ty.lefts.items)) (open_args_of (reverse c.loop-ty.rights.items)) (map equation_of c.loop-ty.found.items) none)
