@@ -153,15 +153,7 @@ fn compare_indices(
         Some(kind) => {
             let kind = open_kind(alloc, kind)?;
             let found = &mut state.equations;
-            index_equations(
-                alloc,
-                context,
-                kind,
-                left,
-                right,
-                Wanted::Differing,
-                found,
-            )
+            index_equations(alloc, context, kind, left, right, Wanted::Differing, found)
         }
         None => Ok(()),
     }

@@ -64,7 +64,15 @@ fn take_argument(
     match kind {
         OpenKind::Pi(domain, range) => {
             let rest = instantiate_kind(alloc, &range, 0, left, &domain)?;
-            add_wanted(alloc, locals, left, right, Box::into_inner(domain), wanted, found)?;
+            add_wanted(
+                alloc,
+                locals,
+                left,
+                right,
+                Box::into_inner(domain),
+                wanted,
+                found,
+            )?;
             Ok(Some(rest))
         }
         OpenKind::Star => Ok(None),
