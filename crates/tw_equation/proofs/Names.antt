@@ -1,7 +1,7 @@
 -- The names of metavariables, one after the other.
-use Rattle.std.proofs.Common.{◌≡◌, ℕ, suc, ◌+◌, ◌<◌, ◌≤◌, List, [], ◌∷◌, ◌++◌, length, map, drop, take, get_or, Option, refl, sym, ap, ap₂, ◌∙◌, append_assoc, arith, add-one, drop-cons}
+use Rattle.std.proofs.Common.{◌≡◌, ℕ, suc, ◌+◌, ◌<◌, ◌≤◌, List, [], ◌∷◌, ◌++◌, length, map, drop, take, get_or, Option, refl, sym, ap, ap₂, ◌∙◌, append_assoc, add-one, drop-cons}
 use Rattle.std.proofs.Math.ListN.{drop_of_length-le}
-use Rattle.std.proofs.lemmas.List.{append-nil, drop_all, drop_more, length-map, take_all, take_more}
+use Rattle.std.proofs.lemmas.List.{append-nil, drop_all, drop_more, take_all, take_more}
 use Rattle.std.specs.List.{slice_get}
 use Rattle.tw_print.specs.Shown.{hint_in}
 use Rattle.tw_fixity.specs.Names.{Names as Scope}
@@ -40,17 +40,6 @@ one_given names order k j d x old new whole i h e n w =
 
 pub all_given : (names : List (Option (List ℕ))) (order : List MetaId) (k : ℕ) (given whole : Scope) → k ≡ 0 → given ++ given_names names (map (λ m. m.0) (take k order)) ≡ whole → given ≡ whole
 all_given names order k given whole z w = sym (append-nil given) ∙ sym (ap (λ i. given ++ given_names names (map (λ m. m.0) (take i order))) z) ∙ w
-
--- each metavariable has a place among them
-onto_length : (xs : List (Option (List ℕ))) (ns : Scope) → length (onto xs ns) ≡ length xs + length ns
-onto_length [] ns = refl
-onto_length (x ∷ xs) ns = let h = onto_length xs (x ∷ ns) in omega (arith, h)
-
-pub given_length : (names : List (Option (List ℕ))) (order : List ℕ) → length (given_names names order) ≡ length order
-given_length names order =
-    let h = onto_length (map (λ k. hint_in (slice_get names k)) order) [] in
-    let m = length-map order (λ k. hint_in (slice_get names k)) in
-    omega (arith, h, m)
 
 -- the scope of names, the innermost first
 pub none_scoped : (names scope : Scope) (k : ℕ) → scope ≡ [] → length names ≤ k → scope ≡ drop k names

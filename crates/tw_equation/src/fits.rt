@@ -64,7 +64,7 @@ fn skeletons(alloc: Global, context: &Context) -> Result<Vec<Skeleton>, AllocErr
     for variable in 0..context.len() {
         match context.get(variable as u64) {
             Some(ty) => skeletons.push(skeleton(alloc, ty)?)?,
-            None => unreachable!(),
+            None => return Err(AllocError),
         }
     }
     Ok(skeletons)

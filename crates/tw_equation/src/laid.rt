@@ -61,7 +61,6 @@ pub fn lay_out(
 ) -> Result<Laid, AllocError>
     ensures laid { IfOk result (λ l. laid_out (length metas.now) (map shown_type_of metas.now) (record { order = []; context = [] }) ≡ Some (laid_of l)) }
     ensures showable { IfOk result (λ l. IsShowableContext (signature_of signature.now) l.context) }
-    ensures same { IfOk result (λ l. length l.positions ≡ length l.context) }
 {
     let mut positions = Positions::new(alloc);
     let mut context = Context::new(alloc);

@@ -1,5 +1,5 @@
 //! The names of metavariables.
-ghost use Rattle.std.specs.Prelude.{◌≡◌, [], IfOk, length, map, slice_get};
+ghost use Rattle.std.specs.Prelude.{◌≡◌, [], IfOk, map, slice_get};
 ghost use Rattle.tw_equation.specs.LaidView.{laid_of};
 ghost use Rattle.tw_equation.specs.Text.{given_names, meta_names, onto};
 ghost use Rattle.tw_print.specs.ShowEnv.{scene_of};
@@ -71,7 +71,6 @@ pub fn meta_names(
     names: &[Option<Name>],
     shown: &[u64],
 ) -> Result<Scope, AllocError>
-    requires { length laid.now.positions ≡ length laid.now.context }
     ensures { IfOk result (λ s. s ≡ meta_names (scene_of env.now) (laid_of laid.now) names.now shown.now) }
 {
     let mut given = given_names(alloc, names, laid.positions.metas())?;

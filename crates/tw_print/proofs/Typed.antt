@@ -22,7 +22,7 @@ use Rattle.tw_hered.specs.Fits.{TypeFits}
 use Rattle.tw_print.specs.Names.{Scene}
 use Rattle.tw_print.specs.Arguments.{Argument, with_type, arguments, bare_arguments, kind_as_type, type_or, kind_or, variable_type, head_type, family_type}
 use Rattle.tw_print.specs.ArgumentView.{lambda_test, any_lambda}
-use Rattle.tw_print.specs.Showable.{HasFamily, HasHead, HasSkeleton, IsShowableType, IsShowableKind, IsShowableContext, IsShowable, AreShowable, Takes}
+use Rattle.tw_print.specs.Showable.{HasSkeleton, IsShowableType, IsShowableKind, IsShowableContext, IsShowable, AreShowable, Takes}
 
 one_is_suc : shift_by (suc zero) ≡ suc
 one_is_suc = fun_ext (λ i. omega arith)
@@ -182,32 +182,6 @@ module _ (s : Scene) (G : List LfType) (c : IsCanonicalSignature s.entries) (g :
 
   pub family_takes : (a : ℕ) (S : Spine) → IsShowableType (signature_of s.entries) G (atom a S) → Takes (signature_of s.entries) G S (family_type s a)
   family_takes a S (t, e, m) = family_takes_kind a S (kind_of (entry s.entries a)) t refl e m
-
--- a head that is shown has a skeleton, and a family that is shown is declared
-pub root_head : (Σ : Signature) (G : List LfType) (h : Head) (S : Spine) (t : Option LfType) → IsShowable Σ G (root h S) t → HasHead Σ G h
-root_head Σ G h S t (arrow a b, m) = absurd m
-root_head Σ G h S t (base a, (b, k, m)) = (b, k)
-
-pub atom_family : (Σ : Signature) (G : List LfType) (a : ℕ) (S : Spine) → IsShowableType Σ G (atom a S) → HasFamily Σ a
-atom_family Σ G a S (t, e, m) = by (Σ.kinds a) refl e
-  where
-    by : (o : Option Kind) → Σ.kinds a ≡ o → family_skeleton a o ≡ Some t → HasFamily Σ a
-    by (Some K) q f = (K, q)
-    by None q f = absurd (none_is_not_some f)
-
-pub no_constant : (Σ : Signature) (G : List LfType) (c : ℕ) → Σ.types c ≡ None → HasHead Σ G (constant c) → ⊥
-no_constant Σ G c n (t, e) = none_is_not_some (sym (ap type_skeleton n) ∙ e)
-
-absent : (G : List LfType) (i : ℕ) (A : LfType) → slice_get G i ≡ None → TypeAt G i A → ⊥
-absent [] i A n h = h
-absent (X ∷ G) zero A n e = cc
-absent (X ∷ G) (suc i) A n (C, h, e) = absent G i C n h
-
-pub no_variable : (Σ : Signature) (G : List LfType) (i : ℕ) → slice_get G i ≡ None → HasHead Σ G (variable i) → ⊥
-no_variable Σ G i n (t, e) = let v = skeleton_has_variable G i t e in absent G i v.0 n v.1
-
-pub no_family : (Σ : Signature) (a : ℕ) → Σ.kinds a ≡ None → HasFamily Σ a → ⊥
-no_family Σ a n (K, e) = none_is_not_some (sym n ∙ e)
 
 pub lambda_domain : (Σ : Signature) (G : List LfType) (M : Term) (A B : LfType) → IsShowable Σ G (lambda M) (Some (pi A B)) → IsShowableType Σ G A
 lambda_domain Σ G M A B (t, m) = t.0

@@ -1,8 +1,8 @@
 -- What is shown has skeletons: so substitution is total on it. What is typed has them.
-use Rattle.std.specs.Prelude.{◌≡◌, ℕ, List, [], ◌∷◌, Option, Some, None}
-use Rattle.lf.specs.Syntax.{Head, Term, lambda, root, Spine, nil, app, LfType, pi, atom, Kind, Skeleton, skeleton}
+use Rattle.std.specs.Prelude.{ℕ, List, [], ◌∷◌, Option, Some, None}
+use Rattle.lf.specs.Syntax.{Term, lambda, root, Spine, nil, app, LfType, pi, atom, Kind, Skeleton, skeleton}
 use Rattle.lf.specs.Skeletons.{constant_skeletons, family_skeletons, context_skeletons}
-use Rattle.lf.specs.SkeletonTyping.{HeadSkeleton, TermSkeleton, TypeBySkeletons, KindBySkeletons}
+use Rattle.lf.specs.SkeletonTyping.{TermSkeleton, TypeBySkeletons, KindBySkeletons}
 use Rattle.lf.specs.Substitution.{single}
 use Rattle.lf.specs.Typing.{Signature, instantiate_type}
 use Rattle.tw_hered.specs.Fits.{TypeFits}
@@ -17,13 +17,6 @@ IsShowableType Σ G A = TypeBySkeletons (family_skeletons Σ) (constant_skeleton
 
 abbrev pub IsShowableKind : Signature → List LfType → Kind → Type 0
 IsShowableKind Σ G K = KindBySkeletons (family_skeletons Σ) (constant_skeletons Σ) (context_skeletons G) K
-
--- a head has some skeleton, and a family is declared
-abbrev pub HasHead : Signature → List LfType → Head → Type 0
-HasHead Σ G h = (t : Skeleton) × HeadSkeleton (constant_skeletons Σ) (context_skeletons G) h t
-
-abbrev pub HasFamily : Signature → ℕ → Type 0
-HasFamily Σ a = (K : Kind) × (Σ.kinds a ≡ Some K)
 
 -- each type in the part of the context before it
 abbrev pub IsShowableContext : Signature → List LfType → Type 0

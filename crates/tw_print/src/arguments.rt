@@ -7,7 +7,7 @@ ghost use Rattle.tw_terms.specs.View.{head_of, term_of, args_of, type_of, kind_o
 ghost use Rattle.tw_print.specs.Arguments as spec;
 ghost use Rattle.tw_print.specs.ArgumentView.{argument_of, any_lambda, lambda_test};
 ghost use Rattle.tw_print.specs.SceneView.{scene_in};
-ghost use Rattle.tw_print.specs.Showable.{HasFamily, HasHead, Takes};
+ghost use Rattle.tw_print.specs.Showable.{Takes};
 
 use crate::levels::STACK_LEVELS;
 use crate::scene::Scene;
@@ -113,17 +113,16 @@ pub fn head_type(
     context: &Context,
     head: Head,
 ) -> Result<Ty, AllocError>
-    requires { HasHead (signature_of (scene_in scene.now).entries) context.now (head_of head) }
     ensures { IfOk result (λ a. type_of a ≡ spec.head_type (scene_in scene.now) context.now (head_of head)) }
 {
     match head {
         Head::Const(id) => match constant_type(scene, id) {
             Some(ty) => ty.copy(alloc),
-            None => unreachable!(),
+            None => Err(AllocError),
         },
         Head::Var(variable) => match context.get(variable) {
             Some(ty) => weaken(alloc, ty, variable.checked_add(1).ok_or(AllocError)?),
-            None => unreachable!(),
+            None => Err(AllocError),
         },
     }
 }
@@ -150,12 +149,11 @@ fn family_kind<'a>(scene: &Scene<'a>, id: ConstId) -> Option<&'a Kind>
 
 /// A type that has the quantifiers of a family's kind.
 pub fn family_type(alloc: Global, scene: &Scene, family: ConstId) -> Result<Ty, AllocError>
-    requires { HasFamily (signature_of (scene_in scene.now).entries) family.0 }
     ensures { IfOk result (λ a. type_of a ≡ spec.family_type (scene_in scene.now) family.0) }
 {
     match family_kind(scene, family) {
         Some(kind) => kind_as_type(alloc, kind, ConstId(scene.len()?)),
-        None => unreachable!(),
+        None => Err(AllocError),
     }
 }
 

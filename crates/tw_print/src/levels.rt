@@ -24,5 +24,5 @@ pub fn level_below(levels: u64) -> Result<u64, AllocError>
     if levels <= ALL_LEVELS - STACK_LEVELS {
         return Err(AllocError);
     }
-    Ok(levels - 1)
+    levels.checked_sub(1).ok_or(AllocError)
 }

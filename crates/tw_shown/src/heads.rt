@@ -1,10 +1,8 @@
 //! Heads and families: how many of their arguments are hidden, and the types by which the others are shown.
 ghost use Rattle.std.specs.Prelude.{◌≡◌, IfOk};
-ghost use Rattle.lf.specs.Entries.{signature_of};
 ghost use Rattle.tw_terms.specs.View.{args_of, head_of, kind_of, term_of, type_of};
 ghost use Rattle.tw_print.specs.Arguments as spec;
 ghost use Rattle.tw_print.specs.ArgumentView.{any_lambda, lambda_test};
-ghost use Rattle.tw_print.specs.Showable.{HasFamily, HasHead};
 ghost use Rattle.tw_print.specs.ShowEnv.{scene_of};
 
 use std::alloc::{AllocError, Global};
@@ -62,29 +60,27 @@ pub fn head_type(
     context: &Context,
     head: Head,
 ) -> Result<Ty, AllocError>
-    requires { HasHead (signature_of env.now.sig.now) context.now (head_of head) }
     ensures { IfOk result (λ a. type_of a ≡ spec.head_type (scene_of env.now) context.now (head_of head)) }
 {
     match head {
         Head::Const(id) => match env.sig.constant_type(id) {
             Some(ty) => ty.copy(alloc),
-            None => unreachable!(),
+            None => Err(AllocError),
         },
         Head::Var(variable) => match context.get(variable) {
             Some(ty) => weaken(alloc, ty, variable.checked_add(1).ok_or(AllocError)?),
-            None => unreachable!(),
+            None => Err(AllocError),
         },
     }
 }
 
 /// A type that has the quantifiers of a family's kind.
 pub fn family_type(alloc: Global, env: &ShowEnv, family: ConstId) -> Result<Ty, AllocError>
-    requires { HasFamily (signature_of env.now.sig.now) family.0 }
     ensures { IfOk result (λ a. type_of a ≡ spec.family_type (scene_of env.now) family.0) }
 {
     match env.sig.family_kind(family) {
         Some(kind) => kind_as_type(alloc, kind, ConstId(env.sig.len())),
-        None => unreachable!(),
+        None => Err(AllocError),
     }
 }
 

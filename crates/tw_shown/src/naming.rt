@@ -1,5 +1,5 @@
 //! Names for the variables of a context, in the order in which they are shown.
-ghost use Rattle.std.specs.Prelude.{◌≡◌, ◌≤◌, IfOk, OnOk, length, slice_get};
+ghost use Rattle.std.specs.Prelude.{◌≡◌, IfOk, OnOk, slice_get};
 ghost use Rattle.tw_print.specs.ShowEnv.{scene_of};
 ghost use Rattle.tw_shown.specs.Naming.{MarksShown, lacks_name, name_one, named};
 ghost use Rattle.tw_shown.specs.Shown.{outside};
@@ -37,7 +37,7 @@ pub fn shown_marks(alloc: Global, shown: &[u64], count: usize) -> Result<Vec<boo
 }
 
 /// Names variables as they are shown: one that has no name takes the first one from the uppercase base of its type that isn't taken.
-/// `names` has those of the context's variables, the innermost first; a variable that isn't in the context has none. Fails only for want of memory.
+/// `names` has those of the context's variables, the innermost first. Fails only for want of memory; a variable that isn't in the context counts as such.
 pub fn name_shown(
     alloc: Global,
     env: &ShowEnv,
@@ -46,7 +46,6 @@ pub fn name_shown(
     names: &mut [Option<Name>],
     mut taken: Scope,
 ) -> Result<(), AllocError>
-    requires { length names.old ≤ length context.now }
     ensures { OnOk result (names.new ≡ named (scene_of env.now) context.now (record { names = names.old; taken = taken }) shown.now) }
 {
     for variable in shown {
@@ -64,14 +63,13 @@ fn name_variable(
     names: &mut [Option<Name>],
     taken: &mut Scope,
 ) -> Result<(), AllocError>
-    requires { length names.old ≤ length context.now }
     ensures { OnOk result (record { names = names.new; taken = taken.new } ≡ name_one (scene_of env.now) context.now (record { names = names.old; taken = taken.old }) variable) }
 {
     if !lacks_name(names, variable) {
         return Ok(());
     }
     let Some(ty) = context.get(variable) else {
-        unreachable!()
+        return Err(AllocError);
     };
     let name = env.fresh_name(alloc, taken, env.upper_base(target(ty)))?;
     taken.push(Some(name.copy(alloc)?))?;

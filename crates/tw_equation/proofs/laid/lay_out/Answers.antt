@@ -1,4 +1,4 @@
-use Rattle.std.proofs.Common.{◌≡◌, ◌∙◌, ◌∷◌, [], Some, zero, length, length-append, map, refl, sym, ap, arith, rules}
+use Rattle.std.proofs.Common.{◌≡◌, ◌∙◌, Some, zero, length, map, refl, sym, ap, arith, rules}
 use Rattle.std.specs.Option.{option_map}
 use Rattle.tw_metas.specs.Named.{shown_type_of}
 use Rattle.tw_equation.specs.LaidView.{placed_of}
@@ -14,9 +14,4 @@ loop-count-preserved c =
     record {
       laid = laid_one (length c.args.metas.now) c.loop-count.count _ metas c.loop-count.positions c.push.new.self c.loop-count.context c.enter.new.context (placed_of (c.in-Some.meta, c.in-Some.ty)) _ (omega arith) refl e c.in_ok-push.ensures.ok c.in_ok-enter.ensures.grown c.loop-count.invariant.laid;
       showable = c.in_ok-enter.ensures.showable;
-      same =
-          let p = ap length c.in_ok-push.ensures.ok ∙ length-append c.loop-count.positions (c.in-Some.meta.0 ∷ []) in
-          let g = ap length c.in_ok-enter.ensures.grown in
-          let h = c.loop-count.invariant.same in
-          omega (arith, p, g, h);
     }

@@ -9,5 +9,4 @@ abbrev pub invariant-loop-count : goal.invariant-loop-count
 invariant-loop-count l = record {
   laid : laid_out (length l.metas - l.count) (map shown_type_of l.metas) (record { order = l.positions; context = l.context }) ≡ laid_out (length l.metas) (map shown_type_of l.metas) (record { order = []; context = [] });
   showable : IsShowableContext (signature_of l.signature) l.context;
-  same : length l.positions ≡ length l.context;
 }

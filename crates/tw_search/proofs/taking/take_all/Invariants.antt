@@ -9,13 +9,13 @@ use Rattle.tw_search.proofs.NewTerms.{TakesBefore}
 use Rattle.tw_search.proofs.taking.take_all.Given as goal
 
 -- the arguments so far, and what the rest of the type gives
-abbrev pub invariant-loop : goal.invariant-loop
-invariant-loop l = record {
+abbrev pub invariant-loop-rest : goal.invariant-loop-rest
+invariant-loop-rest l = record {
   stands : TypeStands (made_with [] l.store.now) l.locals (open_type_of l.rest);
   keeps : OnlyDeclares l.fn.store l.store;
   numbers : numbers_from (length l.fn.store.now.declared) (open_type_of l.fn.ty) ≡ map (λ (m : MetaId). m.0) l.metas.items ++ numbers_from (length l.store.now.declared) (open_type_of l.rest);
   so_far : TakesBefore l.locals (open_type_of l.fn.ty) l.fn.store.now (open_type_of l.rest) l.store.now l.args.items;
 }
 
-abbrev pub decreases-loop : goal.decreases-loop
-decreases-loop l = length (numbers_from 0 (open_type_of l.rest))
+abbrev pub decreases-loop-rest : goal.decreases-loop-rest
+decreases-loop-rest l = length (numbers_from 0 (open_type_of l.rest))
