@@ -18,4 +18,4 @@ pub mod AllHeads
 pub mod Standing
 pub mod Beginning
 pub mod Leaving
-pub mod StepLaws
+pub mod Going

@@ -25,6 +25,7 @@ use Rattle.lf_unification.specs.Patterns.{local_skeletons}
 use Rattle.lf_unification.specs.Search.{OfferedHeadHasType, either, holes, occurs, occurs_spine, occurs_type, unless}
 use Rattle.lf_unification.specs.Steps.{Run, next_equation, no_step, then_run}
 use Rattle.lf_unification.specs.Unifiers.{Binding, Equation, Store}
+use Rattle.lf_search.specs.Holes.{RunRenewsReached}
 use Rattle.tw_metas.specs.State.{Declaration, IsUnbound, State, Story, changed, states, with_declared}
 use Rattle.tw_putting.specs.Fits.{declared_skeletons}
 use Rattle.tw_putting.specs.Ready.{IsLater, LocalsBySkeletons, TypesBySkeletons}
@@ -155,18 +156,26 @@ pub both_runs : {Σ : Signature} {s s' s'' : Store} → Run Σ s s' → Run Σ s
 both_runs no_step r = r
 both_runs (then_run p q) r = then_run p (both_runs q r)
 
+pub both_renew : {Σ : Signature} {s s' s'' : Store} (p : Run Σ s s') (q : Run Σ s' s'') → RunRenewsReached p → RunRenewsReached q → RunRenewsReached (both_runs p q)
+both_renew no_step q n m = m
+both_renew (then_run s p) q (k, n) m = (k, both_renew p q n m)
+
 module _ (Σ : Signature) (Ψ : ℕ → Option LfType) (bs : List Binding) where
   abbrev with : List Equation → Store
   with es = record { metavariables = Ψ; bindings = bs; equations = es }
 
-  pub new_first : (es fs : List Equation) → Run Σ (record { metavariables = Ψ; bindings = bs; equations = followed es fs }) (record { metavariables = Ψ; bindings = bs; equations = followed fs es })
-  new_first es [] = subst (λ l. Run Σ (with (followed es [])) (with l)) (followed_nothing es) no_step
+  -- a run that renews nothing without need
+  abbrev Moves : Store → Store → Type 0
+  Moves s s' = (r : Run Σ s s') × RunRenewsReached r
+
+  pub new_first : (es fs : List Equation) → Moves (record { metavariables = Ψ; bindings = bs; equations = followed es fs }) (record { metavariables = Ψ; bindings = bs; equations = followed fs es })
+  new_first es [] = subst (λ l. Moves (with (followed es [])) (with l)) (followed_nothing es) (no_step, tt)
   new_first es (f ∷ fs) =
-      let one : Run Σ (with (followed es (f ∷ fs))) (with (followed fs (followed es (f ∷ [])))) = subst (λ l. Run Σ (with l) (with (followed fs (followed es (f ∷ []))))) (followed_twice es (f ∷ []) fs) (new_first (followed es (f ∷ [])) fs) in
-      let two : Run Σ (with (followed fs (followed es (f ∷ [])))) (with (f ∷ followed fs es)) =
-      subst (λ l. Run Σ (with l) (with (f ∷ followed fs es))) (followed_twice fs es (f ∷ []))
-      (subst (λ l. Run Σ (with (followed (followed fs es) (f ∷ []))) (with (f ∷ l))) (followed_nothing (followed fs es)) (then_run (next_equation (followed fs es) f []) no_step)) in
-      both_runs one two
+      let one : Moves (with (followed es (f ∷ fs))) (with (followed fs (followed es (f ∷ [])))) = subst (λ l. Moves (with l) (with (followed fs (followed es (f ∷ []))))) (followed_twice es (f ∷ []) fs) (new_first (followed es (f ∷ [])) fs) in
+      let two : Moves (with (followed fs (followed es (f ∷ [])))) (with (f ∷ followed fs es)) =
+      subst (λ l. Moves (with l) (with (f ∷ followed fs es))) (followed_twice fs es (f ∷ []))
+      (subst (λ l. Moves (with (followed (followed fs es) (f ∷ []))) (with (f ∷ l))) (followed_nothing (followed fs es)) (then_run (next_equation (followed fs es) f []) no_step, (tt, tt))) in
+      (both_runs one.0 two.0, both_renew one.0 two.0 one.1 two.1)
 
 -- the holes of the subgoals
 appended : {A : Type 0} (xs ys : List A) → xs ++ ys ≡ followed xs ys

@@ -9,6 +9,7 @@ use Rattle.lf_unification.specs.DeepEquations.{AreDeep}
 use Rattle.lf_unification.specs.Search.{IsChild, Offer, holes}
 use Rattle.lf_unification.specs.Solving.{Never}
 use Rattle.lf_unification.specs.Unifiers.{Store}
+use Rattle.lf_search.specs.Holes.{RunRenewsReached}
 use Rattle.tw_metas.specs.State.{State}
 use Rattle.tw_putting.specs.Ready.{IsReady}
 use Rattle.tw_putting.specs.Whole.{whole}
@@ -35,6 +36,7 @@ pub record NeverFits (Σ : Signature) (s : State) (g : OpenGoal) (h : Head) : Ty
 pub record GivesChild (Σ : Signature) (old : State) (g : OpenGoal) (h : Head) (subgoals : List MetaId) (new : State) : Type 0 where
   pub has : HasOffer Σ old g h
   pub child : IsChild Σ has.offered (whole [] new)
+  pub renews : RunRenewsReached child.run
   pub ready : IsReady Σ [] new
   pub subgoals_are : reverse (map (λ m. m.0) subgoals) ≡ holes (length old.declared) has.head_type
 
