@@ -4,6 +4,7 @@ use Rattle.lf.specs.Eta.{arity, eta_arguments, eta_long, lambdas}
 use Rattle.lf.specs.Syntax.{LfType, Skeleton, Spine, Term, arrow, atom, base, lambda, metavariable, root, skeleton}
 use Rattle.lf.proofs.AtOnce.{eta_at_once}
 use Rattle.lf.specs.Typing.{Signature}
+use Rattle.lf_unification.specs.DeepEquations.{EquationsReach}
 use Rattle.lf_unification.specs.Lists.{followed}
 use Rattle.lf_unification.specs.Offering.{pi_over}
 use Rattle.lf_unification.specs.OpenTyping.{MetavariablesInType, set_at, skeletons_of}
@@ -11,8 +12,9 @@ use Rattle.lf_unification.specs.Patterns.{lambdas_of, pattern}
 use Rattle.lf_unification.specs.Pruning.{PrunedType, pruned_store}
 use Rattle.lf_unification.specs.Putting.{Unbound}
 use Rattle.lf_unification.specs.Skeletons.{skeleton_or_default}
+use Rattle.tw_unify.specs.Runs.{ReachedRun}
 use Rattle.lf_unification.specs.Renewing.{renewed_store}
-use Rattle.lf_unification.specs.Steps.{IsRefuted, Run, bind, drop_equal, no_step, prune_both, prune_inside, renew}
+use Rattle.lf_unification.specs.Steps.{IsRefuted, bind, drop_equal, no_step, prune_both, prune_inside, renew}
 use Rattle.lf_unification.specs.Unifiers.{Binding, Equation, Side, Store, equation_on, on_left, on_right}
 use Rattle.tw_metas.specs.State.{IsUnbound, State, with_declared, with_equation, with_value}
 use Rattle.tw_terms.specs.OpenView.{open_spine_of, open_term_of, open_type_of}
@@ -55,25 +57,25 @@ module _ (Σ : Signature) (s : State) where
   sides_are on_right e M is = ap (λ X. record { local = e.local; left = e.left; right = X; of_type = e.of_type }) (sym is)
 
   -- a run from such an equation
-  from_side : (side : Side) (e : Equation) (es : List Equation) (M : Term) → near side e ≡ M → (t : Equation → Store) → Run Σ (holding (facing side e M (far side e) ∷ followed es s.equations)) (t (facing side e M (far side e))) → Run Σ (whole (e ∷ es) s) (t e)
-  from_side side e es M is t r = subst (λ (d : Equation). Run Σ (holding (d ∷ followed es s.equations)) (t d)) (sides_are side e M is) r
+  from_side : (side : Side) (e : Equation) (es : List Equation) (M : Term) → near side e ≡ M → (t : Equation → Store) → ReachedRun Σ (holding (facing side e M (far side e) ∷ followed es s.equations)) (t (facing side e M (far side e))) → ReachedRun Σ (whole (e ∷ es) s) (t e)
+  from_side side e es M is t r = subst (λ (d : Equation). ReachedRun Σ (holding (d ∷ followed es s.equations)) (t d)) (sides_are side e M is) r
 
   -- a metavariable is bound
-  bind_on : (side : Side) (e : Equation) (es : List Equation) (n : MetaId) (V : Open) → IsMove s e.local (near side e) (far side e) (Bind n V) → Run Σ (whole (e ∷ es) s) (whole es (with_value s n.0 (open_term_of V)))
+  bind_on : (side : Side) (e : Equation) (es : List Equation) (n : MetaId) (V : Open) → IsMove s e.local (near side e) (far side e) (Bind n V) → ReachedRun Σ (whole (e ∷ es) s) (whole es (with_value s n.0 (open_term_of V)))
   bind_on side e es n V v =
       let f = v.fits in
       let (same, b) = v.move in
       let unbound : IsUnbound s v.m = is_unbound s f.consistent v.m f.of_type f.declared f.unbound in
-      let stepped : Run Σ (holding (facing side e (on_pattern s v.m v.xs) (far side e) ∷ followed es s.equations)) (record { metavariables = types_of s; bindings = record { of = v.m; value = lambdas_of (skeletons_of (types_of s) v.m) b.can.inverted.inversion } ∷ bindings_of s; equations = followed es s.equations }) =
-      one_step Σ (bind side e.local v.m v.xs (far side e) e.of_type f.declared f.unbound f.is_pattern b.can) in
+      let stepped : ReachedRun Σ (holding (facing side e (on_pattern s v.m v.xs) (far side e) ∷ followed es s.equations)) (record { metavariables = types_of s; bindings = record { of = v.m; value = lambdas_of (skeletons_of (types_of s) v.m) b.can.inverted.inversion } ∷ bindings_of s; equations = followed es s.equations }) =
+      one_step Σ (bind side e.local v.m v.xs (far side e) e.of_type f.declared f.unbound f.is_pattern b.can) tt in
       let bound : bindings_of (with_value s v.m (open_term_of V)) ≡ record { of = v.m; value = lambdas_of (skeletons_of (types_of s) v.m) b.can.inverted.inversion } ∷ bindings_of s =
       bindings_with_value s f.consistent v.m (open_term_of V) unbound ∙ ap (λ X. record { of = v.m; value = X } ∷ bindings_of s) b.value in
-      let there : Run Σ (holding (facing side e (on_pattern s v.m v.xs) (far side e) ∷ followed es s.equations)) (whole es (with_value s v.m (open_term_of V))) =
-      subst (λ (bs : List Binding). Run Σ (holding (facing side e (on_pattern s v.m v.xs) (far side e) ∷ followed es s.equations)) (record { metavariables = types_of s; bindings = bs; equations = followed es s.equations })) (sym bound) stepped in
-      subst (λ k. Run Σ (whole (e ∷ es) s) (whole es (with_value s k (open_term_of V)))) same
+      let there : ReachedRun Σ (holding (facing side e (on_pattern s v.m v.xs) (far side e) ∷ followed es s.equations)) (whole es (with_value s v.m (open_term_of V))) =
+      subst (λ (bs : List Binding). ReachedRun Σ (holding (facing side e (on_pattern s v.m v.xs) (far side e) ∷ followed es s.equations)) (record { metavariables = types_of s; bindings = bs; equations = followed es s.equations })) (sym bound) stepped in
+      subst (λ k. ReachedRun Σ (whole (e ∷ es) s) (whole es (with_value s k (open_term_of V)))) same
       (from_side side e es (on_pattern s v.m v.xs) v.is (λ d. whole es (with_value s v.m (open_term_of V))) there)
 
-  pub bind_runs : (e : Equation) (es : List Equation) (n : MetaId) (V : Open) → AllowsMove s e (Bind n V) → Run Σ (whole (e ∷ es) s) (whole es (with_value s n.0 (open_term_of V)))
+  pub bind_runs : (e : Equation) (es : List Equation) (n : MetaId) (V : Open) → AllowsMove s e (Bind n V) → ReachedRun Σ (whole (e ∷ es) s) (whole es (with_value s n.0 (open_term_of V)))
   bind_runs e es n V v = bind_on v.side e es n V v.move
 
   -- the store in which n is bound to a new metavariable of the type Y, on the arguments S
@@ -125,27 +127,27 @@ module _ (Σ : Signature) (s : State) where
     moved_scope = subst (λ (d : Equation). AllScoped (d ∷ es) s) (sym (sides_are side e (on_pattern s m xs) is)) x
 
     -- a metavariable inside the other side loses an argument
-    inside_runs : (n : ℕ) (Y : LfType) (S : Spine) → LosesInside s e.local m xs (far side e) n Y S → Run Σ (whole (e ∷ es) s) (whole (e ∷ es) (pruned_state s n Y S))
+    inside_runs : (n : ℕ) (Y : LfType) (S : Spine) → LosesInside s e.local m xs (far side e) n Y S → ReachedRun Σ (whole (e ∷ es) s) (whole (e ∷ es) (pruned_state s n Y S))
     inside_runs n Y S l =
         let k = l.can.drop.m in
-        let there : Run Σ (whole (e ∷ es) s) (pruned_store (whole (e ∷ es) s) k l.can.dropped l.can.pruned (length s.declared)) =
+        let there : ReachedRun Σ (whole (e ∷ es) s) (pruned_store (whole (e ∷ es) s) k l.can.dropped l.can.pruned (length s.declared)) =
         from_side side e es (on_pattern s m xs) is (λ (d : Equation). pruned_store (whole (d ∷ es) s) k l.can.dropped l.can.pruned (length s.declared))
-        (one_step Σ (prune_inside side e.local m xs (far side e) e.of_type f.declared f.is_pattern l.can l.unbound (length s.declared) moved_scope)) in
-        let same : Run Σ (whole (e ∷ es) s) (whole (e ∷ es) (pruned_state s k Y S)) =
-        subst (Run Σ (whole (e ∷ es) s)) (sym (pruned_whole (e ∷ es) k l.can.dropped l.can.pruned Y S f.consistent (unbound_from k l.can.dropped l.can.pruned f.consistent l.unbound) l.gives)) there in
-        subst (λ j. Run Σ (whole (e ∷ es) s) (whole (e ∷ es) (pruned_state s j Y S))) l.of same
+        (one_step Σ (prune_inside side e.local m xs (far side e) e.of_type f.declared f.is_pattern l.can l.unbound (length s.declared) moved_scope) tt) in
+        let same : ReachedRun Σ (whole (e ∷ es) s) (whole (e ∷ es) (pruned_state s k Y S)) =
+        subst (ReachedRun Σ (whole (e ∷ es) s)) (sym (pruned_whole (e ∷ es) k l.can.dropped l.can.pruned Y S f.consistent (unbound_from k l.can.dropped l.can.pruned f.consistent l.unbound) l.gives)) there in
+        subst (λ j. ReachedRun Σ (whole (e ∷ es) s) (whole (e ∷ es) (pruned_state s j Y S))) l.of same
 
     -- the metavariable of both sides does
-    both_run : (n : ℕ) (Y : LfType) (S : Spine) → LosesInBoth s e.local m xs (far side e) n Y S → Run Σ (whole (e ∷ es) s) (whole (e ∷ es) (pruned_state s n Y S))
+    both_run : (n : ℕ) (Y : LfType) (S : Spine) → LosesInBoth s e.local m xs (far side e) n Y S → ReachedRun Σ (whole (e ∷ es) s) (whole (e ∷ es) (pruned_state s n Y S))
     both_run n Y S l =
-        let there : Run Σ (whole (e ∷ es) s) (pruned_store (whole (e ∷ es) s) m l.can.dropped l.can.pruned (length s.declared)) =
+        let there : ReachedRun Σ (whole (e ∷ es) s) (pruned_store (whole (e ∷ es) s) m l.can.dropped l.can.pruned (length s.declared)) =
         from_side side e es (on_pattern s m xs) is (λ (d : Equation). pruned_store (whole (d ∷ es) s) m l.can.dropped l.can.pruned (length s.declared))
-        (one_step Σ (prune_both side e.local m xs (far side e) e.of_type f.declared f.is_pattern l.can f.unbound (length s.declared) moved_scope)) in
-        let same : Run Σ (whole (e ∷ es) s) (whole (e ∷ es) (pruned_state s m Y S)) =
-        subst (Run Σ (whole (e ∷ es) s)) (sym (pruned_whole (e ∷ es) m l.can.dropped l.can.pruned Y S f.consistent (unbound_from m l.can.dropped l.can.pruned f.consistent f.unbound) l.gives)) there in
-        subst (λ j. Run Σ (whole (e ∷ es) s) (whole (e ∷ es) (pruned_state s j Y S))) l.of same
+        (one_step Σ (prune_both side e.local m xs (far side e) e.of_type f.declared f.is_pattern l.can f.unbound (length s.declared) moved_scope) tt) in
+        let same : ReachedRun Σ (whole (e ∷ es) s) (whole (e ∷ es) (pruned_state s m Y S)) =
+        subst (ReachedRun Σ (whole (e ∷ es) s)) (sym (pruned_whole (e ∷ es) m l.can.dropped l.can.pruned Y S f.consistent (unbound_from m l.can.dropped l.can.pruned f.consistent f.unbound) l.gives)) there in
+        subst (λ j. ReachedRun Σ (whole (e ∷ es) s) (whole (e ∷ es) (pruned_state s j Y S))) l.of same
 
-  pub lose_runs : (e : Equation) (es : List Equation) (n : MetaId) (p : Pruned) → AllScoped (e ∷ es) s → AllowsMove s e (Lose n p) → Run Σ (whole (e ∷ es) s) (whole (e ∷ es) (pruned_state s n.0 (open_type_of p.ty) (open_spine_of p.spine)))
+  pub lose_runs : (e : Equation) (es : List Equation) (n : MetaId) (p : Pruned) → AllScoped (e ∷ es) s → AllowsMove s e (Lose n p) → ReachedRun Σ (whole (e ∷ es) s) (whole (e ∷ es) (pruned_state s n.0 (open_type_of p.ty) (open_spine_of p.spine)))
   lose_runs e es n p x a = let v = a.move in elim v.move [
     | inl l ↦ inside_runs a.side e es v.m v.xs v.fits v.is x n.0 (open_type_of p.ty) (open_spine_of p.spine) l
     | inr l ↦ both_run a.side e es v.m v.xs v.fits v.is x n.0 (open_type_of p.ty) (open_spine_of p.spine) l
@@ -170,24 +172,24 @@ module _ (Σ : Signature) (s : State) where
   }
 
   -- a metavariable is renewed
-  pub renew_runs : (fs : List Equation) (m : ℕ) (Y : LfType) (S : Spine) → IsConsistent s → AllScoped fs s → NeedsRenewal s m → IsRenewal s m Y S → Run Σ (whole fs s) (whole fs (pruned_state s m Y S))
-  renew_runs fs m Y S c x n r =
+  pub renew_runs : (fs : List Equation) (m : ℕ) (Y : LfType) (S : Spine) → IsConsistent s → AllScoped fs s → NeedsRenewal s m → IsRenewal s m Y S → EquationsReach (whole fs s) m → ReachedRun Σ (whole fs s) (whole fs (pruned_state s m Y S))
+  renew_runs fs m Y S c x n r h =
       let same : n.of_type ≡ r.of_type = some_same (sym n.declared ∙ r.declared) in
-      subst (Run Σ (whole fs s)) (sym (renewed_whole fs m Y S c (is_unbound s c m n.of_type n.declared n.unbound) r))
-      (one_step Σ (renew m r.of_type Y r.declared n.unbound (λ a. n.mentions (subst (MetavariablesInType (Unbound (bindings_of s))) (sym same) a)) r.puts (length s.declared) x))
+      subst (ReachedRun Σ (whole fs s)) (sym (renewed_whole fs m Y S c (is_unbound s c m n.of_type n.declared n.unbound) r))
+      (one_step Σ (renew m r.of_type Y r.declared n.unbound (λ a. n.mentions (subst (MetavariablesInType (Unbound (bindings_of s))) (sym same) a)) r.puts (length s.declared) x) h)
     where
       some_same : {A : Type 0} {a b : A} → Some a ≡ Some b → a ≡ b
       some_same e = cc
 
   -- equal sides
-  pub equal_runs : (e : Equation) (es : List Equation) → e.left ≡ e.right → Run Σ (whole (e ∷ es) s) (whole es s)
-  equal_runs e es h = subst (λ M. Run Σ (holding (record { local = e.local; left = M; right = e.right; of_type = e.of_type } ∷ followed es s.equations)) (whole es s)) (sym h) (one_step Σ drop_equal)
+  pub equal_runs : (e : Equation) (es : List Equation) → e.left ≡ e.right → ReachedRun Σ (whole (e ∷ es) s) (whole es s)
+  equal_runs e es h = subst (λ M. ReachedRun Σ (holding (record { local = e.local; left = M; right = e.right; of_type = e.of_type } ∷ followed es s.equations)) (whole es s)) (sym h) (one_step Σ drop_equal tt)
 
   -- an equation is postponed
-  pub postpone_runs : (e : Equation) (es : List Equation) → Run Σ (whole (e ∷ es) s) (whole es (with_equation s e))
+  pub postpone_runs : (e : Equation) (es : List Equation) → ReachedRun Σ (whole (e ∷ es) s) (whole es (with_equation s e))
   postpone_runs e es =
-      let moved : Run Σ (holding (e ∷ followed (followed es s.equations) [])) (holding (followed (followed es s.equations) (e ∷ []))) = places_change Σ (types_of s) (bindings_of s) (e ∷ []) (followed es s.equations) [] in
-      let from : Run Σ (holding (e ∷ followed es s.equations)) (holding (followed (followed es s.equations) (e ∷ []))) =
-      subst (λ fs. Run Σ (holding (e ∷ fs)) (holding (followed (followed es s.equations) (e ∷ [])))) (followed_nothing (followed es s.equations)) moved in
+      let moved : ReachedRun Σ (holding (e ∷ followed (followed es s.equations) [])) (holding (followed (followed es s.equations) (e ∷ []))) = places_change Σ (types_of s) (bindings_of s) (e ∷ []) (followed es s.equations) [] in
+      let from : ReachedRun Σ (holding (e ∷ followed es s.equations)) (holding (followed (followed es s.equations) (e ∷ []))) =
+      subst (λ fs. ReachedRun Σ (holding (e ∷ fs)) (holding (followed (followed es s.equations) (e ∷ [])))) (followed_nothing (followed es s.equations)) moved in
       let to : followed (followed es s.equations) (e ∷ []) ≡ followed es (s.equations ++ e ∷ []) = followed_twice es s.equations (e ∷ []) ∙ ap (followed es) (sym (joined_is_followed s.equations (e ∷ []))) in
-      subst (λ fs. Run Σ (holding (e ∷ followed es s.equations)) (holding fs)) to from
+      subst (λ fs. ReachedRun Σ (holding (e ∷ followed es s.equations)) (holding fs)) to from

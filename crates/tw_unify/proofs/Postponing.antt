@@ -6,7 +6,8 @@ use Rattle.std.proofs.lemmas.List.{length-map, map-append, take_more}
 use Rattle.lf.specs.Subordination.{Member}
 use Rattle.lf.specs.Typing.{Signature}
 use Rattle.lf_unification.specs.Lists.{followed}
-use Rattle.lf_unification.specs.Steps.{Run, next_equation, no_step, then_run}
+use Rattle.tw_unify.specs.Runs.{ReachedRun}
+use Rattle.lf_unification.specs.Steps.{next_equation}
 use Rattle.lf_unification.specs.Unifiers as unifiers
 use Rattle.tw_metas.specs.State.{State, without_equation}
 use Rattle.tw_metas.specs.View.{equation_of}
@@ -18,6 +19,7 @@ use Rattle.tw_putting.specs.Whole.{whole}
 use Rattle.tw_unify.specs.declared.fault.UnifyFault.{UnifyFault}
 use Rattle.tw_unify.specs.declared.fault.UnifyFault.TheVariants.{NoMemory, TooDeep}
 use Rattle.tw_unify.proofs.Fitting.{deep_sides}
+use Rattle.tw_unify.proofs.Orders.{one_step}
 
 pub still_on : (b : Bool) (P : Type 0) → b ≡ true → OnTrue b P → P
 still_on true P e p = p
@@ -76,14 +78,14 @@ abbrev holding : State → List unifiers.Equation → unifiers.Store
 holding s es = record { metavariables = types_of s; bindings = bindings_of s; equations = es }
 
 -- a postponed equation is woken
-pub wake_runs : (Σ : Signature) (s : State) (items : List Equation) (i : ℕ) (x : Equation) (d : unifiers.Equation) → map equation_of items ≡ s.equations → i < length items → x ≡ get_or items i x → d ≡ equation_of x → Run Σ (whole [] s) (whole (d ∷ []) (without_equation s i))
+pub wake_runs : (Σ : Signature) (s : State) (items : List Equation) (i : ℕ) (x : Equation) (d : unifiers.Equation) → map equation_of items ≡ s.equations → i < length items → x ≡ get_or items i x → d ≡ equation_of x → ReachedRun Σ (whole [] s) (whole (d ∷ []) (without_equation s i))
 wake_runs Σ s items i x d is h e k =
     let t = taken_out items i x h e in
-    let stepped : Run Σ (holding s (followed t.before (equation_of x ∷ t.behind))) (holding s (equation_of x ∷ followed t.before t.behind)) = then_run (next_equation t.before (equation_of x) t.behind) no_step in
-    let from : Run Σ (whole [] s) (holding s (equation_of x ∷ followed t.before t.behind)) =
-    subst (λ es. Run Σ (holding s es) (holding s (equation_of x ∷ followed t.before t.behind))) (sym t.whole_is ∙ is) stepped in
+    let stepped : ReachedRun Σ (holding s (followed t.before (equation_of x ∷ t.behind))) (holding s (equation_of x ∷ followed t.before t.behind)) = one_step Σ (next_equation t.before (equation_of x) t.behind) tt in
+    let from : ReachedRun Σ (whole [] s) (holding s (equation_of x ∷ followed t.before t.behind)) =
+    subst (λ es. ReachedRun Σ (holding s es) (holding s (equation_of x ∷ followed t.before t.behind))) (sym t.whole_is ∙ is) stepped in
     let to : followed t.before t.behind ≡ remove s.equations i = sym t.rest_is ∙ ap (λ es. remove es i) is in
-    subst (λ f. Run Σ (whole [] s) (whole (f ∷ []) (without_equation s i))) (sym k) (subst (λ es. Run Σ (whole [] s) (holding s (equation_of x ∷ es))) to from)
+    subst (λ f. ReachedRun Σ (whole [] s) (whole (f ∷ []) (without_equation s i))) (sym k) (subst (λ es. ReachedRun Σ (whole [] s) (holding s (equation_of x ∷ es))) to from)
 
 element_here : (items : List Equation) (i : ℕ) (x : Equation) → i < length items → x ≡ get_or items i x → slice_get (map equation_of items) i ≡ Some (equation_of x)
 element_here [] i x h e = absurd (omega arith)

@@ -18,7 +18,7 @@ use Rattle.lf_unification.specs.Putting.{Unbound}
 use Rattle.lf_unification.specs.Reach.{IsInside, IsReached, in_term, in_type, in_value, is_given}
 use Rattle.lf_unification.specs.Scope.{MetavariablesInBindings, MetavariablesInEquationTypes, MetavariablesInEquations}
 use Rattle.lf_unification.specs.Solving.{AllLeftOver, LeftOver}
-use Rattle.lf_unification.specs.Steps.{Run}
+use Rattle.tw_unify.specs.Runs.{ReachedRun}
 use Rattle.lf_unification.specs.Unifiers.{Binding, Equation, Store}
 use Rattle.lf_unification.proofs.Putting.{put_some, some_within}
 use Rattle.lf_unification.proofs.Scope.{in_weaker}
@@ -354,7 +354,7 @@ pub all_taken : (s : State) (items : List RustEquation) (es : List Equation) (n 
 all_taken s items es n is h a = subst (AllLeft s) is (subst (λ xs. AllLeft s (map equation_of xs)) (take_past items n h) a)
 
 -- what comes of an equation that is not refuted
-pub not_refuted : (a : Advance) (Σ : Signature) (s t : Store) → (a ≡ Refuted → ⊥) → Advances a Σ s t → Run Σ s t
+pub not_refuted : (a : Advance) (Σ : Signature) (s t : Store) → (a ≡ Refuted → ⊥) → Advances a Σ s t → ReachedRun Σ s t
 not_refuted Went Σ s t n r = r
 not_refuted (Bound m) Σ s t n r = r
 not_refuted Postponed Σ s t n r = r

@@ -9,15 +9,16 @@ use Rattle.lf_unification.specs.Offering.{argument_equations}
 use Rattle.lf_unification.specs.Outside.{IsLambda}
 use Rattle.lf_unification.specs.Patterns.{local_skeletons}
 use Rattle.lf_unification.specs.Putting.{IsRigidHead, binders, put_nothing}
-use Rattle.lf_unification.specs.DeepEquations.{IsDeepType, deep_equation, deep_type, from_left, from_right}
-use Rattle.lf_unification.specs.Steps.{Run, constant_or_variable, constants_differ, equal_heads, no_step, open_lambdas, put_bindings, variables_differ}
+use Rattle.lf_unification.specs.DeepEquations.{EquationsReach, IsDeepType, deep_equation, deep_type, from_left, from_right}
+use Rattle.tw_unify.specs.Runs.{ReachedRun}
+use Rattle.lf_unification.specs.Steps.{constant_or_variable, constants_differ, equal_heads, no_step, open_lambdas, put_bindings, variables_differ}
 use Rattle.lf_unification.specs.Unifiers.{Equation, Store, on_left, on_right}
 use Rattle.lf_unification.proofs.Putting.{put_some, put_unbound}
 use Rattle.tw_metas.specs.State.{State}
 use Rattle.tw_putting.specs.Fits.{declared_skeletons}
 use Rattle.tw_putting.specs.Stores.{PutsDeepType, bindings_of, types_of}
 use Rattle.tw_putting.specs.Unfolding.{HeadStays}
-use Rattle.tw_unify.specs.Flexible.{AllowsMove, BlamesReached, BothHeadsFit, FlexibleFits, MoveFits}
+use Rattle.tw_unify.specs.Flexible.{AllowsMove, BlamesReached, BothHeadsFit, FlexibleFits, IsReachedFrom, MoveFits}
 use Rattle.tw_unify.specs.Moving.{HeadsFit, SidesFit}
 use Rattle.tw_unify.specs.Outcomes.{Advances, CanRefute, Explains}
 use Rattle.tw_putting.specs.Ready.{IsReady}
@@ -30,7 +31,7 @@ use Rattle.tw_unify.specs.declared.moves.Move.{Move}
 use Rattle.tw_unify.specs.declared.sides.Shape.TheVariants as shape
 use Rattle.tw_unify.specs.declared.work.Advance.{Advance}
 use Rattle.tw_unify.specs.declared.work.Advance.TheVariants.{Bound, Postponed, Refuted, Went}
-use Rattle.tw_unify.proofs.Orders.{both_runs, one_step}
+use Rattle.tw_unify.proofs.Orders.{both_reached, both_runs, one_step}
 use Rattle.tw_putting.proofs.Readiness.{ready_scoped}
 use Rattle.tw_unify.proofs.Fitting.{deep_sides, ready_first}
 
@@ -39,10 +40,10 @@ module _ (Σ : Signature) (s : State) where
   first_is es e = record { metavariables = types_of s; bindings = bindings_of s; equations = e ∷ followed es s.equations }
 
   -- lambdas are opened
-  pub opens_runs : (e : Equation) (old new : List Equation) → Opens e old new → Run Σ (whole (e ∷ old) s) (whole new s)
+  pub opens_runs : (e : Equation) (old new : List Equation) → Opens e old new → ReachedRun Σ (whole (e ∷ old) s) (whole new s)
   opens_runs e old new o =
-      subst (λ fs. Run Σ (whole (e ∷ old) s) (whole fs s)) (sym o.gives)
-      (subst (λ d. Run Σ (first_is old d) (whole (record { local = o.domain ∷ e.local; left = o.left; right = o.right; of_type = o.range } ∷ old) s)) (sym o.is) (one_step Σ open_lambdas))
+      subst (λ fs. ReachedRun Σ (whole (e ∷ old) s) (whole fs s)) (sym o.gives)
+      (subst (λ d. ReachedRun Σ (first_is old d) (whole (record { local = o.domain ∷ e.local; left = o.left; right = o.right; of_type = o.range } ∷ old) s)) (sym o.is) (one_step Σ open_lambdas tt))
 
   function_is : (κ : HeadSkeletons) (Γ : List Skeleton) (M : Term) (C : LfType) → IsLambda M → TermSkeleton κ Γ M (skeleton C) → IsPi C
   function_is κ Γ (lambda M) (pi A B) l m = tt
@@ -61,14 +62,14 @@ module _ (Σ : Signature) (s : State) where
   followed_over (x ∷ xs) ys zs = ap (λ us. x ∷ us) (followed_over xs ys zs)
 
   -- equal heads give the equations of the arguments
-  pub decomposes_runs : (e : Equation) (old new : List Equation) → Decomposes Σ e old new → Run Σ (whole (e ∷ old) s) (whole new s)
+  pub decomposes_runs : (e : Equation) (old new : List Equation) → Decomposes Σ e old new → ReachedRun Σ (whole (e ∷ old) s) (whole new s)
   decomposes_runs e old new d =
       let args = argument_equations e.local d.head_type d.left d.right in
-      let stepped : Run Σ (first_is old (record { local = e.local; left = root d.head d.left; right = root d.head d.right; of_type = atom d.family d.indices })) (record { metavariables = types_of s; bindings = bindings_of s; equations = followed args (followed old s.equations) }) =
-      one_step Σ (equal_heads d.head d.head_type d.typed.0 (d.typed.1 (types_of s))) in
+      let stepped : ReachedRun Σ (first_is old (record { local = e.local; left = root d.head d.left; right = root d.head d.right; of_type = atom d.family d.indices })) (record { metavariables = types_of s; bindings = bindings_of s; equations = followed args (followed old s.equations) }) =
+      one_step Σ (equal_heads d.head d.head_type d.typed.0 (d.typed.1 (types_of s))) tt in
       let to : followed args (followed old s.equations) ≡ followed new s.equations = sym (followed_over args old s.equations) ∙ ap (λ fs. followed fs s.equations) (sym d.gives) in
-      subst (λ fs. Run Σ (whole (e ∷ old) s) (record { metavariables = types_of s; bindings = bindings_of s; equations = fs })) to
-      (subst (λ f. Run Σ (first_is old f) (record { metavariables = types_of s; bindings = bindings_of s; equations = followed args (followed old s.equations) })) (sym d.is) stepped)
+      subst (λ fs. ReachedRun Σ (whole (e ∷ old) s) (record { metavariables = types_of s; bindings = bindings_of s; equations = fs })) to
+      (subst (λ f. ReachedRun Σ (first_is old f) (record { metavariables = types_of s; bindings = bindings_of s; equations = followed args (followed old s.equations) })) (sym d.is) stepped)
 
   -- different rigid heads
   heads_apart : (D : List LfType) (C : LfType) (es : List Equation) (h k : Head) (S T : Spine) → (h ≡ k → ⊥) → IsRigidHead h → IsRigidHead k → CanRefute Σ (first_is es (record { local = D; left = root h S; right = root k T; of_type = C }))
@@ -170,12 +171,12 @@ module _ (Σ : Signature) (s : State) where
   left_fits e es r = let f = ready_first Σ e es s r in record { declared = types_of s; locals = f.locals; left_typed = f.left_typed }
 
   -- the bindings are put in
-  pub put_runs : (e f : Equation) (es : List Equation) → PutsAll s e f → Run Σ (whole (e ∷ es) s) (whole (f ∷ es) s)
-  put_runs e f es p = subst (λ (d : Equation). Run Σ (whole (e ∷ es) s) (whole (d ∷ es) s)) (sym p.is) (one_step Σ (put_bindings (put_some p.puts.0) (put_some p.puts.1)))
+  pub put_runs : (e f : Equation) (es : List Equation) → PutsAll s e f → ReachedRun Σ (whole (e ∷ es) s) (whole (f ∷ es) s)
+  put_runs e f es p = subst (λ (d : Equation). ReachedRun Σ (whole (e ∷ es) s) (whole (d ∷ es) s)) (sym p.is) (one_step Σ (put_bindings (put_some p.puts.0) (put_some p.puts.1)) tt)
 
   -- some are, as far as the heads
-  pub unfold_runs : (e f : Equation) (es : List Equation) → UnfoldsBoth s e f → Run Σ (whole (e ∷ es) s) (whole (f ∷ es) s)
-  unfold_runs e f es u = subst (λ (d : Equation). Run Σ (whole (e ∷ es) s) (whole (d ∷ es) s)) (sym u.is) (one_step Σ (put_bindings u.left u.right))
+  pub unfold_runs : (e f : Equation) (es : List Equation) → UnfoldsBoth s e f → ReachedRun Σ (whole (e ∷ es) s) (whole (f ∷ es) s)
+  unfold_runs e f es u = subst (λ (d : Equation). ReachedRun Σ (whole (e ∷ es) s) (whole (d ∷ es) s)) (sym u.is) (one_step Σ (put_bindings u.left u.right) tt)
 
   -- the heads are seen to differ
   pub become_apart : (e : Equation) (es : List Equation) → BecomeApart s e → CanRefute Σ (whole (e ∷ es) s)
@@ -209,12 +210,17 @@ module _ (Σ : Signature) (s : State) where
   explains_reached TooDeep e es (k, A, d, p, inr r) = record { reached = whole (e ∷ es) s; run = no_step; deep = deep_type k A d (from_right e (inl refl) r) (deep_type_of (e ∷ es) A p) }
   explains_reached NoMemory e es b = tt
 
+-- what is reached from the sides of the first equation is reached
+pub reached_first : (s : State) (e : Equation) (es : List Equation) (k : ℕ) → IsReachedFrom s e.left e.right k → EquationsReach (whole (e ∷ es) s) k
+reached_first s e es k (inl r) = from_left e (inl refl) r
+reached_first s e es k (inr r) = from_right e (inl refl) r
+
 -- what comes after a run
-pub advances_after : (Σ : Signature) (a : Advance) (s t u : Store) → Run Σ s t → Advances a Σ t u → Advances a Σ s u
-advances_after Σ Went s t u p q = both_runs Σ p q
-advances_after Σ (Bound m) s t u p q = both_runs Σ p q
-advances_after Σ Postponed s t u p q = both_runs Σ p q
-advances_after Σ Refuted s t u p q = record { reached = q.reached; run = both_runs Σ p q.run; refuted = q.refuted }
+pub advances_after : (Σ : Signature) (a : Advance) (s t u : Store) → ReachedRun Σ s t → Advances a Σ t u → Advances a Σ s u
+advances_after Σ Went s t u p q = both_reached Σ p q
+advances_after Σ (Bound m) s t u p q = both_reached Σ p q
+advances_after Σ Postponed s t u p q = both_reached Σ p q
+advances_after Σ Refuted s t u p q = record { reached = q.reached; run = both_runs Σ p.run q.run; refuted = q.refuted }
 
 -- a fault of putting the bindings in
 pub blames_left : (f : UnifyFault) (s : State) (e : Equation) → BlamesSide f s (binders e.local) e.left → BlamesDepth f s e

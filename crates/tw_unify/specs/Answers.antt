@@ -3,6 +3,7 @@ use Rattle.std.specs.Prelude.{◌≡◌, List, []}
 use Rattle.lf.specs.Subordination.{Member}
 use Rattle.lf.specs.Typing.{Signature}
 use Rattle.lf_unification.specs.Origins.{ComesFrom}
+use Rattle.tw_unify.specs.Runs.{ReachedRun}
 use Rattle.lf_unification.specs.Solving as solving
 use Rattle.lf_unification.specs.Unifiers.{Equation, Store}
 use Rattle.tw_metas.specs.State.{State}
@@ -15,6 +16,12 @@ abbrev pub Answers : Unified → Signature → Store → Store → Type 0
 Answers Solved Σ before after = solving.Solved Σ before after
 Answers Never Σ before after = solving.Never Σ [] before
 Answers Left Σ before after = solving.Left Σ before after
+
+-- where there may be a typed unifier, steps led there that renewed only metavariables that are reached from the equations
+abbrev pub RenewsOnlyReached : Unified → Signature → Store → Store → Type 0
+RenewsOnlyReached Solved Σ before after = ReachedRun Σ before after
+RenewsOnlyReached Never Σ before after = Unit {0}
+RenewsOnlyReached Left Σ before after = ReachedRun Σ before after
 
 -- each equation that is left comes from one that was there or was given, the left side from the left one
 abbrev pub SidesStay : Store → Store → Type 0

@@ -6,7 +6,7 @@ use Rattle.lf_unification.specs.OpenTyping.{skeletons_of}
 use Rattle.lf_unification.specs.Outside.{IsStuck}
 use Rattle.lf_unification.specs.Patterns.{lambdas_of}
 use Rattle.lf_unification.specs.Reach.{IsReached}
-use Rattle.lf_unification.specs.Steps.{Run}
+use Rattle.tw_unify.specs.Runs.{ReachedRun}
 use Rattle.lf_unification.specs.Unifiers.{Equation, Side, on_left, on_right}
 use Rattle.tw_metas.specs.State.{State, with_declared, with_value}
 use Rattle.tw_terms.specs.OpenView.{open_term_of}
@@ -103,4 +103,4 @@ TakesWhole s e (Right m) = (V : Open) → open_term_of V ≡ e.left → AllowsMo
 
 -- a step leads from the equation e, in front of whatever stands, to the state t
 abbrev pub IsTaken : Signature → State → Equation → State → Type 0
-IsTaken Σ s e t = (es : List Equation) → Run Σ (whole (e ∷ es) s) (whole es t)
+IsTaken Σ s e t = (es : List Equation) → ReachedRun Σ (whole (e ∷ es) s) (whole es t)

@@ -1,3 +1,4 @@
+pub mod Runs
 pub mod Reaching
 pub mod Moving
 pub mod Faults

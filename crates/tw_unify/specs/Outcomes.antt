@@ -3,6 +3,7 @@ use Rattle.std.specs.Prelude.{List, map, reverse}
 use Rattle.lf.specs.Depth.{depth_limit}
 use Rattle.lf.specs.Typing.{Signature}
 use Rattle.lf_unification.specs.DeepEquations.{AreDeep}
+use Rattle.tw_unify.specs.Runs.{ReachedRun}
 use Rattle.lf_unification.specs.Steps.{IsRefuted, Run}
 use Rattle.lf_unification.specs.Unifiers as unifiers
 use Rattle.tw_metas.specs.View.{equation_of}
@@ -22,11 +23,11 @@ pub record CanRefute (Σ : Signature) (s : unifiers.Store) : Type 0 where
   pub run : Run Σ s reached
   pub refuted : IsRefuted reached
 
--- steps were made, or the store can be refuted
+-- steps were made, which renewed only what is reached, or the store can be refuted
 abbrev pub Advances : Advance → Signature → unifiers.Store → unifiers.Store → Type 0
-Advances Went Σ before after = Run Σ before after
-Advances (Bound m) Σ before after = Run Σ before after
-Advances Postponed Σ before after = Run Σ before after
+Advances Went Σ before after = ReachedRun Σ before after
+Advances (Bound m) Σ before after = ReachedRun Σ before after
+Advances Postponed Σ before after = ReachedRun Σ before after
 Advances Refuted Σ before after = CanRefute Σ before
 
 -- the cause of a fault

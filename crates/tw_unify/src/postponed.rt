@@ -2,7 +2,7 @@
 ghost use Rattle.std.specs.Prelude.{◌≡◌, ◌<◌, [], ◌∷◌, length, IfOk, MatchOption, MatchResult};
 ghost use Rattle.std.specs.Bool.{OnTrue};
 ghost use Rattle.lf.specs.Entries.{signature_of, IsCanonicalSignature};
-ghost use Rattle.lf_unification.specs.Steps.{Run};
+ghost use Rattle.tw_unify.specs.Runs.{ReachedRun};
 ghost use Rattle.tw_metas.specs.View.{equation_of};
 ghost use Rattle.tw_putting.specs.Whole.{IsConsistent, whole};
 ghost use Rattle.tw_putting.specs.Ready.{IsLater, IsReady};
@@ -29,7 +29,7 @@ pub fn wake(
     requires canonical { IsCanonicalSignature signature.now }
     requires ready { IsReady (signature_of signature.now) [] store.old.now }
     requires watches { Watches store.old.now (diary_of watch.old) }
-    ensures woken { MatchResult result (λ r. MatchOption r (AllLeft store.old.now store.old.now.equations × (store.new ≡ store.old)) (λ e. Run (signature_of signature.now) (whole [] store.old.now) (whole (equation_of e ∷ []) store.new.now))) (λ f. Explains f (signature_of signature.now) (whole [] store.old.now)) }
+    ensures woken { MatchResult result (λ r. MatchOption r (AllLeft store.old.now store.old.now.equations × (store.new ≡ store.old)) (λ e. ReachedRun (signature_of signature.now) (whole [] store.old.now) (whole (equation_of e ∷ []) store.new.now))) (λ f. Explains f (signature_of signature.now) (whole [] store.old.now)) }
     ensures watches { IfOk result (λ r. Watches store.new.now (diary_of watch.new)) }
     ensures consistent { IsConsistent store.new.now }
     ensures story { IsLater store.old store.new }

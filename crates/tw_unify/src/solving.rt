@@ -5,10 +5,10 @@ ghost use Rattle.tw_metas.specs.View.{equation_of};
 ghost use Rattle.tw_putting.specs.Whole.{IsConsistent, whole};
 ghost use Rattle.tw_putting.specs.Ready.{IsLater, IsReady};
 ghost use Rattle.tw_unify.specs.Outcomes.{Explains, stacked};
-ghost use Rattle.tw_unify.specs.Answers.{Answers, KeepsSides, RestIs, StaysReady};
+ghost use Rattle.tw_unify.specs.Answers.{Answers, KeepsSides, RenewsOnlyReached, RestIs, StaysReady};
 ghost use Rattle.tw_unify.specs.Sides.{AllLeft};
 ghost use Rattle.tw_unify.specs.Watching.{Watches, diary_of};
-ghost use Rattle.lf_unification.specs.Steps.{Run};
+ghost use Rattle.tw_unify.specs.Runs.{ReachedRun};
 
 use crate::fault::UnifyFault;
 use crate::postponed::wake;
@@ -41,6 +41,7 @@ pub fn solve(
 ) -> Result<Unified, UnifyFault>
     requires { IsReady (signature_of signature.now) (map equation_of equations.items) store.old.now }
     ensures answer { MatchResult result (λ a. Answers a (signature_of signature.now) (whole (map equation_of equations.items) store.old.now) (whole [] store.new.now)) (λ f. Explains f (signature_of signature.now) (whole (map equation_of equations.items) store.old.now)) }
+    ensures renews { IfOk result (λ a. RenewsOnlyReached a (signature_of signature.now) (whole (map equation_of equations.items) store.old.now) (whole [] store.new.now)) }
     ensures sides { IfOk result (λ a. KeepsSides a (whole (map equation_of equations.items) store.old.now) (whole [] store.new.now)) }
     ensures ready { IfOk result (λ a. StaysReady a (signature_of signature.now) store.new.now) }
     ensures consistent { IsConsistent store.new.now }
@@ -60,6 +61,7 @@ pub fn solve_more(
     requires ready { IsReady (signature_of signature.now) (map equation_of equations.items) store.old.now }
     requires left { AllLeft store.old.now store.old.now.equations }
     ensures answer { MatchResult result (λ a. Answers a (signature_of signature.now) (whole (map equation_of equations.items) store.old.now) (whole [] store.new.now)) (λ f. Explains f (signature_of signature.now) (whole (map equation_of equations.items) store.old.now)) }
+    ensures renews { IfOk result (λ a. RenewsOnlyReached a (signature_of signature.now) (whole (map equation_of equations.items) store.old.now) (whole [] store.new.now)) }
     ensures sides { IfOk result (λ a. KeepsSides a (whole (map equation_of equations.items) store.old.now) (whole [] store.new.now)) }
     ensures ready { IfOk result (λ a. StaysReady a (signature_of signature.now) store.new.now) }
     ensures consistent { IsConsistent store.new.now }
@@ -80,6 +82,7 @@ fn solve_watched(
     requires ready { IsReady (signature_of signature.now) (map equation_of equations.items) store.old.now }
     requires watches { Watches store.old.now (diary_of watch.old) }
     ensures answer { MatchResult result (λ a. Answers a (signature_of signature.now) (whole (map equation_of equations.items) store.old.now) (whole [] store.new.now)) (λ f. Explains f (signature_of signature.now) (whole (map equation_of equations.items) store.old.now)) }
+    ensures renews { IfOk result (λ a. RenewsOnlyReached a (signature_of signature.now) (whole (map equation_of equations.items) store.old.now) (whole [] store.new.now)) }
     ensures sides { IfOk result (λ a. KeepsSides a (whole (map equation_of equations.items) store.old.now) (whole [] store.new.now)) }
     ensures ready { IfOk result (λ a. StaysReady a (signature_of signature.now) store.new.now) }
     ensures consistent { IsConsistent store.new.now }
@@ -119,7 +122,7 @@ fn next_equation(
     requires canonical { IsCanonicalSignature signature.now }
     requires ready { IsReady (signature_of signature.now) (stacked work.old.items) store.old.now }
     requires watches { Watches store.old.now (diary_of watch.old) }
-    ensures next { MatchResult result (λ r. MatchOption r ((stacked work.old.items ≡ []) × AllLeft store.old.now store.old.now.equations × (store.new ≡ store.old)) (λ e. Run (signature_of signature.now) (whole (stacked work.old.items) store.old.now) (whole (equation_of e ∷ stacked work.new.items) store.new.now))) (λ f. Explains f (signature_of signature.now) (whole (stacked work.old.items) store.old.now)) }
+    ensures next { MatchResult result (λ r. MatchOption r ((stacked work.old.items ≡ []) × AllLeft store.old.now store.old.now.equations × (store.new ≡ store.old)) (λ e. ReachedRun (signature_of signature.now) (whole (stacked work.old.items) store.old.now) (whole (equation_of e ∷ stacked work.new.items) store.new.now))) (λ f. Explains f (signature_of signature.now) (whole (stacked work.old.items) store.old.now)) }
     ensures watches { IfOk result (λ r. Watches store.new.now (diary_of watch.new)) }
     ensures consistent { IsConsistent store.new.now }
     ensures story { IsLater store.old store.new }

@@ -1,5 +1,5 @@
 use Rattle.std.proofs.Common.{◌∷◌, List, sym, ap, subst}
-use Rattle.lf_unification.specs.Steps.{Run}
+use Rattle.tw_unify.specs.Runs.{ReachedRun}
 use Rattle.lf_unification.specs.Unifiers as unifiers
 use Rattle.tw_metas.specs.State.{State, Story, with_equation}
 use Rattle.tw_metas.specs.View.{equation_of}
@@ -11,6 +11,7 @@ use Rattle.tw_putting.proofs.Changes.{consistent_with_equation, is_unbound}
 use Rattle.tw_unify.proofs.FlexibleMoves.{equal_runs, postpone_runs, renew_runs}
 use Rattle.tw_unify.proofs.Changed.{binds_pruned}
 use Rattle.tw_unify.proofs.Stories.{later_changed}
+use Rattle.tw_unify.proofs.Working.{reached_first}
 use Rattle.tw_unify.proofs.flexible.do_flexible.Goals as goal
 
 pub returns-in-Drop-clause-done : goal.returns-in-Drop-clause-done
@@ -23,7 +24,7 @@ returns-in_ok-postpone-in-Outside-clause-done c = λ Σ.
     let s = c.args.store.now.now in
     let e = equation_of c.args.equation in
     let es = stacked c.args.work.now.items in
-    subst (λ (t : State). Run Σ (whole (e ∷ es) s) (whole es t)) (sym (ap (λ (x : Story). x.now) c.in_ok-postpone-in-Outside.ensures.ok)) (postpone_runs Σ s e es)
+    subst (λ (t : State). ReachedRun Σ (whole (e ∷ es) s) (whole es t)) (sym (ap (λ (x : Story). x.now) c.in_ok-postpone-in-Outside.ensures.ok)) (postpone_runs Σ s e es)
 
 pub returns-in_ok-postpone-in-Outside-clause-consistent : goal.returns-in_ok-postpone-in-Outside-clause-consistent
 returns-in_ok-postpone-in-Outside-clause-consistent c =
@@ -44,11 +45,11 @@ returns-in_ok-put_back-in-Renew-clause-done c = λ Σ.
     let s = c.args.store.now.now in
     let e = equation_of c.args.equation in
     let es = stacked c.args.work.now.items in
-    let n : NeedsRenewal s c.in-Renew.meta.0 = (subst (IsNext s e.local e.left e.right) c.in-Renew.is c.in_ok-next.ensures).0 in
+    let needs = subst (IsNext s e.local e.left e.right) c.in-Renew.is c.in_ok-next.ensures in
     let r = c.in_ok-renew-in-Renew.ensures.done in
-    let ran : Run Σ (whole (e ∷ es) s) (whole (e ∷ es) (pruned_state s c.in-Renew.meta.0 r.ty r.spine)) = renew_runs Σ s (e ∷ es) c.in-Renew.meta.0 r.ty r.spine c.requires.fits.sides.consistent c.requires.fits.scoped n r.renewal in
-    let there : Run Σ (whole (e ∷ es) s) (whole (e ∷ es) c.renew.new.store.now) = subst (λ (t : State). Run Σ (whole (e ∷ es) s) (whole (e ∷ es) t)) (sym r.is) ran in
-    subst (λ (fs : List unifiers.Equation). Run Σ (whole (e ∷ es) s) (whole fs c.renew.new.store.now)) (sym c.in_ok-put_back-in-Renew.ensures) there
+    let ran : ReachedRun Σ (whole (e ∷ es) s) (whole (e ∷ es) (pruned_state s c.in-Renew.meta.0 r.ty r.spine)) = renew_runs Σ s (e ∷ es) c.in-Renew.meta.0 r.ty r.spine c.requires.fits.sides.consistent c.requires.fits.scoped needs.0 r.renewal (reached_first s e es c.in-Renew.meta.0 needs.1) in
+    let there : ReachedRun Σ (whole (e ∷ es) s) (whole (e ∷ es) c.renew.new.store.now) = subst (λ (t : State). ReachedRun Σ (whole (e ∷ es) s) (whole (e ∷ es) t)) (sym r.is) ran in
+    subst (λ (fs : List unifiers.Equation). ReachedRun Σ (whole (e ∷ es) s) (whole fs c.renew.new.store.now)) (sym c.in_ok-put_back-in-Renew.ensures) there
 
 pub returns-in_ok-postpone-in-Outside-clause-change : goal.returns-in_ok-postpone-in-Outside-clause-change
 returns-in_ok-postpone-in-Outside-clause-change c = (equation_of c.args.equation, ap (λ (x : Story). x.now) c.in_ok-postpone-in-Outside.ensures.ok)

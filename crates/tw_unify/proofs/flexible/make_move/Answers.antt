@@ -1,5 +1,5 @@
 use Rattle.std.proofs.Common.{◌∷◌, List, sym, ap, subst}
-use Rattle.lf_unification.specs.Steps.{Run}
+use Rattle.tw_unify.specs.Runs.{ReachedRun}
 use Rattle.lf_unification.specs.Unifiers as unifiers
 use Rattle.tw_metas.specs.State.{State, Story, with_value}
 use Rattle.tw_metas.specs.View.{equation_of}
@@ -30,7 +30,7 @@ returns-in_ok-bind-in-Bind-clause-done c = λ Σ.
     let s = c.args.store.now.now in
     let e = equation_of c.args.equation in
     let es = stacked c.args.work.now.items in
-    subst (λ (t : State). Run Σ (whole (e ∷ es) s) (whole es t)) (sym (ap (λ (x : Story). x.now) c.in_ok-bind-in-Bind.ensures.ok))
+    subst (λ (t : State). ReachedRun Σ (whole (e ∷ es) s) (whole es t)) (sym (ap (λ (x : Story). x.now) c.in_ok-bind-in-Bind.ensures.ok))
     (bind_runs Σ s e es c.in-Bind.meta c.in-Bind.value (subst (AllowsMove s e) c.in-Bind.is c.requires.allows))
 
 pub returns-in_ok-bind-in-Bind-clause-consistent : goal.returns-in_ok-bind-in-Bind-clause-consistent
@@ -50,10 +50,10 @@ returns-in_ok-put_back-in-Lose-clause-done c = λ Σ.
     let es = stacked c.args.work.now.items in
     let Y = open_type_of c.in-Lose.pruned.ty in
     let S = open_spine_of c.in-Lose.pruned.spine in
-    let ran : Run Σ (whole (e ∷ es) s) (whole (e ∷ es) (pruned_state s c.in-Lose.meta.0 Y S)) =
+    let ran : ReachedRun Σ (whole (e ∷ es) s) (whole (e ∷ es) (pruned_state s c.in-Lose.meta.0 Y S)) =
     lose_runs Σ s e es c.in-Lose.meta c.in-Lose.pruned c.requires.scoped (subst (AllowsMove s e) c.in-Lose.is c.requires.allows) in
-    let there : Run Σ (whole (e ∷ es) s) (whole (e ∷ es) c.lose.new.store.now) = subst (λ (t : State). Run Σ (whole (e ∷ es) s) (whole (e ∷ es) t)) (sym c.in_ok-lose-in-Lose.ensures.done) ran in
-    subst (λ (fs : List unifiers.Equation). Run Σ (whole (e ∷ es) s) (whole fs c.lose.new.store.now)) (sym c.in_ok-put_back-in-Lose.ensures) there
+    let there : ReachedRun Σ (whole (e ∷ es) s) (whole (e ∷ es) c.lose.new.store.now) = subst (λ (t : State). ReachedRun Σ (whole (e ∷ es) s) (whole (e ∷ es) t)) (sym c.in_ok-lose-in-Lose.ensures.done) ran in
+    subst (λ (fs : List unifiers.Equation). ReachedRun Σ (whole (e ∷ es) s) (whole fs c.lose.new.store.now)) (sym c.in_ok-put_back-in-Lose.ensures) there
 
 pub returns-in-Refute-clause-done : goal.returns-in-Refute-clause-done
 returns-in-Refute-clause-done c = λ Σ.

@@ -2,7 +2,7 @@ use Rattle.std.proofs.Common.{◌≡◌, [], ◌∷◌, Err, sym, ap, subst, ◌
 use Rattle.std.specs.Option.{MatchOption}
 use Rattle.lf.specs.Entries.{signature_of}
 use Rattle.lf.proofs.Entries.{canonical_is_signature}
-use Rattle.lf_unification.specs.Steps.{Run}
+use Rattle.tw_unify.specs.Runs.{ReachedRun}
 use Rattle.tw_metas.specs.State.{State, Story, without_equation}
 use Rattle.tw_metas.specs.View.{equation_of}
 use Rattle.tw_unify.specs.Sides.{AllLeft}
@@ -34,7 +34,7 @@ returns-in_ok-settle-in-Some-clause-woken c =
     let d = equation_of c.in_ok-equation-in-Some.equation in
     let found : c.in-Some.at < length s.equations = subst (λ o. MatchOption o (AllLeft s s.equations) (λ at. at < length s.equations)) c.in-Some.is c.in_ok-find_awake.ensures.found in
     let within : c.in-Some.at < length items = place_within items s.equations c.in-Some.at c.equations.ensures found in
-    subst (λ (t : State). Run (signature_of c.args.signature.now) (whole [] s) (whole (d ∷ []) t)) (sym (ap (λ (x : Story). x.now) c.in_ok-settle-in-Some.ensures.ok))
+    subst (λ (t : State). ReachedRun (signature_of c.args.signature.now) (whole [] s) (whole (d ∷ []) t)) (sym (ap (λ (x : Story). x.now) c.in_ok-settle-in-Some.ensures.ok))
     (wake_runs (signature_of c.args.signature.now) s items c.in-Some.at c.index-equations-at.result d c.equations.ensures within c.index-equations-at.is c.in_ok-equation-in-Some.ensures)
 
 pub returns-in_ok-settle-in-Some-clause-consistent : goal.returns-in_ok-settle-in-Some-clause-consistent

@@ -1,6 +1,6 @@
 use Rattle.std.proofs.Common.{map}
 use Rattle.lf.specs.Entries.{signature_of}
-use Rattle.lf_unification.specs.Steps.{Run}
+use Rattle.tw_unify.specs.Runs.{ReachedRun}
 use Rattle.tw_metas.specs.View.{equation_of}
 use Rattle.tw_unify.specs.Outcomes.{stacked}
 use Rattle.tw_putting.specs.Ready.{IsLater}
@@ -11,7 +11,7 @@ use Rattle.tw_unify.proofs.solving.solve_watched.Given as goal
 -- steps led here, and nothing was taken back
 abbrev pub invariant-loop : goal.invariant-loop
 invariant-loop l = record {
-  run : Run (signature_of l.signature) (whole (map equation_of l.fn.equations.items) l.fn.store.now) (whole (stacked l.work.items) l.store.now);
+  run : ReachedRun (signature_of l.signature) (whole (map equation_of l.fn.equations.items) l.fn.store.now) (whole (stacked l.work.items) l.store.now);
   consistent : IsConsistent l.store.now;
   watches : Watches l.store.now (diary_of l.watch);
   story : IsLater l.fn.store l.store;

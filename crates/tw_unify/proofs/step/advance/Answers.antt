@@ -35,7 +35,7 @@ make_steps-requires-clause-ready c =
     let e = equation_of c.args.equation in
     let f = equation_of c.in_ok-unfolded.unfolded in
     let es = stacked c.args.work.now.items in
-    ready_after Σ (canonical_is_signature c.args.signature.now c.requires.canonical) (e ∷ es) (f ∷ es) s s c.requires.ready (unfold_runs Σ s e f es c.in_ok-unfolded.ensures) c.requires.ready.consistent
+    ready_after Σ (canonical_is_signature c.args.signature.now c.requires.canonical) (e ∷ es) (f ∷ es) s s c.requires.ready (unfold_runs Σ s e f es c.in_ok-unfolded.ensures).run c.requires.ready.consistent
 
 pub make_steps-requires-clause-stay : goal.make_steps-requires-clause-stay
 make_steps-requires-clause-stay c = c.in_ok-unfolded.ensures.stay

@@ -45,7 +45,7 @@ do_flexible-requires-clause-fits c =
     let f = equation_of c.in_ok-put-in-None.put in
     let es = stacked c.args.work.now.items in
     flexible_fits Σ s e f es c.requires.flexible c.requires.ready c.in_ok-put-in-None.ensures
-    (ready_after Σ (canonical_is_signature c.args.signature.now c.requires.canonical) (e ∷ es) (f ∷ es) s s c.requires.ready (put_runs Σ s e f es c.in_ok-put-in-None.ensures) c.requires.ready.consistent)
+    (ready_after Σ (canonical_is_signature c.args.signature.now c.requires.canonical) (e ∷ es) (f ∷ es) s s c.requires.ready (put_runs Σ s e f es c.in_ok-put-in-None.ensures).run c.requires.ready.consistent)
 
 pub do_flexible-requires-clause-types : goal.do_flexible-requires-clause-types
 do_flexible-requires-clause-types c = types_take (signature_of c.args.signature.now) (equation_of c.args.equation ∷ stacked c.args.work.now.items) c.args.store.now.now c.requires.ready

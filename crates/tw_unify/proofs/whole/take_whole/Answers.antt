@@ -1,5 +1,5 @@
 use Rattle.std.proofs.Common.{◌≡◌, ◌∷◌, refl, sym, ap, subst}
-use Rattle.lf_unification.specs.Steps.{Run}
+use Rattle.tw_unify.specs.Runs.{ReachedRun}
 use Rattle.tw_metas.specs.State.{State, Story, with_value}
 use Rattle.tw_metas.specs.View.{equation_of}
 use Rattle.tw_metas.specs.declared.equation.Equation.{Equation as RustEquation}
@@ -33,7 +33,7 @@ returns-in_ok-bind-in-Left-clause-done c = λ Σ es.
     let s = c.args.store.now.now in
     let e = equation_of c.args.equation in
     let a = allows_left s c.args.equation c.args.taker c.in-Left.meta c.in-Left.is c.requires.takes in
-    subst (λ (t : State). Run Σ (whole (e ∷ es) s) (whole es t)) (sym (ap (λ (x : Story). x.now) c.in_ok-bind-in-Left.ensures.ok)) (bind_runs Σ s e es c.in-Left.meta c.args.equation.right a)
+    subst (λ (t : State). ReachedRun Σ (whole (e ∷ es) s) (whole es t)) (sym (ap (λ (x : Story). x.now) c.in_ok-bind-in-Left.ensures.ok)) (bind_runs Σ s e es c.in-Left.meta c.args.equation.right a)
 
 pub returns-in_ok-bind-in-Left-clause-consistent : goal.returns-in_ok-bind-in-Left-clause-consistent
 returns-in_ok-bind-in-Left-clause-consistent c =
@@ -56,7 +56,7 @@ returns-in_ok-bind-in-Right-clause-done c = λ Σ es.
     let s = c.args.store.now.now in
     let e = equation_of c.args.equation in
     let a = allows_right s c.args.equation c.args.taker c.in-Right.meta c.in-Right.is c.requires.takes in
-    subst (λ (t : State). Run Σ (whole (e ∷ es) s) (whole es t)) (sym (ap (λ (x : Story). x.now) c.in_ok-bind-in-Right.ensures.ok)) (bind_runs Σ s e es c.in-Right.meta c.args.equation.left a)
+    subst (λ (t : State). ReachedRun Σ (whole (e ∷ es) s) (whole es t)) (sym (ap (λ (x : Story). x.now) c.in_ok-bind-in-Right.ensures.ok)) (bind_runs Σ s e es c.in-Right.meta c.args.equation.left a)
 
 pub returns-in_ok-bind-in-Right-clause-consistent : goal.returns-in_ok-bind-in-Right-clause-consistent
 returns-in_ok-bind-in-Right-clause-consistent c =
