@@ -96,7 +96,7 @@ module _ (Σ : Signature) (ok : IsSignature Σ) (g : OpenGoal) (h : Head) where
     is_ready = record {
       consistent = consistent_with_value p.middle.now consistent g.hole.0 (lambda_over g.locals (root h S)) unbound;
       well_formed = run_form Σ ok form
-          (new_first Σ (types_of p.middle.now) (bindings_of (with_value p.middle.now g.hole.0 (lambda_over g.locals (root h S)))) p.middle.now.equations es);
+          (new_first Σ (types_of p.middle.now) (bindings_of (with_value p.middle.now g.hole.0 (lambda_over g.locals (root h S)))) p.middle.now.equations es).run;
       types = types_both Σ (types_of p.middle.now) es p.middle.now.equations new_types old_types;
     }
 

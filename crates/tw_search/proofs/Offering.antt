@@ -23,9 +23,7 @@ use Rattle.lf_unification.specs.Offering.{lambda_over, pi_over, spine_equations}
 use Rattle.lf_unification.specs.PartialInstance.{IsFilling}
 use Rattle.lf_unification.specs.Patterns.{local_skeletons}
 use Rattle.lf_unification.specs.Search.{OfferedHeadHasType, either, holes, occurs, occurs_spine, occurs_type, unless}
-use Rattle.lf_unification.specs.Steps.{Run, next_equation, no_step, then_run}
 use Rattle.lf_unification.specs.Unifiers.{Binding, Equation, Store}
-use Rattle.lf_search.specs.Holes.{RunRenewsReached}
 use Rattle.tw_metas.specs.State.{Declaration, IsUnbound, State, Story, changed, states, with_declared}
 use Rattle.tw_putting.specs.Fits.{declared_skeletons}
 use Rattle.tw_putting.specs.Ready.{IsLater, LocalsBySkeletons, TypesBySkeletons}
@@ -35,6 +33,8 @@ use Rattle.tw_putting.proofs.Changes.{bindings_with_declared, consistent_with_de
 use Rattle.tw_putting.proofs.Kept.{declared_types}
 use Rattle.tw_putting.proofs.Skeletons.{type_declared}
 use Rattle.tw_terms.specs.OpenView.{open_spine_of}
+use Rattle.tw_unify.specs.Runs.{ReachedRun}
+use Rattle.tw_unify.proofs.Orders.{followed_nothing, places_change}
 use Rattle.tw_search.specs.Goals.{StandsAtGoal, goal_type}
 use Rattle.tw_search.specs.Indices.{IndicesFit}
 use Rattle.tw_search.specs.Offers.{subgoal_marks, marked}
@@ -143,39 +143,11 @@ module _ (Σ : Signature) (ok : IsSignature Σ) where
     spine_types (kind_pi A K) nil T k s = tt
     spine_types star S T k s = tt
 
--- the equations in another order
-followed_nothing : {A : Type 0} (xs : List A) → followed xs [] ≡ xs
-followed_nothing [] = refl
-followed_nothing (x ∷ xs) = ap (λ l. x ∷ l) (followed_nothing xs)
-
-followed_twice : {A : Type 0} (xs ys zs : List A) → followed (followed xs ys) zs ≡ followed xs (followed ys zs)
-followed_twice [] ys zs = refl
-followed_twice (x ∷ xs) ys zs = ap (λ l. x ∷ l) (followed_twice xs ys zs)
-
-pub both_runs : {Σ : Signature} {s s' s'' : Store} → Run Σ s s' → Run Σ s' s'' → Run Σ s s''
-both_runs no_step r = r
-both_runs (then_run p q) r = then_run p (both_runs q r)
-
-pub both_renew : {Σ : Signature} {s s' s'' : Store} (p : Run Σ s s') (q : Run Σ s' s'') → RunRenewsReached p → RunRenewsReached q → RunRenewsReached (both_runs p q)
-both_renew no_step q n m = m
-both_renew (then_run s p) q (k, n) m = (k, both_renew p q n m)
-
-module _ (Σ : Signature) (Ψ : ℕ → Option LfType) (bs : List Binding) where
-  abbrev with : List Equation → Store
-  with es = record { metavariables = Ψ; bindings = bs; equations = es }
-
-  -- a run that renews nothing without need
-  abbrev Moves : Store → Store → Type 0
-  Moves s s' = (r : Run Σ s s') × RunRenewsReached r
-
-  pub new_first : (es fs : List Equation) → Moves (record { metavariables = Ψ; bindings = bs; equations = followed es fs }) (record { metavariables = Ψ; bindings = bs; equations = followed fs es })
-  new_first es [] = subst (λ l. Moves (with (followed es [])) (with l)) (followed_nothing es) (no_step, tt)
-  new_first es (f ∷ fs) =
-      let one : Moves (with (followed es (f ∷ fs))) (with (followed fs (followed es (f ∷ [])))) = subst (λ l. Moves (with l) (with (followed fs (followed es (f ∷ []))))) (followed_twice es (f ∷ []) fs) (new_first (followed es (f ∷ [])) fs) in
-      let two : Moves (with (followed fs (followed es (f ∷ [])))) (with (f ∷ followed fs es)) =
-      subst (λ l. Moves (with l) (with (f ∷ followed fs es))) (followed_twice fs es (f ∷ []))
-      (subst (λ l. Moves (with (followed (followed fs es) (f ∷ []))) (with (f ∷ l))) (followed_nothing (followed fs es)) (then_run (next_equation (followed fs es) f []) no_step, (tt, tt))) in
-      (both_runs one.0 two.0, both_renew one.0 two.0 one.1 two.1)
+-- the new equations come to the front
+pub new_first : (Σ : Signature) (Ψ : ℕ → Option LfType) (bs : List Binding) (es fs : List Equation) → ReachedRun Σ (record { metavariables = Ψ; bindings = bs; equations = followed es fs }) (record { metavariables = Ψ; bindings = bs; equations = followed fs es })
+new_first Σ Ψ bs es fs =
+    let with = λ (xs : List Equation). let x : Store = record { metavariables = Ψ; bindings = bs; equations = xs } in x in
+    subst (λ l. ReachedRun Σ (with (followed es l)) (with (followed fs es))) (followed_nothing fs) (subst (λ l. ReachedRun Σ (with (followed es (followed fs []))) (with (followed fs l))) (followed_nothing es) (places_change Σ Ψ bs es fs []))
 
 -- the holes of the subgoals
 appended : {A : Type 0} (xs ys : List A) → xs ++ ys ≡ followed xs ys

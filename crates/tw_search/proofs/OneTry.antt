@@ -9,11 +9,9 @@ use Rattle.lf_unification.specs.Patterns.{skeleton_target}
 use Rattle.lf_unification.specs.Search.{IsChild, OfferedHeadHasType}
 use Rattle.lf_unification.specs.Solving.{AllLeftOver, IsWellFormed, Never}
 use Rattle.lf_unification.specs.Solving as solving
-use Rattle.lf_unification.specs.Steps.{Run}
 use Rattle.lf_unification.specs.Unifiers.{Equation}
 use Rattle.lf_unification.proofs.Runs.{run_keeps_unifiers}
 use Rattle.lf_search.specs.Heads.{Clash}
-use Rattle.lf_search.specs.Holes.{RunRenewsReached}
 use Rattle.lf_search.proofs.Offers.{clash_is_never, offer_is_there}
 use Rattle.tw_metas.specs.State.{State}
 use Rattle.tw_putting.specs.Ready.{IsReady}
@@ -22,14 +20,16 @@ use Rattle.tw_putting.specs.Whole.{whole}
 use Rattle.tw_terms.specs.OpenView.{open_spine_of}
 use Rattle.tw_terms.specs.declared.canonical.MetaId.{MetaId}
 use Rattle.tw_unify.specs.Outcomes.{Explains}
+use Rattle.tw_unify.specs.Runs.{ReachedRun}
 use Rattle.tw_unify.specs.declared.fault.UnifyFault.{UnifyFault}
 use Rattle.tw_unify.specs.declared.fault.UnifyFault.TheVariants.{TooDeep, NoMemory}
+use Rattle.tw_unify.proofs.Orders.{both_reached, both_runs}
 use Rattle.tw_search.specs.Goals.{IsHeadFor, StandsAtGoal, node_of}
 use Rattle.tw_search.specs.Offers.{IsOffered, offered_store}
 use Rattle.tw_search.specs.Tries.{GivesChild, HasOffer, NeverFits, TriesDeep}
 use Rattle.tw_search.specs.declared.goal.OpenGoal.{OpenGoal}
 use Rattle.tw_search.proofs.Offered.{one_type}
-use Rattle.tw_search.proofs.Offering.{both_renew, both_runs, new_first}
+use Rattle.tw_search.proofs.Offering.{new_first}
 
 pub on_true : {P Q : Type 0} (b : Bool) → (P → Q) → OnTrue b P → OnTrue b Q
 on_true true f p = f p
@@ -50,28 +50,28 @@ module _ (Σ : Signature) (ok : IsSignature Σ) (s : State) (g : OpenGoal) (h : 
     pub the_offer : HasOffer Σ s g h
     the_offer = record { head_type = o.head_type; offered = offered_store es t; next = length t.declared; offer = o.offer }
 
-    before : (r : Run Σ (offered_store es t) (whole es t)) × RunRenewsReached r
+    before : ReachedRun Σ (offered_store es t) (whole es t)
     before = new_first Σ (types_of t) (bindings_of t) t.equations es
 
     pub never_fits : Never Σ [] (whole es t) → NeverFits Σ s g h
     never_fits n = record {
       has = record { head_type = o.head_type; offered = offered_store es t; next = length t.declared; offer = o.offer };
-      never = λ F β u. let (β', x, v) = (run_keeps_unifiers Σ ok o.well_formed before.0).complete F β u in n F β' v;
+      never = λ F β u. let (β', x, v) = (run_keeps_unifiers Σ ok o.well_formed before.run).complete F β u in n F β' v;
     }
 
-    child : (u : State) → Run Σ (whole es t) (whole [] u) → AllLeftOver (types_of t) (whole [] u) u.equations → IsWellFormed Σ (whole [] u) → IsChild Σ (offered_store es t) (whole [] u)
+    child : (u : State) → ReachedRun Σ (whole es t) (whole [] u) → AllLeftOver (types_of t) (whole [] u) u.equations → IsWellFormed Σ (whole [] u) → IsChild Σ (offered_store es t) (whole [] u)
     child u r l w = record {
-      run = both_runs before.0 r;
-      keeps = run_keeps_unifiers Σ ok o.well_formed (both_runs before.0 r);
+      run = (both_reached Σ before r).run;
+      keeps = run_keeps_unifiers Σ ok o.well_formed (both_reached Σ before r).run;
       left_over = l;
       well_formed = w;
     }
 
-    gives : (u : State) (r : Run Σ (whole es t) (whole [] u)) → RunRenewsReached r → AllLeftOver (types_of t) (whole [] u) u.equations → IsWellFormed Σ (whole [] u) → IsReady Σ [] u → GivesChild Σ s g h subgoals u
-    gives u r n l w y = record {
+    gives : (u : State) → ReachedRun Σ (whole es t) (whole [] u) → AllLeftOver (types_of t) (whole [] u) u.equations → IsWellFormed Σ (whole [] u) → IsReady Σ [] u → GivesChild Σ s g h subgoals u
+    gives u r l w y = record {
       has = record { head_type = o.head_type; offered = offered_store es t; next = length t.declared; offer = o.offer };
       child = child u r l w;
-      renews = both_renew before.0 r before.1 n;
+      renews = (both_reached Σ before r).renews;
       ready = y;
       subgoals_are = o.subgoals_are;
     }
@@ -79,15 +79,15 @@ module _ (Σ : Signature) (ok : IsSignature Σ) (s : State) (g : OpenGoal) (h : 
     none_left : (u : State) → u.equations ≡ [] → AllLeftOver (types_of t) (whole [] u) u.equations
     none_left u e = subst (AllLeftOver (types_of t) (whole [] u)) (sym e) tt
 
-    pub solved_gives : (u : State) (r : Run Σ (whole es t) (whole [] u)) → RunRenewsReached r → solving.Solved Σ (whole es t) (whole [] u) → IsReady Σ [] u → GivesChild Σ s g h subgoals u
-    solved_gives u r n a y = gives u r n (none_left u a.none_left) a.well_formed y
+    pub solved_gives : (u : State) → ReachedRun Σ (whole es t) (whole [] u) → solving.Solved Σ (whole es t) (whole [] u) → IsReady Σ [] u → GivesChild Σ s g h subgoals u
+    solved_gives u r a y = gives u r (none_left u a.none_left) a.well_formed y
 
-    pub left_gives : (u : State) (r : Run Σ (whole es t) (whole [] u)) → RunRenewsReached r → solving.Left Σ (whole es t) (whole [] u) → IsReady Σ [] u → GivesChild Σ s g h subgoals u
-    left_gives u r n a y = gives u r n a.all_left_over a.well_formed y
+    pub left_gives : (u : State) → ReachedRun Σ (whole es t) (whole [] u) → solving.Left Σ (whole es t) (whole [] u) → IsReady Σ [] u → GivesChild Σ s g h subgoals u
+    left_gives u r a y = gives u r a.all_left_over a.well_formed y
 
     pub tries_deep : (f : UnifyFault) → Explains f Σ (whole es t) → TriesDeep f Σ s g h
     tries_deep TooDeep d = record {
       has = record { head_type = o.head_type; offered = offered_store es t; next = length t.declared; offer = o.offer };
-      deep = record { reached = d.reached; run = both_runs before.0 d.run; deep = d.deep };
+      deep = record { reached = d.reached; run = both_runs Σ before.run d.run; deep = d.deep };
     }
     tries_deep NoMemory d = tt
