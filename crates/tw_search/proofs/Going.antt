@@ -5,7 +5,7 @@ use Rattle.lf.specs.Entries.{Entry, IsCanonicalSignature, signature_of}
 use Rattle.lf.specs.Syntax.{Head, LfType}
 use Rattle.lf.proofs.Entries.{canonical_is_signature}
 use Rattle.lf_unification.specs.Lists.{followed}
-use Rattle.lf_unification.specs.Search.{Pending, SearchesFrom}
+use Rattle.lf_unification.specs.Search.{Pending, SearchesFrom, begin_search}
 use Rattle.lf_unification.specs.Unifiers.{Equation}
 use Rattle.lf_search.specs.Coming.{AnswerIsDeep, Comes}
 use Rattle.tw_metas.specs.State.{Story, states}
@@ -155,3 +155,17 @@ module _ (es : List Entry) (old new : Search) (list : ℕ) (agenda : List Pendin
 
       pub deep_shown : old.store.now.equations ≡ [] → AnswerIsDeep depth_limit G (whole [] old.store.now) → IsOver end.TooDeep new → Came es G old new agenda budget step.TooDeep
       deep_shown e d over = deep_came es ok old new list G len agenda budget w first tries variables e d over
+
+-- Steps one after another.
+pub went_nowhere : (es : List Entry) (s : Search) (agenda : List Pending) → IsAt es s agenda → WentOn es s s agenda
+went_nowhere es s agenda w = record { tries = 0; after = agenda; run = begin_search; count = omega arith; variables = refl; at = w }
+
+module _ (es : List Entry) (first old new : Search) (went : (agenda : List Pending) → IsAt es first agenda → WentOn es first old agenda) where
+  pub went_further : (last : ℕ) → Goes es last old new None → (agenda : List Pending) → IsAt es first agenda → WentOn es first new agenda
+  went_further last goes agenda w = let v = went agenda w in standing.went_then es first old new agenda v (goes v.after v.at)
+
+  pub came_further : (last : ℕ) (s : Step) → old.tries ≤ last → Goes es last old new (Some s) → (G : List LfType) → length G ≡ first.variables → (agenda : List Pending) → IsAt es first agenda → Came es G first new agenda (last - first.tries) s
+  came_further last s within goes G len agenda w = let v = went agenda w in standing.went_then_came es G first old new agenda last s v within (goes v.after v.at G (len ∙ sym v.variables))
+
+pub still_at : (es : List Entry) (last : ℕ) (old new : Search) → Goes es last old new None → (agenda : List Pending) × IsAt es old agenda → (agenda : List Pending) × IsAt es new agenda
+still_at es last old new goes (agenda, w) = let v = goes agenda w in (v.after, v.at)

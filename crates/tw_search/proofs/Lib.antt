@@ -19,3 +19,4 @@ pub mod Standing
 pub mod Beginning
 pub mod Leaving
 pub mod Going
+pub mod Calling

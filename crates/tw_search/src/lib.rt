@@ -5,10 +5,10 @@ mod answer;
 mod choice;
 #[tactic(auto, using(crate::proofs::Steps::steps))]
 mod clash;
+mod engine;
 mod frames;
 #[tactic(auto, using(crate::proofs::Steps::steps))]
 mod goal;
-mod going;
 #[tactic(auto, using(crate::proofs::Steps::steps))]
 mod indices;
 #[tactic(auto, using(crate::proofs::Steps::steps))]

@@ -73,6 +73,7 @@ impl Search {
         ensures too_deep { IsOver ends.TooDeep self.old → (result ≡ Ok Step.TooDeep) × (self.new ≡ self.old) }
         ensures no_memory { IsOver ends.NoMemory self.old → (result ≡ Err alloc_error) × (self.new ≡ self.old) }
         ensures err { OnErr result (IsOver ends.NoMemory self.new) }
+        ensures again { IsSearch signature.now self.new }
     {
         match self.place {
             Place::Over(end) => over(end),
