@@ -2,7 +2,9 @@
 //! without them, nothing.
 #![tactic(auto)]
 
+mod lists;
 mod problems;
+mod proofs_under;
 mod tree;
 
 use crate::problems::{Problem, problem_of, signature};

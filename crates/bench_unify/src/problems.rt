@@ -1,4 +1,6 @@
-//! The problems, over numbers n with z and s.
+//! The problems, over numbers n with z and s: rows, towers, chains, and equations that wake.
+use crate::lists::append;
+use crate::proofs_under::{add_proofs, proof};
 use std::alloc::{AllocError, Global};
 use tests_ready::{add_constant, add_family};
 use tw_fixity::Name;
@@ -6,9 +8,9 @@ use tw_metas::Equation;
 use tw_signature::Signature;
 use tw_terms::{ConstId, Kind, MetaId, Open, OpenContext, OpenHead, OpenSpine, OpenTy, Spine, Ty};
 
-const ZERO: OpenHead = OpenHead::Const(ConstId(1));
+pub(crate) const ZERO: OpenHead = OpenHead::Const(ConstId(1));
 
-const NEXT: OpenHead = OpenHead::Const(ConstId(2));
+pub(crate) const NEXT: OpenHead = OpenHead::Const(ConstId(2));
 
 /// A constant that takes many numbers.
 const MANY: OpenHead = OpenHead::Const(ConstId(3));
@@ -20,7 +22,7 @@ pub struct Problem {
     pub equations: Vec<Equation>,
 }
 
-fn number(alloc: Global) -> Ty {
+pub(crate) fn number(alloc: Global) -> Ty {
     Ty::Atom(
         ConstId(0),
         Spine {
@@ -29,7 +31,7 @@ fn number(alloc: Global) -> Ty {
     )
 }
 
-fn open_number(alloc: Global) -> OpenTy {
+pub(crate) fn open_number(alloc: Global) -> OpenTy {
     OpenTy::Atom(
         ConstId(0),
         OpenSpine {
@@ -58,7 +60,7 @@ fn add(alloc: Global, signature: &mut Signature, name: &str, count: u64) -> Resu
     }
 }
 
-/// The signature: n, z, s, and where the kind is `spine` a constant that takes so many numbers.
+/// The signature: n, z, s, and what the kind has besides: a constant that takes so many numbers, one that takes two, or proofs.
 pub(crate) fn signature(alloc: Global, kind: &str, size: u64) -> Result<Signature, AllocError> {
     let mut signature = Signature::new(alloc);
     let name = Name::from_text(alloc, "n")?;
@@ -67,13 +69,16 @@ pub(crate) fn signature(alloc: Global, kind: &str, size: u64) -> Result<Signatur
     }
     add(alloc, &mut signature, "z", 0)?;
     add(alloc, &mut signature, "s", 1)?;
-    if kind == "spine" {
-        add(alloc, &mut signature, "c", size)?;
+    match kind {
+        "spine" => add(alloc, &mut signature, "c", size)?,
+        "append" => add(alloc, &mut signature, "p", 2)?,
+        "proof" => add_proofs(alloc, &mut signature)?,
+        _ => (),
     }
     Ok(signature)
 }
 
-fn alone(alloc: Global, head: OpenHead) -> Open {
+pub(crate) fn alone(alloc: Global, head: OpenHead) -> Open {
     Open::Root(
         head,
         OpenSpine {
@@ -88,7 +93,7 @@ fn on(alloc: Global, head: OpenHead, arg: Open) -> Result<Open, AllocError> {
     Ok(Open::Root(head, OpenSpine { args }))
 }
 
-fn meta(alloc: Global, number: u64) -> Open {
+pub(crate) fn meta(alloc: Global, number: u64) -> Open {
     alone(alloc, OpenHead::Meta(MetaId(number)))
 }
 
@@ -105,7 +110,7 @@ fn equation(alloc: Global, left: Open, right: Open) -> Result<Equation, AllocErr
 }
 
 // so many metavariables for numbers
-fn numbers(alloc: Global, count: u64) -> Result<Vec<OpenTy>, AllocError> {
+pub(crate) fn numbers(alloc: Global, count: u64) -> Result<Vec<OpenTy>, AllocError> {
     let mut types = Vec::new(alloc);
     for _ in 0..count {
         types.push(open_number(alloc))?;
@@ -128,7 +133,7 @@ fn spine(alloc: Global, count: u64, metas: bool) -> Result<Open, AllocError> {
 }
 
 // s so many times
-fn tower(alloc: Global, count: u64, top: Open) -> Result<Open, AllocError> {
+pub(crate) fn tower(alloc: Global, count: u64, top: Open) -> Result<Open, AllocError> {
     let mut tower = top;
     for _ in 0..count {
         tower = on(alloc, NEXT, tower)?;
@@ -216,6 +221,8 @@ pub(crate) fn problem_of(alloc: Global, kind: &str, size: u64) -> Result<Problem
             types: numbers(alloc, size)?,
             equations: flat(alloc, size)?,
         }),
+        "proof" => proof(alloc, size),
+        "append" => append(alloc, size),
         "waking" => Ok(Problem {
             types: function_types(alloc, size.saturating_add(1))?,
             equations: waking(alloc, size)?,

@@ -34,7 +34,7 @@ fn answer(
     case: &Case,
 ) -> Result<String, FormFault> {
     match case.kind.as_str() {
-        "solve" => solved(alloc, signature, names, case),
+        "solve" | "more" => solved(alloc, signature, names, case),
         "read" => read_off(alloc, signature, names, case),
         "invert" | "losses" | "pattern" | "occurs" | "prune" | "differences" => {
             inversion(alloc, names, case)

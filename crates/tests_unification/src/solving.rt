@@ -1,11 +1,14 @@
 //! Sets of equations, and what solving makes of them.
-ghost use Rattle.std.specs.Prelude.{[], map};
+ghost use Rattle.std.specs.Prelude.{[], map, IfOk};
 ghost use Rattle.std.specs.Bool.{OnFalse, OnTrue};
 ghost use Rattle.lf.specs.Entries.{signature_of};
 ghost use Rattle.lf.specs.Subordination.{Member};
 ghost use Rattle.tw_metas.specs.Named.{named_of};
 ghost use Rattle.tw_putting.specs.Ready.{IsReady};
 ghost use Rattle.tw_putting.specs.Whole.{AreDistinct};
+ghost use Rattle.tw_unify.specs.Answers.{StaysReady};
+ghost use Rattle.tests_ready.specs.Checked.{IsNew};
+ghost use Rattle.tw_metas.specs.View.{equation_of};
 
 use std::alloc::{AllocError, Global};
 use tests_forms::{
@@ -17,7 +20,7 @@ use tw_fixity::Name;
 use tw_metas::{Equation, LeftEquation, Store};
 use tw_signature::Signature;
 use tw_terms::{MetaId, OpenContext, OpenHead};
-use tw_unify::{Unified, UnifyFault, left_equation, solve};
+use tw_unify::{Unified, UnifyFault, all_left_over_are_left, left_equation, solve, solve_more};
 
 /// What is asked for isn't typed in a way that can be told.
 pub(crate) const NOT_ASKED: &str = "can't be asked";
@@ -50,7 +53,7 @@ pub(crate) fn read_equations(
     Ok(equations)
 }
 
-/// What came of the equations: the answer, the equations that are left, and the values that are asked for.
+/// What came of the equations: the answer, the equations that are left, and the values that are asked for. They are solved in a new store, or solved on there, and once more where some are left.
 pub(crate) fn solved(
     alloc: Global,
     signature: &Signature,
@@ -66,8 +69,13 @@ pub(crate) fn solved(
     if !are_ready(alloc, signature, &store, &equations)? {
         return Ok(String::from_str(alloc, NOT_ASKED)?);
     }
+    let answer = if case.kind.as_str() == "more" {
+        solve_twice(alloc, &mut store, signature, equations)
+    } else {
+        solve(alloc, &mut store, signature, equations)
+    };
     let mut line = String::new(alloc);
-    match solve(alloc, &mut store, signature, equations) {
+    match answer {
         Ok(Unified::Solved) if store.equations().is_empty() => line.push_str("solved")?,
         Ok(Unified::Solved) => line.push_str("solved with equations")?,
         Ok(Unified::Never) => line.push_str("never")?,
@@ -78,6 +86,26 @@ pub(crate) fn solved(
     names.leave_scope(0);
     show_values(alloc, &mut line, names, &store, case)?;
     Ok(line)
+}
+
+/// Solves on in a store in which nothing stands, and once more with no new equation where some are left.
+fn solve_twice(
+    alloc: Global,
+    store: &mut Store,
+    signature: &Signature,
+    equations: Vec<Equation>,
+) -> Result<Unified, UnifyFault>
+    requires new { IsNew store.old.now }
+    requires ready { IsReady (signature_of signature.now) (map equation_of equations.items) store.old.now }
+    ensures { IfOk result (λ a. StaysReady a (signature_of signature.now) store.new.now) }
+{
+    match solve_more(alloc, store, signature, equations)? {
+        Unified::Left => {
+            all_left_over_are_left();
+            solve_more(alloc, store, signature, Vec::new(alloc))
+        }
+        other => Ok(other),
+    }
 }
 
 // The metavariables that are shown by their names: those that the case lists, or else all that it declares.

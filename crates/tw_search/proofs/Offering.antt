@@ -143,11 +143,15 @@ module _ (Σ : Signature) (ok : IsSignature Σ) where
     spine_types (kind_pi A K) nil T k s = tt
     spine_types star S T k s = tt
 
--- the new equations come to the front
-pub new_first : (Σ : Signature) (Ψ : ℕ → Option LfType) (bs : List Binding) (es fs : List Equation) → ReachedRun Σ (record { metavariables = Ψ; bindings = bs; equations = followed es fs }) (record { metavariables = Ψ; bindings = bs; equations = followed fs es })
-new_first Σ Ψ bs es fs =
-    let with = λ (xs : List Equation). let x : Store = record { metavariables = Ψ; bindings = bs; equations = xs } in x in
-    subst (λ l. ReachedRun Σ (with (followed es l)) (with (followed fs es))) (followed_nothing fs) (subst (λ l. ReachedRun Σ (with (followed es (followed fs []))) (with (followed fs l))) (followed_nothing es) (places_change Σ Ψ bs es fs []))
+-- the equations in another order
+module _ (Σ : Signature) (Ψ : ℕ → Option LfType) (bs : List Binding) where
+  abbrev with : List Equation → Store
+  with es = record { metavariables = Ψ; bindings = bs; equations = es }
+
+  pub new_first : (es fs : List Equation) → ReachedRun Σ (record { metavariables = Ψ; bindings = bs; equations = followed es fs }) (record { metavariables = Ψ; bindings = bs; equations = followed fs es })
+  new_first es fs =
+      subst (λ l. ReachedRun Σ (with (followed es l)) (with (followed fs es))) (followed_nothing fs)
+      (subst (λ l. ReachedRun Σ (with (followed es (followed fs []))) (with (followed fs l))) (followed_nothing es) (places_change Σ Ψ bs es fs []))
 
 -- the holes of the subgoals
 appended : {A : Type 0} (xs ys : List A) → xs ++ ys ≡ followed xs ys

@@ -79,11 +79,11 @@ module _ (Σ : Signature) (ok : IsSignature Σ) (s : State) (g : OpenGoal) (h : 
     none_left : (u : State) → u.equations ≡ [] → AllLeftOver (types_of t) (whole [] u) u.equations
     none_left u e = subst (AllLeftOver (types_of t) (whole [] u)) (sym e) tt
 
-    pub solved_gives : (u : State) → ReachedRun Σ (whole es t) (whole [] u) → solving.Solved Σ (whole es t) (whole [] u) → IsReady Σ [] u → GivesChild Σ s g h subgoals u
-    solved_gives u r a y = gives u r (none_left u a.none_left) a.well_formed y
+    pub solved_gives : (u : State) → solving.Solved Σ (whole es t) (whole [] u) → ReachedRun Σ (whole es t) (whole [] u) → IsReady Σ [] u → GivesChild Σ s g h subgoals u
+    solved_gives u a r y = gives u r (none_left u a.none_left) a.well_formed y
 
-    pub left_gives : (u : State) → ReachedRun Σ (whole es t) (whole [] u) → solving.Left Σ (whole es t) (whole [] u) → IsReady Σ [] u → GivesChild Σ s g h subgoals u
-    left_gives u r a y = gives u r a.all_left_over a.well_formed y
+    pub left_gives : (u : State) → solving.Left Σ (whole es t) (whole [] u) → ReachedRun Σ (whole es t) (whole [] u) → IsReady Σ [] u → GivesChild Σ s g h subgoals u
+    left_gives u a r y = gives u r a.all_left_over a.well_formed y
 
     pub tries_deep : (f : UnifyFault) → Explains f Σ (whole es t) → TriesDeep f Σ s g h
     tries_deep TooDeep d = record {

@@ -32,7 +32,8 @@ pub record NeverFits (Σ : Signature) (s : State) (g : OpenGoal) (h : Head) : Ty
   pub has : HasOffer Σ s g h
   pub never : Never Σ [] has.offered
 
--- The try gives a child, which holds in the state `new`; `subgoals` are the holes of the head's subgoals, in the order of its quantifiers.
+-- The try gives a child, which holds in the state `new`; `subgoals` are the holes of the head's subgoals, in the order of its quantifiers. Its
+-- steps renew only what is reached from an equation.
 pub record GivesChild (Σ : Signature) (old : State) (g : OpenGoal) (h : Head) (subgoals : List MetaId) (new : State) : Type 0 where
   pub has : HasOffer Σ old g h
   pub child : IsChild Σ has.offered (whole [] new)

@@ -3,12 +3,16 @@ use Rattle.std.proofs.Common.{◌≡◌, ℕ, zero, suc, List, [], ◌∷◌, �
 use Rattle.std.specs.Prelude.{slice_get}
 use Rattle.std.specs.Option.{option_map}
 use Rattle.lf.specs.Syntax.{LfType, Spine, Term}
+use Rattle.lf_unification.specs.OpenTyping.{MetavariablesIn}
 use Rattle.tw_metas.specs.State.{Declaration, IsUnbound, State, with_declared, with_value}
 use Rattle.tw_terms.specs.declared.canonical.MetaId.{MetaId}
+use Rattle.tw_putting.specs.Stores.{bindings_of, types_of}
 use Rattle.tw_putting.specs.Whole.{IsConsistent}
 use Rattle.tw_putting.proofs.Changes.{bindings_with_declared, bindings_with_value, consistent_with_declared, still_unbound}
 use Rattle.tw_unify.specs.Flexible.{pruned_state, pruned_value}
-use Rattle.tw_unify.specs.Watching.{BindsOne}
+use Rattle.tw_unify.specs.Reaching.{IsClosed, IsMarked, Marking}
+use Rattle.tw_unify.specs.Watching.{BindsOne, KeepsBindings}
+use Rattle.tw_unify.proofs.Reaching.{closed_bound}
 
 -- a metavariable is bound
 pub binds_value : (s : State) → IsConsistent s → (m : MetaId) (N : Term) → IsUnbound s m.0 → (t : State) → t ≡ with_value s m.0 N → BindsOne s m t
@@ -29,3 +33,11 @@ binds_pruned s c m Y S u t e =
       bindings = bindings_with_value (with_declared s [] Y) (consistent_with_declared s [] Y c) m.0 V (still_unbound s [] Y m.0 u) ∙ ap (λ bs. record { of = m.0; value = V } ∷ bs) (bindings_with_declared s [] Y);
       equations = refl;
     })
+
+-- what is closed stays so where a metavariable is bound to something that was met
+pub closed_value : (s : State) → IsConsistent s → (m : ℕ) (N : Term) → IsUnbound s m → (w : Marking) → IsClosed (types_of s) (bindings_of s) w → MetavariablesIn (IsMarked w) N → IsClosed (types_of (with_value s m N)) (bindings_of (with_value s m N)) w
+closed_value s c m N u w k i = subst (λ bs. IsClosed (types_of s) bs w) (sym (bindings_with_value s c m N u)) (closed_bound (types_of s) (bindings_of s) (record { of = m; value = N }) w k i)
+
+-- and where the metavariables and the bindings stay
+pub closed_kept : (s t : State) (w : Marking) → KeepsBindings s t → IsClosed (types_of s) (bindings_of s) w → IsClosed (types_of t) (bindings_of t) w
+closed_kept s t w (p, q) c = subst (λ Ψ. IsClosed Ψ (bindings_of t) w) (sym p) (subst (λ bs. IsClosed (types_of s) bs w) (sym q) c)

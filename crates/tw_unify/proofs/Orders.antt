@@ -23,6 +23,7 @@ module _ (Σ : Signature) where
   both_runs (then_run p q) r = then_run p (both_runs q r)
 
   both_renew : {s s' s'' : Store} (p : Run Σ s s') (q : Run Σ s' s'') → RunRenewsReached p → RunRenewsReached q → RunRenewsReached (both_runs p q)
+  unfolding both_runs
   both_renew no_step q i j = j
   both_renew (then_run p r) q (i, k) j = (i, both_renew r q k j)
 

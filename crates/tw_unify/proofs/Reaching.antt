@@ -1,5 +1,5 @@
 -- The walk to the metavariables that are reached.
-use Rattle.std.proofs.Common.{◌≡◌, ℕ, List, [], ◌∷◌, ◌++◌, Bool, true, false, Option, Some, ◌⊎◌, inl, inr, refl, sym, ap, ◌∙◌, subst}
+use Rattle.std.proofs.Common.{◌≡◌, ℕ, ◌+◌, ◌*◌, ◌-◌, ◌^◌, ◌<◌, ◌≤◌, List, [], ◌∷◌, ◌++◌, length, length-append, Bool, true, false, Option, Some, ◌⊎◌, inl, inr, refl, sym, ap, ap₂, ◌∙◌, subst, arith}
 use Rattle.std.specs.Prelude.{nat_eq, if◌then◌else◌}
 use Rattle.std.specs.HashSet.{HashSet, IsEmpty, contains}
 use Rattle.std.specs.List.{list_any}
@@ -13,7 +13,7 @@ use Rattle.lf_unification.specs.Outside.{Holds, ValuesIn}
 use Rattle.lf_unification.specs.Reach.{IsReached, Mentions, SpineMentions, TypeMentions, in_term, in_type, in_value}
 use Rattle.lf_unification.specs.Unifiers.{Binding}
 use Rattle.lf_unification.proofs.Scope.{in_weaker, in_weaker_type}
-use Rattle.tw_unify.specs.Reaching.{IsAvoided, IsMarked, Marking, Spreads, StandsInType, StandsInValue, TypeIsMet, ValueIsMet}
+use Rattle.tw_unify.specs.Reaching.{IsAvoided, IsClosed, IsMarked, Marking, Spreads, StandsInType, StandsInValue, TypeIsMet, ValueIsMet}
 
 pub member_front : {A : Type 0} (x : A) (xs ys : List A) → Member x xs → Member x (xs ++ ys)
 member_front x [] ys h = absurd h
@@ -52,32 +52,36 @@ module _ (old new : Marking) (m : ℕ) (set : IsSetAt old.marks new.marks m) whe
   marked_now = subst Holds (sym (set m ∙ ap (λ b. if b then true else old.marks m) (eq-eqb m m refl))) tt
 
   -- m was met before
-  pub met_before : IsMarked old m → new.due ≡ old.due → Spreads (λ k. k ≡ m) old new × IsMarked new m
-  met_before h d = (
+  pub met_before : IsMarked old m → new.due ≡ old.due → new.count ≡ old.count → Spreads (λ k. k ≡ m) old new × IsMarked new m
+  met_before h d n = (
     record {
       stay = stays_marked;
       due_stay = λ k i. subst (Member k) (sym d) i;
       marked_are_due = λ k i. elim (was_or_is k i) [ inl g ↦ inl g | inr e ↦ inl (subst (IsMarked old) (sym e) h) ];
       due_are_mentioned = λ k i. inl (subst (Member k) d i);
+      more = subst (λ c. old.count ≤ c) (sym n) (omega arith);
+      all_due = ap₂ (λ a b. a + b) (sym n) (ap length d);
     },
     marked_now,
   )
 
   -- m is met now
-  pub met_now : new.due ≡ old.due ++ m ∷ [] → Spreads (λ k. k ≡ m) old new × IsMarked new m
-  met_now d = (
+  pub met_now : new.due ≡ old.due ++ m ∷ [] → new.count ≡ old.count + 1 → Spreads (λ k. k ≡ m) old new × IsMarked new m
+  met_now d n = (
     record {
       stay = stays_marked;
       due_stay = λ k i. subst (Member k) (sym d) (member_front k old.due (m ∷ []) i);
       marked_are_due = λ k i. elim (was_or_is k i) [ inl g ↦ inl g | inr e ↦ inr (subst (λ j. Member j new.due) (sym e) (subst (Member m) (sym d) (member_last m old.due))) ];
       due_are_mentioned = λ k i. elim (member_of_both k old.due (m ∷ []) (subst (Member k) d i)) [ inl g ↦ inl g | inr (inl e) ↦ inr e | inr (inr z) ↦ absurd z ];
+      more = omega (arith, n);
+      all_due = (let l : length new.due ≡ length old.due + 1 = ap length d ∙ length-append old.due (m ∷ []) in omega (arith, n, l));
     },
     marked_now,
   )
 
 module _ (P : ℕ → Type 0) (w : Marking) where
   pub spread_nothing : Spreads P w w
-  spread_nothing = record { stay = λ k h. h; due_stay = λ k h. h; marked_are_due = λ k h. inl h; due_are_mentioned = λ k h. inl h }
+  spread_nothing = record { stay = λ k h. h; due_stay = λ k h. h; marked_are_due = λ k h. inl h; due_are_mentioned = λ k h. inl h; more = omega arith; all_due = refl }
 
 module _ (P Q R : ℕ → Type 0) (u v w : Marking) where
   pub spread_then : ((k : ℕ) → P k → R k) → ((k : ℕ) → Q k → R k) → Spreads P u v → Spreads Q v w → Spreads R u w
@@ -86,6 +90,8 @@ module _ (P Q R : ℕ → Type 0) (u v w : Marking) where
     due_stay = λ k h. q.due_stay k (p.due_stay k h);
     marked_are_due = λ k h. elim (q.marked_are_due k h) [ inl a ↦ elim (p.marked_are_due k a) [ inl b ↦ inl b | inr b ↦ inr (q.due_stay k b) ] | inr a ↦ inr a ];
     due_are_mentioned = λ k h. elim (q.due_are_mentioned k h) [ inl a ↦ elim (p.due_are_mentioned k a) [ inl b ↦ inl b | inr b ↦ inr (f k b) ] | inr a ↦ inr (g k a) ];
+    more = omega (arith, p.more, q.more);
+    all_due = omega (arith, p.all_due, q.all_due);
   }
 
 module _ (P R : ℕ → Type 0) (u v : Marking) where
@@ -131,31 +137,31 @@ mentioned_in_type V k (pi A B) (a, b) (inr h) = mentioned_in_type V k B b h
 mentioned_in_type V k (atom a S) m h = mentioned_in_spine V k S m h
 
 module _ (Ψ : ℕ → Option LfType) (bs : List Binding) where
-  -- The search from N: what is marked is reached, and its type and value are met or due.
-  pub record IsSearch (N : Term) (w : Marking) : Type 0 where
+  -- The search from N, beside what is marked in o: what is marked besides is reached, and its type and value are met or due.
+  pub record IsSearch (o : Marking) (N : Term) (w : Marking) : Type 0 where
     pub met : MetavariablesIn (IsMarked w) N
-    pub marked_reached : (k : ℕ) → IsMarked w k → IsReached Ψ bs N k
+    pub marked_reached : (k : ℕ) → IsMarked w k → IsMarked o k ⊎ IsReached Ψ bs N k
     pub due_reached : (k : ℕ) → Member k w.due → IsReached Ψ bs N k
     pub closed : (k : ℕ) → IsMarked w k → Member k w.due ⊎ (TypeIsMet Ψ k w × ValueIsMet bs k w)
 
-  pub search_start : (N : Term) (w v : Marking) → ((k : ℕ) → IsMarked w k → ⊥) → ((k : ℕ) → Member k w.due → ⊥) → Spreads (λ k. Mentions k N) w v → MetavariablesIn (IsMarked v) N → IsSearch N v
-  search_start N w v none no_due p m =
-      let reached : (k : ℕ) → Member k v.due → IsReached Ψ bs N k = λ k h. elim (p.due_are_mentioned k h) [ inl a ↦ absurd (no_due k a) | inr a ↦ in_term a ] in
+  still_met : (w v : Marking) (k : ℕ) → ((j : ℕ) → IsMarked w j → IsMarked v j) → TypeIsMet Ψ k w × ValueIsMet bs k w → TypeIsMet Ψ k v × ValueIsMet bs k v
+  still_met w v k f (t, u) = (λ A d. in_weaker_type (IsMarked w) (IsMarked v) f A (t A d), λ b h e. in_weaker (IsMarked w) (IsMarked v) f b.value (u b h e))
+
+  pub search_start : (o : Marking) (N : Term) (v : Marking) → IsClosed Ψ bs o → Spreads (λ k. Mentions k N) o v → MetavariablesIn (IsMarked v) N → IsSearch o N v
+  search_start o N v c p m =
+      let reached : (k : ℕ) → Member k v.due → IsReached Ψ bs N k = λ k h. elim (p.due_are_mentioned k h) [ inl a ↦ absurd (subst (Member k) c.nothing_due a) | inr a ↦ in_term a ] in
       record {
         met = m;
-        marked_reached = λ k h. elim (p.marked_are_due k h) [ inl a ↦ absurd (none k a) | inr a ↦ reached k a ];
+        marked_reached = λ k h. elim (p.marked_are_due k h) [ inl a ↦ inl a | inr a ↦ inr (reached k a) ];
         due_reached = reached;
-        closed = λ k h. elim (p.marked_are_due k h) [ inl a ↦ absurd (none k a) | inr a ↦ inl a ];
+        closed = λ k h. elim (p.marked_are_due k h) [ inl a ↦ inr (still_met o v k p.stay (c.types k a, c.values k a)) | inr a ↦ inl a ];
       }
 
-  still_met : (N : Term) (w v : Marking) (k : ℕ) → ((j : ℕ) → IsMarked w j → IsMarked v j) → TypeIsMet Ψ k w × ValueIsMet bs k w → TypeIsMet Ψ k v × ValueIsMet bs k v
-  still_met N w v k f (t, u) = (λ A d. in_weaker_type (IsMarked w) (IsMarked v) f A (t A d), λ b h e. in_weaker (IsMarked w) (IsMarked v) f b.value (u b h e))
-
   -- metavariable k, which was due last, is looked up
-  pub search_step : (N : Term) (w w' u v : Marking) (k : ℕ) → w.marks ≡ w'.marks → w.due ≡ w'.due ++ k ∷ [] → IsSearch N w → Spreads (StandsInType Ψ k) w' u → TypeIsMet Ψ k u → Spreads (StandsInValue bs k) u v → ValueIsMet bs k v → IsSearch N v
-  search_step N w w' u v k same is s p t q x =
-      let marked : (j : ℕ) → IsMarked w j → IsMarked w' j = λ j h. subst (λ ms. IsMarked (record { marks = ms; due = w.due }) j) same h in
-      let back : (j : ℕ) → IsMarked w' j → IsMarked w j = λ j h. subst (λ ms. IsMarked (record { marks = ms; due = w.due }) j) (sym same) h in
+  pub search_step : (o : Marking) (N : Term) (w w' u v : Marking) (k : ℕ) → w.marks ≡ w'.marks → w.due ≡ w'.due ++ k ∷ [] → IsSearch o N w → Spreads (StandsInType Ψ k) w' u → TypeIsMet Ψ k u → Spreads (StandsInValue bs k) u v → ValueIsMet bs k v → IsSearch o N v
+  search_step o N w w' u v k same is s p t q x =
+      let marked : (j : ℕ) → IsMarked w j → IsMarked w' j = λ j h. subst (λ ms. IsMarked (record { marks = ms; count = w.count; due = w.due }) j) same h in
+      let back : (j : ℕ) → IsMarked w' j → IsMarked w j = λ j h. subst (λ ms. IsMarked (record { marks = ms; count = w.count; due = w.due }) j) (sym same) h in
       let k_reached : IsReached Ψ bs N k = s.due_reached k (subst (Member k) (sym is) (member_last k w'.due)) in
       let stays : (j : ℕ) → IsMarked w j → IsMarked v j = λ j h. q.stay j (p.stay j (marked j h)) in
       let due_w : (j : ℕ) → Member j w'.due → Member j w.due = λ j h. subst (Member j) (sym is) (member_front j w'.due (k ∷ []) h) in
@@ -169,11 +175,11 @@ module _ (Ψ : ℕ → Option LfType) (bs : List Binding) where
           | inr (inl e) ↦ inr (subst (λ i. TypeIsMet Ψ i v × ValueIsMet bs i v) (sym e) here)
           | inr (inr z) ↦ absurd z
         ]
-        | inr a ↦ inr (still_met N w v j stays a)
+        | inr a ↦ inr (still_met w v j stays a)
       ] in
       record {
         met = in_weaker (IsMarked w) (IsMarked v) stays N s.met;
-        marked_reached = λ j h. elim (q.marked_are_due j h) [ inl a ↦ elim (p.marked_are_due j a) [ inl b ↦ s.marked_reached j (back j b) | inr b ↦ reached_u j b ] | inr a ↦ reached_v j a ];
+        marked_reached = λ j h. elim (q.marked_are_due j h) [ inl a ↦ elim (p.marked_are_due j a) [ inl b ↦ s.marked_reached j (back j b) | inr b ↦ inr (reached_u j b) ] | inr a ↦ inr (reached_v j a) ];
         due_reached = reached_v;
         closed = λ j h. elim (q.marked_are_due j h) [ inl a ↦ elim (p.marked_are_due j a) [ inl b ↦ from_w j (back j b) | inr b ↦ inl (q.due_stay j b) ] | inr a ↦ inl a ];
       }
@@ -182,24 +188,33 @@ module _ (Ψ : ℕ → Option LfType) (bs : List Binding) where
   values_in V [] f = tt
   values_in V (b ∷ cs) f = (λ v. f b (inl refl) v, values_in V cs (λ c h v. f c (inr h) v))
 
-  none_due : (N : Term) (w : Marking) → IsSearch N w → w.due ≡ [] → (k : ℕ) → IsMarked w k → TypeIsMet Ψ k w × ValueIsMet bs k w
-  none_due N w s e k h = elim (s.closed k h) [ inl a ↦ absurd (subst (Member k) e a) | inr a ↦ a ]
+  -- at the end nothing is due
+  pub search_closed : (o : Marking) (N : Term) (w : Marking) → IsSearch o N w → w.due ≡ [] → IsClosed Ψ bs w
+  search_closed o N w s e = record { nothing_due = e; types = λ k h. (at k h).0; values = λ k h. (at k h).1 }
+    where
+      at : (k : ℕ) → IsMarked w k → TypeIsMet Ψ k w × ValueIsMet bs k w
+      at k h = elim (s.closed k h) [ inl a ↦ absurd (subst (Member k) e a) | inr a ↦ a ]
 
-  -- at the end, what isn't marked isn't reached
-  pub search_avoids : (N : Term) (w : Marking) (m : ℕ) → IsSearch N w → w.due ≡ [] → (IsMarked w m → ⊥) → IsAvoided Ψ bs N m
-  search_avoids N w m s e n = record {
+  pub nothing_closed : (w : Marking) → ((k : ℕ) → IsMarked w k → ⊥) → w.due ≡ [] → IsClosed Ψ bs w
+  nothing_closed w none e = record { nothing_due = e; types = λ k h. absurd (none k h); values = λ k h. absurd (none k h) }
+
+  -- what isn't marked isn't reached
+  closed_avoids : (N : Term) (w : Marking) (m : ℕ) → IsClosed Ψ bs w → MetavariablesIn (IsMarked w) N → (IsMarked w m → ⊥) → IsAvoided Ψ bs N m
+  closed_avoids N w m c i n = record {
     reached = w.marks;
     avoids = (
-      λ k A h d. (none_due N w s e k h).0 A d,
-      values_in (IsMarked w) bs (λ b g h. (none_due N w s e b.of h).1 b g refl),
+      λ k A h d. c.types k h A d,
+      values_in (IsMarked w) bs (λ b g h. c.values b.of h b g refl),
       n,
     );
-    within = s.met;
+    within = i;
   }
 
-  pub search_answer : (N : Term) (w : Marking) (m : ℕ) (b : Bool) → IsSearch N w → w.due ≡ [] → MatchBool b (IsMarked w m) (IsMarked w m → ⊥) → MatchBool b (IsReached Ψ bs N m) (IsAvoided Ψ bs N m)
-  search_answer N w m true s e h = s.marked_reached m h
-  search_answer N w m false s e h = search_avoids N w m s e h
+  -- what wasn't marked at first is reached where it is marked now
+  pub search_answer : (o : Marking) (N : Term) (w : Marking) (m : ℕ) (b : Bool) → (IsMarked o m → ⊥) → IsClosed Ψ bs w → MetavariablesIn (IsMarked w) N → ((k : ℕ) → IsMarked w k → IsMarked o k ⊎ IsReached Ψ bs N k) →
+      MatchBool b (IsMarked w m) (IsMarked w m → ⊥) → MatchBool b (IsReached Ψ bs N m) (IsAvoided Ψ bs N m)
+  search_answer o N w m true n c i r h = elim (r m h) [ inl a ↦ absurd (n a) | inr a ↦ a ]
+  search_answer o N w m false n c i r h = closed_avoids N w m c i h
 
 -- The search from two terms: what is marked is reached from one of them, its type and value are met or due, and what is not due any more passes the test.
 module _ (Ψ : ℕ → Option LfType) (bs : List Binding) (P : ℕ → Type 0) where
@@ -231,8 +246,8 @@ module _ (Ψ : ℕ → Option LfType) (bs : List Binding) (P : ℕ → Type 0) w
   -- metavariable k, which was due last and passes the test, is looked up
   pub two_step : (M N : Term) (w w' u v : Marking) (k : ℕ) → w.marks ≡ w'.marks → w.due ≡ w'.due ++ k ∷ [] → IsSearchOfTwo M N w → P k → Spreads (StandsInType Ψ k) w' u → TypeIsMet Ψ k u → Spreads (StandsInValue bs k) u v → ValueIsMet bs k v → IsSearchOfTwo M N v
   two_step M N w w' u v k same is s good p t q x =
-      let marked : (j : ℕ) → IsMarked w j → IsMarked w' j = λ j h. subst (λ ms. IsMarked (record { marks = ms; due = w.due }) j) same h in
-      let back : (j : ℕ) → IsMarked w' j → IsMarked w j = λ j h. subst (λ ms. IsMarked (record { marks = ms; due = w.due }) j) (sym same) h in
+      let marked : (j : ℕ) → IsMarked w j → IsMarked w' j = λ j h. subst (λ ms. IsMarked (record { marks = ms; count = w.count; due = w.due }) j) same h in
+      let back : (j : ℕ) → IsMarked w' j → IsMarked w j = λ j h. subst (λ ms. IsMarked (record { marks = ms; count = w.count; due = w.due }) j) (sym same) h in
       let k_reached : IsReachedFromOne M N k = s.due_reached k (subst (Member k) (sym is) (member_last k w'.due)) in
       let stays : (j : ℕ) → IsMarked w j → IsMarked v j = λ j h. q.stay j (p.stay j (marked j h)) in
       let due_w : (j : ℕ) → Member j w'.due → Member j w.due = λ j h. subst (Member j) (sym is) (member_front j w'.due (k ∷ []) h) in
@@ -274,3 +289,18 @@ none_marked w e k h = subst Holds (e k) h
 
 pub nothing_in : {S : Type 0} (s : HashSet ℕ S) → IsEmpty s → (k : ℕ) → contains nat_eq s k ≡ false
 nothing_in s e k = ap (λ ks. list_any (nat_eq k) ks) e
+
+-- what is closed stays so where a metavariable is bound to something that was met
+pub closed_bound : (Ψ : ℕ → Option LfType) (bs : List Binding) (b : Binding) (w : Marking) → IsClosed Ψ bs w → MetavariablesIn (IsMarked w) b.value → IsClosed Ψ (b ∷ bs) w
+closed_bound Ψ bs b w c i = record {
+  nothing_due = c.nothing_due;
+  types = c.types;
+  values = λ k h d m e. elim m [ inl q ↦ subst (λ (x : Binding). MetavariablesIn (IsMarked w) x.value) (sym q) i | inr j ↦ c.values k h d j e ];
+}
+
+-- What is left of a walk: each turn takes one that is due away, and as many come to be due as are newly marked.
+abbrev pub work_left : Marking → ℕ
+work_left w = 2 * (2 ^ 63 - w.count) + length w.due
+
+pub less_work : (P Q : ℕ → Type 0) (w w' u v : Marking) → w'.count ≡ w.count → length w.due ≡ length w'.due + 1 → Spreads P w' u → Spreads Q u v → v.count < 2 ^ 63 → work_left v < work_left w
+less_work P Q w w' u v c d p q few = omega (arith, c, d, p.more, p.all_due, q.more, q.all_due, few)

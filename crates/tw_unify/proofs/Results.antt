@@ -3,6 +3,10 @@ use Rattle.std.proofs.Common.{Option, Some, None, Result, Ok, Err}
 use Rattle.std.specs.Option.{IfSome}
 use Rattle.std.specs.Result.{IfOk, MatchResult, OnOk}
 
+pub on_ok_anyway : {T E P : Type 0} (r : Result T E) → P → OnOk r P
+on_ok_anyway (Ok x) p = p
+on_ok_anyway (Err e) p = tt
+
 pub on_ok_both : {T E P Q R : Type 0} (r : Result T E) → (P → Q → R) → OnOk r P → OnOk r Q → OnOk r R
 on_ok_both (Ok x) f p q = f p q
 on_ok_both (Err e) f p q = tt

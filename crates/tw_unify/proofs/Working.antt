@@ -182,7 +182,7 @@ module _ (Σ : Signature) (s : State) where
   pub become_apart : (e : Equation) (es : List Equation) → BecomeApart s e → CanRefute Σ (whole (e ∷ es) s)
   become_apart e es a = record {
     reached = whole (with_sides e (root (constant a.left) a.left_becomes.0) (root (constant a.right) a.right_becomes.0) ∷ es) s;
-    run = one_step Σ (put_bindings a.left_becomes.1 a.right_becomes.1);
+    run = (one_step Σ (put_bindings a.left_becomes.1 a.right_becomes.1) tt).run;
     refuted = constants_differ a.differ;
   }
 
@@ -190,12 +190,12 @@ module _ (Σ : Signature) (s : State) where
   pub explains_unfolding : (f : UnifyFault) (e : Equation) (es : List Equation) → BlamesUnfolding f s e → Explains f Σ (whole (e ∷ es) s)
   explains_unfolding TooDeep e es (inl (N, p, d)) = record {
     reached = whole (with_sides e N e.right ∷ es) s;
-    run = one_step Σ (put_bindings p put_nothing);
+    run = (one_step Σ (put_bindings p put_nothing) tt).run;
     deep = deep_equation (with_sides e N e.right) (inl refl) (inl (inl d));
   }
   explains_unfolding TooDeep e es (inr (N, p, d)) = record {
     reached = whole (with_sides e e.left N ∷ es) s;
-    run = one_step Σ (put_bindings put_nothing p);
+    run = (one_step Σ (put_bindings put_nothing p) tt).run;
     deep = deep_equation (with_sides e e.left N) (inl refl) (inr (inl (inl d)));
   }
   explains_unfolding NoMemory e es b = tt

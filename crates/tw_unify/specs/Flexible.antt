@@ -2,7 +2,7 @@
 use Rattle.std.specs.Prelude.{◌≡◌, ℕ, List, [], ◌∷◌, length, Some, ◌⊎◌}
 use Rattle.lf.specs.Syntax.{LfType, Spine, Term, metavariable, root}
 use Rattle.lf.specs.Typing.{Signature}
-use Rattle.lf_unification.specs.OpenTyping.{skeletons_of}
+use Rattle.lf_unification.specs.OpenTyping.{MetavariablesIn, skeletons_of}
 use Rattle.lf_unification.specs.Outside.{IsStuck}
 use Rattle.lf_unification.specs.Patterns.{lambdas_of}
 use Rattle.lf_unification.specs.Reach.{IsReached}
@@ -16,6 +16,7 @@ use Rattle.tw_putting.specs.Ready.{AllScoped}
 use Rattle.tw_putting.specs.Stores.{PutsDeepType, bindings_of, types_of}
 use Rattle.tw_unify.specs.Moving.{HeadsFit, IsMove, IsRenewal, NeedsRenewal, SidesFit}
 use Rattle.tw_putting.specs.Whole.{IsConsistent, whole}
+use Rattle.tw_unify.specs.Reaching.{IsMarked, Marking}
 use Rattle.tw_unify.specs.declared.fault.UnifyFault.{UnifyFault}
 use Rattle.tw_unify.specs.declared.fault.UnifyFault.TheVariants.{NoMemory, TooDeep}
 use Rattle.tw_unify.specs.declared.flexible.Next.{Next}
@@ -100,6 +101,11 @@ BindsWhole s M N m = (V : Open) → open_term_of V ≡ N → IsMove s [] M N (Bi
 abbrev pub TakesWhole : State → Equation → Taker → Type 0
 TakesWhole s e (Left m) = (V : Open) → open_term_of V ≡ e.right → AllowsMove s e (Bind m V)
 TakesWhole s e (Right m) = (V : Open) → open_term_of V ≡ e.left → AllowsMove s e (Bind m V)
+
+-- the metavariables of the side that is taken were met
+abbrev pub TakenIsMet : Marking → Equation → Taker → Type 0
+TakenIsMet w e (Left m) = MetavariablesIn (IsMarked w) e.right
+TakenIsMet w e (Right m) = MetavariablesIn (IsMarked w) e.left
 
 -- a step leads from the equation e, in front of whatever stands, to the state t
 abbrev pub IsTaken : Signature → State → Equation → State → Type 0

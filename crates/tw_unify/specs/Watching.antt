@@ -31,6 +31,10 @@ Changes (Bound m) s t = BindsOne s m t
 Changes Postponed s t = (e : Equation) × (t ≡ with_equation s e)
 Changes Refuted s t = t ≡ s
 
+-- t has the metavariables and the bindings of s
+abbrev pub KeepsBindings : State → State → Type 0
+KeepsBindings s t = (types_of t ≡ types_of s) × (bindings_of t ≡ bindings_of s)
+
 -- By place, at what time the equation was found to be left, if it was; at what time each metavariable was bound, if it was; and what time it is.
 pub record Diary : Type 0 where
   pub found : List (Option ℕ)

@@ -8,7 +8,7 @@ ghost use Rattle.tw_putting.specs.Whole.{IsConsistent, whole};
 ghost use Rattle.tw_putting.specs.Ready.{IsLater, IsReady};
 ghost use Rattle.tw_unify.specs.Outcomes.{Explains};
 ghost use Rattle.tw_unify.specs.Sides.{AllLeft, BlamesDepth, BlamesSome, IsLeft, MayBeLeft};
-ghost use Rattle.tw_unify.specs.Watching.{CanGoOver, IsPast, Known, Watches, diary_of};
+ghost use Rattle.tw_unify.specs.Watching.{CanGoOver, IsPast, KeepsBindings, Known, Watches, diary_of};
 
 use crate::fault::UnifyFault;
 use crate::flexible::{Next, find_next};
@@ -30,6 +30,7 @@ pub fn wake(
     requires ready { IsReady (signature_of signature.now) [] store.old.now }
     requires watches { Watches store.old.now (diary_of watch.old) }
     ensures woken { MatchResult result (λ r. MatchOption r (AllLeft store.old.now store.old.now.equations × (store.new ≡ store.old)) (λ e. ReachedRun (signature_of signature.now) (whole [] store.old.now) (whole (equation_of e ∷ []) store.new.now))) (λ f. Explains f (signature_of signature.now) (whole [] store.old.now)) }
+    ensures keeps { IfOk result (λ r. KeepsBindings store.old.now store.new.now) }
     ensures watches { IfOk result (λ r. Watches store.new.now (diary_of watch.new)) }
     ensures consistent { IsConsistent store.new.now }
     ensures story { IsLater store.old store.new }

@@ -1,12 +1,12 @@
 //! The occurs check, which goes through types and values.
-ghost use Rattle.std.specs.Prelude.{◌≡◌, [], OnOk, IfOk, MatchBool};
+ghost use Rattle.std.specs.Prelude.{◌≡◌, ℕ, ◌⊎◌, [], OnOk, IfOk, MatchBool};
 ghost use Rattle.std.specs.HashSet.{IsEmpty};
 ghost use Rattle.lf_unification.specs.OpenTyping.{MetavariablesIn, MetavariablesInSpine, MetavariablesInType};
 ghost use Rattle.lf_unification.specs.Reach.{Mentions, SpineMentions, TypeMentions, IsReached};
 ghost use Rattle.tw_terms.specs.OpenView.{open_term_of, open_spine_of, open_type_of};
 ghost use Rattle.tw_putting.specs.Stores.{types_of, bindings_of};
 ghost use Rattle.tw_putting.specs.Whole.{IsConsistent};
-ghost use Rattle.tw_unify.specs.Reaching.{marking_of, IsMarked, Spreads, StandsInType, StandsInValue, TypeIsMet, ValueIsMet, IsAvoided};
+ghost use Rattle.tw_unify.specs.Reaching.{marking_of, IsClosed, IsMarked, Spreads, StandsInType, StandsInValue, TypeIsMet, ValueIsMet, IsAvoided};
 
 use std::alloc::{AllocError, Global};
 use std::collections::HashSet;
@@ -32,18 +32,31 @@ pub fn is_reached(
     ensures { IfOk result (λ b. MatchBool b (IsReached (types_of store.now.now) (bindings_of store.now.now) (open_term_of term.now) meta.0) (IsAvoided (types_of store.now.now) (bindings_of store.now.now) (open_term_of term.now) meta.0)) }
 {
     let mut walk = Walk::new(alloc);
-    walk.term(term)?;
-    for _ in 0..u64::MAX {
-        match walk.due.pop() {
-            None => return Ok(walk.is_marked(meta)),
-            Some(next) => {
-                walk.type_of(store, MetaId(next))?;
-                walk.value_of(store, MetaId(next))?;
-            }
-        }
+    walk.go_from(store, term)?;
+    Ok(walk.is_marked(meta))
+}
+
+/// The same beside what was met before, none of which is walked again unless the metavariable is one of it.
+pub fn is_reached_now(
+    alloc: Global,
+    store: &Store,
+    met: &mut Walk,
+    term: &Open,
+    meta: MetaId,
+) -> Result<bool, AllocError>
+    requires consistent { IsConsistent store.now.now }
+    requires closed { IsClosed (types_of store.now.now) (bindings_of store.now.now) (marking_of met.old) }
+    ensures reached { IfOk result (λ b. MatchBool b (IsReached (types_of store.now.now) (bindings_of store.now.now) (open_term_of term.now) meta.0) (IsAvoided (types_of store.now.now) (bindings_of store.now.now) (open_term_of term.now) meta.0)) }
+    ensures closed { OnOk result (IsClosed (types_of store.now.now) (bindings_of store.now.now) (marking_of met.new)) }
+    ensures met { OnOk result (MetavariablesIn (IsMarked (marking_of met.new)) (open_term_of term.now)) }
+{
+    let known = met.is_marked(meta);
+    met.go_from(store, term)?;
+    if known {
+        is_reached(alloc, store, term, meta)
+    } else {
+        Ok(met.is_marked(meta))
     }
-    // Each turn takes another number, so there are fewer turns; no clause says how many numbers there are.
-    Err(AllocError)
 }
 
 impl Walk {
@@ -56,6 +69,24 @@ impl Walk {
             marks: HashSet::new(alloc),
             due: Vec::new(alloc),
         }
+    }
+
+    /// Goes through a term and all that is reached from it, but for what was met before.
+    fn go_from(&mut self, store: &Store, term: &Open) -> Result<(), AllocError>
+        requires consistent { IsConsistent store.now.now }
+        requires closed { IsClosed (types_of store.now.now) (bindings_of store.now.now) (marking_of self.old) }
+        ensures closed { OnOk result (IsClosed (types_of store.now.now) (bindings_of store.now.now) (marking_of self.new)) }
+        ensures met { OnOk result (MetavariablesIn (IsMarked (marking_of self.new)) (open_term_of term.now)) }
+        ensures reached { OnOk result ((k : ℕ) → IsMarked (marking_of self.new) k → IsMarked (marking_of self.old) k ⊎ IsReached (types_of store.now.now) (bindings_of store.now.now) (open_term_of term.now) k) }
+    {
+        self.term(term)?;
+        while let Some(next) = self.due.pop() {
+            self.type_of(store, MetaId(next))?;
+            self.value_of(store, MetaId(next))?;
+            // A set has fewer than 2^63 members, and each turn takes another one of them.
+            let _count = self.marks.len();
+        }
+        Ok(())
     }
 
     /// Whether the metavariable was met.

@@ -7,11 +7,12 @@ ghost use Rattle.tw_putting.specs.Ready.{IsLater, IsReady};
 ghost use Rattle.tw_unify.specs.Outcomes.{Explains, stacked};
 ghost use Rattle.tw_unify.specs.Answers.{Answers, KeepsSides, RenewsOnlyReached, RestIs, StaysReady};
 ghost use Rattle.tw_unify.specs.Sides.{AllLeft};
-ghost use Rattle.tw_unify.specs.Watching.{Watches, diary_of};
+ghost use Rattle.tw_unify.specs.Watching.{KeepsBindings, Watches, diary_of};
 ghost use Rattle.tw_unify.specs.Runs.{ReachedRun};
 
 use crate::fault::UnifyFault;
 use crate::postponed::wake;
+use crate::reach::Walk;
 use crate::step::advance;
 use crate::watch::Watch;
 use crate::work::Advance;
@@ -92,6 +93,7 @@ fn solve_watched(
     let mut work = equations;
     work.reverse();
     let mut fresh = work.len();
+    let mut met = Walk::new(alloc);
     for _ in 0..u64::MAX {
         let next = next_equation(alloc, store, signature, &mut work, watch)?;
         match next {
@@ -99,7 +101,7 @@ fn solve_watched(
             Some(equation) => {
                 let is_fresh = work.len() < fresh;
                 fresh = fresh.min(work.len());
-                let outcome = advance(alloc, store, signature, &mut work, equation, is_fresh)?;
+                let outcome = advance(alloc, store, signature, &mut work, &mut met, equation, is_fresh)?;
                 match outcome {
                     Advance::Refuted => return Ok(Unified::Never),
                     came => watch.note(came)?,
@@ -123,6 +125,7 @@ fn next_equation(
     requires ready { IsReady (signature_of signature.now) (stacked work.old.items) store.old.now }
     requires watches { Watches store.old.now (diary_of watch.old) }
     ensures next { MatchResult result (λ r. MatchOption r ((stacked work.old.items ≡ []) × AllLeft store.old.now store.old.now.equations × (store.new ≡ store.old)) (λ e. ReachedRun (signature_of signature.now) (whole (stacked work.old.items) store.old.now) (whole (equation_of e ∷ stacked work.new.items) store.new.now))) (λ f. Explains f (signature_of signature.now) (whole (stacked work.old.items) store.old.now)) }
+    ensures keeps { IfOk result (λ r. KeepsBindings store.old.now store.new.now) }
     ensures watches { IfOk result (λ r. Watches store.new.now (diary_of watch.new)) }
     ensures consistent { IsConsistent store.new.now }
     ensures story { IsLater store.old store.new }

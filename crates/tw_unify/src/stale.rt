@@ -25,21 +25,17 @@ pub fn find_stale(
     let mut walk = Walk::new(alloc);
     walk.term(left)?;
     walk.term(right)?;
-    for _ in 0..u64::MAX {
-        match walk.due.pop() {
-            None => return Ok(None),
-            Some(next) => {
-                let meta = MetaId(next);
-                if is_stale(store, meta) {
-                    return Ok(Some(meta));
-                }
-                walk.type_of(store, meta)?;
-                walk.value_of(store, meta)?;
-            }
+    while let Some(next) = walk.due.pop() {
+        let meta = MetaId(next);
+        if is_stale(store, meta) {
+            return Ok(Some(meta));
         }
+        walk.type_of(store, meta)?;
+        walk.value_of(store, meta)?;
+        // A set has fewer than 2^63 members, and each turn takes another one of them.
+        let _count = walk.marks.len();
     }
-    // Each turn takes another number, so there are fewer turns; no clause says how many numbers there are.
-    Err(AllocError)
+    Ok(None)
 }
 
 /// Whether the metavariable is not bound and its type mentions a bound one.

@@ -1,15 +1,18 @@
 //! One equation at work.
-ghost use Rattle.std.specs.Prelude.{◌∷◌, IfOk, MatchResult};
+ghost use Rattle.std.specs.Prelude.{◌∷◌, IfOk, OnOk, MatchResult};
 ghost use Rattle.lf.specs.Entries.{signature_of, IsCanonicalSignature};
 ghost use Rattle.tw_metas.specs.View.{equation_of};
 ghost use Rattle.tw_putting.specs.Ready.{IsLater, IsReady};
 ghost use Rattle.tw_putting.specs.Whole.{IsConsistent, whole};
 ghost use Rattle.tw_unify.specs.Outcomes.{Advances, Explains, stacked};
+ghost use Rattle.tw_putting.specs.Stores.{bindings_of, types_of};
+ghost use Rattle.tw_unify.specs.Reaching.{IsClosed, marking_of};
 ghost use Rattle.tw_unify.specs.Sides.{HeadsStay, IsFlexibleEquation};
 ghost use Rattle.tw_unify.specs.Watching.{Changes};
 
 use crate::fault::UnifyFault;
 use crate::flexible::{do_flexible, make_move, move_at_once};
+use crate::reach::Walk;
 use crate::rigid::{decompose, open_lambdas};
 use crate::sides::{Shape, are_apart, put_both, shape_of, unfold_sides};
 use crate::whole::{find_taker, take_whole};
@@ -24,13 +27,16 @@ pub fn advance(
     store: &mut Store,
     signature: &Signature,
     work: &mut Vec<Equation>,
+    met: &mut Walk,
     equation: Equation,
     fresh: bool,
 ) -> Result<Advance, UnifyFault>
     requires canonical { IsCanonicalSignature signature.now }
     requires ready { IsReady (signature_of signature.now) (equation_of equation ∷ stacked work.old.items) store.old.now }
+    requires closed { IsClosed (types_of store.old.now) (bindings_of store.old.now) (marking_of met.old) }
     ensures done { MatchResult result (λ a. Advances a (signature_of signature.now) (whole (equation_of equation ∷ stacked work.old.items) store.old.now) (whole (stacked work.new.items) store.new.now)) (λ f. Explains f (signature_of signature.now) (whole (equation_of equation ∷ stacked work.old.items) store.old.now)) }
     ensures change { IfOk result (λ a. Changes a store.old.now store.new.now) }
+    ensures closed { OnOk result (IsClosed (types_of store.new.now) (bindings_of store.new.now) (marking_of met.new)) }
     ensures consistent { IsConsistent store.new.now }
     ensures story { IsLater store.old store.new }
 {
@@ -41,7 +47,7 @@ pub fn advance(
         return Ok(Advance::Went);
     }
     let unfolded = unfold_sides(alloc, store, equation)?;
-    make_steps(alloc, store, signature, work, unfolded)
+    make_steps(alloc, store, signature, work, met, unfolded)
 }
 
 /// Makes steps at an equation of which no head is bound.
@@ -50,13 +56,16 @@ fn make_steps(
     store: &mut Store,
     signature: &Signature,
     work: &mut Vec<Equation>,
+    met: &mut Walk,
     equation: Equation,
 ) -> Result<Advance, UnifyFault>
     requires canonical { IsCanonicalSignature signature.now }
     requires ready { IsReady (signature_of signature.now) (equation_of equation ∷ stacked work.old.items) store.old.now }
     requires stay { HeadsStay store.old.now (equation_of equation) }
+    requires closed { IsClosed (types_of store.old.now) (bindings_of store.old.now) (marking_of met.old) }
     ensures done { MatchResult result (λ a. Advances a (signature_of signature.now) (whole (equation_of equation ∷ stacked work.old.items) store.old.now) (whole (stacked work.new.items) store.new.now)) (λ f. Explains f (signature_of signature.now) (whole (equation_of equation ∷ stacked work.old.items) store.old.now)) }
     ensures change { IfOk result (λ a. Changes a store.old.now store.new.now) }
+    ensures closed { OnOk result (IsClosed (types_of store.new.now) (bindings_of store.new.now) (marking_of met.new)) }
     ensures consistent { IsConsistent store.new.now }
     ensures story { IsLater store.old store.new }
 {
@@ -70,7 +79,7 @@ fn make_steps(
             Ok(Advance::Went)
         }
         Shape::Apart => Ok(Advance::Refuted),
-        Shape::Flexible => at_flexible(alloc, store, signature, work, equation),
+        Shape::Flexible => at_flexible(alloc, store, signature, work, met, equation),
         Shape::Mixed => unreachable!(),
     }
 }
@@ -82,23 +91,29 @@ fn at_flexible(
     store: &mut Store,
     signature: &Signature,
     work: &mut Vec<Equation>,
+    met: &mut Walk,
     equation: Equation,
 ) -> Result<Advance, UnifyFault>
     requires canonical { IsCanonicalSignature signature.now }
     requires ready { IsReady (signature_of signature.now) (equation_of equation ∷ stacked work.old.items) store.old.now }
     requires stay { HeadsStay store.old.now (equation_of equation) }
     requires flexible { IsFlexibleEquation (equation_of equation) }
+    requires closed { IsClosed (types_of store.old.now) (bindings_of store.old.now) (marking_of met.old) }
     ensures done { MatchResult result (λ a. Advances a (signature_of signature.now) (whole (equation_of equation ∷ stacked work.old.items) store.old.now) (whole (stacked work.new.items) store.new.now)) (λ f. Explains f (signature_of signature.now) (whole (equation_of equation ∷ stacked work.old.items) store.old.now)) }
     ensures change { IfOk result (λ a. Changes a store.old.now store.new.now) }
+    ensures closed { OnOk result (IsClosed (types_of store.new.now) (bindings_of store.new.now) (marking_of met.new)) }
     ensures consistent { IsConsistent store.new.now }
     ensures story { IsLater store.old store.new }
 {
-    match find_taker(alloc, store, &equation)? {
+    match find_taker(alloc, store, met, &equation)? {
         Some(taker) => {
             let taken = take_whole(store, equation, taker)?;
             Ok(Advance::Bound(taken))
         }
-        None => at_patterns(alloc, store, signature, work, equation),
+        None => {
+            *met = Walk::new(alloc);
+            at_patterns(alloc, store, signature, work, equation)
+        }
     }
 }
 

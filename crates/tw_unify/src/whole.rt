@@ -5,11 +5,14 @@ ghost use Rattle.tw_terms.specs.OpenView.{open_term_of};
 ghost use Rattle.tw_metas.specs.View.{equation_of};
 ghost use Rattle.tw_putting.specs.Ready.{IsLater};
 ghost use Rattle.tw_putting.specs.Whole.{IsConsistent};
-ghost use Rattle.tw_unify.specs.Flexible.{BindsWhole, BothHeadsFit, IsTaken, TakesWhole};
+ghost use Rattle.tw_unify.specs.Flexible.{BindsWhole, BothHeadsFit, IsTaken, TakenIsMet, TakesWhole};
+ghost use Rattle.lf_unification.specs.OpenTyping.{MetavariablesIn};
+ghost use Rattle.tw_putting.specs.Stores.{bindings_of, types_of};
 ghost use Rattle.tw_unify.specs.Moving.{HeadsFit};
+ghost use Rattle.tw_unify.specs.Reaching.{IsClosed, IsMarked, Marking, marking_of};
 ghost use Rattle.tw_unify.specs.Watching.{BindsOne};
 
-use crate::reach::is_reached;
+use crate::reach::{Walk, is_reached_now};
 use std::alloc::{AllocError, Global};
 use tw_metas::{Equation, Store};
 use tw_terms::{MetaId, Open, OpenHead};
@@ -21,22 +24,26 @@ pub enum Taker {
     Right(MetaId),
 }
 
-/// A side that is an unbound metavariable without arguments and can be bound to the other side as it stands. None where there are local variables. Fails only for want of memory.
+/// A side that is an unbound metavariable without arguments and can be bound to the other side as it stands. None where there are local variables. What the occurs check met before isn't walked again. Fails only for want of memory.
 pub fn find_taker(
     alloc: Global,
     store: &Store,
+    met: &mut Walk,
     equation: &Equation,
 ) -> Result<Option<Taker>, AllocError>
-    requires { BothHeadsFit store.now.now (equation_of equation.now) }
-    ensures { IfOk result (λ r. IfSome r (λ t. TakesWhole store.now.now (equation_of equation.now) t)) }
+    requires fits { BothHeadsFit store.now.now (equation_of equation.now) }
+    requires closed { IsClosed (types_of store.now.now) (bindings_of store.now.now) (marking_of met.old) }
+    ensures takes { IfOk result (λ r. IfSome r (λ t. TakesWhole store.now.now (equation_of equation.now) t)) }
+    ensures met { IfOk result (λ r. IfSome r (λ t. TakenIsMet (marking_of met.new) (equation_of equation.now) t)) }
+    ensures closed { OnOk result (IsClosed (types_of store.now.now) (bindings_of store.now.now) (marking_of met.new)) }
 {
     if equation.context.len() > 0 {
         return Ok(None);
     }
-    if let Some(meta) = takes_whole(alloc, store, &equation.left, &equation.right)? {
+    if let Some(meta) = takes_whole(alloc, store, met, &equation.left, &equation.right)? {
         return Ok(Some(Taker::Left(meta)));
     }
-    match takes_whole(alloc, store, &equation.right, &equation.left)? {
+    match takes_whole(alloc, store, met, &equation.right, &equation.left)? {
         Some(meta) => Ok(Some(Taker::Right(meta))),
         None => Ok(None),
     }
@@ -46,18 +53,25 @@ pub fn find_taker(
 fn takes_whole(
     alloc: Global,
     store: &Store,
+    met: &mut Walk,
     left: &Open,
     right: &Open,
 ) -> Result<Option<MetaId>, AllocError>
-    requires { HeadsFit store.now.now [] (open_term_of left.now) (open_term_of right.now) }
-    ensures { IfOk result (λ r. IfSome r (λ m. BindsWhole store.now.now (open_term_of left.now) (open_term_of right.now) m)) }
+    requires fits { HeadsFit store.now.now [] (open_term_of left.now) (open_term_of right.now) }
+    requires closed { IsClosed (types_of store.now.now) (bindings_of store.now.now) (marking_of met.old) }
+    ensures binds { IfOk result (λ r. IfSome r (λ m. BindsWhole store.now.now (open_term_of left.now) (open_term_of right.now) m)) }
+    ensures met { IfOk result (λ r. IfSome r (λ m. MetavariablesIn (IsMarked (marking_of met.new)) (open_term_of right.now))) }
+    ensures closed { OnOk result (IsClosed (types_of store.now.now) (bindings_of store.now.now) (marking_of met.new)) }
 {
     match left {
         Open::Root(OpenHead::Meta(meta), spine) => {
-            if spine.args.is_empty() && !is_reached(alloc, store, right, *meta)? {
-                Ok(Some(*meta))
-            } else {
+            if !spine.args.is_empty() {
+                return Ok(None);
+            }
+            if is_reached_now(alloc, store, met, right, *meta)? {
                 Ok(None)
+            } else {
+                Ok(Some(*meta))
             }
         }
         _ => Ok(None),
@@ -70,6 +84,7 @@ pub fn take_whole(store: &mut Store, equation: Equation, taker: Taker) -> Result
     requires takes { TakesWhole store.old.now (equation_of equation) taker }
     ensures done { OnOk result ((Σ : Signature) → IsTaken Σ store.old.now (equation_of equation) store.new.now) }
     ensures bound { IfOk result (λ m. BindsOne store.old.now m store.new.now) }
+    ensures closed { OnOk result ((w : Marking) → IsClosed (types_of store.old.now) (bindings_of store.old.now) w → TakenIsMet w (equation_of equation) taker → IsClosed (types_of store.new.now) (bindings_of store.new.now) w) }
     ensures consistent { IsConsistent store.new.now }
     ensures story { IsLater store.old store.new }
 {

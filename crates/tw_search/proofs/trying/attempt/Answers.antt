@@ -36,8 +36,8 @@ returns-in-Solved c =
     let es = map equation_of c.in_ok-equations.field-0.equations.items in
     record {
       tried = solved_gives Σ (canonical_is_signature c.args.signature.now c.is_canonical.ensures) c.args.store.now.now c.args.goal.now (head_of c.args.head) es c.in_ok-equations.field-0.subgoals.items c.offer.new.store.now c.in_ok-equations.ensures.ok c.solve.new.store.now
-          (subst (λ a. RenewsOnlyReached a Σ (whole es c.offer.new.store.now) (whole [] c.solve.new.store.now)) c.in-Solved.is c.in_ok-solve.ensures.renews)
           (subst (λ a. Answers a Σ (whole es c.offer.new.store.now) (whole [] c.solve.new.store.now)) c.in-Solved.is c.in_ok-solve.ensures.answer)
+          (subst (λ a. RenewsOnlyReached a Σ (whole es c.offer.new.store.now) (whole [] c.solve.new.store.now)) c.in-Solved.is c.in_ok-solve.ensures.renews)
           (subst (λ a. StaysReady a Σ c.solve.new.store.now) c.in-Solved.is c.in_ok-solve.ensures.ready);
       story = later_then c.args.store.now c.offer.new.store c.solve.new.store c.in_ok-equations.ensures.story c.in_ok-solve.ensures.story;
     }
@@ -48,8 +48,8 @@ returns-in-Left c =
     let es = map equation_of c.in_ok-equations.field-0.equations.items in
     record {
       tried = left_gives Σ (canonical_is_signature c.args.signature.now c.is_canonical.ensures) c.args.store.now.now c.args.goal.now (head_of c.args.head) es c.in_ok-equations.field-0.subgoals.items c.offer.new.store.now c.in_ok-equations.ensures.ok c.solve.new.store.now
-          (subst (λ a. RenewsOnlyReached a Σ (whole es c.offer.new.store.now) (whole [] c.solve.new.store.now)) c.in-Left.is c.in_ok-solve.ensures.renews)
           (subst (λ a. Answers a Σ (whole es c.offer.new.store.now) (whole [] c.solve.new.store.now)) c.in-Left.is c.in_ok-solve.ensures.answer)
+          (subst (λ a. RenewsOnlyReached a Σ (whole es c.offer.new.store.now) (whole [] c.solve.new.store.now)) c.in-Left.is c.in_ok-solve.ensures.renews)
           (subst (λ a. StaysReady a Σ c.solve.new.store.now) c.in-Left.is c.in_ok-solve.ensures.ready);
       story = later_then c.args.store.now c.offer.new.store c.solve.new.store c.in_ok-equations.ensures.story c.in_ok-solve.ensures.story;
     }

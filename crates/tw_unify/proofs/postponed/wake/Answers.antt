@@ -1,4 +1,4 @@
-use Rattle.std.proofs.Common.{◌≡◌, [], ◌∷◌, Err, sym, ap, subst, ◌<◌, length, rules}
+use Rattle.std.proofs.Common.{◌≡◌, [], ◌∷◌, Err, refl, sym, ap, subst, ◌<◌, length, rules}
 use Rattle.std.specs.Option.{MatchOption}
 use Rattle.lf.specs.Entries.{signature_of}
 use Rattle.lf.proofs.Entries.{canonical_is_signature}
@@ -8,7 +8,7 @@ use Rattle.tw_metas.specs.View.{equation_of}
 use Rattle.tw_unify.specs.Sides.{AllLeft}
 use Rattle.tw_putting.specs.Whole.{IsConsistent, whole}
 use Rattle.tw_putting.proofs.Changes.{consistent_without_equation}
-use Rattle.tw_unify.specs.Watching.{Watches, diary_of}
+use Rattle.tw_unify.specs.Watching.{KeepsBindings, Watches, diary_of}
 use Rattle.tw_unify.proofs.Postponing.{explains_some, place_within, wake_runs}
 use Rattle.tw_unify.proofs.Stories.{later_changed}
 use Rattle.tw_unify.proofs.Watching.{can_go_over, watched_length}
@@ -54,3 +54,8 @@ pub returns-in_ok-settle-in-Some-clause-watches : goal.returns-in_ok-settle-in-S
 returns-in_ok-settle-in-Some-clause-watches c =
     let s = c.args.store.now.now in
     subst (λ (t : State). Watches t (diary_of c.forget.new.self)) (sym (ap (λ (x : Story). x.now) c.in_ok-settle-in-Some.ensures.ok)) (c.forget.ensures s c.in_ok-find_awake.ensures.watches)
+
+pub returns-in_ok-settle-in-Some-clause-keeps : goal.returns-in_ok-settle-in-Some-clause-keeps
+returns-in_ok-settle-in-Some-clause-keeps c =
+    let s = c.args.store.now.now in
+    subst (λ (t : State). KeepsBindings s t) (sym (ap (λ (x : Story). x.now) c.in_ok-settle-in-Some.ensures.ok)) (refl, refl)

@@ -5,14 +5,16 @@ use Rattle.tw_metas.specs.View.{equation_of}
 use Rattle.tw_metas.specs.declared.equation.Equation.{Equation as RustEquation}
 use Rattle.tw_terms.specs.OpenView.{open_term_of}
 use Rattle.tw_terms.specs.declared.canonical.MetaId.{MetaId}
+use Rattle.tw_putting.specs.Stores.{bindings_of, types_of}
 use Rattle.tw_putting.specs.Whole.{IsConsistent, whole}
 use Rattle.tw_putting.proofs.Changes.{consistent_with_value}
-use Rattle.tw_unify.specs.Flexible.{AllowsMove, TakesWhole}
+use Rattle.tw_unify.specs.Flexible.{AllowsMove, TakenIsMet, TakesWhole}
+use Rattle.tw_unify.specs.Reaching.{IsClosed}
 use Rattle.tw_unify.specs.declared.moves.Move.TheVariants.{Bind}
 use Rattle.tw_unify.specs.declared.whole.Taker.{Taker}
 use Rattle.tw_unify.specs.declared.whole.Taker.TheVariants.{Left, Right}
 use Rattle.tw_unify.proofs.FlexibleMoves.{bind_runs, bound_unbound}
-use Rattle.tw_unify.proofs.Changed.{binds_value}
+use Rattle.tw_unify.proofs.Changed.{binds_value, closed_value}
 use Rattle.tw_unify.proofs.Stories.{later_changed}
 use Rattle.tw_unify.proofs.whole.take_whole.Goals as goal
 
@@ -81,3 +83,19 @@ returns-in_ok-bind-in-Right-clause-bound c =
     let a = allows_right s c.args.equation c.args.taker c.in-Right.meta c.in-Right.is c.requires.takes in
     binds_value s c.requires.consistent c.in-Right.meta (open_term_of c.args.equation.left) (bound_unbound a.move.fits.signature s (equation_of c.args.equation) c.in-Right.meta c.args.equation.left a)
     c.bind-in-Right.new.self.now (ap (λ (x : Story). x.now) c.in_ok-bind-in-Right.ensures.ok)
+
+pub returns-in_ok-bind-in-Left-clause-closed : goal.returns-in_ok-bind-in-Left-clause-closed
+returns-in_ok-bind-in-Left-clause-closed c = λ w k i.
+    let s = c.args.store.now.now in
+    let e = equation_of c.args.equation in
+    let a = allows_left s c.args.equation c.args.taker c.in-Left.meta c.in-Left.is c.requires.takes in
+    subst (λ (t : State). IsClosed (types_of t) (bindings_of t) w) (sym (ap (λ (x : Story). x.now) c.in_ok-bind-in-Left.ensures.ok))
+    (closed_value s c.requires.consistent c.in-Left.meta.0 (open_term_of c.args.equation.right) (bound_unbound a.move.fits.signature s e c.in-Left.meta c.args.equation.right a) w k (subst (TakenIsMet w e) c.in-Left.is i))
+
+pub returns-in_ok-bind-in-Right-clause-closed : goal.returns-in_ok-bind-in-Right-clause-closed
+returns-in_ok-bind-in-Right-clause-closed c = λ w k i.
+    let s = c.args.store.now.now in
+    let e = equation_of c.args.equation in
+    let a = allows_right s c.args.equation c.args.taker c.in-Right.meta c.in-Right.is c.requires.takes in
+    subst (λ (t : State). IsClosed (types_of t) (bindings_of t) w) (sym (ap (λ (x : Story). x.now) c.in_ok-bind-in-Right.ensures.ok))
+    (closed_value s c.requires.consistent c.in-Right.meta.0 (open_term_of c.args.equation.left) (bound_unbound a.move.fits.signature s e c.in-Right.meta c.args.equation.left a) w k (subst (TakenIsMet w e) c.in-Right.is i))

@@ -9,12 +9,12 @@ use Rattle.tw_unify.specs.Reaching.{IsAvoided}
 use Rattle.tw_unify.proofs.Takers.{binds_whole}
 use Rattle.tw_unify.proofs.whole.takes_whole.Goals as goal
 
-pub returns-then-not-branch : goal.returns-then-not-branch
-returns-then-not-branch c =
+pub returns-else-branch-clause-binds : goal.returns-else-branch-clause-binds
+returns-else-branch-clause-binds c =
     let s = c.args.store.now.now in
     let m = c.in-Root-Meta-default.meta in
     let N = open_term_of c.args.right.now in
     let is : open_term_of c.args.left.now ≡ root (metavariable m.0) nil = grind (arith, open_types) in
     let avoided : IsAvoided (types_of s) (bindings_of s) N m.0 =
-    subst (λ b. MatchBool b (IsReached (types_of s) (bindings_of s) N m.0) (IsAvoided (types_of s) (bindings_of s) N m.0)) c.if-not-branch.true c.in_ok-is_reached-in-Root-Meta-default.ensures in
-    binds_whole s (open_term_of c.args.left.now) N c.requires m is avoided
+    subst (λ b. MatchBool b (IsReached (types_of s) (bindings_of s) N m.0) (IsAvoided (types_of s) (bindings_of s) N m.0)) c.if-branch.false c.in_ok-is_reached_now-in-Root-Meta-default.ensures.reached in
+    binds_whole s (open_term_of c.args.left.now) N c.requires.fits m is avoided

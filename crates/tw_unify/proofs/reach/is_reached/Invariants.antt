@@ -1,8 +1,0 @@
-use Rattle.tw_terms.specs.OpenView.{open_term_of}
-use Rattle.tw_unify.specs.Reaching.{marking_of}
-use Rattle.tw_putting.specs.Stores.{bindings_of, types_of}
-use Rattle.tw_unify.proofs.Reaching.{IsSearch}
-use Rattle.tw_unify.proofs.reach.is_reached.Given as goal
-
-abbrev pub invariant-loop : goal.invariant-loop
-invariant-loop l = IsSearch (types_of l.store.now) (bindings_of l.store.now) (open_term_of l.term) (marking_of l.walk)
