@@ -101,7 +101,9 @@ fn solve_watched(
             Some(equation) => {
                 let is_fresh = work.len() < fresh;
                 fresh = fresh.min(work.len());
-                let outcome = advance(alloc, store, signature, &mut work, &mut met, equation, is_fresh)?;
+                let outcome = advance(
+                    alloc, store, signature, &mut work, &mut met, equation, is_fresh,
+                )?;
                 match outcome {
                     Advance::Refuted => return Ok(Unified::Never),
                     came => watch.note(came)?,
