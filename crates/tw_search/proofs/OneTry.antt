@@ -68,6 +68,7 @@ module _ (Σ : Signature) (ok : IsSignature Σ) (s : State) (g : OpenGoal) (h : 
     }
 
     gives : (u : State) → ReachedRun Σ (whole es t) (whole [] u) → AllLeftOver (types_of t) (whole [] u) u.equations → IsWellFormed Σ (whole [] u) → IsReady Σ [] u → GivesChild Σ s g h subgoals u
+    unfolding child
     gives u r l w y = record {
       has = record { head_type = o.head_type; offered = offered_store es t; next = length t.declared; offer = o.offer };
       child = child u r l w;
