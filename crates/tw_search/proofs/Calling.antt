@@ -1,5 +1,7 @@
 -- What a call of a search comes to.
-use Rattle.std.proofs.Common.{◌≡◌, ℕ, ◌+◌, ◌-◌, List, length, refl, sym, ◌∙◌, subst, arith}
+use Rattle.std.proofs.Common.{◌≡◌, ℕ, ◌+◌, ◌-◌, List, length, Result, Ok, Err, refl, sym, ◌∙◌, subst, arith}
+use Rattle.std.specs.Result.{IfOk, OnErr}
+use Rattle.std.specs.declared.alloc.AllocError.{AllocError}
 use Rattle.lf.specs.Entries.{Entry}
 use Rattle.lf.specs.Syntax.{LfType}
 use Rattle.lf_unification.specs.Search.{Node, Pending}
@@ -44,6 +46,16 @@ after_step es G A step.Exhausted new leaves agenda o = is_over end.Exhausted o
 after_step es G A step.Budget new leaves agenda w = stands G A leaves agenda w
 after_step es G A step.TooDeep new leaves agenda o = is_over end.TooDeep o
 
-pub search_again : (es : List Entry) (old new : Search) (budget : ℕ) (s : Step) → ((e : End) → IsOver e old → ⊥) → ((G : List LfType) → length G ≡ old.variables → (agenda : List Pending) → IsAt es old agenda → Came es G old new agenda budget s) → IsSearch es old → IsSearch es new
-search_again es old new budget s n came (stands G A leaves agenda w) = let v = call_is es old new budget s came G A leaves agenda w in after_step es G A s new leaves v.after v.then_stands
-search_again es old new budget s n came (is_over e o) = absurd (n e o)
+search_again : (es : List Entry) (old new : Search) (budget : ℕ) (r : Result Step AllocError) → ((e : End) → IsOver e old → ⊥) → IfOk r (λ s. (G : List LfType) → length G ≡ old.variables → (agenda : List Pending) → IsAt es old agenda → Came es G old new agenda budget s) →
+    OnErr r (IsOver end.NoMemory new) → IsSearch es old → IsSearch es new
+search_again es old new budget (Ok s) n came o (stands G A leaves agenda w) = let v = call_is es old new budget s came G A leaves agenda w in after_step es G A s new leaves v.after v.then_stands
+search_again es old new budget (Ok s) n came o (is_over e x) = absurd (n e x)
+search_again es old new budget (Err e) n came o w = is_over end.NoMemory o
+
+pub node_again : (es : List Entry) (old new : Search) (budget : ℕ) (list : ℕ) (r : Result Step AllocError) → old.place ≡ place.Node list → IfOk r (λ s. (G : List LfType) → length G ≡ old.variables → (agenda : List Pending) → IsAt es old agenda → Came es G old new agenda budget s) →
+    OnErr r (IsOver end.NoMemory new) → IsSearch es old → IsSearch es new
+node_again es old new budget list r p came o w = search_again es old new budget r (at_node_not_over old list p) came o w
+
+pub heads_again : (es : List Entry) (old new : Search) (budget : ℕ) (r : Result Step AllocError) → old.place ≡ place.Heads → IfOk r (λ s. (G : List LfType) → length G ≡ old.variables → (agenda : List Pending) → IsAt es old agenda → Came es G old new agenda budget s) →
+    OnErr r (IsOver end.NoMemory new) → IsSearch es old → IsSearch es new
+heads_again es old new budget r p came o w = search_again es old new budget r (at_heads_not_over old p) came o w

@@ -243,7 +243,7 @@ fn push_choice(choices: &mut Vec<Choice>, choice: Choice) -> Result<(), AllocErr
 
 /// Takes away the newest choice point.
 fn pop_choice(choices: &mut Vec<Choice>) -> Option<Choice>
-    ensures { MatchOption result ((reverse choices.old.items ≡ []) × (choices.new ≡ choices.old)) (λ c. reverse choices.old.items ≡ c ∷ reverse choices.new.items) }
+    ensures { MatchOption result (reverse choices.old.items ≡ []) (λ c. reverse choices.old.items ≡ c ∷ reverse choices.new.items) }
 {
     choices.pop()
 }
