@@ -290,8 +290,8 @@ module _ (es : List Entry) (n list : ℕ) (y : Story) (fs : List Frame) (cs : Li
   pub hole_declared : IsDeclared y.now f.hole.0
   hole_declared = w.declared f.hole.0 (subst (Member f.hole.0) (sym behind.1) (inl refl))
 
-  holes_open : HolesAreOpen (node_of y.now (f.hole.0 ∷ behind.0))
-  holes_open = subst (λ gs. HolesAreOpen (node_of y.now gs)) behind.1 w.holes
+  goal_holes : HolesAreOpen (node_of y.now (f.hole.0 ∷ behind.0))
+  goal_holes = subst (λ gs. HolesAreOpen (node_of y.now gs)) behind.1 w.holes
 
   module _ (g : OpenGoal) (o : IsOpened y.now f.hole.0 g) (c : Choice) (is : c ≡ record { mark = length y.before; frames = length fs; goal = g; rest = f.next; local = 0; constant = 0 }) where
     abbrev pub chosen : List Pending
@@ -313,10 +313,10 @@ module _ (es : List Entry) (n list : ℕ) (y : Story) (fs : List Frame) (cs : Li
           mark = refl;
           frames = refl;
           kept = w.kept;
-          stands = record { ready = w.kept.ready; node = w.kept.node; declared = declared; unbound = subst (Unbound (bindings_of y.now)) (sym o.hole) holes_open.open_holes.1 };
+          stands = record { ready = w.kept.ready; node = w.kept.node; declared = declared; unbound = subst (Unbound (bindings_of y.now)) (sym o.hole) goal_holes.open_holes.1 };
           goals_are = behind.2;
           declared = λ m i. w.declared m (subst (Member m) (sym behind.1) (inr i));
-          holes = subst (λ m. HolesAreOpen (node_of y.now (m ∷ behind.0))) (sym o.hole) holes_open;
+          holes = subst (λ m. HolesAreOpen (node_of y.now (m ∷ behind.0))) (sym o.hole) goal_holes;
           offered = all_offered es g.locals g.family.0 0 0 refl refl;
         })
         w.choices)
