@@ -94,12 +94,12 @@ fn search_of(
     ensures { IfOk result (λ s. IsSearch signature.now s) }
 {
     signature.is_canonical();
-    if check_context(alloc, signature, &variables)? != Verdict::Typed {
+    let Verdict::Typed = check_context(alloc, signature, &variables)? else {
         return Err(FormFault::NoMeaning);
-    }
-    if check_type(alloc, signature, &variables, &ty)? != Verdict::Typed {
+    };
+    let Verdict::Typed = check_type(alloc, signature, &variables, &ty)? else {
         return Err(FormFault::NoMeaning);
-    }
+    };
     let goal = Goal {
         variables,
         names: Vec::new(alloc),
@@ -107,5 +107,6 @@ fn search_of(
         proof: None,
         goal: ty,
     };
-    Ok(Search::new(alloc, &goal)?)
+    let search = Search::new(alloc, &goal)?;
+    Ok(search)
 }

@@ -44,12 +44,12 @@ fn begun(
     ensures { IfOk result (λ s. IsSearch signature.now s) }
 {
     signature.is_canonical();
-    if check_context(alloc, signature, &variables)? != Verdict::Typed {
+    let Verdict::Typed = check_context(alloc, signature, &variables)? else {
         return Err(FormFault::NoMeaning);
-    }
-    if check_type(alloc, signature, &variables, &ty)? != Verdict::Typed {
+    };
+    let Verdict::Typed = check_type(alloc, signature, &variables, &ty)? else {
         return Err(FormFault::NoMeaning);
-    }
+    };
     let goal = Goal {
         variables,
         names: Vec::new(alloc),
@@ -57,7 +57,8 @@ fn begun(
         proof: None,
         goal: ty,
     };
-    Ok(Search::new(alloc, &goal)?)
+    let search = Search::new(alloc, &goal)?;
+    Ok(search)
 }
 
 /// One call, and what it shows, with the tries so far.
