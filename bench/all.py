@@ -1,7 +1,7 @@
 #!/usr/bin/env python3
 """Runs all benches, and writes their figures as one table, with the machine named, into bench/README.md.
 
-    bench/all.py                  runs them and writes the table; ./twelf and the two programs in crates/bench_* have to be built
+    bench/all.py                  runs them and writes the table; ./twelf and the programs in crates/bench_* have to be built
     bench/all.py --only WORD      only those with this word in their name; the table is printed and not written
     bench/all.py --saved FOLDER   takes what was printed before from FOLDER/NAME.txt, and runs nothing; printed too
 
@@ -30,6 +30,7 @@ def built(crate):
 BENCHES = {
     **{name: (built("twelf"), [sys.executable, os.path.join(HERE, f"{name}.py")]) for name in ("serve", "declare", "files", "reconstruct")},
     "unify": (built("bench_unify"), [sys.executable, os.path.join(HERE, "unify.py")]),
+    "search": (built("bench_search"), [sys.executable, os.path.join(HERE, "search.py")]),
     "hered": (built("bench_hered"), [built("bench_hered"), "run"]),
 }
 

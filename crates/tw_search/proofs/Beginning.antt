@@ -6,6 +6,8 @@ use Rattle.lf.specs.Syntax.{LfType}
 use Rattle.lf.specs.Typing.{IsContext, IsType}
 use Rattle.lf.proofs.Entries.{canonical_is_signature}
 use Rattle.lf_search.specs.Goals.{metavariables_of, over_metavariables, root_of}
+use Rattle.lf_search.specs.Holes.{HolesAreOpen}
+use Rattle.lf_search.proofs.HolesStay.{root_holes}
 use Rattle.lf_search.proofs.QueryForm as query
 use Rattle.lf_unification.specs.OpenTyping.{set_at}
 use Rattle.lf_unification.specs.Search.{IsNode, Node, Pending, at_node}
@@ -60,6 +62,7 @@ module _ (es : List Entry) (ok : IsCanonicalSignature es) (G : List LfType) (A :
         goals = length G ∷ [];
         goals_are = subst (λ k. GoalsAre fs list (k ∷ [])) eh (subst (λ xs. GoalsAre xs list (f.hole.0 ∷ [])) (sym ef) chain);
         declared = λ m i. at m i;
+        holes = subst HolesAreOpen (sym law.0) (root_holes (signature_of es) (canonical_is_signature es ok) G A g t);
         kept = record {
           ready = law.1;
           node = record { scoped = node.scoped; skeletons = node.skeletons };

@@ -141,16 +141,20 @@ module _ (es : List Entry) (G : List LfType) (agenda : List Pending) (budget : �
   past_leaf : {l : Node} {k : ℕ} {rest : List Pending} → SearchesFrom es agenda [] k (at_node l ∷ rest) → l.goals ≡ [] → SearchesFrom es agenda (l ∷ []) k rest
   past_leaf {l} {k} {rest} r g = let z : k + 0 ≡ k = omega arith in subst (λ n. SearchesFrom es agenda (l ∷ []) n rest) z (search_then (signature_of es) (declared_constants es) r (one_step (signature_of es) (declared_constants es) (take_leaf g)))
 
-  answer_found : (seen : Seen) (k : ℕ) (after : List Pending) (F : List LfType) (Ms : List Term) (p : Term) → Comes es depth_limit G agenda budget seen k after → seen ≡ answer F Ms p → (l : Node) × SearchesFrom es agenda (l ∷ []) k after
-  answer_found seen k after F Ms p (to_answer {l = l} r h g e i) q = (l, past_leaf r g)
+  answer_found : (seen : Seen) (k : ℕ) (after : List Pending) (F : List LfType) (Ms : List Term) (p : Term) → Comes es depth_limit G agenda budget seen k after → seen ≡ answer F Ms p → (l : Node) × (l.store.equations ≡ []) × IsReadOffLeaf (signature_of es) G l F Ms p × SearchesFrom es agenda (l ∷ []) k after
+  answer_found seen k after F Ms p (to_answer {l = l} {F = F'} {Ms = Ms'} {proof = p'} r h g e i) q =
+      let f : F' ≡ F = cc in
+      let m : Ms' ≡ Ms = cc in
+      let t : p' ≡ p = cc in
+      (l, e, subst (λ x. IsReadOffLeaf (signature_of es) G l F Ms x) t (subst (λ x. IsReadOffLeaf (signature_of es) G l F x p') m (subst (λ x. IsReadOffLeaf (signature_of es) G l x Ms' p') f i)), past_leaf r g)
   answer_found seen k after F Ms p (to_left_over r h g e) q = absurd cc
   answer_found seen k after F Ms p (to_end r h) q = absurd cc
   answer_found seen k after F Ms p (to_budget r d) q = absurd cc
   answer_found seen k after F Ms p (to_deep r h d) q = absurd cc
 
-  left_found : (seen : Seen) (k : ℕ) (after : List Pending) (x : Node) (y : Equation) → Comes es depth_limit G agenda budget seen k after → seen ≡ left_over x y → (l : Node) × SearchesFrom es agenda (l ∷ []) k after
+  left_found : (seen : Seen) (k : ℕ) (after : List Pending) (x : Node) (y : Equation) → Comes es depth_limit G agenda budget seen k after → seen ≡ left_over x y → (l : Node) × ((rest : List Equation) × (l.store.equations ≡ y ∷ rest)) × SearchesFrom es agenda (l ∷ []) k after
   left_found seen k after x y (to_answer r h g e i) q = absurd cc
-  left_found seen k after x y (to_left_over {l = l} r h g e) q = (l, past_leaf r g)
+  left_found seen k after x y (to_left_over {l = l} {e = z} {es = zs} r h g e) q = (let same : z ≡ y = cc in (l, (zs, subst (λ u. l.store.equations ≡ u ∷ zs) same e), past_leaf r g))
   left_found seen k after x y (to_end r h) q = absurd cc
   left_found seen k after x y (to_budget r d) q = absurd cc
   left_found seen k after x y (to_deep r h d) q = absurd cc
@@ -174,11 +178,11 @@ module _ (es : List Entry) (G : List LfType) (agenda : List Pending) (budget : �
 
     then_stands : (s : Step) (v : Came es G old new agenda budget s) → StandsAfter es G A s new leaves v.after
     then_stands (step.Answer a) v =
-        let (l, r) = answer_found v.seen v.tries v.after a.free (reverse (map term_of a.values.items)) (term_of a.proof) v.comes v.shows in
-        (l, stands_behind (l ∷ []) v.tries v.after r v.count v.variables v.then_is)
+        let (l, none, read, r) = answer_found v.seen v.tries v.after a.free (reverse (map term_of a.values.items)) (term_of a.proof) v.comes v.shows in
+        (l, record { none_left = none; read = read }, stands_behind (l ∷ []) v.tries v.after r v.count v.variables v.then_is)
     then_stands (step.Leftover e) v =
-        let (l, r) = left_found v.seen v.tries v.after v.shows.0 (equation_of e) v.comes v.shows.1 in
-        (l, stands_behind (l ∷ []) v.tries v.after r v.count v.variables v.then_is)
+        let (l, left, r) = left_found v.seen v.tries v.after v.shows.0 (equation_of e) v.comes v.shows.1 in
+        (l, left, stands_behind (l ∷ []) v.tries v.after r v.count v.variables v.then_is)
     then_stands step.Exhausted v = v.then_is
     then_stands step.Budget v = subst (λ ls. Stands es G A new ls v.after) (followed_none leaves) (stands_behind [] v.tries v.after (none_found v.seen v.tries v.after v.comes v.shows) v.count v.variables v.then_is)
     then_stands step.TooDeep v = v.then_is

@@ -14,4 +14,5 @@ pub mod AllHeads
 pub mod Standing
 pub mod Beginning
 pub mod Leaving
-pub mod StepLaws
+pub mod Going
+pub mod Calling

@@ -8,13 +8,15 @@ use Rattle.lf.specs.Typing.{Signature}
 use Rattle.lf.proofs.Entries.{canonical_is_signature}
 use Rattle.lf_unification.specs.Lists.{followed}
 use Rattle.lf_unification.specs.Patterns.{skeleton_target}
-use Rattle.lf_unification.specs.Search.{IsNode, Node, OfferedHeadHasType, Pending, SearchesFrom, TryIsDue, at_heads, at_node, declared_constants, holes, is_due, take_goal, tried_heads}
+use Rattle.lf_unification.specs.Putting.{Unbound}
+use Rattle.lf_unification.specs.Search.{IsNode, Node, Offer, OfferedHeadHasType, Pending, SearchesFrom, TryIsDue, at_heads, at_node, declared_constants, holes, is_due, take_goal, tried_heads}
 use Rattle.lf_search.specs.Coming.{Comes, deep_offer, out_of_budget, to_budget, to_deep, too_deep}
 use Rattle.lf_search.specs.Heads.{AreOffered, is_offered, none_offered, not_offered}
+use Rattle.lf_search.specs.Holes.{HolesAreOpen}
 use Rattle.lf_search.proofs.Calls.{goes_on}
 use Rattle.lf_search.proofs.ChildNode.{applied_adds}
 use Rattle.lf_search.proofs.Ends.{heads_are_reached, heads_are_skipped, one_step, search_then}
-use Rattle.lf_search.proofs.HolesStay.{holes_declared}
+use Rattle.lf_search.proofs.HolesStay.{child_holes, holes_declared}
 use Rattle.lf_search.proofs.OpenHoles.{own_shape}
 use Rattle.lf_search.proofs.Offers.{offer_is_there}
 use Rattle.lf_search.proofs.Staying.{among_parts, run_grows}
@@ -23,7 +25,7 @@ use Rattle.tw_metas.proofs.Marks.{mark_is_kept}
 use Rattle.tw_putting.specs.Ready.{IsLater}
 use Rattle.tw_putting.specs.Stores.{bindings_of, types_of}
 use Rattle.tw_putting.proofs.Changes.{past_end}
-use Rattle.tw_putting.proofs.Walks.{unbound_from}
+use Rattle.tw_putting.specs.Whole.{whole}
 use Rattle.tw_terms.specs.OpenView.{open_spine_of}
 use Rattle.tw_terms.specs.declared.canonical.MetaId.{MetaId}
 use Rattle.tw_unify.proofs.Stories.{later_then}
@@ -199,7 +201,7 @@ module _ (es : List Entry) (s : Search) (c : Choice) (agenda : List Pending) (w 
       later = reached.0;
       rest = w.rest;
       is = refl;
-      at = record { mark = w.at.mark; frames = w.at.frames; kept = w.at.kept; stands = w.at.stands; goals_are = w.at.goals_are; declared = w.at.declared; offered = subst (AreOffered Σ c.goal.locals c.goal.family.0 reached.0) q reached.2 };
+      at = record { mark = w.at.mark; frames = w.at.frames; kept = w.at.kept; stands = w.at.stands; goals_are = w.at.goals_are; declared = w.at.declared; holes = w.at.holes; offered = subst (AreOffered Σ c.goal.locals c.goal.family.0 reached.0) q reached.2 };
       older = w.older;
       head = head_is;
     })
@@ -213,7 +215,7 @@ module _ (es : List Entry) (s : Search) (c : Choice) (agenda : List Pending) (w 
     -- where the budget is at its end, the choice point stays
     pub stays : ChoicesStand es s.variables s.store (frames_of s.frames) (c ∷ choices_of s) next_agenda
     stays = one_choice {first = s.store} {older = frames_of s.frames} {gs = w.goals} {hs = k ∷ reached.0} {rest = w.rest} ([], refl) (grown_itself (frames_of s.frames))
-        (record { mark = w.at.mark; frames = w.at.frames; kept = w.at.kept; stands = w.at.stands; goals_are = w.at.goals_are; declared = w.at.declared; offered = subst (AreOffered Σ c.goal.locals c.goal.family.0 (k ∷ reached.0)) (sym e) (is_offered head_is.head_type head_is.typed head_is.target reached.2) })
+        (record { mark = w.at.mark; frames = w.at.frames; kept = w.at.kept; stands = w.at.stands; goals_are = w.at.goals_are; declared = w.at.declared; holes = w.at.holes; offered = subst (AreOffered Σ c.goal.locals c.goal.family.0 (k ∷ reached.0)) (sym e) (is_offered head_is.head_type head_is.typed head_is.target reached.2) })
         w.older
 
 -- a try
@@ -249,11 +251,22 @@ module _ (es : List Entry) (ok : IsCanonicalSignature es) (s : Search) (c : Choi
     new_declared : (m : ℕ) → Member m (holes (length s.store.now.declared) child.has.head_type) → IsDeclared y.now m
     new_declared m i = let (A, e) = holes_declared child.has.offer.offered w.at.kept.node.scoped.fresh child.has.head_type (own_shape child.has.head_type) m i in (A, run_grows child.child.run m A e)
 
+    holes_open : HolesAreOpen (child_node y.now subgoals w.goals)
+    holes_open =
+        let node = node_of s.store.now (c.goal.hole.0 ∷ w.goals) in
+        let is : IsNode Σ' node = record { scoped = w.at.kept.node.scoped; skeletons = w.at.kept.node.skeletons } in
+        let f = child.has.offer in
+        let offer : Offer Σ' node c.goal.hole.0 c.goal.locals c.goal.family.0 (open_spine_of c.goal.indices) h child.has.head_type child.has.offered child.has.next =
+        record { typed = f.typed; kind = f.kind; kind_of = f.kind_of; spine = f.spine; indices = f.indices; offered = f.offered; bindings = f.bindings; equations = f.equations } in
+        subst (λ ns. HolesAreOpen (node_of y.now (followed ns w.goals))) (sym child.subgoals_are)
+        (child_holes Σ' (canonical_is_signature es ok) node c.goal.hole.0 w.goals c.goal.locals c.goal.family.0 (open_spine_of c.goal.indices) h child.has.head_type child.has.offered child.has.next is refl w.at.stands.declared w.at.holes offer (whole [] y.now) child.child child.renews (length y.now.declared))
+
     pub node_after : (fs : List Frame) (list : ℕ) → IsGrown (frames_of s.frames) fs → ((gs : List ℕ) → GoalsAre (frames_of s.frames) c.rest gs → GoalsAre fs list (followed (reverse (map (λ (m : MetaId). m.0) subgoals)) gs)) → NodeStands es s.variables list y fs (c ∷ choices_of s) after_child
     node_after fs list g gs = record {
       goals = followed (reverse (map (λ (m : MetaId). m.0) subgoals)) w.goals;
       goals_are = gs w.goals w.at.goals_are;
       declared = λ m i. at m (among_parts m (reverse (map (λ (m : MetaId). m.0) subgoals)) w.goals i);
+      holes = holes_open;
       kept = record {
         ready = child.ready;
         node = record { scoped = both.0.scoped; skeletons = both.0.skeletons };
@@ -277,7 +290,10 @@ module _ (es : List Entry) (n list : ℕ) (y : Story) (fs : List Frame) (cs : Li
   pub hole_declared : IsDeclared y.now f.hole.0
   hole_declared = w.declared f.hole.0 (subst (Member f.hole.0) (sym behind.1) (inl refl))
 
-  module _ (g : OpenGoal) (o : IsOpened y.now f.hole.0 g) (free : value_of y.now f.hole.0 ≡ None) (c : Choice) (is : c ≡ record { mark = length y.before; frames = length fs; goal = g; rest = f.next; local = 0; constant = 0 }) where
+  goal_holes : HolesAreOpen (node_of y.now (f.hole.0 ∷ behind.0))
+  goal_holes = subst (λ gs. HolesAreOpen (node_of y.now gs)) behind.1 w.holes
+
+  module _ (g : OpenGoal) (o : IsOpened y.now f.hole.0 g) (c : Choice) (is : c ≡ record { mark = length y.before; frames = length fs; goal = g; rest = f.next; local = 0; constant = 0 }) where
     abbrev pub chosen : List Pending
     chosen = at_goal y.now g behind.0 (tried_heads g.locals (declared_constants es)) w.rest
 
@@ -297,9 +313,10 @@ module _ (es : List Entry) (n list : ℕ) (y : Story) (fs : List Frame) (cs : Li
           mark = refl;
           frames = refl;
           kept = w.kept;
-          stands = record { ready = w.kept.ready; node = w.kept.node; declared = declared; unbound = unbound_from y.now.values g.hole.0 (ap (value_of y.now) o.hole ∙ free) y.now.bound };
+          stands = record { ready = w.kept.ready; node = w.kept.node; declared = declared; unbound = subst (Unbound (bindings_of y.now)) (sym o.hole) goal_holes.open_holes.1 };
           goals_are = behind.2;
           declared = λ m i. w.declared m (subst (Member m) (sym behind.1) (inr i));
+          holes = subst (λ m. HolesAreOpen (node_of y.now (m ∷ behind.0))) (sym o.hole) goal_holes;
           offered = all_offered es g.locals g.family.0 0 0 refl refl;
         })
         w.choices)

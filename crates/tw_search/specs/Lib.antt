@@ -9,4 +9,4 @@ pub mod Choosing
 pub mod Laws
 pub mod Chains
 pub mod Standing
-pub mod Engine
+pub mod Going

@@ -7,17 +7,22 @@ use Rattle.lf.specs.Syntax.{Head, LfType}
 use Rattle.lf.specs.Typing.{IsContext, IsType, Signature}
 use Rattle.lf_unification.specs.Lists.{followed}
 use Rattle.lf_unification.specs.Search.{IsNode, Node, Pending, SearchesFrom, at_node}
+use Rattle.lf_unification.specs.Unifiers.{Equation}
+use Rattle.lf_search.specs.Answers.{IsReadOffLeaf}
 use Rattle.lf_search.specs.Coming.{Comes, Seen, answer, exhausted, left_over, out_of_budget, too_deep}
 use Rattle.lf_search.specs.Goals.{root_of}
 use Rattle.lf_search.specs.Heads.{AreOffered}
+use Rattle.lf_search.specs.Holes.{HolesAreOpen}
 use Rattle.tw_metas.specs.State.{State, Story}
 use Rattle.tw_metas.specs.View.{equation_of}
+use Rattle.tw_metas.specs.declared.equation.Equation.{Equation as Postponed}
 use Rattle.tw_putting.specs.Ready.{IsLater, IsReady}
 use Rattle.tw_terms.specs.View.{term_of}
 use Rattle.tw_search.specs.Chains.{GoalsAre, IsGrown, frames_of}
 use Rattle.tw_search.specs.Choosing.{heads_left}
 use Rattle.tw_search.specs.Goals.{IsDeclared, IsHeadFor, StandsAtGoal, node_of}
 use Rattle.tw_search.specs.Laws.{AllFromQuery, at_goal}
+use Rattle.tw_search.specs.declared.answer.Answer.{Answer}
 use Rattle.tw_search.specs.declared.frames.Frame.{Frame}
 use Rattle.tw_search.specs.declared.step.Choice.{Choice}
 use Rattle.tw_search.specs.declared.step.End.{End}
@@ -47,6 +52,7 @@ pub record AtChoice (es : List Entry) (n : ℕ) (y : Story) (fs : List Frame) (c
   pub stands : StandsAtGoal (signature_of es) y.now c.goal
   pub goals_are : GoalsAre fs c.rest goals
   pub declared : AllDeclared y.now goals
+  pub holes : HolesAreOpen (node_of y.now (c.goal.hole.0 ∷ goals))
   pub offered : AreOffered (signature_of es) c.goal.locals c.goal.family.0 heads (heads_left es c.goal.family.0 c.goal.locals c.local c.constant)
 
 -- What the choice points stand for, the newest in front, over the store and the frames, which only grew since.
@@ -61,6 +67,7 @@ pub record NodeStands (es : List Entry) (n : ℕ) (list : ℕ) (y : Story) (fs :
   pub goals : List ℕ
   pub goals_are : GoalsAre fs list goals
   pub declared : AllDeclared y.now goals
+  pub holes : HolesAreOpen (node_of y.now goals)
   pub kept : IsKept (signature_of es) n y.now
   pub rest : List Pending
   pub is : agenda ≡ at_node (node_of y.now goals) ∷ rest
@@ -90,6 +97,11 @@ pub record Stands (es : List Entry) (G : List LfType) (A : LfType) (s : Search) 
 
 abbrev pub IsOver : End → Search → Type 0
 IsOver e s = s.place ≡ place.Over e
+
+-- some search over these entries, which stands or is over
+pub data IsSearch (es : List Entry) (s : Search) : Type 0 where
+  stands : (G : List LfType) (A : LfType) (leaves : List Node) (agenda : List Pending) → Stands es G A s leaves agenda → IsSearch es s
+  is_over : (e : End) → IsOver e s → IsSearch es s
 
 -- what a step shows, in the theory's words
 abbrev pub Shows : Step → Seen → Type 0
@@ -127,10 +139,19 @@ pub record WentOn (es : List Entry) (old new : Search) (agenda : List Pending) :
   pub variables : new.variables ≡ old.variables
   pub at : IsAt es new after
 
--- after the step the search stands behind the leaf that was found, if any, or is over
+-- the answer is read off a leaf without equations
+pub record IsAnswerOfLeaf (es : List Entry) (G : List LfType) (a : Answer) (l : Node) : Type 0 where
+  pub none_left : l.store.equations ≡ []
+  pub read : IsReadOffLeaf (signature_of es) G l a.free (reverse (map term_of a.values.items)) (term_of a.proof)
+
+-- the equation is the first that is left at a leaf
+abbrev pub IsFirstLeft : Postponed → Node → Type 0
+IsFirstLeft e l = (rest : List Equation) × (l.store.equations ≡ equation_of e ∷ rest)
+
+-- after the step the search stands behind the leaf that was shown, if any, or is over
 abbrev pub StandsAfter : List Entry → List LfType → LfType → Step → Search → List Node → List Pending → Type 0
-StandsAfter es G A (step.Answer a) s leaves after = (l : Node) × Stands es G A s (followed leaves (l ∷ [])) after
-StandsAfter es G A (step.Leftover e) s leaves after = (l : Node) × Stands es G A s (followed leaves (l ∷ [])) after
+StandsAfter es G A (step.Answer a) s leaves after = (l : Node) × IsAnswerOfLeaf es G a l × Stands es G A s (followed leaves (l ∷ [])) after
+StandsAfter es G A (step.Leftover e) s leaves after = (l : Node) × IsFirstLeft e l × Stands es G A s (followed leaves (l ∷ [])) after
 StandsAfter es G A step.Exhausted s leaves after = IsOver end.Exhausted s
 StandsAfter es G A step.Budget s leaves after = Stands es G A s leaves after
 StandsAfter es G A step.TooDeep s leaves after = IsOver end.TooDeep s

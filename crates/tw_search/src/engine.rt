@@ -1,42 +1,249 @@
-//! Laws of a search's steps. They have no code: each function carries one law as its contract.
-ghost use Rattle.tw_search.specs.Engine.{ChoiceIsTakenUp, GoalIsChosen, HeadIsDue, HeadsRunOut, LeafIsAnswer, StepOfSearch, TryGoesOn, WentThenCame};
+//! The steps of the engine: a goal is chosen, its heads are tried one after the other, and a leaf is shown.
+ghost use Rattle.std.specs.Prelude.{◌≡◌, ◌+◌, ◌≤◌, ◌<◌, ◌∷◌, [], ℕ, IfOk, List, MatchOption, None, OnOk, Option, Some, length, reverse};
+ghost use Rattle.lf.specs.Entries.{Entry};
+ghost use Rattle.lf.specs.Syntax.{LfType};
+ghost use Rattle.lf_unification.specs.Search.{Pending};
+ghost use Rattle.tw_terms.specs.View.{head_of};
+ghost use Rattle.tw_search.specs.Chains.{IsFirst, frames_of};
+ghost use Rattle.tw_search.specs.Going.{Goes, GoesUp, Nears, NearsBelow, Tried};
+ghost use Rattle.tw_search.specs.Standing.{Came, IsAt, IsTakenUp, TriesHead, WentOn};
+ghost use Rattle.tw_search.specs.declared.step.Place.TheVariants as places;
 
-/// The first goal of a node gets a choice point, and all its heads are to be tried.
-pub fn goal_is_chosen()
-    ensures { GoalIsChosen }
-{}
+use crate::answer::read_answer;
+use crate::choice::{Next, next_head};
+use crate::frames::Frame;
+use crate::goal::open_goal;
+use crate::search::Search;
+use crate::step::{Choice, End, Place, Step};
+use crate::trying::attempt;
+use std::alloc::{AllocError, Global};
+use tw_hered::HeredFault;
+use tw_signature::Signature;
+use tw_terms::Head;
+use tw_unify::UnifyFault;
 
-/// The newest choice point is taken up, once the store and the frames are taken back to its mark.
-pub fn choice_is_taken_up()
-    ensures { ChoiceIsTakenUp }
-{}
+impl Search {
+    /// One step of the engine. None where there is nothing to show yet.
+    pub fn advance(
+        &mut self,
+        alloc: Global,
+        signature: &Signature,
+        last: u64,
+    ) -> Result<Option<Step>, AllocError>
+        requires at { (agenda : List Pending) × IsAt signature.now self.old agenda }
+        requires within { self.old.tries ≤ last }
+        ensures goes { IfOk result (λ o. Goes signature.now last self.old self.new o) }
+        ensures nears { IfOk result (λ o. Nears last self.old self.new o) }
+    {
+        match self.place {
+            Place::Node(list) => self.enter(alloc, signature, last, list),
+            Place::Heads => self.retry(alloc, signature, last),
+            Place::Over(_) => unreachable!(),
+        }
+    }
 
-/// Where no head is left, the other choice points are.
-pub fn heads_run_out()
-    ensures { HeadsRunOut }
-{}
+    /// At a node its first goal is chosen; without goals it is a leaf.
+    fn enter(
+        &mut self,
+        alloc: Global,
+        signature: &Signature,
+        last: u64,
+        list: usize,
+    ) -> Result<Option<Step>, AllocError>
+        requires place { self.old.place ≡ places.Node list }
+        requires at { (agenda : List Pending) × IsAt signature.now self.old agenda }
+        requires within { self.old.tries ≤ last }
+        ensures goes { IfOk result (λ o. Goes signature.now last self.old self.new o) }
+        ensures nears { IfOk result (λ o. Nears last self.old self.new o) }
+    {
+        match self.frames.first(list) {
+            Some(frame) => {
+                self.choose(alloc, signature, list, frame)?;
+                Ok(None)
+            }
+            None => Ok(Some(self.leaf(alloc, signature, list)?)),
+        }
+    }
 
-/// Where a head is left, a try is due.
-pub fn head_is_due()
-    ensures { HeadIsDue }
-{}
+    /// All heads are to be tried at the first goal of the node.
+    fn choose(
+        &mut self,
+        alloc: Global,
+        signature: &Signature,
+        list: usize,
+        frame: Frame,
+    ) -> Result<(), AllocError>
+        requires place { self.old.place ≡ places.Node list }
+        requires first { IsFirst (frames_of self.old.frames) list (Some frame) }
+        requires at { (agenda : List Pending) × IsAt signature.now self.old agenda }
+        ensures went { OnOk result ((agenda : List Pending) → IsAt signature.now self.old agenda → WentOn signature.now self.old self.new agenda) }
+        ensures nears { OnOk result ((last : ℕ) → self.old.tries ≤ last → Nears last self.old self.new None) }
+    {
+        let goal = open_goal(alloc, &self.store, frame.hole)?;
+        let choice = Choice {
+            mark: self.store.mark(),
+            frames: self.frames.len(),
+            goal,
+            rest: frame.next,
+            local: 0,
+            constant: 0,
+        };
+        push_choice(&mut self.choices, choice)?;
+        self.place = Place::Heads;
+        Ok(())
+    }
 
-/// A try costs one try, and its choice point stands behind it.
-pub fn try_goes_on()
-    ensures { TryGoesOn }
-{}
+    /// What is shown of a leaf.
+    fn leaf(
+        &mut self,
+        alloc: Global,
+        signature: &Signature,
+        list: usize,
+    ) -> Result<Step, AllocError>
+        requires place { self.old.place ≡ places.Node list }
+        requires first { IsFirst (frames_of self.old.frames) list None }
+        requires at { (agenda : List Pending) × IsAt signature.now self.old agenda }
+        ensures { IfOk result (λ s. (G : List LfType) → length G ≡ self.old.variables → (agenda : List Pending) → IsAt signature.now self.old agenda → (budget : ℕ) → Came signature.now G self.old self.new agenda budget s) }
+    {
+        signature.is_canonical();
+        match self.store.equations().first() {
+            Some(equation) => {
+                let shown = equation.copy(alloc)?;
+                self.place = Place::Heads;
+                Ok(Step::Leftover(shown))
+            }
+            None => match read_answer(alloc, &self.store, self.variables) {
+                Ok(answer) => {
+                    self.place = Place::Heads;
+                    Ok(Step::Answer(answer))
+                }
+                Err(HeredFault::TooDeep) => {
+                    self.place = Place::Over(End::TooDeep);
+                    Ok(Step::TooDeep)
+                }
+                Err(HeredFault::NoMemory) => Err(AllocError),
+            },
+        }
+    }
 
-/// At a leaf without equations the search comes to its answer.
-pub fn leaf_is_answer()
-    ensures { LeafIsAnswer }
-{}
+    /// The next head at the newest choice point.
+    fn retry(
+        &mut self,
+        alloc: Global,
+        signature: &Signature,
+        last: u64,
+    ) -> Result<Option<Step>, AllocError>
+        requires place { self.old.place ≡ places.Heads }
+        requires at { (agenda : List Pending) × IsAt signature.now self.old agenda }
+        requires within { self.old.tries ≤ last }
+        ensures goes { IfOk result (λ o. Goes signature.now last self.old self.new o) }
+        ensures nears { IfOk result (λ o. Nears last self.old self.new o) }
+    {
+        match pop_choice(&mut self.choices) {
+            None => {
+                self.place = Place::Over(End::Exhausted);
+                Ok(Some(Step::Exhausted))
+            }
+            Some(choice) => {
+                self.store.undo_to(&choice.mark);
+                self.frames.shrink_to(choice.frames);
+                self.take_up(alloc, signature, last, choice)
+            }
+        }
+    }
 
-/// What a search comes to after it went on is what it comes to.
-pub fn went_then_came()
-    ensures { WentThenCame }
-{}
+    /// The next head at a choice point, with the store and the frames as they were there.
+    fn take_up(
+        &mut self,
+        alloc: Global,
+        signature: &Signature,
+        last: u64,
+        choice: Choice,
+    ) -> Result<Option<Step>, AllocError>
+        requires place { self.old.place ≡ places.Heads }
+        requires up { (agenda : List Pending) × IsTakenUp signature.now self.old choice agenda }
+        requires within { self.old.tries ≤ last }
+        ensures goes { IfOk result (λ o. GoesUp signature.now last self.old self.new choice o) }
+        ensures nears { IfOk result (λ o. NearsBelow last self.old self.new o) }
+    {
+        let next = next_head(
+            signature,
+            &choice.goal.locals,
+            choice.goal.family,
+            choice.local,
+            choice.constant,
+        );
+        match next {
+            None => Ok(None),
+            Some(next) => {
+                if self.tries == last {
+                    push_choice(&mut self.choices, choice)?;
+                    return Ok(Some(Step::Budget));
+                }
+                self.try_head(alloc, signature, last, past(choice, next), next.head)
+            }
+        }
+    }
 
-/// It is a step of the search of its goal.
-pub fn step_of_search()
-    ensures { StepOfSearch }
-{}
+    /// Tries a head at a choice point, which is behind that head already.
+    fn try_head(
+        &mut self,
+        alloc: Global,
+        signature: &Signature,
+        last: u64,
+        choice: Choice,
+        head: Head,
+    ) -> Result<Option<Step>, AllocError>
+        requires place { self.old.place ≡ places.Heads }
+        requires tries { (agenda : List Pending) × TriesHead signature.now self.old choice (head_of head) agenda }
+        requires within { self.old.tries < last }
+        ensures tried { IfOk result (λ o. Tried signature.now last self.old self.new choice (head_of head) o) }
+        ensures nears { IfOk result (λ o. NearsBelow last self.old self.new o) }
+    {
+        signature.is_canonical();
+        match attempt(alloc, &mut self.store, signature, &choice.goal, head) {
+            Ok(None) => {
+                self.tries += 1;
+                push_choice(&mut self.choices, choice)?;
+                Ok(None)
+            }
+            Ok(Some(subgoals)) => {
+                self.tries += 1;
+                let list = self.frames.push_all(&subgoals, choice.rest)?;
+                push_choice(&mut self.choices, choice)?;
+                self.place = Place::Node(list);
+                Ok(None)
+            }
+            Err(UnifyFault::TooDeep) => {
+                self.place = Place::Over(End::TooDeep);
+                Ok(Some(Step::TooDeep))
+            }
+            Err(UnifyFault::NoMemory) => Err(AllocError),
+        }
+    }
+}
+
+/// The choice point behind a head.
+fn past(choice: Choice, next: Next) -> Choice
+    ensures { result ≡ record choice { local = next.local; constant = next.constant } }
+{
+    let mut choice = choice;
+    choice.local = next.local;
+    choice.constant = next.constant;
+    choice
+}
+
+/// One more choice point, the newest.
+fn push_choice(choices: &mut Vec<Choice>, choice: Choice) -> Result<(), AllocError>
+    ensures { OnOk result (reverse choices.new.items ≡ choice ∷ reverse choices.old.items) }
+{
+    choices.push(choice)?;
+    Ok(())
+}
+
+/// Takes away the newest choice point.
+fn pop_choice(choices: &mut Vec<Choice>) -> Option<Choice>
+    ensures { MatchOption result (reverse choices.old.items ≡ []) (λ c. reverse choices.old.items ≡ c ∷ reverse choices.new.items) }
+{
+    choices.pop()
+}

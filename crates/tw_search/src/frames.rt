@@ -1,6 +1,7 @@
 //! Success continuations: lists of goals that wait, which share their tails.
-ghost use Rattle.std.specs.Prelude.{◌≡◌, ◌+◌, ◌++◌, ◌∷◌, [], IfOk, OnOk, length, take};
-ghost use Rattle.tw_search.specs.Chains.{frames_of};
+ghost use Rattle.std.specs.Prelude.{◌≡◌, ◌+◌, ◌++◌, ◌∷◌, [], IfOk, OnOk, List, ℕ, length, map, reverse, take};
+ghost use Rattle.lf_unification.specs.Lists.{followed};
+ghost use Rattle.tw_search.specs.Chains.{GoalsAre, IsFirst, IsGrown, frames_of};
 
 use std::alloc::{AllocError, Global};
 use tw_terms::MetaId;
@@ -35,6 +36,19 @@ impl Frames {
         self.frames.len()
     }
 
+    /// The first goal of a list, and the list behind it.
+    pub fn first(&self, list: usize) -> Option<Frame>
+        ensures { IsFirst (frames_of self.now) list result }
+    {
+        if list == 0 {
+            return None;
+        }
+        match self.frames.get(list - 1) {
+            Some(frame) => Some(*frame),
+            None => None,
+        }
+    }
+
     /// The list with one more goal in front.
     pub fn push(&mut self, hole: MetaId, next: usize) -> Result<usize, AllocError>
         ensures frames { OnOk result (frames_of self.new ≡ frames_of self.old ++ record { hole = hole; next = next } ∷ []) }
@@ -42,6 +56,18 @@ impl Frames {
     {
         self.frames.push(Frame { hole, next })?;
         Ok(self.frames.len())
+    }
+
+    /// The list with more goals in front, the last one first.
+    pub fn push_all(&mut self, holes: &[MetaId], next: usize) -> Result<usize, AllocError>
+        ensures grown { OnOk result (IsGrown (frames_of self.old) (frames_of self.new)) }
+        ensures list { IfOk result (λ n. (gs : List ℕ) → GoalsAre (frames_of self.old) next gs → GoalsAre (frames_of self.new) n (followed (reverse (map (λ m. m.0) holes.now)) gs)) }
+    {
+        let mut list = next;
+        for place in 0..holes.len() {
+            list = self.push(holes[place], list)?;
+        }
+        Ok(list)
     }
 
     /// Takes away the frames past the first `count`.

@@ -24,10 +24,6 @@ mod trying;
 
 pub use answer::{Answer, read_answer};
 pub use choice::{Next, next_head};
-pub use engine::{
-    choice_is_taken_up, goal_is_chosen, head_is_due, heads_run_out, leaf_is_answer, step_of_search,
-    try_goes_on, went_then_came,
-};
 pub use goal::{OpenGoal, open_goal};
 pub use laws::{child_is_from_query, leaf_is_read, root_is_ready, try_is_step};
 pub use root::declare_root;

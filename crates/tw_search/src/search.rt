@@ -1,18 +1,20 @@
 //! The search as a value: the goals that wait, the choice points, and the store with a mark for each choice point.
-ghost use Rattle.std.specs.Prelude.{◌≡◌, ◌∷◌, [], IfOk, List};
+ghost use Rattle.std.specs.Prelude.{◌≡◌, ◌+◌, ◌-◌, ◌≤◌, ◌<◌, ◌^◌, ◌∷◌, [], ℕ, IfOk, List, OnErr, Err, Ok, alloc_error, length};
 ghost use Rattle.lf.specs.Entries.{Entry, IsCanonicalSignature, signature_of};
+ghost use Rattle.lf.specs.Syntax.{LfType};
 ghost use Rattle.lf.specs.Typing.{IsContext, IsType};
-ghost use Rattle.lf_unification.specs.Search.{at_node};
+ghost use Rattle.lf_unification.specs.Search.{Node, Pending, at_node};
 ghost use Rattle.lf_search.specs.Goals.{root_of};
 ghost use Rattle.tw_terms.specs.View.{type_of};
-ghost use Rattle.tw_search.specs.Standing.{Stands};
+ghost use Rattle.tw_search.specs.Standing.{Came, IsAt, IsOver, IsSearch, Stands, StepIs};
+ghost use Rattle.tw_search.specs.declared.step.End.TheVariants as ends;
 
 use crate::frames::Frames;
 use crate::root::declare_root;
-use crate::step::{Choice, Place};
+use crate::step::{Choice, End, Place, Step};
 use std::alloc::{AllocError, Global};
 use tw_metas::Store;
-use tw_signature::Goal;
+use tw_signature::{Goal, Signature};
 
 /// A search for the proofs of a goal.
 #[derive(Drop)]
@@ -53,5 +55,79 @@ impl Search {
         ensures { result ≡ self.now.tries }
     {
         self.tries
+    }
+
+    /// The next leaf in the order of the tree, or the end of the tree or of the budget, which is a number of tries. Over one signature, all calls search one tree.
+    ///
+    /// After `Budget` the search stands where it was, and goes on with the next call. After `Exhausted`, `TooDeep` or want of memory each later call answers the same.
+    pub fn next(
+        &mut self,
+        alloc: Global,
+        signature: &Signature,
+        budget: u64,
+    ) -> Result<Step, AllocError>
+        requires search { IsSearch signature.now self.old }
+        requires budget { self.old.tries + budget < 2 ^ 64 }
+        ensures step { IfOk result (λ s. (G : List LfType) (A : LfType) (leaves : List Node) (agenda : List Pending) → Stands signature.now G A self.old leaves agenda → StepIs signature.now G A self.old self.new leaves agenda budget s) }
+        ensures exhausted { IsOver ends.Exhausted self.old → (result ≡ Ok Step.Exhausted) × (self.new ≡ self.old) }
+        ensures too_deep { IsOver ends.TooDeep self.old → (result ≡ Ok Step.TooDeep) × (self.new ≡ self.old) }
+        ensures no_memory { IsOver ends.NoMemory self.old → (result ≡ Err alloc_error) × (self.new ≡ self.old) }
+        ensures err { OnErr result (IsOver ends.NoMemory self.new) }
+        ensures again { IsSearch signature.now self.new }
+    {
+        match self.place {
+            Place::Over(end) => over(end),
+            Place::Node(_) => self.go_on(alloc, signature, budget),
+            Place::Heads => self.go_on(alloc, signature, budget),
+        }
+    }
+
+    /// The same of a search that isn't over.
+    fn go_on(
+        &mut self,
+        alloc: Global,
+        signature: &Signature,
+        budget: u64,
+    ) -> Result<Step, AllocError>
+        requires at { (agenda : List Pending) × IsAt signature.now self.old agenda }
+        requires budget { self.old.tries + budget < 2 ^ 64 }
+        ensures came { IfOk result (λ s. (G : List LfType) → length G ≡ self.old.variables → (agenda : List Pending) → IsAt signature.now self.old agenda → Came signature.now G self.old self.new agenda budget s) }
+        ensures err { OnErr result (IsOver ends.NoMemory self.new) }
+    {
+        let last = self.tries + budget;
+        match self.run(alloc, signature, last) {
+            Ok(step) => Ok(step),
+            Err(error) => {
+                self.place = Place::Over(End::NoMemory);
+                Err(error)
+            }
+        }
+    }
+
+    /// Steps of the engine, until there is something to show.
+    fn run(&mut self, alloc: Global, signature: &Signature, last: u64) -> Result<Step, AllocError>
+        requires at { (agenda : List Pending) × IsAt signature.now self.old agenda }
+        requires within { self.old.tries ≤ last }
+        ensures { IfOk result (λ s. (G : List LfType) → length G ≡ self.old.variables → (agenda : List Pending) → IsAt signature.now self.old agenda → Came signature.now G self.old self.new agenda (last - self.old.tries) s) }
+    {
+        loop {
+            if let Some(step) = self.advance(alloc, signature, last)? {
+                return Ok(step);
+            }
+        }
+    }
+}
+
+/// What each call answers where the search is over.
+fn over(end: End) -> Result<Step, AllocError>
+    ensures exhausted { end ≡ ends.Exhausted → result ≡ Ok Step.Exhausted }
+    ensures too_deep { end ≡ ends.TooDeep → result ≡ Ok Step.TooDeep }
+    ensures no_memory { end ≡ ends.NoMemory → result ≡ Err alloc_error }
+    ensures err { OnErr result (end ≡ ends.NoMemory) }
+{
+    match end {
+        End::Exhausted => Ok(Step::Exhausted),
+        End::TooDeep => Ok(Step::TooDeep),
+        End::NoMemory => Err(AllocError),
     }
 }

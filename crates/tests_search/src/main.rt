@@ -1,0 +1,31 @@
+//! Searches for the proofs of goals, call by call, on the cases of a file: a line for what came out of each, after its name.
+#![tactic(auto)]
+
+mod searching;
+mod showing;
+
+use crate::searching::searched;
+use std::{fs, io};
+use tests_forms::{FormFault, read_cases, read_signature};
+
+fn main(rt: HostRuntime) -> io::Result<()> {
+    let alloc = rt.alloc();
+    let text = fs::read_to_string(&rt, "signature.txt")?;
+    let Ok((signature, mut names)) = read_signature(alloc, text.as_str()) else {
+        return println!(rt; "signature.txt can't be read");
+    };
+    let text = fs::read_to_string(&rt, "searches.txt")?;
+    let Ok(cases) = read_cases(alloc, text.as_str()) else {
+        return println!(rt; "searches.txt can't be read");
+    };
+    for case in &cases {
+        names.forget_all_but_constants(alloc);
+        let name = &case.name;
+        match searched(alloc, &signature, &mut names, case) {
+            Ok(line) => println!(rt; "{name}:{line}")?,
+            Err(FormFault::NoMeaning) => println!(rt; "{name} can't be read")?,
+            Err(FormFault::NoMemory) => println!(rt; "{name} wants memory")?,
+        }
+    }
+    Ok(())
+}

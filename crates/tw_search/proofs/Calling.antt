@@ -1,0 +1,61 @@
+-- What a call of a search comes to.
+use Rattle.std.proofs.Common.{◌≡◌, ℕ, ◌+◌, ◌-◌, List, length, Result, Ok, Err, refl, sym, ◌∙◌, subst, arith}
+use Rattle.std.specs.Result.{IfOk, OnErr}
+use Rattle.std.specs.declared.alloc.AllocError.{AllocError}
+use Rattle.lf.specs.Entries.{Entry}
+use Rattle.lf.specs.Syntax.{LfType}
+use Rattle.lf_unification.specs.Search.{Node, Pending}
+use Rattle.tw_search.specs.Standing.{Came, IsAt, IsOver, IsSearch, Stands, StandsAfter, StepIs, is_over, stands}
+use Rattle.tw_search.specs.declared.search.Search.{Search}
+use Rattle.tw_search.specs.declared.step.End.{End}
+use Rattle.tw_search.specs.declared.step.End.TheVariants as end
+use Rattle.tw_search.specs.declared.step.Place.{Place}
+use Rattle.tw_search.specs.declared.step.Place.TheVariants as place
+use Rattle.tw_search.specs.declared.step.Step.{Step}
+use Rattle.tw_search.specs.declared.step.Step.TheVariants as step
+use Rattle.tw_search.proofs.Going.{not_over}
+use Rattle.tw_search.proofs.Leaving.{step_is}
+
+-- a search that isn't over is somewhere
+pub is_at : (es : List Entry) (s : Search) → ((e : End) → IsOver e s → ⊥) → IsSearch es s → (agenda : List Pending) × IsAt es s agenda
+is_at es s n (stands G A leaves agenda w) = (agenda, w.at)
+is_at es s n (is_over e o) = absurd (n e o)
+
+at_node_not_over : (s : Search) (list : ℕ) → s.place ≡ place.Node list → (e : End) → IsOver e s → ⊥
+at_node_not_over s list p e o = cc
+
+at_heads_not_over : (s : Search) → s.place ≡ place.Heads → (e : End) → IsOver e s → ⊥
+at_heads_not_over s p e o = cc
+
+pub node_is_at : (es : List Entry) (s : Search) (list : ℕ) → s.place ≡ place.Node list → IsSearch es s → (agenda : List Pending) × IsAt es s agenda
+node_is_at es s list p w = is_at es s (at_node_not_over s list p) w
+
+pub heads_are_at : (es : List Entry) (s : Search) → s.place ≡ place.Heads → IsSearch es s → (agenda : List Pending) × IsAt es s agenda
+heads_are_at es s p w = is_at es s (at_heads_not_over s p) w
+
+-- a step of the search of the goal
+pub call_is : (es : List Entry) (old new : Search) (budget : ℕ) (s : Step) → ((G : List LfType) → length G ≡ old.variables → (agenda : List Pending) → IsAt es old agenda → Came es G old new agenda budget s) →
+    (G : List LfType) (A : LfType) (leaves : List Node) (agenda : List Pending) → Stands es G A old leaves agenda → StepIs es G A old new leaves agenda budget s
+call_is es old new budget s came G A leaves agenda w = step_is es G agenda budget A old new leaves w s (came G (sym w.variables) agenda w.at)
+
+-- and behind it there is a search again
+after_step : (es : List Entry) (G : List LfType) (A : LfType) (s : Step) (new : Search) (leaves : List Node) (agenda : List Pending) → StandsAfter es G A s new leaves agenda → IsSearch es new
+after_step es G A (step.Answer a) new leaves agenda (l, r, w) = stands G A _ agenda w
+after_step es G A (step.Leftover e) new leaves agenda (l, r, w) = stands G A _ agenda w
+after_step es G A step.Exhausted new leaves agenda o = is_over end.Exhausted o
+after_step es G A step.Budget new leaves agenda w = stands G A leaves agenda w
+after_step es G A step.TooDeep new leaves agenda o = is_over end.TooDeep o
+
+search_again : (es : List Entry) (old new : Search) (budget : ℕ) (r : Result Step AllocError) → ((e : End) → IsOver e old → ⊥) → IfOk r (λ s. (G : List LfType) → length G ≡ old.variables → (agenda : List Pending) → IsAt es old agenda → Came es G old new agenda budget s) →
+    OnErr r (IsOver end.NoMemory new) → IsSearch es old → IsSearch es new
+search_again es old new budget (Ok s) n came o (stands G A leaves agenda w) = let v = call_is es old new budget s came G A leaves agenda w in after_step es G A s new leaves v.after v.then_stands
+search_again es old new budget (Ok s) n came o (is_over e x) = absurd (n e x)
+search_again es old new budget (Err e) n came o w = is_over end.NoMemory o
+
+pub node_again : (es : List Entry) (old new : Search) (budget : ℕ) (list : ℕ) (r : Result Step AllocError) → old.place ≡ place.Node list → IfOk r (λ s. (G : List LfType) → length G ≡ old.variables → (agenda : List Pending) → IsAt es old agenda → Came es G old new agenda budget s) →
+    OnErr r (IsOver end.NoMemory new) → IsSearch es old → IsSearch es new
+node_again es old new budget list r p came o w = search_again es old new budget r (at_node_not_over old list p) came o w
+
+pub heads_again : (es : List Entry) (old new : Search) (budget : ℕ) (r : Result Step AllocError) → old.place ≡ place.Heads → IfOk r (λ s. (G : List LfType) → length G ≡ old.variables → (agenda : List Pending) → IsAt es old agenda → Came es G old new agenda budget s) →
+    OnErr r (IsOver end.NoMemory new) → IsSearch es old → IsSearch es new
+heads_again es old new budget r p came o w = search_again es old new budget r (at_heads_not_over old p) came o w

@@ -1,0 +1,32 @@
+use Rattle.std.proofs.Common.{◌≡◌, List, length}
+use Rattle.std.proofs.lemmas.Result.{IfOk-weaker}
+use Rattle.lf.specs.Syntax.{LfType}
+use Rattle.lf_unification.specs.Search.{Node, Pending}
+use Rattle.tw_search.specs.Standing.{Came, IsAt, Stands, StepIs}
+use Rattle.tw_search.specs.declared.step.Step.{Step}
+use Rattle.tw_search.proofs.Calling.{call_is, heads_again, node_again}
+use Rattle.tw_search.proofs.search.Search.next.Goals as goal
+
+pub returns-in-Node-clause-step : goal.returns-in-Node-clause-step
+returns-in-Node-clause-step c =
+    let old = c.args.self.now in
+    let new = c.go_on.new.self in
+    let es = c.args.signature.now in
+    IfOk-weaker c.go_on.result (λ s. (G : List LfType) → length G ≡ old.variables → (agenda : List Pending) → IsAt es old agenda → Came es G old new agenda c.args.budget s)
+    (λ s. (G : List LfType) (A : LfType) (leaves : List Node) (agenda : List Pending) → Stands es G A old leaves agenda → StepIs es G A old new leaves agenda c.args.budget s)
+    (λ s came. call_is es old new c.args.budget s came) c.go_on.ensures.came
+
+pub returns-in-Node-clause-again : goal.returns-in-Node-clause-again
+returns-in-Node-clause-again c = node_again c.args.signature.now c.args.self.now c.go_on.new.self c.args.budget _ c.go_on.result c.in-Node.is c.go_on.ensures.came c.go_on.ensures.err c.requires.search
+
+pub returns-in-Heads-clause-step : goal.returns-in-Heads-clause-step
+returns-in-Heads-clause-step c =
+    let old = c.args.self.now in
+    let new = c.go_on-in-Heads.new.self in
+    let es = c.args.signature.now in
+    IfOk-weaker c.go_on-in-Heads.result (λ s. (G : List LfType) → length G ≡ old.variables → (agenda : List Pending) → IsAt es old agenda → Came es G old new agenda c.args.budget s)
+    (λ s. (G : List LfType) (A : LfType) (leaves : List Node) (agenda : List Pending) → Stands es G A old leaves agenda → StepIs es G A old new leaves agenda c.args.budget s)
+    (λ s came. call_is es old new c.args.budget s came) c.go_on-in-Heads.ensures.came
+
+pub returns-in-Heads-clause-again : goal.returns-in-Heads-clause-again
+returns-in-Heads-clause-again c = heads_again c.args.signature.now c.args.self.now c.go_on-in-Heads.new.self c.args.budget c.go_on-in-Heads.result c.in-Heads.is c.go_on-in-Heads.ensures.came c.go_on-in-Heads.ensures.err c.requires.search

@@ -1,0 +1,32 @@
+use Rattle.std.proofs.Common.{◌≡◌, subst}
+use Rattle.tw_search.specs.Going.{Goes, Nears}
+use Rattle.tw_search.proofs.Going.{came_further, still_at, went_further, went_nowhere}
+use Rattle.tw_search.proofs.search.Search.run.Goals as goal
+
+pub loop-step-init : goal.loop-step-init
+loop-step-init c = record {
+  within = c.requires.within;
+  at = c.requires.at;
+  went = λ agenda w. went_nowhere c.args.signature.now c.args.self.now agenda w;
+}
+
+pub loop-step-preserved : goal.loop-step-preserved
+loop-step-preserved c =
+    let es = c.args.signature.now in
+    let old = c.loop-step.self in
+    let new = c.advance.new.self in
+    let goes = subst (λ o. Goes es c.args.last old new o) c.in_default.is c.in_ok-step.ensures.goes in
+    let nears = subst (λ o. Nears c.args.last old new o) c.in_default.is c.in_ok-step.ensures.nears in
+    record {
+      within = nears.1;
+      at = still_at es c.args.last old new goes c.loop-step.invariant.at;
+      went = went_further es c.args.self.now old new c.loop-step.invariant.went c.args.last goes;
+    }
+
+pub returns-in-Some : goal.returns-in-Some
+returns-in-Some c =
+    let es = c.args.signature.now in
+    let old = c.loop-step.self in
+    let new = c.advance.new.self in
+    let goes = subst (λ o. Goes es c.args.last old new o) c.in-Some.is c.in_ok-step.ensures.goes in
+    came_further es c.args.self.now old new c.loop-step.invariant.went c.args.last c.in-Some.step c.loop-step.invariant.within goes
