@@ -1,0 +1,60 @@
+//! Blocks that are typed, and their types.
+use std::alloc::{AllocError, Global};
+use tw_clause::{Block, Worlds};
+use tw_kernel::{Verdict, check_context};
+use tw_signature::Signature;
+use tw_subord::BlockTypes;
+use tw_terms::Context;
+
+/// Whether each block is typed.
+pub(crate) fn are_typed(
+    alloc: Global,
+    signature: &Signature,
+    worlds: &Worlds,
+) -> Result<bool, AllocError> {
+    for block in &worlds.blocks {
+        if !is_typed(alloc, signature, block)? {
+            return Ok(false);
+        }
+    }
+    Ok(true)
+}
+
+/// Whether the `some` variables and the entries of a block are a context.
+fn is_typed(alloc: Global, signature: &Signature, block: &Block) -> Result<bool, AllocError> {
+    let context = whole(alloc, block)?;
+    let verdict = check_context(alloc, signature, &context)?;
+    Ok(matches!(verdict, Verdict::Typed))
+}
+
+/// The `some` variables and then the entries.
+fn whole(alloc: Global, block: &Block) -> Result<Context, AllocError> {
+    let mut context = block.some.copy(alloc)?;
+    let mut left = block.entries.len() as u64;
+    while left > 0 {
+        left -= 1;
+        if let Some(ty) = block.entries.get(left) {
+            context.push(ty.copy(alloc)?)?;
+        }
+    }
+    Ok(context)
+}
+
+/// The types of the entries of each block.
+pub(crate) fn block_types(alloc: Global, worlds: &Worlds) -> Result<Vec<BlockTypes>, AllocError> {
+    let mut all = Vec::new(alloc);
+    for block in &worlds.blocks {
+        all.push(types_of(alloc, block)?)?;
+    }
+    Ok(all)
+}
+
+fn types_of(alloc: Global, block: &Block) -> Result<BlockTypes, AllocError> {
+    let mut types = Vec::new(alloc);
+    for number in 0..block.entries.len() as u64 {
+        if let Some(ty) = block.entries.get(number) {
+            types.push(ty.copy(alloc)?)?;
+        }
+    }
+    Ok(BlockTypes { types })
+}

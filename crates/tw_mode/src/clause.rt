@@ -1,0 +1,366 @@
+//! Whether a clause computes its outputs from its inputs: the first fault of a type seen as a clause.
+ghost use Rattle.std.specs.Prelude.{◌≡◌, ◌≤◌, ◌+◌, ℕ, suc, true, false, not, length, map, List, None, Decides, IfOk, OnOk};
+ghost use Rattle.lf.specs.Entries.{quantifiers, signature_of};
+ghost use Rattle.lf.specs.Syntax.{LfType};
+ghost use Rattle.lf.specs.Variables.{target as target_of_type};
+ghost use Rattle.lf_checks.specs.Clause.{Clause};
+ghost use Rattle.lf_checks.specs.Modes.{EachHypothesis, WellModedFrom};
+ghost use Rattle.lf_checks.specs.Parts.{shape as shape_of_type};
+ghost use Rattle.lf_checks.specs.Tests.{choose};
+ghost use Rattle.tw_terms.specs.View.{type_of};
+ghost use Rattle.tw_mode.specs.Checks.{Fits, Outcome};
+ghost use Rattle.tw_mode.specs.Outcomes.{ClauseOutcome, NeedsOutcome, SubgoalOutcome, SubgoalsOutcome};
+ghost use Rattle.tw_mode.specs.Rows.{marks_in, moded_in};
+ghost use Rattle.tw_mode.specs.Scopes.{fixed_in, in_marks};
+ghost use Rattle.tw_mode.specs.Solved.{GoesPast, Stands, after_all, clause_in, domain_types, ground_outside};
+
+use crate::end::{Ending, end_fault};
+use crate::outside::Outside;
+use crate::head::{count_quantifiers, marks_in_head, more_marks, sum, target_spine};
+use crate::table::Table;
+use crate::inputs::{first_outside_goal, hypotheses_use};
+use crate::occurring::{mark_at, mark_goal};
+use crate::places::mark_strict_goal;
+use crate::rows::places_for;
+use crate::scope::Scope;
+use crate::sound::unsound_place;
+use crate::uses::Allowed;
+use std::alloc::{AllocError, Global};
+use tw_clause::{Mark3, shape_of};
+use tw_signature::Signature;
+use tw_terms::numbers::one_more;
+use tw_terms::{Ty, target, weaken};
+
+/// The numbers of a fault in a clause: the subgoal in solving order from 1, 0 being the head; the argument from 1, 0 being none of them.
+#[derive(Clone, Copy, Debug)]
+pub struct Place {
+    pub subgoal: u64,
+    pub argument: u64,
+}
+
+/// Where a walk over the subgoals of a clause stands: which variables are ground, which needn't be, and how many subgoals were met.
+#[derive(Drop)]
+struct Walk {
+    ground: Vec<bool>,
+    excused: Vec<bool>,
+    subgoals: u64,
+}
+
+/// The first fault of a type as a clause, if there is one. Fails only for want of memory. The stack nests as deep as the type does.
+#[cycle(clause)]
+pub fn clause_fault(
+    alloc: Global,
+    sig: &Signature,
+    table: &Table,
+    outside: &Outside,
+    ty: &Ty,
+) -> Result<Option<Place>, AllocError>
+    requires fixed { length outside.now.fixed.now ≤ outside.now.depth }
+    requires ground { length outside.now.ground.now ≡ outside.now.depth }
+    requires fits { Fits (signature_of sig.now) (type_of ty.now) }
+    ensures { IfOk result (λ f. ClauseOutcome (signature_of sig.now) table.now outside.now (type_of ty.now) f) }
+{
+    if let Some(argument) = unsound_place(alloc, sig, table, target(ty))? {
+        return Ok(Some(Place {
+            subgoal: 0,
+            argument,
+        }));
+    }
+    let scope = Scope {
+        fixed: outside.fixed,
+        depth: sum(outside.depth, count_quantifiers(ty)?)?,
+        bound: 0,
+    };
+    let shape = shape_of(alloc, ty)?;
+    let mut walk = begin(alloc, table, outside, &scope, &shape, ty)?;
+    if let Some(argument) = subgoals_fault(alloc, sig, table, outside, &scope, &shape, ty, &mut walk)? {
+        return Ok(Some(Place {
+            subgoal: walk.subgoals,
+            argument,
+        }));
+    }
+    let ending = Ending {
+        depth: scope.depth,
+        ground: &walk.ground,
+        excused: &walk.excused,
+    };
+    match end_fault(alloc, table, &ending, target(ty), target_spine(ty))? {
+        Some(argument) => Ok(Some(Place {
+            subgoal: 0,
+            argument,
+        })),
+        None => Ok(None),
+    }
+}
+
+/// Before the first subgoal.
+fn begin(
+    alloc: Global,
+    table: &Table,
+    outside: &Outside,
+    scope: &Scope,
+    shape: &[bool],
+    ty: &Ty,
+) -> Result<Walk, AllocError>
+    requires head { scope.now.bound ≡ 0 }
+    requires fixed { length scope.now.fixed.now ≤ scope.now.depth }
+    requires outside { length outside.now.fixed.now ≤ outside.now.depth }
+    requires ground { length outside.now.ground.now ≡ outside.now.depth }
+    requires same { scope.now.fixed.now ≡ outside.now.fixed.now }
+    requires depth { scope.now.depth ≡ outside.now.depth + quantifiers (type_of ty.now) }
+    requires shape { shape.now ≡ shape_of_type (type_of ty.now) }
+    ensures { IfOk result (λ w. (C : List LfType) → Stands (marks_in table.now) (ground_outside outside.now) (clause_in C outside.now (type_of ty.now)) scope.now.depth w 0) }
+{
+    let ground = marks_in_head(alloc, table, scope, outside.ground, ty)?;
+    let mut excused = not_variables(alloc, outside.depth, shape)?;
+    let free = places_for(alloc, table, target(ty), Mark3::Free)?;
+    mark_at(&free, target_spine(ty), scope.depth, &mut excused)?;
+    Ok(Walk {
+        ground,
+        excused,
+        subgoals: 0,
+    })
+}
+
+/// The marks of what stands outside a type and of its subgoals.
+fn not_variables(alloc: Global, outside: u64, shape: &[bool]) -> Result<Vec<bool>, AllocError>
+    ensures { IfOk result (λ v. v.items ≡ after_all outside (map not shape.now)) }
+{
+    let mut marks = Vec::new(alloc);
+    for _ in 0..outside {
+        marks.push(true)?;
+    }
+    for is_variable in shape {
+        marks.push(!*is_variable)?;
+    }
+    Ok(marks)
+}
+
+/// The types of the leading quantifiers, the outermost first.
+fn domains_of<'a>(alloc: Global, ty: &'a Ty) -> Result<Vec<&'a Ty>, AllocError>
+    ensures { IfOk result (λ ds. map (λ d. type_of d.now) ds.items ≡ domain_types (type_of ty.now)) }
+{
+    let mut domains: Vec<&'a Ty> = Vec::new(alloc);
+    let mut rest = ty;
+    loop {
+        match rest {
+            Ty::Pi(domain, range) => {
+                domains.push(domain)?;
+                rest = range;
+            }
+            Ty::Atom(_, _) => return Ok(domains),
+        }
+    }
+}
+
+/// The first fault of the subgoals, by its argument; its subgoal is the last one that the walk has met.
+#[cycle(clause)]
+fn subgoals_fault(
+    alloc: Global,
+    sig: &Signature,
+    table: &Table,
+    outside: &Outside,
+    scope: &Scope,
+    shape: &[bool],
+    ty: &Ty,
+    walk: &mut Walk,
+) -> Result<Option<u64>, AllocError>
+    requires head { scope.now.bound ≡ 0 }
+    requires fixed { length scope.now.fixed.now ≤ scope.now.depth }
+    requires same { scope.now.fixed.now ≡ outside.now.fixed.now }
+    requires outside { length outside.now.fixed.now ≤ outside.now.depth }
+    requires depth { scope.now.depth ≡ outside.now.depth + quantifiers (type_of ty.now) }
+    requires shape { shape.now ≡ shape_of_type (type_of ty.now) }
+    requires fits { Fits (signature_of sig.now) (type_of ty.now) }
+    requires stands { (C : List LfType) → Stands (marks_in table.now) (ground_outside outside.now) (clause_in C outside.now (type_of ty.now)) scope.now.depth walk.old 0 }
+    ensures { IfOk result (λ f. SubgoalsOutcome (signature_of sig.now) table.now outside.now (type_of ty.now) scope.now.depth walk.new f) }
+{
+    let domains = domains_of(alloc, ty)?;
+    let mut left = domains.len();
+    while left > 0 {
+        left -= 1;
+        if !shape[left] {
+            let goal = weaken(alloc, domains[left], (domains.len() - left) as u64)?;
+            if let Some(argument) = step(alloc, sig, table, scope, &goal, walk)? {
+                return Ok(Some(argument));
+            }
+        }
+    }
+    Ok(None)
+}
+
+/// Meets a subgoal: its fault, if it has one; else its outputs become ground.
+#[cycle(clause)]
+fn step(
+    alloc: Global,
+    sig: &Signature,
+    table: &Table,
+    scope: &Scope,
+    goal: &Ty,
+    walk: &mut Walk,
+) -> Result<Option<u64>, AllocError>
+    requires head { scope.now.bound ≡ 0 }
+    requires fixed { length scope.now.fixed.now ≤ scope.now.depth }
+    requires ground { length walk.old.ground.items ≡ scope.now.depth }
+    requires excused { length walk.old.excused.items ≡ scope.now.depth }
+    requires fits { Fits (signature_of sig.now) (type_of goal.now) }
+    ensures outcome { IfOk result (λ f. SubgoalOutcome (signature_of sig.now) table.now (fixed_in scope.now) (in_marks true scope.now.depth walk.old.ground.items) (type_of goal.now) f) }
+    ensures subgoals { OnOk result (walk.new.subgoals ≡ suc walk.old.subgoals) }
+    ensures goes_past { IfOk result (λ f. f ≡ None → GoesPast (marks_in table.now) (fixed_in scope.now) scope.now.depth (type_of goal.now) walk.old walk.new) }
+{
+    walk.subgoals = one_more(walk.subgoals)?;
+    if let Some(argument) = subgoal_fault(alloc, sig, table, scope, &walk.ground, goal)? {
+        return Ok(Some(argument));
+    }
+    solve_goal(alloc, table, scope, goal, walk)?;
+    Ok(None)
+}
+
+/// What a subgoal makes ground, and what it excuses.
+fn solve_goal(
+    alloc: Global,
+    table: &Table,
+    scope: &Scope,
+    goal: &Ty,
+    walk: &mut Walk,
+) -> Result<(), AllocError>
+    requires head { scope.now.bound ≡ 0 }
+    requires fixed { length scope.now.fixed.now ≤ scope.now.depth }
+    requires ground { length walk.old.ground.items ≤ scope.now.depth }
+    requires excused { length walk.old.excused.items ≤ scope.now.depth }
+    ensures subgoals { OnOk result (walk.new.subgoals ≡ walk.old.subgoals) }
+    ensures goes_past { OnOk result (GoesPast (marks_in table.now) (fixed_in scope.now) scope.now.depth (type_of goal.now) walk.old walk.new) }
+{
+    let outputs = places_for(alloc, table, target(goal), Mark3::Minus)?;
+    mark_strict_goal(alloc, scope, &outputs, goal, &mut walk.ground)?;
+    let free = places_for(alloc, table, target(goal), Mark3::Free)?;
+    mark_goal(&free, goal, scope.depth, &mut walk.excused)
+}
+
+/// The first fault of a subgoal, by its argument: unsound marks; a variable that isn't ground in a hypothesis' type, and in an input; a hypothesis that isn't
+/// well-moded.
+#[cycle(clause)]
+fn subgoal_fault(
+    alloc: Global,
+    sig: &Signature,
+    table: &Table,
+    scope: &Scope,
+    ground: &[bool],
+    goal: &Ty,
+) -> Result<Option<u64>, AllocError>
+    requires fixed { length scope.now.fixed.now ≤ scope.now.depth }
+    requires ground { length ground.now ≡ scope.now.depth }
+    requires fits { Fits (signature_of sig.now) (type_of goal.now) }
+    ensures { IfOk result (λ f. SubgoalOutcome (signature_of sig.now) table.now (fixed_in scope.now) (in_marks true scope.now.depth ground.now) (type_of goal.now) f) }
+{
+    if let Some(place) = unsound_place(alloc, sig, table, target(goal))? {
+        return Ok(Some(place));
+    }
+    if let Some(place) = unground(alloc, table, scope.depth, ground, goal)? {
+        return Ok(Some(place));
+    }
+    if hypotheses_are_moded(alloc, sig, table, scope, ground, goal)? {
+        Ok(None)
+    } else {
+        Ok(Some(0))
+    }
+}
+
+/// The first fault of what a subgoal needs.
+fn unground(
+    alloc: Global,
+    table: &Table,
+    depth: u64,
+    ground: &[bool],
+    goal: &Ty,
+) -> Result<Option<u64>, AllocError>
+    requires { length ground.now ≤ depth }
+    ensures { IfOk result (λ f. NeedsOutcome (marks_in table.now) (in_marks true depth ground.now) (type_of goal.now) f) }
+{
+    let allowed = Allowed {
+        marks: ground,
+        depth,
+        bound: 0,
+        other: true,
+    };
+    if !hypotheses_use(&allowed, goal)? {
+        return Ok(Some(0));
+    }
+    let inputs = places_for(alloc, table, target(goal), Mark3::Plus)?;
+    first_outside_goal(&allowed, &inputs, goal)
+}
+
+/// Whether each hypothesis of a subgoal whose family has a mode is well-moded.
+#[cycle(clause)]
+fn hypotheses_are_moded(
+    alloc: Global,
+    sig: &Signature,
+    table: &Table,
+    scope: &Scope,
+    ground: &[bool],
+    goal: &Ty,
+) -> Result<bool, AllocError>
+    requires fixed { length scope.now.fixed.now ≤ scope.now.depth }
+    requires ground { length ground.now ≡ scope.now.depth }
+    requires fits { Fits (signature_of sig.now) (type_of goal.now) }
+    ensures { IfOk result (λ b. (C : List LfType) → Decides b (EachHypothesis (WellModedFrom (signature_of sig.now) (marks_in table.now) (moded_in table.now)) (moded_in table.now) C (fixed_in scope.now) (in_marks true scope.now.depth ground.now) (type_of goal.now))) }
+{
+    if let Ty::Atom(_, _) = goal {
+        return Ok(true);
+    }
+    let mut fixed = more_marks(alloc, scope.fixed, scope.depth)?;
+    let mut ground = Vec::from_slice(alloc, ground)?;
+    each_hypothesis(alloc, sig, table, goal, &mut fixed, &mut ground)
+}
+
+/// The same of the quantifiers of a type, each of which is a parameter for those behind it.
+#[cycle(clause)]
+fn each_hypothesis(
+    alloc: Global,
+    sig: &Signature,
+    table: &Table,
+    goal: &Ty,
+    fixed: &mut Vec<bool>,
+    ground: &mut Vec<bool>,
+) -> Result<bool, AllocError>
+    requires same { length fixed.old.items ≡ length ground.old.items }
+    requires fits { Fits (signature_of sig.now) (type_of goal.now) }
+    ensures { IfOk result (λ b. (C : List LfType) → Decides b (EachHypothesis (WellModedFrom (signature_of sig.now) (marks_in table.now) (moded_in table.now)) (moded_in table.now) C (in_marks false (length fixed.old.items) fixed.old.items) (in_marks true (length ground.old.items) ground.old.items) (type_of goal.now))) }
+{
+    match goal {
+        Ty::Pi(domain, range) => {
+            if !is_moded(alloc, sig, table, domain, fixed, ground)? {
+                return Ok(false);
+            }
+            fixed.push(true)?;
+            ground.push(true)?;
+            each_hypothesis(alloc, sig, table, range, fixed, ground)
+        }
+        Ty::Atom(_, _) => Ok(true),
+    }
+}
+
+/// Whether a hypothesis is well-moded, if its family has a mode.
+#[cycle(clause)]
+fn is_moded(
+    alloc: Global,
+    sig: &Signature,
+    table: &Table,
+    domain: &Ty,
+    fixed: &[bool],
+    ground: &[bool],
+) -> Result<bool, AllocError>
+    requires same { length fixed.now ≡ length ground.now }
+    requires fits { Fits (signature_of sig.now) (type_of domain.now) }
+    ensures { IfOk result (λ b. (C : List LfType) → Decides b (choose (moded_in table.now (target_of_type (type_of domain.now))) (WellModedFrom (signature_of sig.now) (marks_in table.now) (moded_in table.now) (in_marks true (length ground.now) ground.now) (record { outer = C; fixed = in_marks false (length fixed.now) fixed.now; type = type_of domain.now })) (Unit {0}))) }
+{
+    if !table.has(target(domain)) {
+        return Ok(true);
+    }
+    let outside = Outside {
+        depth: ground.len() as u64,
+        fixed,
+        ground,
+    };
+    Ok(clause_fault(alloc, sig, table, &outside, domain)?.is_none())
+}
