@@ -7,9 +7,9 @@ use Rattle.lf_checks.specs.Tests.{either}
 
 -- for each place, whether one of two marks says yes
 abbrev pub either_of : List Bool → List Bool → List Bool
-either_of [] bs = []
-either_of (a ∷ as) [] = a ∷ as
-either_of (a ∷ as) (b ∷ bs) = either a b ∷ either_of as bs
+either_of [] ys = []
+either_of (x ∷ xs) [] = x ∷ xs
+either_of (x ∷ xs) (y ∷ ys) = either x y ∷ either_of xs ys
 
 -- each mark says yes
 abbrev pub AreAllTrue : List Bool → Type 0

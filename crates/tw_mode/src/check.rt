@@ -101,7 +101,7 @@ fn families_have_modes(
     table: &Table,
     ty: Option<&Ty>,
 ) -> Result<(), ModeFault>
-    ensures { (cs : List NamedClause) → map (λ n. n.clause.type) cs ≡ as_list (option_map (λ t. type_of t.now) ty) → ModesOutcome (moded_in table.now) cs result }
+    ensures { (cs : List NamedClause) → map (λ n. n.clause.type) cs ≡ as_list (option_map (λ t. type_of t.now) ty.entry) → ModesOutcome (moded_in table.now) cs result }
 {
     let Some(ty) = ty else {
         return Ok(());

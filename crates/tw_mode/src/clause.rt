@@ -19,7 +19,7 @@ use crate::outside::Outside;
 use crate::head::{count_quantifiers, marks_in_head, more_marks, sum, target_spine};
 use crate::table::Table;
 use crate::inputs::{first_outside_goal, hypotheses_use};
-use crate::occurring::{mark_at, mark_goal};
+use crate::mentions::{mark_at, mark_goal};
 use crate::places::mark_strict_goal;
 use crate::rows::places_for;
 use crate::scope::Scope;

@@ -12,7 +12,7 @@ ghost use Rattle.tw_mode.specs.Outcomes.{EndOutcome};
 ghost use Rattle.tw_mode.specs.Scopes.{in_marks};
 
 use crate::table::Table;
-use crate::occurring::mark_at;
+use crate::mentions::mark_at;
 use crate::rows::{has_mark, places_for};
 use crate::uses::{Allowed, uses_term};
 use std::alloc::{AllocError, Global};

@@ -8,7 +8,7 @@ ghost use Rattle.tw_clause.specs.Marks.{marked};
 ghost use Rattle.tw_terms.specs.View.{spine_of, type_of};
 ghost use Rattle.tw_mode.specs.Rows.{marks_in};
 ghost use Rattle.tw_mode.specs.Scopes.{fixed_in};
-ghost use Rattle.tw_mode.specs.Solved.{past, with_hidden};
+ghost use Rattle.tw_mode.specs.Solved.{with_hidden};
 
 use crate::table::Table;
 use crate::places::mark_strict_at;
@@ -59,19 +59,6 @@ pub fn target_spine(ty: &Ty) -> &Spine
     match ty {
         Ty::Pi(_, range) => target_spine(range),
         Ty::Atom(_, spine) => spine,
-    }
-}
-
-/// The type past its first quantifiers.
-pub fn past_quantifiers(ty: &Ty, count: u64) -> &Ty
-    ensures { type_of result.now ≡ past count (type_of ty.now) }
-{
-    if count == 0 {
-        return ty;
-    }
-    match ty {
-        Ty::Pi(_, range) => past_quantifiers(range, count - 1),
-        Ty::Atom(_, _) => ty,
     }
 }
 

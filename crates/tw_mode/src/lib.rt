@@ -16,7 +16,8 @@ mod head;
 mod inputs;
 mod listed;
 mod marks;
-mod occurring;
+#[tactic(auto, using(tw_terms::proofs::Args::types))]
+mod mentions;
 mod outside;
 mod pattern;
 mod places;

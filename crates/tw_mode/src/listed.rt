@@ -76,7 +76,7 @@ fn list_block(
 
 /// Whether the target of a type is this family.
 fn is_of_family(ty: Option<&Ty>, family: ConstId) -> bool
-    ensures { result ≡ is_of (option_map (λ t. type_of t.now) ty) family.0 }
+    ensures { result ≡ is_of (option_map (λ t. type_of t.now) ty.entry) family.0 }
 {
     match ty {
         Some(ty) => target(ty).0 == family.0,
