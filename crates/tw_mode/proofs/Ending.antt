@@ -72,7 +72,7 @@ one_out (suc d) (true ∷ ms) h n = let (i, e) = one_out d ms (omega (arith, h))
     by i e true q = absurd (true≢false (sym (in_marks_past true d i ms (let r : i ≡ d = number_is i d q in omega (arith, r))) ∙ e))
     by i e false q = ap (λ t. cond t true (in_marks true d ms i)) q ∙ e
 
-pub all_next : (ms : List Bool) (k : ℕ) → k < length ms → get_or ms k false ≡ true → AreAllTrue (drop (k + 1) ms) → AreAllTrue (drop k ms)
+pub all_next : (ms : List Bool) (k : ℕ) → k < length ms → get_or ms k false ≡ true → AreAllTrue (drop (suc k) ms) → AreAllTrue (drop k ms)
 all_next [] k h e a = absurd (omega (arith, h))
 all_next (m ∷ ms) zero h e a = (e, a)
 all_next (m ∷ ms) (suc k) h e a = all_next ms k (omega (arith, h)) e a
@@ -82,7 +82,7 @@ all_fails [] k h e a = omega (arith, h)
 all_fails (m ∷ ms) zero h e a = true≢false (sym a.0 ∙ e)
 all_fails (m ∷ ms) (suc k) h e a = all_fails ms k (omega (arith, h)) e a
 
-pub all_behind : (ms : List Bool) (k : ℕ) → k < length ms → AreAllTrue (drop k ms) → AreAllTrue (drop (k + 1) ms)
+pub all_behind : (ms : List Bool) (k : ℕ) → k < length ms → AreAllTrue (drop k ms) → AreAllTrue (drop (suc k) ms)
 all_behind [] k h a = absurd (omega (arith, h))
 all_behind (m ∷ ms) zero h a = a.1
 all_behind (m ∷ ms) (suc k) h a = all_behind ms k (omega (arith, h)) a
@@ -165,9 +165,9 @@ module _ (m : ℕ → List Mark) (c : Clause) (U E : ℕ → Bool) (must : (x : 
   ]
 
   unsettled : (b : Mark) (M : Term) → IsLostAt m c U b M → Unsettled U Allowed b M
-  unsettled input M l u = unsettled_free input M refl l u
-  unsettled free M l u = unsettled_free free M refl l u
-  unsettled output M l u = true≢false (sym (used U l.lost M u l.stands) ∙ l.unground)
+  unsettled input M l = λ u. unsettled_free input M refl l u
+  unsettled free M l = λ u. unsettled_free free M refl l u
+  unsettled output M l = λ u. true≢false (sym (used U l.lost M u l.stands) ∙ l.unground)
 
   first_lost : (n : ℕ) (bs : List Mark) (S : Spine) (j : ℕ) → FirstUnsettled U Allowed n bs S j → FirstLost m c U n bs S j
   first_lost n [] S j f = f

@@ -76,7 +76,7 @@ newest_among E es = fun_ext at
 
 none_set : (s : ℕ) → in_marks false s (with_hidden [] s) ≡ nothing
 none_set zero = fun_ext (λ i. refl)
-none_set (suc s) = ap (in_marks false (suc s)) (hidden_more [] s) ∙ pushed_set false false s (with_hidden [] s) (hidden_count [] s) ∙ ap (with_newest false) (none_set s) ∙ newest_none
+none_set (suc s) = ap (in_marks false (suc s)) (hidden_more [] s) ∙ pushed_set false false s (with_hidden [] s) (let k = hidden_count [] s in omega (arith, k)) ∙ ap (with_newest false) (none_set s) ∙ newest_none
 
 none_among : nothing ≡ among []
 none_among = fun_ext (λ i. refl)
@@ -93,4 +93,4 @@ among_set s (E ∷ es) =
 -- all is ground
 pub all_set : (n : ℕ) → in_marks true n (with_shown [] n) ≡ everything
 all_set zero = fun_ext (λ i. refl)
-all_set (suc n) = ap (in_marks true (suc n)) (shown_more [] n) ∙ pushed_set true true n (with_shown [] n) (shown_count [] n) ∙ ap (with_newest true) (all_set n) ∙ newest_all
+all_set (suc n) = ap (in_marks true (suc n)) (shown_more [] n) ∙ pushed_set true true n (with_shown [] n) (let k = shown_count [] n in omega (arith, k)) ∙ ap (with_newest true) (all_set n) ∙ newest_all

@@ -5,6 +5,7 @@ use Rattle.std.proofs.lemmas.List.{append_assoc}
 use Rattle.lf.specs.Entries.{Entry, signature_of}
 use Rattle.lf.specs.Subordination.{Block}
 use Rattle.lf.specs.Typing.{Signature}
+use Rattle.lf.specs.Variables.{target}
 use Rattle.lf_checks.specs.Clause.{Clause}
 use Rattle.lf_checks.specs.Clauses.{ClauseName, NamedClause, group_clauses}
 use Rattle.lf_checks.specs.Faults.{AllPass, FirstFault, here, later}
@@ -38,7 +39,7 @@ module _ {Place : Type 0} (P : Clause → Type 0) (F : Clause → Place → Type
 module _ (moded : ℕ → Bool) where
   families_append : (xs ys : List NamedClause) → families_met moded (xs ++ ys) ≡ families_met moded xs ++ families_met moded ys
   families_append [] ys = refl
-  families_append (n ∷ xs) ys = ap (λ fs. _ ∷ fs) (ap (λ fs. called moded n.clause.type ++ fs) (families_append xs ys) ∙ sym (append_assoc (called moded n.clause.type) (families_met moded xs) (families_met moded ys)))
+  families_append (n ∷ xs) ys = ap (λ fs. target n.clause.type ∷ fs) (ap (λ fs. called moded n.clause.type ++ fs) (families_append xs ys) ∙ sym (append_assoc (called moded n.clause.type) (families_met moded xs) (families_met moded ys)))
 
   pub modes_go_on : (xs ys : List NamedClause) (u : Unit {0}) (r : Result (Unit {0}) ModeFault) → ModesOutcome moded xs (Ok u) → ModesOutcome moded ys r → ModesOutcome moded (xs ++ ys) r
   modes_go_on xs ys u (Ok v) a h = ap (first_unmoded moded) (families_append xs ys) ∙ unmoded_behind moded (families_met moded xs) (families_met moded ys) a ∙ h

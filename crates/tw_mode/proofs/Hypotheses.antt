@@ -50,18 +50,18 @@ module _ (P : (ℕ → Bool) → Clause → Type 0) (moded : ℕ → Bool) where
   pub no_hypothesis : (C : List LfType) (F U : ℕ → Bool) (T : LfType) (a : ℕ) (S : _) → T ≡ atom a S → Decides true (EachHypothesis P moded C F U T)
   no_hypothesis C F U T a S e = subst (λ X. Decides true (EachHypothesis P moded C F U X)) (sym e) (decides_yes tt)
 
-pub unmoded_decided : {P : Type 0} (t : Bool) → t ≡ false → Decides true (choose t P (Unit {0}))
-unmoded_decided true e = absurd cc
-unmoded_decided false e = decides_yes tt
+pub unmoded_decided : (P : Type 0) (t : Bool) → t ≡ false → Decides true (choose t P (Unit {0}))
+unmoded_decided P true e = absurd cc
+unmoded_decided P false e = decides_yes tt
 
-moded_decided : {P Q : Type 0} (t r : Bool) → t ≡ true → Decides r P → Decides r (choose t P Q)
-moded_decided true r e d = d
-moded_decided false r e d = absurd cc
+moded_decided : (P Q : Type 0) (t r : Bool) → t ≡ true → Decides r P → Decides r (choose t P Q)
+moded_decided P Q true r e d = d
+moded_decided P Q false r e d = absurd cc
 
 -- a hypothesis of a moded family, by what its check as a clause comes to
 pub hypothesis_decided : (Σ : Signature) (t : Table) (o : Outside) (A : LfType) (f : Option Place) (r : Bool) → r ≡ is_none f → moded_in t (target A) ≡ true → ClauseOutcome Σ t o A f → (C : List LfType) → Decides r (choose (moded_in t (target A)) (WellModedFrom Σ (marks_in t) (moded_in t) (ground_outside o) (clause_in C o A)) (Unit {0}))
-hypothesis_decided Σ t o A None r e m h C = moded_decided (moded_in t (target A)) r m (subst (λ b. Decides b (WellModedFrom Σ (marks_in t) (moded_in t) (ground_outside o) (clause_in C o A))) (sym e) (decides_yes (h C)))
-hypothesis_decided Σ t o A (Some p) r e m h C = moded_decided (moded_in t (target A)) r m (subst (λ b. Decides b (WellModedFrom Σ (marks_in t) (moded_in t) (ground_outside o) (clause_in C o A))) (sym e) (decides_no (mode_refuted Σ (marks_in t) (moded_in t) (ground_outside o) (clause_in C o A) (plain_place p) (h C))))
+hypothesis_decided Σ t o A None r e m h C = moded_decided _ _ (moded_in t (target A)) r m (subst (λ b. Decides b (WellModedFrom Σ (marks_in t) (moded_in t) (ground_outside o) (clause_in C o A))) (sym e) (decides_yes (h C)))
+hypothesis_decided Σ t o A (Some p) r e m h C = moded_decided _ _ (moded_in t (target A)) r m (subst (λ b. Decides b (WellModedFrom Σ (marks_in t) (moded_in t) (ground_outside o) (clause_in C o A))) (sym e) (decides_no (mode_refuted Σ (marks_in t) (moded_in t) (ground_outside o) (clause_in C o A) (plain_place p) (h C))))
 
 -- A subgoal.
 module _ (Σ : Signature) (t : Table) (F U : ℕ → Bool) (A : LfType) where

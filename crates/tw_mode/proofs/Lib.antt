@@ -16,3 +16,4 @@ pub mod Hypotheses
 pub mod Entries
 pub mod Listing
 pub mod Grouping
+pub mod Tabling

@@ -1,5 +1,5 @@
 -- Whether the variables of a term are in a set, one part after the other.
-use Rattle.std.proofs.Common.{◌≡◌, ℕ, zero, suc, ◌+◌, ◌≤◌, List, [], ◌∷◌, Bool, true, false, length, drop, refl, sym, ap, ◌∙◌, subst, arith, true≢false}
+use Rattle.std.proofs.Common.{◌≡◌, ℕ, zero, suc, ◌+◌, ◌≤◌, List, [], ◌∷◌, Bool, true, false, length, drop, refl, sym, ap, ap₂, ◌∙◌, subst, arith, true≢false}
 use Rattle.std.specs.Prelude.{Decides, ◌↔◌}
 use Rattle.std.proofs.Math.ListN.{drop_of_length-le}
 use Rattle.lf.specs.Syntax.{Term, Spine, nil, app, root, constant, variable, lambda, LfType, pi, atom}
@@ -12,12 +12,15 @@ use Rattle.tw_mode.proofs.Sets.{in_marks_inside}
 use mathlib.Core.Path.{fun_ext}
 
 -- the set under one more variable
-pub set_under : (o : Bool) (n d : ℕ) (ms : List Bool) → length ms ≤ d → (λ i. either (newest (suc n) i) (in_marks o (suc d) ms i)) ≡ under (λ i. either (newest n i) (in_marks o d ms i))
+set_under : (o : Bool) (n d : ℕ) (ms : List Bool) → length ms ≤ d → (λ i. either (newest (suc n) i) (in_marks o (suc d) ms i)) ≡ under (λ i. either (newest n i) (in_marks o d ms i))
 set_under o n d ms h = fun_ext at
   where
     at : (i : ℕ) → either (newest (suc n) i) (in_marks o (suc d) ms i) ≡ under (λ i. either (newest n i) (in_marks o d ms i)) i
     at zero = refl
     at (suc i) = ap (either (newest n i)) (in_marks_inside o d i ms h)
+
+pub set_inside : (o : Bool) (n d N D : ℕ) (ms : List Bool) → N ≡ suc n → D ≡ suc d → length ms ≤ d → (λ i. either (newest N i) (in_marks o D ms i)) ≡ under (λ i. either (newest n i) (in_marks o d ms i))
+set_inside o n d N D ms e f h = ap₂ (λ x y i. either (newest x i) (in_marks o y ms i)) e f ∙ set_under o n d ms h
 
 -- a test that is decided one way is decided the other way where both are the same
 pub decides_same : {P Q : Type 0} (b : Bool) → (P → Q) → (Q → P) → Decides b P → Decides b Q

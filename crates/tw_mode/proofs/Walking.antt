@@ -72,8 +72,8 @@ pub not_variables_set : (T : LfType) (d : ℕ) → in_marks true (d + quantifier
 not_variables_set T d = ap (in_marks true (d + quantifiers T)) (in_front d (map not (shape T))) ∙ shape_set T everything everything d (after_all d []) (all_count d) (fun_ext (λ i. all_in d i (after_all d []) (all_true d)))
 
 pub marks_after_all : (d : ℕ) (xs : List Bool) → length (after_all d xs) ≡ d + length xs
-marks_after_all zero xs = refl
-marks_after_all (suc d) xs = ap suc (marks_after_all d xs)
+marks_after_all zero xs = omega arith
+marks_after_all (suc d) xs = let k = marks_after_all d xs in omega (arith, k)
 
 -- The head.
 pub head_first : (m : ℕ → List Mark) (C : List LfType) (T : LfType) (d D : ℕ) (fs gs hs : List Bool) → length fs ≤ d → length gs ≡ d → D ≡ d + quantifiers T → hs ≡ marked D (λ i. strict_at (input_places (m (target T))) nothing (in_marks false D fs) i (target_arguments T)) (with_hidden gs (D - length gs)) → in_marks true D hs ≡ ground_from (in_marks true d gs) m (record { outer = C; fixed = in_marks false d fs; type = T })
@@ -203,6 +203,9 @@ module _ (m : ℕ → List Mark) (c : Clause) (x : ℕ) where
   pub excused_means : (excused m c (quantifiers c.type) x ≡ false) ↔ MustBeGround m c x
   excused_means = (there, λ must. must_be must (quantifiers c.type))
     where
+      found : (p : InFreePlace m c x) → free_past m (variables c p.index) (type_at (scope c) p.index) x ≡ true
+      found p = ap₂ (λ b o. free_past m b o x) p.is_subgoal.0 ((type_both (scope c) p.index p.subgoal).0 p.is_subgoal.1) ∙ p.occurs_there
+
       there : excused m c (quantifiers c.type) x ≡ false → MustBeGround m c x
       there e =
           let (f, g) = excused_before (quantifiers c.type) e in
@@ -214,6 +217,3 @@ module _ (m : ℕ → List Mark) (c : Clause) (x : ℕ) where
             in_head = b;
             in_subgoal = λ p. true≢false (sym (found p) ∙ g p.index (subgoal_inside c p.index p.is_subgoal.0));
           }
-
-      found : (p : InFreePlace m c x) → free_past m (variables c p.index) (type_at (scope c) p.index) x ≡ true
-      found p = ap₂ (λ b o. free_past m b o x) p.is_subgoal.0 ((type_both (scope c) p.index p.subgoal).0 p.is_subgoal.1) ∙ p.occurs_there

@@ -13,7 +13,7 @@ ghost use Rattle.tw_mode.specs.Scopes.{in_marks};
 
 use crate::table::Table;
 use crate::mentions::mark_at;
-use crate::rows::{has_mark, places_for};
+use crate::rows::{has_mark, nth_mark, places_for};
 use crate::uses::{Allowed, uses_term};
 use std::alloc::{AllocError, Global};
 use tw_clause::{Mark3, mark_spine};
@@ -120,7 +120,7 @@ fn first_lost(
         if place >= marks.len() {
             return Ok(None);
         }
-        if is_lost(ground, settled, marks[place], arg)? {
+        if is_lost(ground, settled, nth_mark(marks, place), arg)? {
             return Ok(Some(one_more(place as u64)?));
         }
     }

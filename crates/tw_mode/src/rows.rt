@@ -1,5 +1,5 @@
 //! The places of families with a mark.
-ghost use Rattle.std.specs.Prelude.{◌≡◌, map, IfOk};
+ghost use Rattle.std.specs.Prelude.{◌≡◌, ◌<◌, ◌∷◌, suc, drop, length, map, IfOk};
 ghost use Rattle.tw_clause.specs.View.{mark_of};
 ghost use Rattle.tw_mode.specs.Rows.{is_with, marks_in, places_with};
 
@@ -40,4 +40,12 @@ pub fn has_mark(mark: Mark3, wanted: Mark3) -> bool
             true,
         _ => false,
     }
+}
+
+/// The mark of a place.
+pub fn nth_mark(marks: &[Mark3], place: usize) -> Mark3
+    requires { place < length marks.now }
+    ensures { map mark_of (drop place marks.now) ≡ mark_of result ∷ map mark_of (drop (suc place) marks.now) }
+{
+    marks[place]
 }

@@ -11,7 +11,7 @@ ghost use Rattle.tw_mode.specs.Rows.{marks_in};
 ghost use Rattle.tw_mode.specs.Scopes.{in_marks};
 
 use crate::table::Table;
-use crate::rows::has_mark;
+use crate::rows::{has_mark, nth_mark};
 use crate::uses::{Allowed, uses_type};
 use std::alloc::{AllocError, Global};
 use tw_clause::Mark3;
@@ -48,10 +48,14 @@ fn first_unsound(
 {
     match kind {
         Kind::Pi(domain, range) => {
-            if marks.is_empty() || !is_usable(marks[0], usable, domain)? {
+            if marks.is_empty() {
                 return Ok(Some(one_more(usable.len() as u64)?));
             }
-            usable.push(!has_mark(marks[0], Mark3::Minus))?;
+            let mark = nth_mark(marks, 0);
+            if !is_usable(mark, usable, domain)? {
+                return Ok(Some(one_more(usable.len() as u64)?));
+            }
+            usable.push(!has_mark(mark, Mark3::Minus))?;
             first_unsound(range, &marks[1..], usable)
         }
         Kind::Star => {
