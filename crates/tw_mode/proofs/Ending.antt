@@ -1,5 +1,5 @@
 -- The end of a clause, by what is ground and what needn't be.
-use Rattle.std.proofs.Common.{◌≡◌, ℕ, zero, suc, ◌+◌, ◌<◌, ◌≤◌, List, [], ◌∷◌, length, drop, get_or, map, refl, sym, ap, ap₂, ◌∙◌, subst, arith, inl, inr, true≢false}
+use Rattle.std.proofs.Common.{◌≡◌, ℕ, zero, suc, ◌+◌, ◌<◌, ◌≤◌, List, [], ◌∷◌, ◌++◌, length, drop, get_or, map, take, refl, sym, ap, ap₂, ◌∙◌, subst, arith, inl, inr, true≢false}
 use Rattle.std.specs.Prelude.{Bool, true, false, cond, Option, Some, None, Decides, ◌⊎◌, ◌↔◌}
 use Rattle.std.proofs.Math.ListN.{drop_of_length-le}
 use Rattle.lf.specs.Syntax.{constant, variable, metavariable, Term, Spine, lambda, root, nil, app}
@@ -13,12 +13,17 @@ use Rattle.lf_checks.specs.Modes.{AllGround, occurs_at}
 use Rattle.lf_checks.specs.Tests.{either}
 use Rattle.lf_checks.proofs.EndDecided.{end_decided}
 use Rattle.lf_checks.proofs.ModeRefuted.{used}
+use Rattle.tw_clause.specs.Marks.{marked}
+use Rattle.tw_clause.proofs.Marking.{marked_length}
 use Rattle.tw_terms.specs.View.{args_of}
 use Rattle.tw_terms.specs.declared.canonical.Term.{Term as RustTerm}
 use Rattle.tw_mode.specs.Checks.{Outcome}
 use Rattle.tw_mode.specs.Ends.{AreAllTrue, FirstUnsettled, NoneUnsettled, Unsettled, either_of}
+use Rattle.tw_mode.specs.Outcomes.{EndOutcome}
+use Rattle.tw_mode.specs.Rows.{marks_in}
 use Rattle.tw_mode.specs.Scopes.{in_marks}
-use Rattle.tw_mode.proofs.Sets.{in_marks_past, number_is, same_self}
+use Rattle.tw_mode.specs.declared.table.Table.{Table}
+use Rattle.tw_mode.proofs.Sets.{in_marks_past, marked_set, number_is, same_self}
 use Rattle.tw_mode.proofs.Using.{decides_no, decides_yes, no_of}
 use mathlib.Core.Path.{fun_ext}
 
@@ -51,6 +56,15 @@ pub either_length : (xs ys : List Bool) → length (either_of xs ys) ≡ length 
 either_length [] ys = refl
 either_length (x ∷ xs) [] = refl
 either_length (x ∷ xs) (y ∷ ys) = ap suc (either_length xs ys)
+
+either_more : (xs ys : List Bool) (k : ℕ) → k < length xs → k < length ys → either_of (take k xs) (take k ys) ++ either (get_or xs k false) (get_or ys k false) ∷ [] ≡ either_of (take (suc k) xs) (take (suc k) ys)
+either_more [] ys k h l = absurd (omega (arith, h))
+either_more (x ∷ xs) [] k h l = absurd (omega (arith, l))
+either_more (x ∷ xs) (y ∷ ys) zero h l = refl
+either_more (x ∷ xs) (y ∷ ys) (suc k) h l = ap (λ zs. either x y ∷ zs) (either_more xs ys k (omega (arith, h)) (omega (arith, l)))
+
+pub either_pushed : (xs ys ms ns : List Bool) (k : ℕ) → k < length xs → k < length ys → ms ≡ either_of (take k xs) (take k ys) → ns ≡ ms ++ either (get_or xs k false) (get_or ys k false) ∷ [] → ns ≡ either_of (take (k + 1) xs) (take (k + 1) ys)
+either_pushed xs ys ms ns k h l e q = q ∙ ap (λ zs. zs ++ either (get_or xs k false) (get_or ys k false) ∷ []) e ∙ either_more xs ys k h l ∙ ap (λ n. either_of (take n xs) (take n ys)) (let r : suc k ≡ k + 1 = omega arith in r)
 
 -- Marks that all say yes.
 cond_true : (t : Bool) → cond t true true ≡ true
@@ -228,3 +242,38 @@ other_decided U L free M t e d = d
 pub decides_not : {P : Type 0} (b r : Bool) → r ≡ cond b false true → Decides b P → Decides r (P → ⊥)
 decides_not true r e d = (λ q. absurd (true≢false (sym q ∙ e)), λ n. absurd (n (d.0 refl)))
 decides_not false r e d = (λ q p. true≢false (sym (d.1 p)), λ n. e)
+
+-- The end by marks: what is ground, what needn't be, and both together.
+module _ (t : Table) (d a : ℕ) (S : Spine) (gs es ss : List Bool) (g : length gs ≡ d) (l : length es ≡ d) (s : ss ≡ either_of gs es) where
+  settled_set : in_marks true d ss ≡ (λ i. either (in_marks true d gs i) (in_marks true d es i))
+  settled_set = ap (in_marks true d) s ∙ either_set d gs es (g ∙ sym l)
+
+  pub settled_count : length ss ≡ d
+  settled_count = ap length s ∙ either_length gs es ∙ g
+
+  seen_set : (x : ℕ) → in_marks true d (marked d (λ i. occurs_spine i S) ss) x ≡ either (either (in_marks true d gs x) (in_marks true d es x)) (occurs_spine x S)
+  seen_set x = ap (λ X. X x) (marked_set (λ i. occurs_spine i S) d ss ∙ ap (λ X i. either (X i) (occurs_spine i S)) settled_set)
+
+  pub end_nowhere : (AreAllTrue (marked d (λ i. occurs_spine i S) ss) → ⊥) → EndOutcome t (in_marks true d gs) (in_marks true d es) a S (Some 0)
+  end_nowhere n c e q k must =
+      let c1 : length (marked d (λ i. occurs_spine i S) ss) ≡ d = marked_length d (λ i. occurs_spine i S) ss ∙ settled_count in
+      let (x, o) = one_out d (marked d (λ i. occurs_spine i S) ss) (omega (arith, c1)) n in
+      at_none (lost_nowhere (marks_in t) c (in_marks true d gs) (in_marks true d es) must x (ap (λ X. either (either (in_marks true d gs x) (in_marks true d es x)) (occurs_spine x X)) q ∙ sym (seen_set x) ∙ o))
+
+  pub end_somewhere : AreAllTrue (marked d (λ i. occurs_spine i S) ss) → (os rs : List Bool) (L : ℕ → Bool) (o : Option ℕ) → os ≡ output_places (marks_in t a) → rs ≡ marked d (λ i. occurs_at os i S) ss → L ≡ in_marks true d rs → Outcome (NoneUnsettled (in_marks true d gs) L (marks_in t a) S) (FirstUnsettled (in_marks true d gs) L 1 (marks_in t a) S) o → EndOutcome t (in_marks true d gs) (in_marks true d es) a S o
+  end_somewhere all os rs L o p r w h c e q k must =
+      end_of (marks_in t) c (in_marks true d gs) (in_marks true d es) must o
+        (ap (λ f. length (marks_in t f)) e ∙ k ∙ ap argument_count (sym q))
+        (none_nowhere (marks_in t) c (in_marks true d gs) (in_marks true d es) must (λ x. ap (λ X. either (either (in_marks true d gs x) (in_marks true d es x)) (occurs_spine x X)) q ∙ sym (seen_set x) ∙ all_in d x (marked d (λ i. occurs_spine i S) ss) all))
+        (subst (λ X. LostOutcome (in_marks true d gs) (Allowed (marks_in t) c (in_marks true d gs) (in_marks true d es) must) 1 (marks_in t (target c.type)) X o) (sym q)
+          (subst (λ f. LostOutcome (in_marks true d gs) (Allowed (marks_in t) c (in_marks true d gs) (in_marks true d es) must) 1 (marks_in t f) S o) (sym e)
+            (subst (λ X. LostOutcome (in_marks true d gs) X 1 (marks_in t a) S o) same h)))
+    where
+      same : L ≡ Allowed (marks_in t) c (in_marks true d gs) (in_marks true d es) must
+      same =
+          w
+          ∙ ap (in_marks true d) r
+          ∙ marked_set (λ i. occurs_at os i S) d ss
+          ∙ ap (λ X i. either (X i) (occurs_at os i S)) settled_set
+          ∙ ap (λ ps i. either (either (in_marks true d gs i) (in_marks true d es i)) (occurs_at ps i S)) (p ∙ ap (λ f. output_places (marks_in t f)) (sym e))
+          ∙ ap (λ X i. either (either (in_marks true d gs i) (in_marks true d es i)) (occurs_at (output_places (marks_in t (target c.type))) i X)) (sym q)

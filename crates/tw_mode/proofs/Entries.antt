@@ -45,6 +45,12 @@ hidden_more : (ms : List Bool) (n : ℕ) → with_hidden ms (suc n) ≡ with_hid
 hidden_more ms zero = refl
 hidden_more ms (suc n) = hidden_more (ms ++ false ∷ []) n
 
+pub shown_next : (xs ms ns : List Bool) (n : ℕ) → ms ≡ with_shown xs n → ns ≡ ms ++ true ∷ [] → ns ≡ with_shown xs (n + 1)
+shown_next xs ms ns n e h = h ∙ ap (λ ys. ys ++ true ∷ []) e ∙ sym (shown_more xs n) ∙ ap (with_shown xs) (let q : suc n ≡ n + 1 = omega arith in q)
+
+pub hidden_next : (xs ms ns : List Bool) (n : ℕ) → ms ≡ with_hidden xs n → ns ≡ ms ++ false ∷ [] → ns ≡ with_hidden xs (n + 1)
+hidden_next xs ms ns n e h = h ∙ ap (λ ys. ys ++ false ∷ []) e ∙ sym (hidden_more xs n) ∙ ap (with_hidden xs) (let q : suc n ≡ n + 1 = omega arith in q)
+
 pub shown_count : (ms : List Bool) (n : ℕ) → length (with_shown ms n) ≡ length ms + n
 shown_count ms zero = omega arith
 shown_count ms (suc n) = let k = shown_count (ms ++ true ∷ []) n in let l = length-append ms (true ∷ []) in omega (arith, k, l)

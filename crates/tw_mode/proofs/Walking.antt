@@ -1,5 +1,5 @@
 -- A walk over the subgoals of a clause.
-use Rattle.std.proofs.Common.{◌≡◌, ℕ, zero, suc, ◌+◌, ◌-◌, ◌<◌, ◌≤◌, List, [], ◌∷◌, ◌++◌, Bool, true, false, length, length-append, map, refl, sym, ap, ap₂, ◌∙◌, subst, arith, inl, inr, true≢false}
+use Rattle.std.proofs.Common.{◌≡◌, ℕ, zero, suc, ◌+◌, ◌-◌, ◌<◌, ◌≤◌, List, [], ◌∷◌, ◌++◌, Bool, true, false, length, length-append, map, take, get_or, refl, sym, ap, ap₂, ◌∙◌, subst, arith, inl, inr, true≢false}
 use Rattle.std.specs.Prelude.{not, cond, Option, Some, None, ◌⊎◌, ◌↔◌}
 use Rattle.std.proofs.lemmas.List.{append_assoc}
 use Rattle.lf.specs.Entries.{quantifiers}
@@ -70,6 +70,25 @@ all_true (suc d) = (refl, all_true d)
 
 pub not_variables_set : (T : LfType) (d : ℕ) → in_marks true (d + quantifiers T) (after_all d (map not (shape T))) ≡ (λ x. either (outside T everything x) (not (is_variable everything T x)))
 not_variables_set T d = ap (in_marks true (d + quantifiers T)) (in_front d (map not (shape T))) ∙ shape_set T everything everything d (after_all d []) (all_count d) (fun_ext (λ i. all_in d i (after_all d []) (all_true d)))
+
+all_more : (d : ℕ) → after_all d [] ++ true ∷ [] ≡ after_all (suc d) []
+all_more zero = refl
+all_more (suc d) = ap (λ ys. true ∷ ys) (all_more d)
+
+pub all_pushed : (d : ℕ) (ms ns : List Bool) → ms ≡ after_all d [] → ns ≡ ms ++ true ∷ [] → ns ≡ after_all (d + 1) []
+all_pushed d ms ns e h = h ∙ ap (λ ys. ys ++ true ∷ []) e ∙ all_more d ∙ ap (λ n. after_all n []) (let q : suc d ≡ d + 1 = omega arith in q)
+
+behind_all : (d : ℕ) (xs ys : List Bool) → after_all d xs ++ ys ≡ after_all d (xs ++ ys)
+behind_all zero xs ys = refl
+behind_all (suc d) xs ys = ap (λ zs. true ∷ zs) (behind_all d xs ys)
+
+not_more : (xs : List Bool) (k : ℕ) → k < length xs → map not (take k xs) ++ not (get_or xs k false) ∷ [] ≡ map not (take (suc k) xs)
+not_more [] k h = absurd (omega (arith, h))
+not_more (x ∷ xs) zero h = refl
+not_more (x ∷ xs) (suc k) h = ap (λ zs. not x ∷ zs) (not_more xs k (omega (arith, h)))
+
+pub not_pushed : (d k : ℕ) (xs ms ns : List Bool) → k < length xs → ms ≡ after_all d (map not (take k xs)) → ns ≡ ms ++ not (get_or xs k false) ∷ [] → ns ≡ after_all d (map not (take (k + 1) xs))
+not_pushed d k xs ms ns l e h = h ∙ ap (λ ys. ys ++ not (get_or xs k false) ∷ []) e ∙ behind_all d (map not (take k xs)) (not (get_or xs k false) ∷ []) ∙ ap (after_all d) (not_more xs k l ∙ ap (λ n. map not (take n xs)) (let q : suc k ≡ k + 1 = omega arith in q))
 
 pub marks_after_all : (d : ℕ) (xs : List Bool) → length (after_all d xs) ≡ d + length xs
 marks_after_all zero xs = omega arith

@@ -20,6 +20,10 @@ use Rattle.tw_mode.specs.declared.outside.Outside.{Outside}
 abbrev pub after : (ℕ → List Mark) → (ℕ → Bool) → LfType → (ℕ → Bool) → ℕ → Bool
 after m F A U i = either (U i) (strict_goal (output_places (m (target A))) nothing F i A)
 
+-- E, and what stands in a free place of the subgoal A
+abbrev pub with_free : (ℕ → List Mark) → LfType → (ℕ → Bool) → ℕ → Bool
+with_free m A E x = either (E x) (occurs_goal (free_places (m (target A))) x A)
+
 -- so many more marks that say no
 abbrev pub with_hidden : List Bool → ℕ → List Bool
 with_hidden ms zero = ms
@@ -71,7 +75,7 @@ pub record Stands (m : ℕ → List Mark) (V : ℕ → Bool) (c : Clause) (depth
 -- a walk goes past the subgoal A
 pub record GoesPast (m : ℕ → List Mark) (F : ℕ → Bool) (depth : ℕ) (A : LfType) (old new : Walk) : Type 0 where
   pub ground : in_marks true depth new.ground.items ≡ after m F A (in_marks true depth old.ground.items)
-  pub excuses : in_marks true depth new.excused.items ≡ (λ x. either (in_marks true depth old.excused.items x) (occurs_goal (free_places (m (target A))) x A))
+  pub excuses : in_marks true depth new.excused.items ≡ with_free m A (in_marks true depth old.excused.items)
   pub each_ground : length new.ground.items ≡ length old.ground.items
   pub each_excused : length new.excused.items ≡ length old.excused.items
 

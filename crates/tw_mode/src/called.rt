@@ -1,5 +1,6 @@
 //! The families that a clause calls.
-ghost use Rattle.std.specs.Prelude.{◌≡◌, option_map, IfOk};
+ghost use Rattle.std.specs.Prelude.{◌≡◌, [], ◌∷◌, cond, option_map, IfOk};
+ghost use Rattle.lf.specs.Variables.{target as target_of_type};
 ghost use Rattle.lf_checks.specs.ModeRows.{called, called_by_hypotheses, first_unmoded};
 ghost use Rattle.lf_checks.specs.Parts.{shape as shape_of_type};
 ghost use Rattle.tw_terms.specs.View.{type_of};
@@ -32,14 +33,34 @@ fn unmoded_subgoal(
     ensures { IfOk result (λ f. option_map (λ c. c.0) f ≡ first_unmoded (moded_in table.now) (called (moded_in table.now) (type_of ty.now))) }
 {
     match ty {
-        Ty::Pi(domain, range) => match unmoded_subgoal(alloc, table, &shape[1..], range)? {
-            Some(family) => Ok(Some(family)),
-            None if shape[0] => Ok(None),
-            None if !table.has(target(domain)) => Ok(Some(target(domain))),
-            None => unmoded_hypothesis(alloc, table, domain),
-        },
+        Ty::Pi(domain, range) => {
+            let first = unmoded_subgoal(alloc, table, &shape[1..], range)?;
+            if first.is_some() {
+                return Ok(first);
+            }
+            unmoded_unless(alloc, table, shape[0], domain)
+        }
         Ty::Atom(_, _) => Ok(None),
     }
+}
+
+/// The first that a quantifier calls, which is no subgoal where it is a variable: its own family before those of its hypotheses.
+#[cycle(called)]
+fn unmoded_unless(
+    alloc: Global,
+    table: &Table,
+    is_variable: bool,
+    domain: &Ty,
+) -> Result<Option<ConstId>, AllocError>
+    ensures { IfOk result (λ f. option_map (λ c. c.0) f ≡ first_unmoded (moded_in table.now) (cond is_variable [] (target_of_type (type_of domain.now) ∷ called_by_hypotheses (moded_in table.now) (type_of domain.now)))) }
+{
+    if is_variable {
+        return Ok(None);
+    }
+    if !table.has(target(domain)) {
+        return Ok(Some(target(domain)));
+    }
+    unmoded_hypothesis(alloc, table, domain)
 }
 
 /// The first that the hypotheses of a subgoal call.
@@ -53,13 +74,23 @@ fn unmoded_hypothesis(
 {
     match goal {
         Ty::Pi(domain, range) => {
-            if table.has(target(domain)) {
-                if let Some(family) = unmoded(alloc, table, domain)? {
-                    return Ok(Some(family));
-                }
+            let first = unmoded_in(alloc, table, domain)?;
+            if first.is_some() {
+                return Ok(first);
             }
             unmoded_hypothesis(alloc, table, range)
         }
         Ty::Atom(_, _) => Ok(None),
     }
+}
+
+/// The first that a hypothesis calls, if its family has a mode.
+#[cycle(called)]
+fn unmoded_in(alloc: Global, table: &Table, domain: &Ty) -> Result<Option<ConstId>, AllocError>
+    ensures { IfOk result (λ f. option_map (λ c. c.0) f ≡ first_unmoded (moded_in table.now) (cond (moded_in table.now (target_of_type (type_of domain.now))) (called (moded_in table.now) (type_of domain.now)) [])) }
+{
+    if !table.has(target(domain)) {
+        return Ok(None);
+    }
+    unmoded(alloc, table, domain)
 }

@@ -1,18 +1,19 @@
 //! Whether a clause computes its outputs from its inputs: the first fault of a type seen as a clause.
-ghost use Rattle.std.specs.Prelude.{◌≡◌, ◌≤◌, ◌+◌, ℕ, suc, true, false, not, length, map, List, None, Decides, IfOk, OnOk};
+ghost use Rattle.std.specs.Prelude.{◌≡◌, ◌≤◌, ◌+◌, ℕ, suc, Bool, true, false, not, length, map, List, None, Decides, IfOk, OnOk};
 ghost use Rattle.lf.specs.Entries.{quantifiers, signature_of};
 ghost use Rattle.lf.specs.Syntax.{LfType};
-ghost use Rattle.lf.specs.Variables.{target as target_of_type};
-ghost use Rattle.lf_checks.specs.Clause.{Clause};
-ghost use Rattle.lf_checks.specs.Modes.{EachHypothesis, WellModedFrom};
+ghost use Rattle.lf.specs.Variables.{target as target_of_type, target_arguments};
+ghost use Rattle.lf_checks.specs.Marks.{free_places};
+ghost use Rattle.lf_checks.specs.Modes.{EachHypothesis, WellModedFrom, occurs_at};
 ghost use Rattle.lf_checks.specs.Parts.{shape as shape_of_type};
 ghost use Rattle.lf_checks.specs.Tests.{choose};
+ghost use Rattle.tw_clause.specs.Marks.{marked};
 ghost use Rattle.tw_terms.specs.View.{type_of};
-ghost use Rattle.tw_mode.specs.Checks.{Fits, Outcome};
+ghost use Rattle.tw_mode.specs.Checks.{Fits};
 ghost use Rattle.tw_mode.specs.Outcomes.{ClauseOutcome, NeedsOutcome, SubgoalOutcome, SubgoalsOutcome};
 ghost use Rattle.tw_mode.specs.Rows.{marks_in, moded_in};
 ghost use Rattle.tw_mode.specs.Scopes.{fixed_in, in_marks};
-ghost use Rattle.tw_mode.specs.Solved.{GoesPast, Stands, after_all, clause_in, domain_types, ground_outside};
+ghost use Rattle.tw_mode.specs.Solved.{Stands, after, after_all, clause_in, domain_types, excused, ground_outside, with_free};
 
 use crate::end::{Ending, end_fault};
 use crate::outside::Outside;
@@ -112,14 +113,46 @@ fn begin(
     ensures { IfOk result (λ w. (C : List LfType) → Stands (marks_in table.now) (ground_outside outside.now) (clause_in C outside.now (type_of ty.now)) scope.now.depth w 0) }
 {
     let ground = marks_in_head(alloc, table, scope, outside.ground, ty)?;
-    let mut excused = not_variables(alloc, outside.depth, shape)?;
-    let free = places_for(alloc, table, target(ty), Mark3::Free)?;
-    mark_at(&free, target_spine(ty), scope.depth, &mut excused)?;
+    let excused = excused_in_head(alloc, table, outside.depth, scope.depth, shape, ty)?;
     Ok(Walk {
         ground,
         excused,
         subgoals: 0,
     })
+}
+
+/// What needn't be ground, as far as the head tells: what stands outside, the subgoals, and what stands in a free place.
+fn excused_in_head(
+    alloc: Global,
+    table: &Table,
+    outside: u64,
+    depth: u64,
+    shape: &[bool],
+    ty: &Ty,
+) -> Result<Vec<bool>, AllocError>
+    requires depth { depth ≡ outside + quantifiers (type_of ty.now) }
+    requires shape { shape.now ≡ shape_of_type (type_of ty.now) }
+    ensures excuses { IfOk result (λ v. (C : List LfType) (F : ℕ → Bool) → in_marks true depth v.items ≡ excused (marks_in table.now) (record { outer = C; fixed = F; type = type_of ty.now }) 0) }
+    ensures len { IfOk result (λ v. length v.items ≡ depth) }
+{
+    let mut marks = not_variables(alloc, outside, shape)?;
+    mark_free_in_head(alloc, table, depth, ty, &mut marks)?;
+    Ok(marks)
+}
+
+/// Marks the variables in the free places of a head.
+fn mark_free_in_head(
+    alloc: Global,
+    table: &Table,
+    depth: u64,
+    ty: &Ty,
+    marks: &mut [bool],
+) -> Result<(), AllocError>
+    requires { length marks.old ≤ depth }
+    ensures { OnOk result (marks.new ≡ marked depth (λ i. occurs_at (free_places (marks_in table.now (target_of_type (type_of ty.now)))) i (target_arguments (type_of ty.now))) marks.old) }
+{
+    let free = places_for(alloc, table, target(ty), Mark3::Free)?;
+    mark_at(&free, target_spine(ty), depth, marks)
 }
 
 /// The marks of what stands outside a type and of its subgoals.
@@ -206,7 +239,10 @@ fn step(
     requires fits { Fits (signature_of sig.now) (type_of goal.now) }
     ensures outcome { IfOk result (λ f. SubgoalOutcome (signature_of sig.now) table.now (fixed_in scope.now) (in_marks true scope.now.depth walk.old.ground.items) (type_of goal.now) f) }
     ensures subgoals { OnOk result (walk.new.subgoals ≡ suc walk.old.subgoals) }
-    ensures goes_past { IfOk result (λ f. f ≡ None → GoesPast (marks_in table.now) (fixed_in scope.now) scope.now.depth (type_of goal.now) walk.old walk.new) }
+    ensures ground { IfOk result (λ f. f ≡ None → in_marks true scope.now.depth walk.new.ground.items ≡ after (marks_in table.now) (fixed_in scope.now) (type_of goal.now) (in_marks true scope.now.depth walk.old.ground.items)) }
+    ensures excuses { IfOk result (λ f. f ≡ None → in_marks true scope.now.depth walk.new.excused.items ≡ with_free (marks_in table.now) (type_of goal.now) (in_marks true scope.now.depth walk.old.excused.items)) }
+    ensures each_ground { IfOk result (λ f. f ≡ None → length walk.new.ground.items ≡ scope.now.depth) }
+    ensures each_excused { IfOk result (λ f. f ≡ None → length walk.new.excused.items ≡ scope.now.depth) }
 {
     walk.subgoals = one_more(walk.subgoals)?;
     if let Some(argument) = subgoal_fault(alloc, sig, table, scope, &walk.ground, goal)? {
@@ -226,15 +262,48 @@ fn solve_goal(
 ) -> Result<(), AllocError>
     requires head { scope.now.bound ≡ 0 }
     requires fixed { length scope.now.fixed.now ≤ scope.now.depth }
-    requires ground { length walk.old.ground.items ≤ scope.now.depth }
-    requires excused { length walk.old.excused.items ≤ scope.now.depth }
+    requires ground { length walk.old.ground.items ≡ scope.now.depth }
+    requires excused { length walk.old.excused.items ≡ scope.now.depth }
     ensures subgoals { OnOk result (walk.new.subgoals ≡ walk.old.subgoals) }
-    ensures goes_past { OnOk result (GoesPast (marks_in table.now) (fixed_in scope.now) scope.now.depth (type_of goal.now) walk.old walk.new) }
+    ensures ground { OnOk result (in_marks true scope.now.depth walk.new.ground.items ≡ after (marks_in table.now) (fixed_in scope.now) (type_of goal.now) (in_marks true scope.now.depth walk.old.ground.items)) }
+    ensures excuses { OnOk result (in_marks true scope.now.depth walk.new.excused.items ≡ with_free (marks_in table.now) (type_of goal.now) (in_marks true scope.now.depth walk.old.excused.items)) }
+    ensures each_ground { OnOk result (length walk.new.ground.items ≡ scope.now.depth) }
+    ensures each_excused { OnOk result (length walk.new.excused.items ≡ scope.now.depth) }
 {
-    let outputs = places_for(alloc, table, target(goal), Mark3::Minus)?;
-    mark_strict_goal(alloc, scope, &outputs, goal, &mut walk.ground)?;
-    let free = places_for(alloc, table, target(goal), Mark3::Free)?;
-    mark_goal(&free, goal, scope.depth, &mut walk.excused)
+    mark_outputs(alloc, table, scope, goal, &mut walk.ground)?;
+    mark_free(alloc, table, scope.depth, goal, &mut walk.excused)
+}
+
+/// Marks what becomes ground after a subgoal.
+fn mark_outputs(
+    alloc: Global,
+    table: &Table,
+    scope: &Scope,
+    goal: &Ty,
+    ground: &mut [bool],
+) -> Result<(), AllocError>
+    requires head { scope.now.bound ≡ 0 }
+    requires fixed { length scope.now.fixed.now ≤ scope.now.depth }
+    requires marks { length ground.old ≤ scope.now.depth }
+    ensures { OnOk result (in_marks true scope.now.depth ground.new ≡ after (marks_in table.now) (fixed_in scope.now) (type_of goal.now) (in_marks true scope.now.depth ground.old)) }
+{
+    let places = places_for(alloc, table, target(goal), Mark3::Minus)?;
+    mark_strict_goal(alloc, scope, &places, goal, ground)
+}
+
+/// Marks what stands in a free place of a subgoal.
+fn mark_free(
+    alloc: Global,
+    table: &Table,
+    depth: u64,
+    goal: &Ty,
+    excused: &mut [bool],
+) -> Result<(), AllocError>
+    requires { length excused.old ≤ depth }
+    ensures { OnOk result (in_marks true depth excused.new ≡ with_free (marks_in table.now) (type_of goal.now) (in_marks true depth excused.old)) }
+{
+    let places = places_for(alloc, table, target(goal), Mark3::Free)?;
+    mark_goal(&places, goal, depth, excused)
 }
 
 /// The first fault of a subgoal, by its argument: unsound marks; a variable that isn't ground in a hypothesis' type, and in an input; a hypothesis that isn't

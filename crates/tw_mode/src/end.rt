@@ -1,6 +1,6 @@
 //! The end of a clause: whether all is ground that must be.
-ghost use Rattle.std.specs.Prelude.{◌≡◌, ◌≤◌, true, length, map, Decides, IfOk, All};
-ghost use Rattle.lf_checks.specs.Modes.{occurs_at};
+ghost use Rattle.std.specs.Prelude.{◌≡◌, ◌≤◌, true, length, map, Decides, IfOk};
+ghost use Rattle.lf_checks.specs.Tests.{either};
 ghost use Rattle.lf_unification.specs.Search.{occurs_spine};
 ghost use Rattle.tw_clause.specs.Marks.{marked};
 ghost use Rattle.tw_clause.specs.View.{mark_of};
@@ -93,6 +93,13 @@ fn are_all(marks: &[bool]) -> bool
     true
 }
 
+/// Whether one of two says yes.
+fn is_either(one: bool, other: bool) -> bool
+    ensures { result ≡ either one other }
+{
+    one || other
+}
+
 /// For each place, whether one of two marks says yes.
 fn either_marked(alloc: Global, one: &[bool], other: &[bool]) -> Result<Vec<bool>, AllocError>
     requires { length one.now ≡ length other.now }
@@ -100,7 +107,7 @@ fn either_marked(alloc: Global, one: &[bool], other: &[bool]) -> Result<Vec<bool
 {
     let mut marks = Vec::with_capacity(alloc, one.len())?;
     for (place, mark) in one.iter().enumerate() {
-        marks.push(*mark || other[place])?;
+        marks.push(is_either(*mark, other[place]))?;
     }
     Ok(marks)
 }

@@ -1,9 +1,9 @@
 //! The rows of modes, found by their families.
-ghost use Rattle.std.specs.Prelude.{◌≡◌, ℕ, map, is_some, IfOk};
-ghost use Rattle.lf_checks.specs.ModeRows.{or_no_marks, row_of};
+ghost use Rattle.std.specs.Prelude.{◌≡◌, ℕ, map, IfOk, OnOk};
+ghost use Rattle.lf_checks.specs.ModeRows.{row_of};
 ghost use Rattle.tw_clause.specs.Tables.{mode_rows_of};
 ghost use Rattle.tw_clause.specs.View.{mark_of};
-ghost use Rattle.tw_mode.specs.Rows.{row_in, marks_in, moded_in};
+ghost use Rattle.tw_mode.specs.Rows.{marks_in, moded_in, row_in, with_row};
 
 use std::alloc::{AllocError, Global};
 use std::collections::HashMap;
@@ -25,11 +25,20 @@ impl<'a> Table<'a> {
             rows: HashMap::new(alloc),
         };
         for (family, marks) in &modes.rows {
-            if !table.rows.contains_key(&family.0) {
-                table.rows.insert(family.0, marks.as_slice())?;
-            }
+            table.add(*family, marks.as_slice())?;
         }
         Ok(table)
+    }
+
+    /// Adds a row, which counts if the family has none.
+    fn add(&mut self, family: ConstId, marks: &'a [Mark3]) -> Result<(), AllocError>
+        ensures { OnOk result ((f : ℕ) → row_in self.new f ≡ with_row family.0 (map mark_of marks.now) (row_in self.old) f) }
+    {
+        if self.has(family) {
+            return Ok(());
+        }
+        self.rows.insert(family.0, marks)?;
+        Ok(())
     }
 
     /// The marks of a family; one without a row has none.

@@ -1,4 +1,4 @@
-use Rattle.std.proofs.Common.{◌≡◌, ◌+◌, arith, drop, subst}
+use Rattle.std.proofs.Common.{◌≡◌, ◌+◌, arith, drop, false, subst, true}
 use Rattle.std.specs.Prelude.{Decides}
 use Rattle.lf.specs.Syntax.{lambda}
 use Rattle.lf.specs.Variables.{UsesSpine}
@@ -21,7 +21,7 @@ uses_spine-returns-then-not-branch t c =
     let k = c.loop-arg.arg-index in
     let U = allowed_in c.args.allowed.now in
     let whole : args_of items ≡ spine_of c.args.spine.now = grind (arith, types) in
-    subst (λ S. Decides _ (UsesSpine U S)) whole (spine_fails c.in_ok-uses_term.field-0 U (args_of (drop k items)) (args_of (drop (k + 1) items)) (args_of items) (term_of c.arg-item.result) c.if-not-branch.true (args_at items k c.arg-item.result (omega arith) c.arg-item.is) c.in_ok-uses_term.ensures c.loop-arg.invariant)
+    subst (λ S. Decides false (UsesSpine U S)) whole (spine_fails c.in_ok-uses_term.field-0 U (args_of (drop k items)) (args_of (drop (k + 1) items)) (args_of items) (term_of c.arg-item.result) c.if-not-branch.true (args_at items k c.arg-item.result (omega arith) c.arg-item.is) c.in_ok-uses_term.ensures c.loop-arg.invariant)
 
 pub uses_spine-loop-arg-preserved : goal.uses_spine-loop-arg-preserved
 uses_spine-loop-arg-preserved t c =
@@ -35,4 +35,4 @@ uses_spine-returns t c =
     let items = c.deref-arg-items.result.now in
     let U = allowed_in c.args.allowed.now in
     let whole : args_of items ≡ spine_of c.args.spine.now = grind (arith, types) in
-    subst (λ S. Decides _ (UsesSpine U S)) whole (spine_done U c.loop-arg.arg-index items (args_of items) (omega arith) c.loop-arg.invariant)
+    subst (λ S. Decides true (UsesSpine U S)) whole (spine_done U c.loop-arg.arg-index items (args_of items) (omega arith) c.loop-arg.invariant)
