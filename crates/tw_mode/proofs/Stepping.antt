@@ -1,0 +1,120 @@
+-- One step of a walk over the quantifiers of a type, from the last one on.
+use Rattle.std.proofs.Common.{◌≡◌, ℕ, zero, suc, ◌+◌, ◌-◌, ◌<◌, ◌≤◌, List, [], ◌∷◌, Bool, true, false, Some, None, Option, length, get_or, map, refl, sym, ap, ap₂, ◌∙◌, subst, arith}
+use Rattle.std.specs.Prelude.{not}
+use Rattle.lf.specs.AtOnce.{shift_by}
+use Rattle.lf.specs.Entries.{kind_quantifiers, quantifiers}
+use Rattle.lf.specs.Syntax.{LfType, rename_type}
+use Rattle.lf.specs.Typing.{Signature}
+use Rattle.lf.specs.Variables.{everything, target, target_arguments}
+use Rattle.lf_unification.specs.Search.{occurs_type}
+use Rattle.lf_checks.specs.Clause.{Clause, outside, scope, variables}
+use Rattle.lf_checks.specs.Ground.{ground_from}
+use Rattle.lf_checks.specs.GroundUntil.{ground_at_end, ground_until}
+use Rattle.lf_checks.specs.Marks.{Mark, HasSoundMarks}
+use Rattle.lf_checks.specs.ModeFaults.{EndFault, HasUnsoundMarks, ModeFaultFrom, ModedBefore, SubgoalFault, SubgoalIsModed, of_end, of_head}
+use Rattle.lf_checks.specs.ModeForms.{argument_count}
+use Rattle.lf_checks.specs.Modes.{AllGround}
+use Rattle.lf_checks.specs.Parts.{count_below, shape, type_at}
+use Rattle.tw_mode.specs.Checks.{Fits, Outcome}
+use Rattle.tw_mode.specs.Outcomes.{ClauseOutcome, EndOutcome, SubgoalOutcome, SubgoalsOutcome, plain_place}
+use Rattle.tw_mode.specs.Rows.{marks_in, moded_in}
+use Rattle.tw_mode.specs.Scopes.{in_marks}
+use Rattle.tw_mode.specs.Solved.{FirstFaulty, GoesPast, Stands, clause_in, domain_types, excused, ground_outside}
+use Rattle.tw_mode.specs.declared.clause.Place.{Place}
+use Rattle.tw_mode.specs.declared.clause.Walk.{Walk}
+use Rattle.tw_mode.specs.declared.outside.Outside.{Outside}
+use Rattle.tw_mode.specs.declared.table.Table.{Table}
+use Rattle.tw_mode.proofs.Quantified.{domain_at, domain_uses, fits_target, shape_at, sound_count}
+use Rattle.tw_mode.proofs.Until.{outside_fixed}
+use Rattle.tw_mode.proofs.Walking.{before_past_goal, before_past_variable, excused_means, fault_of_subgoal, first_faulty, is_subgoal_at, met_past_goal, passes, stands_past_goal, stands_past_variable}
+
+pub map_get : {A B : Type 0} (f : A → B) (xs : List A) (k : ℕ) (x : A) (y : B) → k < length xs → x ≡ get_or xs k x → f x ≡ get_or (map f xs) k y
+map_get f [] k x y h e = absurd (omega (arith, h))
+map_get f (z ∷ xs) zero x y h e = ap f e
+map_get f (z ∷ xs) (suc k) x y h e = map_get f xs k x y (omega (arith, h)) e
+
+-- The quantifier with so many left before it.
+module _ (C : List LfType) (o : Outside) (T : LfType) (left : ℕ) (h : left < quantifiers T) where
+  abbrev Here : ℕ
+  Here = quantifiers T - suc left
+
+  next : quantifiers T - left ≡ suc Here
+  next = omega (arith, h)
+
+  place : quantifiers T - 1 - Here ≡ left
+  place = omega (arith, h)
+
+  inside : Here < quantifiers T
+  inside = omega (arith, h)
+
+  is_variable_here : (b : Bool) → get_or (shape T) left false ≡ b → variables (clause_in C o T) Here ≡ b
+  is_variable_here b e = shape_at T everything Here inside ∙ ap (λ k. get_or (shape T) k false) place ∙ e
+
+  type_here : (D A : LfType) → A ≡ rename_type (shift_by (quantifiers T - left)) (get_or (domain_types T) left D) → type_at (scope (clause_in C o T)) Here ≡ Some A
+  type_here D A e = domain_at T C Here D inside ∙ ap₂ (λ n k. Some (rename_type (shift_by n) (get_or (domain_types T) k D))) (sym next) place ∙ ap Some (sym e)
+
+  uses_here : (D A : LfType) → A ≡ rename_type (shift_by (quantifiers T - left)) (get_or (domain_types T) left D) → (x : ℕ) → occurs_type x A ≡ true → variables (clause_in C o T) x ≡ true
+  uses_here D A e x q = domain_uses T everything Here D x (λ j r. refl) inside (ap₂ (λ n k. occurs_type x (rename_type (shift_by n) (get_or (domain_types T) k D))) (sym next) place ∙ ap (occurs_type x) (sym e) ∙ q)
+
+module _ (Σ : Signature) (t : Table) (o : Outside) (T : LfType) (depth : ℕ) (f : length o.fixed.now ≤ o.depth) (d : depth ≡ o.depth + quantifiers T) where
+  abbrev AllStand : Walk → ℕ → Type 0
+  AllStand w i = (C : List LfType) → Stands (marks_in t) (ground_outside o) (clause_in C o T) depth w i
+
+  abbrev AllBefore : ℕ → Type 0
+  AllBefore i = (C : List LfType) → ModedBefore Σ (marks_in t) (moded_in t) (ground_outside o) (clause_in C o T) i
+
+  same_fixed : outside T (in_marks false o.depth o.fixed.now) ≡ in_marks false depth o.fixed.now
+  same_fixed = sym (ap (λ n. in_marks false n o.fixed.now) d ∙ outside_fixed T o.depth o.fixed.now f)
+
+  module _ (left : ℕ) (h : left < quantifiers T) where
+    pub walked_variable : (w : Walk) → get_or (shape T) left false ≡ true → AllStand w (quantifiers T - suc left) → AllStand w (quantifiers T - left)
+    walked_variable w e s C = subst (Stands (marks_in t) (ground_outside o) (clause_in C o T) depth w) (sym (next C o T left h)) (stands_past_variable (marks_in t) (ground_outside o) (clause_in C o T) depth w (quantifiers T - suc left) (is_variable_here C o T left h true e) (s C))
+
+    pub before_variable : get_or (shape T) left false ≡ true → AllBefore (quantifiers T - suc left) → AllBefore (quantifiers T - left)
+    before_variable e b C = subst (ModedBefore Σ (marks_in t) (moded_in t) (ground_outside o) (clause_in C o T)) (sym (next C o T left h)) (before_past_variable Σ (marks_in t) (moded_in t) (ground_outside o) (clause_in C o T) (quantifiers T - suc left) (is_variable_here C o T left h true e) (b C))
+
+    module _ (D A : LfType) (e : get_or (shape T) left false ≡ false) (a : A ≡ rename_type (shift_by (quantifiers T - left)) (get_or (domain_types T) left D)) where
+      pub walked_goal : (old new : Walk) → AllStand old (quantifiers T - suc left) → GoesPast (marks_in t) (in_marks false depth o.fixed.now) depth A old new → new.subgoals ≡ suc old.subgoals → AllStand new (quantifiers T - left)
+      walked_goal old new s g q C = subst (Stands (marks_in t) (ground_outside o) (clause_in C o T) depth new) (sym (next C o T left h)) (stands_past_goal (marks_in t) (ground_outside o) (clause_in C o T) depth (in_marks false depth o.fixed.now) A old new (quantifiers T - suc left) (is_variable_here C o T left h false e) (type_here C o T left h D A a) same_fixed (uses_here C o T left h D A a) (s C) g q)
+
+      outcome_here : (w : Walk) (r : Option ℕ) → AllStand w (quantifiers T - suc left) → SubgoalOutcome Σ t (in_marks false depth o.fixed.now) (in_marks true depth w.ground.items) A r → (C : List LfType) → Outcome (SubgoalIsModed Σ (marks_in t) (moded_in t) (clause_in C o T) (ground_until (ground_outside o) (marks_in t) (clause_in C o T) (quantifiers T - suc left)) A) (SubgoalFault Σ (marks_in t) (moded_in t) (clause_in C o T) (ground_until (ground_outside o) (marks_in t) (clause_in C o T) (quantifiers T - suc left)) A) r
+      outcome_here w r s g C = let x : Stands (marks_in t) (ground_outside o) (clause_in C o T) depth w (quantifiers T - suc left) = s C in subst (λ U. Outcome (SubgoalIsModed Σ (marks_in t) (moded_in t) (clause_in C o T) U A) (SubgoalFault Σ (marks_in t) (moded_in t) (clause_in C o T) U A) r) x.ground (g (clause_in C o T) same_fixed)
+
+      pub before_goal : (w : Walk) → AllStand w (quantifiers T - suc left) → SubgoalOutcome Σ t (in_marks false depth o.fixed.now) (in_marks true depth w.ground.items) A None → AllBefore (quantifiers T - suc left) → AllBefore (quantifiers T - left)
+      before_goal w s g b C = subst (ModedBefore Σ (marks_in t) (moded_in t) (ground_outside o) (clause_in C o T)) (sym (next C o T left h)) (before_past_goal Σ (marks_in t) (moded_in t) (ground_outside o) (clause_in C o T) (quantifiers T - suc left) A (type_here C o T left h D A a) (outcome_here w None s g C) (b C))
+
+      pub faulty_goal : (old new : Walk) (j : ℕ) → AllStand old (quantifiers T - suc left) → SubgoalOutcome Σ t (in_marks false depth o.fixed.now) (in_marks true depth old.ground.items) A (Some j) → AllBefore (quantifiers T - suc left) → new.subgoals ≡ suc old.subgoals → SubgoalsOutcome Σ t o T depth new (Some j)
+      faulty_goal old new j s g b q C =
+          first_faulty Σ (marks_in t) (moded_in t) (ground_outside o) (clause_in C o T) (quantifiers T - suc left) A new.subgoals j
+            (is_subgoal_at Σ (marks_in t) (moded_in t) (ground_outside o) (clause_in C o T) (quantifiers T - suc left) A (is_variable_here C o T left h false e) (type_here C o T left h D A a))
+            (met_past_goal (marks_in t) (ground_outside o) (clause_in C o T) depth old new.subgoals (quantifiers T - suc left) (is_variable_here C o T left h false e) (s C) q)
+            (b C) (outcome_here old (Some j) s g C)
+
+  pub all_walked : (w : Walk) (n : ℕ) → n ≡ quantifiers T → AllStand w n → AllBefore n → SubgoalsOutcome Σ t o T depth w None
+  all_walked w n e s b C = (subst (Stands (marks_in t) (ground_outside o) (clause_in C o T) depth w) e (s C), subst (ModedBefore Σ (marks_in t) (moded_in t) (ground_outside o) (clause_in C o T)) e (b C))
+
+  -- What a type as a clause comes to.
+  pub clause_unsound : (p : Place) (j : ℕ) → plain_place p ≡ record { subgoal = 0; argument = j } → HasUnsoundMarks Σ (target T) (marks_in t (target T)) j → ClauseOutcome Σ t o T (Some p)
+  clause_unsound p j e h C = subst (λ at. ModeFaultFrom Σ (marks_in t) (moded_in t) (ground_outside o) (clause_in C o T) at) (sym e) (of_head h)
+
+  pub clause_faulty : (p : Place) (w : Walk) (j : ℕ) → plain_place p ≡ record { subgoal = w.subgoals; argument = j } → HasSoundMarks Σ (target T) (marks_in t (target T)) → SubgoalsOutcome Σ t o T depth w (Some j) → ClauseOutcome Σ t o T (Some p)
+  clause_faulty p w j e s h C = subst (λ at. ModeFaultFrom Σ (marks_in t) (moded_in t) (ground_outside o) (clause_in C o T) at) (sym e) (fault_of_subgoal Σ (marks_in t) (moded_in t) (ground_outside o) (clause_in C o T) s w.subgoals j (h C))
+
+  module _ (w : Walk) (s : HasSoundMarks Σ (target T) (marks_in t (target T))) (fits : Fits Σ T) (walked : SubgoalsOutcome Σ t o T depth w None) where
+    as_many : length (marks_in t (target T)) ≡ argument_count (target_arguments T)
+    as_many = let (K, k, n) = fits_target Σ T fits in let (L, l, m) = s in let q : L ≡ K = one (sym l ∙ k) in sound_count _ (marks_in t (target T)) L m ∙ ap kind_quantifiers q ∙ n
+      where
+        one : {X : Type 0} {x y : X} → Some x ≡ Some y → x ≡ y
+        one e = cc
+
+    pub ended : (r : Option ℕ) → EndOutcome t (in_marks true depth w.ground.items) (in_marks true depth w.excused.items) (target T) (target_arguments T) r → (C : List LfType) → Outcome (AllGround (marks_in t) (clause_in C o T) (ground_at_end (ground_outside o) (marks_in t) (clause_in C o T))) (EndFault (marks_in t) (clause_in C o T) (ground_at_end (ground_outside o) (marks_in t) (clause_in C o T))) r
+    ended r g C =
+        let x : Stands (marks_in t) (ground_outside o) (clause_in C o T) depth w (quantifiers T) = (walked C).0 in
+        subst (λ U. Outcome (AllGround (marks_in t) (clause_in C o T) U) (EndFault (marks_in t) (clause_in C o T) U) r) x.ground
+          (g (clause_in C o T) refl refl as_many (λ y. ((λ e. (excused_means (marks_in t) (clause_in C o T) y).0 (sym (ap (λ X. X y) x.excuses) ∙ e)), (λ m. ap (λ X. X y) x.excuses ∙ (excused_means (marks_in t) (clause_in C o T) y).1 m))))
+
+    pub clause_ends : (p : Place) (j : ℕ) → plain_place p ≡ record { subgoal = 0; argument = j } → EndOutcome t (in_marks true depth w.ground.items) (in_marks true depth w.excused.items) (target T) (target_arguments T) (Some j) → ClauseOutcome Σ t o T (Some p)
+    clause_ends p j e g C = subst (λ at. ModeFaultFrom Σ (marks_in t) (moded_in t) (ground_outside o) (clause_in C o T) at) (sym e) (of_end s (walked C).1 (ended (Some j) g C))
+
+    pub clause_passes : EndOutcome t (in_marks true depth w.ground.items) (in_marks true depth w.excused.items) (target T) (target_arguments T) None → ClauseOutcome Σ t o T None
+    clause_passes g C = passes Σ (marks_in t) (moded_in t) (ground_outside o) (clause_in C o T) s (walked C).1 (ended None g C)
