@@ -1,10 +1,11 @@
 -- The first family without a mode, one quantifier after the other.
 use Rattle.std.proofs.Common.{◌≡◌, ℕ, zero, suc, List, [], ◌∷◌, ◌++◌, Bool, true, false, refl, sym, ap, ◌∙◌, subst}
-use Rattle.std.specs.Prelude.{Option, Some, None, cond}
+use Rattle.std.specs.Prelude.{Option, Some, None, cond, is_some, option_map}
 use Rattle.lf.specs.Syntax.{LfType, pi, atom}
 use Rattle.lf.specs.Variables.{target}
 use Rattle.lf_unification.specs.Search.{occurs_type}
 use Rattle.lf_checks.specs.ModeRows.{called, called_by_hypotheses, first_unmoded}
+use Rattle.tw_terms.specs.declared.canonical.ConstId.{ConstId}
 
 module _ (moded : ℕ → Bool) where
   pub unmoded_first : (xs ys : List ℕ) (f : ℕ) → first_unmoded moded xs ≡ Some f → first_unmoded moded (xs ++ ys) ≡ Some f
@@ -33,24 +34,19 @@ module _ (moded : ℕ → Bool) where
   pub called_before : (T A B : LfType) (f : ℕ) → T ≡ pi A B → Some f ≡ Calls B → Some f ≡ Calls T
   called_before T A B f e h = sym (ap Calls e ∙ unmoded_first (called moded B) (cond (occurs_type zero B) [] (target A ∷ called_by_hypotheses moded A)) f (sym h))
 
-  past : (A B : LfType) (b : Bool) → occurs_type zero B ≡ b → None ≡ Calls B → Calls (pi A B) ≡ first_unmoded moded (cond b [] (target A ∷ called_by_hypotheses moded A))
-  past A B b o h = unmoded_behind (called moded B) (cond (occurs_type zero B) [] (target A ∷ called_by_hypotheses moded A)) (sym h) ∙ ap (λ t. first_unmoded moded (cond t [] (target A ∷ called_by_hypotheses moded A))) o
+  -- what was found first, as an option
+  pub hypothesis_first : (T A B : LfType) (o : Option ConstId) → T ≡ pi A B → is_some o ≡ true → option_map (λ c. c.0) o ≡ first_unmoded moded (cond (moded (target A)) (called moded A) []) → option_map (λ c. c.0) o ≡ HypothesisCalls T
+  hypothesis_first T A B None e s h = absurd cc
+  hypothesis_first T A B (Some f) e s h = sym (ap HypothesisCalls e ∙ unmoded_first (cond (moded (target A)) (called moded A) []) (called_by_hypotheses moded B) f.0 (sym h))
 
-  pub called_variable : (T A B : LfType) → T ≡ pi A B → None ≡ Calls B → occurs_type zero B ≡ true → None ≡ Calls T
-  called_variable T A B e h o = sym (ap Calls e ∙ past A B true o h)
+  pub hypothesis_rest : (T A B : LfType) (o : Option ConstId) (r : Option ℕ) → T ≡ pi A B → is_some o ≡ false → option_map (λ c. c.0) o ≡ first_unmoded moded (cond (moded (target A)) (called moded A) []) → r ≡ HypothesisCalls B → r ≡ HypothesisCalls T
+  hypothesis_rest T A B (Some f) r e s h q = absurd cc
+  hypothesis_rest T A B None r e s h q = q ∙ sym (ap HypothesisCalls e ∙ unmoded_behind (cond (moded (target A)) (called moded A) []) (called_by_hypotheses moded B) (sym h))
 
-  pub called_unmoded : (T A B : LfType) → T ≡ pi A B → None ≡ Calls B → occurs_type zero B ≡ false → moded (target A) ≡ false → Some (target A) ≡ Calls T
-  called_unmoded T A B e h o u = sym (ap Calls e ∙ past A B false o h ∙ ap (λ t. cond t (HypothesisCalls A) (Some (target A))) u)
+  pub called_first : (T A B : LfType) (o : Option ConstId) → T ≡ pi A B → is_some o ≡ true → option_map (λ c. c.0) o ≡ Calls B → option_map (λ c. c.0) o ≡ Calls T
+  called_first T A B None e s h = absurd cc
+  called_first T A B (Some f) e s h = called_before T A B f.0 e h
 
-  pub called_moded : (T A B : LfType) (r : Option ℕ) → T ≡ pi A B → None ≡ Calls B → occurs_type zero B ≡ false → moded (target A) ≡ true → r ≡ HypothesisCalls A → r ≡ Calls T
-  called_moded T A B r e h o u q = q ∙ sym (ap Calls e ∙ past A B false o h ∙ ap (λ t. cond t (HypothesisCalls A) (Some (target A))) u)
-
-  -- the hypotheses of a subgoal
-  pub hypothesis_found : (T A B : LfType) (f : ℕ) → T ≡ pi A B → moded (target A) ≡ true → Some f ≡ Calls A → Some f ≡ HypothesisCalls T
-  hypothesis_found T A B f e u h = sym (ap HypothesisCalls e ∙ ap (λ t. first_unmoded moded (cond t (called moded A) [] ++ called_by_hypotheses moded B)) u ∙ unmoded_first (called moded A) (called_by_hypotheses moded B) f (sym h))
-
-  pub hypothesis_past : (T A B : LfType) (r : Option ℕ) → T ≡ pi A B → moded (target A) ≡ true → None ≡ Calls A → r ≡ HypothesisCalls B → r ≡ HypothesisCalls T
-  hypothesis_past T A B r e u h q = q ∙ sym (ap HypothesisCalls e ∙ ap (λ t. first_unmoded moded (cond t (called moded A) [] ++ called_by_hypotheses moded B)) u ∙ unmoded_behind (called moded A) (called_by_hypotheses moded B) (sym h))
-
-  pub hypothesis_unmoded : (T A B : LfType) (r : Option ℕ) → T ≡ pi A B → moded (target A) ≡ false → r ≡ HypothesisCalls B → r ≡ HypothesisCalls T
-  hypothesis_unmoded T A B r e u q = q ∙ sym (ap HypothesisCalls e ∙ ap (λ t. first_unmoded moded (cond t (called moded A) [] ++ called_by_hypotheses moded B)) u)
+  pub called_rest : (T A B : LfType) (o : Option ConstId) (b : Bool) (r : Option ℕ) → T ≡ pi A B → is_some o ≡ false → option_map (λ c. c.0) o ≡ Calls B → b ≡ occurs_type zero B → r ≡ first_unmoded moded (cond b [] (target A ∷ called_by_hypotheses moded A)) → r ≡ Calls T
+  called_rest T A B (Some f) b r e s h v q = absurd cc
+  called_rest T A B None b r e s h v q = q ∙ sym (ap Calls e ∙ unmoded_behind (called moded B) (cond (occurs_type zero B) [] (target A ∷ called_by_hypotheses moded A)) (sym h) ∙ ap (λ t. first_unmoded moded (cond t [] (target A ∷ called_by_hypotheses moded A))) (sym v))

@@ -101,6 +101,11 @@ all_behind [] k h a = absurd (omega (arith, h))
 all_behind (m ∷ ms) zero h a = a.1
 all_behind (m ∷ ms) (suc k) h a = all_behind ms k (omega (arith, h)) a
 
+pub all_stable : (ms : List Bool) → ((AreAllTrue ms → ⊥) → ⊥) → AreAllTrue ms
+all_stable [] h = tt
+all_stable (true ∷ ms) h = (refl, all_stable ms (λ n. h (λ a. n a.1)))
+all_stable (false ∷ ms) h = absurd (h (λ a. true≢false (sym a.0)))
+
 -- A term uses variables of a set only, or one outside it occurs.
 abbrev Unused : (ℕ → Bool) → Term → Type 0
 Unused U M = (x : ℕ) × (occurs x M ≡ true) × (U x ≡ false)

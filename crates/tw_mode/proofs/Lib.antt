@@ -17,3 +17,4 @@ pub mod Entries
 pub mod Listing
 pub mod Grouping
 pub mod Tabling
+pub mod Stepping

@@ -1,13 +1,14 @@
 -- The clauses of a group, one place after the other.
-use Rattle.std.proofs.Common.{◌≡◌, ℕ, zero, suc, ◌+◌, ◌<◌, List, [], ◌∷◌, ◌++◌, Bool, true, false, Some, None, Option, length, drop, get_or, map, refl, sym, ap, ap₂, ◌∙◌, subst, arith}
+use Rattle.std.proofs.Common.{◌≡◌, ℕ, zero, suc, ◌+◌, ◌<◌, ◌≤◌, List, [], ◌∷◌, ◌++◌, Bool, true, false, Some, None, Option, length, drop, get_or, map, refl, sym, ap, ap₂, ◌∙◌, subst, arith}
 use Rattle.std.specs.Prelude.{cond, slice_get}
 use Rattle.std.proofs.lemmas.List.{append_assoc}
+use Rattle.std.proofs.Math.ListN.{drop_of_length-le}
 use Rattle.lf.specs.Entries.{Entry as PlainEntry, signature_of}
 use Rattle.lf.specs.Subordination.{Block}
 use Rattle.lf.specs.Syntax.{LfType}
 use Rattle.lf.specs.Variables.{same_number, target}
 use Rattle.lf_checks.specs.Clauses.{NamedClause, constant_clauses, entry_clauses, named_entry, with_constant}
-use Rattle.tw_mode.specs.Listing.{clause_at, in_block, is_of, listed_clauses, with_entry}
+use Rattle.tw_mode.specs.Listing.{clause_at, entry_alone, in_block, is_of, listed_clauses, with_entry}
 use Rattle.tw_mode.specs.declared.listed.Listed.{Listed}
 use Rattle.tw_mode.specs.declared.listed.Listed.TheVariants.{Entry}
 
@@ -27,16 +28,15 @@ module _ (es : List PlainEntry) (W : List Block) where
   pub constants_split : (k : ℕ) (ks : List ℕ) → constant_clauses (signature_of es).types (k ∷ ks) ≡ with_constant k ((signature_of es).types k) [] ++ constant_clauses (signature_of es).types ks
   constants_split k ks = constant_before k ks ((signature_of es).types k) (constant_clauses (signature_of es).types ks)
 
-  -- an entry more, or none
-  pub entry_step : (B : Block) (number newer a : ℕ) (E : LfType) (rest : List LfType) → slice_get W number ≡ Some B → slice_get B.entries newer ≡ Some E → rest ≡ drop (suc newer) B.entries → same_number (target E) a ≡ true → entry_clauses B a rest ++ clause_at es W (Entry number newer) ≡ entry_clauses B a (E ∷ rest)
-  entry_step B number newer a E rest w e r t =
-      ap (λ o. entry_clauses B a rest ++ in_block o newer) w
-      ∙ ap (λ o. entry_clauses B a rest ++ with_entry B newer o) e
-      ∙ ap (λ X. entry_clauses B a rest ++ named_entry B X E ∷ []) (sym r)
-      ∙ sym (ap (λ b. cond b (entry_clauses B a rest ++ named_entry B rest E ∷ []) (entry_clauses B a rest)) t)
+  pub entry_pushed : (B : Block) (number newer a : ℕ) (E : LfType) (xs ys : List Listed) → slice_get W number ≡ Some B → slice_get B.entries newer ≡ Some E → same_number (target E) a ≡ true → ys ≡ xs ++ Entry number newer ∷ [] → listed_clauses es W ys ≡ listed_clauses es W xs ++ entry_alone B a newer
+  entry_pushed B number newer a E xs ys w e t q =
+      ap (listed_clauses es W) q
+      ∙ listed_push xs (Entry number newer)
+      ∙ ap (λ o. listed_clauses es W xs ++ in_block o newer) w
+      ∙ ap (λ b. listed_clauses es W xs ++ cond b (with_entry B newer (slice_get B.entries newer)) []) (sym (ap (λ o. is_of o a) e ∙ t))
 
-pub other_entry : (B : Block) (a : ℕ) (E : LfType) (rest : List LfType) → same_number (target E) a ≡ false → entry_clauses B a rest ≡ entry_clauses B a (E ∷ rest)
-other_entry B a E rest t = sym (ap (λ b. cond b (entry_clauses B a rest ++ named_entry B rest E ∷ []) (entry_clauses B a rest)) t)
+  pub entry_left : (B : Block) (newer a : ℕ) (xs : List Listed) → is_of (slice_get B.entries newer) a ≡ false → listed_clauses es W xs ≡ listed_clauses es W xs ++ entry_alone B a newer
+  entry_left B newer a xs e = sym (ap (λ b. listed_clauses es W xs ++ cond b (with_entry B newer (slice_get B.entries newer)) []) e ∙ nothing_behind (listed_clauses es W xs))
 
 pub drop_found : {A : Type 0} (xs : List A) (k : ℕ) (x : A) → slice_get xs k ≡ Some x → drop k xs ≡ x ∷ drop (suc k) xs
 drop_found [] k x e = absurd cc
@@ -47,6 +47,27 @@ pub found_below : {A : Type 0} (xs : List A) (k : ℕ) → k < length xs → (x 
 found_below [] k h = absurd (omega (arith, h))
 found_below (x ∷ xs) zero h = (x, refl)
 found_below (x ∷ xs) (suc k) h = found_below xs k (omega (arith, h))
+
+-- one entry more
+entry_step : (B : Block) (a : ℕ) (E : LfType) (rest : List LfType) (n : ℕ) → slice_get B.entries n ≡ Some E → rest ≡ drop (suc n) B.entries → entry_clauses B a rest ++ entry_alone B a n ≡ entry_clauses B a (E ∷ rest)
+entry_step B a E rest n e r =
+    ap (λ o. entry_clauses B a rest ++ cond (is_of o a) (with_entry B n o) []) e
+    ∙ ap (λ X. entry_clauses B a rest ++ cond (same_number (target E) a) (named_entry B X E ∷ []) []) (sym r)
+    ∙ by (same_number (target E) a)
+  where
+    by : (b : Bool) → entry_clauses B a rest ++ cond b (named_entry B rest E ∷ []) [] ≡ cond b (entry_clauses B a rest ++ named_entry B rest E ∷ []) (entry_clauses B a rest)
+    by true = refl
+    by false = nothing_behind (entry_clauses B a rest)
+
+pub entries_next : (B : Block) (a n : ℕ) → n < length B.entries → entry_clauses B a (drop (suc n) B.entries) ++ entry_alone B a n ≡ entry_clauses B a (drop n B.entries)
+entries_next B a n h = let (E, e) = found_below B.entries n h in entry_step B a E (drop (suc n) B.entries) n e refl ∙ ap (entry_clauses B a) (sym (drop_found B.entries n E e))
+
+pub no_entries : (B : Block) (a n : ℕ) (cs : List NamedClause) → length B.entries ≤ n → cs ≡ cs ++ entry_clauses B a (drop n B.entries)
+no_entries B a n cs h = sym (ap (λ xs. cs ++ entry_clauses B a xs) (drop_of_length-le B.entries h) ∙ nothing_behind cs)
+
+-- one constant, one block, one family more
+pub one_more_in_front : (os bs cs ds rest : List NamedClause) (whole : List NamedClause) → bs ≡ os ++ cs → ds ≡ cs ++ rest → os ++ ds ≡ whole → bs ++ rest ≡ whole
+one_more_in_front os bs cs ds rest whole b d w = ap (λ xs. xs ++ rest) b ∙ append_assoc os cs rest ∙ ap (λ xs. os ++ xs) (sym d) ∙ w
 
 pub map_found : {A B : Type 0} (f : A → B) (xs : List A) (k : ℕ) (x : A) → k < length xs → x ≡ get_or xs k x → slice_get (map f xs) k ≡ Some (f x)
 map_found f [] k x h e = absurd (omega (arith, h))

@@ -15,15 +15,16 @@ use Rattle.lf_checks.specs.ModeFaults.{EndFault, HasUnsoundMarks, ModedBefore, M
 use Rattle.lf_checks.specs.ModeForms.{argument_count}
 use Rattle.lf_checks.specs.Modes.{AllGround, InFreePlace, WellModedFrom, occurs_at, occurs_goal}
 use Rattle.lf_checks.specs.Parts.{count_below, shape, subgoal_at, type_at}
-use Rattle.lf_checks.specs.Strict.{strict_at}
+use Rattle.lf_checks.specs.Strict.{strict_at, strict_goal}
 use Rattle.lf_checks.specs.Tests.{either}
 use Rattle.lf_checks.proofs.ModeRefuted.{moded_parts}
 use Rattle.lf_checks.proofs.Numbered.{past_variable, subgoal_inside, type_both}
 use Rattle.lf_checks.proofs.PartTypes.{counted_number}
 use Rattle.tw_clause.specs.Marks.{marked}
+use Rattle.tw_clause.proofs.Walks.{shape_length}
 use Rattle.tw_mode.specs.Ends.{AreAllTrue}
 use Rattle.tw_mode.specs.Scopes.{in_marks}
-use Rattle.tw_mode.specs.Solved.{FirstFaulty, GoesPast, Stands, after, after_all, excused, free_past, with_hidden}
+use Rattle.tw_mode.specs.Solved.{FirstFaulty, GoesPast, Stands, after, after_all, excused, free_past, with_free, with_hidden}
 use Rattle.tw_mode.specs.declared.clause.Walk.{Walk}
 use Rattle.tw_mode.proofs.Ending.{all_in}
 use Rattle.tw_mode.proofs.Sets.{marked_set, pushed_set}
@@ -94,6 +95,13 @@ pub marks_after_all : (d : ℕ) (xs : List Bool) → length (after_all d xs) ≡
 marks_after_all zero xs = omega arith
 marks_after_all (suc d) xs = let k = marks_after_all d xs in omega (arith, k)
 
+pub not_variables_count : (T : LfType) (d : ℕ) (bs ms : List Bool) → bs ≡ shape T → ms ≡ after_all d (map not bs) → length ms ≡ d + quantifiers T
+not_variables_count T d bs ms b e = ap length e ∙ marks_after_all d (map not bs) ∙ ap (λ n. d + n) (as_long bs ∙ ap length b ∙ shape_length T)
+  where
+    as_long : (xs : List Bool) → length (map not xs) ≡ length xs
+    as_long [] = refl
+    as_long (x ∷ xs) = ap suc (as_long xs)
+
 -- The head.
 pub head_first : (m : ℕ → List Mark) (C : List LfType) (T : LfType) (d D : ℕ) (fs gs hs : List Bool) → length fs ≤ d → length gs ≡ d → D ≡ d + quantifiers T → hs ≡ marked D (λ i. strict_at (input_places (m (target T))) nothing (in_marks false D fs) i (target_arguments T)) (with_hidden gs (D - length gs)) → in_marks true D hs ≡ ground_from (in_marks true d gs) m (record { outer = C; fixed = in_marks false d fs; type = T })
 head_first m C T d D fs gs hs f g e h = head_ground m c V (in_marks false D fs) nothing D (input_places (m (target T))) (target_arguments T) (with_hidden gs (D - length gs)) hs hidden_is fixed_is refl refl refl h
@@ -118,6 +126,13 @@ head_excuses m C F T d D ms ns e h k =
     ap (in_marks true D) k
     ∙ marked_set (λ i. occurs_at (free_places (m (target T))) i (target_arguments T)) D ms
     ∙ ap (λ X i. either (X i) (occurs_at (free_places (m (target T))) i (target_arguments T))) (ap₂ (λ n xs. in_marks true n xs) e h ∙ not_variables_set T d)
+
+-- A subgoal.
+pub free_marked : (m : ℕ → List Mark) (d : ℕ) (A : LfType) (ps ms ns : List Bool) → ps ≡ free_places (m (target A)) → ns ≡ marked d (λ i. occurs_goal ps i A) ms → in_marks true d ns ≡ with_free m A (in_marks true d ms)
+free_marked m d A ps ms ns p k = ap (in_marks true d) k ∙ marked_set (λ i. occurs_goal ps i A) d ms ∙ ap (λ q i. either (in_marks true d ms i) (occurs_goal q i A)) p
+
+pub outputs_marked : (m : ℕ → List Mark) (F B : ℕ → Bool) (d : ℕ) (A : LfType) (ps ms ns : List Bool) → ps ≡ output_places (m (target A)) → B ≡ nothing → ns ≡ marked d (λ i. strict_goal ps B F i A) ms → in_marks true d ns ≡ after m F A (in_marks true d ms)
+outputs_marked m F B d A ps ms ns p b k = ap (in_marks true d) k ∙ marked_set (λ i. strict_goal ps B F i A) d ms ∙ ap₂ (λ q X i. either (in_marks true d ms i) (strict_goal q X F i A)) p b
 
 -- One quantifier.
 module _ (m : ℕ → List Mark) (V : ℕ → Bool) (c : Clause) (depth : ℕ) where

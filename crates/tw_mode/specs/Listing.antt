@@ -1,5 +1,5 @@
 -- The clauses that a list of places stands for.
-use Rattle.std.specs.Prelude.{ℕ, suc, List, [], ◌∷◌, ◌++◌, drop, slice_get, Bool, false, Option, Some, None}
+use Rattle.std.specs.Prelude.{ℕ, suc, List, [], ◌∷◌, ◌++◌, drop, slice_get, Bool, false, cond, Option, Some, None}
 use Rattle.lf.specs.Entries.{Entry as PlainEntry, signature_of}
 use Rattle.lf.specs.Subordination.{Block}
 use Rattle.lf.specs.Syntax.{LfType}
@@ -21,6 +21,10 @@ in_block None n = []
 abbrev pub is_of : Option LfType → ℕ → Bool
 is_of (Some E) a = same_number (target E) a
 is_of None a = false
+
+-- the entry, if its target is a
+abbrev pub entry_alone : Block → ℕ → ℕ → List NamedClause
+entry_alone B a n = cond (is_of (slice_get B.entries n) a) (with_entry B n (slice_get B.entries n)) []
 
 -- the clause at a place, if there is one
 abbrev pub clause_at : List PlainEntry → List Block → Listed → List NamedClause

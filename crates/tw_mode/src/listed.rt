@@ -1,16 +1,15 @@
 //! The clauses of a group, in order.
-ghost use Rattle.std.specs.Prelude.{◌≡◌, ◌++◌, ◌<◌, List, Some, length, map, option_map, slice_get, IfOk, OnOk};
+ghost use Rattle.std.specs.Prelude.{◌≡◌, ◌++◌, List, Some, map, slice_get, IfOk, OnOk};
 ghost use Rattle.lf.specs.Entries.{Entry as PlainEntry};
 ghost use Rattle.lf.specs.Subordination.{Block as PlainBlock};
 ghost use Rattle.lf_checks.specs.Clauses.{clauses_of, entry_clauses, group_clauses};
 ghost use Rattle.tw_clause.specs.View.{block_of, worlds_of};
-ghost use Rattle.tw_terms.specs.View.{type_of};
-ghost use Rattle.tw_mode.specs.Listing.{is_of, listed_clauses};
+ghost use Rattle.tw_mode.specs.Listing.{entry_alone, listed_clauses};
 
 use std::alloc::{AllocError, Global};
-use tw_clause::Worlds;
+use tw_clause::{Block, Worlds};
 use tw_signature::Signature;
-use tw_terms::{ConstId, Ty, target};
+use tw_terms::{ConstId, target};
 
 /// Where a clause stands: a constant, or an entry of a block of the worlds, by the number of entries that are newer.
 #[derive(Clone, Copy)]
@@ -48,38 +47,44 @@ fn list_family(
         listed.push(Listed::Constant(*id))?;
     }
     for number in 0..worlds.blocks.len() {
-        list_block(worlds, number, family, listed)?;
+        list_block(&worlds.blocks[number], number, family, listed)?;
     }
     Ok(())
 }
 
 /// Adds those of a family among the entries of a block.
 fn list_block(
-    worlds: &Worlds,
+    block: &Block,
     number: usize,
     family: ConstId,
     listed: &mut Vec<Listed>,
 ) -> Result<(), AllocError>
-    requires { number < length worlds.now.blocks.items }
-    ensures { OnOk result ((es : List PlainEntry) (B : PlainBlock) → slice_get (worlds_of worlds.now) number ≡ Some B → listed_clauses es (worlds_of worlds.now) listed.new.items ≡ listed_clauses es (worlds_of worlds.now) listed.old.items ++ entry_clauses B family.0 B.entries) }
+    ensures { OnOk result ((es : List PlainEntry) (W : List PlainBlock) → slice_get W number ≡ Some (block_of block.now) → listed_clauses es W listed.new.items ≡ listed_clauses es W listed.old.items ++ entry_clauses (block_of block.now) family.0 block.now.entries) }
 {
-    let entries = &worlds.blocks[number].entries;
-    let mut newer = entries.len() as u64;
+    let mut newer = block.entries.len() as u64;
     while newer > 0 {
         newer -= 1;
-        if is_of_family(entries.get(newer), family) {
-            listed.push(Listed::Entry(number, newer))?;
-        }
+        list_entry(block, number, newer, family, listed)?;
     }
     Ok(())
 }
 
-/// Whether the target of a type is this family.
-fn is_of_family(ty: Option<&Ty>, family: ConstId) -> bool
-    ensures { result ≡ is_of (option_map (λ t. type_of t.now) ty.entry) family.0 }
+/// Adds an entry, if its target is the family.
+fn list_entry(
+    block: &Block,
+    number: usize,
+    newer: u64,
+    family: ConstId,
+    listed: &mut Vec<Listed>,
+) -> Result<(), AllocError>
+    ensures { OnOk result ((es : List PlainEntry) (W : List PlainBlock) → slice_get W number ≡ Some (block_of block.now) → listed_clauses es W listed.new.items ≡ listed_clauses es W listed.old.items ++ entry_alone (block_of block.now) family.0 newer) }
 {
-    match ty {
-        Some(ty) => target(ty).0 == family.0,
-        None => false,
+    let Some(ty) = block.entries.get(newer) else {
+        return Ok(());
+    };
+    if target(ty).0 != family.0 {
+        return Ok(());
     }
+    listed.push(Listed::Entry(number, newer))?;
+    Ok(())
 }
