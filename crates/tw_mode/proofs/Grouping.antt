@@ -1,9 +1,10 @@
 -- What the check of several clauses comes to.
 use Rattle.std.proofs.Common.{◌≡◌, ℕ, zero, suc, List, [], ◌∷◌, ◌++◌, Bool, true, false, Some, None, Option, Result, Ok, Err, map, refl, sym, ap, ap₂, ◌∙◌, subst}
-use Rattle.std.specs.Prelude.{is_some}
+use Rattle.std.specs.Prelude.{cond, is_some}
 use Rattle.std.proofs.lemmas.List.{append_assoc}
 use Rattle.lf.specs.Entries.{Entry, signature_of}
 use Rattle.lf.specs.Subordination.{Block}
+use Rattle.lf.specs.Syntax.{LfType}
 use Rattle.lf.specs.Typing.{Signature}
 use Rattle.lf.specs.Variables.{target}
 use Rattle.lf_checks.specs.Clause.{Clause}
@@ -14,6 +15,7 @@ use Rattle.lf_checks.specs.ModeFaults.{ModeFault as PlainFault}
 use Rattle.lf_checks.specs.ModeRows.{ModeRow, called, families_met, first_unmoded, is_moded, marks_of, or_no_marks, row_of}
 use Rattle.lf_checks.specs.Modes.{WellModed}
 use Rattle.tw_mode.specs.Groups.{FaultsOutcome, GroupOutcome, ModesOutcome}
+use Rattle.tw_mode.specs.Listing.{as_list}
 use Rattle.tw_mode.specs.Rows.{marks_in, moded_in, row_in}
 use Rattle.tw_mode.specs.declared.fault.ModeFault.{ModeFault}
 use Rattle.tw_mode.specs.declared.fault.ModeFault.TheVariants.{Fault, NoMode, NoMemory}
@@ -51,6 +53,29 @@ module _ (moded : ℕ → Bool) where
   modes_end xs ys (Fault n k j) h = h
   modes_end xs ys (NoMode f) h = ap (first_unmoded moded) (families_append xs ys) ∙ unmoded_first moded (families_met moded xs) (families_met moded ys) f.0 h
   modes_end xs ys NoMemory h = h
+
+-- one clause, by its type
+pub no_clause : (moded : ℕ → Bool) (cs : List NamedClause) (o : Option LfType) → map (λ n. n.clause.type) cs ≡ as_list o → o ≡ None → first_unmoded moded (families_met moded cs) ≡ None
+no_clause moded [] o e q = refl
+no_clause moded (n ∷ cs) o e q = absurd (empty (e ∙ ap as_list q))
+  where
+    empty : n.clause.type ∷ map (λ n. n.clause.type) cs ≡ [] → ⊥
+    empty z = absurd cc
+
+families_of : (moded : ℕ → Bool) (cs : List NamedClause) (A : LfType) → map (λ n. n.clause.type) cs ≡ A ∷ [] → families_met moded cs ≡ target A ∷ called moded A ++ []
+families_of moded [] A e = absurd cc
+families_of moded (n ∷ []) A e = ap (λ X. target X ∷ called moded X ++ []) (let q : n.clause.type ≡ A = cc in q)
+families_of moded (n ∷ k ∷ cs) A e = absurd cc
+
+pub own_unmoded : (moded : ℕ → Bool) (cs : List NamedClause) (o : Option LfType) (A : LfType) → map (λ n. n.clause.type) cs ≡ as_list o → o ≡ Some A → moded (target A) ≡ false → first_unmoded moded (families_met moded cs) ≡ Some (target A)
+own_unmoded moded cs o A e q u = ap (first_unmoded moded) (families_of moded cs A (e ∙ ap as_list q)) ∙ ap (λ b. cond b (first_unmoded moded (called moded A ++ [])) (Some (target A))) u
+
+pub own_moded : (moded : ℕ → Bool) (cs : List NamedClause) (o : Option LfType) (A : LfType) (r : Option ℕ) → map (λ n. n.clause.type) cs ≡ as_list o → o ≡ Some A → moded (target A) ≡ true → r ≡ first_unmoded moded (called moded A) → first_unmoded moded (families_met moded cs) ≡ r
+own_moded moded cs o A r e q u h = ap (first_unmoded moded) (families_of moded cs A (e ∙ ap as_list q)) ∙ ap (λ b. cond b (first_unmoded moded (called moded A ++ [])) (Some (target A))) u ∙ ap (first_unmoded moded) (nothing_behind (called moded A)) ∙ sym h
+  where
+    nothing_behind : (xs : List ℕ) → xs ++ [] ≡ xs
+    nothing_behind [] = refl
+    nothing_behind (x ∷ xs) = ap (λ ys. x ∷ ys) (nothing_behind xs)
 
 -- Faults.
 module _ (Σ : Signature) (m : ℕ → List Mark) (moded : ℕ → Bool) where

@@ -1,6 +1,6 @@
 -- The hypotheses of a subgoal, one after the other, and what a subgoal and a clause come to.
 use Rattle.std.proofs.Common.{◌≡◌, ℕ, zero, suc, ◌+◌, List, [], ◌∷◌, ◌++◌, Bool, true, false, length, length-append, refl, sym, ap, ap₂, ◌∙◌, subst, arith}
-use Rattle.std.specs.Prelude.{Option, Some, None, Decides, is_none, option_map}
+use Rattle.std.specs.Prelude.{Option, Some, None, Decides, is_none, is_some, option_map}
 use Rattle.lf.specs.Syntax.{LfType, pi, atom}
 use Rattle.lf.specs.Typing.{Signature}
 use Rattle.lf.specs.Variables.{target, under}
@@ -12,7 +12,7 @@ use Rattle.lf_checks.specs.Modes.{EachHypothesis, WellModedFrom}
 use Rattle.lf_checks.specs.Tests.{choose}
 use Rattle.lf_checks.proofs.ModeRefuted.{mode_refuted}
 use Rattle.tw_mode.specs.Checks.{Outcome}
-use Rattle.tw_mode.specs.Outcomes.{ClauseOutcome, NeedsFault, SubgoalOutcome, in_input, in_type, plain_place}
+use Rattle.tw_mode.specs.Outcomes.{ClauseOutcome, NeedsFault, NeedsOutcome, SubgoalOutcome, in_input, in_type, plain_place}
 use Rattle.tw_mode.specs.Rows.{marks_in, moded_in}
 use Rattle.tw_mode.specs.Scopes.{in_marks}
 use Rattle.tw_mode.specs.Solved.{clause_in, ground_outside, with_hidden}
@@ -65,12 +65,25 @@ hypothesis_decided Σ t o A (Some p) r e m h C = moded_decided _ _ (moded_in t (
 
 -- A subgoal.
 module _ (Σ : Signature) (t : Table) (F U : ℕ → Bool) (A : LfType) where
-  pub subgoal_unsound : (j : ℕ) → HasUnsoundMarks Σ (target A) (marks_in t (target A)) j → SubgoalOutcome Σ t F U A (Some j)
-  subgoal_unsound j h c e = unsound_marks h
+  pub subgoal_unsound : (r : Option ℕ) → is_some r ≡ true → Outcome (HasSoundMarks Σ (target A) (marks_in t (target A))) (HasUnsoundMarks Σ (target A) (marks_in t (target A))) r → SubgoalOutcome Σ t F U A r
+  subgoal_unsound None q h c e = absurd cc
+  subgoal_unsound (Some j) q h c e = unsound_marks h
 
-  pub subgoal_needs : (j : ℕ) → HasSoundMarks Σ (target A) (marks_in t (target A)) → NeedsFault (marks_in t) U A j → SubgoalOutcome Σ t F U A (Some j)
+  pub subgoal_sound : (r : Option ℕ) → is_some r ≡ false → Outcome (HasSoundMarks Σ (target A) (marks_in t (target A))) (HasUnsoundMarks Σ (target A) (marks_in t (target A))) r → HasSoundMarks Σ (target A) (marks_in t (target A))
+  subgoal_sound None q h = h
+  subgoal_sound (Some j) q h = absurd cc
+
+  pub needs_sound : (r : Option ℕ) → is_some r ≡ false → NeedsOutcome (marks_in t) U A r → UsesGoal U (input_places (marks_in t (target A))) A
+  needs_sound None q h = h
+  needs_sound (Some j) q h = absurd cc
+
+  subgoal_needs : (j : ℕ) → HasSoundMarks Σ (target A) (marks_in t (target A)) → NeedsFault (marks_in t) U A j → SubgoalOutcome Σ t F U A (Some j)
   subgoal_needs j s (in_type n) c e = unground_type s n
   subgoal_needs j s (in_input h f) c e = unground_input s h f
+
+  pub subgoal_unground : (r : Option ℕ) → is_some r ≡ true → HasSoundMarks Σ (target A) (marks_in t (target A)) → NeedsOutcome (marks_in t) U A r → SubgoalOutcome Σ t F U A r
+  subgoal_unground None q s h = absurd cc
+  subgoal_unground (Some j) q s h = subgoal_needs j s h
 
   pub subgoal_decided : (b : Bool) → HasSoundMarks Σ (target A) (marks_in t (target A)) → UsesGoal U (input_places (marks_in t (target A))) A → ((C : List LfType) → Decides b (EachHypothesis (WellModedFrom Σ (marks_in t) (moded_in t)) (moded_in t) C F U A)) → (b ≡ true → SubgoalOutcome Σ t F U A None) × (b ≡ false → SubgoalOutcome Σ t F U A (Some 0))
   subgoal_decided b s u d = (yes, no)

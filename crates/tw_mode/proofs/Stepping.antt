@@ -1,6 +1,6 @@
 -- One step of a walk over the quantifiers of a type, from the last one on.
 use Rattle.std.proofs.Common.{◌≡◌, ℕ, zero, suc, ◌+◌, ◌-◌, ◌<◌, ◌≤◌, List, [], ◌∷◌, Bool, true, false, Some, None, Option, length, get_or, map, refl, sym, ap, ap₂, ◌∙◌, subst, arith}
-use Rattle.std.specs.Prelude.{not}
+use Rattle.std.specs.Prelude.{not, is_some, option_map, Result, Ok, Err, IfOk, OnOk}
 use Rattle.lf.specs.AtOnce.{shift_by}
 use Rattle.lf.specs.Entries.{kind_quantifiers, quantifiers}
 use Rattle.lf.specs.Syntax.{LfType, rename_type}
@@ -11,15 +11,15 @@ use Rattle.lf_checks.specs.Clause.{Clause, outside, scope, variables}
 use Rattle.lf_checks.specs.Ground.{ground_from}
 use Rattle.lf_checks.specs.GroundUntil.{ground_at_end, ground_until}
 use Rattle.lf_checks.specs.Marks.{Mark, HasSoundMarks}
-use Rattle.lf_checks.specs.ModeFaults.{EndFault, HasUnsoundMarks, ModeFaultFrom, ModedBefore, SubgoalFault, SubgoalIsModed, of_end, of_head}
+use Rattle.lf_checks.specs.ModeFaults.{EndFault, HasUnsoundMarks, ModeFaultFrom, ModedBefore, SubgoalFault, SubgoalIsModed, of_end, of_head, place_of}
 use Rattle.lf_checks.specs.ModeForms.{argument_count}
-use Rattle.lf_checks.specs.Modes.{AllGround}
+use Rattle.lf_checks.specs.Modes.{AllGround, WellModedFrom}
 use Rattle.lf_checks.specs.Parts.{count_below, shape, type_at}
 use Rattle.tw_mode.specs.Checks.{Fits, Outcome}
-use Rattle.tw_mode.specs.Outcomes.{ClauseOutcome, EndOutcome, SubgoalOutcome, SubgoalsOutcome, plain_place}
+use Rattle.tw_mode.specs.Outcomes.{ClauseOutcome, EndOutcome, QuantifierOutcome, SubgoalOutcome, SubgoalsOutcome, plain_place}
 use Rattle.tw_mode.specs.Rows.{marks_in, moded_in}
 use Rattle.tw_mode.specs.Scopes.{in_marks}
-use Rattle.tw_mode.specs.Solved.{FirstFaulty, GoesPast, Stands, clause_in, domain_types, excused, ground_outside}
+use Rattle.tw_mode.specs.Solved.{FirstFaulty, GoesPast, Stands, after, clause_in, domain_types, excused, ground_outside, with_free}
 use Rattle.tw_mode.specs.declared.clause.Place.{Place}
 use Rattle.tw_mode.specs.declared.clause.Walk.{Walk}
 use Rattle.tw_mode.specs.declared.outside.Outside.{Outside}
@@ -90,15 +90,46 @@ module _ (Σ : Signature) (t : Table) (o : Outside) (T : LfType) (depth : ℕ) (
             (met_past_goal (marks_in t) (ground_outside o) (clause_in C o T) depth old new.subgoals (quantifiers T - suc left) (is_variable_here C o T left h false e) (s C) q)
             (b C) (outcome_here old (Some j) s g C)
 
+  module _ (left : ℕ) (h : left < quantifiers T) (D A : LfType) (a : A ≡ rename_type (shift_by (quantifiers T - left)) (get_or (domain_types T) left D)) (old new : Walk) (s : AllStand old (quantifiers T - suc left)) (b : AllBefore (quantifiers T - suc left)) where
+    pub quantifier_walked : (v : Bool) (r : Option ℕ) → get_or (shape T) left false ≡ v → is_some r ≡ false → QuantifierOutcome Σ t (in_marks false depth o.fixed.now) depth v A old new r → AllStand new (quantifiers T - left) × AllBefore (quantifiers T - left)
+    quantifier_walked v (Some j) e q x = absurd cc
+    quantifier_walked true None e q x = (subst (λ w. AllStand w (quantifiers T - left)) (sym x.1) (walked_variable left h old e s), before_variable left h e b)
+    quantifier_walked false None e q x = (walked_goal left h D A e a old new s (x.2 refl) x.1, before_goal left h D A e a old s x.0 b)
+
+    pub quantifier_faulty : (v : Bool) (r : Option ℕ) → get_or (shape T) left false ≡ v → is_some r ≡ true → QuantifierOutcome Σ t (in_marks false depth o.fixed.now) depth v A old new r → SubgoalsOutcome Σ t o T depth new r
+    quantifier_faulty v None e q x = absurd cc
+    quantifier_faulty true (Some j) e q x = absurd (some_none x.0)
+      where
+        some_none : Some j ≡ None → ⊥
+        some_none z = absurd cc
+    quantifier_faulty false (Some j) e q x = faulty_goal left h D A e a old new j s x.0 b x.1
+
   pub all_walked : (w : Walk) (n : ℕ) → n ≡ quantifiers T → AllStand w n → AllBefore n → SubgoalsOutcome Σ t o T depth w None
   all_walked w n e s b C = (subst (Stands (marks_in t) (ground_outside o) (clause_in C o T) depth w) e (s C), subst (ModedBefore Σ (marks_in t) (moded_in t) (ground_outside o) (clause_in C o T)) e (b C))
 
   -- What a type as a clause comes to.
-  pub clause_unsound : (p : Place) (j : ℕ) → plain_place p ≡ record { subgoal = 0; argument = j } → HasUnsoundMarks Σ (target T) (marks_in t (target T)) j → ClauseOutcome Σ t o T (Some p)
-  clause_unsound p j e h C = subst (λ at. ModeFaultFrom Σ (marks_in t) (moded_in t) (ground_outside o) (clause_in C o T) at) (sym e) (of_head h)
+  fault_at : (k : ℕ) (r : Option ℕ) (p : Option Place) → option_map plain_place p ≡ option_map (place_of k) r → (C : List LfType) → Outcome (WellModedFrom Σ (marks_in t) (moded_in t) (ground_outside o) (clause_in C o T)) (λ j. ModeFaultFrom Σ (marks_in t) (moded_in t) (ground_outside o) (clause_in C o T) (place_of k j)) r → Outcome (WellModedFrom Σ (marks_in t) (moded_in t) (ground_outside o) (clause_in C o T)) (ModeFaultFrom Σ (marks_in t) (moded_in t) (ground_outside o) (clause_in C o T)) (option_map plain_place p)
+  fault_at k r p e C h = subst (Outcome (WellModedFrom Σ (marks_in t) (moded_in t) (ground_outside o) (clause_in C o T)) (ModeFaultFrom Σ (marks_in t) (moded_in t) (ground_outside o) (clause_in C o T))) (sym e) (by r h)
+    where
+      by : (r : Option ℕ) → Outcome (WellModedFrom Σ (marks_in t) (moded_in t) (ground_outside o) (clause_in C o T)) (λ j. ModeFaultFrom Σ (marks_in t) (moded_in t) (ground_outside o) (clause_in C o T) (place_of k j)) r → Outcome (WellModedFrom Σ (marks_in t) (moded_in t) (ground_outside o) (clause_in C o T)) (ModeFaultFrom Σ (marks_in t) (moded_in t) (ground_outside o) (clause_in C o T)) (option_map (place_of k) r)
+      by None h = h
+      by (Some j) h = h
 
-  pub clause_faulty : (p : Place) (w : Walk) (j : ℕ) → plain_place p ≡ record { subgoal = w.subgoals; argument = j } → HasSoundMarks Σ (target T) (marks_in t (target T)) → SubgoalsOutcome Σ t o T depth w (Some j) → ClauseOutcome Σ t o T (Some p)
-  clause_faulty p w j e s h C = subst (λ at. ModeFaultFrom Σ (marks_in t) (moded_in t) (ground_outside o) (clause_in C o T) at) (sym e) (fault_of_subgoal Σ (marks_in t) (moded_in t) (ground_outside o) (clause_in C o T) s w.subgoals j (h C))
+  pub clause_unsound : (r : Option ℕ) (p : Option Place) → is_some r ≡ true → option_map plain_place p ≡ option_map (place_of 0) r → Outcome (HasSoundMarks Σ (target T) (marks_in t (target T))) (HasUnsoundMarks Σ (target T) (marks_in t (target T))) r → ClauseOutcome Σ t o T p
+  clause_unsound None p e q h C = absurd cc
+  clause_unsound (Some j) p e q h C = fault_at 0 (Some j) p q C (of_head h)
+
+  pub sound_of : (r : Option ℕ) → is_some r ≡ false → Outcome (HasSoundMarks Σ (target T) (marks_in t (target T))) (HasUnsoundMarks Σ (target T) (marks_in t (target T))) r → HasSoundMarks Σ (target T) (marks_in t (target T))
+  sound_of None e h = h
+  sound_of (Some j) e h = absurd cc
+
+  pub clause_faulty : (w : Walk) (r : Option ℕ) (p : Option Place) → is_some r ≡ true → option_map plain_place p ≡ option_map (place_of w.subgoals) r → HasSoundMarks Σ (target T) (marks_in t (target T)) → SubgoalsOutcome Σ t o T depth w r → ClauseOutcome Σ t o T p
+  clause_faulty w None p e q s h C = absurd cc
+  clause_faulty w (Some j) p e q s h C = fault_at w.subgoals (Some j) p q C (fault_of_subgoal Σ (marks_in t) (moded_in t) (ground_outside o) (clause_in C o T) s w.subgoals j (h C))
+
+  pub walked_of : (w : Walk) (r : Option ℕ) → is_some r ≡ false → SubgoalsOutcome Σ t o T depth w r → SubgoalsOutcome Σ t o T depth w None
+  walked_of w None e h = h
+  walked_of w (Some j) e h = absurd cc
 
   module _ (w : Walk) (s : HasSoundMarks Σ (target T) (marks_in t (target T))) (fits : Fits Σ T) (walked : SubgoalsOutcome Σ t o T depth w None) where
     as_many : length (marks_in t (target T)) ≡ argument_count (target_arguments T)
@@ -113,8 +144,17 @@ module _ (Σ : Signature) (t : Table) (o : Outside) (T : LfType) (depth : ℕ) (
         subst (λ U. Outcome (AllGround (marks_in t) (clause_in C o T) U) (EndFault (marks_in t) (clause_in C o T) U) r) x.ground
           (g (clause_in C o T) refl refl as_many (λ y. ((λ e. (excused_means (marks_in t) (clause_in C o T) y).0 (sym (ap (λ X. X y) x.excuses) ∙ e)), (λ m. ap (λ X. X y) x.excuses ∙ (excused_means (marks_in t) (clause_in C o T) y).1 m))))
 
-    pub clause_ends : (p : Place) (j : ℕ) → plain_place p ≡ record { subgoal = 0; argument = j } → EndOutcome t (in_marks true depth w.ground.items) (in_marks true depth w.excused.items) (target T) (target_arguments T) (Some j) → ClauseOutcome Σ t o T (Some p)
-    clause_ends p j e g C = subst (λ at. ModeFaultFrom Σ (marks_in t) (moded_in t) (ground_outside o) (clause_in C o T) at) (sym e) (of_end s (walked C).1 (ended (Some j) g C))
+    pub clause_ends : (r : Option ℕ) (p : Option Place) → option_map plain_place p ≡ option_map (place_of 0) r → EndOutcome t (in_marks true depth w.ground.items) (in_marks true depth w.excused.items) (target T) (target_arguments T) r → ClauseOutcome Σ t o T p
+    clause_ends r p q g C = fault_at 0 r p q C (by r (ended r g C))
+      where
+        by : (r : Option ℕ) → Outcome (AllGround (marks_in t) (clause_in C o T) (ground_at_end (ground_outside o) (marks_in t) (clause_in C o T))) (EndFault (marks_in t) (clause_in C o T) (ground_at_end (ground_outside o) (marks_in t) (clause_in C o T))) r → Outcome (WellModedFrom Σ (marks_in t) (moded_in t) (ground_outside o) (clause_in C o T)) (λ j. ModeFaultFrom Σ (marks_in t) (moded_in t) (ground_outside o) (clause_in C o T) (place_of 0 j)) r
+        by None h = passes Σ (marks_in t) (moded_in t) (ground_outside o) (clause_in C o T) s (walked C).1 h
+        by (Some j) h = of_end s (walked C).1 h
 
-    pub clause_passes : EndOutcome t (in_marks true depth w.ground.items) (in_marks true depth w.excused.items) (target T) (target_arguments T) None → ClauseOutcome Σ t o T None
-    clause_passes g C = passes Σ (marks_in t) (moded_in t) (ground_outside o) (clause_in C o T) s (walked C).1 (ended None g C)
+-- what a step promises, as what a quantifier comes to
+pub step_told : (Σ : Signature) (t : Table) (F : ℕ → Bool) (depth : ℕ) (G A : LfType) (v : Bool) (old new : Walk) {E : Type 0} (r : Result (Option ℕ) E) → v ≡ false → G ≡ A → length old.ground.items ≡ depth → length old.excused.items ≡ depth → IfOk r (λ f. SubgoalOutcome Σ t F (in_marks true depth old.ground.items) G f) → OnOk r (new.subgoals ≡ suc old.subgoals) → IfOk r (λ f. f ≡ None → in_marks true depth new.ground.items ≡ after (marks_in t) F G (in_marks true depth old.ground.items)) → IfOk r (λ f. f ≡ None → in_marks true depth new.excused.items ≡ with_free (marks_in t) G (in_marks true depth old.excused.items)) → IfOk r (λ f. f ≡ None → length new.ground.items ≡ depth) → IfOk r (λ f. f ≡ None → length new.excused.items ≡ depth) → IfOk r (λ f. QuantifierOutcome Σ t F depth v A old new f)
+step_told Σ t F depth G A v old new (Err e) n g l m a b c d x y = a
+step_told Σ t F depth G A v old new (Ok f) n g l m a b c d x y =
+    subst (λ u. QuantifierOutcome Σ t F depth u A old new f) (sym n)
+      (subst (λ X. QuantifierOutcome Σ t F depth false X old new f) g
+        (a, b, λ q. record { ground = c q; excuses = d q; each_ground = x q ∙ sym l; each_excused = y q ∙ sym m }))

@@ -1,5 +1,5 @@
 -- What the check of a type as a clause, of its subgoals and of its end comes to.
-use Rattle.std.specs.Prelude.{◌≡◌, ℕ, List, Bool, false, length, option_map, Option, ◌↔◌}
+use Rattle.std.specs.Prelude.{◌≡◌, ℕ, suc, List, Bool, true, false, length, option_map, Option, None, ◌↔◌}
 use Rattle.lf.specs.Entries.{quantifiers}
 use Rattle.lf.specs.Syntax.{LfType, Spine}
 use Rattle.lf.specs.Typing.{Signature}
@@ -13,7 +13,8 @@ use Rattle.lf_checks.specs.ModeForms.{argument_count}
 use Rattle.lf_checks.specs.Modes.{AllGround, WellModedFrom}
 use Rattle.tw_mode.specs.Checks.{Outcome}
 use Rattle.tw_mode.specs.Rows.{marks_in, moded_in}
-use Rattle.tw_mode.specs.Solved.{FirstFaulty, Stands, clause_in, ground_outside}
+use Rattle.tw_mode.specs.Scopes.{in_marks}
+use Rattle.tw_mode.specs.Solved.{FirstFaulty, GoesPast, Stands, clause_in, ground_outside}
 use Rattle.tw_mode.specs.declared.clause.Place.{Place}
 use Rattle.tw_mode.specs.declared.clause.Walk.{Walk}
 use Rattle.tw_mode.specs.declared.outside.Outside.{Outside}
@@ -29,6 +30,11 @@ ClauseOutcome Σ t o A f = (C : List LfType) → Outcome (WellModedFrom Σ (mark
 -- of a subgoal A of any clause with these fixed variables, where U is ground
 abbrev pub SubgoalOutcome : Signature → Table → (ℕ → Bool) → (ℕ → Bool) → LfType → Option ℕ → Type 0
 SubgoalOutcome Σ t F U A f = (c : Clause) → outside c.type c.fixed ≡ F → Outcome (SubgoalIsModed Σ (marks_in t) (moded_in t) c U A) (SubgoalFault Σ (marks_in t) (moded_in t) c U A) f
+
+-- Of a quantifier of the type A in the whole scope, where old and new are the walks before and after it: a variable changes nothing.
+abbrev pub QuantifierOutcome : Signature → Table → (ℕ → Bool) → ℕ → Bool → LfType → Walk → Walk → Option ℕ → Type 0
+QuantifierOutcome Σ t F depth true A old new f = (f ≡ None) × (new ≡ old)
+QuantifierOutcome Σ t F depth false A old new f = SubgoalOutcome Σ t F (in_marks true depth old.ground.items) A f × (new.subgoals ≡ suc old.subgoals) × (f ≡ None → GoesPast (marks_in t) F depth A old new)
 
 -- Of all subgoals of a type as a clause, where w is what the walk over them came to: it stands at the end, and each passes.
 abbrev pub SubgoalsOutcome : Signature → Table → Outside → LfType → ℕ → Walk → Option ℕ → Type 0

@@ -54,7 +54,7 @@ fn all_have_modes(
     ensures { ModesOutcome (moded_in table.now) (listed_clauses sig.now (worlds_of worlds.now) listed.now) result }
 {
     for at in listed {
-        have_modes(alloc, sig, table, worlds, *at)?;
+        have_modes(alloc, sig, table, worlds, at)?;
     }
     Ok(())
 }
@@ -71,7 +71,7 @@ fn all_are_moded(
     ensures { FaultsOutcome (signature_of sig.now) (marks_in table.now) (moded_in table.now) (listed_clauses sig.now (worlds_of worlds.now) listed.now) result }
 {
     for at in listed {
-        is_moded(alloc, sig, table, worlds, *at)?;
+        is_moded(alloc, sig, table, worlds, at)?;
     }
     Ok(())
 }
@@ -82,14 +82,14 @@ fn have_modes(
     sig: &Signature,
     table: &Table,
     worlds: &Worlds,
-    at: Listed,
+    at: &Listed,
 ) -> Result<(), ModeFault>
-    ensures { ModesOutcome (moded_in table.now) (clause_at sig.now (worlds_of worlds.now) at) result }
+    ensures { ModesOutcome (moded_in table.now) (clause_at sig.now (worlds_of worlds.now) at.now) result }
 {
     match at {
-        Listed::Constant(id) => families_have_modes(alloc, table, sig.constant_type(id)),
-        Listed::Entry(number, newer) => match worlds.blocks.get(number) {
-            Some(block) => families_have_modes(alloc, table, block.entries.get(newer)),
+        Listed::Constant(id) => families_have_modes(alloc, table, sig.constant_type(*id)),
+        Listed::Entry(number, newer) => match worlds.blocks.get(*number) {
+            Some(block) => families_have_modes(alloc, table, block.entries.get(*newer)),
             None => Ok(()),
         },
     }
@@ -121,15 +121,15 @@ fn is_moded(
     sig: &Signature,
     table: &Table,
     worlds: &Worlds,
-    at: Listed,
+    at: &Listed,
 ) -> Result<(), ModeFault>
     requires { AreTypedBlocks (signature_of sig.now) (worlds_of worlds.now) }
-    ensures { FaultsOutcome (signature_of sig.now) (marks_in table.now) (moded_in table.now) (clause_at sig.now (worlds_of worlds.now) at) result }
+    ensures { FaultsOutcome (signature_of sig.now) (marks_in table.now) (moded_in table.now) (clause_at sig.now (worlds_of worlds.now) at.now) result }
 {
     match at {
-        Listed::Constant(id) => constant_is_moded(alloc, sig, table, id),
-        Listed::Entry(number, newer) => match worlds.blocks.get(number) {
-            Some(block) => entry_is_moded(alloc, sig, table, block, newer),
+        Listed::Constant(id) => constant_is_moded(alloc, sig, table, *id),
+        Listed::Entry(number, newer) => match worlds.blocks.get(*number) {
+            Some(block) => entry_is_moded(alloc, sig, table, block, *newer),
             None => Ok(()),
         },
     }

@@ -1,16 +1,18 @@
 //! Whether a clause computes its outputs from its inputs: the first fault of a type seen as a clause.
-ghost use Rattle.std.specs.Prelude.{◌≡◌, ◌≤◌, ◌+◌, ℕ, suc, Bool, true, false, not, length, map, List, None, Decides, IfOk, OnOk};
+ghost use Rattle.std.specs.Prelude.{◌≡◌, ◌≤◌, ◌<◌, ◌+◌, ℕ, suc, Bool, true, false, not, get_or, length, map, option_map, List, None, Decides, IfOk, OnOk};
 ghost use Rattle.lf.specs.Entries.{quantifiers, signature_of};
-ghost use Rattle.lf.specs.Syntax.{LfType};
+ghost use Rattle.lf.specs.AtOnce.{shift_by};
+ghost use Rattle.lf.specs.Syntax.{LfType, atom, nil, rename_type};
 ghost use Rattle.lf.specs.Variables.{target as target_of_type, target_arguments};
-ghost use Rattle.lf_checks.specs.Marks.{free_places};
+ghost use Rattle.lf_checks.specs.Marks.{HasSoundMarks, free_places};
+ghost use Rattle.lf_checks.specs.ModeFaults.{place_of};
 ghost use Rattle.lf_checks.specs.Modes.{EachHypothesis, WellModedFrom, occurs_at};
 ghost use Rattle.lf_checks.specs.Parts.{shape as shape_of_type};
 ghost use Rattle.lf_checks.specs.Tests.{choose};
 ghost use Rattle.tw_clause.specs.Marks.{marked};
 ghost use Rattle.tw_terms.specs.View.{type_of};
 ghost use Rattle.tw_mode.specs.Checks.{Fits};
-ghost use Rattle.tw_mode.specs.Outcomes.{ClauseOutcome, NeedsOutcome, SubgoalOutcome, SubgoalsOutcome};
+ghost use Rattle.tw_mode.specs.Outcomes.{ClauseOutcome, EndOutcome, NeedsOutcome, QuantifierOutcome, SubgoalOutcome, SubgoalsOutcome, plain_place};
 ghost use Rattle.tw_mode.specs.Rows.{marks_in, moded_in};
 ghost use Rattle.tw_mode.specs.Scopes.{fixed_in, in_marks};
 ghost use Rattle.tw_mode.specs.Solved.{Stands, after, after_all, clause_in, domain_types, excused, ground_outside, with_free};
@@ -61,12 +63,38 @@ pub fn clause_fault(
     requires fits { Fits (signature_of sig.now) (type_of ty.now) }
     ensures { IfOk result (λ f. ClauseOutcome (signature_of sig.now) table.now outside.now (type_of ty.now) f) }
 {
-    if let Some(argument) = unsound_place(alloc, sig, table, target(ty))? {
-        return Ok(Some(Place {
-            subgoal: 0,
-            argument,
-        }));
+    let unsound = unsound_place(alloc, sig, table, target(ty))?;
+    if unsound.is_some() {
+        return Ok(placed(0, unsound));
     }
+    sound_fault(alloc, sig, table, outside, ty)
+}
+
+/// The place of a fault in a subgoal, if there is one.
+fn placed(subgoal: u64, argument: Option<u64>) -> Option<Place>
+    ensures { option_map plain_place result ≡ option_map (place_of subgoal) argument }
+{
+    match argument {
+        Some(argument) => Some(Place { subgoal, argument }),
+        None => None,
+    }
+}
+
+/// The first fault of a type as a clause, where the marks of its own family are sound.
+#[cycle(clause)]
+fn sound_fault(
+    alloc: Global,
+    sig: &Signature,
+    table: &Table,
+    outside: &Outside,
+    ty: &Ty,
+) -> Result<Option<Place>, AllocError>
+    requires fixed { length outside.now.fixed.now ≤ outside.now.depth }
+    requires ground { length outside.now.ground.now ≡ outside.now.depth }
+    requires fits { Fits (signature_of sig.now) (type_of ty.now) }
+    requires sound { HasSoundMarks (signature_of sig.now) (target_of_type (type_of ty.now)) (marks_in table.now (target_of_type (type_of ty.now))) }
+    ensures { IfOk result (λ f. ClauseOutcome (signature_of sig.now) table.now outside.now (type_of ty.now) f) }
+{
     let scope = Scope {
         fixed: outside.fixed,
         depth: sum(outside.depth, count_quantifiers(ty)?)?,
@@ -74,24 +102,32 @@ pub fn clause_fault(
     };
     let shape = shape_of(alloc, ty)?;
     let mut walk = begin(alloc, table, outside, &scope, &shape, ty)?;
-    if let Some(argument) = subgoals_fault(alloc, sig, table, outside, &scope, &shape, ty, &mut walk)? {
-        return Ok(Some(Place {
-            subgoal: walk.subgoals,
-            argument,
-        }));
+    let faulty = subgoals_fault(alloc, sig, table, outside, &scope, &shape, ty, &mut walk)?;
+    if faulty.is_some() {
+        return Ok(placed(walk.subgoals, faulty));
     }
+    let lost = clause_end(alloc, table, scope.depth, &walk, ty)?;
+    Ok(placed(0, lost))
+}
+
+/// The first fault of the end of a clause.
+fn clause_end(
+    alloc: Global,
+    table: &Table,
+    depth: u64,
+    walk: &Walk,
+    ty: &Ty,
+) -> Result<Option<u64>, AllocError>
+    requires ground { length walk.now.ground.items ≡ depth }
+    requires excused { length walk.now.excused.items ≡ depth }
+    ensures { IfOk result (λ f. EndOutcome table.now (in_marks true depth walk.now.ground.items) (in_marks true depth walk.now.excused.items) (target_of_type (type_of ty.now)) (target_arguments (type_of ty.now)) f) }
+{
     let ending = Ending {
-        depth: scope.depth,
+        depth,
         ground: &walk.ground,
         excused: &walk.excused,
     };
-    match end_fault(alloc, table, &ending, target(ty), target_spine(ty))? {
-        Some(argument) => Ok(Some(Place {
-            subgoal: 0,
-            argument,
-        })),
-        None => Ok(None),
-    }
+    end_fault(alloc, table, &ending, target(ty), target_spine(ty))
 }
 
 /// Before the first subgoal.
@@ -212,14 +248,57 @@ fn subgoals_fault(
     let mut left = domains.len();
     while left > 0 {
         left -= 1;
-        if !shape[left] {
-            let goal = weaken(alloc, domains[left], (domains.len() - left) as u64)?;
-            if let Some(argument) = step(alloc, sig, table, scope, &goal, walk)? {
-                return Ok(Some(argument));
-            }
+        let is_variable = nth_test(shape, left);
+        let domain = nth_domain(&domains, left);
+        let inside = (domains.len() - left) as u64;
+        let fault = quantifier_fault(alloc, sig, table, scope, is_variable, domain, inside, walk)?;
+        if fault.is_some() {
+            return Ok(fault);
         }
     }
     Ok(None)
+}
+
+/// The test at a place.
+fn nth_test(tests: &[bool], place: usize) -> bool
+    requires { place < length tests.now }
+    ensures { result ≡ get_or tests.now place false }
+{
+    tests[place]
+}
+
+/// The type at a place.
+fn nth_domain<'a>(domains: &[&'a Ty], place: usize) -> &'a Ty
+    requires { place < length domains.now }
+    ensures { type_of result.now ≡ get_or (map (λ d. type_of d.now) domains.now) place (atom 0 nil) }
+{
+    domains[place]
+}
+
+/// Meets a quantifier, which is no subgoal where it is a variable: the fault of a subgoal, if it has one. It stands inside as many variables.
+#[cycle(clause)]
+fn quantifier_fault(
+    alloc: Global,
+    sig: &Signature,
+    table: &Table,
+    scope: &Scope,
+    is_variable: bool,
+    domain: &Ty,
+    inside: u64,
+    walk: &mut Walk,
+) -> Result<Option<u64>, AllocError>
+    requires head { scope.now.bound ≡ 0 }
+    requires fixed { length scope.now.fixed.now ≤ scope.now.depth }
+    requires ground { length walk.old.ground.items ≡ scope.now.depth }
+    requires excused { length walk.old.excused.items ≡ scope.now.depth }
+    requires fits { Fits (signature_of sig.now) (type_of domain.now) }
+    ensures { IfOk result (λ f. QuantifierOutcome (signature_of sig.now) table.now (fixed_in scope.now) scope.now.depth is_variable (rename_type (shift_by inside) (type_of domain.now)) walk.old walk.new f) }
+{
+    if is_variable {
+        return Ok(None);
+    }
+    let goal = weaken(alloc, domain, inside)?;
+    step(alloc, sig, table, scope, &goal, walk)
 }
 
 /// Meets a subgoal: its fault, if it has one; else its outputs become ground.
@@ -245,8 +324,9 @@ fn step(
     ensures each_excused { IfOk result (λ f. f ≡ None → length walk.new.excused.items ≡ scope.now.depth) }
 {
     walk.subgoals = one_more(walk.subgoals)?;
-    if let Some(argument) = subgoal_fault(alloc, sig, table, scope, &walk.ground, goal)? {
-        return Ok(Some(argument));
+    let fault = subgoal_fault(alloc, sig, table, scope, &walk.ground, goal)?;
+    if fault.is_some() {
+        return Ok(fault);
     }
     solve_goal(alloc, table, scope, goal, walk)?;
     Ok(None)
@@ -322,11 +402,13 @@ fn subgoal_fault(
     requires fits { Fits (signature_of sig.now) (type_of goal.now) }
     ensures { IfOk result (λ f. SubgoalOutcome (signature_of sig.now) table.now (fixed_in scope.now) (in_marks true scope.now.depth ground.now) (type_of goal.now) f) }
 {
-    if let Some(place) = unsound_place(alloc, sig, table, target(goal))? {
-        return Ok(Some(place));
+    let unsound = unsound_place(alloc, sig, table, target(goal))?;
+    if unsound.is_some() {
+        return Ok(unsound);
     }
-    if let Some(place) = unground(alloc, table, scope.depth, ground, goal)? {
-        return Ok(Some(place));
+    let needs = unground(alloc, table, scope.depth, ground, goal)?;
+    if needs.is_some() {
+        return Ok(needs);
     }
     if hypotheses_are_moded(alloc, sig, table, scope, ground, goal)? {
         Ok(None)
@@ -416,12 +498,12 @@ fn is_moded(
     sig: &Signature,
     table: &Table,
     domain: &Ty,
-    fixed: &[bool],
-    ground: &[bool],
+    fixed: &Vec<bool>,
+    ground: &Vec<bool>,
 ) -> Result<bool, AllocError>
-    requires same { length fixed.now ≡ length ground.now }
+    requires same { length fixed.now.items ≡ length ground.now.items }
     requires fits { Fits (signature_of sig.now) (type_of domain.now) }
-    ensures { IfOk result (λ b. (C : List LfType) → Decides b (choose (moded_in table.now (target_of_type (type_of domain.now))) (WellModedFrom (signature_of sig.now) (marks_in table.now) (moded_in table.now) (in_marks true (length ground.now) ground.now) (record { outer = C; fixed = in_marks false (length fixed.now) fixed.now; type = type_of domain.now })) (Unit {0}))) }
+    ensures { IfOk result (λ b. (C : List LfType) → Decides b (choose (moded_in table.now (target_of_type (type_of domain.now))) (WellModedFrom (signature_of sig.now) (marks_in table.now) (moded_in table.now) (in_marks true (length ground.now.items) ground.now.items) (record { outer = C; fixed = in_marks false (length fixed.now.items) fixed.now.items; type = type_of domain.now })) (Unit {0}))) }
 {
     if !table.has(target(domain)) {
         return Ok(true);
@@ -431,5 +513,6 @@ fn is_moded(
         fixed,
         ground,
     };
-    Ok(clause_fault(alloc, sig, table, &outside, domain)?.is_none())
+    let fault = clause_fault(alloc, sig, table, &outside, domain)?;
+    Ok(fault.is_none())
 }

@@ -19,22 +19,28 @@ abbrev pub decreases-subgoals_fault-loop-left : goal.decreases-subgoals_fault-lo
 decreases-subgoals_fault-loop-left l = l.left
 
 abbrev pub decreases-clause_fault : goal.decreases-clause_fault
-decreases-clause_fault l = 8 * type_depth (type_of l.ty.now) + 1
+decreases-clause_fault l = 8 * type_depth (type_of l.ty.now) + 2
+
+abbrev pub decreases-sound_fault : goal.decreases-sound_fault
+decreases-sound_fault l = 8 * type_depth (type_of l.ty.now) + 1
 
 abbrev pub decreases-subgoals_fault : goal.decreases-subgoals_fault
 decreases-subgoals_fault l = 8 * type_depth (type_of l.ty.now)
 
+abbrev pub decreases-quantifier_fault : goal.decreases-quantifier_fault
+decreases-quantifier_fault l = 8 * type_depth (type_of l.domain.now) + 7
+
 abbrev pub decreases-step : goal.decreases-step
-decreases-step l = 8 * type_depth (type_of l.goal.now) + 5
+decreases-step l = 8 * type_depth (type_of l.goal.now) + 6
 
 abbrev pub decreases-subgoal_fault : goal.decreases-subgoal_fault
-decreases-subgoal_fault l = 8 * type_depth (type_of l.goal.now) + 4
+decreases-subgoal_fault l = 8 * type_depth (type_of l.goal.now) + 5
 
 abbrev pub decreases-hypotheses_are_moded : goal.decreases-hypotheses_are_moded
-decreases-hypotheses_are_moded l = 8 * type_depth (type_of l.goal.now) + 3
+decreases-hypotheses_are_moded l = 8 * type_depth (type_of l.goal.now) + 4
 
 abbrev pub decreases-each_hypothesis : goal.decreases-each_hypothesis
-decreases-each_hypothesis l = 8 * type_depth (type_of l.goal.now) + 2
+decreases-each_hypothesis l = 8 * type_depth (type_of l.goal.now) + 3
 
 abbrev pub decreases-is_moded : goal.decreases-is_moded
-decreases-is_moded l = 8 * type_depth (type_of l.domain.now) + 2
+decreases-is_moded l = 8 * type_depth (type_of l.domain.now) + 3
