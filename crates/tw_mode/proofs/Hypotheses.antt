@@ -1,9 +1,9 @@
 -- The hypotheses of a subgoal, one after the other, and what a subgoal and a clause come to.
-use Rattle.std.proofs.Common.{◌≡◌, ℕ, zero, suc, ◌+◌, List, [], ◌∷◌, ◌++◌, Bool, true, false, length, length-append, refl, sym, ap, ap₂, ◌∙◌, subst, arith}
-use Rattle.std.specs.Prelude.{Option, Some, None, Decides, is_none, is_some, option_map}
+use Rattle.std.proofs.Common.{◌≡◌, ℕ, zero, suc, ◌+◌, ◌-◌, ◌≤◌, List, [], ◌∷◌, ◌++◌, Bool, true, false, length, length-append, refl, sym, ap, ap₂, ◌∙◌, subst, arith}
+use Rattle.std.specs.Prelude.{cond, Option, Some, None, Decides, is_none, is_some, option_map}
 use Rattle.lf.specs.Syntax.{LfType, pi, atom}
 use Rattle.lf.specs.Typing.{Signature}
-use Rattle.lf.specs.Variables.{target, under}
+use Rattle.lf.specs.Variables.{same_number, target, under}
 use Rattle.lf_checks.specs.Clause.{Clause, outside, scope}
 use Rattle.lf_checks.specs.Ground.{UsesGoal}
 use Rattle.lf_checks.specs.Marks.{Mark, HasSoundMarks, input_places}
@@ -21,6 +21,7 @@ use Rattle.tw_mode.specs.declared.outside.Outside.{Outside}
 use Rattle.tw_mode.specs.declared.table.Table.{Table}
 use Rattle.tw_mode.proofs.Sets.{newest_under, pushed_set}
 use Rattle.tw_mode.proofs.Using.{decides_no, decides_same, decides_yes, no_of}
+use mathlib.Core.Path.{fun_ext}
 
 -- one more mark that says yes
 pub pushed_under : (b : Bool) (ms ns : List Bool) → ns ≡ ms ++ true ∷ [] → in_marks b (length ns) ns ≡ under (in_marks b (length ms) ms)
@@ -59,9 +60,37 @@ moded_decided P Q true r e d = d
 moded_decided P Q false r e d = absurd cc
 
 -- a hypothesis of a moded family, by what its check as a clause comes to
-pub hypothesis_decided : (Σ : Signature) (t : Table) (o : Outside) (A : LfType) (f : Option Place) (r : Bool) → r ≡ is_none f → moded_in t (target A) ≡ true → ClauseOutcome Σ t o A f → (C : List LfType) → Decides r (choose (moded_in t (target A)) (WellModedFrom Σ (marks_in t) (moded_in t) (ground_outside o) (clause_in C o A)) (Unit {0}))
+hypothesis_decided : (Σ : Signature) (t : Table) (o : Outside) (A : LfType) (f : Option Place) (r : Bool) → r ≡ is_none f → moded_in t (target A) ≡ true → ClauseOutcome Σ t o A f → (C : List LfType) → Decides r (choose (moded_in t (target A)) (WellModedFrom Σ (marks_in t) (moded_in t) (ground_outside o) (clause_in C o A)) (Unit {0}))
 hypothesis_decided Σ t o A None r e m h C = moded_decided _ _ (moded_in t (target A)) r m (subst (λ b. Decides b (WellModedFrom Σ (marks_in t) (moded_in t) (ground_outside o) (clause_in C o A))) (sym e) (decides_yes (h C)))
 hypothesis_decided Σ t o A (Some p) r e m h C = moded_decided _ _ (moded_in t (target A)) r m (subst (λ b. Decides b (WellModedFrom Σ (marks_in t) (moded_in t) (ground_outside o) (clause_in C o A))) (sym e) (decides_no (mode_refuted Σ (marks_in t) (moded_in t) (ground_outside o) (clause_in C o A) (plain_place p) (h C))))
+
+-- the same by the sets of its marks
+pub hypothesis_there : (Σ : Signature) (t : Table) (o : Outside) (A : LfType) (f : Option Place) (r : Bool) → r ≡ is_none f → moded_in t (target A) ≡ true → ClauseOutcome Σ t o A f → (C : List LfType) (F U : ℕ → Bool) → in_marks false o.depth o.fixed.now ≡ F → in_marks true o.depth o.ground.now ≡ U → Decides r (choose (moded_in t (target A)) (WellModedFrom Σ (marks_in t) (moded_in t) U (record { outer = C; fixed = F; type = A })) (Unit {0}))
+hypothesis_there Σ t o A f r e m h C F U p q =
+    subst (λ V. Decides r (choose (moded_in t (target A)) (WellModedFrom Σ (marks_in t) (moded_in t) V (record { outer = C; fixed = F; type = A })) (Unit {0}))) q
+      (subst (λ G. Decides r (choose (moded_in t (target A)) (WellModedFrom Σ (marks_in t) (moded_in t) (ground_outside o) (record { outer = C; fixed = G; type = A })) (Unit {0}))) p
+        (hypothesis_decided Σ t o A f r e m h C))
+
+cond_false : (t : Bool) → cond t false false ≡ false
+cond_false true = refl
+cond_false false = refl
+
+none_marked : (d i : ℕ) → in_marks false d [] i ≡ false
+none_marked zero i = refl
+none_marked (suc d) i = refl
+
+pushed_nothing : (d i : ℕ) (ms : List Bool) → in_marks false d (ms ++ false ∷ []) i ≡ in_marks false d ms i
+pushed_nothing zero i ms = refl
+pushed_nothing (suc d) i [] = ap (cond (same_number i d) false) (none_marked d i) ∙ cond_false (same_number i d)
+pushed_nothing (suc d) i (m ∷ ms) = ap (cond (same_number i d) m) (pushed_nothing d i ms)
+
+-- marks that say no behind others change no set
+hidden_nothing : (n d : ℕ) (ms : List Bool) → length ms + n ≤ d → in_marks false d (with_hidden ms n) ≡ in_marks false d ms
+hidden_nothing zero d ms h = refl
+hidden_nothing (suc n) d ms h = hidden_nothing n d (ms ++ false ∷ []) (let l = length-append ms (false ∷ []) in omega (arith, h, l)) ∙ fun_ext (λ i. pushed_nothing d i ms)
+
+pub filled : (fs ms : List Bool) (d : ℕ) → length ms ≤ d → length fs ≡ d → fs ≡ with_hidden ms (d - length ms) → in_marks false (length fs) fs ≡ in_marks false d ms
+filled fs ms d h l e = ap₂ (λ n xs. in_marks false n xs) l e ∙ hidden_nothing (d - length ms) d ms (omega (arith, h))
 
 -- A subgoal.
 module _ (Σ : Signature) (t : Table) (F U : ℕ → Bool) (A : LfType) where

@@ -1,5 +1,5 @@
 -- The clauses of a group, one place after the other.
-use Rattle.std.proofs.Common.{◌≡◌, ℕ, zero, suc, ◌+◌, ◌<◌, ◌≤◌, List, [], ◌∷◌, ◌++◌, Bool, true, false, Some, None, Option, length, drop, get_or, map, add-one, drop-cons, refl, sym, ap, ap₂, ◌∙◌, subst, arith}
+use Rattle.std.proofs.Common.{◌≡◌, ℕ, zero, suc, ◌+◌, ◌<◌, ◌≤◌, List, [], ◌∷◌, ◌++◌, Bool, true, false, Some, None, Option, length, drop, get_or, map, refl, sym, ap, ap₂, ◌∙◌, subst, arith}
 use Rattle.std.specs.Prelude.{cond, slice_get}
 use Rattle.std.proofs.lemmas.List.{append_assoc}
 use Rattle.std.proofs.Math.ListN.{drop_of_length-le}
@@ -66,8 +66,8 @@ entries_next B a n h = let (E, e) = found_below B.entries n h in entry_step B a 
 pub no_entries : (B : Block) (a n : ℕ) (cs : List NamedClause) → length B.entries ≤ n → cs ≡ cs ++ entry_clauses B a (drop n B.entries)
 no_entries B a n cs h = sym (ap (λ xs. cs ++ entry_clauses B a xs) (drop_of_length-le B.entries h) ∙ nothing_behind cs)
 
-pub listed_next : (es : List PlainEntry) (W : List Block) (xs : List Listed) (k : ℕ) (x : Listed) → k < length xs → x ≡ get_or xs k x → listed_clauses es W (drop k xs) ≡ clause_at es W x ++ listed_clauses es W (drop (k + 1) xs)
-listed_next es W xs k x h e = rw (add-one, drop-cons xs k x) (ap (λ y. clause_at es W y ++ listed_clauses es W (drop (suc k) xs)) (sym e))
+pub listed_next : (es : List PlainEntry) (W : List Block) (xs : List Listed) (k : ℕ) (x : Listed) → drop k xs ≡ x ∷ drop (suc k) xs → listed_clauses es W (drop k xs) ≡ clause_at es W x ++ listed_clauses es W (drop (k + 1) xs)
+listed_next es W xs k x e = ap (listed_clauses es W) e ∙ ap (λ n. clause_at es W x ++ listed_clauses es W (drop n xs)) (let q : suc k ≡ k + 1 = omega arith in q)
 
 -- one constant, one block, one family more
 pub one_more_in_front : (os bs cs ds rest : List NamedClause) (whole : List NamedClause) → bs ≡ os ++ cs → ds ≡ cs ++ rest → os ++ ds ≡ whole → bs ++ rest ≡ whole
@@ -78,8 +78,11 @@ map_found f [] k x h e = absurd (omega (arith, h))
 map_found f (y ∷ xs) zero x h e = ap (λ z. Some (f z)) (sym e)
 map_found f (y ∷ xs) (suc k) x h e = map_found f xs k x (omega (arith, h)) e
 
-pub constants_next : (es : List PlainEntry) (ids : List ConstId) (k : ℕ) (x : ConstId) → k < length ids → x ≡ get_or ids k x → constant_clauses (signature_of es).types (map (λ i. i.0) (drop k ids)) ≡ with_constant x.0 ((signature_of es).types x.0) [] ++ constant_clauses (signature_of es).types (map (λ i. i.0) (drop (k + 1) ids))
-constants_next es ids k x h e = rw (add-one, drop-cons ids k x) (ap (λ y. constant_clauses (signature_of es).types (y.0 ∷ map (λ i. i.0) (drop (suc k) ids))) (sym e) ∙ constants_split es [] x.0 (map (λ i. i.0) (drop (suc k) ids)))
+pub constants_next : (es : List PlainEntry) (ids : List ConstId) (k : ℕ) (x : ConstId) → drop k ids ≡ x ∷ drop (suc k) ids → constant_clauses (signature_of es).types (map (λ i. i.0) (drop k ids)) ≡ with_constant x.0 ((signature_of es).types x.0) [] ++ constant_clauses (signature_of es).types (map (λ i. i.0) (drop (k + 1) ids))
+constants_next es ids k x e =
+    ap (λ xs. constant_clauses (signature_of es).types (map (λ i. i.0) xs)) e
+    ∙ constants_split es [] x.0 (map (λ i. i.0) (drop (suc k) ids))
+    ∙ ap (λ n. with_constant x.0 ((signature_of es).types x.0) [] ++ constant_clauses (signature_of es).types (map (λ i. i.0) (drop n ids))) (let q : suc k ≡ k + 1 = omega arith in q)
 
 pub blocks_next : (W : List Block) (k : ℕ) (B : Block) (a : ℕ) → slice_get W k ≡ Some B → block_clauses (drop k W) a ≡ entry_clauses B a B.entries ++ block_clauses (drop (k + 1) W) a
 blocks_next W k B a e = ap (λ xs. block_clauses xs a) (drop_found W k B e) ∙ ap (λ n. entry_clauses B a B.entries ++ block_clauses (drop n W) a) (let q : suc k ≡ k + 1 = omega arith in q)

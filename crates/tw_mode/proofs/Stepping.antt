@@ -131,6 +131,12 @@ module _ (Σ : Signature) (t : Table) (o : Outside) (T : LfType) (depth : ℕ) (
   walked_of w None e h = h
   walked_of w (Some j) e h = absurd cc
 
+  pub ground_count : (w : Walk) → SubgoalsOutcome Σ t o T depth w None → length w.ground.items ≡ depth
+  ground_count w h = let x : Stands (marks_in t) (ground_outside o) (clause_in [] o T) depth w (quantifiers T) = (h []).0 in x.each_ground
+
+  pub excused_count : (w : Walk) → SubgoalsOutcome Σ t o T depth w None → length w.excused.items ≡ depth
+  excused_count w h = let x : Stands (marks_in t) (ground_outside o) (clause_in [] o T) depth w (quantifiers T) = (h []).0 in x.each_excused
+
   module _ (w : Walk) (s : HasSoundMarks Σ (target T) (marks_in t (target T))) (fits : Fits Σ T) (walked : SubgoalsOutcome Σ t o T depth w None) where
     as_many : length (marks_in t (target T)) ≡ argument_count (target_arguments T)
     as_many = let (K, k, n) = fits_target Σ T fits in let (L, l, m) = s in let q : L ≡ K = one (sym l ∙ k) in sound_count _ (marks_in t (target T)) L m ∙ ap kind_quantifiers q ∙ n

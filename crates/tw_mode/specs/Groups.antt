@@ -1,10 +1,9 @@
 -- What the check of the clauses of a group comes to.
-use Rattle.std.specs.Prelude.{◌≡◌, ℕ, suc, List, Bool, drop, option_map, Option, Some, None, Result, Ok, Err}
+use Rattle.std.specs.Prelude.{◌≡◌, ℕ, List, Bool, option_map, Option, Some, None, Result, Ok, Err}
 use Rattle.lf.specs.Entries.{Entry}
 use Rattle.lf.specs.Subordination.{Block}
-use Rattle.lf.specs.Syntax.{LfType}
 use Rattle.lf.specs.Typing.{Signature}
-use Rattle.lf_checks.specs.Clause.{entry_clause}
+use Rattle.lf_checks.specs.Clause.{Clause}
 use Rattle.lf_checks.specs.Clauses.{NamedClause, group_clauses}
 use Rattle.lf_checks.specs.Faults.{AllPass, FirstFault}
 use Rattle.lf_checks.specs.Marks.{Mark}
@@ -41,6 +40,6 @@ FaultsOutcome Σ m moded cs (Err (Fault name k j)) = FirstFault (WellModed Σ m 
 FaultsOutcome Σ m moded cs (Err (NoMode f)) = ⊥
 FaultsOutcome Σ m moded cs (Err NoMemory) = Unit {0}
 
--- of an entry of the type A of a block, of which n entries are newer
-abbrev pub EntryOutcome : Signature → Table → Block → ℕ → LfType → Option Place → Type 0
-EntryOutcome Σ t B n A f = Outcome (WellModed Σ (marks_in t) (moded_in t) (entry_clause B (drop (suc n) B.entries) A)) (PlainFault Σ (marks_in t) (moded_in t) (entry_clause B (drop (suc n) B.entries) A)) (option_map plain_place f)
+-- of a constant or an entry
+abbrev pub NamedOutcome : Signature → Table → Clause → Option Place → Type 0
+NamedOutcome Σ t c f = Outcome (WellModed Σ (marks_in t) (moded_in t) c) (PlainFault Σ (marks_in t) (moded_in t) c) (option_map plain_place f)

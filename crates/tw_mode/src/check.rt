@@ -1,23 +1,25 @@
 //! The check of modes of a group.
-ghost use Rattle.std.specs.Prelude.{◌≡◌, ◌<◌, [], List, length, map, option_map, slice_get, IfOk};
+ghost use Rattle.std.specs.Prelude.{◌≡◌, ◌<◌, ◌-◌, [], ◌∷◌, suc, List, drop, length, map, option_map, slice_get, IfOk};
 ghost use Rattle.lf.specs.Entries.{signature_of};
 ghost use Rattle.lf.specs.Subordination.{AreTypedBlocks, IsTypedBlock};
-ghost use Rattle.lf_checks.specs.Clauses.{NamedClause, with_constant};
+ghost use Rattle.lf.specs.Typing.{Signature as PlainSignature};
+ghost use Rattle.lf_checks.specs.Clause.{constant_clause, entry_clause};
+ghost use Rattle.lf_checks.specs.Clauses.{NamedClause, of_entry, with_constant};
 ghost use Rattle.tw_clause.specs.Tables.{mode_rows_of};
-ghost use Rattle.tw_clause.specs.View.{block_of, worlds_of};
+ghost use Rattle.tw_clause.specs.View.{block_of, name_of, worlds_of};
 ghost use Rattle.tw_terms.specs.View.{type_of};
 ghost use Rattle.tw_mode.specs.Checks.{Fits};
-ghost use Rattle.tw_mode.specs.Groups.{EntryOutcome, FaultsOutcome, GroupOutcome, ModesOutcome};
-ghost use Rattle.tw_mode.specs.Listing.{as_list, clause_at, listed_clauses, with_entry};
+ghost use Rattle.tw_mode.specs.Groups.{FaultsOutcome, GroupOutcome, ModesOutcome, NamedOutcome};
+ghost use Rattle.tw_mode.specs.Listing.{as_list, clause_at, in_block, listed_clauses, with_entry};
 ghost use Rattle.tw_mode.specs.Rows.{marks_in, moded_in};
 ghost use Rattle.tw_mode.specs.Solved.{with_hidden, with_shown};
-ghost use Rattle.tw_mode.specs.declared.fault.ModeFault.TheVariants.{Fault};
+ghost use Rattle.tw_mode.specs.declared.table.Table.{Table as PlainTable};
 
 use crate::called::unmoded;
 use crate::clause::{Place, clause_fault};
 use crate::fault::ModeFault;
 use crate::listed::{Listed, list_group};
-use crate::outside::Outside;
+use crate::outside::{Outside, outside_of};
 use crate::table::Table;
 use std::alloc::{AllocError, Global};
 use tw_clause::{Block, ClauseName, Modes, Worlds};
@@ -53,8 +55,11 @@ fn all_have_modes(
 ) -> Result<(), ModeFault>
     ensures { ModesOutcome (moded_in table.now) (listed_clauses sig.now (worlds_of worlds.now) listed.now) result }
 {
-    for at in listed {
+    let mut next = 0;
+    while next < listed.len() {
+        let at = nth_listed(listed, next);
         have_modes(alloc, sig, table, worlds, at)?;
+        next += 1;
     }
     Ok(())
 }
@@ -70,8 +75,11 @@ fn all_are_moded(
     requires { AreTypedBlocks (signature_of sig.now) (worlds_of worlds.now) }
     ensures { FaultsOutcome (signature_of sig.now) (marks_in table.now) (moded_in table.now) (listed_clauses sig.now (worlds_of worlds.now) listed.now) result }
 {
-    for at in listed {
+    let mut next = 0;
+    while next < listed.len() {
+        let at = nth_listed(listed, next);
         is_moded(alloc, sig, table, worlds, at)?;
+        next += 1;
     }
     Ok(())
 }
@@ -82,14 +90,14 @@ fn have_modes(
     sig: &Signature,
     table: &Table,
     worlds: &Worlds,
-    at: &Listed,
+    at: Listed,
 ) -> Result<(), ModeFault>
-    ensures { ModesOutcome (moded_in table.now) (clause_at sig.now (worlds_of worlds.now) at.now) result }
+    ensures { ModesOutcome (moded_in table.now) (clause_at sig.now (worlds_of worlds.now) at) result }
 {
     match at {
-        Listed::Constant(id) => families_have_modes(alloc, table, sig.constant_type(*id)),
-        Listed::Entry(number, newer) => match worlds.blocks.get(*number) {
-            Some(block) => families_have_modes(alloc, table, block.entries.get(*newer)),
+        Listed::Constant(id) => families_have_modes(alloc, table, sig.constant_type(id)),
+        Listed::Entry(number, newer) => match worlds.blocks.get(number) {
+            Some(block) => families_have_modes(alloc, table, block.entries.get(newer)),
             None => Ok(()),
         },
     }
@@ -121,18 +129,41 @@ fn is_moded(
     sig: &Signature,
     table: &Table,
     worlds: &Worlds,
-    at: &Listed,
+    at: Listed,
 ) -> Result<(), ModeFault>
     requires { AreTypedBlocks (signature_of sig.now) (worlds_of worlds.now) }
-    ensures { FaultsOutcome (signature_of sig.now) (marks_in table.now) (moded_in table.now) (clause_at sig.now (worlds_of worlds.now) at.now) result }
+    ensures { FaultsOutcome (signature_of sig.now) (marks_in table.now) (moded_in table.now) (clause_at sig.now (worlds_of worlds.now) at) result }
 {
     match at {
-        Listed::Constant(id) => constant_is_moded(alloc, sig, table, *id),
-        Listed::Entry(number, newer) => match worlds.blocks.get(*number) {
-            Some(block) => entry_is_moded(alloc, sig, table, block, *newer),
-            None => Ok(()),
-        },
+        Listed::Constant(id) => constant_is_moded(alloc, sig, table, id),
+        Listed::Entry(number, newer) => place_is_moded(alloc, sig, table, worlds, number, newer),
     }
+}
+
+/// The place of a list.
+fn nth_listed(listed: &[Listed], place: usize) -> Listed
+    requires { place < length listed.now }
+    ensures { drop place listed.now ≡ result ∷ drop (suc place) listed.now }
+{
+    listed[place]
+}
+
+/// The same of an entry of the block with this number.
+fn place_is_moded(
+    alloc: Global,
+    sig: &Signature,
+    table: &Table,
+    worlds: &Worlds,
+    number: usize,
+    newer: u64,
+) -> Result<(), ModeFault>
+    requires { AreTypedBlocks (signature_of sig.now) (worlds_of worlds.now) }
+    ensures { FaultsOutcome (signature_of sig.now) (marks_in table.now) (moded_in table.now) (in_block (slice_get (worlds_of worlds.now) number) newer) result }
+{
+    let Some(block) = worlds.blocks.get(number) else {
+        return Ok(());
+    };
+    entry_is_moded(alloc, sig, table, block, newer)
 }
 
 /// The same of a constant.
@@ -148,14 +179,34 @@ fn constant_is_moded(
     let Some(ty) = sig.constant_type(id) else {
         return Ok(());
     };
-    let outside = Outside {
+    let fault = constant_fault(alloc, sig, table, ty)?;
+    told(ClauseName::Constant(id), fault)
+}
+
+/// The first fault of a constant.
+fn constant_fault(
+    alloc: Global,
+    sig: &Signature,
+    table: &Table,
+    ty: &Ty,
+) -> Result<Option<Place>, AllocError>
+    requires { Fits (signature_of sig.now) (type_of ty.now) }
+    ensures { IfOk result (λ f. NamedOutcome (signature_of sig.now) table.now (constant_clause (type_of ty.now)) f) }
+{
+    let outside = nothing_outside();
+    clause_fault(alloc, sig, table, &outside, ty)
+}
+
+/// Nothing stands outside.
+fn nothing_outside<'a>() -> Outside<'a>
+    ensures depth { result.depth ≡ 0 }
+    ensures fixed { length result.fixed.now ≡ 0 }
+    ensures ground { length result.ground.now ≡ 0 }
+{
+    Outside {
         depth: 0,
         fixed: &[],
         ground: &[],
-    };
-    match clause_fault(alloc, sig, table, &outside, ty)? {
-        Some(place) => Err(fault_at(ClauseName::Constant(id), place)),
-        None => Ok(()),
     }
 }
 
@@ -173,14 +224,20 @@ fn entry_is_moded(
     let Some(ty) = block.entries.get(newer) else {
         return Ok(());
     };
-    match entry_fault(alloc, sig, table, block, newer, ty)? {
-        Some(place) => {
-            let number = block.entries.len() as u64 - newer;
-            let label = block.label.copy(alloc)?;
-            Err(fault_at(ClauseName::BlockEntry(label, number), place))
-        }
-        None => Ok(()),
+    let fault = entry_fault(alloc, sig, table, block, newer, ty)?;
+    if fault.is_none() {
+        return Ok(());
     }
+    told(entry_name(alloc, block, newer)?, fault)
+}
+
+/// The name of an entry, by the number of newer ones.
+fn entry_name(alloc: Global, block: &Block, newer: u64) -> Result<ClauseName, AllocError>
+    requires { newer < length block.now.entries }
+    ensures { IfOk result (λ n. name_of n ≡ of_entry (block_of block.now).label (length block.now.entries - newer)) }
+{
+    let number = block.entries.len() as u64 - newer;
+    Ok(ClauseName::BlockEntry(block.label.copy(alloc)?, number))
 }
 
 /// The first fault of an entry, where so many entries are newer: outside it stand the entries before it and then the `some` variables.
@@ -194,17 +251,21 @@ fn entry_fault(
 ) -> Result<Option<Place>, AllocError>
     requires newer { newer < length block.now.entries }
     requires fits { Fits (signature_of sig.now) (type_of ty.now) }
-    ensures { IfOk result (λ f. EntryOutcome (signature_of sig.now) table.now (block_of block.now) newer (type_of ty.now) f) }
+    ensures { IfOk result (λ f. NamedOutcome (signature_of sig.now) table.now (entry_clause (block_of block.now) (drop (suc newer) block.now.entries) (type_of ty.now)) f) }
+{
+    let fixed = fixed_outside(alloc, block, newer)?;
+    let ground = some_and_entries(alloc, 0, fixed.len() as u64)?;
+    let outside = outside_of(&fixed, &ground);
+    clause_fault(alloc, sig, table, &outside, ty)
+}
+
+/// The marks of what is fixed outside an entry.
+fn fixed_outside(alloc: Global, block: &Block, newer: u64) -> Result<Vec<bool>, AllocError>
+    requires { newer < length block.now.entries }
+    ensures { IfOk result (λ v. v.items ≡ with_shown (with_hidden [] (length block.now.some)) (length block.now.entries - newer - 1)) }
 {
     let older = block.entries.len() as u64 - newer - 1;
-    let fixed = some_and_entries(alloc, block.some.len() as u64, older)?;
-    let ground = some_and_entries(alloc, 0, fixed.len() as u64)?;
-    let outside = Outside {
-        depth: fixed.len() as u64,
-        fixed: &fixed,
-        ground: &ground,
-    };
-    clause_fault(alloc, sig, table, &outside, ty)
+    some_and_entries(alloc, block.some.len() as u64, older)
 }
 
 /// So many marks that say no, and then so many that say yes.
@@ -221,13 +282,16 @@ fn some_and_entries(alloc: Global, some: u64, entries: u64) -> Result<Vec<bool>,
     Ok(marks)
 }
 
-/// A fault of a clause.
-fn fault_at(clause: ClauseName, place: Place) -> ModeFault
-    ensures { result ≡ Fault clause place.subgoal place.argument }
+/// What the fault of a clause with this name says of it alone.
+fn told(name: ClauseName, fault: Option<Place>) -> Result<(), ModeFault>
+    ensures { (Σ : PlainSignature) (t : PlainTable) (n : NamedClause) → n.name ≡ name_of name → NamedOutcome Σ t n.clause fault → FaultsOutcome Σ (marks_in t) (moded_in t) (n ∷ []) result }
 {
-    ModeFault::Fault {
-        clause,
-        subgoal: place.subgoal,
-        argument: place.argument,
+    match fault {
+        Some(place) => Err(ModeFault::Fault {
+            clause: name,
+            subgoal: place.subgoal,
+            argument: place.argument,
+        }),
+        None => Ok(()),
     }
 }

@@ -18,7 +18,7 @@ ghost use Rattle.tw_mode.specs.Scopes.{fixed_in, in_marks};
 ghost use Rattle.tw_mode.specs.Solved.{Stands, after, after_all, clause_in, domain_types, excused, ground_outside, with_free};
 
 use crate::end::{Ending, end_fault};
-use crate::outside::Outside;
+use crate::outside::{Outside, outside_of};
 use crate::head::{count_quantifiers, marks_in_head, more_marks, sum, target_spine};
 use crate::table::Table;
 use crate::inputs::{first_outside_goal, hypotheses_use};
@@ -508,11 +508,7 @@ fn is_moded(
     if !table.has(target(domain)) {
         return Ok(true);
     }
-    let outside = Outside {
-        depth: ground.len() as u64,
-        fixed,
-        ground,
-    };
+    let outside = outside_of(fixed, ground);
     let fault = clause_fault(alloc, sig, table, &outside, domain)?;
     Ok(fault.is_none())
 }

@@ -1,8 +1,8 @@
 //! The clauses of a group, in order.
-ghost use Rattle.std.specs.Prelude.{◌≡◌, ◌++◌, [], List, Some, map, slice_get, IfOk, OnOk};
-ghost use Rattle.lf.specs.Entries.{Entry as PlainEntry, signature_of};
+ghost use Rattle.std.specs.Prelude.{◌≡◌, ◌<◌, ◌++◌, ◌∷◌, suc, List, Some, drop, length, map, slice_get, IfOk, OnOk};
+ghost use Rattle.lf.specs.Entries.{Entry as PlainEntry};
 ghost use Rattle.lf.specs.Subordination.{Block as PlainBlock};
-ghost use Rattle.lf_checks.specs.Clauses.{clauses_of, entry_clauses, group_clauses, with_constant};
+ghost use Rattle.lf_checks.specs.Clauses.{clauses_of, entry_clauses, group_clauses};
 ghost use Rattle.tw_clause.specs.View.{block_of, worlds_of};
 ghost use Rattle.tw_mode.specs.Listing.{entry_alone, listed_clauses};
 
@@ -43,8 +43,11 @@ fn list_family(
 ) -> Result<(), AllocError>
     ensures { OnOk result (listed_clauses sig.now (worlds_of worlds.now) listed.new.items ≡ listed_clauses sig.now (worlds_of worlds.now) listed.old.items ++ clauses_of sig.now (worlds_of worlds.now) family.0) }
 {
-    for id in sig.constants_of(family) {
-        list_constant(id, listed)?;
+    let ids = sig.constants_of(family);
+    let mut next = 0;
+    while next < ids.len() {
+        listed.push(Listed::Constant(nth_constant(ids, next)))?;
+        next += 1;
     }
     for (number, block) in worlds.blocks.iter().enumerate() {
         list_block(block, number, family, listed)?;
@@ -52,12 +55,12 @@ fn list_family(
     Ok(())
 }
 
-/// Adds a constant.
-fn list_constant(id: &ConstId, listed: &mut Vec<Listed>) -> Result<(), AllocError>
-    ensures { OnOk result ((es : List PlainEntry) (W : List PlainBlock) → listed_clauses es W listed.new.items ≡ listed_clauses es W listed.old.items ++ with_constant id.now.0 ((signature_of es).types id.now.0) []) }
+/// The constant at a place.
+fn nth_constant(ids: &[ConstId], place: usize) -> ConstId
+    requires { place < length ids.now }
+    ensures { drop place ids.now ≡ result ∷ drop (suc place) ids.now }
 {
-    listed.push(Listed::Constant(*id))?;
-    Ok(())
+    ids[place]
 }
 
 /// Adds those of a family among the entries of a block.

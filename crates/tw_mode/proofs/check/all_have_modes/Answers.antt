@@ -14,20 +14,20 @@ returns-in_err-have_modes c =
     let W = worlds_of c.args.worlds.now in
     let M = moded_in c.args.table.now in
     let xs = c.args.listed.now in
-    let k = c.loop-at.at-index in
+    let k = c.loop-next.next in
     let f = c.in_err-have_modes.field-0.0 in
     let e : c.from_residual.result ≡ Err f = search rules in
     subst (ModesOutcome M (listed_clauses es W xs)) (sym e)
-      (c.loop-at.invariant (Err f) (subst (λ cs. ModesOutcome M cs (Err f)) (sym (listed_next es W xs k c.at-item.result (omega arith) c.at-item.is)) (modes_end M (clause_at es W c.at-item.result) (listed_clauses es W (drop (k + 1) xs)) f c.in_err-have_modes.ensures)))
+      (c.loop-next.invariant (Err f) (subst (λ cs. ModesOutcome M cs (Err f)) (sym (listed_next es W xs k c.nth_listed-at.result c.nth_listed-at.ensures)) (modes_end M (clause_at es W c.nth_listed-at.result) (listed_clauses es W (drop (k + 1) xs)) f c.in_err-have_modes.ensures)))
 
-pub loop-at-preserved : goal.loop-at-preserved
-loop-at-preserved c = λ r h.
+pub loop-next-preserved : goal.loop-next-preserved
+loop-next-preserved c = λ r h.
     let es = c.args.sig.now in
     let W = worlds_of c.args.worlds.now in
     let M = moded_in c.args.table.now in
     let xs = c.args.listed.now in
-    let k = c.loop-at.at-index in
-    c.loop-at.invariant r (subst (λ cs. ModesOutcome M cs r) (sym (listed_next es W xs k c.at-item.result (omega arith) c.at-item.is)) (modes_go_on M (clause_at es W c.at-item.result) (listed_clauses es W (drop (k + 1) xs)) tt r c.in_ok-have_modes.ensures h))
+    let k = c.loop-next.next in
+    c.loop-next.invariant r (subst (λ cs. ModesOutcome M cs r) (sym (listed_next es W xs k c.nth_listed-at.result c.nth_listed-at.ensures)) (modes_go_on M (clause_at es W c.nth_listed-at.result) (listed_clauses es W (drop (k + 1) xs)) tt r c.in_ok-have_modes.ensures h))
 
 pub returns : goal.returns
 returns c =
@@ -35,4 +35,4 @@ returns c =
     let W = worlds_of c.args.worlds.now in
     let M = moded_in c.args.table.now in
     let xs = c.args.listed.now in
-    c.loop-at.invariant (Ok tt) (subst (λ ys. ModesOutcome M (listed_clauses es W ys) (Ok tt)) (sym (drop_of_length-le xs (omega arith))) refl)
+    c.loop-next.invariant (Ok tt) (subst (λ ys. ModesOutcome M (listed_clauses es W ys) (Ok tt)) (sym (drop_of_length-le xs (omega arith))) refl)

@@ -1,19 +1,20 @@
-use Rattle.std.proofs.Common.{◌++◌, ◌+◌, ◌∙◌, [], ap, arith, drop, get_or, map, refl, sym}
+use Rattle.std.proofs.Common.{◌+◌, ◌∙◌, [], ap, arith, drop, get_or, map}
 use Rattle.lf.specs.Entries.{signature_of}
 use Rattle.lf_checks.specs.Clauses.{block_clauses, constant_clauses, entry_clauses, with_constant}
 use Rattle.tw_clause.specs.View.{block_of, worlds_of}
 use Rattle.tw_mode.specs.Listing.{listed_clauses}
-use Rattle.tw_mode.proofs.Listing.{blocks_next, constants_next, map_found, one_more_in_front}
+use Rattle.tw_mode.specs.declared.listed.Listed.TheVariants.{Constant}
+use Rattle.tw_mode.proofs.Listing.{blocks_next, constants_next, listed_push, map_found, one_more_in_front}
 use Rattle.tw_mode.proofs.listed.list_family.Goals as goal
 
-pub loop-id-preserved : goal.loop-id-preserved
-loop-id-preserved c =
+pub loop-next-preserved : goal.loop-next-preserved
+loop-next-preserved c =
     let es = c.args.sig.now in
     let W = worlds_of c.args.worlds.now in
-    let ids = c.constants_of-id-items.result.now in
-    let k = c.loop-id.id-index in
-    let x = c.id-item.result in
-    one_more_in_front (listed_clauses es W c.loop-id.listed.items) (listed_clauses es W c.list_constant.new.listed.items) (with_constant x.0 ((signature_of es).types x.0) []) (constant_clauses (signature_of es).types (map (λ i. i.0) (drop k ids))) (constant_clauses (signature_of es).types (map (λ i. i.0) (drop (k + 1) ids))) _ (c.in_ok-list_constant.ensures es W) (constants_next es ids k x (omega arith) c.id-item.is) c.loop-id.invariant
+    let ids = c.constants_of-ids.result.now in
+    let k = c.loop-next.next in
+    let x = c.nth_constant.result in
+    one_more_in_front (listed_clauses es W c.loop-next.listed.items) (listed_clauses es W c.push.new.self.items) (with_constant x.0 ((signature_of es).types x.0) []) (constant_clauses (signature_of es).types (map (λ i. i.0) (drop k ids))) (constant_clauses (signature_of es).types (map (λ i. i.0) (drop (k + 1) ids))) _ (ap (listed_clauses es W) c.in_ok-push.ensures.items ∙ listed_push es W c.loop-next.listed.items (Constant x)) (constants_next es ids k x c.nth_constant.ensures) c.loop-next.invariant
 
 pub loop-number-preserved : goal.loop-number-preserved
 loop-number-preserved c =
