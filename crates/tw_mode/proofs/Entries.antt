@@ -1,11 +1,12 @@
 -- Clauses of typed signatures and blocks fit, and what stands outside them.
 use Rattle.std.proofs.Common.{◌≡◌, ℕ, zero, suc, ◌+◌, ◌-◌, ◌<◌, List, [], ◌∷◌, ◌++◌, Bool, true, false, Some, length, length-append, drop, refl, sym, ap, ap₂, ◌∙◌, subst, arith}
 use Rattle.std.specs.Prelude.{slice_get}
-use Rattle.lf.specs.Entries.{kind_quantifiers}
+use Rattle.lf.specs.Entries.{Entry, IsCanonicalSignature, kind_quantifiers, signature_of}
 use Rattle.lf.specs.Substitution.{Image, lift, reduce, substitute_kind}
 use Rattle.lf.specs.Syntax.{Spine, nil, app, LfType, Kind, kind_pi, star, pi, atom}
-use Rattle.lf.specs.Typing.{Signature, HasType, IsContext, IsType, SpineFitsKind, instantiate_kind}
+use Rattle.lf.specs.Typing.{Signature, HasType, IsContext, IsSignature, IsType, SpineFitsKind, instantiate_kind}
 use Rattle.lf.specs.Variables.{everything, nothing, onto}
+use Rattle.lf.proofs.Entries.{canonical_is_signature}
 use Rattle.lf_checks.specs.Clause.{among, with_newest}
 use Rattle.lf_checks.specs.ModeForms.{argument_count}
 use Rattle.tw_mode.specs.Checks.{Fits}
@@ -24,7 +25,7 @@ spine_count Σ G nil star f = refl
 spine_count Σ G (app M S) (kind_pi A K) (h, f) = ap suc (sym (substituted_count _ K) ∙ spine_count Σ G S (instantiate_kind A M K) f)
 spine_count Σ G (app M S) star f = absurd f
 
-pub typed_fits : (Σ : Signature) (G : List LfType) (A : LfType) → IsType Σ G A → Fits Σ A
+typed_fits : (Σ : Signature) (G : List LfType) (A : LfType) → IsType Σ G A → Fits Σ A
 typed_fits Σ G (pi A B) (a, b) = (typed_fits Σ G A a, typed_fits Σ (A ∷ G) B b)
 typed_fits Σ G (atom a S) (K, e, f) = (K, e, spine_count Σ G S K f)
 
@@ -35,6 +36,9 @@ pub entry_fits : (Σ : Signature) (C es : List LfType) (n : ℕ) (E : LfType) �
 entry_fits Σ C [] n E c e = absurd cc
 entry_fits Σ C (A ∷ es) zero E (c, t) e = subst (Fits Σ) (some_equal A E e) (typed_fits Σ (onto es C) A t)
 entry_fits Σ C (A ∷ es) (suc n) E (c, t) e = entry_fits Σ C es n E c e
+
+pub constant_fits : (es : List Entry) (k : ℕ) (U : LfType) → IsCanonicalSignature es → (signature_of es).types k ≡ Some U → Fits (signature_of es) U
+constant_fits es k U c e = let s : IsSignature (signature_of es) = canonical_is_signature es c in typed_fits (signature_of es) [] U (s.types_ok k U e)
 
 -- Marks one behind the other.
 shown_more : (ms : List Bool) (n : ℕ) → with_shown ms (suc n) ≡ with_shown ms n ++ true ∷ []

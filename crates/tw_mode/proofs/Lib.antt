@@ -18,3 +18,4 @@ pub mod Listing
 pub mod Grouping
 pub mod Tabling
 pub mod Stepping
+pub mod Outer

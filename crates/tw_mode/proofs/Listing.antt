@@ -1,10 +1,10 @@
 -- The clauses of a group, one place after the other.
-use Rattle.std.proofs.Common.{◌≡◌, ℕ, zero, suc, ◌+◌, ◌<◌, ◌≤◌, List, [], ◌∷◌, ◌++◌, Bool, true, false, Some, None, Option, length, drop, get_or, map, refl, sym, ap, ap₂, ◌∙◌, subst, arith}
+use Rattle.std.proofs.Common.{◌≡◌, ℕ, zero, suc, ◌+◌, ◌<◌, ◌≤◌, List, [], ◌∷◌, ◌++◌, Bool, true, false, Some, None, Option, length, drop, get_or, map, refl, sym, ap, ap₂, ◌∙◌, subst, arith, inl, inr}
 use Rattle.std.specs.Prelude.{cond, slice_get}
 use Rattle.std.proofs.lemmas.List.{append_assoc}
 use Rattle.std.proofs.Math.ListN.{drop_of_length-le}
 use Rattle.lf.specs.Entries.{Entry as PlainEntry, signature_of}
-use Rattle.lf.specs.Subordination.{Block}
+use Rattle.lf.specs.Subordination.{Block, Member}
 use Rattle.lf.specs.Syntax.{LfType}
 use Rattle.lf.specs.Variables.{same_number, target}
 use Rattle.lf_checks.specs.Clauses.{NamedClause, block_clauses, constant_clauses, entry_clauses, named_entry, with_constant}
@@ -72,6 +72,16 @@ listed_next es W xs k x e = ap (listed_clauses es W) e ∙ ap (λ n. clause_at e
 -- one constant, one block, one family more
 pub one_more_in_front : (os bs cs ds rest : List NamedClause) (whole : List NamedClause) → bs ≡ os ++ cs → ds ≡ cs ++ rest → os ++ ds ≡ whole → bs ++ rest ≡ whole
 one_more_in_front os bs cs ds rest whole b d w = ap (λ xs. xs ++ rest) b ∙ append_assoc os cs rest ∙ ap (λ xs. os ++ xs) (sym d) ∙ w
+
+pub found_within : {A : Type 0} (xs : List A) (k : ℕ) (x : A) → slice_get xs k ≡ Some x → k < length xs
+found_within [] k x e = absurd cc
+found_within (y ∷ xs) zero x e = omega arith
+found_within (y ∷ xs) (suc k) x e = let h = found_within xs k x e in omega (arith, h)
+
+pub found_member : {A : Type 0} (xs : List A) (k : ℕ) (x : A) → slice_get xs k ≡ Some x → Member x xs
+found_member [] k x e = absurd cc
+found_member (y ∷ xs) zero x e = inl (let q : x ≡ y = cc in q)
+found_member (y ∷ xs) (suc k) x e = inr (found_member xs k x e)
 
 pub map_found : {A B : Type 0} (f : A → B) (xs : List A) (k : ℕ) (x : A) → k < length xs → x ≡ get_or xs k x → slice_get (map f xs) k ≡ Some (f x)
 map_found f [] k x h e = absurd (omega (arith, h))

@@ -3,7 +3,7 @@ use Rattle.std.proofs.Common.{◌≡◌, ℕ, zero, suc, ◌+◌, ◌-◌, ◌<�
 use Rattle.std.specs.Prelude.{not, is_some, option_map, Result, Ok, Err, IfOk, OnOk}
 use Rattle.lf.specs.AtOnce.{shift_by}
 use Rattle.lf.specs.Entries.{kind_quantifiers, quantifiers}
-use Rattle.lf.specs.Syntax.{LfType, rename_type}
+use Rattle.lf.specs.Syntax.{LfType, atom, nil, rename_type}
 use Rattle.lf.specs.Typing.{Signature}
 use Rattle.lf.specs.Variables.{everything, target, target_arguments}
 use Rattle.lf_unification.specs.Search.{occurs_type}
@@ -24,14 +24,16 @@ use Rattle.tw_mode.specs.declared.clause.Place.{Place}
 use Rattle.tw_mode.specs.declared.clause.Walk.{Walk}
 use Rattle.tw_mode.specs.declared.outside.Outside.{Outside}
 use Rattle.tw_mode.specs.declared.table.Table.{Table}
-use Rattle.tw_mode.proofs.Quantified.{domain_at, domain_uses, fits_target, shape_at, sound_count}
+use Rattle.tw_mode.proofs.Quantified.{domain_at, domain_uses, domains_count, fits_target, shape_at, sound_count}
 use Rattle.tw_mode.proofs.Until.{outside_fixed}
 use Rattle.tw_mode.proofs.Walking.{before_past_goal, before_past_variable, excused_means, fault_of_subgoal, first_faulty, is_subgoal_at, met_past_goal, passes, stands_past_goal, stands_past_variable}
 
-pub map_get : {A B : Type 0} (f : A → B) (xs : List A) (k : ℕ) (x : A) (y : B) → k < length xs → x ≡ get_or xs k x → f x ≡ get_or (map f xs) k y
-map_get f [] k x y h e = absurd (omega (arith, h))
-map_get f (z ∷ xs) zero x y h e = ap f e
-map_get f (z ∷ xs) (suc k) x y h e = map_get f xs k x y (omega (arith, h)) e
+as_long : {A B : Type 0} (f : A → B) (xs : List A) → length xs ≡ length (map f xs)
+as_long f [] = refl
+as_long f (x ∷ xs) = ap suc (as_long f xs)
+
+pub listed_domains : {A : Type 0} (f : A → LfType) (ds : List A) (T : LfType) → map f ds ≡ domain_types T → length ds ≡ quantifiers T
+listed_domains f ds T e = as_long f ds ∙ ap length e ∙ domains_count T
 
 -- The quantifier with so many left before it.
 module _ (C : List LfType) (o : Outside) (T : LfType) (left : ℕ) (h : left < quantifiers T) where
@@ -103,6 +105,29 @@ module _ (Σ : Signature) (t : Table) (o : Outside) (T : LfType) (depth : ℕ) (
         some_none : Some j ≡ None → ⊥
         some_none z = absurd cc
     quantifier_faulty false (Some j) e q x = faulty_goal left h D A e a old new j s x.0 b x.1
+
+  -- the same as the loop has it: of n domains so many are left, and the quantifier stands inside the others
+  pub loop_walked : (sf : List Bool) (n left inside : ℕ) (dom : LfType) (v : Bool) (old new : Walk) (r : Option ℕ) → sf ≡ o.fixed.now → n ≡ quantifiers T → left < n → inside ≡ n - left → dom ≡ get_or (domain_types T) left (atom 0 nil) → v ≡ get_or (shape T) left false → AllStand old (n - suc left) → AllBefore (n - suc left) → QuantifierOutcome Σ t (in_marks false depth sf) depth v (rename_type (shift_by inside) dom) old new r → (is_some r ≡ false → AllStand new (n - left) × AllBefore (n - left)) × (is_some r ≡ true → SubgoalsOutcome Σ t o T depth new r)
+  loop_walked sf n left inside dom v old new r x e h i q y s b g =
+      ((λ z. let (p, w) = quantifier_walked left l (atom 0 nil) A a old new s' b' v r (sym y) z g' in (subst (AllStand new) (sym (ap (λ k. k - left) e)) p, subst AllBefore (sym (ap (λ k. k - left) e)) w)), λ z. quantifier_faulty left l (atom 0 nil) A a old new s' b' v r (sym y) z g')
+    where
+      A : LfType
+      A = rename_type (shift_by inside) dom
+
+      l : left < quantifiers T
+      l = subst (λ k. left < k) e h
+
+      a : A ≡ rename_type (shift_by (quantifiers T - left)) (get_or (domain_types T) left (atom 0 nil))
+      a = ap₂ (λ k X. rename_type (shift_by k) X) (i ∙ ap (λ k. k - left) e) q
+
+      s' : AllStand old (quantifiers T - suc left)
+      s' = subst (AllStand old) (ap (λ k. k - suc left) e) s
+
+      b' : AllBefore (quantifiers T - suc left)
+      b' = subst AllBefore (ap (λ k. k - suc left) e) b
+
+      g' : QuantifierOutcome Σ t (in_marks false depth o.fixed.now) depth v A old new r
+      g' = subst (λ xs. QuantifierOutcome Σ t (in_marks false depth xs) depth v A old new r) x g
 
   pub all_walked : (w : Walk) (n : ℕ) → n ≡ quantifiers T → AllStand w n → AllBefore n → SubgoalsOutcome Σ t o T depth w None
   all_walked w n e s b C = (subst (Stands (marks_in t) (ground_outside o) (clause_in C o T) depth w) e (s C), subst (ModedBefore Σ (marks_in t) (moded_in t) (ground_outside o) (clause_in C o T)) e (b C))

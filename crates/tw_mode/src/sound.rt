@@ -1,5 +1,5 @@
 //! Whether the marks of a family are sound: the type of an input mentions no output.
-ghost use Rattle.std.specs.Prelude.{◌+◌, false, length, map, Decides, IfOk};
+ghost use Rattle.std.specs.Prelude.{◌≡◌, ◌<◌, ◌+◌, false, drop, length, map, Decides, IfOk};
 ghost use Rattle.lf.specs.Entries.{signature_of};
 ghost use Rattle.lf.specs.Subordination.{IsDeclared};
 ghost use Rattle.lf_checks.specs.Marks.{AreSound, HasSoundMarks};
@@ -56,7 +56,7 @@ fn first_unsound(
                 return Ok(Some(one_more(usable.len() as u64)?));
             }
             usable.push(!has_mark(mark, Mark3::Minus))?;
-            first_unsound(range, &marks[1..], usable)
+            first_unsound(range, past_first(marks), usable)
         }
         Kind::Star => {
             if marks.is_empty() {
@@ -66,6 +66,14 @@ fn first_unsound(
             }
         }
     }
+}
+
+/// The marks past the first one.
+fn past_first(marks: &[Mark3]) -> &[Mark3]
+    requires { 0 < length marks.now }
+    ensures { result.now ≡ drop 1 marks.now }
+{
+    &marks[1..]
 }
 
 /// Whether a place of this type may have this mark.

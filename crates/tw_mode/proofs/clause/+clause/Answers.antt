@@ -1,22 +1,25 @@
-use Rattle.std.proofs.Common.{◌≡◌, ◌+◌, ◌-◌, ◌∙◌, None, ap, ap₂, arith, false, length, refl, rules, subst, sym, true}
+use Rattle.std.proofs.Common.{◌≡◌, ◌+◌, ◌-◌, ◌<◌, ◌∙◌, [], ap, ap₂, arith, false, get_or, length, map, refl, rules, subst, suc, sym, true}
 use Rattle.std.specs.Prelude.{Decides, is_none, is_some}
 use Rattle.lf.specs.AtOnce.{shift_by}
+use Rattle.lf.specs.Depth.{type_depth}
 use Rattle.lf.specs.Entries.{quantifiers, signature_of}
 use Rattle.lf.specs.Subordination.{IsDeclared}
-use Rattle.lf.specs.Syntax.{LfType, atom, nil, pi, rename_type}
-use Rattle.lf.specs.Variables.{target}
+use Rattle.lf.specs.Syntax.{atom, nil, pi}
 use Rattle.lf_checks.specs.Marks.{HasSoundMarks}
-use Rattle.lf_checks.specs.ModeFaults.{HasUnsoundMarks}
+use Rattle.lf_checks.specs.ModeFaults.{HasUnsoundMarks, ModedBefore}
 use Rattle.lf_checks.specs.Modes.{EachHypothesis, WellModedFrom}
+use Rattle.lf.proofs.Depth.{renaming_keeps_type_depth}
+use Rattle.tw_clause.proofs.Walks.{shape_length}
 use Rattle.tw_terms.specs.View.{type_of}
 use Rattle.tw_terms.proofs.Args.{types}
-use Rattle.tw_mode.specs.Checks.{Outcome}
+use Rattle.tw_mode.specs.Checks.{Fits, Outcome}
 use Rattle.tw_mode.specs.Rows.{marks_in, moded_in}
 use Rattle.tw_mode.specs.Scopes.{fixed_in, in_marks}
+use Rattle.tw_mode.specs.Solved.{Stands, clause_in, ground_outside}
 use Rattle.tw_mode.proofs.Hypotheses.{filled, hypothesis_there, hypothesis_fails, hypothesis_passes, needs_sound, pushed_under, subgoal_decided, subgoal_sound, subgoal_unground, subgoal_unsound}
 use Rattle.tw_mode.proofs.Patterns.{on_value}
-use Rattle.tw_mode.proofs.Quantified.{fits_declared}
-use Rattle.tw_mode.proofs.Stepping.{clause_ends, clause_faulty, clause_unsound, excused_count, ground_count, walked_of}
+use Rattle.tw_mode.proofs.Quantified.{domain_depth, domain_fits, fits_declared, fits_renamed}
+use Rattle.tw_mode.proofs.Stepping.{all_walked, clause_ends, clause_faulty, clause_unsound, excused_count, ground_count, listed_domains, loop_walked, walked_of}
 use Rattle.tw_mode.proofs.clause.+clause.Goals as goal
 
 pub clause_fault-unsound_place-requires : goal.clause_fault-unsound_place-requires
@@ -155,3 +158,80 @@ sound_fault-returns t c =
     let d = c.in_ok-sum.ensures ∙ ap (λ n. o.depth + n) c.in_ok-count_quantifiers.ensures in
     let s : is_some c.in_ok-faulty.faulty ≡ false = search rules in
     clause_ends Σ tab o T c.in_ok-sum.field-0 c.requires.fixed d c.subgoals_fault.new.walk c.requires.sound c.requires.fits (walked_of Σ tab o T c.in_ok-sum.field-0 c.requires.fixed d c.subgoals_fault.new.walk c.in_ok-faulty.faulty s c.in_ok-faulty.ensures) c.in_ok-lost.lost c.placed-2.result c.placed-2.ensures c.in_ok-lost.ensures
+
+pub quantifier_fault-step-requires : goal.quantifier_fault-step-requires
+quantifier_fault-step-requires t c =
+    let q : type_depth (type_of c.in_ok-goal.goal) ≡ type_depth (type_of c.args.domain.now) = ap type_depth c.in_ok-goal.ensures ∙ renaming_keeps_type_depth (shift_by c.args.inside) (type_of c.args.domain.now) in
+    (grind (arith, q), (c.requires.head, (c.requires.fixed, (c.requires.ground, (c.requires.excused, subst (Fits (signature_of c.args.sig.now)) (sym c.in_ok-goal.ensures) (fits_renamed (signature_of c.args.sig.now) (shift_by c.args.inside) (type_of c.args.domain.now) c.requires.fits))))))
+
+pub subgoals_fault-loop-left-init : goal.subgoals_fault-loop-left-init
+subgoals_fault-loop-left-init t c =
+    let n = length c.in_ok-domains.domains.items in
+    let e = c.len-left.ensures in
+    let q : 0 ≡ n - c.len-left.result = omega (arith, e) in
+    record {
+      within = omega (arith, e);
+      stands = λ C. subst (Stands (marks_in c.args.table.now) (ground_outside c.args.outside.now) (clause_in C c.args.outside.now (type_of c.args.ty.now)) c.args.scope.now.depth c.args.walk.now) q (c.requires.stands C);
+      before = λ C i A h. absurd (omega (arith, h, q));
+    }
+
+pub subgoals_fault-nth_test-is_variable-requires : goal.subgoals_fault-nth_test-is_variable-requires
+subgoals_fault-nth_test-is_variable-requires t c =
+    let n = listed_domains (λ d. type_of d.now) c.in_ok-domains.domains.items (type_of c.args.ty.now) c.in_ok-domains.ensures in
+    let m = ap length c.requires.shape ∙ shape_length (type_of c.args.ty.now) in
+    let w = c.loop-left.invariant.within in
+    omega (arith, n, m, w)
+
+pub subgoals_fault-quantifier_fault-requires : goal.subgoals_fault-quantifier_fault-requires
+subgoals_fault-quantifier_fault-requires t c =
+    let T = type_of c.args.ty.now in
+    let n = listed_domains (λ d. type_of d.now) c.in_ok-domains.domains.items T c.in_ok-domains.ensures in
+    let w = c.loop-left.invariant.within in
+    let s : Stands (marks_in c.args.table.now) (ground_outside c.args.outside.now) (clause_in [] c.args.outside.now T) c.args.scope.now.depth c.loop-left.walk (length c.in_ok-domains.domains.items - c.loop-left.left) = c.loop-left.invariant.stands [] in
+    let q = c.nth_domain-domain.ensures ∙ ap (λ xs. get_or (map (λ d. type_of d.now) xs) (c.loop-left.left - 1) (atom 0 nil)) c.deref.ensures.value ∙ ap (λ xs. get_or xs (c.loop-left.left - 1) (atom 0 nil)) c.in_ok-domains.ensures in
+    let l : c.loop-left.left - 1 < quantifiers T = omega (arith, n, w) in
+    let d : type_depth (type_of c.nth_domain-domain.result.now) < type_depth T = subst (λ X. type_depth X < type_depth T) (sym q) (domain_depth T (c.loop-left.left - 1) (atom 0 nil) l) in
+    (grind (arith, d), (c.requires.head, (c.requires.fixed, (s.each_ground, (s.each_excused, subst (Fits (signature_of c.args.sig.now)) (sym q) (domain_fits (signature_of c.args.sig.now) T (c.loop-left.left - 1) (atom 0 nil) c.requires.fits l))))))
+
+pub subgoals_fault-returns-then-is_some : goal.subgoals_fault-returns-then-is_some
+subgoals_fault-returns-then-is_some t c =
+    let Σ = signature_of c.args.sig.now in
+    let tab = c.args.table.now in
+    let o = c.args.outside.now in
+    let T = type_of c.args.ty.now in
+    let ds = c.in_ok-domains.domains.items in
+    let k = c.loop-left.left - 1 in
+    let n = listed_domains (λ d. type_of d.now) ds T c.in_ok-domains.ensures in
+    let w = c.loop-left.invariant.within in
+    let here : c.loop-left.left ≡ suc k = omega arith in
+    let q = c.nth_domain-domain.ensures ∙ ap (λ xs. get_or (map (λ d. type_of d.now) xs) k (atom 0 nil)) c.deref.ensures.value ∙ ap (λ xs. get_or xs k (atom 0 nil)) c.in_ok-domains.ensures in
+    let v = c.nth_test-is_variable.ensures ∙ ap (λ xs. get_or xs k false) c.requires.shape in
+    let s = λ C. subst (λ j. Stands (marks_in tab) (ground_outside o) (clause_in C o T) c.args.scope.now.depth c.loop-left.walk (length ds - j)) here (c.loop-left.invariant.stands C) in
+    let b = λ C. subst (λ j. ModedBefore Σ (marks_in tab) (moded_in tab) (ground_outside o) (clause_in C o T) (length ds - j)) here (c.loop-left.invariant.before C) in
+    let z : is_some c.in_ok-fault.fault ≡ true = search rules in
+    (loop_walked Σ tab o T c.args.scope.now.depth c.requires.outside c.requires.depth c.args.scope.now.fixed.now (length ds) k (c.len.result - k) (type_of c.nth_domain-domain.result.now) c.nth_test-is_variable.result c.loop-left.walk c.quantifier_fault.new.walk c.in_ok-fault.fault c.requires.same n (omega (arith, w)) (ap (λ m. m - k) c.len.ensures) q v s b c.in_ok-fault.ensures).1 z
+
+pub subgoals_fault-loop-left-preserved : goal.subgoals_fault-loop-left-preserved
+subgoals_fault-loop-left-preserved t c =
+    let Σ = signature_of c.args.sig.now in
+    let tab = c.args.table.now in
+    let o = c.args.outside.now in
+    let T = type_of c.args.ty.now in
+    let ds = c.in_ok-domains.domains.items in
+    let k = c.loop-left.left - 1 in
+    let n = listed_domains (λ d. type_of d.now) ds T c.in_ok-domains.ensures in
+    let w = c.loop-left.invariant.within in
+    let here : c.loop-left.left ≡ suc k = omega arith in
+    let q = c.nth_domain-domain.ensures ∙ ap (λ xs. get_or (map (λ d. type_of d.now) xs) k (atom 0 nil)) c.deref.ensures.value ∙ ap (λ xs. get_or xs k (atom 0 nil)) c.in_ok-domains.ensures in
+    let v = c.nth_test-is_variable.ensures ∙ ap (λ xs. get_or xs k false) c.requires.shape in
+    let s = λ C. subst (λ j. Stands (marks_in tab) (ground_outside o) (clause_in C o T) c.args.scope.now.depth c.loop-left.walk (length ds - j)) here (c.loop-left.invariant.stands C) in
+    let b = λ C. subst (λ j. ModedBefore Σ (marks_in tab) (moded_in tab) (ground_outside o) (clause_in C o T) (length ds - j)) here (c.loop-left.invariant.before C) in
+    let z : is_some c.in_ok-fault.fault ≡ false = search rules in
+    let r = (loop_walked Σ tab o T c.args.scope.now.depth c.requires.outside c.requires.depth c.args.scope.now.fixed.now (length ds) k (c.len.result - k) (type_of c.nth_domain-domain.result.now) c.nth_test-is_variable.result c.loop-left.walk c.quantifier_fault.new.walk c.in_ok-fault.fault c.requires.same n (omega (arith, w)) (ap (λ m. m - k) c.len.ensures) q v s b c.in_ok-fault.ensures).0 z in
+    record { within = omega (arith, w); stands = r.0; before = r.1; }
+
+pub subgoals_fault-returns : goal.subgoals_fault-returns
+subgoals_fault-returns t c =
+    let n = listed_domains (λ d. type_of d.now) c.in_ok-domains.domains.items (type_of c.args.ty.now) c.in_ok-domains.ensures in
+    let e : length c.in_ok-domains.domains.items - c.loop-left.left ≡ quantifiers (type_of c.args.ty.now) = omega (arith, n) in
+    all_walked (signature_of c.args.sig.now) c.args.table.now c.args.outside.now (type_of c.args.ty.now) c.args.scope.now.depth c.requires.outside c.requires.depth c.loop-left.walk (length c.in_ok-domains.domains.items - c.loop-left.left) e c.loop-left.invariant.stands c.loop-left.invariant.before

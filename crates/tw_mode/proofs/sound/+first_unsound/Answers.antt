@@ -1,4 +1,4 @@
-use Rattle.std.proofs.Common.{◌≡◌, ◌++◌, ◌∙◌, ◌∷◌, [], ap, arith, false, length, map, drop, subst}
+use Rattle.std.proofs.Common.{◌≡◌, ◌++◌, ◌∙◌, ◌∷◌, [], ap, arith, false, length, map, subst, sym}
 use Rattle.std.specs.Prelude.{not}
 use Rattle.lf.specs.Syntax.{kind_pi}
 use Rattle.tw_clause.specs.View.{mark_of}
@@ -15,4 +15,4 @@ returns-in_ok-push-in-Pi t c =
     let us = c.args.usable.now.items in
     let k : kind_of c.args.kind.now ≡ kind_pi (type_of c.deref-in-Pi.result.now) (kind_of c.in-Pi.range.value) = grind (arith, types) in
     let m : kind_of c.deref-in-Pi-2.result.now ≡ kind_of c.in-Pi.range.value = grind (arith, types) in
-    on_value c.first_unsound.result _ _ (λ o h. marks_go_on us c.push.new.self.items (map mark_of c.args.marks.now) (map mark_of (drop 1 c.args.marks.now)) (mark_of c.nth_mark-mark.result) (kind_of c.args.kind.now) (kind_of c.deref-in-Pi-2.result.now) (type_of c.deref-in-Pi.result.now) o c.nth_mark-mark.ensures (k ∙ ap (kind_pi (type_of c.deref-in-Pi.result.now)) (grind (arith, m))) (subst (λ xs. MayHave (in_marks false (length xs) xs) (mark_of c.nth_mark-mark.result) (type_of c.deref-in-Pi.result.now)) c.deref.ensures.value (c.in_ok-is_usable-in-Pi.ensures.0 c.if-not-branch.false)) (c.in_ok-push-in-Pi.ensures.items ∙ ap (λ b. us ++ not b ∷ []) c.has_mark.ensures) h) c.first_unsound.ensures
+    on_value c.first_unsound.result _ _ (λ o h. marks_go_on us c.push.new.self.items (map mark_of c.args.marks.now) (map mark_of c.past_first.result.now) (mark_of c.nth_mark-mark.result) (kind_of c.args.kind.now) (kind_of c.deref-in-Pi-2.result.now) (type_of c.deref-in-Pi.result.now) o (c.nth_mark-mark.ensures ∙ ap (λ xs. mark_of c.nth_mark-mark.result ∷ map mark_of xs) (sym c.past_first.ensures)) (k ∙ ap (kind_pi (type_of c.deref-in-Pi.result.now)) (grind (arith, m))) (subst (λ xs. MayHave (in_marks false (length xs) xs) (mark_of c.nth_mark-mark.result) (type_of c.deref-in-Pi.result.now)) c.deref.ensures.value (c.in_ok-is_usable-in-Pi.ensures.0 c.if-not-branch.false)) (c.in_ok-push-in-Pi.ensures.items ∙ ap (λ b. us ++ not b ∷ []) c.has_mark.ensures) h) c.first_unsound.ensures
