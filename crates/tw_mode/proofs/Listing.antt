@@ -83,6 +83,11 @@ found_member [] k x e = absurd cc
 found_member (y ∷ xs) zero x e = inl (let q : x ≡ y = cc in q)
 found_member (y ∷ xs) (suc k) x e = inr (found_member xs k x e)
 
+pub none_found : {A B : Type 0} (f : A → B) (xs : List A) (k : ℕ) → length xs ≤ k → slice_get (map f xs) k ≡ None
+none_found f [] k h = refl
+none_found f (x ∷ xs) zero h = absurd (omega (arith, h))
+none_found f (x ∷ xs) (suc k) h = none_found f xs k (omega (arith, h))
+
 pub map_found : {A B : Type 0} (f : A → B) (xs : List A) (k : ℕ) (x : A) → k < length xs → x ≡ get_or xs k x → slice_get (map f xs) k ≡ Some (f x)
 map_found f [] k x h e = absurd (omega (arith, h))
 map_found f (y ∷ xs) zero x h e = ap (λ z. Some (f z)) (sym e)

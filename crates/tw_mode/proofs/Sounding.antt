@@ -1,11 +1,13 @@
 -- Whether marks are sound, one place of a kind after the other.
-use Rattle.std.proofs.Common.{◌≡◌, ℕ, zero, suc, ◌+◌, List, [], ◌∷◌, ◌++◌, Bool, true, false, length, length-append, refl, sym, ap, ◌∙◌, subst, arith, inl, inr, true≢false}
+use Rattle.std.proofs.Common.{◌≡◌, ℕ, zero, suc, ◌+◌, ◌<◌, List, [], ◌∷◌, ◌++◌, Bool, true, false, length, map, length-append, refl, sym, ap, ◌∙◌, subst, arith, inl, inr, true≢false}
 use Rattle.std.specs.Prelude.{not, Option, Some, None, Decides}
 use Rattle.lf.specs.Syntax.{LfType, Kind, kind_pi, star}
 use Rattle.lf.specs.Variables.{hide, under, UsesType}
 use Rattle.lf_checks.specs.Clause.{with_newest}
 use Rattle.lf_checks.specs.Marks.{Mark, input, output, free, is_input, is_output, AreSound}
 use Rattle.lf_checks.specs.ModeFaults.{FirstUnsound}
+use Rattle.tw_clause.specs.View.{mark_of}
+use Rattle.tw_clause.specs.declared.name.Mark3.{Mark3}
 use Rattle.tw_mode.specs.Checks.{MayHave, Outcome}
 use Rattle.tw_mode.specs.Scopes.{in_marks}
 use Rattle.tw_mode.proofs.Sets.{newest_hide, newest_under, pushed_set}
@@ -53,8 +55,9 @@ refused V n free rest A L f = absurd (f tt)
 pub wrong_mark : (V : ℕ → Bool) (n : ℕ) (ms rest : List Mark) (b : Mark) (K L : Kind) (A : LfType) → ms ≡ b ∷ rest → K ≡ kind_pi A L → (MayHave V b A → ⊥) → FirstUnsound n V ms K n
 wrong_mark V n ms rest b K L A e k f = subst (λ xs. FirstUnsound n V xs K n) (sym e) (subst (λ X. FirstUnsound n V (b ∷ rest) X n) (sym k) (refused V n b rest A L f))
 
-pub no_place : (V : ℕ → Bool) (n : ℕ) (ms rest : List Mark) (b : Mark) (K : Kind) → ms ≡ b ∷ rest → K ≡ star → FirstUnsound n V ms K n
-no_place V n ms rest b K e k = subst (λ xs. FirstUnsound n V xs K n) (sym e) (subst (λ X. FirstUnsound n V (b ∷ rest) X n) (sym k) refl)
+pub no_place : (V : ℕ → Bool) (n j : ℕ) (ms : List Mark3) (K : Kind) → 0 < length ms → K ≡ star → j ≡ n → FirstUnsound n V (map mark_of ms) K j
+no_place V n j [] K h k e = absurd (omega (arith, h))
+no_place V n j (m ∷ ms) K h k e = subst (λ X. FirstUnsound n V (map mark_of (m ∷ ms)) X j) (sym k) e
 
 pub all_sound : (V : ℕ → Bool) (ms : List Mark) (K : Kind) → ms ≡ [] → K ≡ star → AreSound V ms K
 all_sound V ms K e k = subst (λ xs. AreSound V xs K) (sym e) (subst (λ X. AreSound V [] X) (sym k) tt)

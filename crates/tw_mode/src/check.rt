@@ -160,10 +160,12 @@ fn place_is_moded(
     requires { AreTypedBlocks (signature_of sig.now) (worlds_of worlds.now) }
     ensures { FaultsOutcome (signature_of sig.now) (marks_in table.now) (moded_in table.now) (in_block (slice_get (worlds_of worlds.now) number) newer) result }
 {
-    let Some(block) = worlds.blocks.get(number) else {
-        return Ok(());
-    };
-    entry_is_moded(alloc, sig, table, block, newer)
+    for (place, block) in worlds.blocks.iter().enumerate() {
+        if place == number {
+            return entry_is_moded(alloc, sig, table, block, newer);
+        }
+    }
+    Ok(())
 }
 
 /// The same of a constant.
@@ -254,7 +256,7 @@ fn entry_fault(
     ensures { IfOk result (λ f. NamedOutcome (signature_of sig.now) table.now (entry_clause (block_of block.now) (drop (suc newer) block.now.entries) (type_of ty.now)) f) }
 {
     let fixed = fixed_outside(alloc, block, newer)?;
-    let ground = some_and_entries(alloc, 0, fixed.len() as u64)?;
+    let ground = all_ground(alloc, &fixed)?;
     let outside = outside_of(&fixed, &ground);
     clause_fault(alloc, sig, table, &outside, ty)
 }
@@ -266,6 +268,13 @@ fn fixed_outside(alloc: Global, block: &Block, newer: u64) -> Result<Vec<bool>, 
 {
     let older = block.entries.len() as u64 - newer - 1;
     some_and_entries(alloc, block.some.len() as u64, older)
+}
+
+/// As many marks that say yes.
+fn all_ground(alloc: Global, fixed: &Vec<bool>) -> Result<Vec<bool>, AllocError>
+    ensures { IfOk result (λ v. v.items ≡ with_shown (with_hidden [] 0) (length fixed.now.items)) }
+{
+    some_and_entries(alloc, 0, fixed.len() as u64)
 }
 
 /// So many marks that say no, and then so many that say yes.

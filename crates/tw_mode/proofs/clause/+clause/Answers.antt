@@ -1,10 +1,10 @@
-use Rattle.std.proofs.Common.{◌≡◌, ◌+◌, ◌-◌, ◌<◌, ◌∙◌, [], ap, ap₂, arith, false, get_or, length, map, refl, rules, subst, suc, sym, true}
+use Rattle.std.proofs.Common.{◌≡◌, ◌+◌, ◌-◌, ◌<◌, ◌∙◌, List, [], ap, ap₂, arith, false, get_or, length, map, refl, rules, subst, suc, sym, true}
 use Rattle.std.specs.Prelude.{Decides, is_none, is_some}
 use Rattle.lf.specs.AtOnce.{shift_by}
 use Rattle.lf.specs.Depth.{type_depth}
 use Rattle.lf.specs.Entries.{quantifiers, signature_of}
 use Rattle.lf.specs.Subordination.{IsDeclared}
-use Rattle.lf.specs.Syntax.{atom, nil, pi}
+use Rattle.lf.specs.Syntax.{LfType, atom, nil, pi}
 use Rattle.lf_checks.specs.Marks.{HasSoundMarks}
 use Rattle.lf_checks.specs.ModeFaults.{HasUnsoundMarks, ModedBefore}
 use Rattle.lf_checks.specs.Modes.{EachHypothesis, WellModedFrom}
@@ -206,8 +206,8 @@ subgoals_fault-returns-then-is_some t c =
     let here : c.loop-left.left ≡ suc k = omega arith in
     let q = c.nth_domain-domain.ensures ∙ ap (λ xs. get_or (map (λ d. type_of d.now) xs) k (atom 0 nil)) c.deref.ensures.value ∙ ap (λ xs. get_or xs k (atom 0 nil)) c.in_ok-domains.ensures in
     let v = c.nth_test-is_variable.ensures ∙ ap (λ xs. get_or xs k false) c.requires.shape in
-    let s = λ C. subst (λ j. Stands (marks_in tab) (ground_outside o) (clause_in C o T) c.args.scope.now.depth c.loop-left.walk (length ds - j)) here (c.loop-left.invariant.stands C) in
-    let b = λ C. subst (λ j. ModedBefore Σ (marks_in tab) (moded_in tab) (ground_outside o) (clause_in C o T) (length ds - j)) here (c.loop-left.invariant.before C) in
+    let s : (C : List LfType) → Stands (marks_in tab) (ground_outside o) (clause_in C o T) c.args.scope.now.depth c.loop-left.walk (length ds - suc k) = λ C. subst (λ j. Stands (marks_in tab) (ground_outside o) (clause_in C o T) c.args.scope.now.depth c.loop-left.walk (length ds - j)) here (c.loop-left.invariant.stands C) in
+    let b : (C : List LfType) → ModedBefore Σ (marks_in tab) (moded_in tab) (ground_outside o) (clause_in C o T) (length ds - suc k) = λ C. subst (λ j. ModedBefore Σ (marks_in tab) (moded_in tab) (ground_outside o) (clause_in C o T) (length ds - j)) here (c.loop-left.invariant.before C) in
     let z : is_some c.in_ok-fault.fault ≡ true = search rules in
     (loop_walked Σ tab o T c.args.scope.now.depth c.requires.outside c.requires.depth c.args.scope.now.fixed.now (length ds) k (c.len.result - k) (type_of c.nth_domain-domain.result.now) c.nth_test-is_variable.result c.loop-left.walk c.quantifier_fault.new.walk c.in_ok-fault.fault c.requires.same n (omega (arith, w)) (ap (λ m. m - k) c.len.ensures) q v s b c.in_ok-fault.ensures).1 z
 
@@ -224,8 +224,8 @@ subgoals_fault-loop-left-preserved t c =
     let here : c.loop-left.left ≡ suc k = omega arith in
     let q = c.nth_domain-domain.ensures ∙ ap (λ xs. get_or (map (λ d. type_of d.now) xs) k (atom 0 nil)) c.deref.ensures.value ∙ ap (λ xs. get_or xs k (atom 0 nil)) c.in_ok-domains.ensures in
     let v = c.nth_test-is_variable.ensures ∙ ap (λ xs. get_or xs k false) c.requires.shape in
-    let s = λ C. subst (λ j. Stands (marks_in tab) (ground_outside o) (clause_in C o T) c.args.scope.now.depth c.loop-left.walk (length ds - j)) here (c.loop-left.invariant.stands C) in
-    let b = λ C. subst (λ j. ModedBefore Σ (marks_in tab) (moded_in tab) (ground_outside o) (clause_in C o T) (length ds - j)) here (c.loop-left.invariant.before C) in
+    let s : (C : List LfType) → Stands (marks_in tab) (ground_outside o) (clause_in C o T) c.args.scope.now.depth c.loop-left.walk (length ds - suc k) = λ C. subst (λ j. Stands (marks_in tab) (ground_outside o) (clause_in C o T) c.args.scope.now.depth c.loop-left.walk (length ds - j)) here (c.loop-left.invariant.stands C) in
+    let b : (C : List LfType) → ModedBefore Σ (marks_in tab) (moded_in tab) (ground_outside o) (clause_in C o T) (length ds - suc k) = λ C. subst (λ j. ModedBefore Σ (marks_in tab) (moded_in tab) (ground_outside o) (clause_in C o T) (length ds - j)) here (c.loop-left.invariant.before C) in
     let z : is_some c.in_ok-fault.fault ≡ false = search rules in
     let r = (loop_walked Σ tab o T c.args.scope.now.depth c.requires.outside c.requires.depth c.args.scope.now.fixed.now (length ds) k (c.len.result - k) (type_of c.nth_domain-domain.result.now) c.nth_test-is_variable.result c.loop-left.walk c.quantifier_fault.new.walk c.in_ok-fault.fault c.requires.same n (omega (arith, w)) (ap (λ m. m - k) c.len.ensures) q v s b c.in_ok-fault.ensures).0 z in
     record { within = omega (arith, w); stands = r.0; before = r.1; }
