@@ -204,12 +204,14 @@ subgoals_fault-returns-then-is_some t c =
     let n = listed_domains (λ d. type_of d.now) ds T c.in_ok-domains.ensures in
     let w = c.loop-left.invariant.within in
     let here : c.loop-left.left ≡ suc k = omega arith in
+    let e = c.len.ensures in
+    let j : c.len.result - k ≡ length ds - k = omega (arith, e) in
     let q = c.nth_domain-domain.ensures ∙ ap (λ xs. get_or (map (λ d. type_of d.now) xs) k (atom 0 nil)) c.deref.ensures.value ∙ ap (λ xs. get_or xs k (atom 0 nil)) c.in_ok-domains.ensures in
     let v = c.nth_test-is_variable.ensures ∙ ap (λ xs. get_or xs k false) c.requires.shape in
     let s : (C : List LfType) → Stands (marks_in tab) (ground_outside o) (clause_in C o T) c.args.scope.now.depth c.loop-left.walk (length ds - suc k) = λ C. subst (λ j. Stands (marks_in tab) (ground_outside o) (clause_in C o T) c.args.scope.now.depth c.loop-left.walk (length ds - j)) here (c.loop-left.invariant.stands C) in
     let b : (C : List LfType) → ModedBefore Σ (marks_in tab) (moded_in tab) (ground_outside o) (clause_in C o T) (length ds - suc k) = λ C. subst (λ j. ModedBefore Σ (marks_in tab) (moded_in tab) (ground_outside o) (clause_in C o T) (length ds - j)) here (c.loop-left.invariant.before C) in
     let z : is_some c.in_ok-fault.fault ≡ true = search rules in
-    (loop_walked Σ tab o T c.args.scope.now.depth c.requires.outside c.requires.depth c.args.scope.now.fixed.now (length ds) k (c.len.result - k) (type_of c.nth_domain-domain.result.now) c.nth_test-is_variable.result c.loop-left.walk c.quantifier_fault.new.walk c.in_ok-fault.fault c.requires.same n (omega (arith, w)) (ap (λ m. m - k) c.len.ensures) q v s b c.in_ok-fault.ensures).1 z
+    (loop_walked Σ tab o T c.args.scope.now.depth c.requires.outside c.requires.depth c.args.scope.now.fixed.now (length ds) k (c.len.result - k) (type_of c.nth_domain-domain.result.now) c.nth_test-is_variable.result c.loop-left.walk c.quantifier_fault.new.walk c.in_ok-fault.fault c.requires.same n (omega (arith, w)) j q v s b c.in_ok-fault.ensures).1 z
 
 pub subgoals_fault-loop-left-preserved : goal.subgoals_fault-loop-left-preserved
 subgoals_fault-loop-left-preserved t c =
@@ -222,12 +224,14 @@ subgoals_fault-loop-left-preserved t c =
     let n = listed_domains (λ d. type_of d.now) ds T c.in_ok-domains.ensures in
     let w = c.loop-left.invariant.within in
     let here : c.loop-left.left ≡ suc k = omega arith in
+    let e = c.len.ensures in
+    let j : c.len.result - k ≡ length ds - k = omega (arith, e) in
     let q = c.nth_domain-domain.ensures ∙ ap (λ xs. get_or (map (λ d. type_of d.now) xs) k (atom 0 nil)) c.deref.ensures.value ∙ ap (λ xs. get_or xs k (atom 0 nil)) c.in_ok-domains.ensures in
     let v = c.nth_test-is_variable.ensures ∙ ap (λ xs. get_or xs k false) c.requires.shape in
     let s : (C : List LfType) → Stands (marks_in tab) (ground_outside o) (clause_in C o T) c.args.scope.now.depth c.loop-left.walk (length ds - suc k) = λ C. subst (λ j. Stands (marks_in tab) (ground_outside o) (clause_in C o T) c.args.scope.now.depth c.loop-left.walk (length ds - j)) here (c.loop-left.invariant.stands C) in
     let b : (C : List LfType) → ModedBefore Σ (marks_in tab) (moded_in tab) (ground_outside o) (clause_in C o T) (length ds - suc k) = λ C. subst (λ j. ModedBefore Σ (marks_in tab) (moded_in tab) (ground_outside o) (clause_in C o T) (length ds - j)) here (c.loop-left.invariant.before C) in
     let z : is_some c.in_ok-fault.fault ≡ false = search rules in
-    let r = (loop_walked Σ tab o T c.args.scope.now.depth c.requires.outside c.requires.depth c.args.scope.now.fixed.now (length ds) k (c.len.result - k) (type_of c.nth_domain-domain.result.now) c.nth_test-is_variable.result c.loop-left.walk c.quantifier_fault.new.walk c.in_ok-fault.fault c.requires.same n (omega (arith, w)) (ap (λ m. m - k) c.len.ensures) q v s b c.in_ok-fault.ensures).0 z in
+    let r = (loop_walked Σ tab o T c.args.scope.now.depth c.requires.outside c.requires.depth c.args.scope.now.fixed.now (length ds) k (c.len.result - k) (type_of c.nth_domain-domain.result.now) c.nth_test-is_variable.result c.loop-left.walk c.quantifier_fault.new.walk c.in_ok-fault.fault c.requires.same n (omega (arith, w)) j q v s b c.in_ok-fault.ensures).0 z in
     record { within = omega (arith, w); stands = r.0; before = r.1; }
 
 pub subgoals_fault-returns : goal.subgoals_fault-returns
