@@ -28,4 +28,4 @@ pub use modes::{Modes, WorldRows};
 pub use name::{ClauseName, Mark3};
 pub use order::Order;
 pub use reading::{clause_of, clause_of_entry, clauses};
-pub use shape::shape_of;
+pub use shape::{mark_spine, mark_term, shape_of};

@@ -10,7 +10,7 @@ use tw_terms::ConstId;
 #[derive(Drop, Debug)]
 pub enum ClauseName {
     Constant(ConstId),
-    BlockEntry(Name, u32),
+    BlockEntry(Name, u64),
 }
 
 /// The mark of a place of a family: `+`, `-` or `*`.

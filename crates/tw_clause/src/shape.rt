@@ -49,7 +49,7 @@ fn mark_type(ty: &Ty, depth: u64, marks: &mut [bool]) -> Result<(), AllocError>
 
 /// The same in a term.
 #[cycle(mark)]
-fn mark_term(term: &Term, depth: u64, marks: &mut [bool]) -> Result<(), AllocError>
+pub fn mark_term(term: &Term, depth: u64, marks: &mut [bool]) -> Result<(), AllocError>
     requires { length marks.old ≤ depth }
     ensures { OnOk result (marks.new ≡ marked depth (λ i. occurs i (term_of term.now)) marks.old) }
 {
@@ -67,7 +67,7 @@ fn mark_term(term: &Term, depth: u64, marks: &mut [bool]) -> Result<(), AllocErr
 
 /// The same in each argument.
 #[cycle(mark)]
-fn mark_spine(spine: &Spine, depth: u64, marks: &mut [bool]) -> Result<(), AllocError>
+pub fn mark_spine(spine: &Spine, depth: u64, marks: &mut [bool]) -> Result<(), AllocError>
     requires { length marks.old ≤ depth }
     ensures { OnOk result (marks.new ≡ marked depth (λ i. occurs_spine i (spine_of spine.now)) marks.old) }
 {

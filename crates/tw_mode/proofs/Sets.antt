@@ -2,6 +2,7 @@
 use Rattle.std.proofs.Common.{◌≡◌, ℕ, zero, suc, ◌+◌, ◌<◌, ◌≤◌, List, [], ◌∷◌, ◌++◌, Bool, true, false, length, get_or, refl, sym, ap, ◌∙◌, arith}
 use Rattle.std.specs.Prelude.{cond}
 use Rattle.lf.specs.Variables.{hide, same_number, under}
+use Rattle.lf_checks.specs.Clause.{with_newest}
 use Rattle.lf_checks.specs.Tests.{either}
 use Rattle.tw_clause.specs.Marks.{marked}
 use Rattle.tw_mode.specs.Scopes.{in_marks, newest}
@@ -53,7 +54,7 @@ in_marks_at b (suc d) i zero (m ∷ ms) e h = let q : i ≡ d = omega (arith, e)
 in_marks_at b (suc d) i (suc k) (m ∷ ms) e h = ap (λ t. cond t m (in_marks b d ms i)) (same_not i d (λ q. omega (arith, q, e))) ∙ in_marks_at b d i k ms (omega (arith, e)) (omega (arith, h))
 
 -- under one more variable, which has no mark
-in_marks_inside : (b : Bool) (d i : ℕ) (ms : List Bool) → length ms ≤ d → in_marks b (suc d) ms (suc i) ≡ in_marks b d ms i
+pub in_marks_inside : (b : Bool) (d i : ℕ) (ms : List Bool) → length ms ≤ d → in_marks b (suc d) ms (suc i) ≡ in_marks b d ms i
 in_marks_inside b zero i [] h = refl
 in_marks_inside b zero i (m ∷ ms) h = absurd (omega (arith, h))
 in_marks_inside b (suc d) i [] h = refl
@@ -118,3 +119,25 @@ pushed_hidden_at d (suc i) ms h = pushed_older true false d i ms h
 
 pub pushed_hidden : (d : ℕ) (ms : List Bool) → length ms ≡ d → in_marks true (suc d) (ms ++ false ∷ []) ≡ hide (in_marks true d ms)
 pushed_hidden d ms h = fun_ext (λ i. pushed_hidden_at d i ms h)
+
+-- the set with one more mark, behind the others
+pushed_set_at : (b x : Bool) (d i : ℕ) (ms : List Bool) → length ms ≡ d → in_marks b (suc d) (ms ++ x ∷ []) i ≡ with_newest x (in_marks b d ms) i
+pushed_set_at b x d zero ms h = pushed_newest b x d ms h
+pushed_set_at b x d (suc i) ms h = pushed_older b x d i ms h
+
+pub pushed_set : (b x : Bool) (d : ℕ) (ms : List Bool) → length ms ≡ d → in_marks b (suc d) (ms ++ x ∷ []) ≡ with_newest x (in_marks b d ms)
+pushed_set b x d ms h = fun_ext (λ i. pushed_set_at b x d i ms h)
+
+newest_under_at : (V : ℕ → Bool) (i : ℕ) → with_newest true V i ≡ under V i
+newest_under_at V zero = refl
+newest_under_at V (suc i) = refl
+
+pub newest_under : (V : ℕ → Bool) → with_newest true V ≡ under V
+newest_under V = fun_ext (newest_under_at V)
+
+newest_hide_at : (V : ℕ → Bool) (i : ℕ) → with_newest false V i ≡ hide V i
+newest_hide_at V zero = refl
+newest_hide_at V (suc i) = refl
+
+pub newest_hide : (V : ℕ → Bool) → with_newest false V ≡ hide V
+newest_hide V = fun_ext (newest_hide_at V)

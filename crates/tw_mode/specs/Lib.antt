@@ -1,3 +1,9 @@
 pub mod Scopes
 pub mod Rows
+pub mod Allowed
+pub mod Checks
 pub mod Solved
+pub mod Ends
+pub mod Outcomes
+pub mod Listing
+pub mod Groups

@@ -3,26 +3,26 @@ ghost use Rattle.std.specs.Prelude.{◌≡◌, ◌≤◌, ◌+◌, ◌-◌, leng
 ghost use Rattle.lf.specs.Entries.{quantifiers};
 ghost use Rattle.lf.specs.Variables.{nothing, target as target_of_type, target_arguments};
 ghost use Rattle.lf_checks.specs.Marks.{input_places};
-ghost use Rattle.lf_checks.specs.ModeRows.{marks_of};
 ghost use Rattle.lf_checks.specs.Strict.{strict_at};
 ghost use Rattle.tw_clause.specs.Marks.{marked};
-ghost use Rattle.tw_clause.specs.Tables.{mode_rows_of};
 ghost use Rattle.tw_terms.specs.View.{spine_of, type_of};
+ghost use Rattle.tw_mode.specs.Rows.{marks_in};
 ghost use Rattle.tw_mode.specs.Scopes.{fixed_in};
-ghost use Rattle.tw_mode.specs.Solved.{past, with_hidden};
+ghost use Rattle.tw_mode.specs.Solved.{with_hidden};
 
+use crate::table::Table;
 use crate::places::mark_strict_at;
 use crate::rows::places_for;
 use crate::scope::Scope;
 use std::alloc::{AllocError, Global};
-use tw_clause::{Mark3, Modes};
+use tw_clause::Mark3;
 use tw_terms::numbers::one_more;
 use tw_terms::{Spine, Ty, target};
 
 /// The marks of what stands outside, and of the variables with a strict occurrence in an input place of a type's target.
 pub fn marks_in_head(
     alloc: Global,
-    modes: &Modes,
+    table: &Table,
     scope: &Scope,
     outer: &[bool],
     ty: &Ty,
@@ -30,17 +30,17 @@ pub fn marks_in_head(
     requires head { scope.now.bound ≡ 0 }
     requires fixed { length scope.now.fixed.now ≤ scope.now.depth }
     requires outer { length outer.now ≤ scope.now.depth }
-    ensures marks { IfOk result (λ v. v.items ≡ marked scope.now.depth (λ i. strict_at (input_places (marks_of (mode_rows_of modes.now) (target_of_type (type_of ty.now)))) nothing (fixed_in scope.now) i (target_arguments (type_of ty.now))) (with_hidden outer.now (scope.now.depth - length outer.now))) }
+    ensures marks { IfOk result (λ v. v.items ≡ marked scope.now.depth (λ i. strict_at (input_places (marks_in table.now (target_of_type (type_of ty.now)))) nothing (fixed_in scope.now) i (target_arguments (type_of ty.now))) (with_hidden outer.now (scope.now.depth - length outer.now))) }
     ensures len { IfOk result (λ v. length v.items ≡ scope.now.depth) }
 {
     let mut ground = more_marks(alloc, outer, scope.depth)?;
-    let places = places_for(alloc, modes, target(ty), Mark3::Plus)?;
+    let places = places_for(alloc, table, target(ty), Mark3::Plus)?;
     mark_strict_at(alloc, scope, &places, target_spine(ty), &mut ground)?;
     Ok(ground)
 }
 
 /// These marks and then more that say no, so many in all.
-fn more_marks(alloc: Global, outer: &[bool], depth: u64) -> Result<Vec<bool>, AllocError>
+pub fn more_marks(alloc: Global, outer: &[bool], depth: u64) -> Result<Vec<bool>, AllocError>
     requires { length outer.now ≤ depth }
     ensures marks { IfOk result (λ v. v.items ≡ with_hidden outer.now (depth - length outer.now)) }
     ensures len { IfOk result (λ v. length v.items ≡ depth) }
@@ -53,25 +53,12 @@ fn more_marks(alloc: Global, outer: &[bool], depth: u64) -> Result<Vec<bool>, Al
 }
 
 /// The arguments at the end of a type.
-fn target_spine(ty: &Ty) -> &Spine
+pub fn target_spine(ty: &Ty) -> &Spine
     ensures { spine_of result.now ≡ target_arguments (type_of ty.now) }
 {
     match ty {
         Ty::Pi(_, range) => target_spine(range),
         Ty::Atom(_, spine) => spine,
-    }
-}
-
-/// The type past its first quantifiers.
-pub fn past_quantifiers(ty: &Ty, count: u64) -> &Ty
-    ensures { type_of result.now ≡ past count (type_of ty.now) }
-{
-    if count == 0 {
-        return ty;
-    }
-    match ty {
-        Ty::Pi(_, range) => past_quantifiers(range, count - 1),
-        Ty::Atom(_, _) => ty,
     }
 }
 

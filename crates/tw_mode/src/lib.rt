@@ -2,20 +2,37 @@
 #![tactic(auto)]
 
 #[tactic(auto, using(tw_terms::proofs::Args::types))]
-mod eta;
+mod called;
+mod check;
 #[tactic(auto, using(tw_terms::proofs::Args::types))]
-mod ground;
+mod clause;
+mod end;
+#[tactic(auto, using(tw_terms::proofs::Args::types))]
+mod eta;
+mod fault;
 #[tactic(auto, using(tw_terms::proofs::Args::types))]
 mod head;
+#[tactic(auto, using(tw_terms::proofs::Args::types))]
+mod inputs;
+mod listed;
 mod marks;
+#[tactic(auto, using(tw_terms::proofs::Args::types))]
+mod mentions;
+mod outside;
 mod pattern;
 mod places;
 mod rows;
 mod scope;
+#[tactic(auto, using(tw_terms::proofs::Args::types))]
+mod sound;
 mod strict;
+mod table;
+#[tactic(auto, using(tw_terms::proofs::Args::types))]
+mod uses;
 
-pub use ground::{Outside, ground_until};
+pub use check::check_modes;
+pub use fault::ModeFault;
 pub use places::{mark_strict_at, mark_strict_goal};
-pub use rows::{marks_for, places_for};
 pub use scope::Scope;
 pub use strict::mark_strict;
+pub use table::Table;

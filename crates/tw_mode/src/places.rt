@@ -48,7 +48,7 @@ pub fn mark_strict_at(
 }
 
 /// Whether a place is chosen.
-fn is_chosen(places: &[bool], place: usize) -> bool
+pub fn is_chosen(places: &[bool], place: usize) -> bool
     ensures { result ≡ get_or places.now place false }
 {
     if place < places.len() {

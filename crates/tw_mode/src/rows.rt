@@ -1,36 +1,23 @@
-//! The marks of families.
-ghost use Rattle.std.specs.Prelude.{◌≡◌, [], map, IfOk};
-ghost use Rattle.lf_checks.specs.ModeRows.{marks_of};
-ghost use Rattle.tw_clause.specs.Tables.{mode_rows_of};
+//! The places of families with a mark.
+ghost use Rattle.std.specs.Prelude.{◌≡◌, ◌<◌, ◌∷◌, suc, drop, length, map, IfOk};
 ghost use Rattle.tw_clause.specs.View.{mark_of};
-ghost use Rattle.tw_mode.specs.Rows.{is_with, places_with};
+ghost use Rattle.tw_mode.specs.Rows.{is_with, marks_in, places_with};
 
+use crate::table::Table;
 use std::alloc::{AllocError, Global};
-use tw_clause::{Mark3, Modes};
+use tw_clause::Mark3;
 use tw_terms::ConstId;
-
-/// The marks of a family; one without a row has none. Takes a step for each row before that of the family.
-pub fn marks_for<'a>(modes: &'a Modes, family: ConstId) -> &'a [Mark3]
-    ensures { map mark_of result.now ≡ marks_of (mode_rows_of modes.now) family.0 }
-{
-    for (number, marks) in &modes.rows {
-        if number.0 == family.0 {
-            return marks.as_slice();
-        }
-    }
-    &[]
-}
 
 /// Which of a family's places have this mark.
 pub fn places_for(
     alloc: Global,
-    modes: &Modes,
+    table: &Table,
     family: ConstId,
     wanted: Mark3,
 ) -> Result<Vec<bool>, AllocError>
-    ensures { IfOk result (λ v. v.items ≡ places_with wanted (marks_of (mode_rows_of modes.now) family.0)) }
+    ensures { IfOk result (λ v. v.items ≡ places_with wanted (marks_in table.now family.0)) }
 {
-    places(alloc, marks_for(modes, family), wanted)
+    places(alloc, table.marks(family), wanted)
 }
 
 /// Which of the places have this mark.
@@ -45,7 +32,7 @@ fn places(alloc: Global, marks: &[Mark3], wanted: Mark3) -> Result<Vec<bool>, Al
 }
 
 /// Whether a mark is this one.
-fn has_mark(mark: Mark3, wanted: Mark3) -> bool
+pub fn has_mark(mark: Mark3, wanted: Mark3) -> bool
     ensures { result ≡ is_with wanted (mark_of mark) }
 {
     match (mark, wanted) {
@@ -53,4 +40,12 @@ fn has_mark(mark: Mark3, wanted: Mark3) -> bool
             true,
         _ => false,
     }
+}
+
+/// The mark of a place.
+pub fn nth_mark(marks: &[Mark3], place: usize) -> Mark3
+    requires { place < length marks.now }
+    ensures { map mark_of (drop place marks.now) ≡ mark_of result ∷ map mark_of (drop (suc place) marks.now) }
+{
+    marks[place]
 }

@@ -1,0 +1,14 @@
+use Rattle.std.proofs.Common.{◌-◌, Result, drop, length}
+use Rattle.lf.specs.Entries.{signature_of}
+use Rattle.tw_clause.specs.View.{worlds_of}
+use Rattle.tw_mode.specs.Groups.{FaultsOutcome}
+use Rattle.tw_mode.specs.Listing.{listed_clauses}
+use Rattle.tw_mode.specs.Rows.{marks_in, moded_in}
+use Rattle.tw_mode.specs.declared.fault.ModeFault.{ModeFault}
+use Rattle.tw_mode.proofs.check.all_are_moded.Given as goal
+
+abbrev pub decreases-loop-next : goal.decreases-loop-next
+decreases-loop-next l = length l.listed - l.next
+
+abbrev pub invariant-loop-next : goal.invariant-loop-next
+invariant-loop-next l = (r : Result (Unit {0}) ModeFault) → FaultsOutcome (signature_of l.sig) (marks_in l.table) (moded_in l.table) (listed_clauses l.sig (worlds_of l.worlds) (drop l.next l.listed)) r → FaultsOutcome (signature_of l.sig) (marks_in l.table) (moded_in l.table) (listed_clauses l.sig (worlds_of l.worlds) l.listed) r
