@@ -30,7 +30,6 @@ def built(crate):
 BENCHES = {
     **{name: (built("twelf"), [sys.executable, os.path.join(HERE, f"{name}.py")]) for name in ("serve", "declare", "files", "reconstruct")},
     "unify": (built("bench_unify"), [sys.executable, os.path.join(HERE, "unify.py")]),
-    "search": (built("bench_search"), [sys.executable, os.path.join(HERE, "search.py")]),
     "hered": (built("bench_hered"), [built("bench_hered"), "run"]),
 }
 

@@ -29,7 +29,14 @@ pub fn searched(
     let mut search = begun(alloc, signature, variables, goal)?;
     let mut line = String::new(alloc);
     for word in case.text("budgets")?.split(' ') {
-        call(alloc, signature, names, &mut search, &mut line, number_of(word)?)?;
+        call(
+            alloc,
+            signature,
+            names,
+            &mut search,
+            &mut line,
+            number_of(word)?,
+        )?;
     }
     Ok(line)
 }

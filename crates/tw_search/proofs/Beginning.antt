@@ -1,5 +1,5 @@
 -- A new search stands at the root.
-use Rattle.std.proofs.Common.{◌≡◌, ℕ, zero, suc, ◌+◌, ◌<◌, ◌≤◌, List, [], ◌∷◌, ◌++◌, length, Option, Some, None, ◌⊎◌, inl, inr, refl, sym, ap, ◌∙◌, subst, arith}
+use Rattle.std.proofs.Common.{◌≡◌, ℕ, zero, suc, ◌+◌, ◌<◌, ◌≤◌, List, [], ◌∷◌, ◌++◌, length, Option, Some, ◌⊎◌, inl, inr, sym, ap, ◌∙◌, subst, arith}
 use Rattle.lf.specs.Entries.{Entry, IsCanonicalSignature, signature_of}
 use Rattle.lf.specs.Subordination.{Member}
 use Rattle.lf.specs.Syntax.{LfType}
@@ -10,11 +10,10 @@ use Rattle.lf_search.specs.Holes.{HolesAreOpen}
 use Rattle.lf_search.proofs.HolesStay.{root_holes}
 use Rattle.lf_search.proofs.QueryForm as query
 use Rattle.lf_unification.specs.OpenTyping.{set_at}
-use Rattle.lf_unification.specs.Search.{IsNode, Node, Pending, at_node}
+use Rattle.lf_unification.specs.Search.{IsNode, Node, at_node}
 use Rattle.lf_unification.proofs.Agree.{set_here}
 use Rattle.lf_unification.proofs.Offer.{decide, set_other}
 use Rattle.tw_metas.specs.State.{Story}
-use Rattle.tw_putting.specs.Stores.{types_of}
 use Rattle.tw_search.specs.Chains.{GoalsAre, no_goal}
 use Rattle.tw_search.specs.Goals.{IsDeclared, node_of}
 use Rattle.tw_search.specs.Roots.{IsRoot}

@@ -1,5 +1,5 @@
 -- What a call of a search comes to.
-use Rattle.std.proofs.Common.{◌≡◌, ℕ, ◌+◌, ◌-◌, List, length, Result, Ok, Err, refl, sym, ◌∙◌, subst, arith}
+use Rattle.std.proofs.Common.{◌≡◌, ℕ, ◌-◌, List, length, Result, Ok, Err, sym}
 use Rattle.std.specs.Result.{IfOk, OnErr}
 use Rattle.std.specs.declared.alloc.AllocError.{AllocError}
 use Rattle.lf.specs.Entries.{Entry}
@@ -9,29 +9,17 @@ use Rattle.tw_search.specs.Standing.{Came, IsAt, IsOver, IsSearch, Stands, Stand
 use Rattle.tw_search.specs.declared.search.Search.{Search}
 use Rattle.tw_search.specs.declared.step.End.{End}
 use Rattle.tw_search.specs.declared.step.End.TheVariants as end
-use Rattle.tw_search.specs.declared.step.Place.{Place}
 use Rattle.tw_search.specs.declared.step.Place.TheVariants as place
 use Rattle.tw_search.specs.declared.step.Step.{Step}
 use Rattle.tw_search.specs.declared.step.Step.TheVariants as step
-use Rattle.tw_search.proofs.Going.{not_over}
 use Rattle.tw_search.proofs.Leaving.{step_is}
 
--- a search that isn't over is somewhere
-pub is_at : (es : List Entry) (s : Search) → ((e : End) → IsOver e s → ⊥) → IsSearch es s → (agenda : List Pending) × IsAt es s agenda
-is_at es s n (stands G A leaves agenda w) = (agenda, w.at)
-is_at es s n (is_over e o) = absurd (n e o)
-
+-- a search that is somewhere isn't over
 at_node_not_over : (s : Search) (list : ℕ) → s.place ≡ place.Node list → (e : End) → IsOver e s → ⊥
 at_node_not_over s list p e o = cc
 
 at_heads_not_over : (s : Search) → s.place ≡ place.Heads → (e : End) → IsOver e s → ⊥
 at_heads_not_over s p e o = cc
-
-pub node_is_at : (es : List Entry) (s : Search) (list : ℕ) → s.place ≡ place.Node list → IsSearch es s → (agenda : List Pending) × IsAt es s agenda
-node_is_at es s list p w = is_at es s (at_node_not_over s list p) w
-
-pub heads_are_at : (es : List Entry) (s : Search) → s.place ≡ place.Heads → IsSearch es s → (agenda : List Pending) × IsAt es s agenda
-heads_are_at es s p w = is_at es s (at_heads_not_over s p) w
 
 -- a step of the search of the goal
 pub call_is : (es : List Entry) (old new : Search) (budget : ℕ) (s : Step) → ((G : List LfType) → length G ≡ old.variables → (agenda : List Pending) → IsAt es old agenda → Came es G old new agenda budget s) →

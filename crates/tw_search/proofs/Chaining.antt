@@ -1,30 +1,11 @@
 -- Lists of goals that share their tails.
-use Rattle.std.proofs.Common.{◌≡◌, ℕ, zero, suc, ◌+◌, ◌-◌, ◌<◌, ◌≤◌, List, [], ◌∷◌, ◌++◌, length, map, reverse, take, Option, Some, None, get_or, refl, sym, ap, ◌∙◌, subst, arith}
+use Rattle.std.proofs.Common.{◌≡◌, ℕ, zero, suc, ◌+◌, ◌-◌, List, [], ◌∷◌, ◌++◌, length, map, reverse, take, Some, refl, sym, ap, ◌∙◌, subst, arith}
 use Rattle.std.specs.List.{slice_get}
 use Rattle.std.proofs.lemmas.List.{map-append, reverse-append}
-use Rattle.std.proofs.lemmas.Option.{slice_get_past, slice_get_read}
 use Rattle.lf_unification.specs.Lists.{followed}
 use Rattle.tw_terms.specs.declared.canonical.MetaId.{MetaId}
-use Rattle.tw_search.specs.Chains.{GoalsAre, IsFirst, IsGrown, no_goal, one_goal}
+use Rattle.tw_search.specs.Chains.{GoalsAre, IsGrown, no_goal, one_goal}
 use Rattle.tw_search.specs.declared.frames.Frame.{Frame}
-
-empty_is : {fs : List Frame} {gs : List ℕ} → GoalsAre fs zero gs → gs ≡ []
-empty_is no_goal = refl
-
-first_is : {fs : List Frame} {k : ℕ} {gs : List ℕ} (f : Frame) → slice_get fs k ≡ Some f → GoalsAre fs (suc k) gs → (hs : List ℕ) × (gs ≡ f.hole.0 ∷ hs) × GoalsAre fs f.next hs
-first_is {fs} f e (one_goal {f = g} {gs = hs} q r) = let same : g ≡ f = (let p : Some g ≡ Some f = sym q ∙ e in cc) in (hs, ap (λ (x : Frame). x.hole.0 ∷ hs) same, subst (λ (x : Frame). GoalsAre fs x.next hs) same r)
-
-none_is : {fs : List Frame} {k : ℕ} {gs : List ℕ} → slice_get fs k ≡ None → GoalsAre fs (suc k) gs → gs ≡ []
-none_is e (one_goal {f = g} q r) = (let p : None ≡ Some g = sym e ∙ q in absurd cc)
-
-pub empty_has_none : (fs : List Frame) (n : ℕ) → n ≡ zero → IsFirst fs n None
-empty_has_none fs n e gs g = empty_is (subst (λ k. GoalsAre fs k gs) e g)
-
-pub missing_has_none : (fs : List Frame) (n k : ℕ) → n ≡ suc k → length fs ≤ k → IsFirst fs n None
-missing_has_none fs n k e h gs g = none_is (slice_get_past fs k h) (subst (λ j. GoalsAre fs j gs) e g)
-
-pub frame_is_first : (fs : List Frame) (n k : ℕ) (f : Frame) → n ≡ suc k → k < length fs → f ≡ get_or fs k f → IsFirst fs n (Some f)
-frame_is_first fs n k f e h q gs g = first_is f (slice_get_read fs (length fs) k f refl h q) (subst (λ j. GoalsAre fs j gs) e g)
 
 get_grown : (fs more : List Frame) (k : ℕ) (f : Frame) → slice_get fs k ≡ Some f → slice_get (fs ++ more) k ≡ Some f
 get_grown [] more k f e = absurd cc

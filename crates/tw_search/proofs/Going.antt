@@ -1,5 +1,5 @@
 -- What the steps of the engine come to.
-use Rattle.std.proofs.Common.{◌≡◌, ℕ, zero, suc, ◌+◌, ◌-◌, ◌*◌, ◌<◌, ◌≤◌, List, [], ◌∷◌, length, map, reverse, Option, Some, None, refl, sym, ap, ◌∙◌, subst, arith}
+use Rattle.std.proofs.Common.{◌≡◌, ℕ, ◌+◌, ◌-◌, ◌≤◌, List, [], ◌∷◌, length, map, reverse, Option, Some, None, refl, sym, ap, ◌∙◌, subst, arith}
 use Rattle.lf.specs.Depth.{depth_limit}
 use Rattle.lf.specs.Entries.{Entry, IsCanonicalSignature, signature_of}
 use Rattle.lf.specs.Syntax.{Head, LfType}
@@ -8,7 +8,7 @@ use Rattle.lf_unification.specs.Lists.{followed}
 use Rattle.lf_unification.specs.Search.{Pending, SearchesFrom, begin_search}
 use Rattle.lf_unification.specs.Unifiers.{Equation}
 use Rattle.lf_search.specs.Coming.{AnswerIsDeep, Comes}
-use Rattle.tw_metas.specs.State.{Story, states}
+use Rattle.tw_metas.specs.State.{Story}
 use Rattle.tw_metas.specs.View.{equation_of}
 use Rattle.tw_metas.specs.declared.equation.Equation.{Equation as Postponed}
 use Rattle.tw_putting.specs.Ready.{IsLater}
@@ -17,22 +17,21 @@ use Rattle.tw_terms.specs.View.{term_of}
 use Rattle.tw_terms.specs.declared.canonical.MetaId.{MetaId}
 use Rattle.tw_search.specs.Chains.{GoalsAre, IsFirst, IsGrown, frames_of}
 use Rattle.tw_search.specs.Choosing.{heads_left}
-use Rattle.tw_search.specs.Going.{Goes, GoesFrom, GoesUp, IsBelow, Nears, NearsBelow, steps_left}
-use Rattle.tw_search.specs.Goals.{IsDeclared, IsOpened, node_of}
+use Rattle.tw_search.specs.Going.{Goes, GoesFrom, IsBelow}
+use Rattle.tw_search.specs.Goals.{IsOpened}
 use Rattle.tw_search.specs.Leaves.{IsLeaf, IsReadOff}
 use Rattle.tw_search.specs.Standing.{Came, ChoicesStand, IsAt, IsOver, IsTakenUp, NodeStands, PlaceStands, TriesHead, WentOn, choices_of}
-use Rattle.tw_search.specs.Tries.{GivesChild, NeverFits, OfferIsDeep}
+use Rattle.tw_search.specs.Tries.{GivesChild, NeverFits}
 use Rattle.tw_search.specs.declared.answer.Answer.{Answer}
 use Rattle.tw_search.specs.declared.frames.Frame.{Frame}
 use Rattle.tw_search.specs.declared.goal.OpenGoal.{OpenGoal}
 use Rattle.tw_search.specs.declared.search.Search.{Search}
 use Rattle.tw_search.specs.declared.step.Choice.{Choice}
-use Rattle.tw_search.specs.declared.step.End.{End}
 use Rattle.tw_search.specs.declared.step.End.TheVariants as end
 use Rattle.tw_search.specs.declared.step.Place.TheVariants as place
 use Rattle.tw_search.specs.declared.step.Step.{Step}
 use Rattle.tw_search.specs.declared.step.Step.TheVariants as step
-use Rattle.tw_search.proofs.Leaving.{answer_came, at_choices, at_list, budget_came, deep_came, end_came, left_came, try_deep_came}
+use Rattle.tw_search.proofs.Leaving.{answer_came, budget_came, deep_came, left_came}
 use Rattle.tw_search.proofs.Standing as standing
 
 -- Where a search is.
@@ -41,9 +40,6 @@ heads_here es s agenda e w = subst (λ p. PlaceStands es s.variables p s.store (
 
 pub node_here : (es : List Entry) (s : Search) (list : ℕ) (agenda : List Pending) → s.place ≡ place.Node list → NodeStands es s.variables list s.store (frames_of s.frames) (choices_of s) agenda → IsAt es s agenda
 node_here es s list agenda e w = subst (λ p. PlaceStands es s.variables p s.store (frames_of s.frames) (choices_of s) agenda) (sym e) w
-
-pub not_over : (es : List Entry) (s : Search) (agenda : List Pending) (e : End) → s.place ≡ place.Over e → IsAt es s agenda → ⊥
-not_over es s agenda e p w = subst (λ x. PlaceStands es s.variables x s.store (frames_of s.frames) (choices_of s) agenda) p w
 
 -- the choice points of a search that is at them
 pub heads_are : (es : List Entry) (s : Search) (n : ℕ) (cs : List Choice) (fs : List Frame) (y : Story) (agenda : List Pending) → s.place ≡ place.Heads → s.variables ≡ n → s.store ≡ y → frames_of s.frames ≡ fs → choices_of s ≡ cs → ChoicesStand es n y fs cs agenda → IsAt es s agenda

@@ -1,9 +1,8 @@
 -- What a search comes to: at a leaf, at its end, at the end of a budget, and at something deep.
-use Rattle.std.proofs.Common.{◌≡◌, ℕ, zero, suc, ◌+◌, ◌-◌, ◌<◌, ◌≤◌, List, [], ◌∷◌, length, map, reverse, Option, Some, None, refl, sym, ap, ◌∙◌, subst, arith}
+use Rattle.std.proofs.Common.{◌≡◌, ℕ, suc, ◌+◌, ◌-◌, ◌<◌, ◌≤◌, List, [], ◌∷◌, length, map, reverse, None, refl, sym, ap, ◌∙◌, subst, arith}
 use Rattle.lf.specs.Depth.{depth_limit}
 use Rattle.lf.specs.Entries.{Entry, IsCanonicalSignature, signature_of}
 use Rattle.lf.specs.Syntax.{Head, LfType, Term}
-use Rattle.lf.specs.Typing.{Signature}
 use Rattle.lf.proofs.Entries.{canonical_is_signature}
 use Rattle.lf_unification.specs.Lists.{followed}
 use Rattle.lf_unification.specs.Search.{Node, Offer, Pending, SearchesFrom, TryIsDue, at_node, begin_search, declared_constants, take_leaf}
@@ -21,7 +20,7 @@ use Rattle.tw_search.specs.Chains.{IsFirst, frames_of}
 use Rattle.tw_search.specs.Goals.{node_of}
 use Rattle.tw_search.specs.Laws.{AllFromQuery, at_goal}
 use Rattle.tw_search.specs.Leaves.{IsLeaf, IsReadOff}
-use Rattle.tw_search.specs.Standing.{Came, ChoicesStand, IsAt, IsOver, IsTakenUp, NodeStands, PlaceStands, Stands, StandsAfter, StepIs, TriesHead, WentOn, choices_of}
+use Rattle.tw_search.specs.Standing.{Came, ChoicesStand, IsAt, IsOver, NodeStands, PlaceStands, Stands, StandsAfter, StepIs, TriesHead, choices_of}
 use Rattle.tw_search.specs.Tries.{OfferIsDeep}
 use Rattle.tw_search.specs.declared.answer.Answer.{Answer}
 use Rattle.tw_search.specs.declared.search.Search.{Search}

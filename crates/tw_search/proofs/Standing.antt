@@ -1,17 +1,16 @@
 -- Where a search stands, from step to step.
-use Rattle.std.proofs.Common.{◌≡◌, ℕ, zero, suc, ◌+◌, ◌-◌, ◌<◌, ◌≤◌, List, [], ◌∷◌, ◌++◌, drop, take, length, length-append, map, reverse, Option, Some, None, ◌⊎◌, inl, inr, refl, sym, ap, ap₂, ◌∙◌, subst, arith}
+use Rattle.std.proofs.Common.{◌≡◌, ℕ, ◌+◌, ◌-◌, ◌≤◌, List, [], ◌∷◌, drop, take, length, length-append, map, reverse, Some, ◌⊎◌, inl, inr, refl, sym, ap, ap₂, ◌∙◌, subst, arith}
 use Rattle.lf.specs.Depth.{depth_limit}
 use Rattle.lf.specs.Entries.{Entry, IsCanonicalSignature, signature_of}
 use Rattle.lf.specs.Subordination.{Member}
-use Rattle.lf.specs.Syntax.{Head, LfType, skeleton}
+use Rattle.lf.specs.Syntax.{Head, LfType}
 use Rattle.lf.specs.Typing.{Signature}
 use Rattle.lf.proofs.Entries.{canonical_is_signature}
 use Rattle.lf_unification.specs.Lists.{followed}
-use Rattle.lf_unification.specs.Patterns.{skeleton_target}
 use Rattle.lf_unification.specs.Putting.{Unbound}
-use Rattle.lf_unification.specs.Search.{IsNode, Node, Offer, OfferedHeadHasType, Pending, SearchesFrom, TryIsDue, at_heads, at_node, declared_constants, holes, is_due, take_goal, tried_heads}
-use Rattle.lf_search.specs.Coming.{Comes, deep_offer, out_of_budget, to_budget, to_deep, too_deep}
-use Rattle.lf_search.specs.Heads.{AreOffered, is_offered, none_offered, not_offered}
+use Rattle.lf_unification.specs.Search.{IsNode, Offer, Pending, SearchesFrom, TryIsDue, at_node, declared_constants, holes, is_due, take_goal, tried_heads}
+use Rattle.lf_search.specs.Coming.{Comes}
+use Rattle.lf_search.specs.Heads.{AreOffered, is_offered, not_offered}
 use Rattle.lf_search.specs.Holes.{HolesAreOpen}
 use Rattle.lf_search.proofs.Calls.{goes_on}
 use Rattle.lf_search.proofs.ChildNode.{applied_adds}
@@ -20,23 +19,20 @@ use Rattle.lf_search.proofs.HolesStay.{child_holes, holes_declared}
 use Rattle.lf_search.proofs.OpenHoles.{own_shape}
 use Rattle.lf_search.proofs.Offers.{offer_is_there}
 use Rattle.lf_search.proofs.Staying.{among_parts, run_grows}
-use Rattle.tw_metas.specs.State.{State, Story, states, value_of}
+use Rattle.tw_metas.specs.State.{State, Story, states}
 use Rattle.tw_metas.proofs.Marks.{mark_is_kept}
 use Rattle.tw_putting.specs.Ready.{IsLater}
 use Rattle.tw_putting.specs.Stores.{bindings_of, types_of}
-use Rattle.tw_putting.proofs.Changes.{past_end}
 use Rattle.tw_putting.specs.Whole.{whole}
 use Rattle.tw_terms.specs.OpenView.{open_spine_of}
 use Rattle.tw_terms.specs.declared.canonical.MetaId.{MetaId}
 use Rattle.tw_unify.proofs.Stories.{later_then}
-use Rattle.std.specs.Option.{option_map}
-use Rattle.tw_metas.specs.State.{Declaration}
 use Rattle.tw_search.specs.Chains.{GoalsAre, IsFirst, IsGrown, frames_of}
 use Rattle.tw_search.specs.Choosing.{heads_left}
-use Rattle.tw_search.specs.Goals.{IsDeclared, IsHeadFor, IsOpened, StandsAtGoal, goal_type, node_of}
+use Rattle.tw_search.specs.Goals.{IsDeclared, IsHeadFor, IsOpened, goal_type, node_of}
 use Rattle.tw_search.specs.Laws.{at_goal, child_node}
-use Rattle.tw_search.specs.Standing.{AllDeclared, AtChoice, Came, ChoicesStand, IsKept, IsTakenUp, NodeStands, TriesHead, WentOn, choices_of, no_choice, one_choice}
-use Rattle.tw_search.specs.Tries.{GivesChild, NeverFits, OfferIsDeep}
+use Rattle.tw_search.specs.Standing.{AtChoice, Came, ChoicesStand, IsTakenUp, NodeStands, TriesHead, WentOn, choices_of, no_choice, one_choice}
+use Rattle.tw_search.specs.Tries.{GivesChild, NeverFits}
 use Rattle.tw_search.specs.declared.frames.Frame.{Frame}
 use Rattle.tw_search.specs.declared.goal.OpenGoal.{OpenGoal}
 use Rattle.tw_search.specs.declared.search.Search.{Search}

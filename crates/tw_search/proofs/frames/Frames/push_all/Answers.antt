@@ -1,4 +1,4 @@
-use Rattle.std.proofs.Common.{◌≡◌, ◌+◌, take, arith}
+use Rattle.std.proofs.Common.{◌+◌, take, arith}
 use Rattle.std.proofs.lemmas.List.{take_more}
 use Rattle.tw_search.specs.Chains.{frames_of}
 use Rattle.tw_search.proofs.Chaining.{goals_pushed, grown_by_one}

@@ -1,4 +1,4 @@
-use Rattle.std.proofs.Common.{◌≡◌, ℕ, refl, ap₂}
+use Rattle.std.proofs.Common.{ℕ, refl, ap₂}
 use Rattle.tw_search.specs.declared.step.Choice.{Choice}
 use Rattle.tw_search.proofs.Going.{goal_chosen}
 use Rattle.tw_search.proofs.Leaving.{at_list}

@@ -3,7 +3,6 @@ use Rattle.std.proofs.lemmas.Result.{IfOk-weaker}
 use Rattle.lf.specs.Syntax.{LfType}
 use Rattle.lf_unification.specs.Search.{Node, Pending}
 use Rattle.tw_search.specs.Standing.{Came, IsAt, Stands, StepIs}
-use Rattle.tw_search.specs.declared.step.Step.{Step}
 use Rattle.tw_search.proofs.Calling.{call_is, heads_again, node_again}
 use Rattle.tw_search.proofs.search.Search.next.Goals as goal
 

@@ -1,10 +1,9 @@
-use Rattle.std.proofs.Common.{◌≡◌, ◌-◌, List, ◌∷◌, Option, refl, reverse}
+use Rattle.std.proofs.Common.{◌-◌, refl, reverse}
 use Rattle.std.proofs.lemmas.Result.{IfOk-weaker}
 use Rattle.tw_search.specs.Chains.{frames_of}
 use Rattle.tw_search.specs.Going.{Goes, GoesUp}
 use Rattle.tw_search.specs.Standing.{choices_of}
 use Rattle.tw_search.specs.declared.search.Search.{Search}
-use Rattle.tw_search.specs.declared.step.Step.{Step}
 use Rattle.tw_search.proofs.Going.{goes_from_same}
 use Rattle.tw_search.proofs.Leaving.{at_choices, end_came}
 use Rattle.tw_search.proofs.Standing.{can_go_back, nothing_stands, taken_up}

@@ -1,4 +1,4 @@
-use Rattle.std.proofs.Common.{◌≡◌, subst}
+use Rattle.std.proofs.Common.{subst}
 use Rattle.tw_search.specs.Going.{Goes, Nears}
 use Rattle.tw_search.proofs.Going.{came_further, still_at, went_further, went_nowhere}
 use Rattle.tw_search.proofs.search.Search.run.Goals as goal

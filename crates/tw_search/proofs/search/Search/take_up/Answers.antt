@@ -1,8 +1,7 @@
-use Rattle.std.proofs.Common.{◌≡◌, List, ◌∷◌, Option, refl}
+use Rattle.std.proofs.Common.{refl}
 use Rattle.std.proofs.lemmas.Result.{IfOk-weaker}
 use Rattle.tw_terms.specs.View.{head_of}
 use Rattle.tw_search.specs.Going.{GoesUp, Tried}
-use Rattle.tw_search.specs.declared.step.Step.{Step}
 use Rattle.tw_search.proofs.Going.{budget_spent, goes_later, heads_out}
 use Rattle.tw_search.proofs.Standing.{at_head, next_agenda, up_to_head}
 use Rattle.tw_search.proofs.search.Search.take_up.Goals as goal
