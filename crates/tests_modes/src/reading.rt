@@ -57,7 +57,13 @@ pub(crate) fn read_worlds(
     let mut blocks = Vec::new(alloc);
     if !case.text("label")?.is_empty() {
         let label = Name::from_bytes(alloc, case.text("label")?.as_bytes())?;
-        blocks.push(read_block(alloc, names, label, case.text("some")?, case.text("entries")?)?)?;
+        blocks.push(read_block(
+            alloc,
+            names,
+            label,
+            case.text("some")?,
+            case.text("entries")?,
+        )?)?;
     }
     if !case.text("second")?.is_empty() {
         let label = Name::from_bytes(alloc, case.text("second")?.as_bytes())?;

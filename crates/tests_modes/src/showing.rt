@@ -19,11 +19,13 @@ pub(crate) fn show_verdict(
             line.push_str("no mode ")?;
             names.show_constant(&mut line, *family)?;
         }
-        Err(ModeFault::Fault {
-            clause,
-            subgoal,
-            argument,
-        }) => {
+        Err(
+            ModeFault::Fault {
+                clause,
+                subgoal,
+                argument,
+            },
+        ) => {
             show_name(&mut line, names, clause)?;
             write!(line, " {subgoal} {argument}")?;
         }

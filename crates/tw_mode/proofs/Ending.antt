@@ -268,11 +268,11 @@ module _ (t : Table) (d a : ℕ) (S : Spine) (gs es ss : List Bool) (g : length 
   pub end_somewhere : AreAllTrue (marked d (λ i. occurs_spine i S) ss) → (os rs : List Bool) (L : ℕ → Bool) (o : Option ℕ) → os ≡ output_places (marks_in t a) → rs ≡ marked d (λ i. occurs_at os i S) ss → L ≡ in_marks true d rs → Outcome (NoneUnsettled (in_marks true d gs) L (marks_in t a) S) (FirstUnsettled (in_marks true d gs) L 1 (marks_in t a) S) o → EndOutcome t (in_marks true d gs) (in_marks true d es) a S o
   end_somewhere all os rs L o p r w h c e q k must =
       end_of (marks_in t) c (in_marks true d gs) (in_marks true d es) must o
-        (ap (λ f. length (marks_in t f)) e ∙ k ∙ ap argument_count (sym q))
-        (none_nowhere (marks_in t) c (in_marks true d gs) (in_marks true d es) must (λ x. ap (λ X. either (either (in_marks true d gs x) (in_marks true d es x)) (occurs_spine x X)) q ∙ sym (seen_set x) ∙ all_in d x (marked d (λ i. occurs_spine i S) ss) all))
-        (subst (λ X. LostOutcome (in_marks true d gs) (Allowed (marks_in t) c (in_marks true d gs) (in_marks true d es) must) 1 (marks_in t (target c.type)) X o) (sym q)
-          (subst (λ f. LostOutcome (in_marks true d gs) (Allowed (marks_in t) c (in_marks true d gs) (in_marks true d es) must) 1 (marks_in t f) S o) (sym e)
-            (subst (λ X. LostOutcome (in_marks true d gs) X 1 (marks_in t a) S o) same h)))
+      (ap (λ f. length (marks_in t f)) e ∙ k ∙ ap argument_count (sym q))
+      (none_nowhere (marks_in t) c (in_marks true d gs) (in_marks true d es) must (λ x. ap (λ X. either (either (in_marks true d gs x) (in_marks true d es x)) (occurs_spine x X)) q ∙ sym (seen_set x) ∙ all_in d x (marked d (λ i. occurs_spine i S) ss) all))
+      (subst (λ X. LostOutcome (in_marks true d gs) (Allowed (marks_in t) c (in_marks true d gs) (in_marks true d es) must) 1 (marks_in t (target c.type)) X o) (sym q)
+      (subst (λ f. LostOutcome (in_marks true d gs) (Allowed (marks_in t) c (in_marks true d gs) (in_marks true d es) must) 1 (marks_in t f) S o) (sym e)
+      (subst (λ X. LostOutcome (in_marks true d gs) X 1 (marks_in t a) S o) same h)))
     where
       same : L ≡ Allowed (marks_in t) c (in_marks true d gs) (in_marks true d es) must
       same =

@@ -44,9 +44,9 @@ module _ (P : (ℕ → Bool) → Clause → Type 0) (moded : ℕ → Bool) where
   pub hypothesis_passes : (a b : Bool) (C : List LfType) (F F' U U' : ℕ → Bool) (T A B : LfType) → T ≡ pi A B → a ≡ true → F' ≡ under F → U' ≡ under U → Decides a (OneHypothesis C F U A) → Decides b (EachHypothesis P moded (A ∷ C) F' U' B) → Decides b (EachHypothesis P moded C F U T)
   hypothesis_passes a b C F F' U U' T A B e t f u d k =
       subst (λ X. Decides b (EachHypothesis P moded C F U X)) (sym e)
-        (decides_same b (λ h. (d.0 t, h)) (λ h. h.1)
-          (subst (λ W. Decides b (EachHypothesis P moded (A ∷ C) (under F) W B)) u
-            (subst (λ W. Decides b (EachHypothesis P moded (A ∷ C) W U' B)) f k)))
+      (decides_same b (λ h. (d.0 t, h)) (λ h. h.1)
+      (subst (λ W. Decides b (EachHypothesis P moded (A ∷ C) (under F) W B)) u
+      (subst (λ W. Decides b (EachHypothesis P moded (A ∷ C) W U' B)) f k)))
 
   pub no_hypothesis : (C : List LfType) (F U : ℕ → Bool) (T : LfType) (a : ℕ) (S : _) → T ≡ atom a S → Decides true (EachHypothesis P moded C F U T)
   no_hypothesis C F U T a S e = subst (λ X. Decides true (EachHypothesis P moded C F U X)) (sym e) (decides_yes tt)
@@ -68,8 +68,8 @@ hypothesis_decided Σ t o A (Some p) r e m h C = moded_decided _ _ (moded_in t (
 pub hypothesis_there : (Σ : Signature) (t : Table) (o : Outside) (A : LfType) (f : Option Place) (r : Bool) → r ≡ is_none f → moded_in t (target A) ≡ true → ClauseOutcome Σ t o A f → (C : List LfType) (F U : ℕ → Bool) → in_marks false o.depth o.fixed.now ≡ F → in_marks true o.depth o.ground.now ≡ U → Decides r (choose (moded_in t (target A)) (WellModedFrom Σ (marks_in t) (moded_in t) U (record { outer = C; fixed = F; type = A })) (Unit {0}))
 hypothesis_there Σ t o A f r e m h C F U p q =
     subst (λ V. Decides r (choose (moded_in t (target A)) (WellModedFrom Σ (marks_in t) (moded_in t) V (record { outer = C; fixed = F; type = A })) (Unit {0}))) q
-      (subst (λ G. Decides r (choose (moded_in t (target A)) (WellModedFrom Σ (marks_in t) (moded_in t) (ground_outside o) (record { outer = C; fixed = G; type = A })) (Unit {0}))) p
-        (hypothesis_decided Σ t o A f r e m h C))
+    (subst (λ G. Decides r (choose (moded_in t (target A)) (WellModedFrom Σ (marks_in t) (moded_in t) (ground_outside o) (record { outer = C; fixed = G; type = A })) (Unit {0}))) p
+    (hypothesis_decided Σ t o A f r e m h C))
 
 cond_false : (t : Bool) → cond t false false ≡ false
 cond_false true = refl

@@ -24,7 +24,7 @@ use mathlib.Core.Path.{fun_ext}
 outcome_by : (Σ : Signature) (t : Table) (o : Outside) (A : LfType) (f : Option Place) (C : List LfType) (F U : ℕ → Bool) → in_marks false o.depth o.fixed.now ≡ F → in_marks true o.depth o.ground.now ≡ U → ClauseOutcome Σ t o A f → Outcome (WellModedFrom Σ (marks_in t) (moded_in t) U (record { outer = C; fixed = F; type = A })) (ModeFaultFrom Σ (marks_in t) (moded_in t) U (record { outer = C; fixed = F; type = A })) (option_map plain_place f)
 outcome_by Σ t o A f C F U p q h =
     subst (λ V. Outcome (WellModedFrom Σ (marks_in t) (moded_in t) V (record { outer = C; fixed = F; type = A })) (ModeFaultFrom Σ (marks_in t) (moded_in t) V (record { outer = C; fixed = F; type = A })) (option_map plain_place f)) q
-      (subst (λ G. Outcome (WellModedFrom Σ (marks_in t) (moded_in t) (in_marks true o.depth o.ground.now) (record { outer = C; fixed = G; type = A })) (ModeFaultFrom Σ (marks_in t) (moded_in t) (in_marks true o.depth o.ground.now) (record { outer = C; fixed = G; type = A })) (option_map plain_place f)) p (h C))
+    (subst (λ G. Outcome (WellModedFrom Σ (marks_in t) (moded_in t) (in_marks true o.depth o.ground.now) (record { outer = C; fixed = G; type = A })) (ModeFaultFrom Σ (marks_in t) (moded_in t) (in_marks true o.depth o.ground.now) (record { outer = C; fixed = G; type = A })) (option_map plain_place f)) p (h C))
 
 nothing_marked : (ms : List Bool) → in_marks false 0 ms ≡ nothing
 nothing_marked ms = fun_ext (λ i. refl)

@@ -27,10 +27,10 @@ one_further V n free rest A L (Some j) u h = subst (λ W. FirstUnsound (suc n) W
 pub marks_go_on : (us vs : List Bool) (ms rest : List Mark) (b : Mark) (K L : Kind) (A : LfType) (o : Option ℕ) → ms ≡ b ∷ rest → K ≡ kind_pi A L → MayHave (in_marks false (length us) us) b A → vs ≡ us ++ not (is_output b) ∷ [] → SoundOutcome (in_marks false (length vs) vs) (length vs + 1) rest L o → SoundOutcome (in_marks false (length us) us) (length us + 1) ms K o
 marks_go_on us vs ms rest b K L A o e k u v h =
     subst (λ xs. SoundOutcome V (length us + 1) xs K o) (sym e)
-      (subst (λ X. SoundOutcome V (length us + 1) (b ∷ rest) X o) (sym k)
-        (one_further V (length us + 1) b rest A L o u
-          (subst (λ n. SoundOutcome (with_newest (not (is_output b)) V) n rest L o) more
-            (subst (λ W. SoundOutcome W (length vs + 1) rest L o) same h))))
+    (subst (λ X. SoundOutcome V (length us + 1) (b ∷ rest) X o) (sym k)
+    (one_further V (length us + 1) b rest A L o u
+    (subst (λ n. SoundOutcome (with_newest (not (is_output b)) V) n rest L o) more
+    (subst (λ W. SoundOutcome W (length vs + 1) rest L o) same h))))
   where
     V : ℕ → Bool
     V = in_marks false (length us) us

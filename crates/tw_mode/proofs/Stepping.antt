@@ -88,9 +88,9 @@ module _ (Σ : Signature) (t : Table) (o : Outside) (T : LfType) (depth : ℕ) (
       pub faulty_goal : (old new : Walk) (j : ℕ) → AllStand old (quantifiers T - suc left) → SubgoalOutcome Σ t (in_marks false depth o.fixed.now) (in_marks true depth old.ground.items) A (Some j) → AllBefore (quantifiers T - suc left) → new.subgoals ≡ suc old.subgoals → SubgoalsOutcome Σ t o T depth new (Some j)
       faulty_goal old new j s g b q C =
           first_faulty Σ (marks_in t) (moded_in t) (ground_outside o) (clause_in C o T) (quantifiers T - suc left) A new.subgoals j
-            (is_subgoal_at Σ (marks_in t) (moded_in t) (ground_outside o) (clause_in C o T) (quantifiers T - suc left) A (is_variable_here C o T left h false e) (type_here C o T left h D A a))
-            (met_past_goal (marks_in t) (ground_outside o) (clause_in C o T) depth old new.subgoals (quantifiers T - suc left) (is_variable_here C o T left h false e) (s C) q)
-            (b C) (outcome_here old (Some j) s g C)
+          (is_subgoal_at Σ (marks_in t) (moded_in t) (ground_outside o) (clause_in C o T) (quantifiers T - suc left) A (is_variable_here C o T left h false e) (type_here C o T left h D A a))
+          (met_past_goal (marks_in t) (ground_outside o) (clause_in C o T) depth old new.subgoals (quantifiers T - suc left) (is_variable_here C o T left h false e) (s C) q)
+          (b C) (outcome_here old (Some j) s g C)
 
   module _ (left : ℕ) (h : left < quantifiers T) (D A : LfType) (a : A ≡ rename_type (shift_by (quantifiers T - left)) (get_or (domain_types T) left D)) (old new : Walk) (s : AllStand old (quantifiers T - suc left)) (b : AllBefore (quantifiers T - suc left)) where
     pub quantifier_walked : (v : Bool) (r : Option ℕ) → get_or (shape T) left false ≡ v → is_some r ≡ false → QuantifierOutcome Σ t (in_marks false depth o.fixed.now) depth v A old new r → AllStand new (quantifiers T - left) × AllBefore (quantifiers T - left)
@@ -173,7 +173,7 @@ module _ (Σ : Signature) (t : Table) (o : Outside) (T : LfType) (depth : ℕ) (
     ended r g C =
         let x : Stands (marks_in t) (ground_outside o) (clause_in C o T) depth w (quantifiers T) = (walked C).0 in
         subst (λ U. Outcome (AllGround (marks_in t) (clause_in C o T) U) (EndFault (marks_in t) (clause_in C o T) U) r) x.ground
-          (g (clause_in C o T) refl refl as_many (λ y. ((λ e. (excused_means (marks_in t) (clause_in C o T) y).0 (sym (ap (λ X. X y) x.excuses) ∙ e)), (λ m. ap (λ X. X y) x.excuses ∙ (excused_means (marks_in t) (clause_in C o T) y).1 m))))
+        (g (clause_in C o T) refl refl as_many (λ y. ((λ e. (excused_means (marks_in t) (clause_in C o T) y).0 (sym (ap (λ X. X y) x.excuses) ∙ e)), (λ m. ap (λ X. X y) x.excuses ∙ (excused_means (marks_in t) (clause_in C o T) y).1 m))))
 
     pub clause_ends : (r : Option ℕ) (p : Option Place) → option_map plain_place p ≡ option_map (place_of 0) r → EndOutcome t (in_marks true depth w.ground.items) (in_marks true depth w.excused.items) (target T) (target_arguments T) r → ClauseOutcome Σ t o T p
     clause_ends r p q g C = fault_at 0 r p q C (by r (ended r g C))
@@ -187,5 +187,5 @@ pub step_told : (Σ : Signature) (t : Table) (F : ℕ → Bool) (depth : ℕ) (G
 step_told Σ t F depth G A v old new (Err e) n g l m a b c d x y = a
 step_told Σ t F depth G A v old new (Ok f) n g l m a b c d x y =
     subst (λ u. QuantifierOutcome Σ t F depth u A old new f) (sym n)
-      (subst (λ X. QuantifierOutcome Σ t F depth false X old new f) g
-        (a, b, λ q. record { ground = c q; excuses = d q; each_ground = x q ∙ sym l; each_excused = y q ∙ sym m }))
+    (subst (λ X. QuantifierOutcome Σ t F depth false X old new f) g
+    (a, b, λ q. record { ground = c q; excuses = d q; each_ground = x q ∙ sym l; each_excused = y q ∙ sym m }))

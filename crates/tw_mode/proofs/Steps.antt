@@ -8,4 +8,3 @@ hidden_step d ms ns h e = ap (λ xs. with_hidden xs (d - length xs)) e ∙ ap (w
 
 pub hidden_done : (d : ℕ) (ms : List Bool) → d ≤ length ms → ms ≡ with_hidden ms (d - length ms)
 hidden_done d ms h = ap (with_hidden ms) (let q : zero ≡ d - length ms = omega (arith, h) in q)
-

@@ -104,11 +104,7 @@ fn have_modes(
 }
 
 /// The same of a clause of this type, if there is one.
-fn families_have_modes(
-    alloc: Global,
-    table: &Table,
-    ty: Option<&Ty>,
-) -> Result<(), ModeFault>
+fn families_have_modes(alloc: Global, table: &Table, ty: Option<&Ty>) -> Result<(), ModeFault>
     ensures { (cs : List NamedClause) → map (λ n. n.clause.type) cs ≡ as_list (option_map (λ t. type_of t.now) ty.entry) → ModesOutcome (moded_in table.now) cs result }
 {
     let Some(ty) = ty else {

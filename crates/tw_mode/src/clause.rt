@@ -18,15 +18,15 @@ ghost use Rattle.tw_mode.specs.Scopes.{fixed_in, in_marks};
 ghost use Rattle.tw_mode.specs.Solved.{Stands, after, after_all, clause_in, domain_types, excused, ground_outside, with_free};
 
 use crate::end::{Ending, end_fault};
-use crate::outside::{Outside, outside_of};
 use crate::head::{count_quantifiers, marks_in_head, more_marks, sum, target_spine};
-use crate::table::Table;
 use crate::inputs::{first_outside_goal, hypotheses_use};
 use crate::mentions::{mark_at, mark_goal};
+use crate::outside::{Outside, outside_of};
 use crate::places::mark_strict_goal;
 use crate::rows::places_for;
 use crate::scope::Scope;
 use crate::sound::unsound_place;
+use crate::table::Table;
 use crate::uses::Allowed;
 use std::alloc::{AllocError, Global};
 use tw_clause::{Mark3, shape_of};

@@ -11,9 +11,9 @@ ghost use Rattle.tw_mode.specs.Ends.{AreAllTrue, FirstUnsettled, NoneUnsettled, 
 ghost use Rattle.tw_mode.specs.Outcomes.{EndOutcome};
 ghost use Rattle.tw_mode.specs.Scopes.{in_marks};
 
-use crate::table::Table;
 use crate::mentions::mark_at;
 use crate::rows::{has_mark, nth_mark, places_for};
+use crate::table::Table;
 use crate::uses::{Allowed, uses_term};
 use std::alloc::{AllocError, Global};
 use tw_clause::{Mark3, mark_spine};
@@ -135,12 +135,7 @@ fn first_lost(
 }
 
 /// Whether an argument has such a variable.
-fn is_lost(
-    ground: &Allowed,
-    settled: &Allowed,
-    mark: Mark3,
-    arg: &Term,
-) -> Result<bool, AllocError>
+fn is_lost(ground: &Allowed, settled: &Allowed, mark: Mark3, arg: &Term) -> Result<bool, AllocError>
     requires ground { length ground.now.marks.now ≤ ground.now.depth }
     requires settled { length settled.now.marks.now ≤ settled.now.depth }
     ensures { IfOk result (λ b. Decides b (Unsettled (allowed_in ground.now) (allowed_in settled.now) (mark_of mark) (term_of arg.now))) }

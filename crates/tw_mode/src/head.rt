@@ -10,10 +10,10 @@ ghost use Rattle.tw_mode.specs.Rows.{marks_in};
 ghost use Rattle.tw_mode.specs.Scopes.{fixed_in};
 ghost use Rattle.tw_mode.specs.Solved.{with_hidden};
 
-use crate::table::Table;
 use crate::places::mark_strict_at;
 use crate::rows::places_for;
 use crate::scope::Scope;
+use crate::table::Table;
 use std::alloc::{AllocError, Global};
 use tw_clause::Mark3;
 use tw_terms::numbers::one_more;

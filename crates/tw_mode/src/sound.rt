@@ -10,8 +10,8 @@ ghost use Rattle.tw_mode.specs.Checks.{MayHave, Outcome};
 ghost use Rattle.tw_mode.specs.Rows.{marks_in};
 ghost use Rattle.tw_mode.specs.Scopes.{in_marks};
 
-use crate::table::Table;
 use crate::rows::{has_mark, nth_mark};
+use crate::table::Table;
 use crate::uses::{Allowed, uses_type};
 use std::alloc::{AllocError, Global};
 use tw_clause::Mark3;

@@ -21,7 +21,7 @@ returns-in_err-is_moded c =
     let f = c.in_err-is_moded.field-0.0 in
     let e : c.from_residual.result ≡ Err f = search rules in
     subst (FaultsOutcome Σ m M (listed_clauses es W xs)) (sym e)
-      (c.loop-next.invariant (Err f) (subst (λ cs. FaultsOutcome Σ m M cs (Err f)) (sym (listed_next es W xs k c.nth_listed-at.result c.nth_listed-at.ensures)) (faults_end Σ m M (clause_at es W c.nth_listed-at.result) (listed_clauses es W (drop (k + 1) xs)) f c.in_err-is_moded.ensures)))
+    (c.loop-next.invariant (Err f) (subst (λ cs. FaultsOutcome Σ m M cs (Err f)) (sym (listed_next es W xs k c.nth_listed-at.result c.nth_listed-at.ensures)) (faults_end Σ m M (clause_at es W c.nth_listed-at.result) (listed_clauses es W (drop (k + 1) xs)) f c.in_err-is_moded.ensures)))
 
 pub loop-next-preserved : goal.loop-next-preserved
 loop-next-preserved c = λ r h.

@@ -18,7 +18,7 @@ returns-in_err-have_modes c =
     let f = c.in_err-have_modes.field-0.0 in
     let e : c.from_residual.result ≡ Err f = search rules in
     subst (ModesOutcome M (listed_clauses es W xs)) (sym e)
-      (c.loop-next.invariant (Err f) (subst (λ cs. ModesOutcome M cs (Err f)) (sym (listed_next es W xs k c.nth_listed-at.result c.nth_listed-at.ensures)) (modes_end M (clause_at es W c.nth_listed-at.result) (listed_clauses es W (drop (k + 1) xs)) f c.in_err-have_modes.ensures)))
+    (c.loop-next.invariant (Err f) (subst (λ cs. ModesOutcome M cs (Err f)) (sym (listed_next es W xs k c.nth_listed-at.result c.nth_listed-at.ensures)) (modes_end M (clause_at es W c.nth_listed-at.result) (listed_clauses es W (drop (k + 1) xs)) f c.in_err-have_modes.ensures)))
 
 pub loop-next-preserved : goal.loop-next-preserved
 loop-next-preserved c = λ r h.

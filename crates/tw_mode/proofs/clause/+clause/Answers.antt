@@ -232,7 +232,7 @@ subgoals_fault-loop-left-preserved t c =
     let b : (C : List LfType) → ModedBefore Σ (marks_in tab) (moded_in tab) (ground_outside o) (clause_in C o T) (length ds - suc k) = λ C. subst (λ j. ModedBefore Σ (marks_in tab) (moded_in tab) (ground_outside o) (clause_in C o T) (length ds - j)) here (c.loop-left.invariant.before C) in
     let z : is_some c.in_ok-fault.fault ≡ false = search rules in
     let r = (loop_walked Σ tab o T c.args.scope.now.depth c.requires.outside c.requires.depth c.args.scope.now.fixed.now (length ds) k (c.len.result - k) (type_of c.nth_domain-domain.result.now) c.nth_test-is_variable.result c.loop-left.walk c.quantifier_fault.new.walk c.in_ok-fault.fault c.requires.same n (omega (arith, w)) j q v s b c.in_ok-fault.ensures).0 z in
-    record { within = omega (arith, w); stands = r.0; before = r.1; }
+    record { within = omega (arith, w); stands = r.0; before = r.1 }
 
 pub subgoals_fault-returns : goal.subgoals_fault-returns
 subgoals_fault-returns t c =

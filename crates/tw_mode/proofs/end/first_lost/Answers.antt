@@ -27,8 +27,8 @@ returns-then-branch c =
     let whole : args_of items ≡ spine_of c.args.head.now = grind (arith, types) in
     let e = args_at items k c.arg-item.result (omega arith) (c.arg-item.is ∙ ap (λ xs. get_or xs k c.arg-item.result) c.deref-arg-items.ensures.value) in
     subst (λ j. LostOutcome U L 1 (map mark_of c.args.marks.now) (spine_of c.args.head.now) (Some j)) (sym c.in_ok-one_more.ensures)
-      (subst (λ S. LostOutcome U L 1 (map mark_of c.args.marks.now) S (Some (suc k))) whole
-        (c.loop-place.invariant (Some (suc k)) (argument_fails U L (suc k) (map mark_of (drop k c.args.marks.now)) (mark_of c.nth_mark.result) (map mark_of (drop (suc k) c.args.marks.now)) (args_of (drop k items)) (args_of (drop (k + 1) items)) (term_of c.arg-item.result) c.nth_mark.ensures e (c.in_ok-is_lost.ensures.0 c.if-branch.true))))
+    (subst (λ S. LostOutcome U L 1 (map mark_of c.args.marks.now) S (Some (suc k))) whole
+    (c.loop-place.invariant (Some (suc k)) (argument_fails U L (suc k) (map mark_of (drop k c.args.marks.now)) (mark_of c.nth_mark.result) (map mark_of (drop (suc k) c.args.marks.now)) (args_of (drop k items)) (args_of (drop (k + 1) items)) (term_of c.arg-item.result) c.nth_mark.ensures e (c.in_ok-is_lost.ensures.0 c.if-branch.true))))
 
 pub loop-place-preserved : goal.loop-place-preserved
 loop-place-preserved c = λ o h.

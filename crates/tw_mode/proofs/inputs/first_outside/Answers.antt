@@ -15,8 +15,8 @@ returns-then-not-branch c =
     let whole : args_of items ≡ spine_of c.args.spine.now = grind (arith, types) in
     let e = args_at items k c.arg-item.result (omega arith) (c.arg-item.is ∙ ap (λ xs. get_or xs k c.arg-item.result) c.deref-arg-items.ensures.value) in
     subst (λ j. PlacesOutcome U 1 c.args.places.now (spine_of c.args.spine.now) (Some j)) (sym c.in_ok-one_more.ensures)
-      (subst (λ S. PlacesOutcome U 1 c.args.places.now S (Some (suc k))) whole
-        (c.loop-place.invariant (Some (suc k)) (place_fails U k c.args.places.now (args_of (drop k items)) (args_of (drop (k + 1) items)) (term_of c.arg-item.result) e (sym c.is_chosen.ensures ∙ c.if-is_chosen.true) (no_of c.in_ok-uses_term.field-0 c.if-not-branch.true c.in_ok-uses_term.ensures))))
+    (subst (λ S. PlacesOutcome U 1 c.args.places.now S (Some (suc k))) whole
+    (c.loop-place.invariant (Some (suc k)) (place_fails U k c.args.places.now (args_of (drop k items)) (args_of (drop (k + 1) items)) (term_of c.arg-item.result) e (sym c.is_chosen.ensures ∙ c.if-is_chosen.true) (no_of c.in_ok-uses_term.field-0 c.if-not-branch.true c.in_ok-uses_term.ensures))))
 
 pub returns : goal.returns
 returns c =
