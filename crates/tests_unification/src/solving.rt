@@ -69,11 +69,8 @@ pub(crate) fn solved(
     if !are_ready(alloc, signature, &store, &equations)? {
         return Ok(String::from_str(alloc, NOT_ASKED)?);
     }
-    let answer = if case.kind.as_str() == "more" {
-        solve_twice(alloc, &mut store, signature, equations)
-    } else {
-        solve(alloc, &mut store, signature, equations)
-    };
+    let on = case.kind.as_str() == "more";
+    let answer = solve_or_on(alloc, &mut store, signature, equations, on);
     let mut line = String::new(alloc);
     match answer {
         Ok(Unified::Solved) if store.equations().is_empty() => line.push_str("solved")?,
@@ -86,6 +83,25 @@ pub(crate) fn solved(
     names.leave_scope(0);
     show_values(alloc, &mut line, names, &store, case)?;
     Ok(line)
+}
+
+/// Solves in a store in which nothing stands, or solves on there.
+fn solve_or_on(
+    alloc: Global,
+    store: &mut Store,
+    signature: &Signature,
+    equations: Vec<Equation>,
+    on: bool,
+) -> Result<Unified, UnifyFault>
+    requires new { IsNew store.old.now }
+    requires ready { IsReady (signature_of signature.now) (map equation_of equations.items) store.old.now }
+    ensures { IfOk result (λ a. StaysReady a (signature_of signature.now) store.new.now) }
+{
+    if on {
+        solve_twice(alloc, store, signature, equations)
+    } else {
+        solve(alloc, store, signature, equations)
+    }
 }
 
 /// Solves on in a store in which nothing stands, and once more with no new equation where some are left.

@@ -11,5 +11,5 @@ solve_more-requires-in-Left-clause-left c =
     let Σ = signature_of c.args.signature.now in
     let before = whole (map equation_of c.args.equations.items) c.args.store.now.now in
     let t = c.solve_more.new.store.now in
-    let left : solving.Left Σ before (whole [] t) = subst (λ a. Answers a Σ before (whole [] t)) c.in-Left.is c.in_ok-solve_more.ensures.answer in
+    let left : solving.Left Σ before (whole [] t) = subst (λ a. Answers a Σ before (whole [] t)) c.in-Left.is c.in_ok-other.ensures.answer in
     c.all_left_over_are_left.ensures before.metavariables t left.all_left_over
