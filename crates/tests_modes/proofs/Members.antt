@@ -16,7 +16,7 @@ pub none_before : (es some : List LfType) (n : ℕ) → length es ≤ n → some
 none_before es some n h = ap (λ xs. onto xs some) (sym (drop_of_length-le es h))
 
 pub one_more : {A B : Type 0} (f : A → B) (xs : List A) (k : ℕ) (x : A) (P : B → Type 0) → k < length xs → x ≡ get_or xs k x → P (f x) → ((b : B) → Member b (map f (take k xs)) → P b) → (b : B) → Member b (map f (take (k + 1) xs)) → P b
-one_more f xs k x P h e p all b m = go xs k x h e p all (subst (λ n. Member b (map f (take n xs))) (let q : k + 1 ≡ suc k = omega arith in q) m)
+one_more {A = A} {B = B} f xs k x P h e p all b m = go xs k x h e p all (subst (λ n. Member b (map f (take n xs))) (let q : k + 1 ≡ suc k = omega arith in q) m)
   where
     go : (xs : List A) (k : ℕ) (x : A) → k < length xs → x ≡ get_or xs k x → P (f x) → ((b : B) → Member b (map f (take k xs)) → P b) → Member b (map f (take (suc k) xs)) → P b
     go [] k x h e p all m = absurd (omega (arith, h))

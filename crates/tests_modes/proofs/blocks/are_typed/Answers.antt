@@ -1,4 +1,4 @@
-use Rattle.std.proofs.Common.{◌∙◌, ap, arith, get_or}
+use Rattle.std.proofs.Common.{◌≡◌, ◌∙◌, ap, arith, get_or, rules, true}
 use Rattle.lf.specs.Entries.{signature_of}
 use Rattle.lf.specs.Subordination.{IsTypedBlock}
 use Rattle.tw_clause.specs.View.{block_of}
