@@ -1,5 +1,6 @@
 -- Entries and blocks, one after the other.
-use Rattle.std.proofs.Common.{◌≡◌, ℕ, zero, suc, ◌+◌, ◌<◌, ◌≤◌, List, [], ◌∷◌, Some, length, drop, get_or, map, take, refl, sym, ap, ◌∙◌, subst, arith, inl, inr}
+use Rattle.std.proofs.Common.{◌≡◌, ℕ, zero, suc, ◌+◌, ◌<◌, ◌≤◌, List, [], ◌∷◌, Some, length, drop, get_or, map, take, refl, sym, ap, ◌∙◌, subst, arith, inl, inr, Bool, true, false}
+use Rattle.std.specs.Bool.{OnTrue}
 use Rattle.std.specs.Prelude.{slice_get, ◌⊎◌}
 use Rattle.std.proofs.lemmas.List.{take_all}
 use Rattle.std.proofs.Math.ListN.{drop_of_length-le}
@@ -15,7 +16,7 @@ pub none_before : (es some : List LfType) (n : ℕ) → length es ≤ n → some
 none_before es some n h = ap (λ xs. onto xs some) (sym (drop_of_length-le es h))
 
 pub one_more : {A B : Type 0} (f : A → B) (xs : List A) (k : ℕ) (x : A) (P : B → Type 0) → k < length xs → x ≡ get_or xs k x → P (f x) → ((b : B) → Member b (map f (take k xs)) → P b) → (b : B) → Member b (map f (take (k + 1) xs)) → P b
-one_more f xs k x P h e p all b m = go xs k x h e p all (subst (λ n. Member b (map f (take n xs))) (let q : k + 1 ≡ suc k = omega arith in q) m)
+one_more {A = A} {B = B} f xs k x P h e p all b m = go xs k x h e p all (subst (λ n. Member b (map f (take n xs))) (let q : k + 1 ≡ suc k = omega arith in q) m)
   where
     go : (xs : List A) (k : ℕ) (x : A) → k < length xs → x ≡ get_or xs k x → P (f x) → ((b : B) → Member b (map f (take k xs)) → P b) → Member b (map f (take (suc k) xs)) → P b
     go [] k x h e p all m = absurd (omega (arith, h))
@@ -26,3 +27,7 @@ one_more f xs k x P h e p all b m = go xs k x h e p all (subst (λ n. Member b (
 
 pub all_taken : {A B : Type 0} (f : A → B) (xs : List A) (k : ℕ) (P : B → Type 0) → length xs ≤ k → ((b : B) → Member b (map f (take k xs)) → P b) → (b : B) → Member b (map f xs) → P b
 all_taken f xs k P h all b m = all b (subst (λ ys. Member b (map f ys)) (sym (take_all k xs h)) m)
+
+pub at_true : (b : Bool) (P : Type 0) → b ≡ true → OnTrue b P → P
+at_true true P e p = p
+at_true false P e p = absurd cc
