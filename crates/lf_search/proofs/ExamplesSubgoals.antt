@@ -29,7 +29,7 @@ use Rattle.lf_unification.proofs.Solving.{solved_child}
 use Rattle.lf_search.specs.Bounded.{QueryRuns, RunsOut, ends, exhausted, number, star as unbounded, stopped, stops}
 use Rattle.lf_search.specs.Goals.{IsQueryOf, metavariables_of, root_of}
 use Rattle.lf_search.specs.Heads.{Clash, clash_here, constant_head, head_of_value, variable_head}
-use Rattle.lf_search.specs.Holes.{RunRenewsReached}
+use Rattle.lf_unification.specs.ReachedRuns.{RunRenewsReached}
 use Rattle.lf_search.proofs.ChildNode.{child_node, offer_adds}
 use Rattle.lf_search.proofs.QueryForm.{root_form, root_node}
 use Rattle.std.specs.Prelude.{false}

@@ -18,7 +18,8 @@ use Rattle.lf_unification.proofs.Exhaust.{in_at, in_pis}
 use Rattle.lf_unification.proofs.Offer.{set_other}
 use Rattle.lf_unification.proofs.Scope.{in_typed_kind, in_typed_type, in_weaker_type}
 use Rattle.lf_search.specs.Goals.{metavariables_of, over_metavariables, root_of}
-use Rattle.lf_search.specs.Holes.{AreOpenHoles, HolesAreOpen, NotIn, RunRenewsReached}
+use Rattle.lf_search.specs.Holes.{AreOpenHoles, HolesAreOpen, NotIn}
+use Rattle.lf_unification.specs.ReachedRuns.{RunRenewsReached}
 use Rattle.lf_search.proofs.ChildNode.{applied_adds, offer_adds, spines_in}
 use Rattle.lf_search.proofs.OpenHoles.{ClauseIn, SameShape, among_member, both_false, clause_in, either_left, either_right, hole_at, is_among, member_among, not_member, one_or_other, own_shape, run_opens, same_refl, same_to, shape_substituted, variables_not_holes}
 use Rattle.lf_search.proofs.QueryForm.{listed_below, order_of, types_below}

@@ -23,7 +23,8 @@ use Rattle.lf_unification.proofs.Scope.{in_all, in_all_type, in_instance, in_rai
 use Rattle.lf_unification.proofs.Steps.{in_pi_over}
 use Rattle.lf_unification.proofs.Total.{only_forth}
 use Rattle.lf_unification.proofs.Within.{FreeVariablesInType, only_weaker_type}
-use Rattle.lf_search.specs.Holes.{NotIn, ProofIsApart, RenewsReached, RunRenewsReached}
+use Rattle.lf_search.specs.Holes.{NotIn, ProofIsApart}
+use Rattle.lf_unification.specs.ReachedRuns.{RenewsReached, RunRenewsReached}
 use Rattle.lf_search.proofs.Staying.{EquationIn, NewIn, StoreIn, among_parts, equations_of, step_grows, step_in}
 
 none_is : {A : LfType} → None ≡ Some A → ⊥

@@ -4,7 +4,7 @@ use Rattle.lf.specs.Entries.{Entry, signature_of}
 use Rattle.lf.specs.Subordination.{Member}
 use Rattle.lf.specs.Syntax.{Head, LfType, Spine, Term}
 use Rattle.lf.specs.Typing.{Signature}
-use Rattle.lf_unification.specs.DeepEquations.{AreDeep, IsDeepStore, IsDeepTerm, IsDeepType}
+use Rattle.lf_unification.specs.DeepEquations.{AreDeep, IsDeepTerm, IsDeepType}
 use Rattle.lf_unification.specs.Putting.{Unbound}
 use Rattle.lf_unification.specs.Reach.{IsReached}
 use Rattle.lf_unification.specs.Search.{Node, Offer, Pending, SearchesFrom, TryIsDue, at_heads, at_node}
@@ -27,15 +27,13 @@ pub data AnswerIsDeep (limit : ℕ) (G : List LfType) (s : Store) : Type 0 where
       s.metavariables m ≡ Some A → IsDeepType s limit 0 A → AnswerIsDeep limit G s
   deep_own : (m : ℕ) (A : LfType) → m ≤ length G → Unbound s.bindings m → s.metavariables m ≡ Some A → IsDeepType s limit 0 A → AnswerIsDeep limit G s
 
--- Where so many tries are left, the first of the agenda is deep: the equations of a node with those of the next head, which costs a try; an
--- answer; or what is left over at a leaf.
+-- Where so many tries are left, the first of the agenda is deep: the equations of a node with those of the next head, which costs a try; or an
+-- answer.
 pub data IsDeepNext (limit : ℕ) (Σ : Signature) (G : List LfType) : ℕ → List Pending → Type 0 where
   deep_offer : {left : ℕ} {node : Node} {rest : List Pending} {g : ℕ} {gs : List ℕ} {D : List LfType} {a : ℕ} {T : Spine} {h : Head} {hs : List Head} {A : LfType} {s : Store} {n : ℕ} →
       Offer Σ node g D a T h A s n → AreDeep limit Σ s → IsDeepNext limit Σ G (suc left) (at_heads node g gs D a T (h ∷ hs) ∷ rest)
   deep_answer : {left : ℕ} {l : Node} {rest : List Pending} →
       l.goals ≡ [] → l.store.equations ≡ [] → AnswerIsDeep limit G l.store → IsDeepNext limit Σ G left (at_node l ∷ rest)
-  deep_left_over : {left : ℕ} {l : Node} {rest : List Pending} →
-      l.goals ≡ [] → (l.store.equations ≡ [] → ⊥) → IsDeepStore l.store limit → IsDeepNext limit Σ G left (at_node l ∷ rest)
 
 -- A search over the context G comes, from an agenda and with a budget, to what is seen: with so many tries, and with the agenda then. Before it
 -- comes no leaf. A budget is at its end exactly where its tries were made and one more is due.

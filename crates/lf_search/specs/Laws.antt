@@ -18,7 +18,8 @@ use Rattle.lf_search.specs.Calls.{AfterAnswer, AfterLeftOver}
 use Rattle.lf_search.specs.Coming.{Comes, Seen, answer, exhausted, left_over, out_of_budget, too_deep}
 use Rattle.lf_search.specs.Goals.{IsQueryOf, root_of}
 use Rattle.lf_search.specs.Heads.{AreOffered, Clash}
-use Rattle.lf_search.specs.Holes.{HolesAreOpen, RunRenewsReached}
+use Rattle.lf_search.specs.Holes.{HolesAreOpen}
+use Rattle.lf_unification.specs.ReachedRuns.{RunRenewsReached}
 
 -- The query.
 

@@ -19,6 +19,7 @@ pub mod Solving
 pub mod Steps
 pub mod Origins
 pub mod DeepEquations
+pub mod ReachedRuns
 pub mod Search
 pub mod Query
 pub mod Laws

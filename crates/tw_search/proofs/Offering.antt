@@ -33,7 +33,7 @@ use Rattle.tw_putting.proofs.Changes.{bindings_with_declared, consistent_with_de
 use Rattle.tw_putting.proofs.Kept.{declared_types}
 use Rattle.tw_putting.proofs.Skeletons.{type_declared}
 use Rattle.tw_terms.specs.OpenView.{open_spine_of}
-use Rattle.tw_unify.specs.Runs.{ReachedRun}
+use Rattle.lf_unification.specs.ReachedRuns.{ReachedRun}
 use Rattle.tw_unify.proofs.Orders.{followed_nothing, places_change}
 use Rattle.tw_search.specs.Goals.{StandsAtGoal, goal_type}
 use Rattle.tw_open.specs.Indices.{IndicesFit}

@@ -9,7 +9,7 @@ use Rattle.lf_unification.specs.DeepEquations.{AreDeep}
 use Rattle.lf_unification.specs.Search.{IsChild, Offer, holes}
 use Rattle.lf_unification.specs.Solving.{Never}
 use Rattle.lf_unification.specs.Unifiers.{Store}
-use Rattle.lf_search.specs.Holes.{RunRenewsReached}
+use Rattle.lf_unification.specs.ReachedRuns.{RunRenewsReached}
 use Rattle.tw_metas.specs.State.{State}
 use Rattle.tw_putting.specs.Ready.{IsReady}
 use Rattle.tw_putting.specs.Whole.{whole}

@@ -3,7 +3,7 @@ use Rattle.std.proofs.Common.{◌≡◌, List, [], ◌∷◌, Option, Some, None
 use Rattle.std.specs.Option.{MatchOption}
 use Rattle.lf.specs.Typing.{IsSignature, Signature}
 use Rattle.lf_unification.specs.Solving as solving
-use Rattle.tw_unify.specs.Runs.{ReachedRun}
+use Rattle.lf_unification.specs.ReachedRuns.{ReachedRun}
 use Rattle.lf_unification.specs.Unifiers.{Equation, Store}
 use Rattle.lf_unification.proofs.Runs.{run_left, run_refuted, run_solved}
 use Rattle.lf_unification.proofs.Sides.{run_origin}

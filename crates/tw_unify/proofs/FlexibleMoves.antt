@@ -12,7 +12,7 @@ use Rattle.lf_unification.specs.Patterns.{lambdas_of, pattern}
 use Rattle.lf_unification.specs.Pruning.{PrunedType, pruned_store}
 use Rattle.lf_unification.specs.Putting.{Unbound}
 use Rattle.lf_unification.specs.Skeletons.{skeleton_or_default}
-use Rattle.tw_unify.specs.Runs.{ReachedRun}
+use Rattle.lf_unification.specs.ReachedRuns.{ReachedRun}
 use Rattle.lf_unification.specs.Renewing.{renewed_store}
 use Rattle.lf_unification.specs.Steps.{IsRefuted, bind, drop_equal, no_step, prune_both, prune_inside, renew}
 use Rattle.lf_unification.specs.Unifiers.{Binding, Equation, Side, Store, equation_on, on_left, on_right}

@@ -3,8 +3,8 @@ use Rattle.std.proofs.Common.{◌≡◌, ℕ, List, [], ◌∷◌, Option, refl,
 use Rattle.lf.specs.Syntax.{LfType}
 use Rattle.lf.specs.Typing.{Signature}
 use Rattle.lf_unification.specs.Lists.{followed}
-use Rattle.lf_search.specs.Holes.{RenewsReached, RunRenewsReached}
-use Rattle.tw_unify.specs.Runs.{ReachedRun}
+use Rattle.lf_unification.specs.ReachedRuns.{RenewsReached, RunRenewsReached}
+use Rattle.lf_unification.specs.ReachedRuns.{ReachedRun}
 use Rattle.lf_unification.specs.Steps.{Run, Step, next_equation, no_step, then_run}
 use Rattle.lf_unification.specs.Unifiers.{Binding, Equation, Store}
 

@@ -18,7 +18,7 @@ use Rattle.lf_unification.specs.Putting.{Unbound}
 use Rattle.lf_unification.specs.Reach.{IsInside, IsReached, in_term, in_type, in_value, is_given}
 use Rattle.lf_unification.specs.Scope.{MetavariablesInBindings, MetavariablesInEquationTypes, MetavariablesInEquations}
 use Rattle.lf_unification.specs.Solving.{AllLeftOver, LeftOver}
-use Rattle.tw_unify.specs.Runs.{ReachedRun}
+use Rattle.lf_unification.specs.ReachedRuns.{ReachedRun}
 use Rattle.lf_unification.specs.Unifiers.{Binding, Equation, Store}
 use Rattle.lf_unification.proofs.Putting.{put_some, some_within}
 use Rattle.lf_unification.proofs.Scope.{in_weaker}

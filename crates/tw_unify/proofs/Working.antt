@@ -10,7 +10,7 @@ use Rattle.lf_unification.specs.Outside.{IsLambda}
 use Rattle.lf_unification.specs.Patterns.{local_skeletons}
 use Rattle.lf_unification.specs.Putting.{IsRigidHead, binders, put_nothing}
 use Rattle.lf_unification.specs.DeepEquations.{EquationsReach, IsDeepType, deep_equation, deep_type, from_left, from_right}
-use Rattle.tw_unify.specs.Runs.{ReachedRun}
+use Rattle.lf_unification.specs.ReachedRuns.{ReachedRun}
 use Rattle.lf_unification.specs.Steps.{constant_or_variable, constants_differ, equal_heads, no_step, open_lambdas, put_bindings, variables_differ}
 use Rattle.lf_unification.specs.Unifiers.{Equation, Store, on_left, on_right}
 use Rattle.lf_unification.proofs.Putting.{put_some, put_unbound}

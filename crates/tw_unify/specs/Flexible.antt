@@ -6,7 +6,7 @@ use Rattle.lf_unification.specs.OpenTyping.{MetavariablesIn, skeletons_of}
 use Rattle.lf_unification.specs.Outside.{IsStuck}
 use Rattle.lf_unification.specs.Patterns.{lambdas_of}
 use Rattle.lf_unification.specs.Reach.{IsReached}
-use Rattle.tw_unify.specs.Runs.{ReachedRun}
+use Rattle.lf_unification.specs.ReachedRuns.{ReachedRun}
 use Rattle.lf_unification.specs.Unifiers.{Equation, Side, on_left, on_right}
 use Rattle.tw_metas.specs.State.{State, with_declared, with_value}
 use Rattle.tw_terms.specs.OpenView.{open_term_of}

@@ -1,4 +1,3 @@
-pub mod Runs
 pub mod Reaching
 pub mod Moving
 pub mod Faults

@@ -3,7 +3,7 @@ use Rattle.std.specs.Prelude.{List, map, reverse}
 use Rattle.lf.specs.Depth.{depth_limit}
 use Rattle.lf.specs.Typing.{Signature}
 use Rattle.lf_unification.specs.DeepEquations.{AreDeep}
-use Rattle.tw_unify.specs.Runs.{ReachedRun}
+use Rattle.lf_unification.specs.ReachedRuns.{ReachedRun}
 use Rattle.lf_unification.specs.Steps.{IsRefuted, Run}
 use Rattle.lf_unification.specs.Unifiers as unifiers
 use Rattle.tw_metas.specs.View.{equation_of}

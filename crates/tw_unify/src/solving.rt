@@ -8,7 +8,7 @@ ghost use Rattle.tw_unify.specs.Outcomes.{Explains, stacked};
 ghost use Rattle.tw_unify.specs.Answers.{Answers, KeepsSides, RenewsOnlyReached, RestIs, StaysReady};
 ghost use Rattle.tw_unify.specs.Sides.{AllLeft};
 ghost use Rattle.tw_unify.specs.Watching.{KeepsBindings, Watches, diary_of};
-ghost use Rattle.tw_unify.specs.Runs.{ReachedRun};
+ghost use Rattle.lf_unification.specs.ReachedRuns.{ReachedRun};
 
 use crate::fault::UnifyFault;
 use crate::postponed::wake;

@@ -2,7 +2,7 @@ use Rattle.std.proofs.Common.{◌≡◌, [], ◌∷◌, Err, refl, sym, ap, subs
 use Rattle.std.specs.Option.{MatchOption}
 use Rattle.lf.specs.Entries.{signature_of}
 use Rattle.lf.proofs.Entries.{canonical_is_signature}
-use Rattle.tw_unify.specs.Runs.{ReachedRun}
+use Rattle.lf_unification.specs.ReachedRuns.{ReachedRun}
 use Rattle.tw_metas.specs.State.{State, Story, without_equation}
 use Rattle.tw_metas.specs.View.{equation_of}
 use Rattle.tw_unify.specs.Sides.{AllLeft}

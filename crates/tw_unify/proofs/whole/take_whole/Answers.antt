@@ -1,5 +1,5 @@
 use Rattle.std.proofs.Common.{◌≡◌, ◌∷◌, refl, sym, ap, subst}
-use Rattle.tw_unify.specs.Runs.{ReachedRun}
+use Rattle.lf_unification.specs.ReachedRuns.{ReachedRun}
 use Rattle.tw_metas.specs.State.{State, Story, with_value}
 use Rattle.tw_metas.specs.View.{equation_of}
 use Rattle.tw_metas.specs.declared.equation.Equation.{Equation as RustEquation}
