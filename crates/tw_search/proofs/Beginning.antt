@@ -10,10 +10,13 @@ use Rattle.lf_search.specs.Holes.{HolesAreOpen}
 use Rattle.lf_search.proofs.HolesStay.{root_holes}
 use Rattle.lf_search.proofs.QueryForm as query
 use Rattle.lf_unification.specs.OpenTyping.{set_at}
+use Rattle.lf_unification.specs.Solving.{AllLeftOver}
 use Rattle.lf_unification.specs.Search.{IsNode, Node, at_node}
 use Rattle.lf_unification.proofs.Agree.{set_here}
 use Rattle.lf_unification.proofs.Offer.{decide, set_other}
 use Rattle.tw_metas.specs.State.{Story}
+use Rattle.tw_putting.specs.Stores.{types_of}
+use Rattle.tw_putting.specs.Whole.{whole}
 use Rattle.tw_search.specs.Chains.{GoalsAre, no_goal}
 use Rattle.tw_search.specs.Goals.{IsDeclared, node_of}
 use Rattle.tw_search.specs.Roots.{IsRoot}
@@ -52,6 +55,9 @@ module _ (es : List Entry) (ok : IsCanonicalSignature es) (G : List LfType) (A :
   there : (m : ℕ) → m ≤ length G → IsDeclared y.now m
   there m h = let l : m < length (A ∷ G) = omega (arith, h) in let (X, e) = all_there (A ∷ G) m l in (X, ap (λ (f : ℕ → Option LfType). f m) r.types ∙ e)
 
+  none_left : AllLeftOver (types_of y.now) (whole [] y.now) y.now.equations
+  none_left = subst (AllLeftOver (types_of y.now) (whole [] y.now)) (sym r.equations) tt
+
   pub root_stands : (n list : ℕ) (fs : List Frame) (f : Frame) (cs : List Choice) → n ≡ length G → fs ≡ [] ++ f ∷ [] → f.hole.0 ≡ length G → f.next ≡ 0 → list ≡ 1 → cs ≡ [] → NodeStands es n list y fs cs (at_node (root_of G A) ∷ [])
   root_stands n list fs f cs en ef eh ex el ec =
       let law = root_law (signature_of es) (canonical_is_signature es ok) G A g t y.now r in
@@ -63,6 +69,7 @@ module _ (es : List Entry) (ok : IsCanonicalSignature es) (G : List LfType) (A :
         declared = λ m i. at m i;
         holes = subst HolesAreOpen (sym law.0) (root_holes (signature_of es) (canonical_is_signature es ok) G A g t);
         kept = record {
+          left = (types_of y.now, none_left);
           ready = law.1;
           node = record { scoped = node.scoped; skeletons = node.skeletons };
           declared = there;

@@ -1,11 +1,13 @@
 -- What a call of a search comes to.
-use Rattle.std.proofs.Common.{◌≡◌, ℕ, ◌-◌, List, length, Result, Ok, Err, sym}
+use Rattle.std.proofs.Common.{◌≡◌, ℕ, ◌-◌, List, length, Result, Ok, Err, sym, subst}
 use Rattle.std.specs.Result.{IfOk, OnErr}
 use Rattle.std.specs.declared.alloc.AllocError.{AllocError}
 use Rattle.lf.specs.Entries.{Entry}
 use Rattle.lf.specs.Syntax.{LfType}
 use Rattle.lf_unification.specs.Search.{Node, Pending}
-use Rattle.tw_search.specs.Standing.{Came, IsAt, IsOver, IsSearch, Stands, StandsAfter, StepIs, is_over, stands}
+use Rattle.tw_search.specs.Chains.{frames_of}
+use Rattle.tw_search.specs.Going.{GivesOut}
+use Rattle.tw_search.specs.Standing.{Came, GaveOut, IsAt, IsOver, IsSearch, PlaceStands, Stands, StandsAfter, StepIs, choices_of, is_over, stands}
 use Rattle.tw_search.specs.declared.search.Search.{Search}
 use Rattle.tw_search.specs.declared.step.End.{End}
 use Rattle.tw_search.specs.declared.step.End.TheVariants as end
@@ -25,6 +27,14 @@ at_heads_not_over s p e o = cc
 pub call_is : (es : List Entry) (old new : Search) (budget : ℕ) (s : Step) → ((G : List LfType) → length G ≡ old.variables → (agenda : List Pending) → IsAt es old agenda → Came es G old new agenda budget s) →
     (G : List LfType) (A : LfType) (leaves : List Node) (agenda : List Pending) → Stands es G A old leaves agenda → StepIs es G A old new leaves agenda budget s
 call_is es old new budget s came G A leaves agenda w = step_is es G agenda budget A old new leaves w s (came G (sym w.variables) agenda w.at)
+
+-- memory gave out in such a call
+pub call_gave_out : (es : List Entry) (old new : Search) (last : ℕ) → GivesOut es last old new → (G : List LfType) (A : LfType) (leaves : List Node) (agenda : List Pending) → Stands es G A old leaves agenda → GaveOut es old new agenda last
+call_gave_out es old new last g G A leaves agenda w = g agenda w.at
+
+-- a search that is over stands nowhere
+pub over_stands : (es : List Entry) (s : Search) (e : End) → IsOver e s → (G : List LfType) (A : LfType) (leaves : List Node) (agenda : List Pending) → Stands es G A s leaves agenda → ⊥
+over_stands es s e o G A leaves agenda w = subst (λ p. PlaceStands es s.variables p s.store (frames_of s.frames) (choices_of s) agenda) o w.at
 
 -- and behind it there is a search again
 after_step : (es : List Entry) (G : List LfType) (A : LfType) (s : Step) (new : Search) (leaves : List Node) (agenda : List Pending) → StandsAfter es G A s new leaves agenda → IsSearch es new

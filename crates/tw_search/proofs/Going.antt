@@ -1,5 +1,5 @@
 -- What the steps of the engine come to.
-use Rattle.std.proofs.Common.{◌≡◌, ℕ, ◌+◌, ◌-◌, ◌≤◌, List, [], ◌∷◌, length, map, reverse, Option, Some, None, refl, sym, ap, ◌∙◌, subst, arith}
+use Rattle.std.proofs.Common.{◌≡◌, ℕ, ◌+◌, ◌-◌, ◌<◌, ◌≤◌, List, [], ◌∷◌, length, map, reverse, Option, Some, None, refl, sym, ap, ◌∙◌, subst, arith}
 use Rattle.lf.specs.Depth.{depth_limit}
 use Rattle.lf.specs.Entries.{Entry, IsCanonicalSignature, signature_of}
 use Rattle.lf.specs.Syntax.{Head, LfType}
@@ -20,7 +20,7 @@ use Rattle.tw_search.specs.Choosing.{heads_left}
 use Rattle.tw_search.specs.Going.{Goes, GoesFrom, IsBelow}
 use Rattle.tw_search.specs.Goals.{IsOpened}
 use Rattle.tw_search.specs.Leaves.{IsLeaf, IsReadOff}
-use Rattle.tw_search.specs.Standing.{Came, ChoicesStand, IsAt, IsOver, IsTakenUp, NodeStands, PlaceStands, TriesHead, WentOn, choices_of}
+use Rattle.tw_search.specs.Standing.{Came, ChoicesStand, GaveOut, IsAt, IsOver, IsTakenUp, NodeStands, PlaceStands, TriesHead, WentOn, choices_of}
 use Rattle.tw_search.specs.Tries.{GivesChild, NeverFits}
 use Rattle.tw_search.specs.declared.answer.Answer.{Answer}
 use Rattle.tw_search.specs.declared.frames.Frame.{Frame}
@@ -76,6 +76,14 @@ module _ (es : List Entry) (ok : IsCanonicalSignature es) (old new : Search) (c 
         (standing.node_after es ok old c h agenda w new.store later subgoals child (frames_of new.frames) list f gs)));
   }
 
+-- Memory gave out behind a try.
+module _ (es : List Entry) (ok : IsCanonicalSignature es) (old new : Search) (c : Choice) (h : Head) (agenda : List Pending) (w : TriesHead es old c h agenda) (y : Story) (later : IsLater old.store y) (tries : new.tries ≡ old.tries + 1) (last : ℕ) (within : old.tries < last) where
+  pub gave_none : NeverFits (signature_of es) old.store.now c.goal h → GaveOut es old new agenda last
+  gave_none n = record { tries = 1; reached = standing.after_none es ok old c h agenda w y later; run = standing.run_none es ok old c h agenda w y later n; count = tries; within = omega (arith, tries, within) }
+
+  pub gave_child : (subgoals : List MetaId) → GivesChild (signature_of es) old.store.now c.goal h subgoals y.now → GaveOut es old new agenda last
+  gave_child subgoals child = record { tries = 1; reached = standing.after_child es ok old c h agenda w y later subgoals child; run = standing.run_child es ok old c h agenda w y later subgoals child; count = tries; within = omega (arith, tries, within) }
+
 -- A choice point that is taken up.
 module _ (es : List Entry) (old : Search) (c : Choice) (agenda : List Pending) (w : IsTakenUp es old c agenda) (at_heads : old.place ≡ place.Heads) where
   pub heads_out : heads_left es c.goal.family.0 c.goal.locals c.local c.constant ≡ [] → WentOn es old old agenda
@@ -110,6 +118,7 @@ goes_from_same es last old mid new (Some s) agenda t v g = λ G len. same G (g G
       after = m.after;
       comes = subst (λ n. Comes es depth_limit G agenda n m.seen m.tries m.after) budget m.comes;
       shows = m.shows;
+      passes = m.passes;
       count = m.count ∙ ap (λ n. n + m.tries) t;
       variables = m.variables ∙ v;
       then_is = m.then_is;
@@ -144,10 +153,10 @@ module _ (es : List Entry) (old new : Search) (list : ℕ) (agenda : List Pendin
         behind = heads_are es new old.variables (choices_of old) (frames_of old.frames) old.store w.rest heads variables store frames choices w.choices
 
         pub answer_shown : old.store.now.equations ≡ [] → (a : Answer) → IsReadOff old.store.now old.variables a.free (reverse (map term_of a.values.items)) (term_of a.proof) → Came es G old new agenda budget (step.Answer a)
-        answer_shown e a r = answer_came es ok old new list G len agenda budget w first tries variables e a r behind
+        answer_shown e a r = answer_came es ok old new list G len agenda budget w first tries variables store e a r behind
 
         pub left_shown : (q : Postponed) (fs : List Equation) → old.store.now.equations ≡ equation_of q ∷ fs → (shown : Postponed) → equation_of shown ≡ equation_of q → Came es G old new agenda budget (step.Leftover shown)
-        left_shown q fs e shown s = left_came es ok old new list G len agenda budget w first tries variables q fs e shown s behind
+        left_shown q fs e shown s = left_came es ok old new list G len agenda budget w first tries variables store q fs e shown s behind
 
       pub deep_shown : old.store.now.equations ≡ [] → AnswerIsDeep depth_limit G (whole [] old.store.now) → IsOver end.TooDeep new → Came es G old new agenda budget step.TooDeep
       deep_shown e d over = deep_came es ok old new list G len agenda budget w first tries variables e d over

@@ -11,16 +11,17 @@ use Rattle.lf_search.specs.Answers.{IsReadOffLeaf}
 use Rattle.lf_search.specs.Coming.{AnswerIsDeep, Comes, IsDeepNext, Seen, answer, deep_answer, deep_offer, exhausted, left_over, out_of_budget, to_answer, to_budget, to_deep, to_end, to_left_over, too_deep}
 use Rattle.lf_search.specs.Goals.{root_of}
 use Rattle.lf_search.proofs.Ends.{followed_none, one_step, search_then}
+use Rattle.tw_metas.specs.State.{Story}
 use Rattle.tw_metas.specs.View.{equation_of}
 use Rattle.tw_metas.specs.declared.equation.Equation.{Equation as Postponed}
+use Rattle.tw_putting.specs.Ready.{IsReady}
 use Rattle.tw_putting.specs.Whole.{whole}
 use Rattle.tw_terms.specs.OpenView.{open_spine_of}
 use Rattle.tw_terms.specs.View.{term_of}
 use Rattle.tw_search.specs.Chains.{IsFirst, frames_of}
-use Rattle.tw_search.specs.Goals.{node_of}
-use Rattle.tw_search.specs.Laws.{AllFromQuery, at_goal}
-use Rattle.tw_search.specs.Leaves.{IsLeaf, IsReadOff}
-use Rattle.tw_search.specs.Standing.{Came, ChoicesStand, IsAt, IsOver, NodeStands, PlaceStands, Stands, StandsAfter, StepIs, TriesHead, choices_of}
+use Rattle.tw_search.specs.Goals.{at_goal, node_of}
+use Rattle.tw_search.specs.Leaves.{AllFromQuery, IsLeaf, IsReadOff}
+use Rattle.tw_search.specs.Standing.{Came, ChoicesStand, HoldsLeaf, IsAt, IsOver, NodeStands, PlaceStands, Stands, StandsAfter, StepIs, TriesHead, choices_of}
 use Rattle.tw_search.specs.Tries.{OfferIsDeep}
 use Rattle.tw_search.specs.declared.answer.Answer.{Answer}
 use Rattle.tw_search.specs.declared.search.Search.{Search}
@@ -37,6 +38,10 @@ at_list es s list agenda e w = subst (λ p. PlaceStands es s.variables p s.store
 pub at_choices : (es : List Entry) (s : Search) (agenda : List Pending) → s.place ≡ place.Heads → IsAt es s agenda → ChoicesStand es s.variables s.store (frames_of s.frames) (choices_of s) agenda
 at_choices es s agenda e w = subst (λ p. PlaceStands es s.variables p s.store (frames_of s.frames) (choices_of s) agenda) e w
 
+-- behind a leaf
+past_leaf : (es : List Entry) (agenda : List Pending) {l : Node} {k : ℕ} {rest : List Pending} → SearchesFrom es agenda [] k (at_node l ∷ rest) → l.goals ≡ [] → SearchesFrom es agenda (l ∷ []) k rest
+past_leaf es agenda {l} {k} {rest} r g = let z : k + 0 ≡ k = omega arith in subst (λ n. SearchesFrom es agenda (l ∷ []) n rest) z (search_then (signature_of es) (declared_constants es) r (one_step (signature_of es) (declared_constants es) (take_leaf g)))
+
 -- at a leaf
 module _ (es : List Entry) (ok : IsCanonicalSignature es) (old new : Search) (list : ℕ) (G : List LfType) (len : length G ≡ old.variables) (agenda : List Pending) (budget : ℕ) (w : NodeStands es old.variables list old.store (frames_of old.frames) (choices_of old) agenda) (first : IsFirst (frames_of old.frames) list None) (tries : new.tries ≡ old.tries) (variables : new.variables ≡ old.variables) where
   no_goals : w.goals ≡ []
@@ -45,8 +50,18 @@ module _ (es : List Entry) (ok : IsCanonicalSignature es) (old new : Search) (li
   here : SearchesFrom es agenda [] 0 (at_node (node_of old.store.now w.goals) ∷ w.rest)
   here = subst (λ a. SearchesFrom es agenda [] 0 a) w.is begin_search
 
-  pub answer_came : old.store.now.equations ≡ [] → (a : Answer) → IsReadOff old.store.now old.variables a.free (reverse (map term_of a.values.items)) (term_of a.proof) → IsAt es new w.rest → Came es G old new agenda budget (step.Answer a)
-  answer_came e a r at =
+  behind_leaf : SearchesFrom es agenda (node_of old.store.now w.goals ∷ []) 0 w.rest
+  behind_leaf = past_leaf es agenda here no_goals
+
+  holds : new.store ≡ old.store → HoldsLeaf es new (node_of old.store.now w.goals)
+  holds e = record {
+    no_goals = no_goals;
+    store = ap (λ (y : Story). whole [] y.now) (sym e);
+    ready = subst (λ (y : Story). IsReady (signature_of es) [] y.now) (sym e) w.kept.ready;
+  }
+
+  pub answer_came : new.store ≡ old.store → old.store.now.equations ≡ [] → (a : Answer) → IsReadOff old.store.now old.variables a.free (reverse (map term_of a.values.items)) (term_of a.proof) → IsAt es new w.rest → Came es G old new agenda budget (step.Answer a)
+  answer_came same e a r at =
       let leaf : IsLeaf old.store.now (length G) = record {
         signature = signature_of es;
         is_signature = canonical_is_signature es ok;
@@ -55,24 +70,28 @@ module _ (es : List Entry) (ok : IsCanonicalSignature es) (old new : Search) (li
         declared = λ m h. w.kept.declared m (subst (λ n. m ≤ n) len h);
         reached = subst (λ n. AllFromQuery old.store.now n) (sym len) w.kept.from_query;
       } in
+      let read : IsReadOffLeaf (signature_of es) G (node_of old.store.now w.goals) a.free (reverse (map term_of a.values.items)) (term_of a.proof) =
+      leaf_law old.store.now G leaf w.goals a.free (reverse (map term_of a.values.items)) (term_of a.proof) (subst (λ n. IsReadOff old.store.now n a.free (reverse (map term_of a.values.items)) (term_of a.proof)) (sym len) r) in
       record {
         seen = answer a.free (reverse (map term_of a.values.items)) (term_of a.proof);
         tries = 0;
         after = w.rest;
-        comes = to_answer here (omega arith) no_goals e (leaf_law old.store.now G leaf w.goals a.free (reverse (map term_of a.values.items)) (term_of a.proof) (subst (λ n. IsReadOff old.store.now n a.free (reverse (map term_of a.values.items)) (term_of a.proof)) (sym len) r));
+        comes = to_answer here (omega arith) no_goals e read;
         shows = refl;
+        passes = (node_of old.store.now w.goals, record { holds = holds same; none_left = e; read = read }, behind_leaf);
         count = omega (arith, tries);
         variables = variables;
         then_is = at;
       }
 
-  pub left_came : (q : Postponed) (fs : List Equation) → old.store.now.equations ≡ equation_of q ∷ fs → (shown : Postponed) → equation_of shown ≡ equation_of q → IsAt es new w.rest → Came es G old new agenda budget (step.Leftover shown)
-  left_came q fs e shown s at = record {
+  pub left_came : new.store ≡ old.store → (q : Postponed) (fs : List Equation) → old.store.now.equations ≡ equation_of q ∷ fs → (shown : Postponed) → equation_of shown ≡ equation_of q → IsAt es new w.rest → Came es G old new agenda budget (step.Leftover shown)
+  left_came same q fs e shown s at = record {
     seen = left_over (node_of old.store.now w.goals) (equation_of q);
     tries = 0;
     after = w.rest;
     comes = to_left_over here (omega arith) no_goals e;
     shows = (node_of old.store.now w.goals, ap (left_over (node_of old.store.now w.goals)) (sym s));
+    passes = (node_of old.store.now w.goals, record { holds = holds same; others = fs; first = e ∙ ap (λ x. x ∷ fs) (sym s) }, behind_leaf);
     count = omega (arith, tries);
     variables = variables;
     then_is = at;
@@ -85,6 +104,7 @@ module _ (es : List Entry) (ok : IsCanonicalSignature es) (old new : Search) (li
     after = at_node (node_of old.store.now w.goals) ∷ w.rest;
     comes = to_deep {left = budget} here (omega arith) (deep_answer no_goals e d);
     shows = refl;
+    passes = tt;
     count = omega (arith, tries);
     variables = variables;
     then_is = over;
@@ -98,6 +118,7 @@ end_came es G old new agenda budget e t v o = record {
   after = [];
   comes = to_end (subst (λ a. SearchesFrom es agenda [] 0 a) e begin_search) (omega arith);
   shows = refl;
+  passes = tt;
   count = omega (arith, t);
   variables = v;
   then_is = o;
@@ -111,6 +132,7 @@ budget_came es G old new agenda reached budget r d b t v at = record {
   after = reached;
   comes = subst (λ n. Comes es depth_limit G agenda n out_of_budget 0 reached) (sym b) (to_budget r d);
   shows = refl;
+  passes = tt;
   count = omega (arith, t);
   variables = v;
   then_is = at;
@@ -130,6 +152,7 @@ try_deep_came es G old new c h agenda budget w d b t v o =
       after = at_goal old.store.now c.goal w.goals (h ∷ w.later) w.rest;
       comes = to_deep {left = budget} (subst (λ a. SearchesFrom es agenda [] 0 a) w.is begin_search) z (subst (λ k. IsDeepNext depth_limit (signature_of es) G k (at_goal old.store.now c.goal w.goals (h ∷ w.later) w.rest)) n (deep_offer offer d.deep));
       shows = refl;
+      passes = tt;
       count = omega (arith, t);
       variables = v;
       then_is = o;
@@ -137,27 +160,6 @@ try_deep_came es G old new c h agenda budget w d b t v o =
 
 -- A step that came to something is a step of the search of the goal.
 module _ (es : List Entry) (G : List LfType) (agenda : List Pending) (budget : ℕ) where
-  past_leaf : {l : Node} {k : ℕ} {rest : List Pending} → SearchesFrom es agenda [] k (at_node l ∷ rest) → l.goals ≡ [] → SearchesFrom es agenda (l ∷ []) k rest
-  past_leaf {l} {k} {rest} r g = let z : k + 0 ≡ k = omega arith in subst (λ n. SearchesFrom es agenda (l ∷ []) n rest) z (search_then (signature_of es) (declared_constants es) r (one_step (signature_of es) (declared_constants es) (take_leaf g)))
-
-  answer_found : (seen : Seen) (k : ℕ) (after : List Pending) (F : List LfType) (Ms : List Term) (p : Term) → Comes es depth_limit G agenda budget seen k after → seen ≡ answer F Ms p → (l : Node) × (l.store.equations ≡ []) × IsReadOffLeaf (signature_of es) G l F Ms p × SearchesFrom es agenda (l ∷ []) k after
-  answer_found seen k after F Ms p (to_answer {l = l} {F = F'} {Ms = Ms'} {proof = p'} r h g e i) q =
-      let f : F' ≡ F = cc in
-      let m : Ms' ≡ Ms = cc in
-      let t : p' ≡ p = cc in
-      (l, e, subst (λ x. IsReadOffLeaf (signature_of es) G l F Ms x) t (subst (λ x. IsReadOffLeaf (signature_of es) G l F x p') m (subst (λ x. IsReadOffLeaf (signature_of es) G l x Ms' p') f i)), past_leaf r g)
-  answer_found seen k after F Ms p (to_left_over r h g e) q = absurd cc
-  answer_found seen k after F Ms p (to_end r h) q = absurd cc
-  answer_found seen k after F Ms p (to_budget r d) q = absurd cc
-  answer_found seen k after F Ms p (to_deep r h d) q = absurd cc
-
-  left_found : (seen : Seen) (k : ℕ) (after : List Pending) (x : Node) (y : Equation) → Comes es depth_limit G agenda budget seen k after → seen ≡ left_over x y → (l : Node) × ((rest : List Equation) × (l.store.equations ≡ y ∷ rest)) × SearchesFrom es agenda (l ∷ []) k after
-  left_found seen k after x y (to_answer r h g e i) q = absurd cc
-  left_found seen k after x y (to_left_over {l = l} {e = z} {es = zs} r h g e) q = (let same : z ≡ y = cc in (l, (zs, subst (λ u. l.store.equations ≡ u ∷ zs) same e), past_leaf r g))
-  left_found seen k after x y (to_end r h) q = absurd cc
-  left_found seen k after x y (to_budget r d) q = absurd cc
-  left_found seen k after x y (to_deep r h d) q = absurd cc
-
   none_found : (seen : Seen) (k : ℕ) (after : List Pending) → Comes es depth_limit G agenda budget seen k after → seen ≡ out_of_budget → SearchesFrom es agenda [] k after
   none_found seen k after (to_answer r h g e i) q = cc
   none_found seen k after (to_left_over r h g e) q = cc
@@ -176,12 +178,8 @@ module _ (es : List Entry) (G : List LfType) (agenda : List Pending) (budget : �
     }
 
     then_stands : (s : Step) (v : Came es G old new agenda budget s) → StandsAfter es G A s new leaves v.after
-    then_stands (step.Answer a) v =
-        let (l, none, read, r) = answer_found v.seen v.tries v.after a.free (reverse (map term_of a.values.items)) (term_of a.proof) v.comes v.shows in
-        (l, record { none_left = none; read = read }, stands_behind (l ∷ []) v.tries v.after r v.count v.variables v.then_is)
-    then_stands (step.Leftover e) v =
-        let (l, left, r) = left_found v.seen v.tries v.after v.shows.0 (equation_of e) v.comes v.shows.1 in
-        (l, left, stands_behind (l ∷ []) v.tries v.after r v.count v.variables v.then_is)
+    then_stands (step.Answer a) v = let (l, shown, r) = v.passes in (l, shown, stands_behind (l ∷ []) v.tries v.after r v.count v.variables v.then_is)
+    then_stands (step.Leftover e) v = let (l, shown, r) = v.passes in (l, shown, stands_behind (l ∷ []) v.tries v.after r v.count v.variables v.then_is)
     then_stands step.Exhausted v = v.then_is
     then_stands step.Budget v = subst (λ ls. Stands es G A new ls v.after) (followed_none leaves) (stands_behind [] v.tries v.after (none_found v.seen v.tries v.after v.comes v.shows) v.count v.variables v.then_is)
     then_stands step.TooDeep v = v.then_is

@@ -16,3 +16,4 @@ pub mod Beginning
 pub mod Leaving
 pub mod Going
 pub mod Calling
+pub mod StillLeft

@@ -106,6 +106,7 @@ module _ (Σ : Signature) (ok : IsSignature Σ) (g : OpenGoal) (h : Head) where
       head_type = A;
       offer = the_offer;
       subgoals_are = ap reverse is ∙ holes_marked (length old.now.declared) A;
+      postponed = keeps.equations;
       well_formed = form;
       ready = is_ready;
     })

@@ -2,10 +2,11 @@
 use Rattle.std.proofs.Common.{◌≡◌, ℕ, zero, suc, ◌<◌, ◌≤◌, List, [], ◌∷◌, length, map, reverse, Option, Some, None, ◌⊎◌, inl, inr, refl, sym, ap, ap₂, ◌∙◌, subst, arith}
 use Rattle.std.specs.List.{slice_get}
 use Rattle.std.specs.Option.{option_map}
-use Rattle.lf.specs.Syntax.{Head, LfType, root}
+use Rattle.lf.specs.Syntax.{Head, LfType, Term, root}
 use Rattle.lf.specs.Typing.{IsContext, IsSignature, IsType, Signature}
+use Rattle.lf_search.specs.Answers.{IsReadOffLeaf}
 use Rattle.lf_search.specs.Goals.{metavariables_of, root_of}
-use Rattle.lf_search.proofs.ChildNode.{applied_adds, child_node}
+use Rattle.lf_search.proofs.ChildNode.{applied_adds, child_node as is_child_node}
 use Rattle.lf_search.proofs.QueryForm as query
 use Rattle.lf_unification.specs.Lists.{followed}
 use Rattle.lf_unification.specs.Offering.{lambda_over}
@@ -21,9 +22,8 @@ use Rattle.tw_putting.specs.Whole.{whole}
 use Rattle.tw_putting.proofs.Changes.{past_end}
 use Rattle.tw_terms.specs.OpenView.{open_spine_of}
 use Rattle.tw_terms.specs.declared.canonical.MetaId.{MetaId}
-use Rattle.tw_search.specs.Goals.{IsDeclared, StandsAtGoal, goal_type, node_of}
-use Rattle.tw_search.specs.Laws as laws
-use Rattle.tw_search.specs.Leaves.{IsFromQuery}
+use Rattle.tw_search.specs.Goals.{IsDeclared, StandsAtGoal, at_goal, child_node, goal_type, node_of}
+use Rattle.tw_search.specs.Leaves.{AllFromQuery, IsFromQuery, IsLeaf, IsReadOff}
 use Rattle.tw_search.specs.Roots.{IsRoot}
 use Rattle.tw_search.specs.Tries.{GivesChild, NeverFits}
 use Rattle.tw_search.specs.declared.goal.OpenGoal.{OpenGoal}
@@ -66,17 +66,17 @@ module _ (Σ : Signature) (s : State) (g : OpenGoal) (h : Head) where
   with_goals : (gs : List ℕ) (A : LfType) (x : Store) (n : ℕ) → Offer Σ (node_of s []) g.hole.0 g.locals g.family.0 (open_spine_of g.indices) h A x n → Offer Σ (node_of s gs) g.hole.0 g.locals g.family.0 (open_spine_of g.indices) h A x n
   with_goals gs A x n o = record { typed = o.typed; kind = o.kind; kind_of = o.kind_of; spine = o.spine; indices = o.indices; offered = o.offered; bindings = o.bindings; equations = o.equations }
 
-  pub no_child_step : (constants : List ℕ) (gs : List ℕ) (hs : List Head) (rest : List Pending) → NeverFits Σ s g h → SearchStep Σ constants (laws.at_goal s g gs (h ∷ hs) rest) [] 1 (laws.at_goal s g gs hs rest)
+  pub no_child_step : (constants : List ℕ) (gs : List ℕ) (hs : List Head) (rest : List Pending) → NeverFits Σ s g h → SearchStep Σ constants (at_goal s g gs (h ∷ hs) rest) [] 1 (at_goal s g gs hs rest)
   no_child_step constants gs hs rest n = no_child (with_goals (g.hole.0 ∷ gs) n.has.head_type n.has.offered n.has.next n.has.offer) n.never
 
   module _ (ok : IsSignature Σ) (w : StandsAtGoal Σ s g) (gs : List ℕ) (subgoals : List MetaId) (new : State) (c : GivesChild Σ s g h subgoals new) where
     fresh : (m : ℕ) → length new.declared ≤ m → types_of new m ≡ None
     fresh m l = ap (option_map (λ (d : Declaration). d.of_type)) (past_end new.declared m l)
 
-    pub child_is_node : IsNode Σ (laws.child_node new subgoals gs)
-    child_is_node = child_node Σ ok (node_of s []) g.hole.0 g.locals g.family.0 (open_spine_of g.indices) h c.has.head_type c.has.offered c.has.next w.node w.declared c.has.offer (whole [] new) (length new.declared) (followed (reverse (map (λ (m : MetaId). m.0) subgoals)) gs) c.child fresh
+    pub child_is_node : IsNode Σ (child_node new subgoals gs)
+    child_is_node = is_child_node Σ ok (node_of s []) g.hole.0 g.locals g.family.0 (open_spine_of g.indices) h c.has.head_type c.has.offered c.has.next w.node w.declared c.has.offer (whole [] new) (length new.declared) (followed (reverse (map (λ (m : MetaId). m.0) subgoals)) gs) c.child fresh
 
-    pub child_step : (constants : List ℕ) (hs : List Head) (rest : List Pending) → SearchStep Σ constants (laws.at_goal s g gs (h ∷ hs) rest) [] 1 (at_node (laws.child_node new subgoals gs) ∷ laws.at_goal s g gs hs rest)
+    pub child_step : (constants : List ℕ) (hs : List Head) (rest : List Pending) → SearchStep Σ constants (at_goal s g gs (h ∷ hs) rest) [] 1 (at_node (child_node new subgoals gs) ∷ at_goal s g gs hs rest)
     child_step constants hs rest = child (with_goals (g.hole.0 ∷ gs) c.has.head_type c.has.offered c.has.next c.has.offer) c.child child_is_node (ap (λ l. followed l gs) c.subgoals_are)
 
   -- what comes from the query
@@ -95,15 +95,20 @@ module _ (Σ : Signature) (s : State) (g : OpenGoal) (h : Head) where
     pub child_comes : (m : ℕ) → IsDeclared new m → IsFromQuery new n m
     child_comes = run_comes Σ n c.child.run offered_comes
 
--- the laws
-pub root_law : laws.RootIsReady
+-- the root that is declared is the root of the theory, ready to be searched, and all its metavariables are the query's
+pub root_law : (Σ : Signature) → IsSignature Σ → (G : List LfType) (A : LfType) → IsContext Σ G → IsType Σ G A → (s : State) → IsRoot G A s → (node_of s (length G ∷ []) ≡ root_of G A) × IsReady Σ [] s × AllFromQuery s (length G)
 root_law Σ ok G A g t s r = (root_node Σ ok G A g t s r, root_ready Σ ok G A g t s r, root_from_query Σ ok G A g t s r)
 
-pub try_law : laws.TryIsStep
+-- a try is a step of the search, which costs one try: it gives no child, or the child first and then the other heads
+pub try_law : (Σ : Signature) → IsSignature Σ → (constants : List ℕ) (s : State) (g : OpenGoal) (h : Head) (gs : List ℕ) (hs : List Head) (rest : List Pending) → StandsAtGoal Σ s g →
+    (NeverFits Σ s g h → SearchStep Σ constants (at_goal s g gs (h ∷ hs) rest) [] 1 (at_goal s g gs hs rest))
+    × ((subgoals : List MetaId) (new : State) → GivesChild Σ s g h subgoals new → IsNode Σ (child_node new subgoals gs) × SearchStep Σ constants (at_goal s g gs (h ∷ hs) rest) [] 1 (at_node (child_node new subgoals gs) ∷ at_goal s g gs hs rest))
 try_law Σ ok constants s g h gs hs rest w = (no_child_step Σ s g h constants gs hs rest, λ subgoals new c. (child_is_node Σ s g h ok w gs subgoals new c, child_step Σ s g h ok w gs subgoals new c constants hs rest))
 
-pub child_law : laws.ChildIsFromQuery
+-- where all metavariables of a goal's state come from the query, so do those of a child
+pub child_law : (Σ : Signature) (s : State) (g : OpenGoal) (h : Head) (subgoals : List MetaId) (new : State) (n : ℕ) → StandsAtGoal Σ s g → GivesChild Σ s g h subgoals new → AllFromQuery s n → AllFromQuery new n
 child_law Σ s g h subgoals new n w c all = child_comes Σ s g h n w subgoals new c all
 
-pub leaf_law : laws.LeafIsRead
+-- what is read off a leaf is what the theory reads off it
+pub leaf_law : (s : State) (G : List LfType) (l : IsLeaf s (length G)) (gs : List ℕ) (F : List LfType) (Ms : List Term) (proof : Term) → IsReadOff s (length G) F Ms proof → IsReadOffLeaf l.signature G (node_of s gs) F Ms proof
 leaf_law s G l gs F Ms proof r = is_read_off s (length G) l r.quantifiers F r.are_quantifiers G gs Ms proof refl r.count r.values_read r.proof_read

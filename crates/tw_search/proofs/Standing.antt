@@ -1,5 +1,6 @@
 -- Where a search stands, from step to step.
-use Rattle.std.proofs.Common.{◌≡◌, ℕ, ◌+◌, ◌-◌, ◌≤◌, List, [], ◌∷◌, drop, take, length, length-append, map, reverse, Some, ◌⊎◌, inl, inr, refl, sym, ap, ap₂, ◌∙◌, subst, arith}
+use Rattle.std.proofs.Common.{◌≡◌, ℕ, ◌+◌, ◌-◌, ◌≤◌, List, [], ◌∷◌, drop, take, length, length-append, map, reverse, Some, Result, Ok, Err, ◌⊎◌, inl, inr, refl, sym, ap, ap₂, ◌∙◌, subst, arith}
+use Rattle.std.specs.Result.{OnErr}
 use Rattle.lf.specs.Depth.{depth_limit}
 use Rattle.lf.specs.Entries.{Entry, IsCanonicalSignature, signature_of}
 use Rattle.lf.specs.Subordination.{Member}
@@ -8,7 +9,7 @@ use Rattle.lf.specs.Typing.{Signature}
 use Rattle.lf.proofs.Entries.{canonical_is_signature}
 use Rattle.lf_unification.specs.Lists.{followed}
 use Rattle.lf_unification.specs.Putting.{Unbound}
-use Rattle.lf_unification.specs.Search.{IsNode, Offer, Pending, SearchesFrom, TryIsDue, at_node, declared_constants, holes, is_due, take_goal, tried_heads}
+use Rattle.lf_unification.specs.Search.{IsNode, Offer, Pending, SearchesFrom, TryIsDue, at_node, begin_search, declared_constants, holes, is_due, take_goal, tried_heads}
 use Rattle.lf_search.specs.Coming.{Comes}
 use Rattle.lf_search.specs.Heads.{AreOffered, is_offered, not_offered}
 use Rattle.lf_search.specs.Holes.{HolesAreOpen}
@@ -29,18 +30,19 @@ use Rattle.tw_terms.specs.declared.canonical.MetaId.{MetaId}
 use Rattle.tw_unify.proofs.Stories.{later_then}
 use Rattle.tw_search.specs.Chains.{GoalsAre, IsFirst, IsGrown, frames_of}
 use Rattle.tw_search.specs.Choosing.{heads_left}
-use Rattle.tw_search.specs.Goals.{IsDeclared, IsHeadFor, IsOpened, goal_type, node_of}
-use Rattle.tw_search.specs.Laws.{at_goal, child_node}
-use Rattle.tw_search.specs.Standing.{AtChoice, Came, ChoicesStand, IsTakenUp, NodeStands, TriesHead, WentOn, choices_of, no_choice, one_choice}
+use Rattle.tw_search.specs.Goals.{IsDeclared, IsHeadFor, IsOpened, IsUnreached, at_goal, child_node, goal_type, node_of}
+use Rattle.tw_search.specs.Standing.{AtChoice, Came, ChoicesStand, GaveOut, IsTakenUp, NodeStands, PassesLeaf, TriesHead, WentOn, choices_of, no_choice, one_choice}
 use Rattle.tw_search.specs.Tries.{GivesChild, NeverFits}
 use Rattle.tw_search.specs.declared.frames.Frame.{Frame}
 use Rattle.tw_search.specs.declared.goal.OpenGoal.{OpenGoal}
 use Rattle.tw_search.specs.declared.search.Search.{Search}
 use Rattle.tw_search.specs.declared.step.Choice.{Choice}
 use Rattle.tw_search.specs.declared.step.Step.{Step}
+use Rattle.tw_search.specs.declared.step.Step.TheVariants as step
 use Rattle.tw_search.proofs.AllHeads.{all_offered}
 use Rattle.tw_search.proofs.Chaining.{first_taken, grown_itself, grown_then}
 use Rattle.tw_search.proofs.Parts.{child_law, try_law}
+use Rattle.tw_search.proofs.StillLeft.{hole_unreached}
 
 -- marks
 same_story : (a b : Story) → states a ≡ states b → a ≡ b
@@ -121,6 +123,14 @@ went_later es old new agenda agenda' r w = record {
   at = w.at;
 }
 
+-- so is a leaf that is shown
+pub passes_later : (es : List Entry) (G : List LfType) (new : Search) (agenda agenda' : List Pending) (k tries : ℕ) (after : List Pending) (s : Step) → SearchesFrom es agenda [] k agenda' → PassesLeaf es G new agenda' s tries after → PassesLeaf es G new agenda s (k + tries) after
+passes_later es G new agenda agenda' k tries after (step.Answer a) r (l, shown, q) = (l, shown, search_then (signature_of es) (declared_constants es) r q)
+passes_later es G new agenda agenda' k tries after (step.Leftover e) r (l, shown, q) = (l, shown, search_then (signature_of es) (declared_constants es) r q)
+passes_later es G new agenda agenda' k tries after step.Exhausted r p = tt
+passes_later es G new agenda agenda' k tries after step.Budget r p = tt
+passes_later es G new agenda agenda' k tries after step.TooDeep r p = tt
+
 pub came_later : (es : List Entry) (G : List LfType) (old new : Search) (agenda agenda' : List Pending) (budget : ℕ) (s : Step) → SearchesFrom es agenda [] 0 agenda' → Came es G old new agenda' budget s → Came es G old new agenda budget s
 came_later es G old new agenda agenda' budget s r w = record {
   seen = w.seen;
@@ -128,6 +138,7 @@ came_later es G old new agenda agenda' budget s r w = record {
   after = w.after;
   comes = (let z : 0 + budget ≡ budget = omega arith in let u : 0 + w.tries ≡ w.tries = omega arith in subst (λ k. Comes es depth_limit G agenda k w.seen w.tries w.after) z (subst (λ k. Comes es depth_limit G agenda (0 + budget) w.seen k w.after) u (goes_on es depth_limit G 0 budget agenda agenda' w.after w.seen w.tries r w.comes)));
   shows = w.shows;
+  passes = (let u : 0 + w.tries ≡ w.tries = omega arith in subst (λ k. PassesLeaf es G new agenda s k w.after) u (passes_later es G new agenda agenda' 0 w.tries w.after s r w.passes));
   count = w.count;
   variables = w.variables;
   then_is = w.then_is;
@@ -141,6 +152,7 @@ went_then_came es G first old new agenda last s w h v = record {
   after = v.after;
   comes = (let c = w.count in let z : w.tries + (last - old.tries) ≡ last - first.tries = omega (arith, h, c) in subst (λ k. Comes es depth_limit G agenda k v.seen (w.tries + v.tries) v.after) z (goes_on es depth_limit G w.tries (last - old.tries) agenda w.after v.after v.seen v.tries w.run v.comes));
   shows = v.shows;
+  passes = passes_later es G new agenda w.after w.tries v.tries v.after s w.run v.passes;
   count = (let c = w.count in let d = v.count in omega (arith, c, d));
   variables = v.variables ∙ w.variables;
   then_is = v.then_is;
@@ -154,6 +166,42 @@ went_then es first old new agenda w v = record {
   count = (let c = w.count in let d = v.count in omega (arith, c, d));
   variables = v.variables ∙ w.variables;
   at = v.at;
+}
+
+-- what holds at all holds where a call failed
+pub on_err_all : {T E P : Type 0} (r : Result T E) → P → OnErr r P
+on_err_all (Ok x) p = tt
+on_err_all (Err e) p = p
+
+-- memory gave out, before a try or after other steps
+pub gave_at_once : (es : List Entry) (old new : Search) (agenda : List Pending) (last : ℕ) → new.tries ≡ old.tries → old.tries ≤ last → GaveOut es old new agenda last
+gave_at_once es old new agenda last t h = record { tries = 0; reached = agenda; run = begin_search; count = omega (arith, t); within = omega (arith, t, h) }
+
+pub gave_later : (es : List Entry) (old new : Search) (agenda agenda' : List Pending) (last : ℕ) → SearchesFrom es agenda [] 0 agenda' → GaveOut es old new agenda' last → GaveOut es old new agenda last
+gave_later es old new agenda agenda' last r w = record {
+  tries = 0 + w.tries;
+  reached = w.reached;
+  run = search_then (signature_of es) (declared_constants es) r w.run;
+  count = (let e = w.count in omega (arith, e));
+  within = w.within;
+}
+
+pub gave_same : (es : List Entry) (old mid new new' : Search) (agenda : List Pending) (last : ℕ) → mid.tries ≡ old.tries → new'.tries ≡ new.tries → GaveOut es mid new agenda last → GaveOut es old new' agenda last
+gave_same es old mid new new' agenda last t u w = record {
+  tries = w.tries;
+  reached = w.reached;
+  run = w.run;
+  count = u ∙ w.count ∙ ap (λ n. n + w.tries) t;
+  within = subst (λ n. n ≤ last) (sym u) w.within;
+}
+
+pub went_then_gave : (es : List Entry) (first old new : Search) (agenda : List Pending) (last : ℕ) (w : WentOn es first old agenda) → GaveOut es old new w.after last → GaveOut es first new agenda last
+went_then_gave es first old new agenda last w v = record {
+  tries = w.tries + v.tries;
+  reached = v.reached;
+  run = search_then (signature_of es) (declared_constants es) w.run v.run;
+  count = (let c = w.count in let d = v.count in omega (arith, c, d));
+  within = v.within;
 }
 
 -- a head that is offered has a type of the goal's target
@@ -264,6 +312,7 @@ module _ (es : List Entry) (ok : IsCanonicalSignature es) (s : Search) (c : Choi
       declared = λ m i. at m (among_parts m (reverse (map (λ (m : MetaId). m.0) subgoals)) w.goals i);
       holes = holes_open;
       kept = record {
+        left = (child.has.offered.metavariables, child.child.left_over);
         ready = child.ready;
         node = record { scoped = both.0.scoped; skeletons = both.0.skeletons };
         declared = λ m k. grows m (w.at.kept.declared m k);
@@ -309,7 +358,14 @@ module _ (es : List Entry) (n list : ℕ) (y : Story) (fs : List Frame) (cs : Li
           mark = refl;
           frames = refl;
           kept = w.kept;
-          stands = record { ready = w.kept.ready; node = w.kept.node; declared = declared; unbound = subst (Unbound (bindings_of y.now)) (sym o.hole) goal_holes.open_holes.1 };
+          stands = record {
+            ready = w.kept.ready;
+            node = w.kept.node;
+            declared = declared;
+            unbound = subst (Unbound (bindings_of y.now)) (sym o.hole) goal_holes.open_holes.1;
+            left = w.kept.left;
+            unreached = subst (IsUnreached y.now) (sym o.hole) (hole_unreached (node_of y.now (f.hole.0 ∷ behind.0)) f.hole.0 behind.0 refl goal_holes);
+          };
           goals_are = behind.2;
           declared = λ m i. w.declared m (subst (Member m) (sym behind.1) (inr i));
           holes = subst (λ m. HolesAreOpen (node_of y.now (m ∷ behind.0))) (sym o.hole) goal_holes;

@@ -3,7 +3,7 @@ use Rattle.std.specs.Prelude.{◌≡◌, ℕ, ◌+◌, ◌-◌, ◌*◌, ◌≤�
 use Rattle.lf.specs.Entries.{Entry}
 use Rattle.lf.specs.Syntax.{Head, LfType}
 use Rattle.lf_unification.specs.Search.{Pending}
-use Rattle.tw_search.specs.Standing.{Came, IsAt, IsTakenUp, TriesHead, WentOn, choices_of}
+use Rattle.tw_search.specs.Standing.{Came, GaveOut, IsAt, IsTakenUp, TriesHead, WentOn, choices_of}
 use Rattle.tw_search.specs.declared.search.Search.{Search}
 use Rattle.tw_search.specs.declared.step.Choice.{Choice}
 use Rattle.tw_search.specs.declared.step.Place.{Place}
@@ -49,3 +49,15 @@ Nears last old new o = IsBelow (steps_left last old) last new o
 -- fewer steps are left than with the choice point that was taken up
 abbrev pub NearsBelow : ℕ → Search → Search → Option Step → Type 0
 NearsBelow last old new o = IsBelow (3 * (last - old.tries) + (length (choices_of old) + 1)) last new o
+
+-- memory gave out on the way from where the search is
+abbrev pub GivesOut : List Entry → ℕ → Search → Search → Type 0
+GivesOut es last old new = (agenda : List Pending) → IsAt es old agenda → GaveOut es old new agenda last
+
+-- from a choice point that is taken up
+abbrev pub GivesOutUp : List Entry → ℕ → Search → Search → Choice → Type 0
+GivesOutUp es last old new c = (agenda : List Pending) → IsTakenUp es old c agenda → GaveOut es old new agenda last
+
+-- from a choice point whose next head is tried
+abbrev pub GivesOutTrying : List Entry → ℕ → Search → Search → Choice → Head → Type 0
+GivesOutTrying es last old new c h = (agenda : List Pending) → TriesHead es old c h agenda → GaveOut es old new agenda last

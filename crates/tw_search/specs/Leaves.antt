@@ -18,6 +18,10 @@ use Rattle.tw_search.specs.Goals.{IsDeclared}
 abbrev pub IsFromQuery : State → ℕ → ℕ → Type 0
 IsFromQuery s n m = (m ≤ n) ⊎ ((b : Binding) × Member b (bindings_of s) × (b.of ≤ n) × IsReached (types_of s) (bindings_of s) b.value m)
 
+-- every metavariable comes from the query, which has n variables
+abbrev pub AllFromQuery : State → ℕ → Type 0
+AllFromQuery s n = (m : ℕ) → IsDeclared s m → IsFromQuery s n m
+
 -- the store is ready, nothing is left, and all metavariables come from a query with n variables
 pub record IsLeaf (s : State) (n : ℕ) : Type 0 where
   pub signature : Signature
@@ -25,7 +29,7 @@ pub record IsLeaf (s : State) (n : ℕ) : Type 0 where
   pub ready : IsReady signature [] s
   pub none_left : s.equations ≡ []
   pub declared : (m : ℕ) → m ≤ n → IsDeclared s m
-  pub reached : (m : ℕ) → IsDeclared s m → IsFromQuery s n m
+  pub reached : AllFromQuery s n
 
 -- the numbers below n, and n
 abbrev pub below : ℕ → List ℕ

@@ -6,7 +6,6 @@ pub mod Tries
 pub mod Leaves
 pub mod Roots
 pub mod Choosing
-pub mod Laws
 pub mod Chains
 pub mod Standing
 pub mod Going

@@ -64,5 +64,6 @@ pub record IsOffered (Σ : Signature) (old : State) (g : OpenGoal) (h : Head) (e
   pub head_type : LfType
   pub offer : Offer Σ (node_of old []) g.hole.0 g.locals g.family.0 (open_spine_of g.indices) h head_type (offered_store es new) (length new.declared)
   pub subgoals_are : reverse (map (λ m. m.0) subgoals) ≡ holes (length old.declared) head_type
+  pub postponed : new.equations ≡ old.equations
   pub well_formed : IsWellFormed Σ (offered_store es new)
   pub ready : IsReady Σ es new

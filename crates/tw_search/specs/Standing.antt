@@ -17,11 +17,12 @@ use Rattle.tw_metas.specs.State.{State, Story}
 use Rattle.tw_metas.specs.View.{equation_of}
 use Rattle.tw_metas.specs.declared.equation.Equation.{Equation as Postponed}
 use Rattle.tw_putting.specs.Ready.{IsLater, IsReady}
+use Rattle.tw_putting.specs.Whole.{whole}
 use Rattle.tw_terms.specs.View.{term_of}
 use Rattle.tw_search.specs.Chains.{GoalsAre, IsGrown, frames_of}
 use Rattle.tw_search.specs.Choosing.{heads_left}
-use Rattle.tw_search.specs.Goals.{IsDeclared, IsHeadFor, StandsAtGoal, node_of}
-use Rattle.tw_search.specs.Laws.{AllFromQuery, at_goal}
+use Rattle.tw_search.specs.Goals.{AreLeft, IsDeclared, IsHeadFor, StandsAtGoal, at_goal, node_of}
+use Rattle.tw_search.specs.Leaves.{AllFromQuery}
 use Rattle.tw_search.specs.declared.answer.Answer.{Answer}
 use Rattle.tw_search.specs.declared.frames.Frame.{Frame}
 use Rattle.tw_search.specs.declared.step.Choice.{Choice}
@@ -39,6 +40,7 @@ AllDeclared s gs = (m : ℕ) → Member m gs → IsDeclared s m
 
 -- a state of the store of a search for a goal with n variables
 pub record IsKept (Σ : Signature) (n : ℕ) (s : State) : Type 0 where
+  pub left : AreLeft s
   pub ready : IsReady Σ [] s
   pub node : IsNode Σ (node_of s [])
   pub declared : (m : ℕ) → m ≤ n → IsDeclared s m
@@ -95,6 +97,10 @@ pub record Stands (es : List Entry) (G : List LfType) (A : LfType) (s : Search) 
   pub run : SearchesFrom es (at_node (root_of G A) ∷ []) leaves s.tries agenda
   pub at : IsAt es s agenda
 
+-- how many tries a search made
+abbrev pub tries_of : Search → ℕ
+tries_of s = s.tries
+
 abbrev pub IsOver : End → Search → Type 0
 IsOver e s = s.place ≡ place.Over e
 
@@ -119,6 +125,32 @@ IsAfter es step.Exhausted s after = IsOver end.Exhausted s
 IsAfter es step.Budget s after = IsAt es s after
 IsAfter es step.TooDeep s after = IsOver end.TooDeep s
 
+-- The store of the search is that of the leaf until the next call, and it is ready.
+pub record HoldsLeaf (es : List Entry) (s : Search) (l : Node) : Type 0 where
+  pub no_goals : l.goals ≡ []
+  pub store : l.store ≡ whole [] s.store.now
+  pub ready : IsReady (signature_of es) [] s.store.now
+
+-- The search holds a leaf without equations, and the answer is read off it. Of `nat` with z that leaf has the hole bound to z, and the proof is z.
+pub record IsAnswerOfLeaf (es : List Entry) (G : List LfType) (s : Search) (a : Answer) (l : Node) : Type 0 where
+  pub holds : HoldsLeaf es s l
+  pub none_left : l.store.equations ≡ []
+  pub read : IsReadOffLeaf (signature_of es) G l a.free (reverse (map term_of a.values.items)) (term_of a.proof)
+
+-- The search holds a leaf that is left over, and the equation is the first of its equations.
+pub record IsLeftAtLeaf (es : List Entry) (s : Search) (e : Postponed) (l : Node) : Type 0 where
+  pub holds : HoldsLeaf es s l
+  pub others : List Equation
+  pub first : l.store.equations ≡ equation_of e ∷ others
+
+-- where the step shows a leaf, a run comes to it with so many tries and is behind it then
+abbrev pub PassesLeaf : List Entry → List LfType → Search → List Pending → Step → ℕ → List Pending → Type 0
+PassesLeaf es G s agenda (step.Answer a) tries after = (l : Node) × IsAnswerOfLeaf es G s a l × SearchesFrom es agenda (l ∷ []) tries after
+PassesLeaf es G s agenda (step.Leftover e) tries after = (l : Node) × IsLeftAtLeaf es s e l × SearchesFrom es agenda (l ∷ []) tries after
+PassesLeaf es G s agenda step.Exhausted tries after = Unit {0}
+PassesLeaf es G s agenda step.Budget tries after = Unit {0}
+PassesLeaf es G s agenda step.TooDeep tries after = Unit {0}
+
 -- From an agenda, with a budget, the search over G comes to what the step shows.
 pub record Came (es : List Entry) (G : List LfType) (old new : Search) (agenda : List Pending) (budget : ℕ) (step : Step) : Type 0 where
   pub seen : Seen
@@ -126,6 +158,7 @@ pub record Came (es : List Entry) (G : List LfType) (old new : Search) (agenda :
   pub after : List Pending
   pub comes : Comes es depth_limit G agenda budget seen tries after
   pub shows : Shows step seen
+  pub passes : PassesLeaf es G new agenda step tries after
   pub count : new.tries ≡ old.tries + tries
   pub variables : new.variables ≡ old.variables
   pub then_is : IsAfter es step new after
@@ -139,19 +172,18 @@ pub record WentOn (es : List Entry) (old new : Search) (agenda : List Pending) :
   pub variables : new.variables ≡ old.variables
   pub at : IsAt es new after
 
--- the answer is read off a leaf without equations
-pub record IsAnswerOfLeaf (es : List Entry) (G : List LfType) (a : Answer) (l : Node) : Type 0 where
-  pub none_left : l.store.equations ≡ []
-  pub read : IsReadOffLeaf (signature_of es) G l a.free (reverse (map term_of a.values.items)) (term_of a.proof)
+-- Memory gave out. The tries that were made are those of a run from the agenda without a leaf, and they are within this number of all tries.
+pub record GaveOut (es : List Entry) (old new : Search) (agenda : List Pending) (last : ℕ) : Type 0 where
+  pub tries : ℕ
+  pub reached : List Pending
+  pub run : SearchesFrom es agenda [] tries reached
+  pub count : new.tries ≡ old.tries + tries
+  pub within : new.tries ≤ last
 
--- the equation is the first that is left at a leaf
-abbrev pub IsFirstLeft : Postponed → Node → Type 0
-IsFirstLeft e l = (rest : List Equation) × (l.store.equations ≡ equation_of e ∷ rest)
-
--- after the step the search stands behind the leaf that was shown, if any, or is over
+-- after the step the search stands behind the leaf that was shown, if any, whose store it holds; or it is over
 abbrev pub StandsAfter : List Entry → List LfType → LfType → Step → Search → List Node → List Pending → Type 0
-StandsAfter es G A (step.Answer a) s leaves after = (l : Node) × IsAnswerOfLeaf es G a l × Stands es G A s (followed leaves (l ∷ [])) after
-StandsAfter es G A (step.Leftover e) s leaves after = (l : Node) × IsFirstLeft e l × Stands es G A s (followed leaves (l ∷ [])) after
+StandsAfter es G A (step.Answer a) s leaves after = (l : Node) × IsAnswerOfLeaf es G s a l × Stands es G A s (followed leaves (l ∷ [])) after
+StandsAfter es G A (step.Leftover e) s leaves after = (l : Node) × IsLeftAtLeaf es s e l × Stands es G A s (followed leaves (l ∷ [])) after
 StandsAfter es G A step.Exhausted s leaves after = IsOver end.Exhausted s
 StandsAfter es G A step.Budget s leaves after = Stands es G A s leaves after
 StandsAfter es G A step.TooDeep s leaves after = IsOver end.TooDeep s

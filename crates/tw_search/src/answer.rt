@@ -27,7 +27,11 @@ pub struct Answer {
 /// The answer of a leaf without equations, whose first metavariables are so many variables of the goal and then the hole of the proof.
 ///
 /// Answers `TooDeep` only where the answer is deeper than 4,096: a value, the proof, or the type of a free variable.
-pub fn read_answer(alloc: Global, store: &Store, variables: u64) -> Result<Answer, HeredFault>
+pub(crate) fn read_answer(
+    alloc: Global,
+    store: &Store,
+    variables: u64,
+) -> Result<Answer, HeredFault>
     requires { IsLeaf store.now.now variables }
     ensures read { IfOk result (λ a. IsReadOff store.now.now variables a.free (reverse (map term_of a.values.items)) (term_of a.proof)) }
     ensures too_deep { IsErrOf result HeredFault.TooDeep → (G : List LfType) → length G ≡ variables → AnswerIsDeep depth_limit G (whole [] store.now.now) }

@@ -10,14 +10,14 @@ use tw_terms::{ConstId, Head, OpenContext};
 
 /// A head, and what is still to be tried behind it: the local variables and the constants of the family from these places on.
 #[derive(Clone, Copy, PartialEq, Eq, Debug)]
-pub struct Next {
-    pub head: Head,
-    pub local: u64,
-    pub constant: usize,
+pub(crate) struct Next {
+    pub(crate) head: Head,
+    pub(crate) local: u64,
+    pub(crate) constant: usize,
 }
 
 /// The next head for a goal of this family in this local context. It takes no memory.
-pub fn next_head(
+pub(crate) fn next_head(
     signature: &Signature,
     locals: &OpenContext,
     family: ConstId,

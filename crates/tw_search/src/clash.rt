@@ -15,7 +15,7 @@ use tw_terms::{ConstId, Head, MetaId, Open, OpenHead, OpenSpine, Spine, Term, Ty
 
 /// Whether at some place the goal's argument and the clause's have different constants as heads, with the goal's values put in. It reads no more than the heads, and
 /// takes no memory.
-pub fn clashes(store: &Store, indices: &OpenSpine, ty: &Ty) -> bool
+pub(crate) fn clashes(store: &Store, indices: &OpenSpine, ty: &Ty) -> bool
     requires { ValuesAreBound store.now.now }
     ensures { OnTrue result (Clash (bindings_of store.now.now) (quantifiers (type_of ty.now)) (open_spine_of indices.now) (target_arguments (type_of ty.now))) }
 {

@@ -1,11 +1,11 @@
 //! The steps of the engine: a goal is chosen, its heads are tried one after the other, and a leaf is shown.
-ghost use Rattle.std.specs.Prelude.{◌≡◌, ◌+◌, ◌≤◌, ◌<◌, ◌∷◌, [], ℕ, IfOk, List, MatchOption, None, OnOk, Option, Some, length, reverse};
+ghost use Rattle.std.specs.Prelude.{◌≡◌, ◌+◌, ◌≤◌, ◌<◌, ◌∷◌, [], ℕ, IfOk, List, MatchOption, None, OnErr, OnOk, Option, Some, length, reverse};
 ghost use Rattle.lf.specs.Entries.{Entry};
 ghost use Rattle.lf.specs.Syntax.{LfType};
 ghost use Rattle.lf_unification.specs.Search.{Pending};
 ghost use Rattle.tw_terms.specs.View.{head_of};
 ghost use Rattle.tw_search.specs.Chains.{IsFirst, frames_of};
-ghost use Rattle.tw_search.specs.Going.{Goes, GoesUp, Nears, NearsBelow, Tried};
+ghost use Rattle.tw_search.specs.Going.{GivesOut, GivesOutTrying, GivesOutUp, Goes, GoesUp, Nears, NearsBelow, Tried};
 ghost use Rattle.tw_search.specs.Standing.{Came, IsAt, IsTakenUp, TriesHead, WentOn};
 ghost use Rattle.tw_search.specs.declared.step.Place.TheVariants as places;
 
@@ -24,7 +24,7 @@ use tw_unify::UnifyFault;
 
 impl Search {
     /// One step of the engine. None where there is nothing to show yet.
-    pub fn advance(
+    pub(crate) fn advance(
         &mut self,
         alloc: Global,
         signature: &Signature,
@@ -33,6 +33,7 @@ impl Search {
         requires at { (agenda : List Pending) × IsAt signature.now self.old agenda }
         requires within { self.old.tries ≤ last }
         ensures goes { IfOk result (λ o. Goes signature.now last self.old self.new o) }
+        ensures gave_out { OnErr result (GivesOut signature.now last self.old self.new) }
         ensures nears { IfOk result (λ o. Nears last self.old self.new o) }
     {
         match self.place {
@@ -54,6 +55,7 @@ impl Search {
         requires at { (agenda : List Pending) × IsAt signature.now self.old agenda }
         requires within { self.old.tries ≤ last }
         ensures goes { IfOk result (λ o. Goes signature.now last self.old self.new o) }
+        ensures gave_out { OnErr result (GivesOut signature.now last self.old self.new) }
         ensures nears { IfOk result (λ o. Nears last self.old self.new o) }
     {
         match self.frames.first(list) {
@@ -76,6 +78,7 @@ impl Search {
         requires place { self.old.place ≡ places.Node list }
         requires first { IsFirst (frames_of self.old.frames) list (Some frame) }
         requires at { (agenda : List Pending) × IsAt signature.now self.old agenda }
+        ensures gave_out { OnErr result (self.new.tries ≡ self.old.tries) }
         ensures went { OnOk result ((agenda : List Pending) → IsAt signature.now self.old agenda → WentOn signature.now self.old self.new agenda) }
         ensures nears { OnOk result ((last : ℕ) → self.old.tries ≤ last → Nears last self.old self.new None) }
     {
@@ -103,7 +106,8 @@ impl Search {
         requires place { self.old.place ≡ places.Node list }
         requires first { IsFirst (frames_of self.old.frames) list None }
         requires at { (agenda : List Pending) × IsAt signature.now self.old agenda }
-        ensures { IfOk result (λ s. (G : List LfType) → length G ≡ self.old.variables → (agenda : List Pending) → IsAt signature.now self.old agenda → (budget : ℕ) → Came signature.now G self.old self.new agenda budget s) }
+        ensures came { IfOk result (λ s. (G : List LfType) → length G ≡ self.old.variables → (agenda : List Pending) → IsAt signature.now self.old agenda → (budget : ℕ) → Came signature.now G self.old self.new agenda budget s) }
+        ensures gave_out { OnErr result (self.new.tries ≡ self.old.tries) }
     {
         signature.is_canonical();
         match self.store.equations().first() {
@@ -137,6 +141,7 @@ impl Search {
         requires at { (agenda : List Pending) × IsAt signature.now self.old agenda }
         requires within { self.old.tries ≤ last }
         ensures goes { IfOk result (λ o. Goes signature.now last self.old self.new o) }
+        ensures gave_out { OnErr result (GivesOut signature.now last self.old self.new) }
         ensures nears { IfOk result (λ o. Nears last self.old self.new o) }
     {
         match pop_choice(&mut self.choices) {
@@ -164,6 +169,7 @@ impl Search {
         requires up { (agenda : List Pending) × IsTakenUp signature.now self.old choice agenda }
         requires within { self.old.tries ≤ last }
         ensures goes { IfOk result (λ o. GoesUp signature.now last self.old self.new choice o) }
+        ensures gave_out { OnErr result (GivesOutUp signature.now last self.old self.new choice) }
         ensures nears { IfOk result (λ o. NearsBelow last self.old self.new o) }
     {
         let next = next_head(
@@ -198,6 +204,7 @@ impl Search {
         requires tries { (agenda : List Pending) × TriesHead signature.now self.old choice (head_of head) agenda }
         requires within { self.old.tries < last }
         ensures tried { IfOk result (λ o. Tried signature.now last self.old self.new choice (head_of head) o) }
+        ensures gave_out { OnErr result (GivesOutTrying signature.now last self.old self.new choice (head_of head)) }
         ensures nears { IfOk result (λ o. NearsBelow last self.old self.new o) }
     {
         signature.is_canonical();

@@ -8,20 +8,20 @@ use tw_terms::MetaId;
 
 /// A goal that waits, and the list of those behind it.
 #[derive(Clone, Copy, PartialEq, Eq, Debug)]
-pub struct Frame {
-    pub hole: MetaId,
-    pub next: usize,
+pub(crate) struct Frame {
+    pub(crate) hole: MetaId,
+    pub(crate) next: usize,
 }
 
 /// Lists of goals. A list is named by a number: 0 is the empty one, and any other is the frame at one place less.
 #[derive(Drop)]
-pub struct Frames {
-    pub frames: Vec<Frame>,
+pub(crate) struct Frames {
+    pub(crate) frames: Vec<Frame>,
 }
 
 impl Frames {
     /// No list but the empty one.
-    pub fn new(alloc: Global) -> Frames
+    pub(crate) fn new(alloc: Global) -> Frames
         ensures { frames_of result ≡ [] }
     {
         Frames {
@@ -30,14 +30,14 @@ impl Frames {
     }
 
     /// How many frames there are.
-    pub fn len(&self) -> usize
+    pub(crate) fn len(&self) -> usize
         ensures { result ≡ length (frames_of self.now) }
     {
         self.frames.len()
     }
 
     /// The first goal of a list, and the list behind it.
-    pub fn first(&self, list: usize) -> Option<Frame>
+    pub(crate) fn first(&self, list: usize) -> Option<Frame>
         ensures { IsFirst (frames_of self.now) list result }
     {
         if list == 0 {
@@ -50,7 +50,7 @@ impl Frames {
     }
 
     /// The list with one more goal in front.
-    pub fn push(&mut self, hole: MetaId, next: usize) -> Result<usize, AllocError>
+    pub(crate) fn push(&mut self, hole: MetaId, next: usize) -> Result<usize, AllocError>
         ensures frames { OnOk result (frames_of self.new ≡ frames_of self.old ++ record { hole = hole; next = next } ∷ []) }
         ensures list { IfOk result (λ n. n ≡ length (frames_of self.old) + 1) }
     {
@@ -59,7 +59,7 @@ impl Frames {
     }
 
     /// The list with more goals in front, the last one first.
-    pub fn push_all(&mut self, holes: &[MetaId], next: usize) -> Result<usize, AllocError>
+    pub(crate) fn push_all(&mut self, holes: &[MetaId], next: usize) -> Result<usize, AllocError>
         ensures grown { OnOk result (IsGrown (frames_of self.old) (frames_of self.new)) }
         ensures list { IfOk result (λ n. (gs : List ℕ) → GoalsAre (frames_of self.old) next gs → GoalsAre (frames_of self.new) n (followed (reverse (map (λ m. m.0) holes.now)) gs)) }
     {
@@ -71,7 +71,7 @@ impl Frames {
     }
 
     /// Takes away the frames past the first `count`.
-    pub fn shrink_to(&mut self, count: usize)
+    pub(crate) fn shrink_to(&mut self, count: usize)
         ensures { frames_of self.new ≡ take count (frames_of self.old) }
     {
         self.frames.truncate(count);

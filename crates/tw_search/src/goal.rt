@@ -10,15 +10,15 @@ use tw_terms::{ConstId, MetaId, OpenContext, OpenSpine, OpenTy};
 
 /// A hole, the local context of its goal, and the goal's family with its indices there.
 #[derive(Drop)]
-pub struct OpenGoal {
-    pub hole: MetaId,
-    pub locals: OpenContext,
-    pub family: ConstId,
-    pub indices: OpenSpine,
+pub(crate) struct OpenGoal {
+    pub(crate) hole: MetaId,
+    pub(crate) locals: OpenContext,
+    pub(crate) family: ConstId,
+    pub(crate) indices: OpenSpine,
 }
 
 /// The goal of a hole. It copies the hole's type, and fails only for want of memory.
-pub fn open_goal(alloc: Global, store: &Store, hole: MetaId) -> Result<OpenGoal, AllocError>
+pub(crate) fn open_goal(alloc: Global, store: &Store, hole: MetaId) -> Result<OpenGoal, AllocError>
     requires { IsDeclared store.now.now hole.0 }
     ensures { IfOk result (λ g. IsOpened store.now.now hole.0 g) }
 {
@@ -55,7 +55,7 @@ fn opened(alloc: Global, hole: MetaId, ty: &OpenTy) -> Result<OpenGoal, AllocErr
 }
 
 /// The family that a type targets.
-pub fn open_target(ty: &OpenTy) -> ConstId
+pub(crate) fn open_target(ty: &OpenTy) -> ConstId
     ensures { result.0 ≡ target (open_type_of ty.now) }
 {
     let mut rest = ty;

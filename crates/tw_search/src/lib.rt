@@ -1,4 +1,7 @@
-//! The parts of a search for the proofs of a goal: its root, the heads of a goal, a try, and what is read off a leaf.
+//! Search for the proofs of a goal, as a value: each call gives the next leaf of the goal's tree, with a budget of tries.
+//!
+//! `search` has the calls, and `engine` the steps between them, over the goals that wait (`frames`), the choice points (`step`) and the heads of a goal (`choice`). How terms are represented
+//! is the matter of the others: `root` declares a goal, `goal` takes the type of a hole apart, `trying` tries a head (`clash`, `offer`, `taking`, `occurs`), and `answer` reads what a leaf has.
 #![tactic(auto)]
 
 mod answer;
@@ -9,7 +12,6 @@ mod engine;
 mod frames;
 #[tactic(auto, using(tw_open::proofs::Steps::steps))]
 mod goal;
-mod laws;
 #[tactic(auto, using(tw_open::proofs::Steps::steps))]
 mod occurs;
 #[tactic(auto, using(tw_open::proofs::Steps::steps))]
@@ -22,11 +24,6 @@ mod step;
 mod taking;
 mod trying;
 
-pub use answer::{Answer, read_answer};
-pub use choice::{Next, next_head};
-pub use goal::{OpenGoal, open_goal};
-pub use laws::{child_is_from_query, leaf_is_read, root_is_ready, try_is_step};
-pub use root::declare_root;
+pub use answer::Answer;
 pub use search::Search;
 pub use step::Step;
-pub use trying::attempt;

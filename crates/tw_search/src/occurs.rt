@@ -10,7 +10,7 @@ use tw_terms::numbers::one_more;
 use tw_terms::{Open, OpenHead, OpenSpine, OpenTy};
 
 /// For each leading quantifier, the outermost first: whether its variable doesn't occur in the rest.
-pub fn marks(alloc: Global, ty: &OpenTy) -> Result<Vec<bool>, AllocError>
+pub(crate) fn marks(alloc: Global, ty: &OpenTy) -> Result<Vec<bool>, AllocError>
     ensures { IfOk result (λ v. v.items ≡ subgoal_marks (open_type_of ty.now)) }
 {
     let mut marks = Vec::new(alloc);

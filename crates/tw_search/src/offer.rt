@@ -27,13 +27,13 @@ use tw_terms::{Head, MetaId, Open, OpenContext, OpenHead, OpenSpine, OpenTy};
 
 /// What was offered: the equations of the arguments, and the holes of the head's subgoals, in the order of its quantifiers.
 #[derive(Drop)]
-pub struct Offered {
-    pub equations: Vec<Equation>,
-    pub subgoals: Vec<MetaId>,
+pub(crate) struct Offered {
+    pub(crate) equations: Vec<Equation>,
+    pub(crate) subgoals: Vec<MetaId>,
 }
 
 /// Offers the head to the goal. Its hole is bound to the head on new metavariables, one for each quantifier. Fails only for want of memory.
-pub fn offer(
+pub(crate) fn offer(
     alloc: Global,
     store: &mut Store,
     signature: &Signature,

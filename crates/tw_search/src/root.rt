@@ -15,7 +15,7 @@ use tw_terms::{
 };
 
 /// Declares the variables of the goal, the outermost first, and the hole, which it gives.
-pub fn declare_root(
+pub(crate) fn declare_root(
     alloc: Global,
     store: &mut Store,
     variables: &Context,

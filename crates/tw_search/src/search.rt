@@ -6,7 +6,8 @@ ghost use Rattle.lf.specs.Typing.{IsContext, IsType};
 ghost use Rattle.lf_unification.specs.Search.{Node, Pending, at_node};
 ghost use Rattle.lf_search.specs.Goals.{root_of};
 ghost use Rattle.tw_terms.specs.View.{type_of};
-ghost use Rattle.tw_search.specs.Standing.{Came, IsAt, IsOver, IsSearch, Stands, StepIs};
+ghost use Rattle.tw_search.specs.Going.{GivesOut};
+ghost use Rattle.tw_search.specs.Standing.{Came, GaveOut, IsAt, IsOver, IsSearch, Stands, StepIs, tries_of};
 ghost use Rattle.tw_search.specs.declared.step.End.TheVariants as ends;
 
 use crate::frames::Frames;
@@ -19,20 +20,20 @@ use tw_signature::{Goal, Signature};
 /// A search for the proofs of a goal.
 #[derive(Drop)]
 pub struct Search {
-    pub store: Store,
-    pub frames: Frames,
-    pub choices: Vec<Choice>,
-    pub place: Place,
+    pub(crate) store: Store,
+    pub(crate) frames: Frames,
+    pub(crate) choices: Vec<Choice>,
+    pub(crate) place: Place,
     /// How many variables the goal has: they are the first metavariables, and the hole of the proof is the next one.
-    pub variables: u64,
-    pub tries: u64,
+    pub(crate) variables: u64,
+    pub(crate) tries: u64,
 }
 
 impl Search {
     /// A search at the root of the goal's tree. Fails only for want of memory.
     pub fn new(alloc: Global, goal: &Goal) -> Result<Search, AllocError>
         ensures stands { IfOk result (λ s. (es : List Entry) → IsCanonicalSignature es → IsContext (signature_of es) goal.now.variables → IsType (signature_of es) goal.now.variables (type_of goal.now.goal) → Stands es goal.now.variables (type_of goal.now.goal) s [] (at_node (root_of goal.now.variables (type_of goal.now.goal)) ∷ [])) }
-        ensures tries { IfOk result (λ s. s.tries ≡ 0) }
+        ensures tries { IfOk result (λ s. tries_of s ≡ 0) }
     {
         let mut store = Store::new(alloc);
         let hole = declare_root(alloc, &mut store, &goal.variables, &goal.goal)?;
@@ -52,14 +53,15 @@ impl Search {
 
     /// How many tries were made.
     pub fn tries(&self) -> u64
-        ensures { result ≡ self.now.tries }
+        ensures { result ≡ tries_of self.now }
     {
         self.tries
     }
 
     /// The next leaf in the order of the tree, or the end of the tree or of the budget, which is a number of tries. Over one signature, all calls search one tree.
     ///
-    /// After `Budget` the search stands where it was, and goes on with the next call. After `Exhausted`, `TooDeep` or want of memory each later call answers the same.
+    /// After an answer or a leaf that is left over the search's store is the leaf's until the next call. After `Budget` the search stands where it was, and goes on with the next call. After
+    /// `Exhausted`, `TooDeep` or want of memory each later call answers the same; tries that were made before memory gave out are counted.
     pub fn next(
         &mut self,
         alloc: Global,
@@ -67,12 +69,13 @@ impl Search {
         budget: u64,
     ) -> Result<Step, AllocError>
         requires search { IsSearch signature.now self.old }
-        requires budget { self.old.tries + budget < 2 ^ 64 }
+        requires budget { tries_of self.old + budget < 2 ^ 64 }
         ensures step { IfOk result (λ s. (G : List LfType) (A : LfType) (leaves : List Node) (agenda : List Pending) → Stands signature.now G A self.old leaves agenda → StepIs signature.now G A self.old self.new leaves agenda budget s) }
         ensures exhausted { IsOver ends.Exhausted self.old → (result ≡ Ok Step.Exhausted) × (self.new ≡ self.old) }
         ensures too_deep { IsOver ends.TooDeep self.old → (result ≡ Ok Step.TooDeep) × (self.new ≡ self.old) }
         ensures no_memory { IsOver ends.NoMemory self.old → (result ≡ Err alloc_error) × (self.new ≡ self.old) }
         ensures err { OnErr result (IsOver ends.NoMemory self.new) }
+        ensures gave_out { OnErr result ((G : List LfType) (A : LfType) (leaves : List Node) (agenda : List Pending) → Stands signature.now G A self.old leaves agenda → GaveOut signature.now self.old self.new agenda (tries_of self.old + budget)) }
         ensures again { IsSearch signature.now self.new }
     {
         match self.place {
@@ -92,6 +95,7 @@ impl Search {
         requires at { (agenda : List Pending) × IsAt signature.now self.old agenda }
         requires budget { self.old.tries + budget < 2 ^ 64 }
         ensures came { IfOk result (λ s. (G : List LfType) → length G ≡ self.old.variables → (agenda : List Pending) → IsAt signature.now self.old agenda → Came signature.now G self.old self.new agenda budget s) }
+        ensures gave_out { OnErr result (GivesOut signature.now (self.old.tries + budget) self.old self.new) }
         ensures err { OnErr result (IsOver ends.NoMemory self.new) }
     {
         let last = self.tries + budget;
@@ -108,7 +112,8 @@ impl Search {
     fn run(&mut self, alloc: Global, signature: &Signature, last: u64) -> Result<Step, AllocError>
         requires at { (agenda : List Pending) × IsAt signature.now self.old agenda }
         requires within { self.old.tries ≤ last }
-        ensures { IfOk result (λ s. (G : List LfType) → length G ≡ self.old.variables → (agenda : List Pending) → IsAt signature.now self.old agenda → Came signature.now G self.old self.new agenda (last - self.old.tries) s) }
+        ensures came { IfOk result (λ s. (G : List LfType) → length G ≡ self.old.variables → (agenda : List Pending) → IsAt signature.now self.old agenda → Came signature.now G self.old self.new agenda (last - self.old.tries) s) }
+        ensures gave_out { OnErr result (GivesOut signature.now last self.old self.new) }
     {
         loop {
             if let Some(step) = self.advance(alloc, signature, last)? {

@@ -20,7 +20,7 @@ pub enum Step {
 
 /// Why a search is over.
 #[derive(Clone, Copy, PartialEq, Eq, Debug)]
-pub enum End {
+pub(crate) enum End {
     Exhausted,
     TooDeep,
     NoMemory,
@@ -28,7 +28,7 @@ pub enum End {
 
 /// Where a search stands: at a node with this list of goals, or at the heads of its newest choice point; or it is over.
 #[derive(Clone, Copy, PartialEq, Eq, Debug)]
-pub enum Place {
+pub(crate) enum Place {
     Node(usize),
     Heads,
     Over(End),
@@ -37,11 +37,11 @@ pub enum Place {
 /// A goal whose heads are tried, with the store's mark and the number of frames there; the list of the goals behind it; and the local variable and the
 /// constant of its family from which on they are still to be tried.
 #[derive(Drop)]
-pub struct Choice {
-    pub mark: Mark,
-    pub frames: usize,
-    pub goal: OpenGoal,
-    pub rest: usize,
-    pub local: u64,
-    pub constant: usize,
+pub(crate) struct Choice {
+    pub(crate) mark: Mark,
+    pub(crate) frames: usize,
+    pub(crate) goal: OpenGoal,
+    pub(crate) rest: usize,
+    pub(crate) local: u64,
+    pub(crate) constant: usize,
 }

@@ -15,11 +15,11 @@ use tw_terms::{ConstId, MetaId, Open, OpenContext, OpenSpine, OpenTy};
 
 /// What a head is applied to, the numbers of the new metavariables, and the atom that is left of its type.
 #[derive(Drop)]
-pub struct Taken {
-    pub spine: OpenSpine,
-    pub metas: Vec<MetaId>,
-    pub family: ConstId,
-    pub indices: OpenSpine,
+pub(crate) struct Taken {
+    pub(crate) spine: OpenSpine,
+    pub(crate) metas: Vec<MetaId>,
+    pub(crate) family: ConstId,
+    pub(crate) indices: OpenSpine,
 }
 
 /// A new metavariable, its eta-long form at the local variables, and the type that is left.
@@ -52,7 +52,7 @@ fn take_one(
 }
 
 /// New metavariables for all quantifiers of the type, and the atom that is left. It fails only for want of memory.
-pub fn take_all(
+pub(crate) fn take_all(
     alloc: Global,
     store: &mut Store,
     locals: &OpenContext,

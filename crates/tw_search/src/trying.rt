@@ -14,11 +14,11 @@ use std::alloc::Global;
 use tw_metas::Store;
 use tw_signature::Signature;
 use tw_terms::{Head, MetaId};
-use tw_unify::{Unified, UnifyFault, solve};
+use tw_unify::{Unified, UnifyFault, all_left_over_are_left, solve_more};
 
 /// Tries the head at the goal. None where it gives no child; else the holes of its subgoals, in the order of the head's quantifiers. Heads that clash are found out without an
-/// allocation. Answers `TooDeep` only where the equations of the store with those of the head are deep.
-pub fn attempt(
+/// allocation. Of the equations that were postponed it looks only at such as hang on a metavariable that it binds. Answers `TooDeep` only where the equations of the store with those of the head are deep.
+pub(crate) fn attempt(
     alloc: Global,
     store: &mut Store,
     signature: &Signature,
@@ -38,7 +38,8 @@ pub fn attempt(
         equations,
         subgoals,
     } = offer(alloc, store, signature, goal, head)?;
-    match solve(alloc, store, signature, equations)? {
+    all_left_over_are_left();
+    match solve_more(alloc, store, signature, equations)? {
         Unified::Never => Ok(None),
         Unified::Solved => Ok(Some(subgoals)),
         Unified::Left => Ok(Some(subgoals)),

@@ -24,22 +24,22 @@ read_answer-requires c =
     let (agenda, w) = c.requires.at in
     is_leaf es old old c.args.list agenda (at_list es old c.args.list agenda c.requires.place w) c.is_canonical.ensures c.requires.first (none_first c.equations.result.now old.store.now.equations c.equations.ensures c.in-None.ensures.value)
 
-pub returns-in_ok-shown-in-Some : goal.returns-in_ok-shown-in-Some
-returns-in_ok-shown-in-Some c = λ G len agenda w budget.
+pub returns-in_ok-shown-in-Some-clause-came : goal.returns-in_ok-shown-in-Some-clause-came
+returns-in_ok-shown-in-Some-clause-came c = λ G len agenda w budget.
     let old = c.args.self.now in
     let es = c.args.signature.now in
     let (rest, e) = some_first c.equations.result.now old.store.now.equations c.in-Some.equation.now c.equations.ensures c.in-Some.ensures.value in
     left_shown es old _ c.args.list agenda (at_list es old c.args.list agenda c.requires.place w) c.is_canonical.ensures c.requires.first G len budget refl refl refl refl refl refl c.in-Some.equation.now rest e c.in_ok-shown-in-Some.shown c.in_ok-shown-in-Some.ensures
 
-pub returns-in-Ok : goal.returns-in-Ok
-returns-in-Ok c = λ G len agenda w budget.
+pub returns-in-Ok-clause-came : goal.returns-in-Ok-clause-came
+returns-in-Ok-clause-came c = λ G len agenda w budget.
     let old = c.args.self.now in
     let es = c.args.signature.now in
     answer_shown es old _ c.args.list agenda (at_list es old c.args.list agenda c.requires.place w) c.is_canonical.ensures c.requires.first G len budget refl refl refl refl refl refl
     (none_first c.equations.result.now old.store.now.equations c.equations.ensures c.in-None.ensures.value) c.in-Ok.answer c.in-Ok.ensures.read
 
-pub returns-in-Err-TooDeep : goal.returns-in-Err-TooDeep
-returns-in-Err-TooDeep c = λ G len agenda w budget.
+pub returns-in-Err-TooDeep-clause-came : goal.returns-in-Err-TooDeep-clause-came
+returns-in-Err-TooDeep-clause-came c = λ G len agenda w budget.
     let old = c.args.self.now in
     let es = c.args.signature.now in
     let e : Err c.in-Err-TooDeep.field-0 ≡ Err TooDeep = cc in

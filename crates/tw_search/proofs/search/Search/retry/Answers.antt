@@ -1,12 +1,12 @@
 use Rattle.std.proofs.Common.{◌-◌, refl, reverse}
-use Rattle.std.proofs.lemmas.Result.{IfOk-weaker}
+use Rattle.std.proofs.lemmas.Result.{IfOk-weaker, on_err_weaker}
 use Rattle.tw_search.specs.Chains.{frames_of}
 use Rattle.tw_search.specs.Going.{Goes, GoesUp}
 use Rattle.tw_search.specs.Standing.{choices_of}
 use Rattle.tw_search.specs.declared.search.Search.{Search}
 use Rattle.tw_search.proofs.Going.{goes_from_same}
 use Rattle.tw_search.proofs.Leaving.{at_choices, end_came}
-use Rattle.tw_search.proofs.Standing.{can_go_back, nothing_stands, taken_up}
+use Rattle.tw_search.proofs.Standing.{can_go_back, gave_same, nothing_stands, taken_up}
 use Rattle.tw_search.proofs.search.Search.retry.Goals as goal
 
 pub undo_to-requires : goal.undo_to-requires
@@ -40,3 +40,14 @@ returns-in-Some-clause-goes c =
     (λ o up agenda w. goes_from_same es c.args.last old back new o agenda refl refl
     (up agenda (taken_up es old.store (frames_of old.frames) c.in-Some.choice (reverse c.pop_choice.new.choices.items) (choices_of old) agenda back c.in-Some.ensures (at_choices es old agenda c.requires.place w) c.undo_to.ensures c.shrink_to.ensures refl)))
     c.take_up.ensures.goes
+
+pub returns-in-Some-clause-gave_out : goal.returns-in-Some-clause-gave_out
+returns-in-Some-clause-gave_out c =
+    let old = c.args.self.now in
+    let new = c.take_up.new.self in
+    let es = c.args.signature.now in
+    let back : Search = record { store = c.undo_to.new.self; frames = c.shrink_to.new.self; choices = c.pop_choice.new.choices; place = old.place; variables = old.variables; tries = old.tries } in
+    on_err_weaker c.take_up.result
+    (λ up agenda w. gave_same es old back new new agenda c.args.last refl refl
+    (up agenda (taken_up es old.store (frames_of old.frames) c.in-Some.choice (reverse c.pop_choice.new.choices.items) (choices_of old) agenda back c.in-Some.ensures (at_choices es old agenda c.requires.place w) c.undo_to.ensures c.shrink_to.ensures refl)))
+    c.take_up.ensures.gave_out
