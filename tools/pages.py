@@ -28,15 +28,16 @@ CELL = 200
 README_LINES = 120
 PAGE_LINES = range(10, 41)
 EDITS = "## Refused edits"
+BY_HAND = "wrong-bodies"
 BELIEVED = "## To be believed"
 OF_PROOF = "## Of the proof"
-EDIT_WIDTH = 160
+EDIT_WIDTH = 190
 
 # Names in backticks that may stand in no source of ours.
 OTHER_WORDS = set(
     """
     %query %solve %mode %block %worlds %terminates %covers %total %theorem %reduces %freeze %thaw %unique %define %clause %use
-    top make help Config.read Config.load Print.subord Print.TeX.sgn OS.chDir Timers.show Trace.trace --generate
+    top make help Config.read Config.load Print.TeX.sgn OS.chDir Timers.show Trace.trace --generate
     Lexer Parser ParseTerm ParseConDec ParseFixity Names Fixity Index Origins IntSyn ConDec EVar FVar Sub Root Spine Approx ReconTerm ReconCondec
     Whnf Conv Unify Constraints Trail Abstract TypeCheck Print Formatter Twelf Server Strict Subordinate ModeCheck WorldSyn Terminate Cover Total
     AbsMachine Search Compile
@@ -144,22 +145,27 @@ def cells(text):
                 yield number, cell.strip()
 
 
-def edits_of(crate):
-    folder = f"{TOP}/crates/{crate}/must-fail"
+def edits_of(crate, part="must-fail"):
+    folder = f"{TOP}/crates/{crate}/{part}"
     return sorted(name[:-5] for name in os.listdir(folder) if name.endswith(".edit")) if os.path.isdir(folder) else []
 
 
 def edit_lines(crate):
-    """The lines that name the refused edits of a crate."""
-    lines, now = [], ""
-    for name in edits_of(crate):
+    """The lines that name the refused edits of a crate: those that the gate tries, and those that are tried by hand."""
+    return [*named_lines("", edits_of(crate)), *named_lines("By hand (`tools/wrong_bodies.py`): ", edits_of(crate, BY_HAND))]
+
+
+def named_lines(head, names):
+    """The names as a sentence behind its head, in lines."""
+    lines, now = [], head
+    for place, name in enumerate(names):
         word = f"`{name}`"
-        if now and len(now) + len(word) + 2 > EDIT_WIDTH:
+        if place and len(now) + len(word) + 2 > EDIT_WIDTH:
             lines.append(now + ",")
             now = word
         else:
-            now = f"{now}, {word}" if now else word
-    return [*lines, now + "."] if now else []
+            now = f"{now}, {word}" if place else now + word
+    return [*lines, now + "."] if names else []
 
 
 def edits_section(text):
@@ -257,7 +263,7 @@ def findings():
             yield path, number, what
         lines, first, last = edits_section(text)
         named = set(re.findall(r"`(\w+)`", "\n".join(lines[first:last]))) if first is not None else set()
-        for name in sorted(named ^ set(edits_of(crate))):
+        for name in sorted(named ^ {*edits_of(crate), *edits_of(crate, BY_HAND)}):
             yield path, first or 1, f"the refused edit {name} {'does not exist' if name in named else 'is not named'}"
     for begin, numbers in ladder_rows(definitions):
         if begin + numbers not in read("README.md"):

@@ -15,6 +15,8 @@ TOP = os.path.dirname(os.path.dirname(os.path.dirname(os.path.abspath(__file__))
 
 NUMBERS = "nat : type.\nz : nat.\ns : nat -> nat.\nplus : nat -> nat -> nat -> type.\n"
 RULES = NUMBERS + "plus-z : plus z N N.\nplus-s : plus (s M) N (s P) <- plus M N P.\n"
+CALLS = "nat : type.\ng : nat -> type.\nh : nat -> type.\nh-c : h X <- g X.\n"
+UNDETERMINED = "nat : type.\nf : nat -> nat -> type.\nf-a : f X Y.\n"
 OPEN = "a : type.\nc : a.\nk : a -> type.\nh : {x:a} k x -> type.\n"
 
 # Of the program itself: what stands before, the declaration, and its refusal with line and column.
@@ -34,6 +36,8 @@ REFUSED = [
     (OPEN, "j : k (E V).", "5:1 E7 Loose"),
     (OPEN, "m : h c (W : k (E (V : a))).", "5:1 E6 Leftover"),
     ("b : type.\n", "c : " + "b -> " * 4100 + "b.", "2:1 E10 TooDeep"),
+    (CALLS, "%mode h +X.", "5:1 E12 NotDeclared"),
+    (UNDETERMINED, "%mode f +X -Y.", "4:1 E13 ModeFault"),
 ]
 
 

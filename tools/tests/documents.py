@@ -31,6 +31,9 @@ BEFORE = {
     "E10": "b : type.\n",
     "E6": cases.OPEN,
     "E7": cases.OPEN,
+    "E12": cases.CALLS,
+    "E13": cases.UNDETERMINED,
+    "E22": cases.RULES + "vec : nat -> type.\nlen : vec N -> nat -> type.\n",
 }
 
 

@@ -36,6 +36,8 @@ use Rattle.law_explicit_agrees.proofs.Reconstructed.{explicit_reconstructed}
 use Rattle.tw_decl.specs.View.{View, IsSound, scene_of, with_entry}
 use Rattle.tw_decl.specs.Declaration.{IsWrittenAlone, entry_report, Makes}
 use Rattle.tw_decl.specs.Obstacles.{HasObstacle}
+use Rattle.tw_decl.specs.Reading as reading
+use Rattle.tw_decl.specs.Reading.{IsReadAs}
 use Rattle.tw_decl.specs.declared.refusal.Refusal.{Refusal}
 use Rattle.law_reading_back.specs.Laws.{ReadsAs, ReadsAsDefinition}
 use Rattle.law_session_order.specs.Laws.{ReadBackIsAccepted, KeptIsAccepted, OpenIsAccepted, NewIsAccepted}
@@ -114,8 +116,10 @@ pub record IsMadeAgain (v : View) (e : Entry) (text : List ℕ) (from upto : ℕ
   pub tokens : List Token
   pub through : ThroughDot text from tokens upto
   pub entry : Entry
+  pub declaration : Declaration
+  pub reads : IsReadAs v (lexemes text tokens) declaration
   pub makes : Makes v (lexemes text tokens) (entry_report v entry) (with_entry v entry)
-  pub free : (first : Place) (refusal : Refusal) → HasObstacle v makes.declaration first refusal → IsDeepOrMemory refusal
+  pub free : (first : Place) (refusal : Refusal) → HasObstacle v declaration first refusal → IsDeepOrMemory refusal
   pub name : entry.name ≡ e.name
   pub body : entry.body ≡ e.body
   pub implicit : entry.implicit ≡ zero
@@ -125,9 +129,10 @@ declared_made v e text from upto sound r k shallow =
     let words = lexemes text r.tokens in
     let h : IsCompletion v.signature e.name r.written r.entry = r.completes in
     let stands : IsCanonicalEntry (signature_of v.signature) r.entry = stands_too v.signature e.name r.written e r.entry k h r.same in
+    let reads : IsReadAs v words (declare e.name r.at r.written) = record { begins = (begins_known v.fixities words e.name r.at r.written r.reads, shallow r.tokens r.through); reads = r.reads } in
     let makes : Makes v words (entry_report v r.entry) (with_entry v r.entry) = record {
-      declaration = declare e.name r.at r.written;
-      reads = record { begins = (begins_known v.fixities words e.name r.at r.written r.reads, shallow r.tokens r.through); reads = r.reads };
+      read = reading.plain (declare e.name r.at r.written);
+      reads = reads;
       does = record {
         entry = r.entry;
         reconstructs = explicit_reconstructed v.signature sound (declare e.name r.at r.written) r.entry r.explicit h stands;
@@ -141,6 +146,8 @@ declared_made v e text from upto sound r k shallow =
       tokens = r.tokens;
       through = r.through;
       entry = r.entry;
+      declaration = d;
+      reads = reads;
       makes = makes;
       free = nothing_else v d (λ fault q. at_most v.signature d r.entry h fault (no_other_cause v.signature sound d r.explicit fault q));
       name = h.name;
@@ -170,9 +177,10 @@ module _ (v : View) (e : Entry) (text : List ℕ) (from upto : ℕ) (M : LfTerm)
         implicit_lead = omega arith;
         hint_each = length_fitted (body_quantifiers (declare_definition M A b)) (written_hints definition);
       } in
+      let reads : IsReadAs v words definition = record { begins = (define_known v.fixities words (Some e.name) (Some r.type_written) r.term_written b r.reads, shallow r.tokens r.through); reads = r.reads } in
       let makes : Makes v words (entry_report v again) (with_entry v again) = record {
-        declaration = definition;
-        reads = record { begins = (define_known v.fixities words (Some e.name) (Some r.type_written) r.term_written b r.reads, shallow r.tokens r.through); reads = r.reads };
+        read = reading.plain definition;
+        reads = reads;
         does = record {
           entry = again;
           reconstructs = explicit_definition_reconstructed v.signature sound (Some e.name) r.type_written r.term_written b A M (record { type_form = r.type_form; term_form = r.term_form }) (r.type_gives, r.term_gives) again (record { name = refl; body = refl; implicit = refl; hints = refl });
@@ -186,6 +194,8 @@ module _ (v : View) (e : Entry) (text : List ℕ) (from upto : ℕ) (M : LfTerm)
         tokens = r.tokens;
         through = r.through;
         entry = again;
+        declaration = definition;
+        reads = reads;
         makes = makes;
         free = nothing_else v definition (λ fault q. definition_no_other v.signature sound (Some e.name) r.type_written r.term_written b A M form (r.type_gives, r.term_gives) fault q);
         name = refl;
@@ -220,7 +230,7 @@ read_accepted v e text upto all sound r k limits =
       report = entry_report v m.entry;
       entry = m.entry;
       accepts = record { words = words; end = end; next = next; written = written; alone = refl; makes = m.makes };
-      refused = refused_at_most_so v text words end next written refl m.makes.declaration m.makes.reads m.free;
+      refused = refused_at_most_so v text words end next written refl m.declaration m.reads m.free;
       name = m.name;
       body = m.body;
     }

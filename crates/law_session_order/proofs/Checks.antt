@@ -21,7 +21,9 @@ use Rattle.tw_parse.specs.Words.{Lexeme}
 use Rattle.tw_print.specs.Shown.{declaration_line}
 use Rattle.tw_recon.specs.Reconstruction.{IsReconstructed}
 use Rattle.tw_decl.specs.View.{View, with_entry, scene_of, told}
-use Rattle.tw_decl.specs.Declaration.{entry_line, Does, Enters, Makes}
+use Rattle.tw_decl.specs.Declaration.{entry_line, Enters, Makes, ReadDoes}
+use Rattle.tw_decl.specs.Reading as reading
+use Rattle.tw_decl.specs.Reading.{IsReadAs, Read, Reads}
 use Rattle.tw_decl.specs.Reports.{Reported, lines_alone}
 use Rattle.law_reading_back.specs.Laws.{IsInOrder, IsOpenDefinition, IsTypedDefinition}
 use Rattle.law_reading_back.specs.Names.{HasRoom, HasNoImplicit}
@@ -147,10 +149,11 @@ unnamed_back v w words report A M b all r h o i room =
       reads_back = check_back v h.entry o i room d typed;
     }
 
-made_check_back : (v w : View) (words : List Lexeme) (report : Reported) (A : Option Term) (M : Term) (b : Bool) (m : Makes v words report w) → m.declaration ≡ define None A M b → AreSpelled words → IsViewInOrder v → v.parameters.implicit ≡ false → HasRoom (scene_of v)
+made_check_back : (v w : View) (words : List Lexeme) (report : Reported) (A : Option Term) (M : Term) (b : Bool) (m : Makes v words report w) → m.read ≡ reading.plain (define None A M b) → AreSpelled words → IsViewInOrder v → v.parameters.implicit ≡ false → HasRoom (scene_of v)
     → ReportsCheck v report
 made_check_back v w words report A M b m q all o i room =
-    unnamed_back v w words report A M b all (subst (Declares v.fixities words) q m.reads.reads) (subst (λ (x : Declaration). Does v x report w) q m.does) o i room
+    let r : IsReadAs v words (define None A M b) = subst (Reads v words) q m.reads in
+    unnamed_back v w words report A M b all r.reads (subst (λ (x : Read). ReadDoes v x report w) q m.does) o i room
 
 pub check_report_back : CheckReportReadsBack
 check_report_back v w text report a A M b q o i room = made_check_back v w a.words report A M b a.makes q (written_spelled a.written.written) o i room

@@ -28,8 +28,9 @@ use Rattle.tw_recon.specs.Hints.{fitted, written_hints}
 use Rattle.tw_recon.specs.Reconstruction.{IsReconstructed, declared_name}
 use Rattle.tw_recon.proofs.OfRows.{AreOfRows, hints_of_rows}
 use Rattle.tw_signature.specs.Names.{number_of}
-use Rattle.tw_decl.specs.View.{View, with_chatter, with_implicit, with_steps, with_entry, scene_of}
-use Rattle.tw_decl.specs.Declaration.{IsWritten, Enters, is_unnamed, GivesRows, Prefers, Does}
+use Rattle.tw_decl.specs.Reading.{Read, plain, check, Reads}
+use Rattle.tw_decl.specs.View.{View, with_mode, with_chatter, with_implicit, with_steps, with_entry, scene_of}
+use Rattle.tw_decl.specs.Declaration.{IsWritten, Enters, is_unnamed, GivesRows, Prefers, Does, ReadDoes}
 use Rattle.tw_decl.specs.Reports.{Reported}
 use Rattle.tw_decl.specs.Operators.{entry_by, newest, explicit_count, operand_count, takes, all_take, with_rows}
 use Rattle.law_reading_back.specs.Names.{IsName, AreGoodHints, PreferNames, HasGoodRows}
@@ -216,8 +217,17 @@ preferred_keeps v w a x y report n h o =
       rows = o.rows;
     })
 
+pub same_parts : (v u : View) → u.signature ≡ v.signature → u.fixities ≡ v.fixities → u.names ≡ v.names → IsViewInOrder v → IsViewInOrder u
+same_parts v u p q r o = record {
+  sound = subst IsCanonicalSignature (sym p) o.sound;
+  names = subst (λ es. (c : ℕ) (e : Entry) → entry es c ≡ Some e → IsName e.name) (sym p) o.names;
+  hints = subst (λ es. (c : ℕ) (e : Entry) → entry es c ≡ Some e → AreGoodHints e.hints) (sym p) o.hints;
+  preferences = subst (λ m. (a : ℕ) (row : Preferences) → get m a ≡ Some row → PreferNames row) (sym r) o.preferences;
+  rows = subst (λ t. AreRight u.signature t) (sym q) (subst (λ es. AreRight es v.fixities) (sym p) o.rows);
+}
+
 pub making_keeps : MakingKeepsOrder
-making_keeps v w words report all m o = by_declaration m.declaration m.reads.reads m.does
+making_keeps v w words report all m o = by_read m.read m.reads m.does
   where
     by_declaration : (d : Declaration) → Declares v.fixities words d → Does v d report w → IsViewInOrder w
     by_declaration (declare c at U) r h =
@@ -227,6 +237,10 @@ making_keeps v w words report all m o = by_declaration m.declaration m.reads.rea
         let n = defined_named v.fixities words (Some c) A M b all r in entered_keeps v w words (define (Some c) A M b) report all r (n.0 c refl) n.1 refl h o
     by_declaration (prefer a x y) r h = preferred_keeps v w a x y report (preferred_names v.fixities words a x y all r) h o
     by_declaration (give fix names) r h = given_keeps v w fix names report h o
+
+    by_read : (x : Read) → Reads v words x → ReadDoes v x report w → IsViewInOrder w
+    by_read (plain d) r h = by_declaration d r.reads h
+    by_read (check c) r h = subst IsViewInOrder (sym h.keeps) (same_parts v (with_mode v h.family h.marks) refl refl refl o)
 
 pub written_spelled : {text : List ℕ} {from upto : ℕ} {words : List Lexeme} {end : _} → IsWritten text from upto words end → AreSpelled words
 written_spelled {text = text} {from = from} {upto = upto} w = subst AreSpelled (sym w.spelled) (tokens_spelled text from upto w.tokens w.through)
@@ -245,15 +259,6 @@ new_in_order = (
   where
     none_there : (a : ℕ) (row : Preferences) → get {R = nat_cmp} empty a ≡ Some row → PreferNames row
     none_there a row q = let clash : None ≡ Some row = sym (get-empty nat_cmp a) ∙ q in cc
-
-pub same_parts : (v u : View) → u.signature ≡ v.signature → u.fixities ≡ v.fixities → u.names ≡ v.names → IsViewInOrder v → IsViewInOrder u
-same_parts v u p q r o = record {
-  sound = subst IsCanonicalSignature (sym p) o.sound;
-  names = subst (λ es. (c : ℕ) (e : Entry) → entry es c ≡ Some e → IsName e.name) (sym p) o.names;
-  hints = subst (λ es. (c : ℕ) (e : Entry) → entry es c ≡ Some e → AreGoodHints e.hints) (sym p) o.hints;
-  preferences = subst (λ m. (a : ℕ) (row : Preferences) → get m a ≡ Some row → PreferNames row) (sym r) o.preferences;
-  rows = subst (λ t. AreRight u.signature t) (sym q) (subst (λ es. AreRight es v.fixities) (sym p) o.rows);
-}
 
 pub setting_keeps : SettingKeepsOrder
 setting_keeps v n b o = (same_parts v (with_chatter v n) refl refl refl o, same_parts v (with_implicit v b) refl refl refl o, same_parts v (with_steps v n) refl refl refl o)

@@ -19,7 +19,9 @@ use Rattle.tw_print.specs.Pieces.{render}
 use Rattle.tw_print.specs.Shown.{declaration_line, keyword, scene_after}
 use Rattle.tw_signature.specs.Names.{number_of}
 use Rattle.tw_decl.specs.View.{View, with_entry, scene_of, told}
-use Rattle.tw_decl.specs.Declaration.{entry_line, entry_report, Does, Makes}
+use Rattle.tw_decl.specs.Declaration.{entry_line, entry_report, Does, Makes, ReadDoes}
+use Rattle.tw_decl.specs.Reading as reading
+use Rattle.tw_decl.specs.Reading.{Read}
 use Rattle.tw_decl.specs.Reports.{Reported, lines_alone}
 use Rattle.law_reading_back.specs.Laws.{IsInOrder, IsTypedDefinition, IsTypedEntry, IsDeclared, IsOpenEntry, ReadsAs}
 use Rattle.law_reading_back.specs.Names.{IsName, HasRoom, AgreeOn, EachIs, IsPlainByte, HasNoImplicit}
@@ -164,7 +166,7 @@ no_more : (e : Entry) (es : List Entry) → es ≡ e ∷ es → ⊥
 no_more e es h = let n = ap length h in omega (arith, n)
 
 made_back : (v w : View) (words : List Lexeme) (report : Reported) (e : Entry) → AreSpelled words → Makes v words report w → w.signature ≡ e ∷ v.signature → IsViewInOrder v → v.parameters.implicit ≡ false → HasRoom (scene_of w) → Reports v w report e
-made_back v w words report e all m grows o i room = by_declaration m.declaration m.does
+made_back v w words report e all m grows o i room = by_read m.read m.does
   where
     in_order : IsViewInOrder w
     in_order = making_keeps v w words report all m o
@@ -183,6 +185,10 @@ made_back v w words report e all m grows o i room = by_declaration m.declaration
     by_declaration (define (Some c) A M b) h = by_entry h.entry h.keeps h.says
     by_declaration (prefer b x y) h = absurd (no_more e v.signature (sym (ap (λ (u : View). u.signature) h.keeps) ∙ grows))
     by_declaration (give fix names) h = absurd (no_more e v.signature (sym (ap (λ (u : View). u.signature) h.keeps) ∙ grows))
+
+    by_read : (x : Read) → ReadDoes v x report w → Reports v w report e
+    by_read (reading.plain d) h = by_declaration d h
+    by_read (reading.check c) h = absurd (no_more e v.signature (sym (ap (λ (u : View). u.signature) h.keeps) ∙ grows))
 
 pub report_back : ReportReadsBack
 report_back v w text report e a grows o i room = made_back v w a.words report e (written_spelled a.written.written) a.makes grows o i room

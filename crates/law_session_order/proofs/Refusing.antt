@@ -6,8 +6,6 @@ use Rattle.tw_lexer.specs.declared.place.Place.{Place}
 use Rattle.tw_lexer.specs.declared.token.Token.{Token}
 use Rattle.tw_lexer.specs.declared.token.TokenKind.TheVariants.{End}
 use Rattle.tw_lexer.proofs.TokensUnique.{tokens_unique, fault_excludes, too_many_excludes}
-use Rattle.tw_parse.proofs.OneReading.{one_reading}
-use Rattle.tw_parse.specs.Faults.{FaultStands}
 use Rattle.tw_parse.specs.Syntax.{Declaration}
 use Rattle.tw_parse.specs.Words.{Lexeme, lexemes, first_place}
 use Rattle.tw_parse.specs.declared.fault.SyntaxFault.{SyntaxFault}
@@ -17,9 +15,10 @@ use Rattle.tw_recon.specs.declared.fault.ReconFault.{ReconFault}
 use Rattle.tw_recon.specs.declared.fault.ReconFault.TheVariants as reconstructions
 use Rattle.law_explicit_agrees.specs.Definitions.{DefinitionMayBeRefused}
 use Rattle.tw_decl.specs.View.{View}
-use Rattle.tw_decl.specs.Declaration.{IsWrittenAlone, IsReadAs, IsFaultBehind, IsNotMade, IsFirstCause, IsFollowed, IsLastCause, IsCauseAlone, HasCause}
-use Rattle.tw_decl.specs.Obstacles.{IsNotEntered, HasObstacle}
-use Rattle.tw_decl.proofs.Faultless.{read_faultless}
+use Rattle.tw_decl.specs.Declaration.{IsWrittenAlone, IsFaultBehind, IsNotMade, IsFirstCause, IsFollowed, IsLastCause, IsCauseAlone, HasCause}
+use Rattle.tw_decl.specs.Obstacles.{IsNotEntered, HasObstacle, ReadHasObstacle}
+use Rattle.tw_decl.specs.Reading.{IsReadAs, Read, ReadFault}
+use Rattle.tw_decl.proofs.Faultless.{of_grammar, only_read, read_faultless}
 use Rattle.tw_decl.specs.declared.refusal.Refusal.{Refusal}
 use Rattle.tw_decl.specs.declared.refusal.Refusal.TheVariants.{Memory, Lex, TooMany, Unsupported, Nesting, Syntax, Fixity, BadDecl, Unknown, Loose, Mismatch, Leftover, TooDeep}
 use Rattle.law_session_order.specs.Order.{IsDeepOrMemory}
@@ -43,8 +42,8 @@ nothing_else v d f first refusal h = absurd h
 -- a text that is read as such a declaration, and nothing follows it
 module _ (v : View) (text : List ℕ) (words : List Lexeme) (end : Place) (next : Token) (w : IsWrittenAlone text words end next) (alone : next.kind ≡ End) (d : Declaration) (r : IsReadAs v words d)
     (free : (first : Place) (refusal : Refusal) → HasObstacle v d first refusal → IsDeepOrMemory refusal) where
-  faultless : (fault : SyntaxFault) → FaultStands v.fixities end words fault → fault ≡ faults.NoMemory
-  faultless fault h = read_faultless v.fixities end words d r.begins r.reads fault h
+  faultless : (fault : SyntaxFault) → ReadFault v end words fault → fault ≡ faults.NoMemory
+  faultless fault h = read_faultless v.fixities end words d r.begins r.reads fault (of_grammar v end words fault r.begins h)
 
   of_first : (refusal : Refusal) → IsFirstCause v end words refusal → IsDeepOrMemory refusal
   of_first Memory h = tt
@@ -59,8 +58,7 @@ module _ (v : View) (text : List ℕ) (words : List Lexeme) (end : Place) (next 
 
   not_made : (refusal : Refusal) → IsNotMade v end words refusal → IsDeepOrMemory refusal
   not_made refusal h =
-      let same = (one_reading v.fixities words d r.reads).0 h.declaration h.reads.reads in
-      free (first_place end words) refusal (subst (λ (x : Declaration). HasObstacle v x (first_place end words) refusal) same h.obstacle)
+      free (first_place end words) refusal (subst (λ (x : Read). ReadHasObstacle v x (first_place end words) refusal) (only_read v words d r h.read h.reads) h.obstacle)
 
   of_last : (refusal : Refusal) → IsLastCause v end words refusal → IsDeepOrMemory refusal
   of_last Memory h = tt

@@ -18,6 +18,7 @@ use Rattle.tw_recon.specs.Hints.{written_hints}
 use Rattle.law_reading_back.specs.Names.{IsName, AreGoodHints, PreferNames, HasRoom, HasNoImplicit}
 use Rattle.tw_decl.specs.View.{View, empty_view, reset_view, with_chatter, with_implicit, with_steps, with_entry, scene_of, told, IsSound}
 use Rattle.tw_decl.specs.Declaration.{Makes, Accepts, AcceptsFrom}
+use Rattle.tw_decl.specs.Reading.{plain}
 use Rattle.tw_decl.specs.Reports.{Reported, lines_alone}
 use Rattle.tw_ports.specs.Files.{Held}
 use Rattle.tw_server.specs.Loading.{first_lines}
@@ -147,10 +148,10 @@ pub record ReportsCheck (v : View) (report : Reported) : Type 0 where
 
 -- what an accepted definition without a name reports reads back
 abbrev pub CheckReportReadsBack : Type 0
-CheckReportReadsBack = (v w : View) (text : List ℕ) (report : Reported) (a : Accepts v text report w) (A : Option Term) (M : Term) (b : Bool) → a.makes.declaration ≡ define None A M b → IsViewInOrder v → v.parameters.implicit ≡ false → HasRoom (scene_of v)
+CheckReportReadsBack = (v w : View) (text : List ℕ) (report : Reported) (a : Accepts v text report w) (A : Option Term) (M : Term) (b : Bool) → a.makes.read ≡ plain (define None A M b) → IsViewInOrder v → v.parameters.implicit ≡ false → HasRoom (scene_of v)
     → ReportsCheck v report
 
 -- the same of a declaration in a text of several
 abbrev pub CheckReportFromReadsBack : Type 0
-CheckReportFromReadsBack = (v w : View) (text : List ℕ) (report : Reported) (from upto : ℕ) (a : AcceptsFrom v text from report upto w) (A : Option Term) (M : Term) (b : Bool) → a.makes.declaration ≡ define None A M b → IsViewInOrder v
+CheckReportFromReadsBack = (v w : View) (text : List ℕ) (report : Reported) (from upto : ℕ) (a : AcceptsFrom v text from report upto w) (A : Option Term) (M : Term) (b : Bool) → a.makes.read ≡ plain (define None A M b) → IsViewInOrder v
     → v.parameters.implicit ≡ false → HasRoom (scene_of v) → ReportsCheck v report

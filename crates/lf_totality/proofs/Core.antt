@@ -2,10 +2,11 @@
 use Rattle.lf.specs.Entries.{quantifiers}
 use Rattle.lf_checks.specs.Tests.{both, choose, either}
 use Rattle.lf_totality.specs.Total.{TotalAt}
+use Rattle.lf_totality.specs.Facts.{AreSolved}
 use Rattle.lf_checks.specs.Marks.{Mark, SamePlaces, TypedPlaces, UsesPlaces, input_places}
 use Rattle.lf_checks.specs.Worlded.{IsTerm}
 use Rattle.lf_checks.specs.Ground.{EachSubgoal, Subgoals, UsesGoal, ground_after, ground_first}
-use Rattle.lf_checks.specs.Clause.{Clause, is_variable, outside, scope, variables, with_newest}
+use Rattle.lf_checks.specs.Clause.{Clause, IsSubgoal, is_variable, outside, scope, variables, with_newest}
 use Rattle.lf_unification.specs.Search.{occurs_type}
 use Rattle.lf_cases.specs.Cover.{AgreesOutside, AreTerms, outer_images, OutputsCovered}
 use Rattle.std.proofs.Common.{◌≡◌, ℕ, zero, suc, List, [], ◌∷◌, ◌<◌, ◌≤◌, ◌+◌, length, refl, sym, ap, ◌∙◌, subst, arith, inl, inr}
@@ -14,11 +15,11 @@ use Rattle.lf_checks.specs.Marks.{MentionChosenOnly}
 use Rattle.lf.specs.Syntax.{Head, variable, Term, Spine, root, nil, app, LfType, Kind, pi, atom, Skeleton, base, skeleton, weaken}
 use Rattle.lf.specs.Substitution.{Image, put, lift, substitute_spine, substitute_type, substitute_kind, reduce}
 use Rattle.lf.specs.Typing.{Signature, TypeAt, HeadHasType, HasType, SpineType, SpineFitsKind, IsType, IsContext, IsSignature, ImageHasType}
-use Rattle.lf.specs.Variables.{target, target_arguments, binders, under, UsesSpine, UsesType, Values, Within, SameOn, everything, nothing, same_number, hide}
+use Rattle.lf.specs.Variables.{target, target_arguments, binders, under, with_arguments, UsesSpine, UsesType, Values, Within, SameOn, everything, nothing, same_number, hide}
 use Rattle.lf.proofs.TypeLaws.{skeleton_renamed, skeleton_substituted}
 use Rattle.lf.proofs.Closed.{agree_type, closed_kind_substituted}
 use Rattle.lf.proofs.Weakening.{declared_is_type}
-use Rattle.lf.proofs.Agreement.{agree_on, agree_on_spine, agree_on_type, uses_within}
+use Rattle.lf.proofs.Agreement.{agree_on, agree_on_spine, agree_on_type, uses_within, uses_type_within}
 use Rattle.lf.proofs.Partial.{skeletons_beside, PartialSubstitution, partial_lift, skeleton_context_of_beside, type_by_skeletons_beside, kind_by_skeletons_beside, partial_substitution_keeps_kind_spines, uses_spine_all}
 use Rattle.lf.proofs.Substitution.{family_kind}
 use Rattle.lf.proofs.Patch.{pick, patch, patch_same, patched, patch_values}
@@ -134,7 +135,7 @@ module _ (Σ : Signature) (ok : IsSignature Σ) (m : ℕ → List Mark) (I : Typ
   pub record SubgoalOk (a : I) (G : List LfType) (c : Clause) (θ : ℕ → Image) (U : ℕ → Bool) (A : LfType) : Type 0 where
     pub needs : UsesGoal U (input_places (m (target A))) A
     pub kind : (K : Kind) × (Σ.kinds (target A) ≡ Some K) × MentionChosenOnly nothing (input_places (m (target A))) K
-    pub call : (σ : ℕ → Image) → Values Σ U (scope c) G σ → PartialSubstitution Σ ok [] (skeletons_beside [] (scope c)) U (scope c) G σ → AgreesOutside c σ θ → CallOk a G (substitute_type reduce σ A) (substitute_spine reduce σ (target_arguments c.type))
+    pub call : (i : ℕ) → IsSubgoal c i A → (σ : ℕ → Image) → Values Σ U (scope c) G σ → PartialSubstitution Σ ok [] (skeletons_beside [] (scope c)) U (scope c) G σ → AgreesOutside c σ θ → AreSolved Σ G c i σ → CallOk a G (substitute_type reduce σ A) (substitute_spine reduce σ (target_arguments c.type))
     pub outputs : (σ : ℕ → Image) → Values Σ U (scope c) G σ → AgreesOutside c σ θ → AreTerms c U σ → (T : Spine) (K : Kind) → Σ.kinds (target A) ≡ Some K → SamePlaces (input_places (m (target A))) (target_arguments (substitute_type reduce σ A)) T → SpineFitsKind Σ (binders G (substitute_type reduce σ A)) T K → OutputsCovered Σ m c U A G σ T
 
   pub record ClauseOk (a : I) (G : List LfType) (h : Head) (c : Clause) (θ : ℕ → Image) : Type 0 where
@@ -149,14 +150,20 @@ module _ (Σ : Signature) (ok : IsSignature Σ) (m : ℕ → List Mark) (I : Typ
   abbrev pub Covered : I → List LfType → Spine → Type 0
   Covered a G S = (h : Head) × (c : Clause) × (θ : ℕ → Image) × (σ : ℕ → Image) × ClauseOk a G h c θ × Values Σ (ground_first m c) (scope c) G σ × AgreesOutside c σ θ × AreTerms c (ground_first m c) σ × SamePlaces (input_places (m (family a))) S (substitute_spine reduce σ (target_arguments c.type)) × UsesPlaces (ground_first m c) (input_places (m (family a))) (target_arguments c.type)
 
-  -- what is known of the values before a subgoal
-  record State (a : I) (G : List LfType) (c : Clause) (θ : ℕ → Image) (S : Spine) (U : ℕ → Bool) (σ : ℕ → Image) : Type 0 where
+  -- what is known before index i: the values of what is ground, and an inhabitant of each subgoal that is solved
+  record State (a : I) (G : List LfType) (c : Clause) (θ : ℕ → Image) (S : Spine) (i : ℕ) (U : ℕ → Bool) (σ : ℕ → Image) : Type 0 where
     values : Values Σ U (scope c) G σ
     over : AgreesOutside c σ θ
     terms : AreTerms c U σ
     plus : SamePlaces (input_places (m (family a))) S (substitute_spine reduce σ (target_arguments c.type))
     uses : UsesPlaces U (input_places (m (family a))) (target_arguments c.type)
     outer_in : Within (outside c.type everything) U
+    proofs : ℕ → Term
+    proved : (j : ℕ) (A : LfType) → j < i → IsSubgoal c j A → UsesType U A × HasType Σ G (proofs j) (substitute_type reduce σ A)
+
+  -- the inhabitants, under values that are the same where it is ground
+  solved_same : (a : I) (G : List LfType) (c : Clause) (θ : ℕ → Image) (S : Spine) (i : ℕ) (U : ℕ → Bool) (σ τ : ℕ → Image) → SameOn U σ τ → State a G c θ S i U σ → AreSolved Σ G c i τ
+  solved_same a G c θ S i U σ τ same st j A l v = let (u, t) = st.proved j A l v in (st.proofs j, subst (HasType Σ G (st.proofs j)) (agree_on_type reduce U σ τ A same u) t)
 
   over_same : (c : Clause) (θ : ℕ → Image) (U : ℕ → Bool) (σ τ : ℕ → Image) → Within (outside c.type everything) U → SameOn U σ τ → AgreesOutside c σ θ → AgreesOutside c τ θ
   over_same c θ U σ τ w s o k X g = outer_at c.type τ k ∙ sym (s (out_index c.type k) (w (out_index c.type k) (outside_at c.type everything k))) ∙ sym (outer_at c.type σ k) ∙ o k X g
@@ -172,12 +179,27 @@ module _ (Σ : Signature) (ok : IsSignature Σ) (m : ℕ → List Mark) (I : Typ
   called a G P H x K q ih (inl t) k i = t K (target_arguments P) k i
   called a G P H x K q ih (inr (b, e, w, l)) k i = subst (λ f. Found f (binders G P) (target_arguments P) K) e (ih b (binders G P) w (target_arguments P) (subst (LexLt (mu b (target_arguments P))) q l) K (ap Σ.kinds e ∙ k) (subst (λ f. TypedPlaces Σ (input_places (m f)) (binders G P) (target_arguments P) K) (sym e) i))
 
-  -- one subgoal
-  abbrev Solved1 : I → List LfType → Clause → (ℕ → Image) → Spine → (ℕ → Bool) → (ℕ → Image) → LfType → Type 0
-  Solved1 a G c θ S U σ A = (σ' : ℕ → Image) × (M : Term) × State a G c θ S (ground_after m c A U) σ' × SameOn U σ σ' × UsesType (ground_after m c A U) A × HasType Σ G M (substitute_type reduce σ' A)
+  TypeAt-same : (C : List LfType) (j : ℕ) (A B : LfType) → TypeAt C j A → TypeAt C j B → A ≡ B
+  TypeAt-same [] j A B g h = absurd g
+  TypeAt-same (X ∷ C) zero A B g h = g ∙ sym h
+  TypeAt-same (X ∷ C) (suc j) A B (A', g, e) (B', h, f) = e ∙ ap weaken (TypeAt-same C j A' B' g h) ∙ sym f
 
-  solve1 : (a : I) (mu_plus : (S T : Spine) → SamePlaces (input_places (m (family a))) S T → mu a S ≡ mu a T) (G : List LfType) (c : Clause) (θ : ℕ → Image) (S : Spine) (U : ℕ → Bool) (σ : ℕ → Image) (i : ℕ) (A : LfType) → IsContext Σ G → IsContext Σ (scope c) → Hyp (mu a S) → State a G c θ S U σ → TypeAt (scope c) i A → SubgoalOk a G c θ U A → Solved1 a G c θ S U σ A
-  solve1 a mu_plus G c θ S U σ i A g cc' ih st at sg =
+  true≢false : true ≡ false → ⊥
+  true≢false e = cc
+
+  -- an index before the next one is before this one, or this one
+  before_next : (i j : ℕ) → j < suc i → same_number i j ≡ false → j < i
+  before_next i j l q = apart i j l (λ w. true≢false (sym (same_number_self i) ∙ ap (same_number i) w ∙ q))
+    where
+      apart : (i j : ℕ) → j < suc i → (i ≡ j → ⊥) → j < i
+      apart i j l w = omega arith
+
+  -- one subgoal
+  abbrev Solved1 : I → List LfType → Clause → (ℕ → Image) → Spine → ℕ → (ℕ → Bool) → LfType → Type 0
+  Solved1 a G c θ S i U A = (σ' : ℕ → Image) × State a G c θ S (suc i) (ground_after m c A U) σ'
+
+  solve1 : (a : I) (mu_plus : (S T : Spine) → SamePlaces (input_places (m (family a))) S T → mu a S ≡ mu a T) (G : List LfType) (c : Clause) (θ : ℕ → Image) (S : Spine) (i : ℕ) (U : ℕ → Bool) (σ : ℕ → Image) (A : LfType) → IsContext Σ G → IsContext Σ (scope c) → Hyp (mu a S) → State a G c θ S i U σ → IsSubgoal c i A → SubgoalOk a G c θ U A → Solved1 a G c θ S i U A
+  solve1 a mu_plus G c θ S i U σ A g cc' ih st (none, at) sg =
       let τ : ℕ → Image = patch U G σ in
       let st_same : SameOn U σ τ = patch_same U G σ in
       let v : Values Σ U (scope c) G τ = patch_values Σ ok U (scope c) G σ st.values in
@@ -189,87 +211,59 @@ module _ (Σ : Signature) (ok : IsSignature Σ) (m : ℕ → List Mark) (I : Typ
       let k : Σ.kinds (target P) ≡ Some K = ap Σ.kinds p ∙ (sg.kind).1 in
       let i0 : TypedPlaces Σ (input_places (m (target A))) (binders G P) (target_arguments P) K = call_inputs Σ ok (input_places (m (target A))) K A (skeletons_beside [] (scope c)) U (scope c) G τ (patched Σ ok U (scope c) G σ cc' g st.values) (declared_is_type Σ ok (scope c) i A cc' at) sg.needs (sg.kind).2 (sg.kind).1 in
       let i1 : TypedPlaces Σ (input_places (m (target P))) (binders G P) (target_arguments P) K = subst (λ b. TypedPlaces Σ (input_places (m b)) (binders G P) (target_arguments P) K) (sym p) i0 in
-      let (T, M, e, s, n) = called a G P (substitute_spine reduce τ (target_arguments c.type)) (mu a S) K (sym (mu_plus S (substitute_spine reduce τ (target_arguments c.type)) plus)) ih (sg.call τ v (patched Σ ok U (scope c) G σ cc' g st.values) o) k i1 in
+      let (T, M, e, s, n) = called a G P (substitute_spine reduce τ (target_arguments c.type)) (mu a S) K (sym (mu_plus S (substitute_spine reduce τ (target_arguments c.type)) plus)) ih (sg.call i (none, at) τ v (patched Σ ok U (scope c) G σ cc' g st.values) o (solved_same a G c θ S i U σ τ st_same st)) k i1 in
       let e' : SamePlaces (input_places (m (target A))) (target_arguments P) T = subst (λ b. SamePlaces (input_places (m b)) (target_arguments P) T) p e in
-      let out : OutputsCovered Σ m c U A G τ T = sg.outputs τ v o (λ j u w. subst IsTerm (st_same j w) (st.terms j u w)) T K (sg.kind).1 e' s in
-      let σ' : ℕ → Image = out.values in
-      let same' : SameOn U σ σ' = λ j w. st_same j w ∙ out.same j w in (
-        σ',
-        lams P M,
-        record {
-          values = out.typed;
-          over = over_same c θ U σ σ' st.outer_in same' st.over;
-          terms = out.terms;
-          plus = SamePlaces-agree reduce U σ σ' (input_places (m (family a))) S (target_arguments c.type) same' st.uses st.plus;
-          uses = UsesPlaces-within U (ground_after m c A U) (input_places (m (family a))) (target_arguments c.type) (grows m c A U) st.uses;
-          outer_in = λ j w. grows m c A U j (st.outer_in j w);
-        },
-        same',
-        out.uses,
-        subst (HasType Σ G (lams P M)) (sym out.is_instance) (lams_typed Σ P G M T n),
-      )
+      after τ st_same T (sg.outputs τ v o (λ j u w. subst IsTerm (st_same j w) (st.terms j u w)) T K (sg.kind).1 e' s) (lams P M) (lams_typed Σ P G M T n)
+    where
+      -- it is proved now, and what was proved before stays so
+      proved_on : (σ' : ℕ → Image) → SameOn U σ σ' → (N : Term) → UsesType (ground_after m c A U) A → HasType Σ G N (substitute_type reduce σ' A) → (j : ℕ) (B : LfType) → j < suc i → IsSubgoal c j B → (b : Bool) → same_number i j ≡ b → UsesType (ground_after m c A U) B × HasType Σ G (pick b N (st.proofs j)) (substitute_type reduce σ' B)
+      proved_on σ' same N us n j B l (w, h) true q =
+          let e : A ≡ B = TypeAt-same (scope c) j A B (subst (λ k. TypeAt (scope c) k A) (same_number_equal i j q) at) h in
+          (subst (UsesType (ground_after m c A U)) e us, subst (λ X. HasType Σ G N (substitute_type reduce σ' X)) e n)
+      proved_on σ' same N us n j B l w false q =
+          let (u, t) = st.proved j B (before_next i j l q) w in
+          (uses_type_within U (ground_after m c A U) B (grows m c A U) u, subst (HasType Σ G (st.proofs j)) (agree_on_type reduce U σ σ' B same u) t)
 
-  -- all subgoals from quantifier i on
-  record Solved (a : I) (G : List LfType) (c : Clause) (θ : ℕ → Image) (S : Spine) (i : ℕ) (U : ℕ → Bool) (σ : ℕ → Image) : Type 0 where
+      -- the values that the outputs give
+      after : (τ : ℕ → Image) → SameOn U σ τ → (T : Spine) → OutputsCovered Σ m c U A G τ T → (N : Term) → HasType Σ G N (with_arguments (substitute_type reduce τ A) T) → Solved1 a G c θ S i U A
+      after τ st_same T out N n =
+          let same : SameOn U σ out.values = λ j w. st_same j w ∙ out.same j w in (
+            out.values,
+            record {
+              values = out.typed;
+              over = over_same c θ U σ out.values st.outer_in same st.over;
+              terms = out.terms;
+              plus = SamePlaces-agree reduce U σ out.values (input_places (m (family a))) S (target_arguments c.type) same st.uses st.plus;
+              uses = UsesPlaces-within U (ground_after m c A U) (input_places (m (family a))) (target_arguments c.type) (grows m c A U) st.uses;
+              outer_in = λ j w. grows m c A U j (st.outer_in j w);
+              proofs = λ j. pick (same_number i j) N (st.proofs j);
+              proved = λ j B l w. proved_on out.values same N out.uses (subst (HasType Σ G N) (sym out.is_instance) n) j B l w (same_number i j) refl;
+            },
+          )
+
+  -- all subgoals
+  record Solved (a : I) (G : List LfType) (c : Clause) (θ : ℕ → Image) (S : Spine) : Type 0 where
     set : ℕ → Bool
     all_values : ℕ → Image
-    proofs : ℕ → Term
-    state : State a G c θ S set all_values
-    same : SameOn U σ all_values
+    state : State a G c θ S (quantifiers c.type) set all_values
     full : Within (variables c) set
-    proved : (j : ℕ) (A : LfType) → i ≤ j → TypeAt (scope c) j A → variables c j ≡ false → HasType Σ G (proofs j) (substitute_type reduce all_values A)
 
-  abbrev Final : (ℕ → Bool) → Clause → Type 0
-  Final U c = Within (variables c) U
-
-  true≢false : true ≡ false → ⊥
-  true≢false e = cc
-
-  skip : (a : I) (G : List LfType) (c : Clause) (θ : ℕ → Image) (S : Spine) (i : ℕ) (U : ℕ → Bool) (σ : ℕ → Image) → variables c i ≡ true → Solved a G c θ S (suc i) U σ → Solved a G c θ S i U σ
-  skip a G c θ S i U σ e r = record {
-    set = r.set;
-    all_values = r.all_values;
-    proofs = r.proofs;
-    state = r.state;
-    same = r.same;
-    full = r.full;
-    proved = λ j A l g v. r.proved j A (later j l v) g v;
+  -- past a quantifier that is a variable of the clause
+  skip : (a : I) (G : List LfType) (c : Clause) (θ : ℕ → Image) (S : Spine) (i : ℕ) (U : ℕ → Bool) (σ : ℕ → Image) → variables c i ≡ true → State a G c θ S i U σ → State a G c θ S (suc i) U σ
+  skip a G c θ S i U σ e st = record {
+    values = st.values;
+    over = st.over;
+    terms = st.terms;
+    plus = st.plus;
+    uses = st.uses;
+    outer_in = st.outer_in;
+    proofs = st.proofs;
+    proved = λ j A l v. st.proved j A (earlier j l v.0 (same_number i j) refl) v;
   }
     where
-      later : (j : ℕ) → i ≤ j → variables c j ≡ false → suc i ≤ j
-      later j l v = go (same_number i j) refl
-        where
-          go : (b : Bool) → same_number i j ≡ b → suc i ≤ j
-          go true q = absurd (true≢false (sym e ∙ ap (variables c) (same_number_equal i j q) ∙ v))
-          go false q = next i j l (λ w. true≢false (sym (same_number_self i) ∙ ap (same_number i) w ∙ q))
-            where
-              next : (i j : ℕ) → i ≤ j → (i ≡ j → ⊥) → suc i ≤ j
-              next i j l w = omega arith
-
-  join : (a : I) (G : List LfType) (c : Clause) (θ : ℕ → Image) (S : Spine) (i : ℕ) (U : ℕ → Bool) (σ σ' : ℕ → Image) (A : LfType) (M : Term) → TypeAt (scope c) i A → SameOn U σ σ' → UsesType (ground_after m c A U) A → HasType Σ G M (substitute_type reduce σ' A) → Solved a G c θ S (suc i) (ground_after m c A U) σ' → Solved a G c θ S i U σ
-  join a G c θ S i U σ σ' A M at s us n r = record {
-    set = r.set;
-    all_values = r.all_values;
-    proofs = λ j. pick (same_number i j) M (r.proofs j);
-    state = r.state;
-    same = λ j w. s j w ∙ r.same j (grows m c A U j w);
-    full = r.full;
-    proved = λ j B l g v. here j B l g v (same_number i j) refl;
-  }
-    where
-      TypeAt-same : (C : List LfType) (j : ℕ) (A B : LfType) → TypeAt C j A → TypeAt C j B → A ≡ B
-      TypeAt-same [] j A B g h = absurd g
-      TypeAt-same (X ∷ C) zero A B g h = g ∙ sym h
-      TypeAt-same (X ∷ C) (suc j) A B (A', g, e) (B', h, f) = e ∙ ap weaken (TypeAt-same C j A' B' g h) ∙ sym f
-
-      next : (i j : ℕ) → i ≤ j → (i ≡ j → ⊥) → suc i ≤ j
-      next i j l w = omega arith
-
-      here : (j : ℕ) (B : LfType) → i ≤ j → TypeAt (scope c) j B → variables c j ≡ false → (b : Bool) → same_number i j ≡ b → HasType Σ G (pick b M (r.proofs j)) (substitute_type reduce r.all_values B)
-      here j B l g v true q =
-          let e : A ≡ B = TypeAt-same (scope c) j A B (subst (λ k. TypeAt (scope c) k A) (same_number_equal i j q) at) g in
-          subst (λ X. HasType Σ G M (substitute_type reduce r.all_values X)) e (subst (HasType Σ G M) (agree_on_type reduce (ground_after m c A U) σ' r.all_values A r.same us) n)
-      here j B l g v false q = r.proved j B (next i j l (λ w. true≢false (sym (same_number_self i) ∙ ap (same_number i) w ∙ q))) g v
+      earlier : (j : ℕ) → j < suc i → variables c j ≡ false → (b : Bool) → same_number i j ≡ b → j < i
+      earlier j l v true q = absurd (true≢false (sym e ∙ ap (variables c) (same_number_equal i j q) ∙ v))
+      earlier j l v false q = before_next i j l q
 
   one_on : (i n k : ℕ) → i + suc n ≡ k → suc i + n ≡ k
   one_on i n k q = omega arith
@@ -277,31 +271,43 @@ module _ (Σ : Signature) (ok : IsSignature Σ) (m : ℕ → List Mark) (I : Typ
   abbrev Rest : I → List LfType → Clause → (ℕ → Image) → ℕ → ℕ → (ℕ → Bool) → Type 0
   Rest a G c θ n i U = EachSubgoal m c (SubgoalOk a G c θ) (λ V. Within (variables c) V) n i U
 
-  either_way : (a : I) (mu_plus : (S T : Spine) → SamePlaces (input_places (m (family a))) S T → mu a S ≡ mu a T) (G : List LfType) (c : Clause) (θ : ℕ → Image) (S : Spine) → IsContext Σ G → IsContext Σ (scope c) → Hyp (mu a S) → (n i : ℕ) → i + suc n ≡ quantifiers c.type → (U : ℕ → Bool) (σ : ℕ → Image) → State a G c θ S U σ → ((V : ℕ → Bool) (τ : ℕ → Image) → State a G c θ S V τ → Rest a G c θ n (suc i) V → Solved a G c θ S (suc i) V τ) → (b : Bool) → variables c i ≡ b → choose b (Rest a G c θ n (suc i) U) ((A : LfType) → TypeAt (scope c) i A → SubgoalOk a G c θ U A × Rest a G c θ n (suc i) (ground_after m c A U)) → Solved a G c θ S i U σ
-  either_way a mu_plus G c θ S g cc' ih n i q U σ st rec true e f = skip a G c θ S i U σ e (rec U σ st f)
+  either_way : (a : I) (mu_plus : (S T : Spine) → SamePlaces (input_places (m (family a))) S T → mu a S ≡ mu a T) (G : List LfType) (c : Clause) (θ : ℕ → Image) (S : Spine) → IsContext Σ G → IsContext Σ (scope c) → Hyp (mu a S) → (n i : ℕ) → i + suc n ≡ quantifiers c.type → (U : ℕ → Bool) (σ : ℕ → Image) → State a G c θ S i U σ → ((V : ℕ → Bool) (τ : ℕ → Image) → State a G c θ S (suc i) V τ → Rest a G c θ n (suc i) V → Solved a G c θ S) → (b : Bool) → variables c i ≡ b → choose b (Rest a G c θ n (suc i) U) ((A : LfType) → TypeAt (scope c) i A → SubgoalOk a G c θ U A × Rest a G c θ n (suc i) (ground_after m c A U)) → Solved a G c θ S
+  either_way a mu_plus G c θ S g cc' ih n i q U σ st rec true e f = rec U σ (skip a G c θ S i U σ e st) f
   either_way a mu_plus G c θ S g cc' ih n i q U σ st rec false e f =
       let (A, at) = at_length (scope c) i (room i n (quantifiers c.type) (length c.outer) (length (scope c)) q (binders_length c.type c.outer)) in
       let (sg, rest) = f A at in
-      let (σ', M, st', s, us, h) = solve1 a mu_plus G c θ S U σ i A g cc' ih st at sg in
-      join a G c θ S i U σ σ' A M at s us h (rec (ground_after m c A U) σ' st' rest)
+      let (σ', st') = solve1 a mu_plus G c θ S i U σ A g cc' ih st (e, at) sg in
+      rec (ground_after m c A U) σ' st' rest
     where
       room : (i n k o l : ℕ) → i + suc n ≡ k → l ≡ k + o → i < l
       room i n k o l q e = omega arith
 
-  solve : (a : I) (mu_plus : (S T : Spine) → SamePlaces (input_places (m (family a))) S T → mu a S ≡ mu a T) (G : List LfType) (c : Clause) (θ : ℕ → Image) (S : Spine) → IsContext Σ G → IsContext Σ (scope c) → Hyp (mu a S) → (n i : ℕ) → i + n ≡ quantifiers c.type → (U : ℕ → Bool) (σ : ℕ → Image) → State a G c θ S U σ → EachSubgoal m c (SubgoalOk a G c θ) (λ V. Within (variables c) V) n i U → Solved a G c θ S i U σ
-  solve a mu_plus G c θ S g cc' ih zero i q U σ st f = record {
-    set = U;
-    all_values = σ;
-    proofs = λ j. root (variable zero) nil;
-    state = st;
-    same = λ j w. refl;
-    full = f;
-    proved = λ j A l at v. absurd (true≢false (sym (variable_beyond c.type everything zero (λ k l. refl) j (bound i j (quantifiers c.type) q l)) ∙ v));
-  }
+  solve : (a : I) (mu_plus : (S T : Spine) → SamePlaces (input_places (m (family a))) S T → mu a S ≡ mu a T) (G : List LfType) (c : Clause) (θ : ℕ → Image) (S : Spine) → IsContext Σ G → IsContext Σ (scope c) → Hyp (mu a S) → (n i : ℕ) → i + n ≡ quantifiers c.type → (U : ℕ → Bool) (σ : ℕ → Image) → State a G c θ S i U σ → EachSubgoal m c (SubgoalOk a G c θ) (λ V. Within (variables c) V) n i U → Solved a G c θ S
+  solve a mu_plus G c θ S g cc' ih zero i q U σ st f = record { set = U; all_values = σ; state = subst (λ k. State a G c θ S k U σ) (at_end i (quantifiers c.type) q) st; full = f }
     where
-      bound : (i j n : ℕ) → i + zero ≡ n → i ≤ j → n + zero ≤ j
-      bound i j n q l = omega arith
+      at_end : (i n : ℕ) → i + zero ≡ n → i ≡ n
+      at_end i n q = omega arith
   solve a mu_plus G c θ S g cc' ih (suc n) i q U σ st f = either_way a mu_plus G c θ S g cc' ih n i q U σ st (λ V τ. solve a mu_plus G c θ S g cc' ih n (suc i) (one_on i n (quantifiers c.type) q) V τ) (variables c i) refl f
+
+  -- what is no variable of the clause is one of its quantifiers
+  within_clause : (c : Clause) (j : ℕ) → variables c j ≡ false → j < quantifiers c.type
+  within_clause c j v = go (either_side j (quantifiers c.type))
+    where
+      either_side : (j n : ℕ) → (j < n) ⊎ (n ≤ j)
+      either_side j zero = inr (omega arith)
+      either_side zero (suc n) = inl (omega arith)
+      either_side (suc j) (suc n) = more (either_side j n)
+        where
+          more : (j < n) ⊎ (n ≤ j) → (suc j < suc n) ⊎ (suc n ≤ suc j)
+          more (inl l) = inl (omega arith)
+          more (inr l) = inr (omega arith)
+
+      beyond : (j n : ℕ) → n ≤ j → n + zero ≤ j
+      beyond j n l = omega arith
+
+      go : (j < quantifiers c.type) ⊎ (quantifiers c.type ≤ j) → j < quantifiers c.type
+      go (inl l) = l
+      go (inr l) = absurd (true≢false (sym (variable_beyond c.type everything zero (λ k l. refl) j (beyond j (quantifiers c.type) l)) ∙ v))
 
   -- the values, with the proofs of the subgoals
   abbrev filled : Clause → (ℕ → Image) → (ℕ → Term) → ℕ → Image
@@ -310,24 +316,24 @@ module _ (Σ : Signature) (ok : IsSignature Σ) (m : ℕ → List Mark) (I : Typ
   filled_same : (c : Clause) (ρ : ℕ → Image) (π : ℕ → Term) → SameOn (variables c) ρ (filled c ρ π)
   filled_same c ρ π j w = sym (ap (λ b. pick b (ρ j) (put (skel_of (scope c) j) (π j))) w)
 
-  typed_at : (a : I) (G : List LfType) (h : Head) (c : Clause) (θ : ℕ → Image) (S : Spine) (U : ℕ → Bool) (σ : ℕ → Image) → ClauseOk a G h c θ → (r : Solved a G c θ S zero U σ) → (j : ℕ) (A : LfType) → TypeAt (scope c) j A → (b : Bool) → variables c j ≡ b → ImageHasType Σ G (pick b (r.all_values j) (put (skel_of (scope c) j) (r.proofs j))) (substitute_type reduce (filled c r.all_values r.proofs) A)
-  typed_at a G h c θ S U σ ck r j A at true w = subst (ImageHasType Σ G (r.all_values j)) (agree_on_type reduce (variables c) r.all_values (filled c r.all_values r.proofs) A (filled_same c r.all_values r.proofs) (ck.shape j A at)) (r.state.values.typed j A at (r.full j w))
-  typed_at a G h c θ S U σ ck r j A at false w = (skeleton_substituted reduce (filled c r.all_values r.proofs) A ∙ sym (skel_of_at (scope c) j A at), subst (HasType Σ G (r.proofs j)) (agree_on_type reduce (variables c) r.all_values (filled c r.all_values r.proofs) A (filled_same c r.all_values r.proofs) (ck.shape j A at)) (r.proved j A (omega arith) at w))
+  typed_at : (a : I) (G : List LfType) (h : Head) (c : Clause) (θ : ℕ → Image) (S : Spine) → ClauseOk a G h c θ → (r : Solved a G c θ S) → (j : ℕ) (A : LfType) → TypeAt (scope c) j A → (b : Bool) → variables c j ≡ b → ImageHasType Σ G (pick b (r.all_values j) (put (skel_of (scope c) j) (r.state.proofs j))) (substitute_type reduce (filled c r.all_values r.state.proofs) A)
+  typed_at a G h c θ S ck r j A at true w = subst (ImageHasType Σ G (r.all_values j)) (agree_on_type reduce (variables c) r.all_values (filled c r.all_values r.state.proofs) A (filled_same c r.all_values r.state.proofs) (ck.shape j A at)) (r.state.values.typed j A at (r.full j w))
+  typed_at a G h c θ S ck r j A at false w = (skeleton_substituted reduce (filled c r.all_values r.state.proofs) A ∙ sym (skel_of_at (scope c) j A at), subst (HasType Σ G (r.state.proofs j)) (agree_on_type reduce (variables c) r.all_values (filled c r.all_values r.state.proofs) A (filled_same c r.all_values r.state.proofs) (ck.shape j A at)) (r.state.proved j A (within_clause c j w) (w, at)).1)
 
-  put_at : (a : I) (G : List LfType) (c : Clause) (θ : ℕ → Image) (S : Spine) (U : ℕ → Bool) (σ : ℕ → Image) → (r : Solved a G c θ S zero U σ) → (j : ℕ) → outside c.type everything j ≡ false → (b : Bool) → variables c j ≡ b → IsTerm (pick b (r.all_values j) (put (skel_of (scope c) j) (r.proofs j)))
-  put_at a G c θ S U σ r j o true w = r.state.terms j o (r.full j w)
-  put_at a G c θ S U σ r j o false w = tt
+  put_at : (a : I) (G : List LfType) (c : Clause) (θ : ℕ → Image) (S : Spine) (r : Solved a G c θ S) (j : ℕ) → outside c.type everything j ≡ false → (b : Bool) → variables c j ≡ b → IsTerm (pick b (r.all_values j) (put (skel_of (scope c) j) (r.state.proofs j)))
+  put_at a G c θ S r j o true w = r.state.terms j o (r.full j w)
+  put_at a G c θ S r j o false w = tt
 
   -- the head applied to all values
-  finish : (a : I) (G : List LfType) (h : Head) (c : Clause) (θ : ℕ → Image) (S : Spine) (K : Kind) (U : ℕ → Bool) (σ : ℕ → Image) → IsContext Σ G → Σ.kinds (family a) ≡ Some K → ClauseOk a G h c θ → Solved a G c θ S zero U σ → (T : Spine) × (M : Term) × SamePlaces (input_places (m (family a))) S T × SpineFitsKind Σ G T K × HasType Σ G M (atom (family a) T)
-  finish a G h c θ S K U σ g k ck r =
+  finish : (a : I) (G : List LfType) (h : Head) (c : Clause) (θ : ℕ → Image) (S : Spine) (K : Kind) → IsContext Σ G → Σ.kinds (family a) ≡ Some K → ClauseOk a G h c θ → Solved a G c θ S → (T : Spine) × (M : Term) × SamePlaces (input_places (m (family a))) S T × SpineFitsKind Σ G T K × HasType Σ G M (atom (family a) T)
+  finish a G h c θ S K g k ck r =
       let C : List LfType = scope c in
       let H : Spine = target_arguments c.type in
       let ρ : ℕ → Image = r.all_values in
-      let τ : ℕ → Image = filled c ρ r.proofs in
-      let same : SameOn (variables c) ρ τ = filled_same c ρ r.proofs in
-      let typed : AllTyped Σ ok C G τ = λ j A at. typed_at a G h c θ S U σ ck r j A at (variables c j) refl in
-      let put_all : AllPut c.type τ = all_put c.type everything τ (λ j o. put_at a G c θ S U σ r j o (variables c j) refl) in
+      let τ : ℕ → Image = filled c ρ r.state.proofs in
+      let same : SameOn (variables c) ρ τ = filled_same c ρ r.state.proofs in
+      let typed : AllTyped Σ ok C G τ = λ j A at. typed_at a G h c θ S ck r j A at (variables c j) refl in
+      let put_all : AllPut c.type τ = all_put c.type everything τ (λ j o. put_at a G c θ S r j o (variables c j) refl) in
       let over : AgreesOutside c τ θ = over_same c θ (outside c.type everything) ρ τ (λ j w. w) (λ j w. same j (outside_variable c.type everything everything (λ k v. v) j w)) r.state.over in
       let sp : SpineType Σ G (value_spine c.type τ) (substitute_type reduce (outer_images (quantifiers c.type) τ) c.type) (atom (target c.type) (substitute_spine reduce τ H)) = assemble Σ ok c.type c.outer G τ ck.type_ok typed put_all in
       let e : substitute_type reduce (outer_images (quantifiers c.type) τ) c.type ≡ substitute_type reduce θ c.type = agree_type Σ reduce c.outer (outer_images (quantifiers c.type) τ) θ c.type over ck.type_ok in
@@ -351,8 +357,11 @@ module _ (Σ : Signature) (ok : IsSignature Σ) (m : ℕ → List Mark) (I : Typ
         let g : IsContext Σ G = ctx_ok b G w in
         let cc' : IsContext Σ (scope c) = binders_typed Σ ok c.type c.outer ck.outer_ok ck.type_ok in
         let ih : Hyp (mu b S) = λ b' G' w' T l K' k' i'. total_by (mu b' T) (r (mu b' T) (subst (LexLt (mu b' T)) e l)) b' G' w' T refl K' k' i' in
-        let st : State b G c θ S (ground_first m c) σ = record { values = v; over = o; terms = ts; plus = p; uses = us; outer_in = λ j u. either_left (both (variables c j) _) u } in
-        finish b G h c θ S K (ground_first m c) σ g k ck (solve b (mu_same b) G c θ S g cc' ih (quantifiers c.type) zero (omega arith) (ground_first m c) σ st ck.subgoals)
+        let st : State b G c θ S zero (ground_first m c) σ = record { values = v; over = o; terms = ts; plus = p; uses = us; outer_in = λ j u. either_left (both (variables c j) _) u; proofs = λ j. root (variable zero) nil; proved = λ j A l v. absurd (none j l) } in
+        finish b G h c θ S K g k ck (solve b (mu_same b) G c θ S g cc' ih (quantifiers c.type) zero (omega arith) (ground_first m c) σ st ck.subgoals)
+      where
+        none : (j : ℕ) → j < zero → ⊥
+        none j l = omega arith
 
     pub total : (b : I) (G : List LfType) → Ctx b G → TotalAt Σ (m (family b)) (family b) G
     total b G w K S k i = total_by (mu b S) (well_founded (length (mu b S)) (mu b S) refl) b G w S refl K k i

@@ -104,7 +104,7 @@ module _ (Σ : Signature) (W : List Block) (order : ℕ → Order) (group : List
       less σ k =
           let h : LexLt (call_sizes order σ A ++ []) (head_sizes order σ c ++ []) = drop_before σ [] [] (less_call Σ order c A σ k [] [] a refl l) in
           are_less (call_sizes order σ A) (head_sizes order σ c) (subst (λ t. LexLt t (head_sizes order σ c)) (append-nil (call_sizes order σ A)) (subst (LexLt (call_sizes order σ A ++ [])) (append-nil (head_sizes order σ c)) h))
-  sizes_drop (a, inr (s, n)) = inr (s, n, λ σ k. without_last 0 1 (call_sizes order σ A) (head_sizes order σ c) (drop_before σ (0 ∷ []) (1 ∷ []) (same_call Σ order c A σ k (0 ∷ []) (1 ∷ []) s (inl (omega arith, refl)))))
+  sizes_drop (a, inr (s, n)) = inr ((s, n), λ σ k. without_last 0 1 (call_sizes order σ A) (head_sizes order σ c) (drop_before σ (0 ∷ []) (1 ∷ []) (same_call Σ order c A σ k (0 ∷ []) (1 ∷ []) s (inl (omega arith, refl)))))
 
 pub calls_drop : (Σ : Signature) (W : List Block) (order : ℕ → Order) (group : List ℕ) → GroupDescends Σ W order group → CallsDrop Σ W order group
 calls_drop Σ W order group d c k g i A v h = sizes_drop Σ W order group c A (d c k g i A v h)

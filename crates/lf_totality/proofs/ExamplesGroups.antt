@@ -1,21 +1,21 @@
--- A mutual group lasts, and a group that calls it.
+-- A mutual group lasts, and a group that calls it under other worlds.
 use Rattle.std.proofs.Common.{◌≡◌, ℕ, zero, suc, List, [], ◌∷◌, refl, sym, ap, ◌∙◌, subst, arith, inl, inr, true≢false}
 use Rattle.std.specs.Prelude.{Bool, true, false, ◌⊎◌, Some}
 use Rattle.lf.specs.Syntax.{constant, variable, metavariable, Term, Spine, lambda, root, nil, app, LfType, Kind, pi, star, base}
 use Rattle.lf.specs.Substitution.{Image, keep, put, substitute_type, reduce}
 use Rattle.lf.specs.Typing.{Signature, TypeAt, HasType, SpineType, IsType, IsKind, IsSignature, ImageHasType}
 use Rattle.lf.specs.Variables.{target, target_arguments, binders, Values, UsesType, FamiliesIn, KindFamiliesIn, Within, everything, nothing, onto}
-use Rattle.lf.specs.Subordination.{Member, IsDeclared, SelfContained}
+use Rattle.lf.specs.Subordination.{Block, Member, IsDeclared, IsTypedBlock, SelfContained}
 use Rattle.lf.specs.Worlds.{World, no_variables, single_variable, whole_instance}
 use Rattle.lf.specs.Extension.{Extends}
 use Rattle.lf.proofs.Decidability.{variable_type_unique}
 use Rattle.lf.proofs.Target.{target_renamed}
 use Rattle.lf_checks.specs.Tests.{is_in}
-use Rattle.lf_checks.specs.Clause.{Clause, IsClause, IsSubgoal, among, constant_clause, from_constant, from_entry, outside, scope, variables}
+use Rattle.lf_checks.specs.Clause.{Clause, IsClause, IsSubgoal, among, constant_clause, entry_clause, from_constant, from_entry, outside, scope, variables}
 use Rattle.lf_checks.specs.Marks.{HasSoundMarks, TypedPlaces, input_places, free_places}
 use Rattle.lf_checks.specs.Ground.{Subgoals, UsesGoal, ground_first, ground_after}
 use Rattle.lf_checks.specs.Modes.{AllGround, EachHypothesis, InFreePlace, WellModed, WellModedTo, occurs_at}
-use Rattle.lf_checks.specs.Worlded.{WellWorlded, IsSequence, IsStrictBlock, IsTerm, no_instance, next_instance, past_types}
+use Rattle.lf_checks.specs.Worlded.{WellWorlded, IsSequence, IsStrictBlock, IsTerm, BlocksServe, no_instance, next_instance, past_types}
 use Rattle.lf_checks.specs.Strict.{strict_type}
 use Rattle.lf_checks.specs.Order.{IsAtPlaces, equal, first_argument, place, under_constant}
 use Rattle.lf_checks.specs.Descent.{CallDescends, SameCall, LeadsTo, no_call, after_call}
@@ -23,7 +23,7 @@ use Rattle.lf_cases.specs.Cover.{AreTerms, CoveredBy, CoveredInputs, CoveredOutp
 use Rattle.lf_totality.specs.Total.{HasTotalMarks}
 use Rattle.lf_totality.specs.Group.{Checked, GroupChecked, IsCallee, IsRight}
 use Rattle.lf_totality.specs.Examples.{var, nat, z, successor, first_place}
-use Rattle.lf_totality.specs.ExamplesGroups.{Parity, parity_types, parity_kinds, parity_marks, parity_record, guard_record, on_one, one_kind, call_type, first_three, first_four, MutualGroupLasts, CallerOfRecordLasts, strict_block, weak_block, strict_clause, StrictBlockServes}
+use Rattle.lf_totality.specs.ExamplesGroups.{Parity, parity_types, parity_kinds, parity_marks, parity_record, guard_record, guard_block, number_block, on_one, one_kind, call_type, first_three, first_four, MutualGroupLasts, CallerOfRecordLasts, strict_block, weak_block, strict_clause, StrictBlockServes}
 use Rattle.lf_totality.proofs.Addition.{spine_target}
 use Rattle.lf_totality.proofs.After.{record_made}
 use Rattle.lf_totality.proofs.ExampleLemmas.{step}
@@ -153,12 +153,12 @@ zero_moded : (group : ℕ → Bool) → WellModed Parity parity_marks group zero
 zero_moded group zero = tt
 zero_moded group (suc n) = (sound 1 refl, (tt, λ x e o. absurd cc))
 
-outputs : (S : ℕ → Bool) (a b : ℕ) (t : Bool) → Subgoals parity_marks (call a b t) (λ U A. CoveredOutputs Parity parity_marks [] S (call a b t) U A) (λ U. Unit {0})
-outputs S a b true = step parity_marks (call a b true) (λ U A. CoveredOutputs Parity parity_marks [] S (call a b true) U A) (λ U. Unit {0}) 1 0 (ground_first parity_marks (call a b true)) (the_call b) refl (no_outputs Parity parity_marks [] S (call a b true) (ground_first parity_marks (call a b true)) (the_call b) tt ((refl, tt), tt), tt)
-outputs S a b false = step parity_marks (call a b false) (λ U A. CoveredOutputs Parity parity_marks [] S (call a b false) U A) (λ U. Unit {0}) 1 0 (ground_first parity_marks (call a b false)) (the_call b) refl (no_outputs Parity parity_marks [] S (call a b false) (ground_first parity_marks (call a b false)) (the_call b) tt ((refl, tt), tt), tt)
+outputs : (W : List Block) (S : ℕ → Bool) (a b : ℕ) (t : Bool) → Subgoals parity_marks (call a b t) (λ U A. CoveredOutputs Parity parity_marks W S (call a b t) U A) (λ U. Unit {0})
+outputs W S a b true = step parity_marks (call a b true) (λ U A. CoveredOutputs Parity parity_marks W S (call a b true) U A) (λ U. Unit {0}) 1 0 (ground_first parity_marks (call a b true)) (the_call b) refl (no_outputs Parity parity_marks W S (call a b true) (ground_first parity_marks (call a b true)) (the_call b) tt ((refl, tt), tt), tt)
+outputs W S a b false = step parity_marks (call a b false) (λ U A. CoveredOutputs Parity parity_marks W S (call a b false) U A) (λ U. Unit {0}) 1 0 (ground_first parity_marks (call a b false)) (the_call b) refl (no_outputs Parity parity_marks W S (call a b false) (ground_first parity_marks (call a b false)) (the_call b) tt ((refl, tt), tt), tt)
 
-worlded : (a b : ℕ) (t : Bool) → WellWorlded Parity [] (call a b t)
-worlded a b t i A h = subst (λ X. IsSequence Parity [] (scope (call a b t)) (binders [] X)) (sym (the_subgoal a b t i A h)) no_instance
+worlded : (W : List Block) (a b : ℕ) (t : Bool) → WellWorlded Parity W (call a b t)
+worlded W a b t i A h = subst (λ X. IsSequence Parity W (scope (call a b t)) (binders [] X)) (sym (the_subgoal a b t i A h)) no_instance
 
 no_subgoal : (i : ℕ) (A : LfType) → IsSubgoal zero_clause i A → ⊥
 no_subgoal i A (v, g) = g
@@ -202,8 +202,8 @@ call_terms a b false N (suc zero) o u = tt
 call_terms a b false N (suc (suc i)) o u = absurd cc
 
 -- the family of a clause {X:nat} b X -> a X has its inputs covered
-any_covered : (S : ℕ → Bool) (k a b : ℕ) → Parity.types k ≡ Some (call_type (suc a) (suc b) true) → Parity.kinds (suc a) ≡ Some one_kind → CoveredInputs Parity parity_marks [] S (suc a)
-any_covered S k a b e q Σ x G w T K p t = go T (subst (TypedPlaces Σ (true ∷ []) G T) (some_kind (sym p ∙ x.kinds_stay (suc a) one_kind q)) t)
+any_covered : (W : List Block) (S : ℕ → Bool) (k a b : ℕ) → Parity.types k ≡ Some (call_type (suc a) (suc b) true) → Parity.kinds (suc a) ≡ Some one_kind → CoveredInputs Parity parity_marks W S (suc a)
+any_covered W S k a b e q Σ x G w T K p t = go T (subst (TypedPlaces Σ (true ∷ []) G T) (some_kind (sym p ∙ x.kinds_stay (suc a) one_kind q)) t)
   where
     go : (T : Spine) → TypedPlaces Σ (true ∷ []) G T one_kind → CoveredBy w (true ∷ []) (suc a) T
     go nil t = absurd t
@@ -322,11 +322,11 @@ parity_checked = record {
   frozen = record { families_frozen = two_families (λ f. first_three f ≡ true) refl refl; targets_frozen = λ B E m. absurd m; below_frozen = λ f i b h. h; self_contained = three_contained };
   orders_at_inputs = two_families (λ f. IsAtPlaces (input_places (parity_marks f)) (place 1)) refl refl;
   well_moded = parity_clauses (WellModed Parity parity_marks (λ f. is_in f (1 ∷ 2 ∷ []))) (moded 0 1 true (λ f. is_in f (1 ∷ 2 ∷ [])) refl refl) (zero_moded (λ f. is_in f (1 ∷ 2 ∷ []))) (moded 1 0 false (λ f. is_in f (1 ∷ 2 ∷ [])) refl refl);
-  well_worlded = parity_clauses (WellWorlded Parity []) (worlded 0 1 true) (λ i A h. absurd (no_subgoal i A h)) (worlded 1 0 false);
+  well_worlded = parity_clauses (WellWorlded Parity []) (worlded [] 0 1 true) (λ i A h. absurd (no_subgoal i A h)) (worlded [] 1 0 false);
   callees = parity_clauses (λ c. (i : ℕ) (A : LfType) → IsSubgoal c i A → IsCallee parity_record [] (target c.type) (target A)) (λ i A h. callee_in 1 (target A) (inr (inl (ap target (the_subgoal 0 1 true i A h))))) (λ i A h. absurd (no_subgoal i A h)) (λ i A h. callee_in 2 (target A) (inl (ap target (the_subgoal 1 0 false i A h))));
   descending = parity_clauses (λ c. (i : ℕ) (A : LfType) → IsSubgoal c i A → Member (target A) (1 ∷ 2 ∷ []) → CallDescends Parity [] first_place (1 ∷ 2 ∷ []) c A) (λ i A h m. subst (CallDescends Parity [] first_place (1 ∷ 2 ∷ []) (call 0 1 true)) (sym (the_subgoal 0 1 true i A h)) (tt, inr ((var 1, refl, refl), λ l. let q : ◌≡◌ {A = ℕ} 1 2 = from_odd 1 l in omega arith))) (λ i A h. absurd (no_subgoal i A h)) (λ i A h m. subst (CallDescends Parity [] first_place (1 ∷ 2 ∷ []) (call 1 0 false)) (sym (the_subgoal 1 0 false i A h)) (tt, inl (var 1, successor (var 1), refl, refl, one_kind, refl, nat, refl, under_constant refl (first_argument equal))));
-  covered_inputs = two_families (λ f. CoveredInputs Parity parity_marks [] first_three f) (any_covered first_three 2 0 1 refl refl) odd_covered;
-  covered_outputs = parity_clauses (λ c. Subgoals parity_marks c (λ U A. CoveredOutputs Parity parity_marks [] first_three c U A) (λ U. Unit {0})) (outputs first_three 0 1 true) tt (outputs first_three 1 0 false);
+  covered_inputs = two_families (λ f. CoveredInputs Parity parity_marks [] first_three f) (any_covered [] first_three 2 0 1 refl refl) odd_covered;
+  covered_outputs = parity_clauses (λ c. Subgoals parity_marks c (λ U A. CoveredOutputs Parity parity_marks [] first_three c U A) (λ U. Unit {0})) (outputs [] first_three 0 1 true) tt (outputs [] first_three 1 0 false);
 }
 
 pub mutual_group_lasts : MutualGroupLasts
@@ -337,10 +337,26 @@ one_family : (P : ℕ → Type 0) → P 3 → (f : ℕ) → Member f (3 ∷ []) 
 one_family P a f (inl e) = subst P (sym e) a
 one_family P a f (inr m) = absurd m
 
-guard_clauses : (P : Clause → Type 0) → P (call 2 0 true) → (c : Clause) → IsClause Parity [] c → Member (target c.type) (3 ∷ []) → P c
-guard_clauses P a c (from_entry B later E es i q) g = absurd i
-guard_clauses P a c (from_constant k U e) (inr m) = absurd m
-guard_clauses P a c (from_constant k U e) (inl g) = by k U e g
+abbrev Guarded : List Block
+Guarded = guard_block ∷ []
+
+-- the block's entry, as a clause
+abbrev entry_g : Clause
+entry_g = entry_clause guard_block [] (on_one 3 z)
+
+guard_clauses : (P : Clause → Type 0) → P (call 2 0 true) → P entry_g → (c : Clause) → IsClause Parity Guarded c → Member (target c.type) (3 ∷ []) → P c
+guard_clauses P a b c (from_entry B later E es (inr i) q) g = absurd i
+guard_clauses P a b c (from_entry B later E es (inl i) q) g = subst (λ C. P (entry_clause C es E)) (sym i) (by later (q ∙ ap (λ C. C.entries) i))
+  where
+    by : (later : List LfType) → onto later (E ∷ es) ≡ on_one 3 z ∷ [] → P (entry_clause guard_block es E)
+    by [] q =
+        let e : E ≡ on_one 3 z = cc in
+        let r : es ≡ [] = cc in
+        subst (λ X. P (entry_clause guard_block es X)) (sym e) (subst (λ ds. P (entry_clause guard_block ds (on_one 3 z))) (sym r) b)
+    by (D ∷ []) q = absurd cc
+    by (D ∷ (F ∷ later)) q = absurd cc
+guard_clauses P a b c (from_constant k U e) (inr m) = absurd m
+guard_clauses P a b c (from_constant k U e) (inl g) = by k U e g
   where
     by : (k : ℕ) (U : LfType) → parity_types k ≡ Some U → target U ≡ 3 → P (constant_clause U)
     by zero U e g = let q : ◌≡◌ {A = ℕ} 0 3 = ap target (some_type e) ∙ g in absurd (omega arith)
@@ -351,6 +367,36 @@ guard_clauses P a c (from_constant k U e) (inl g) = by k U e g
     by (suc (suc (suc (suc (suc zero))))) U e g = subst (λ X. P (constant_clause X)) (some_type e) a
     by (suc (suc (suc (suc (suc (suc n)))))) U e g = absurd cc
 
+no_entry_subgoal : (i : ℕ) (A : LfType) → IsSubgoal entry_g i A → ⊥
+no_entry_subgoal i A (v, g) = g
+
+entry_moded : (group : ℕ → Bool) → WellModed Parity parity_marks group entry_g
+entry_moded group zero = tt
+entry_moded group (suc n) = (sound 2 refl, (tt, λ x e o. absurd cc))
+
+-- what has its only entry at the block
+the_entry : (P : Block → LfType → Type 0) → P guard_block (on_one 3 z) → (B : Block) (E : LfType) → Member B Guarded → Member E B.entries → P B E
+the_entry P p B E (inl i) m = subst (λ C. P C E) (sym i) (by (subst (λ C. Member E C.entries) i m))
+  where
+    by : Member E (on_one 3 z ∷ []) → P guard_block E
+    by (inl e) = subst (P guard_block) (sym e) p
+    by (inr m) = absurd m
+the_entry P p B E (inr i) m = absurd i
+
+-- the block's entry is of no family below e
+guard_serves : BlocksServe Guarded [] first_three
+guard_serves B i = inr (λ E m. the_entry (λ B E. first_three (target E) ≡ false) refl B E i m)
+
+number_does_not : BlocksServe (number_block ∷ []) [] first_three → ⊥
+number_does_not h = by (h number_block (inl refl))
+  where
+    by : Member number_block [] ⊎ ((E : LfType) → Member E (nat ∷ []) → first_three (target E) ≡ false) → ⊥
+    by (inl m) = m
+    by (inr n) = true≢false (n nat (inl refl))
+
+guarded_contained : SelfContained Parity Guarded first_four
+guarded_contained = record { declared = four_contained.declared; kinds_in = four_contained.kinds_in; types_in = four_contained.types_in; entries_in = λ B E i m s. the_entry (λ B E. FamiliesIn first_four E) refl B E i m }
+
 three_in_four : Within first_three first_four
 three_in_four zero h = refl
 three_in_four (suc zero) h = refl
@@ -359,7 +405,7 @@ three_in_four (suc (suc (suc n))) h = absurd cc
 
 -- e is of the earlier record, and not of this group
 earlier_callee : (b : ℕ) → b ≡ 1 → IsCallee guard_record (parity_record ∷ []) 3 b
-earlier_callee b e = ((own, earlier), inr (parity_record, inl refl, inl e, refl, λ B i. absurd i))
+earlier_callee b e = ((own, earlier), inr (parity_record, inl refl, inl e, refl, guard_serves))
   where
     own : Member b guard_record.families → Within (guard_record.below b) (guard_record.below 3)
     own i j h = h
@@ -377,21 +423,25 @@ disjoint f (inr m) g = m
 guard_checked : GroupChecked Parity guard_record first_place (parity_record ∷ [])
 guard_checked = record {
   marked = one_family (λ f. HasTotalMarks Parity f (parity_marks f)) (sound 2 refl, tt);
-  blocks_typed = λ B i. absurd i;
+  blocks_typed = blocks_typed;
   same_before = same_before;
   itself_below = one_family (λ f. first_four f ≡ true) refl;
-  self_contained = λ f i. four_contained;
-  frozen = record { families_frozen = one_family (λ f. first_four f ≡ true) refl; targets_frozen = λ B E m. absurd m; below_frozen = λ f i b h. h; self_contained = four_contained };
+  self_contained = λ f i. guarded_contained;
+  frozen = record { families_frozen = one_family (λ f. first_four f ≡ true) refl; targets_frozen = λ B E i m. the_entry (λ B E. first_four (target E) ≡ true) refl B E i m; below_frozen = λ f i b h. h; self_contained = guarded_contained };
   orders_at_inputs = one_family (λ f. IsAtPlaces (input_places (parity_marks f)) (place 1)) refl;
-  well_moded = guard_clauses (WellModed Parity parity_marks (λ f. is_in f (3 ∷ []))) (moded 2 0 true (λ f. is_in f (3 ∷ [])) refl refl);
-  well_worlded = guard_clauses (WellWorlded Parity []) (worlded 2 0 true);
-  callees = guard_clauses (λ c. (i : ℕ) (A : LfType) → IsSubgoal c i A → IsCallee guard_record (parity_record ∷ []) (target c.type) (target A)) (λ i A h. earlier_callee (target A) (ap target (the_subgoal 2 0 true i A h)));
-  descending = guard_clauses (λ c. (i : ℕ) (A : LfType) → IsSubgoal c i A → Member (target A) (3 ∷ []) → CallDescends Parity [] first_place (3 ∷ []) c A) (λ i A h m. absurd (not_called (target A) m (ap target (the_subgoal 2 0 true i A h))));
-  covered_inputs = one_family (λ f. CoveredInputs Parity parity_marks [] first_four f) (any_covered first_four 5 2 0 refl refl);
-  covered_outputs = guard_clauses (λ c. Subgoals parity_marks c (λ U A. CoveredOutputs Parity parity_marks [] first_four c U A) (λ U. Unit {0})) (outputs first_four 2 0 true);
+  well_moded = guard_clauses (WellModed Parity parity_marks (λ f. is_in f (3 ∷ []))) (moded 2 0 true (λ f. is_in f (3 ∷ [])) refl refl) (entry_moded (λ f. is_in f (3 ∷ [])));
+  well_worlded = guard_clauses (WellWorlded Parity Guarded) (worlded Guarded 2 0 true) (λ i A h. absurd (no_entry_subgoal i A h));
+  callees = guard_clauses (λ c. (i : ℕ) (A : LfType) → IsSubgoal c i A → IsCallee guard_record (parity_record ∷ []) (target c.type) (target A)) (λ i A h. earlier_callee (target A) (ap target (the_subgoal 2 0 true i A h))) (λ i A h. absurd (no_entry_subgoal i A h));
+  descending = guard_clauses (λ c. (i : ℕ) (A : LfType) → IsSubgoal c i A → Member (target A) (3 ∷ []) → CallDescends Parity Guarded first_place (3 ∷ []) c A) (λ i A h m. absurd (not_called (target A) m (ap target (the_subgoal 2 0 true i A h)))) (λ i A h m. absurd (no_entry_subgoal i A h));
+  covered_inputs = one_family (λ f. CoveredInputs Parity parity_marks Guarded first_four f) (any_covered Guarded first_four 5 2 0 refl refl);
+  covered_outputs = guard_clauses (λ c. Subgoals parity_marks c (λ U A. CoveredOutputs Parity parity_marks Guarded first_four c U A) (λ U. Unit {0})) (outputs Guarded first_four 2 0 true) tt;
 }
   where
-    same_before : (Q : Checked) → Member Q (parity_record ∷ []) → (f : ℕ) → Member f (3 ∷ []) → Member f Q.families → (Q.marks f ≡ parity_marks f) × (Q.worlds ≡ [])
+    blocks_typed : (B : Block) → Member B Guarded → IsTypedBlock Parity B
+    blocks_typed B (inl e) = subst (IsTypedBlock Parity) (sym e) (tt, (one_kind, refl, ((nat, refl, refl), tt)))
+    blocks_typed B (inr i) = absurd i
+
+    same_before : (Q : Checked) → Member Q (parity_record ∷ []) → (f : ℕ) → Member f (3 ∷ []) → Member f Q.families → (Q.marks f ≡ parity_marks f) × (Q.worlds ≡ Guarded)
     same_before Q (inl q) f i m = absurd (disjoint f i (subst (λ R. Member f R.families) q m))
     same_before Q (inr q) f i m = absurd q
 
@@ -400,7 +450,7 @@ guard_checked = record {
     not_called b (inr m) q = m
 
 pub caller_of_record_lasts : CallerOfRecordLasts
-caller_of_record_lasts = record_made Parity parity_ok guard_record first_place (parity_record ∷ []) guard_checked earlier_right
+caller_of_record_lasts = (record_made Parity parity_ok guard_record first_place (parity_record ∷ []) guard_checked earlier_right, guard_serves, number_does_not)
   where
     earlier_right : (Q : Checked) → Member Q (parity_record ∷ []) → IsRight Parity Q
     earlier_right Q (inl q) = subst (IsRight Parity) (sym q) mutual_group_lasts

@@ -28,3 +28,4 @@ pub mod ExamplesReached
 pub mod ExamplesSplits
 pub mod ExamplesFull
 pub mod ExamplesOutputs
+pub mod ExamplesFacts

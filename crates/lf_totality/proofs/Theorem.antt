@@ -15,11 +15,11 @@ use Rattle.lf_checks.specs.Marks.{Mark, input, output, free, input_places, free_
 use Rattle.lf_checks.specs.Ground.{UsesGoal, EachSubgoal, ground_by, ground_first, ground_after}
 use Rattle.lf_checks.specs.Modes.{AllGround, InFreePlace, occurs_at, occurs_goal, EachHypothesis, WellModedTo}
 use Rattle.lf_checks.specs.Order.{Order, KeepsVariables}
-use Rattle.lf_checks.specs.Descent.{EqualCall, LeadsTo, no_call, after_call}
 use Rattle.lf_cases.specs.Cover.{place_of, Offered, by_constant, by_entry, AgreesOutside, CoveredBy, CoveredOutputs, OutputsCovered, AreTerms}
 use Rattle.lf_totality.specs.Total.{TotalAt, Lasting, HasTotalMarks}
-use Rattle.lf_totality.specs.Group.{Checked, IsRight, IsCallee, GroupCheckedBySizes}
-use Rattle.lf_totality.specs.Sizes.{AreLess, SizesDrop, call_sizes, head_sizes}
+use Rattle.lf_totality.specs.Group.{Checked, IsRight, IsCallee, GroupCheckedBy}
+use Rattle.lf_totality.specs.Sizes.{SizesDropBy}
+use Rattle.lf_totality.specs.Facts.{AreSolved, IsCalled}
 use Rattle.lf_totality.proofs.Drops.{less_before, same_before}
 use Rattle.lf.proofs.TypeLaws.{substitute_identity_type}
 use Rattle.lf.proofs.Partial.{skeletons_beside, PartialSubstitution, uses_type_all}
@@ -77,12 +77,24 @@ outside_from (atom a S) V i e = (i, refl, e)
 target_kind : (Σ : Signature) (ok : IsSignature Σ) (C : List LfType) (A : LfType) → IsType Σ C A → (K : Kind) × (Σ.kinds (target A) ≡ Some K)
 target_kind Σ ok C A t = let (K, e, s) = end_typed Σ ok A C t in (K, e)
 
--- equal calls, one after the other
-leads_on : (Σ : Signature) (W : List Block) (order : ℕ → Order) (group : List ℕ) (a b c : ℕ) → LeadsTo Σ W order group a b → LeadsTo Σ W order group b c → LeadsTo Σ W order group a c
-leads_on Σ W order group a b c no_call k = k
-leads_on Σ W order group a b c (after_call {b = d} e h) k = after_call e (leads_on Σ W order group d b c h k)
+-- How calls are tested: what is known of the values where a subgoal is called, which calls count as equal, and from which family these
+-- lead to which.
+pub record CallTest : Type 1 where
+  pub known : Clause → ℕ → (ℕ → Image) → Type 0
+  pub equal : Clause → ℕ → LfType → Type 0
+  pub leads : ℕ → ℕ → Type 0
 
-module _ (Σ : Signature) (ok : IsSignature Σ) (R : Checked) (order : ℕ → Order) (totals : List Checked) (gc : GroupCheckedBySizes Σ R order totals) (records : (Q : Checked) → Member Q totals → IsRight Σ Q) where
+-- the calls of the record's group drop by the test
+abbrev pub CallsDropBy : CallTest → Signature → Checked → (ℕ → Order) → Type 0
+CallsDropBy t Σ R order = (c : Clause) → IsClause Σ R.worlds c → Member (target c.type) R.families → (i : ℕ) (A : LfType) → IsSubgoal c i A → Member (target A) R.families → SizesDropBy (t.known c i) (t.equal c i A × (t.leads (target A) (target c.type) → ⊥)) order c A
+
+-- what is known is so whenever a call is made, and equal calls lead on
+pub record IsSoundTest (t : CallTest) (Σ : Signature) (R : Checked) : Type 0 where
+  pub holds : (c : Clause) → IsClause Σ R.worlds c → Member (target c.type) R.families → (i : ℕ) (A : LfType) → IsSubgoal c i A → Member (target A) R.families → (σ : ℕ → Image) → IsCalled Σ R c i σ → t.known c i σ
+  pub stays : (a : ℕ) → t.leads a a
+  pub goes_on : (a : ℕ) (c : Clause) → IsClause Σ R.worlds c → Member (target c.type) R.families → (i : ℕ) (A : LfType) → IsSubgoal c i A → Member (target A) R.families → t.equal c i A → t.leads a (target c.type) → t.leads a (target A)
+
+module _ (Σ : Signature) (ok : IsSignature Σ) (R : Checked) (order : ℕ → Order) (totals : List Checked) (test : CallTest) (sound : IsSoundTest test Σ R) (gc : GroupCheckedBy (CallsDropBy test Σ R order) Σ R order totals) (records : (Q : Checked) → Member Q totals → IsRight Σ Q) where
   clause_typed : (c : Clause) → IsClause Σ R.worlds c → IsContext Σ c.outer × IsType Σ c.outer c.type
   clause_typed c (from_constant k U e) = (tt, ok.types_ok k U e)
   clause_typed c (from_entry B later E es i q) = drop_typed Σ later E (onto es B.some) (subst (IsContext Σ) (onto_onto later (E ∷ es) B.some) (subst (λ X. IsContext Σ (onto X B.some)) (sym q) (gc.blocks_typed B i)))
@@ -111,7 +123,7 @@ module _ (Σ : Signature) (ok : IsSignature Σ) (R : Checked) (order : ℕ → O
     inside : Member family R.families
     behind : List ℕ
     all_in : (v : ℕ) → Member v behind → Member v R.families
-    lead : (v : ℕ) → Member v behind → LeadsTo Σ R.worlds order R.families v family
+    lead : (v : ℕ) → Member v behind → test.leads v family
     distinct : Distinct (family ∷ behind)
     room : ℕ
     fills : room + length behind ≡ length R.families
@@ -127,11 +139,11 @@ module _ (Σ : Signature) (ok : IsSignature Σ) (R : Checked) (order : ℕ → O
   abbrev Next : State → ℕ → Type 0
   Next s t = (u : State) × (u.family ≡ t) × (suc u.room ≡ s.room)
 
-  next : (s : State) (t : ℕ) → Member t R.families → EqualCall Σ R.worlds order R.families s.family t → (LeadsTo Σ R.worlds order R.families t s.family → ⊥) → Next s t
+  next : (s : State) (t : ℕ) → Member t R.families → ((v : ℕ) → test.leads v s.family → test.leads v t) → (test.leads t s.family → ⊥) → Next s t
   next s t i q n = go s.room s.fills (no_more_than (t ∷ s.family ∷ s.behind) R.families d in_all)
     where
       apart : Member t (s.family ∷ s.behind) → ⊥
-      apart (inl e) = n (subst (LeadsTo Σ R.worlds order R.families t) e no_call)
+      apart (inl e) = n (subst (test.leads t) e (sound.stays t))
       apart (inr m) = n (s.lead t m)
 
       d : Distinct (t ∷ s.family ∷ s.behind)
@@ -145,9 +157,9 @@ module _ (Σ : Signature) (ok : IsSignature Σ) (R : Checked) (order : ℕ → O
       in_all v (inl e) = subst (λ x. Member x R.families) (sym e) i
       in_all v (inr m) = member_in v m
 
-      leads : (v : ℕ) → Member v (s.family ∷ s.behind) → LeadsTo Σ R.worlds order R.families v t
-      leads v (inl e) = subst (λ x. LeadsTo Σ R.worlds order R.families x t) (sym e) (after_call q no_call)
-      leads v (inr m) = leads_on Σ R.worlds order R.families v s.family t (s.lead v m) (after_call q no_call)
+      leads : (v : ℕ) → Member v (s.family ∷ s.behind) → test.leads v t
+      leads v (inl e) = q v (subst (test.leads v) e (sound.stays v))
+      leads v (inr m) = q v (s.lead v m)
 
       go : (r : ℕ) → r + length s.behind ≡ length R.families → length (t ∷ s.family ∷ s.behind) ≤ length R.families → (u : State) × (u.family ≡ t) × (suc u.room ≡ r)
       go zero e l = absurd (omega arith)
@@ -215,20 +227,23 @@ module _ (Σ : Signature) (ok : IsSignature Σ) (R : Checked) (order : ℕ → O
           inl (subst (λ m. TotalAt Σ' m t (binders G P)) e (((records Q i).lasts t f).1 Σ' (extension_over_less (R.below s.family) (Q.below t) Σ Σ' inner x) (binders G P) (world_for_callee Σ' R.worlds Q.worlds (R.below s.family) (Q.below t) inner fit w')))
 
       -- a call to the group is smaller
-      smaller_call : (i : ℕ) (A : LfType) (σ : ℕ → Image) → IsSubgoal c i A → AgreesOutside c σ θ → Member (target A) R.families → Smaller (target A) (substitute_type reduce σ A) (substitute_spine reduce σ (target_arguments c.type))
-      smaller_call i A σ v o ga = by (gc.descending c k group_in i A v ga)
+      smaller_call : (i : ℕ) (A : LfType) (σ : ℕ → Image) → IsSubgoal c i A → AgreesOutside c σ θ → AreSolved Σ' G c i σ → Member (target A) R.families → Smaller (target A) (substitute_type reduce σ A) (substitute_spine reduce σ (target_arguments c.type))
+      smaller_call i A σ v o solved ga = by (gc.descending c k group_in i A v ga)
         where
-          kp : KeepsVariables (outside c.type c.fixed) σ
-          kp = kept ok' w h c θ σ off o
+          called_here : IsCalled Σ R c i σ
+          called_here = record { later = Σ'; context = G; extends = subst (λ f. Extends (R.below f) Σ Σ') (sym fam) x; world = subst (λ f. World Σ' R.worlds (R.below f) G) (sym fam) w; keeps = kept ok' w h c θ σ off o; solved = solved }
+
+          kp : test.known c i σ
+          kp = sound.holds c k group_in i A v ga σ called_here
 
           at_head : (r : List ℕ) → LexLt r (sizes (order (target c.type)) (substitute_spine reduce σ (target_arguments c.type)) (s.room ∷ [])) → LexLt r (sizes (order s.family) (substitute_spine reduce σ (target_arguments c.type)) (s.room ∷ []))
           at_head r l = subst (λ a. LexLt r (sizes (order a) (substitute_spine reduce σ (target_arguments c.type)) (s.room ∷ []))) fam l
 
-          by : SizesDrop Σ R.worlds order R.families c A → Smaller (target A) (substitute_type reduce σ A) (substitute_spine reduce σ (target_arguments c.type))
+          by : SizesDropBy (test.known c i) (test.equal c i A × (test.leads (target A) (target c.type) → ⊥)) order c A → Smaller (target A) (substitute_type reduce σ A) (substitute_spine reduce σ (target_arguments c.type))
           by (inl less) = (fresh (target A) ga, refl, at_head (sizes (order (target A)) (target_arguments (substitute_type reduce σ A)) (length R.families ∷ [])) (less_before (order (target A)) (order (target c.type)) (target_arguments (substitute_type reduce σ A)) (substitute_spine reduce σ (target_arguments c.type)) (length R.families) s.room (less σ kp)))
-          by (inr (q, n, least)) =
-              let call : EqualCall Σ R.worlds order R.families s.family (target A) = record { clause = c; is_clause = k; caller = fam; caller_in = s.inside; index = i; subgoal = A; is_subgoal = v; callee = refl; callee_in = ga; same = q } in
-              let (u, e, r) = next s (target A) ga call (λ p. n (subst (LeadsTo Σ R.worlds order R.families (target A)) (sym fam) p)) in
+          by (inr ((q, n), least)) =
+              let on : (a : ℕ) → test.leads a s.family → test.leads a (target A) = λ a l. sound.goes_on a c k group_in i A v ga q (subst (test.leads a) (sym fam) l) in
+              let (u, e, r) = next s (target A) ga on (λ p. n (subst (test.leads (target A)) (sym fam) p)) in
               let l : LexLt (sizes (order (target A)) (target_arguments (substitute_type reduce σ A)) (u.room ∷ [])) (sizes (order s.family) (substitute_spine reduce σ (target_arguments c.type)) (s.room ∷ [])) =
               at_head (sizes (order (target A)) (target_arguments (substitute_type reduce σ A)) (u.room ∷ [])) (same_before (order (target A)) (order (target c.type)) (target_arguments (substitute_type reduce σ A)) (substitute_spine reduce σ (target_arguments c.type)) u.room s.room (falls u.room s.room r) (least σ kp))
               in
@@ -248,7 +263,7 @@ module _ (Σ : Signature) (ok : IsSignature Σ) (R : Checked) (order : ℕ → O
           record {
             needs = needs;
             kind = (K, x.kinds_stay (target A) K e, sound_inputs nothing (R.marks (target A)) K sound (callee_marks (target c.type) (target A) callee).1);
-            call = λ σ vs p o. subst (λ a. Call a (substitute_type reduce σ A) (substitute_spine reduce σ (target_arguments c.type))) (sym (target_of reduce σ A)) (make_call (target A) (substitute_type reduce σ A) (substitute_spine reduce σ (target_arguments c.type)) (there U A σ local p) (subst (λ a. IsCallee R totals a (target A)) fam callee) (smaller_call i A σ v o));
+            call = λ j jv σ vs p o sv. subst (λ a. Call a (substitute_type reduce σ A) (substitute_spine reduce σ (target_arguments c.type))) (sym (target_of reduce σ A)) (make_call (target A) (substitute_type reduce σ A) (substitute_spine reduce σ (target_arguments c.type)) (there U A σ local p) (subst (λ a. IsCallee R totals a (target A)) fam callee) (smaller_call j A σ jv o sv));
             outputs = outputs_at out;
           }
         where

@@ -1,10 +1,10 @@
--- Worked declarations: a mutual group with an equal call that is on no cycle, and a group that calls it.
+-- Worked declarations: a mutual group with an equal call that is on no cycle, and a group that calls it under other worlds.
 use Rattle.std.specs.Prelude.{ℕ, zero, suc, List, [], ◌∷◌, Bool, true, false, Option, Some, None}
 use Rattle.lf.specs.Syntax.{Term, nil, app, LfType, Kind, pi, atom, kind_pi, star}
 use Rattle.lf.specs.Typing.{Signature}
 use Rattle.lf.specs.Subordination.{Block}
 use Rattle.lf_checks.specs.Clause.{Clause, constant_clause}
-use Rattle.lf_checks.specs.Worlded.{IsStrictBlock, WellWorlded}
+use Rattle.lf_checks.specs.Worlded.{IsStrictBlock, WellWorlded, BlocksServe}
 use Rattle.lf_checks.specs.Marks.{Mark, input}
 use Rattle.lf_totality.specs.Group.{Checked, IsRight}
 use Rattle.lf_totality.specs.Examples.{var, nat, z, successor}
@@ -66,16 +66,26 @@ first_four (suc n) = first_three n
 abbrev pub parity_record : Checked
 parity_record = record { families = 1 ∷ 2 ∷ []; marks = parity_marks; worlds = []; below = λ f. first_three; frozen = first_three }
 
--- the group of g alone, which calls e of the earlier record
-abbrev pub guard_record : Checked
-guard_record = record { families = 3 ∷ []; marks = parity_marks; worlds = []; below = λ f. first_four; frozen = first_four }
+-- block {u:g z}, whose entry is a clause of g
+abbrev pub guard_block : Block
+guard_block = record { label = 108 ∷ []; some = []; entries = on_one 3 z ∷ [] }
 
--- both groups last
+-- The group of g alone, in the worlds of this block. It calls e of the earlier record, whose worlds don't have the block: nothing of it
+-- is below e.
+abbrev pub guard_record : Checked
+guard_record = record { families = 3 ∷ []; marks = parity_marks; worlds = guard_block ∷ []; below = λ f. first_four; frozen = first_four }
+
+-- the mutual group lasts
 abbrev pub MutualGroupLasts : Type 0
 MutualGroupLasts = IsRight Parity parity_record
 
+-- block {x:nat}: in its worlds e may not be called, since a number may be its variable
+abbrev pub number_block : Block
+number_block = record { label = 108 ∷ []; some = []; entries = nat ∷ [] }
+
+-- the caller lasts too, under other worlds than those of what it calls; not any worlds will do
 abbrev pub CallerOfRecordLasts : Type 0
-CallerOfRecordLasts = IsRight Parity guard_record
+CallerOfRecordLasts = IsRight Parity guard_record × (BlocksServe guard_record.worlds parity_record.worlds first_three) × (BlocksServe (number_block ∷ []) parity_record.worlds first_three → ⊥)
 
 -- Blocks with `some` variables. Families: t : nat -> type = 4 and a : nat -> type = 5.
 

@@ -20,6 +20,7 @@ use Rattle.lf_cases.specs.Raised.{RaisedPlaces, PlacesBelow, CoveredRaisedOutput
 use Rattle.lf_totality.specs.Total.{HasTotalMarks, Total, Lasting}
 use Rattle.lf_checks.specs.Below.{IsSubordination}
 use Rattle.lf_totality.specs.Group.{Checked, IsRight, GroupChecked, GroupCheckedBySizes}
+use Rattle.lf_totality.specs.Facts.{Facts, FactsHold, GroupCheckedWith}
 
 -- the record of a checked group is right: each of its families lasts
 abbrev pub CheckedGroupIsRight : Type 0
@@ -28,6 +29,10 @@ CheckedGroupIsRight = (Σ : Signature) → IsSignature Σ → (R : Checked) (ord
 -- The same where sizes drop: the totality theorem rests on the orders by this alone.
 abbrev pub GroupBySizesIsRight : Type 0
 GroupBySizesIsRight = (Σ : Signature) → IsSignature Σ → (R : Checked) (order : ℕ → Order) (totals : List Checked) → GroupCheckedBySizes Σ R order totals → ((Q : Checked) → Member Q totals → IsRight Σ Q) → IsRight Σ R
+
+-- The same with facts about sizes that hold where a call is made, after the subgoals before it are solved.
+abbrev pub GroupWithFactsIsRight : Type 0
+GroupWithFactsIsRight = (Σ : Signature) → IsSignature Σ → (facts : Facts) (equal : ℕ → ℕ → Bool) (R : Checked) (order : ℕ → Order) (totals : List Checked) → FactsHold facts Σ R → GroupCheckedWith facts equal Σ R order totals → ((Q : Checked) → Member Q totals → IsRight Σ Q) → IsRight Σ R
 
 -- what lasts is total now
 abbrev pub LastingIsTotal : Type 0

@@ -1,5 +1,6 @@
 pub mod Total
 pub mod Group
+pub mod Facts
 pub mod Examples
 pub mod ExamplesGroups
 pub mod ExamplesBlocks
@@ -13,3 +14,4 @@ pub mod Sizes
 pub mod Checks
 pub mod Conclude
 pub mod ExamplesRecords
+pub mod ExamplesFacts

@@ -39,10 +39,15 @@ call_sizes order σ A = sizes_by (order (target A)) (target_arguments (substitut
 abbrev pub head_sizes : (ℕ → Order) → (ℕ → Image) → Clause → List ℕ
 head_sizes order σ c = sizes_by (order (target c.type)) (substitute_spine reduce σ (target_arguments c.type))
 
--- The sizes drop from the clause's head to its call A: they are less in each instance that keeps the fixed variables variables; or
--- the call is equal to the head and no equal calls lead back from it, and in no such instance they are greater.
+-- The sizes drop from the clause's head to its call A, in the instances of which K is known: they are less in each; or the call counts
+-- as equal to the head, by E, and they are greater in none.
+abbrev pub SizesDropBy : ((ℕ → Image) → Type 0) → Type 0 → (ℕ → Order) → Clause → LfType → Type 0
+SizesDropBy K E order c A = ((σ : ℕ → Image) → K σ → AreLess (call_sizes order σ A) (head_sizes order σ c)) ⊎ (E × ((σ : ℕ → Image) → K σ → AreLess (call_sizes order σ A) (head_sizes order σ c) ⊎ (call_sizes order σ A ≡ head_sizes order σ c)))
+
+-- They drop by the orders alone: in each instance that keeps the fixed variables variables; and an equal call is the same as the head by
+-- the orders, and no equal calls lead back from it.
 abbrev pub SizesDrop : Signature → List Block → (ℕ → Order) → List ℕ → Clause → LfType → Type 0
-SizesDrop Σ W order group c A = ((σ : ℕ → Image) → KeepsVariables (outside c.type c.fixed) σ → AreLess (call_sizes order σ A) (head_sizes order σ c)) ⊎ (SameCall order c A × (LeadsTo Σ W order group (target A) (target c.type) → ⊥) × ((σ : ℕ → Image) → KeepsVariables (outside c.type c.fixed) σ → AreLess (call_sizes order σ A) (head_sizes order σ c) ⊎ (call_sizes order σ A ≡ head_sizes order σ c)))
+SizesDrop Σ W order group c A = SizesDropBy (KeepsVariables (outside c.type c.fixed)) (SameCall order c A × (LeadsTo Σ W order group (target A) (target c.type) → ⊥)) order c A
 
 -- they drop in each call to the group in a clause of the group
 abbrev pub CallsDrop : Signature → List Block → (ℕ → Order) → List ℕ → Type 0

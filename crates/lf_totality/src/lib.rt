@@ -1,10 +1,11 @@
 //! The laws of total families of LF. They have no code: each function carries one law as its contract.
 #![tactic(auto)]
 
-ghost use Rattle.lf_totality.specs.Laws.{CheckedGroupIsRight, GroupBySizesIsRight, LastingIsTotal, LastingGoesOn, LastingOverMore, RecordStaysRight, CheckedStaysChecked, GroundFirstIsClosed, GroundAfterIsClosed, TypedTuplesAreRaised, RaisedOutputsCover, NoOutputsAreCovered, HeldOutputsAreCovered, OutputGoalCovers, ClauseGoalsCover, SubgoalContextIsWorld};
+ghost use Rattle.lf_totality.specs.Laws.{CheckedGroupIsRight, GroupBySizesIsRight, GroupWithFactsIsRight, LastingIsTotal, LastingGoesOn, LastingOverMore, RecordStaysRight, CheckedStaysChecked, GroundFirstIsClosed, GroundAfterIsClosed, TypedTuplesAreRaised, RaisedOutputsCover, NoOutputsAreCovered, HeldOutputsAreCovered, OutputGoalCovers, ClauseGoalsCover, SubgoalContextIsWorld};
 ghost use Rattle.lf_totality.specs.Conclude.{RecordFreezes, CalleesAreHeld, RecordIsOne, FewerModed, BlocksServeFewer, AppendedEntryExtends, CheckedBesideFewer, DescendingCallsDrop, ChecksConclude};
 ghost use Rattle.lf_totality.specs.Examples.{AdditionLasts, AdditionStaysChecked, NumbersHaveSums, CopyingLasts, TermsHaveCopies, BlockCaseIsCovered, PlusIsCoveredBySplits, PlusOutputGoal, CopyOutputGoal};
 ghost use Rattle.lf_totality.specs.ExamplesRecords.{AdditionHasRecord, OtherRecordsAreRefused};
+ghost use Rattle.lf_totality.specs.ExamplesFacts.{FactMakesCallsDrop};
 ghost use Rattle.lf_totality.specs.ExamplesGroups.{MutualGroupLasts, CallerOfRecordLasts, StrictBlockServes};
 ghost use Rattle.lf_totality.specs.ExamplesBlocks.{StrictBlockLasts, NumbersHaveDerivations};
 ghost use Rattle.lf_totality.specs.ExamplesSplits.{NoCaseStands, ClausesStand, InstancesStand, EntryInstanceStands, OutputsStand, LinearClausesStand};
@@ -17,9 +18,14 @@ pub fn checked_group_is_right()
     ensures { CheckedGroupIsRight }
 {}
 
-/// The same where the sizes of calls drop, by whatever facts about sizes.
+/// The same where the sizes of calls drop.
 pub fn group_by_sizes_is_right()
     ensures { GroupBySizesIsRight }
+{}
+
+/// The same where calls descend by facts about sizes, which hold since the subgoals before a call are solved.
+pub fn group_with_facts_is_right()
+    ensures { GroupWithFactsIsRight }
 {}
 
 /// What lasts is total now.
@@ -197,9 +203,14 @@ pub fn mutual_group_lasts()
     ensures { MutualGroupLasts }
 {}
 
-/// A group lasts that calls a family of an earlier record.
+/// A group lasts that calls a family of an earlier record under other worlds.
 pub fn caller_of_record_lasts()
     ensures { CallerOfRecordLasts }
+{}
+
+/// A call whose argument is an output drops by a fact about sizes, and not by its order.
+pub fn fact_makes_calls_drop()
+    ensures { FactMakesCallsDrop }
 {}
 
 /// A block with a strict `some` variable serves a subgoal, and one whose `some` variable stands in no entry serves none.

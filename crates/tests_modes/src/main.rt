@@ -2,17 +2,19 @@
 #![tactic(auto)]
 
 mod blocks;
+mod forms;
 mod reading;
 mod showing;
 
 use crate::blocks::{are_typed, block_types};
-use crate::reading::{read_group, read_modes, read_worlds};
+use crate::forms::{full, short};
+use crate::reading::{read_group, read_marks, read_modes, read_worlds};
 use crate::showing::{show_families, show_verdict};
 use std::alloc::Global;
 use std::{fs, io};
 use tests_forms::{Case, FormFault, Names, read_cases, read_signature};
-use tw_clause::{Modes, Worlds};
-use tw_mode::check_modes;
+use tw_clause::Worlds;
+use tw_mode::{ModeTable, check_mode, check_modes};
 use tw_signature::Signature;
 use tw_subord::Subord;
 use tw_terms::ConstId;
@@ -30,12 +32,26 @@ fn check(
     verdict(alloc, signature, names, &modes, &worlds, &group)
 }
 
+/// What it says of one family with marks that aren't in the table yet.
+fn mode(
+    alloc: Global,
+    signature: &Signature,
+    names: &Names,
+    case: &Case,
+) -> Result<String, FormFault> {
+    let modes = read_modes(alloc, names, case.text("modes")?)?;
+    let family = names.constant(case.text("family")?)?;
+    let marks = read_marks(alloc, case.text("marks")?)?;
+    let verdict = check_mode(alloc, signature, &modes, family, &marks);
+    show_verdict(alloc, names, &verdict)
+}
+
 /// The verdict as a line, where the blocks are typed.
 fn verdict(
     alloc: Global,
     signature: &Signature,
     names: &Names,
-    modes: &Modes,
+    modes: &ModeTable,
     worlds: &Worlds,
     group: &[ConstId],
 ) -> Result<String, FormFault> {
@@ -91,6 +107,9 @@ fn answer(
 ) -> Result<String, FormFault> {
     match case.kind.as_str() {
         "check" => check(alloc, signature, names, case),
+        "mode" => mode(alloc, signature, names, case),
+        "short" => short(alloc, signature, names, case),
+        "full" => full(alloc, names, case),
         "below" => below(alloc, signature, names, case),
         "families" => families(alloc, signature, names, case),
         _ => Err(FormFault::NoMeaning),

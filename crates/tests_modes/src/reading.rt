@@ -1,27 +1,29 @@
 //! Modes, groups and worlds read from the words of a case.
 use std::alloc::Global;
 use tests_forms::{Case, FormFault, Names, read_closed_context, read_forms};
-use tw_clause::{Block, Mark3, Modes, Worlds};
+use tw_clause::{Block, Mark3, Worlds};
 use tw_fixity::Name;
+use tw_mode::ModeTable;
 use tw_terms::ConstId;
 
-/// Rows of families and their marks in turn, as `plus ++- nat .`, where `.` is no mark.
-pub(crate) fn read_modes(alloc: Global, names: &Names, text: &str) -> Result<Modes, FormFault> {
-    let mut rows = Vec::new(alloc);
+/// Families and their marks in turn, as `plus ++- nat .`, where `.` is no mark; a later row of a family replaces an earlier one.
+pub(crate) fn read_modes(alloc: Global, names: &Names, text: &str) -> Result<ModeTable, FormFault> {
+    let mut modes = ModeTable::new(alloc);
     let mut family = None;
     for word in text.split_ascii_whitespace() {
         match family {
             None => family = Some(names.constant(word)?),
             Some(id) => {
-                rows.push((id, read_marks(alloc, word)?))?;
+                modes.set(id, read_marks(alloc, word)?)?;
                 family = None;
             }
         }
     }
-    Ok(Modes { rows })
+    Ok(modes)
 }
 
-fn read_marks(alloc: Global, word: &str) -> Result<Vec<Mark3>, FormFault> {
+/// Marks, as `++-`, where `.` is none.
+pub(crate) fn read_marks(alloc: Global, word: &str) -> Result<Vec<Mark3>, FormFault> {
     let mut marks = Vec::new(alloc);
     for letter in word.chars() {
         match letter {

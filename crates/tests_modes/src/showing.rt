@@ -1,7 +1,7 @@
 //! Verdicts and families as lines.
 use std::alloc::{AllocError, Global};
 use tests_forms::{FormFault, Names};
-use tw_clause::ClauseName;
+use tw_clause::{ClauseName, Mark3};
 use tw_mode::ModeFault;
 use tw_terms::ConstId;
 
@@ -40,6 +40,23 @@ fn show_name(line: &mut String, names: &Names, name: &ClauseName) -> Result<(), 
             line.push_str(std::str::from_utf8(label.as_bytes()).unwrap_or("?"))?;
             write!(line, "/{entry}")
         }
+    }
+}
+
+/// Marks as a line.
+pub(crate) fn show_marks(alloc: Global, marks: &[Mark3]) -> Result<String, AllocError> {
+    let mut line = String::new(alloc);
+    for mark in marks {
+        line.push(letter(*mark))?;
+    }
+    Ok(line)
+}
+
+fn letter(mark: Mark3) -> char {
+    match mark {
+        Mark3::Plus => '+',
+        Mark3::Minus => '-',
+        Mark3::Free => '*',
     }
 }
 

@@ -24,6 +24,7 @@ pub data Meaning : Type 0 where
   load_file : List ℕ → Meaning
   show_entry : List ℕ → Meaning
   show_signature : Meaning
+  show_subordination : Meaning
   reset : Meaning
   set : Setting → Meaning
   get : Parameter → Meaning
@@ -40,6 +41,7 @@ abbrev pub alone : List (List ℕ × Meaning)
 alone =
     (codes "readDecl", read_declaration)
     ∷ (codes "Print.sgn", show_signature)
+    ∷ (codes "Print.subord", show_subordination)
     ∷ (codes "reset", reset)
     ∷ (codes "version", version)
     ∷ (codes "quit", quit)
@@ -107,6 +109,7 @@ command_means commands.ReadDecl = read_declaration
 command_means (commands.LoadFile name) = load_file name
 command_means (commands.Decl name) = show_entry name
 command_means commands.PrintSgn = show_signature
+command_means commands.PrintSubord = show_subordination
 command_means commands.Reset = reset
 command_means (commands.Set setting) = set setting
 command_means (commands.Get parameter) = get parameter

@@ -35,6 +35,8 @@ pub enum Command {
     Decl(Name),
     /// `Print.sgn`: every declaration is printed.
     PrintSgn,
+    /// `Print.subord`: for each family those below it are printed.
+    PrintSubord,
     /// `reset`: all declarations are forgotten.
     Reset,
     /// `set p v`: the parameter gets the value.

@@ -64,6 +64,8 @@ fn command_alone(word: &str) -> Result<Command, CommandFault>
         Ok(Command::ReadDecl)
     } else if word == "Print.sgn" {
         Ok(Command::PrintSgn)
+    } else if word == "Print.subord" {
+        Ok(Command::PrintSubord)
     } else if word == "reset" {
         Ok(Command::Reset)
     } else if word == "version" {

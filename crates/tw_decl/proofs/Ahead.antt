@@ -13,8 +13,11 @@ use Rattle.tw_parse.specs.Syntax.{DeclarationOf}
 use Rattle.tw_parse.specs.Words.{Lexeme, lexemes, first_word, word_of}
 use Rattle.tw_parse.specs.declared.words.Word.{Word}
 use Rattle.tw_parse.specs.declared.words.Word.TheVariants.{Name, Underscore, Keyword}
+use Rattle.tw_parse_checks.specs.Shapes as drafts
+use Rattle.tw_parse_checks.specs.Shapes.{Draft, is_short, is_full}
 use Rattle.tw_decl.specs.View.{View}
 use Rattle.tw_decl.specs.Declaration.{AcceptsFrom}
+use Rattle.tw_decl.specs.Reading.{Read, plain, check, Reads}
 use Rattle.tw_decl.specs.Reports.{Reported}
 
 -- a declaration may begin with this word
@@ -37,6 +40,14 @@ shape_begins table words D (prefers w f a x u d) = ap begins w
 shape_begins table words D (prefers_both w f a x u y l d) = ap begins w
 shape_begins table words D (gives front xs dot w t f n d) = ap begins w
 
+draft_begins : (table : Table) (words : List Lexeme) (D : Draft) → drafts.Shapes table words D → begins (first_word words) ≡ true
+draft_begins table words D (is_short w k f m e) = ap begins w
+draft_begins table words D (is_full w k q f n e) = ap begins w
+
+read_begins : (v : View) (words : List Lexeme) (r : Read) → Reads v words r → begins (first_word words) ≡ true
+read_begins v words (plain d) h = shape_begins v.fixities words h.reads.0 h.reads.1
+read_begins v words (check c) h = draft_begins v.fixities words h.reads.0 h.reads.1
+
 -- neither a dot nor the end of the text does
 begins_on : (kind : TokenKind) (bytes : List ℕ) → begins (word_of kind bytes) ≡ true → ends kind ≡ false
 begins_on kinds.Dot bytes h = cc
@@ -56,5 +67,5 @@ goes_ahead text from upto (t ∷ ts) l h b =
 -- what is accepted reaches beyond where it begins, and not beyond its text
 pub accepted_ahead : (v w : View) (text : List ℕ) (report : Reported) (from upto : ℕ) → from ≤ length text → AcceptsFrom v text from report upto w → (from < upto) × (upto ≤ length text)
 accepted_ahead v w text report from upto l h =
-    let shaped = shape_begins v.fixities h.words h.makes.reads.reads.0 h.makes.reads.reads.1 in
+    let shaped = read_begins v h.words h.makes.read h.makes.reads in
     goes_ahead text from upto h.written.tokens l h.written.through (ap (λ (ws : List Lexeme). begins (first_word ws)) (sym h.written.spelled) ∙ shaped)

@@ -7,8 +7,8 @@ use Rattle.tw_lexer.specs.declared.token.Token.{Token}
 use Rattle.tw_lexer.specs.declared.token.Tokens.{Tokens}
 use Rattle.tw_lexer.specs.declared.token.TokenKind.{TokenKind}
 use Rattle.tw_lexer.specs.declared.token.TokenKind.TheVariants.{End}
-use Rattle.tw_parse.specs.Faults.{FaultStands}
 use Rattle.tw_parse.specs.Syntax.{Declaration, declare, define, prefer, give}
+use Rattle.tw_parse_checks.specs.Checks.{mode_short, mode_full}
 use Rattle.tw_parse.specs.Words.{Lexeme, lexemes, first_place}
 use Rattle.tw_recon.specs.declared.fault.ReconFault.{ReconFault}
 use Rattle.tw_recon.specs.declared.fault.ReconFault.TheVariants as reconstructions
@@ -16,8 +16,9 @@ use Rattle.tw_metas.specs.declared.left.LeftEquation.{LeftEquation}
 use Rattle.tw_parse.specs.declared.fault.SyntaxFault.{SyntaxFault}
 use Rattle.tw_parse.specs.declared.fault.SyntaxFault.TheVariants as faults
 use Rattle.tw_decl.specs.View.{View}
-use Rattle.tw_decl.specs.Declaration.{IsWritten, IsWrittenAlone, IsReadAs, HasNoMore, IsPastSyntax, IsCause, IsCauseAlone, IsLastCause, HasCauseFrom, HasCause}
-use Rattle.tw_decl.specs.Obstacles.{ReconstructionFails, IsNotEntered, HasObstacle}
+use Rattle.tw_decl.specs.Declaration.{IsWritten, IsWrittenAlone, HasNoMore, IsPastSyntax, IsCause, IsCauseAlone, IsLastCause, HasCauseFrom, HasCause}
+use Rattle.tw_decl.specs.Obstacles.{ReconstructionFails, IsNotEntered, HasObstacle, ReadHasObstacle}
+use Rattle.tw_decl.specs.Reading.{Read, plain, check, Reads, ReadFault}
 use Rattle.tw_decl.specs.Steps.{ShowsLeft, IsRefusedFor, IsTokenCause, is_end, is_over, refusal_of, refused_alone}
 use Rattle.tw_decl.specs.declared.refusal.Refusal.{Refusal}
 use Rattle.tw_decl.specs.declared.refusal.Refusal.TheVariants as refusals
@@ -58,7 +59,7 @@ token_cause v text (refusals.TooMany place) h = h
 token_cause v text refusal h = absurd h
 
 -- a fault of the grammar is a cause
-pub parsed_cause : (v : View) (end : Place) (words : List Lexeme) (fault : SyntaxFault) → FaultStands v.fixities end words fault → IsCause v end words (refusal_of fault)
+pub parsed_cause : (v : View) (end : Place) (words : List Lexeme) (fault : SyntaxFault) → ReadFault v end words fault → IsCause v end words (refusal_of fault)
 parsed_cause v end words (faults.Unsupported name place) h = inl h
 parsed_cause v end words (faults.Nesting place) h = inl h
 parsed_cause v end words (faults.Syntax place) h = inl h
@@ -76,7 +77,7 @@ later v end words next refusal true e cause past = inr (inr (end_by next.kind e,
 later v end words next refusal false e cause past = inr (inl (not_end next.kind e, refl, past))
 
 -- a fault of the grammar is a cause of a text that has to be alone
-pub alone_cause : (v : View) (end : Place) (words : List Lexeme) (next : Token) (fault : SyntaxFault) → FaultStands v.fixities end words fault → IsCauseAlone v end words next (refused_alone fault next)
+pub alone_cause : (v : View) (end : Place) (words : List Lexeme) (next : Token) (fault : SyntaxFault) → ReadFault v end words fault → IsCauseAlone v end words next (refused_alone fault next)
 alone_cause v end words next (faults.Unsupported name place) h = inl h
 alone_cause v end words next (faults.Nesting place) h = inl h
 alone_cause v end words next (faults.Syntax place) h = inl h
@@ -114,21 +115,27 @@ no_obstacle_before v (define c A M b) first place = (λ h. h, λ h. h, λ h. h)
 no_obstacle_before v (prefer a x y) first place = (λ h. h, λ h. h, λ h. h)
 no_obstacle_before v (give fix names) first place = (λ h. h, λ h. h, λ h. h)
 
+none_before : (v : View) (r : Read) (first place : Place)
+    → (ReadHasObstacle v r first (refusals.Lex place) → ⊥) × (ReadHasObstacle v r first (refusals.TooMany place) → ⊥) × (ReadHasObstacle v r first (refusals.Fixity place) → ⊥)
+none_before v (plain d) first place = no_obstacle_before v d first place
+none_before v (check (mode_short a ms)) first place = (λ h. h.1, λ h. h.1, λ h. h.1)
+none_before v (check (mode_full ms a n d)) first place = (λ h. h.1, λ h. h.1, λ h. h.1)
+
 -- an obstacle of the words is a cause
-pub last_cause : (v : View) (end : Place) (words : List Lexeme) (d : Declaration) (refusal : Refusal) → IsReadAs v words d → HasObstacle v d (first_place end words) refusal → IsLastCause v end words refusal
-last_cause v end words d refusals.Memory reads h = tt
-last_cause v end words d (refusals.Fixity place) reads h = absurd ((no_obstacle_before v d (first_place end words) place).2 h)
-last_cause v end words d (refusals.BadDecl place) reads h = inr (record { declaration = d; reads = reads; obstacle = h })
-last_cause v end words d refusal reads h = record { declaration = d; reads = reads; obstacle = h }
+pub last_cause : (v : View) (end : Place) (words : List Lexeme) (r : Read) (refusal : Refusal) → Reads v words r → ReadHasObstacle v r (first_place end words) refusal → IsLastCause v end words refusal
+last_cause v end words r refusals.Memory reads h = tt
+last_cause v end words r (refusals.Fixity place) reads h = absurd ((none_before v r (first_place end words) place).2 h)
+last_cause v end words r (refusals.BadDecl place) reads h = inr (record { read = r; reads = reads; obstacle = h })
+last_cause v end words r refusal reads h = record { read = r; reads = reads; obstacle = h }
 
 -- the cause of the words is that of the declaration
 pub cause_from : (v : View) (text : List ℕ) (from upto : ℕ) (words : List Lexeme) (end : Place) (refusal : Refusal) → (HasNoMore text from → ⊥) → IsWritten text from upto words end
     → IsCause v end words refusal → HasCauseFrom v text from refusal
 cause_from v text from upto words end refusals.Memory more written h = tt
 cause_from v text from upto words end (refusals.Lex place) more written (inl h) = absurd h
-cause_from v text from upto words end (refusals.Lex place) more written (inr h) = absurd ((no_obstacle_before v h.declaration (first_place end words) place).0 h.obstacle)
+cause_from v text from upto words end (refusals.Lex place) more written (inr h) = absurd ((none_before v h.read (first_place end words) place).0 h.obstacle)
 cause_from v text from upto words end (refusals.TooMany place) more written (inl h) = absurd h
-cause_from v text from upto words end (refusals.TooMany place) more written (inr h) = absurd ((no_obstacle_before v h.declaration (first_place end words) place).1 h.obstacle)
+cause_from v text from upto words end (refusals.TooMany place) more written (inr h) = absurd ((none_before v h.read (first_place end words) place).1 h.obstacle)
 cause_from v text from upto words end refusal more written h = (more, (upto, words, end, written, h))
 
 pub cause_alone : (v : View) (text : List ℕ) (words : List Lexeme) (end : Place) (next : Token) (refusal : Refusal) → IsWrittenAlone text words end next
@@ -136,8 +143,8 @@ pub cause_alone : (v : View) (text : List ℕ) (words : List Lexeme) (end : Plac
 cause_alone v text words end next refusals.Memory written h = tt
 cause_alone v text words end next (refusals.Lex place) written (inl h) = absurd h
 cause_alone v text words end next (refusals.Lex place) written (inr (inl h)) = absurd h
-cause_alone v text words end next (refusals.Lex place) written (inr (inr h)) = absurd ((no_obstacle_before v h.1.declaration (first_place end words) place).0 h.1.obstacle)
+cause_alone v text words end next (refusals.Lex place) written (inr (inr h)) = absurd ((none_before v h.1.read (first_place end words) place).0 h.1.obstacle)
 cause_alone v text words end next (refusals.TooMany place) written (inl h) = absurd h
 cause_alone v text words end next (refusals.TooMany place) written (inr (inl h)) = absurd h
-cause_alone v text words end next (refusals.TooMany place) written (inr (inr h)) = absurd ((no_obstacle_before v h.1.declaration (first_place end words) place).1 h.1.obstacle)
+cause_alone v text words end next (refusals.TooMany place) written (inr (inr h)) = absurd ((none_before v h.1.read (first_place end words) place).1 h.1.obstacle)
 cause_alone v text words end next refusal written h = (words, end, next, written, h)

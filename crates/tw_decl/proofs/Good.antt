@@ -6,8 +6,6 @@ use Rattle.tw_lexer.specs.declared.place.Place.{Place}
 use Rattle.tw_lexer.specs.declared.token.Token.{Token}
 use Rattle.tw_lexer.specs.declared.token.TokenKind.TheVariants.{End}
 use Rattle.tw_lexer.proofs.TokensUnique.{tokens_unique, fault_excludes, too_many_excludes}
-use Rattle.tw_parse.proofs.OneReading.{one_reading}
-use Rattle.tw_parse.specs.Faults.{FaultStands}
 use Rattle.tw_parse.specs.Syntax.{Declaration, Term, declare, define, prefer, give}
 use Rattle.tw_parse.specs.Words.{Lexeme, lexemes, first_place}
 use Rattle.tw_parse.specs.declared.fault.SyntaxFault.{SyntaxFault}
@@ -22,10 +20,11 @@ use Rattle.law_explicit_agrees.proofs.Deep.{explicit_deep_only_so}
 use Rattle.law_explicit_agrees.proofs.Full.{no_lambda, no_name, no_type}
 use Rattle.law_explicit_agrees.proofs.Only.{no_other_cause}
 use Rattle.tw_decl.specs.View.{View, IsSound}
-use Rattle.tw_decl.specs.Declaration.{IsWritten, IsWrittenAlone, IsReadAs, IsFaultBehind, IsNotMade, IsFirstCause, IsFollowed, IsLastCause, IsCause, IsCauseAlone, HasNoMore}
-use Rattle.tw_decl.specs.Obstacles.{IsNotEntered, HasObstacle}
+use Rattle.tw_decl.specs.Declaration.{IsWritten, IsWrittenAlone, IsFaultBehind, IsNotMade, IsFirstCause, IsFollowed, IsLastCause, IsCause, IsCauseAlone, HasNoMore}
+use Rattle.tw_decl.specs.Obstacles.{IsNotEntered, HasObstacle, ReadHasObstacle}
 use Rattle.tw_decl.specs.Laws.{IsWellTyped, IsCompletable, IsGoodDeclaration, IsGood, IsGoodFrom, GoodIsAccepted, GoodFromIsAccepted}
-use Rattle.tw_decl.proofs.Faultless.{read_faultless}
+use Rattle.tw_decl.specs.Reading.{Read, IsReadAs, ReadFault}
+use Rattle.tw_decl.proofs.Faultless.{of_grammar, only_read, read_faultless}
 use Rattle.tw_decl.specs.declared.refusal.Refusal.{Refusal}
 use Rattle.tw_decl.specs.declared.refusal.Refusal.TheVariants.{Memory, Lex, TooMany, Unsupported, Nesting, Syntax, Fixity, BadDecl, Unknown, Loose, Mismatch, Leftover, TooDeep}
 
@@ -55,8 +54,8 @@ same_next text words us end last next other h k =
     cc
 
 -- its tokens have no fault
-faultless : (v : View) (words : List Lexeme) (end : Place) (d : Declaration) → IsReadAs v words d → (fault : SyntaxFault) → FaultStands v.fixities end words fault → fault ≡ faults.NoMemory
-faultless v words end d r fault h = read_faultless v.fixities end words d r.begins r.reads fault h
+faultless : (v : View) (words : List Lexeme) (end : Place) (d : Declaration) → IsReadAs v words d → (fault : SyntaxFault) → ReadFault v end words fault → fault ≡ faults.NoMemory
+faultless v words end d r fault h = read_faultless v.fixities end words d r.begins r.reads fault (of_grammar v end words fault r.begins h)
 
 not_first : (v : View) (words : List Lexeme) (end : Place) (d : Declaration) (refusal : Refusal) → IsReadAs v words d → IsFirstCause v end words refusal → refusal ≡ Memory
 not_first v words end d Memory r h = refl
@@ -126,9 +125,7 @@ no_obstacle v d s (inr k) = completable v d k
 
 not_made : (v : View) (words : List Lexeme) (end : Place) (d : Declaration) (refusal : Refusal) → IsReadAs v words d → NoObstacle v d → IsNotMade v end words refusal → refusal ≡ Memory
 not_made v words end d refusal r free h =
-    let once = one_reading v.fixities words d r.reads in
-    let same = once.0 h.declaration h.reads.reads in
-    free (first_place end words) refusal (subst (λ (x : Declaration). HasObstacle v x (first_place end words) refusal) same h.obstacle)
+    free (first_place end words) refusal (subst (λ (x : Read). ReadHasObstacle v x (first_place end words) refusal) (only_read v words d r h.read h.reads) h.obstacle)
 
 not_last : (v : View) (words : List Lexeme) (end : Place) (d : Declaration) (refusal : Refusal) → IsReadAs v words d → NoObstacle v d → IsLastCause v end words refusal → refusal ≡ Memory
 not_last v words end d Memory r free h = refl

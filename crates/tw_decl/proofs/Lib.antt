@@ -1,10 +1,13 @@
 pub mod Reports
 pub mod Causes
 pub mod Sound
+pub mod Asking
 pub mod Faultless
 pub mod Good
 pub mod Undone
 pub mod Arguments
+pub mod Naming
+pub mod Unset
 pub mod GoodText
 pub mod GoodDefinition
 pub mod Ahead

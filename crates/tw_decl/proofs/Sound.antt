@@ -3,7 +3,8 @@ use Rattle.std.proofs.Common.{List, None, Some, sym, subst}
 use Rattle.tw_parse.specs.Syntax.{Declaration, declare, define, prefer, give}
 use Rattle.tw_parse.specs.Words.{Lexeme}
 use Rattle.tw_decl.specs.View.{View, IsSound}
-use Rattle.tw_decl.specs.Declaration.{Does, Makes}
+use Rattle.tw_decl.specs.Declaration.{Does, Makes, ReadDoes}
+use Rattle.tw_decl.specs.Reading.{Read, plain, check}
 use Rattle.tw_decl.specs.Reports.{Reported}
 use Rattle.tw_decl.specs.Laws.{AcceptingKeepsSound, AcceptingFromKeepsSound}
 
@@ -14,8 +15,12 @@ does_sound v w (define (Some c) A M b) report h s = subst IsSound (sym h.keeps) 
 does_sound v w (prefer a x y) report h s = subst IsSound (sym h.keeps) s
 does_sound v w (give fix names) report h s = subst IsSound (sym h.keeps) s
 
+read_sound : (v w : View) (r : Read) (report : Reported) → ReadDoes v r report w → IsSound v → IsSound w
+read_sound v w (plain d) report h s = does_sound v w d report h s
+read_sound v w (check c) report h s = subst IsSound (sym h.keeps) s
+
 makes_sound : (v w : View) (words : List Lexeme) (report : Reported) → Makes v words report w → IsSound v → IsSound w
-makes_sound v w words report h s = does_sound v w h.declaration report h.does s
+makes_sound v w words report h s = read_sound v w h.read report h.does s
 
 pub accepted_sound : AcceptingKeepsSound
 accepted_sound v w text report h s = makes_sound v w h.words report h.makes s

@@ -2,25 +2,27 @@
 use Rattle.std.specs.Prelude.{◌≡◌, ◌≢◌, ◌⊎◌, ℕ, List, ◌++◌, Bool, true, false, codes, Option, None, Some, Ok, Err, if◌then◌else◌}
 use Rattle.std.specs.FinMap as map
 use Rattle.lf.specs.Entries.{Entry, entry, signature_of, IsCanonicalEntry}
+use Rattle.lf_checks.specs.Marks.{Mark}
 use Rattle.tw_fixity.specs.declared.table.Fix.{Fix}
 use Rattle.tw_lexer.specs.Places.{place_of}
 use Rattle.tw_lexer.specs.Tokens.{first_token, ThroughDot, IsFew, HasFault, HasTooMany}
 use Rattle.tw_lexer.specs.declared.place.Place.{Place}
 use Rattle.tw_lexer.specs.declared.token.Token.{Token}
 use Rattle.tw_lexer.specs.declared.token.TokenKind.TheVariants.{End}
-use Rattle.tw_parse.specs.Faults.{IsRead, FaultStands}
-use Rattle.tw_parse.specs.Readings.{Declares}
 use Rattle.tw_parse.specs.Syntax.{Declaration, declare, define, prefer, give}
 use Rattle.tw_parse.specs.declared.decl.ExtName.{ExtName}
 use Rattle.tw_parse.specs.Words.{Lexeme, lexemes, first_place}
 use Rattle.tw_parse.specs.declared.fault.SyntaxFault.TheVariants as faults
 use Rattle.tw_print.specs.Shown.{declaration_line, scene_after}
+use Rattle.tw_parse_checks.specs.Checks.{Check}
 use Rattle.tw_recon.specs.Reconstruction.{IsReconstructed}
-use Rattle.tw_decl.specs.View.{View, scene_of, told, with_entry}
+use Rattle.tw_decl.specs.View.{View, scene_of, told, with_entry, with_mode}
 use Rattle.tw_signature.specs.Names.{number_of}
-use Rattle.tw_decl.specs.Obstacles.{HasObstacle}
+use Rattle.tw_decl.specs.Modes.{GivesMarks, IsApplied, IsModed, check_family, mode_line}
+use Rattle.tw_decl.specs.Obstacles.{ReadHasObstacle}
 use Rattle.tw_decl.specs.Operators.{operand_count, all_take, first_undeclared, with_rows, fixity_line}
 use Rattle.tw_decl.specs.Preferences.{is_family, preference_line}
+use Rattle.tw_decl.specs.Reading.{Read, plain, check, Reads, ReadFault}
 use Rattle.tw_decl.specs.Refusals.{refusal_line}
 use Rattle.tw_decl.specs.Reports.{Reported, lines_alone, reported}
 use Rattle.tw_decl.specs.declared.declaration.Next.{Next}
@@ -36,11 +38,6 @@ pub record IsWritten (text : List ℕ) (from upto : ℕ) (words : List Lexeme) (
   pub few : IsFew tokens
   pub spelled : words ≡ lexemes text tokens
   pub behind : end ≡ place_of text upto
-
--- the words are this declaration: no cause that is told before the grammar stands, and they have this reading
-pub record IsReadAs (v : View) (words : List Lexeme) (d : Declaration) : Type 0 where
-  pub begins : IsRead words
-  pub reads : Declares v.fixities words d
 
 -- the line of an entry as it is shown once it is kept
 unfoldable pub entry_line : View → Entry → List ℕ
@@ -89,36 +86,51 @@ Does v (define c A M b) report w = Enters v (define c A M b) report w
 Does v (prefer a x y) report w = Prefers v a x y report w
 Does v (give fix names) report w = GivesRows v fix names report w
 
--- a declaration that is made
+-- modes: the check names this family, with just its arguments, and gives it these marks, by which its clauses are well-moded; it gets them
+pub record SetsMode (v : View) (c : Check) (report : Reported) (w : View) : Type 0 where
+  pub family : ℕ
+  pub marks : List Mark
+  pub applied : IsApplied v.signature c family
+  pub gives : GivesMarks v.signature c family marks
+  pub moded : IsModed v family marks
+  pub says : report ≡ lines_alone (told v (mode_line (check_family c).name marks))
+  pub keeps : w ≡ with_mode v family marks
+
+-- what is done of what is read
+abbrev pub ReadDoes : View → Read → Reported → View → Type 0
+ReadDoes v (plain d) report w = Does v d report w
+ReadDoes v (check c) report w = SetsMode v c report w
+
+-- what is read is made
 pub record Makes (v : View) (words : List Lexeme) (report : Reported) (w : View) : Type 0 where
-  pub declaration : Declaration
-  pub reads : IsReadAs v words declaration
-  pub does : Does v declaration report w
+  pub read : Read
+  pub reads : Reads v words read
+  pub does : ReadDoes v read report w
 
 -- the causes that are told before what follows the declaration is looked at; want of memory has none
 abbrev pub IsFirstCause : View → Place → List Lexeme → Refusal → Type 0
 IsFirstCause v end words refusals.Memory = Unit {0}
-IsFirstCause v end words (refusals.Unsupported place name) = FaultStands v.fixities end words (faults.Unsupported name place)
-IsFirstCause v end words (refusals.Nesting place) = FaultStands v.fixities end words (faults.Nesting place)
-IsFirstCause v end words (refusals.Syntax place) = FaultStands v.fixities end words (faults.Syntax place)
+IsFirstCause v end words (refusals.Unsupported place name) = ReadFault v end words (faults.Unsupported name place)
+IsFirstCause v end words (refusals.Nesting place) = ReadFault v end words (faults.Nesting place)
+IsFirstCause v end words (refusals.Syntax place) = ReadFault v end words (faults.Syntax place)
 IsFirstCause v end words _ = ⊥
 
--- the words are a declaration that isn't made
+-- what the words are read as isn't made
 pub record IsNotMade (v : View) (end : Place) (words : List Lexeme) (refusal : Refusal) : Type 0 where
-  pub declaration : Declaration
-  pub reads : IsReadAs v words declaration
-  pub obstacle : HasObstacle v declaration (first_place end words) refusal
+  pub read : Read
+  pub reads : Reads v words read
+  pub obstacle : ReadHasObstacle v read (first_place end words) refusal
 
 -- the causes behind them
 abbrev pub IsLastCause : View → Place → List Lexeme → Refusal → Type 0
 IsLastCause v end words refusals.Memory = Unit {0}
-IsLastCause v end words (refusals.Fixity place) = FaultStands v.fixities end words (faults.Fixity place)
-IsLastCause v end words (refusals.BadDecl place) = FaultStands v.fixities end words (faults.BadDecl place) ⊎ IsNotMade v end words (refusals.BadDecl place)
+IsLastCause v end words (refusals.Fixity place) = ReadFault v end words (faults.Fixity place)
+IsLastCause v end words (refusals.BadDecl place) = ReadFault v end words (faults.BadDecl place) ⊎ IsNotMade v end words (refusals.BadDecl place)
 IsLastCause v end words refusal = IsNotMade v end words refusal
 
--- no cause through `Syntax` stands: the words are a declaration, or have a fault that is told later, of their operators or of the arguments of a keyword
+-- no cause through `Syntax` stands: the words are read, or have a fault that is told later, of their operators or of the arguments of a keyword
 abbrev pub IsPastSyntax : View → Place → List Lexeme → Type 0
-IsPastSyntax v end words = ((d : Declaration) × IsReadAs v words d) ⊎ ((place : Place) × FaultStands v.fixities end words (faults.Fixity place)) ⊎ ((place : Place) × FaultStands v.fixities end words (faults.BadDecl place))
+IsPastSyntax v end words = ((r : Read) × Reads v words r) ⊎ ((place : Place) × ReadFault v end words (faults.Fixity place)) ⊎ ((place : Place) × ReadFault v end words (faults.BadDecl place))
 
 -- A declaration that has to be alone in its text: a token that follows it is refused where it stands, behind the first causes and before the last ones.
 abbrev pub IsFollowed : View → Place → List Lexeme → Token → Refusal → Type 0

@@ -15,7 +15,8 @@ use Rattle.tw_recon.specs.Completed.{HasCompletion}
 use Rattle.tw_recon.specs.declared.fault.ReconFault.TheVariants.{Leftover, TooDeep}
 use Rattle.tw_metas.specs.declared.left.LeftEquation.{LeftEquation}
 use Rattle.tw_decl.specs.View.{View, IsSound}
-use Rattle.tw_decl.specs.Declaration.{IsWritten, IsWrittenAlone, IsReadAs, Accepts, AcceptsFrom, HasCause, HasCauseFrom}
+use Rattle.tw_decl.specs.Declaration.{IsWritten, IsWrittenAlone, Accepts, AcceptsFrom, HasCause, HasCauseFrom}
+use Rattle.tw_decl.specs.Reading.{IsReadAs}
 use Rattle.tw_decl.specs.Reports.{Reported}
 use Rattle.tw_decl.specs.declared.refusal.Refusal.{Refusal}
 use Rattle.tw_decl.specs.declared.refusal.Refusal.TheVariants.{Memory}

@@ -4,6 +4,8 @@ pub mod Refusals
 pub mod Reports
 pub mod Operators
 pub mod Preferences
+pub mod Reading
+pub mod Modes
 pub mod Obstacles
 pub mod Declaration
 pub mod Steps

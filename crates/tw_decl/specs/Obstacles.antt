@@ -1,19 +1,27 @@
 -- Why a declaration that is read isn't made: by its form, and then by its refusals.
-use Rattle.std.specs.Prelude.{◌≡◌, ◌⊎◌, List, ℕ, map as each, false, codes, None, Some, IsSome}
+use Rattle.std.specs.Prelude.{◌≡◌, ◌⊎◌, List, [], ◌++◌, ℕ, map as each, false, codes, None, Some, IsSome}
+use Rattle.lf.specs.Entries.{Entry}
+use Rattle.lf_checks.specs.Clauses.{ClauseName}
+use Rattle.lf_checks.specs.Marks.{Mark}
 use Rattle.tw_equation.specs.Text.{equation_text}
 use Rattle.tw_fixity.specs.declared.table.Fix.{Fix}
 use Rattle.tw_lexer.specs.declared.place.Place.{Place}
 use Rattle.tw_metas.specs.Named.{shown_type_of}
 use Rattle.tw_metas.specs.View.{equation_of}
 use Rattle.tw_metas.specs.declared.left.LeftEquation.{LeftEquation}
+use Rattle.tw_names.specs.Unknown.{IsFirst}
 use Rattle.tw_parse.specs.Syntax.{Declaration, declare, define, prefer, give}
 use Rattle.tw_parse.specs.declared.decl.ExtName.{ExtName}
+use Rattle.tw_parse_checks.specs.Checks.{Check, mode_short, mode_full}
+use Rattle.tw_print.specs.Names.{constant_word}
 use Rattle.tw_recon.specs.Causes as reconstruction
 use Rattle.tw_recon.specs.declared.fault.ReconFault.{ReconFault}
 use Rattle.tw_recon.specs.declared.fault.ReconFault.TheVariants as reconstructions
 use Rattle.tw_signature.specs.Names.{number_of}
+use Rattle.tw_decl.specs.Modes.{GivesMarks, IsApplied, IsIllModed, IsNoFullForm, LacksMode, argument_count, check_family, clause_word, takes_just, unknown_in_check}
 use Rattle.tw_decl.specs.Operators.{newest, operand_count, all_take, first_undeclared}
 use Rattle.tw_decl.specs.Preferences.{is_family}
+use Rattle.tw_decl.specs.Reading.{Read, plain, check}
 use Rattle.tw_decl.specs.View.{View, scene_of}
 use Rattle.tw_decl.specs.declared.refusal.Refusal.{Refusal}
 use Rattle.tw_decl.specs.declared.refusal.Refusal.TheVariants as refusals
@@ -66,3 +74,50 @@ HasObstacle v (declare c at U) first refusal = IsNotEntered v (declare c at U) f
 HasObstacle v (define c A M b) first refusal = IsNotEntered v (define c A M b) first refusal
 HasObstacle v (prefer a x y) first refusal = IsNotPreferred v a first refusal
 HasObstacle v (give fix names) first refusal = IsNotGiven v fix names first refusal
+
+-- The names of a check are known, and it names no family, or one with more or fewer explicit arguments.
+abbrev pub IsMisapplied : List Entry → Check → Type 0
+IsMisapplied es c = (unknown_in_check es c ≡ []) × (takes_just (argument_count c) (newest es (check_family c).name) ≡ false)
+
+-- why a full form gives no marks: it isn't reconstructed, or what comes of it has not the form
+abbrev pub IsNotFull : View → Declaration → Place → Refusal → Type 0
+IsNotFull v d first (refusals.BadDecl place) = IsNoFullForm v.signature d × (place ≡ first)
+IsNotFull v d first refusal = IsNotEntered v d first refusal
+
+-- why a check of a family with just its arguments gives no marks
+abbrev pub GivesNoMarks : View → Check → Place → Refusal → Type 0
+GivesNoMarks v (mode_short a ms) first refusal = ⊥
+GivesNoMarks v (mode_full ms a n d) first refusal = IsNotFull v d first refusal
+
+abbrev pub MarksFail : View → Check → Place → Refusal → Type 0
+MarksFail v c first refusal = ((family : ℕ) × IsApplied v.signature c family) × GivesNoMarks v c first refusal
+
+-- Why a family isn't checked by these marks: it meets this family, which has no mode and is shown behind `mode`; or this clause isn't well-moded.
+abbrev pub IsNotModed : View → ℕ → List Mark → Place → Refusal → Type 0
+IsNotModed v family marks first refusals.Memory = Unit {0}
+IsNotModed v family marks first (refusals.NotDeclared place text) = ((g : ℕ) × LacksMode v family marks g × (text.items ≡ codes "mode " ++ constant_word (scene_of v) g)) × (place ≡ first)
+IsNotModed v family marks first (refusals.ModeFault place clause k j) = ((name : ClauseName) × IsIllModed v family marks name k j × (clause.items ≡ clause_word (scene_of v) name)) × (place ≡ first)
+IsNotModed v family marks first _ = ⊥
+
+-- the check gives its family these marks, and it isn't checked by them
+pub record RowFails (v : View) (c : Check) (first : Place) (refusal : Refusal) : Type 0 where
+  pub family : ℕ
+  pub marks : List Mark
+  pub applied : IsApplied v.signature c family
+  pub gives : GivesMarks v.signature c family marks
+  pub fails : IsNotModed v family marks first refusal
+
+-- Why a check doesn't give its family a mode, where its first token stands at this place: a name of it isn't known; what it names is no family with just its arguments; it
+-- gives no marks; or the family isn't checked by them.
+abbrev pub IsNotSet : View → Check → Place → Refusal → Type 0
+IsNotSet v c first refusals.Memory = Unit {0}
+IsNotSet v c first (refusals.Unknown place name) = IsFirst (record { name = name; at = place }) (unknown_in_check v.signature c)
+IsNotSet v c first (refusals.BadDecl place) = (IsMisapplied v.signature c × (place ≡ first)) ⊎ MarksFail v c first (refusals.BadDecl place)
+IsNotSet v c first (refusals.NotDeclared place text) = RowFails v c first (refusals.NotDeclared place text)
+IsNotSet v c first (refusals.ModeFault place clause k j) = RowFails v c first (refusals.ModeFault place clause k j)
+IsNotSet v c first refusal = MarksFail v c first refusal
+
+-- why what is read isn't made
+abbrev pub ReadHasObstacle : View → Read → Place → Refusal → Type 0
+ReadHasObstacle v (plain d) first refusal = HasObstacle v d first refusal
+ReadHasObstacle v (check c) first refusal = IsNotSet v c first refusal

@@ -2,11 +2,15 @@
 use Rattle.std.specs.Prelude.{ℕ, List, ◌++◌, codes, decimal}
 use Rattle.tw_lexer.specs.declared.place.Place.{Place}
 use Rattle.tw_decl.specs.declared.refusal.Refusal.{Refusal}
-use Rattle.tw_decl.specs.declared.refusal.Refusal.TheVariants.{Memory, Lex, TooMany, Unsupported, Nesting, Syntax, Fixity, BadDecl, Unknown, Loose, Mismatch, Leftover, TooDeep}
+use Rattle.tw_decl.specs.declared.refusal.Refusal.TheVariants.{Memory, Lex, TooMany, Unsupported, Nesting, Syntax, Fixity, BadDecl, Unknown, Loose, Mismatch, Leftover, TooDeep, NotDeclared, ModeFault}
 
 -- where a text came from, and a place in it
 abbrev pub show_place : List ℕ → Place → List ℕ
 show_place origin place = origin ++ codes ":" ++ decimal place.line ++ codes ":" ++ decimal place.column
+
+-- a clause, and the numbers of a subgoal and an argument
+abbrev pub fault_words : List ℕ → ℕ → ℕ → List ℕ
+fault_words clause subgoal argument = clause ++ codes " " ++ decimal subgoal ++ codes " " ++ decimal argument
 
 -- the line of a refusal: its place, its number and name, and what it shows
 abbrev pub refusal_line : List ℕ → Refusal → List ℕ
@@ -23,3 +27,5 @@ refusal_line origin (Loose place) = show_place origin place ++ codes " E7 Loose\
 refusal_line origin (Mismatch place) = show_place origin place ++ codes " E5 Mismatch\n"
 refusal_line origin (Leftover place text) = show_place origin place ++ codes " E6 Leftover " ++ text.items ++ codes "\n"
 refusal_line origin (TooDeep place) = show_place origin place ++ codes " E10 TooDeep\n"
+refusal_line origin (NotDeclared place text) = show_place origin place ++ codes " E12 NotDeclared " ++ text.items ++ codes "\n"
+refusal_line origin (ModeFault place clause subgoal argument) = show_place origin place ++ codes " E13 ModeFault " ++ fault_words clause.items subgoal argument ++ codes "\n"

@@ -1,24 +1,32 @@
 -- What the steps of a declaration come to. The proofs need these; the definitions of a declaration don't speak of them.
-use Rattle.std.specs.Prelude.{◌≡◌, ◌⊎◌, ℕ, List, [], ◌∷◌, Bool, true, false, codes, None, Some, MatchResult, ◌||◌, if◌then◌else◌}
+use Rattle.std.specs.Prelude.{◌≡◌, ◌⊎◌, ℕ, List, [], ◌∷◌, ◌++◌, map as each, Bool, true, false, codes, Option, None, Some, Vec, MatchResult, ◌||◌, if◌then◌else◌}
+use Rattle.std.specs.Global.{Global}
 use Rattle.std.specs.declared.result.Result.{Result}
 use Rattle.tw_lexer.specs.Tokens.{HasFault, HasTooMany}
 use Rattle.tw_lexer.specs.declared.place.Place.{Place}
 use Rattle.tw_lexer.specs.declared.token.Token.{Token}
 use Rattle.tw_lexer.specs.declared.token.TokenKind.{TokenKind}
 use Rattle.tw_lexer.specs.declared.token.TokenKind.TheVariants.{End}
-use Rattle.tw_parse.specs.Faults.{FaultStands}
-use Rattle.tw_parse.specs.View.{declaration_of}
 use Rattle.tw_parse.specs.Words.{Lexeme}
-use Rattle.tw_parse.specs.declared.decl.ExtDecl.{ExtDecl}
 use Rattle.tw_parse.specs.declared.fault.SyntaxFault.{SyntaxFault}
 use Rattle.tw_parse.specs.declared.fault.SyntaxFault.TheVariants as faults
 use Rattle.tw_parse.specs.declared.decl.ExtName.{ExtName}
 use Rattle.tw_recon.specs.declared.fault.ReconFault.{ReconFault}
 use Rattle.tw_recon.specs.declared.fault.ReconFault.TheVariants as reconstructions
 use Rattle.tw_metas.specs.declared.left.LeftEquation.{LeftEquation}
-use Rattle.tw_decl.specs.View.{View}
-use Rattle.tw_decl.specs.Declaration.{IsReadAs}
+use Rattle.lf.specs.Entries.{Entry}
+use Rattle.lf.specs.Syntax.{LfType}
+use Rattle.lf_checks.specs.Clauses.{ClauseName}
+use Rattle.lf_checks.specs.Marks.{Mark}
+use Rattle.lf_checks.specs.ModeForms.{full_marks}
+use Rattle.tw_clause.specs.View.{mark_of as plain_mark}
+use Rattle.tw_clause.specs.declared.name.Mark3.{Mark3}
+use Rattle.tw_print.specs.Names.{constant_word}
+use Rattle.tw_decl.specs.View.{View, scene_of}
+use Rattle.tw_decl.specs.Modes.{HasFullForm, clause_word}
 use Rattle.tw_decl.specs.Obstacles.{left_text}
+use Rattle.tw_decl.specs.Reading.{Reads, ReadFault, read_of}
+use Rattle.tw_decl.specs.declared.reading.Written.{Written}
 use Rattle.tw_decl.specs.declared.refusal.Refusal.{Refusal}
 use Rattle.tw_decl.specs.declared.refusal.Refusal.TheVariants as refusals
 
@@ -58,8 +66,8 @@ abbrev pub refused_alone : SyntaxFault → Token → Refusal
 refused_alone fault next = if is_first fault || is_end next.kind then refusal_of fault else refusals.Syntax next.at
 
 -- what the grammar makes of the words
-abbrev pub IsParsed : View → Place → List Lexeme → Result ExtDecl SyntaxFault → Type 0
-IsParsed v end words parsed = MatchResult parsed (λ d. IsReadAs v words (declaration_of d)) (λ fault. FaultStands v.fixities end words fault)
+abbrev pub IsParsed : View → Place → List Lexeme → Result Written SyntaxFault → Type 0
+IsParsed v end words parsed = MatchResult parsed (λ r. Reads v words (read_of r)) (ReadFault v end words)
 
 -- a name that isn't declared, or want of memory
 abbrev pub NamesUnknown : ExtName → Refusal → Type 0
@@ -89,3 +97,20 @@ abbrev pub ShowsLeft : View → Place → LeftEquation → Refusal → Type 0
 ShowsLeft v first left refusals.Memory = Unit {0}
 ShowsLeft v first left (refusals.Leftover place text) = (place ≡ first) × (text.items ≡ left_text v left)
 ShowsLeft v first left _ = ⊥
+
+-- want of memory, or a family without a mode at this place
+abbrev pub ShowsUnmoded : View → Place → ℕ → Refusal → Type 0
+ShowsUnmoded v first family refusals.Memory = Unit {0}
+ShowsUnmoded v first family (refusals.NotDeclared place text) = (text.items ≡ codes "mode " ++ constant_word (scene_of v) family) × (place ≡ first)
+ShowsUnmoded v first family _ = ⊥
+
+-- want of memory, or a fault of this clause at this place
+abbrev pub ShowsFault : View → Place → ClauseName → ℕ → ℕ → Refusal → Type 0
+ShowsFault v first name k j refusals.Memory = Unit {0}
+ShowsFault v first name k j (refusals.ModeFault place clause l i) = (clause.items ≡ clause_word (scene_of v) name) × (l ≡ k) × (i ≡ j) × (place ≡ first)
+ShowsFault v first name k j _ = ⊥
+
+-- what the full form's entry comes to: marks, or none where it has not the form
+abbrev pub FullOutcome : List Mark → Entry → Option (Vec Mark3 Global) → Type 0
+FullOutcome ms e (Some marks) = (U : LfType) × HasFullForm e U × (each plain_mark marks.items ≡ full_marks ms U)
+FullOutcome ms e None = (U : LfType) → HasFullForm e U → ⊥

@@ -1,18 +1,22 @@
 -- What a session knows.
 use Rattle.std.specs.Prelude.{ℕ, List, [], ◌∷◌, Bool, false, nat_le, if◌then◌else◌}
-use Rattle.std.specs.FinMap.{FinMap, empty, remove}
+use Rattle.std.specs.FinMap.{FinMap, empty, insert, remove}
 use Rattle.std.specs.Ordering.{nat_cmp}
 use Rattle.lf.specs.Entries.{Entry, IsCanonicalSignature}
+use Rattle.lf_checks.specs.Marks.{Mark}
+use Rattle.lf_checks.specs.ModeRows.{ModeRow}
+use Rattle.tw_mode.specs.ModeTables.{mode_rows}
 use Rattle.tw_parse.specs.Outlines.{Table}
 use Rattle.tw_print.specs.Names.{Preferences, Scene}
 use Rattle.tw_decl.specs.declared.parameters.Parameters.{Parameters}
 
--- What the declarations that check the signature add: modes, blocks, worlds and their rows, records of totality, frozen
--- families. No such declaration is made yet, so there is nothing.
+-- What the declarations that check the signature add: modes, the marks of families by their numbers. Blocks, worlds, records of
+-- totality and frozen families will stand here too; no such declaration is made yet.
 pub record Checked : Type 0 where
+  pub modes : FinMap nat_cmp (List Mark)
 
 abbrev pub nothing_checked : Checked
-nothing_checked = record {}
+nothing_checked = record { modes = empty }
 
 -- The entries kept, the newest first; the rows of the operators; for families the names that their variables are shown by;
 -- what was checked; what the user has set; and the files that the configuration names that was read last, if one was.
@@ -52,6 +56,14 @@ told v lines = if nat_le 3 v.parameters.chatter then lines else []
 -- a new entry hides the older ones of its name, and the name is no operator any more
 abbrev pub with_entry : View → Entry → View
 with_entry v e = record v { signature = e ∷ v.signature; fixities = remove v.fixities e.name }
+
+-- a family gets these marks, in place of those that it had
+abbrev pub with_mode : View → ℕ → List Mark → View
+with_mode v family marks = record v { checked = record { modes = insert v.checked.modes family marks } }
+
+-- the rows of modes that stand once it has them
+abbrev pub rows_with : View → ℕ → List Mark → List ModeRow
+rows_with v family marks = mode_rows (with_mode v family marks).checked.modes
 
 -- what texts depend on
 abbrev pub scene_of : View → Scene

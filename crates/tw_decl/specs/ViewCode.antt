@@ -1,7 +1,6 @@
 -- The code of a view, by which a session's value may be one.
 use Rattle.std.specs.Prelude.{ℕ, Bool, List, refl}
 use Rattle.std.specs.Coded.{Coded, code_by, coded×, coded_list, coded_ℕ, coded_bool}
-use base.Stored.{coded_unit}
 use Rattle.std.specs.FinMap as map
 use Rattle.std.specs.Ordering.{nat_cmp}
 use Rattle.lf.specs.Entries.{Entry}
@@ -10,14 +9,16 @@ use Rattle.tw_parse.specs.Outlines.{Table}
 use Rattle.tw_print.specs.Names.{Preferences}
 use Rattle.tw_print.specs.View.{preference_code}
 use Rattle.tw_signature.specs.Codes.{entry_code}
-use Rattle.tw_decl.specs.View.{Checked, View, nothing_checked}
+use Rattle.lf_checks.specs.Marks.{Mark}
+use Rattle.tw_mode.specs.ModeTables.{marks_code}
+use Rattle.tw_decl.specs.View.{Checked, View}
 use Rattle.tw_decl.specs.declared.parameters.Parameters.{Parameters}
 
 abbrev pub parameters_code : Coded Parameters
 parameters_code = code_by (ℕ × (Bool × ℕ)) (coded× coded_ℕ (coded× coded_bool coded_ℕ)) (λ p. (p.chatter, (p.implicit, p.steps))) (λ q. record { chatter = q.0; implicit = q.1.0; steps = q.1.1 }) (λ p. refl)
 
 abbrev pub checked_code : Coded Checked
-checked_code = code_by (Unit {0}) coded_unit (λ c. tt) (λ u. nothing_checked) (λ c. refl)
+checked_code = code_by (map.FinMap nat_cmp (List Mark)) (map.code coded_ℕ marks_code) (λ c. c.modes) (λ t. record { modes = t }) (λ c. refl)
 
 abbrev pub view_code : Coded View
 view_code =

@@ -1,35 +1,27 @@
 //! One declaration.
-ghost use Rattle.std.specs.Prelude.{◌≡◌, ◌≢◌, ◌≤◌, ◌<◌, ◌-◌, ◌^◌, List, ℕ, length, Ok, All, IfOk, IfErr, OnErr, OnOk, MatchResult};
+ghost use Rattle.std.specs.Prelude.{◌≡◌, ◌≤◌, ◌<◌, ◌-◌, ◌^◌, List, ℕ, length, Ok, All, IfOk, IfErr, OnErr};
 ghost use Rattle.tw_lexer.specs.Places.{place_of};
-ghost use Rattle.tw_lexer.specs.Tokens.{IsWithin, Lexes, ThroughDot};
-ghost use Rattle.tw_lexer.specs.declared.place.Place.{Place};
+ghost use Rattle.tw_lexer.specs.Tokens.{IsWithin, Lexes};
 ghost use Rattle.tw_parse.specs.View.{declaration_of};
-ghost use Rattle.tw_parse.specs.Words.{first_place, Lexeme, lexemes};
-ghost use Rattle.tw_recon.specs.Reconstruction.{IsReconstructed};
-ghost use Rattle.tw_signature.specs.View.{entry_of};
-ghost use Rattle.lf.specs.Entries.{signature_of, IsCanonicalEntry};
-ghost use Rattle.tw_print.specs.ShowEnv.{scene_of};
-ghost use Rattle.tw_decl.specs.View.{View};
-ghost use Rattle.tw_decl.specs.View.{scene_of as scene_of_view};
-ghost use Rattle.tw_decl.specs.Declaration.{Accepts, HasCause, HasCauseFrom, Comes, Does, Enters, entry_line, entry_report, GivesRows, IsCauseAlone, IsReadAs, is_unnamed, keeping, Prefers};
-ghost use Rattle.tw_decl.specs.Obstacles.{HasObstacle, IsNotEntered, IsNotGiven, IsNotPreferred};
+ghost use Rattle.tw_parse.specs.Words.{first_place, lexemes};
+ghost use Rattle.tw_decl.specs.Declaration.{Accepts, HasCause, HasCauseFrom, Comes, Does, GivesRows, Prefers, ReadDoes};
+ghost use Rattle.tw_decl.specs.Obstacles.{HasObstacle, IsNotGiven, IsNotPreferred, ReadHasObstacle};
+ghost use Rattle.tw_decl.specs.Reading.{read_of};
 ghost use Rattle.tw_decl.specs.Reports.{reported};
-ghost use Rattle.tw_decl.specs.Steps.{IsParsed, IsRefusedFor, NamesUnknown, IsTokenCause, is_first, is_over, refusal_of, refused_alone, ShowsLeft, ShowsType};
+ghost use Rattle.tw_decl.specs.Steps.{NamesUnknown, IsTokenCause, is_over};
 
+use crate::entering::enter;
+use crate::moding::set_mode;
 use crate::operators::{all_take, first_undeclared, fixity_line, operand_count};
 use crate::preferences::{is_family, preference, preference_line};
+use crate::reading::{Written, alone, parsed, refusal_of};
 use crate::refusal::Refusal;
-use crate::report::{REPORTS_FROM, Report, lines_alone, told};
+use crate::report::{Report, told};
 use crate::session::Session;
-use std::alloc::{AllocError, Global};
-use tw_equation::show_equation;
+use std::alloc::Global;
 use tw_fixity::{Fix, Name};
 use tw_lexer::{LexFault, Place, Token, TokenKind, Tokens, lex, next_token};
-use tw_metas::LeftEquation;
-use tw_parse::{ExtDecl, ExtName, SyntaxFault, parse_decl};
-use tw_print::{ShowEnv, show_entry};
-use tw_recon::{ReconFault, reconstruct};
-use tw_signature::Entry;
+use tw_parse::{ExtDecl, ExtName};
 
 /// What comes next in a text of declarations.
 #[derive(Debug, Drop)]
@@ -71,67 +63,6 @@ fn is_over(tokens: &[Token]) -> bool
     }
 }
 
-// What the grammar makes of the tokens.
-fn parsed(
-    alloc: Global,
-    session: &Session,
-    text: &[u8],
-    tokens: &Tokens,
-) -> Result<ExtDecl, SyntaxFault>
-    requires within { All (IsWithin (length text.now)) tokens.now.list.items }
-    requires through_dot { (from : ℕ) × ThroughDot text.now from tokens.now.list.items tokens.now.upto }
-    ensures { IsParsed session.now tokens.now.at (lexemes text.now tokens.now.list.items) result }
-{
-    match parse_decl(alloc, tokens, text, session.fixities()) {
-        Ok(declaration) => Ok(declaration),
-        Err(fault) => Err(fault),
-    }
-}
-
-// A fault of the grammar as a refusal.
-fn refusal_of(fault: SyntaxFault) -> Refusal
-    ensures { result ≡ refusal_of fault }
-{
-    match fault {
-        SyntaxFault::Unsupported(name, place) => Refusal::Unsupported(place, name),
-        SyntaxFault::Nesting(place) => Refusal::Nesting(place),
-        SyntaxFault::Syntax(place) => Refusal::Syntax(place),
-        SyntaxFault::Fixity(place) => Refusal::Fixity(place),
-        SyntaxFault::BadDecl(place) => Refusal::BadDecl(place),
-        SyntaxFault::NoMemory => Refusal::Memory,
-    }
-}
-
-// Whether a fault of the grammar is told before what follows the declaration is looked at.
-fn is_first(fault: &SyntaxFault) -> bool
-    ensures { result ≡ is_first fault.now }
-{
-    !matches!(fault, SyntaxFault::Fixity(_) | SyntaxFault::BadDecl(_))
-}
-
-// The refusal of a declaration with a fault of the grammar, where this token follows it.
-fn refused_alone(fault: SyntaxFault, next: &Token) -> Refusal
-    ensures { result ≡ refused_alone fault next.now }
-{
-    if is_first(&fault) || next.kind == TokenKind::End {
-        refusal_of(fault)
-    } else {
-        Refusal::Syntax(next.at)
-    }
-}
-
-// What is read, where the declaration has to be alone and this token follows it.
-fn alone(parsed: Result<ExtDecl, SyntaxFault>, next: &Token) -> Result<ExtDecl, Refusal>
-    ensures { (v : View) (end : Place) (words : List Lexeme) → IsParsed v end words parsed
-        → MatchResult result (λ d. IsReadAs v words (declaration_of d) × (next.now.kind ≡ TokenKind.End)) (IsCauseAlone v end words next.now) }
-{
-    match parsed {
-        Err(fault) => Err(refused_alone(fault, next)),
-        Ok(_) if next.kind != TokenKind::End => Err(Refusal::Syntax(next.at)),
-        Ok(declaration) => Ok(declaration),
-    }
-}
-
 // A name that isn't declared.
 fn unknown(alloc: Global, name: &ExtName) -> Refusal
     ensures { NamesUnknown name.now result }
@@ -139,140 +70,6 @@ fn unknown(alloc: Global, name: &ExtName) -> Refusal
     match name.name.copy(alloc) {
         Ok(shown) => Refusal::Unknown(name.at, shown),
         Err(_) => Refusal::Memory,
-    }
-}
-
-// What texts depend on.
-fn environment(session: &Session) -> ShowEnv<'_>
-    ensures { scene_of result ≡ scene_of_view session.now }
-{
-    ShowEnv {
-        sig: session.signature(),
-        fixities: session.fixities(),
-        names: session.names(),
-        implicit: session.parameters().implicit,
-    }
-}
-
-// A form that isn't known stands here: `type` is shown.
-fn no_type(alloc: Global, at: Place) -> Refusal
-    ensures { ShowsType at result }
-{
-    match Name::from_text(alloc, "type") {
-        Ok(shown) => Refusal::Unsupported(at, shown),
-        Err(_) => Refusal::Memory,
-    }
-}
-
-// The refusal of a declaration of which an equation is left.
-fn leftover(alloc: Global, session: &Session, first: Place, left: &LeftEquation) -> Refusal
-    ensures { ShowsLeft session.now first left.now result }
-{
-    match show_equation(alloc, &environment(session), left) {
-        Ok(text) => Refusal::Leftover(first, text),
-        Err(_) => Refusal::Memory,
-    }
-}
-
-// The refusal of a declaration whose reconstruction has a fault, where its first token stands here.
-fn not_reconstructed(alloc: Global, session: &Session, first: Place, fault: ReconFault) -> Refusal
-    ensures { IsRefusedFor session.now first fault result }
-{
-    match fault {
-        ReconFault::Unknown(name, place) => Refusal::Unknown(place, name),
-        ReconFault::TypeLevel(None) => no_type(alloc, first),
-        ReconFault::TypeLevel(Some(place)) => no_type(alloc, place),
-        ReconFault::Loose => Refusal::Loose(first),
-        ReconFault::Mismatch => Refusal::Mismatch(first),
-        ReconFault::Leftover(left) => leftover(alloc, session, first, &left),
-        ReconFault::TooDeep => Refusal::TooDeep(first),
-        ReconFault::NoMemory => Refusal::Memory,
-    }
-}
-
-// The line of an entry that is kept.
-fn line_of(alloc: Global, session: &Session, entry: &Entry) -> Result<Vec<u8>, AllocError>
-    requires { IsCanonicalEntry (signature_of session.now.signature) (entry_of entry.now) }
-    ensures { IfOk result (λ line. line.items ≡ entry_line session.now (entry_of entry.now)) }
-{
-    let mut text = show_entry(alloc, &environment(session), entry)?;
-    text.push(b'\n')?;
-    Ok(text)
-}
-
-// What is reported of an entry that is kept.
-fn report_of(alloc: Global, session: &Session, entry: &Entry) -> Result<Report, AllocError>
-    requires { IsCanonicalEntry (signature_of session.now.signature) (entry_of entry.now) }
-    ensures { IfOk result (λ report. reported report ≡ entry_report session.now (entry_of entry.now)) }
-{
-    if session.parameters().chatter < REPORTS_FROM {
-        return Ok(lines_alone(Vec::new(alloc)));
-    }
-    let text = line_of(alloc, session, entry)?;
-    Ok(lines_alone(text))
-}
-
-// The entry of a declaration: what it leaves out is reconstructed.
-fn given(
-    alloc: Global,
-    session: &Session,
-    first: Place,
-    declaration: &ExtDecl,
-) -> Result<Entry, Refusal>
-    ensures reconstructs { IfOk result (λ e. IsReconstructed session.now.signature (declaration_of declaration.now) (entry_of e)) }
-    ensures stands { IfOk result (λ e. IsCanonicalEntry (signature_of session.now.signature) (entry_of e)) }
-    ensures cause { IfErr result (IsNotEntered session.now (declaration_of declaration.now) first) }
-{
-    match reconstruct(alloc, session.signature(), declaration) {
-        Ok(entry) => Ok(entry),
-        Err(fault) => Err(not_reconstructed(alloc, session, first, fault)),
-    }
-}
-
-// Whether it is a definition without a name.
-fn is_unnamed(declaration: &ExtDecl) -> bool
-    ensures { result ≡ is_unnamed (declaration_of declaration.now) }
-{
-    matches!(declaration, ExtDecl::Define(None, _, _, _))
-}
-
-// Keeps the entry of a declaration, and reports it. Without memory nothing has changed.
-fn keep(
-    alloc: Global,
-    session: &mut Session,
-    declaration: &ExtDecl,
-    entry: Entry,
-) -> Result<Report, AllocError>
-    requires { IsCanonicalEntry (signature_of session.old.signature) (entry_of entry) }
-    ensures says { IfOk result (λ report. reported report ≡ entry_report session.old (entry_of entry)) }
-    ensures keeps { OnOk result (session.new ≡ keeping session.old (declaration_of declaration.now) (entry_of entry)) }
-    ensures err { OnErr result (session.new ≡ session.old) }
-{
-    let report = report_of(alloc, session, &entry)?;
-    if !is_unnamed(declaration) {
-        session.keep(alloc, entry)?;
-    }
-    Ok(report)
-}
-
-// Enters what is declared. After a refusal nothing has changed.
-fn enter(
-    alloc: Global,
-    session: &mut Session,
-    first: Place,
-    declaration: &ExtDecl,
-) -> Result<Report, Refusal>
-    ensures ok { IfOk result (λ report. Enters session.old (declaration_of declaration.now) (reported report) session.new) }
-    ensures err { OnErr result (session.new ≡ session.old) }
-    ensures cause { IfErr result (IsNotEntered session.old (declaration_of declaration.now) first) }
-{
-    let entry = match given(alloc, session, first, declaration) {
-        Ok(entry) => entry,
-        Err(refusal) => return Err(refusal),
-    };
-    match keep(alloc, session, declaration, entry) {
-        Ok(report) => Ok(report),
-        Err(_) => Err(Refusal::Memory),
     }
 }
 
@@ -338,7 +135,7 @@ fn prefer(
 }
 
 // Does what is declared. After a refusal nothing has changed.
-fn make(
+fn perform(
     alloc: Global,
     session: &mut Session,
     first: Place,
@@ -355,6 +152,23 @@ fn make(
         }
         ExtDecl::Declare(_, _, _) => enter(alloc, session, first, declaration),
         ExtDecl::Define(_, _, _, _) => enter(alloc, session, first, declaration),
+    }
+}
+
+// Does what is read. After a refusal nothing has changed.
+fn make(
+    alloc: Global,
+    session: &mut Session,
+    first: Place,
+    read: &Written,
+) -> Result<Report, Refusal>
+    ensures ok { IfOk result (λ report. ReadDoes session.old (read_of read.now) (reported report) session.new) }
+    ensures err { OnErr result (session.new ≡ session.old) }
+    ensures cause { IfErr result (ReadHasObstacle session.old (read_of read.now) first) }
+{
+    match read {
+        Written::Plain(declaration) => perform(alloc, session, first, declaration),
+        Written::Check(check) => set_mode(alloc, session, first, check),
     }
 }
 
@@ -390,11 +204,11 @@ pub fn declare(
     if is_over(&tokens.list) {
         return Ok(Next::End);
     }
-    let declaration = match parsed(alloc, session, text, &tokens) {
-        Ok(declaration) => declaration,
+    let read = match parsed(alloc, session, text, &tokens) {
+        Ok(read) => read,
         Err(fault) => return Err(refusal_of(fault)),
     };
-    match make(alloc, session, first_place(&tokens), &declaration) {
+    match make(alloc, session, first_place(&tokens), &read) {
         Ok(report) => Ok(Next::Done {
             report,
             upto: tokens.upto,
@@ -419,11 +233,11 @@ pub fn declare_one(alloc: Global, session: &mut Session, text: &[u8]) -> Result<
         Ok(next) => next,
         Err(place) => return Err(Refusal::Lex(place)),
     };
-    let declaration = match alone(parsed(alloc, session, text, &tokens), &next) {
-        Ok(declaration) => declaration,
+    let read = match alone(parsed(alloc, session, text, &tokens), &next) {
+        Ok(read) => read,
         Err(refusal) => return Err(refusal),
     };
-    match make(alloc, session, first_place(&tokens), &declaration) {
+    match make(alloc, session, first_place(&tokens), &read) {
         Ok(report) => Ok(report),
         Err(refusal) => Err(refusal),
     }

@@ -2,10 +2,14 @@
 #![tactic(auto)]
 
 mod declaration;
+mod entering;
 mod laws;
+mod modes;
+mod moding;
 mod operators;
 mod parameters;
 mod preferences;
+mod reading;
 mod refusal;
 mod report;
 mod session;

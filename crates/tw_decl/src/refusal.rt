@@ -1,6 +1,6 @@
 //! Why declarations are refused.
 ghost use Rattle.std.specs.Prelude.{◌≡◌, ◌++◌, codes, IfOk};
-ghost use Rattle.tw_decl.specs.Refusals.{refusal_line, show_place};
+ghost use Rattle.tw_decl.specs.Refusals.{fault_words, refusal_line, show_place};
 ghost use Rattle.tw_decl.specs.declared.refusal.Refusal.TheVariants.{Memory};
 
 use std::alloc::{AllocError, AllocFailed, Global};
@@ -38,6 +38,11 @@ pub enum Refusal {
     Leftover(Place, Vec<u8>),
     /// A term deeper than 4,096 is met.
     TooDeep(Place),
+    /// A family has no mode, where one is needed: `mode` and the family are shown.
+    NotDeclared(Place, Vec<u8>),
+    /// This clause isn't well-moded: the subgoal in solving order from 1, 0 being the head; the argument from 1, implicit ones
+    /// counted, 0 being none of them.
+    ModeFault(Place, Vec<u8>, u64, u64),
 }
 
 impl From<AllocError> for Refusal {
@@ -80,6 +85,12 @@ pub fn show_refusal(alloc: Global, refusal: &Refusal, origin: &str) -> Result<Ve
             line_with(alloc, origin, place, b" E6 Leftover ", text)
         }
         Refusal::TooDeep(place) => place_line(alloc, origin, place, b" E10 TooDeep\n"),
+        Refusal::NotDeclared(place, text) => {
+            line_with(alloc, origin, place, b" E12 NotDeclared ", text)
+        }
+        Refusal::ModeFault(place, clause, subgoal, argument) => {
+            clause_line(alloc, origin, place, clause, *subgoal, *argument)
+        }
     }
 }
 
@@ -112,4 +123,34 @@ fn line_with(
     line.extend_from_slice(shown)?;
     line.push(b'\n')?;
     Ok(line)
+}
+
+// A clause, and the numbers of a subgoal and an argument.
+fn fault_words(
+    alloc: Global,
+    clause: &[u8],
+    subgoal: u64,
+    argument: u64,
+) -> Result<Vec<u8>, AllocError>
+    ensures { IfOk result (λ words. words.items ≡ fault_words clause.now subgoal argument) }
+{
+    let mut words = Vec::from_slice(alloc, clause)?;
+    let numbers = format!(in alloc; " {subgoal} {argument}")?;
+    words.extend_from_slice(numbers.as_bytes())?;
+    Ok(words)
+}
+
+// A line that ends with these.
+fn clause_line(
+    alloc: Global,
+    origin: &str,
+    place: &Place,
+    clause: &[u8],
+    subgoal: u64,
+    argument: u64,
+) -> Result<Vec<u8>, AllocError>
+    ensures { IfOk result (λ line. line.items ≡ show_place origin.now place.now ++ codes " E13 ModeFault " ++ fault_words clause.now subgoal argument ++ codes "\n") }
+{
+    let words = fault_words(alloc, clause, subgoal, argument)?;
+    line_with(alloc, origin, place, b" E13 ModeFault ", &words)
 }

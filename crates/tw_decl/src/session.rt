@@ -5,34 +5,37 @@ use crate::operators::set_rows;
 use crate::parameters::Parameters;
 use std::alloc::{AllocError, Global};
 use std::marker::Model;
+use tw_clause::Mark3;
 use tw_fixity::{Fix, FixTable};
+use tw_mode::ModeTable;
 use tw_parse::ExtName;
 use tw_print::{Names, Preference};
 use tw_signature::{Entry, Signature};
 use tw_terms::ConstId;
 
-/// What was declared so far. Its signature is canonical LF at all times. Contracts see it as a view, in which nothing is checked and no configuration was read:
-/// what changes these isn't built yet.
+/// What was declared so far. Its signature is canonical LF at all times. Contracts see it as a view, in which no configuration was read: what reads one isn't
+/// built yet.
 #[derive(Drop)]
 pub struct Session {
     signature: Signature,
     fixities: FixTable,
     names: Names,
+    modes: ModeTable,
     parameters: Parameters,
 }
 
 impl Model for Session {
     ghost use Rattle.std.specs.Prelude.{[]};
-    ghost use Rattle.tw_decl.specs.View.{View, nothing_checked, IsSound};
+    ghost use Rattle.tw_decl.specs.View.{View, IsSound};
     ghost use Rattle.tw_decl.specs.ViewCode.{view_code};
 
     ghost Value = { View };
 
     ghost coded = { view_code };
 
-    ghost view = { λ s. record { signature = s.signature; fixities = s.fixities; names = s.names; checked = nothing_checked; parameters = s.parameters; config = [] } };
+    ghost view = { λ s. record { signature = s.signature; fixities = s.fixities; names = s.names; checked = record { modes = s.modes }; parameters = s.parameters; config = [] } };
 
-    ghost invariant = { λ s. IsSound (record { signature = s.signature; fixities = s.fixities; names = s.names; checked = nothing_checked; parameters = s.parameters; config = [] }) };
+    ghost invariant = { λ s. IsSound (record { signature = s.signature; fixities = s.fixities; names = s.names; checked = record { modes = s.modes }; parameters = s.parameters; config = [] }) };
 }
 
 impl Session {
@@ -42,7 +45,9 @@ impl Session {
     ghost use Rattle.std.specs.FinMap as map;
     ghost use Rattle.tw_print.specs.View.{preferences_of};
     ghost use Rattle.tw_decl.specs.Operators.{with_rows};
-    ghost use Rattle.tw_decl.specs.View.{empty_view, reset_view, with_chatter, with_implicit, with_steps, with_entry, IsSound};
+    ghost use Rattle.std.specs.Prelude.{map as each};
+    ghost use Rattle.tw_clause.specs.View.{mark_of};
+    ghost use Rattle.tw_decl.specs.View.{empty_view, reset_view, with_chatter, with_implicit, with_steps, with_entry, with_mode, IsSound};
 
     /// A session that knows nothing. Fails only for want of memory.
     pub fn new(alloc: Global) -> Result<Session, AllocError>
@@ -52,6 +57,7 @@ impl Session {
             signature: Signature::new(alloc),
             fixities: FixTable::new(alloc),
             names: Names::new(alloc),
+            modes: ModeTable::new(alloc),
             parameters: Parameters {
                 chatter: 3,
                 implicit: false,
@@ -79,6 +85,13 @@ impl Session {
         ensures { result.now ≡ self.now.names }
     {
         &self.names
+    }
+
+    /// The marks of families.
+    pub fn modes(&self) -> &ModeTable
+        ensures { result.now ≡ self.now.checked.modes }
+    {
+        &self.modes
     }
 
     /// What the user has set.
@@ -112,13 +125,14 @@ impl Session {
         self.parameters.steps = steps;
     }
 
-    /// Forgets all declarations, operators and preferences. What the user has set stays, and so does the configuration.
+    /// Forgets all declarations, operators, preferences and modes. What the user has set stays, and so does the configuration.
     pub fn reset(&mut self, alloc: Global)
         ensures { self.new ≡ reset_view self.old }
     {
         self.signature = Signature::new(alloc);
         self.fixities = FixTable::new(alloc);
         self.names = Names::new(alloc);
+        self.modes = ModeTable::new(alloc);
     }
 
     /// The signature is canonical LF. A law: it has no code.
@@ -164,5 +178,13 @@ impl Session {
         ensures unchanged { OnErr result (self.new ≡ self.old) }
     {
         self.names.set(family, preference)
+    }
+
+    // Gives a family these marks, in place of those that it had. Without memory nothing has changed.
+    pub(crate) fn set_mode(&mut self, family: ConstId, marks: Vec<Mark3>) -> Result<(), AllocError>
+        ensures set { OnOk result (self.new ≡ with_mode self.old family.0 (each mark_of marks.items)) }
+        ensures unchanged { OnErr result (self.new ≡ self.old) }
+    {
+        self.modes.set(family, marks)
     }
 }

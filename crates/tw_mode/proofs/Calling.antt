@@ -1,7 +1,7 @@
 -- The first family without a mode, one quantifier after the other.
-use Rattle.std.proofs.Common.{◌≡◌, ℕ, zero, suc, List, [], ◌∷◌, ◌++◌, Bool, true, false, refl, sym, ap, ◌∙◌, subst}
+use Rattle.std.proofs.Common.{◌≡◌, ℕ, zero, List, [], ◌∷◌, ◌++◌, Bool, true, false, refl, sym, ap, ◌∙◌}
 use Rattle.std.specs.Prelude.{Option, Some, None, cond, is_some, option_map}
-use Rattle.lf.specs.Syntax.{LfType, pi, atom}
+use Rattle.lf.specs.Syntax.{LfType, pi}
 use Rattle.lf.specs.Variables.{target}
 use Rattle.lf_unification.specs.Search.{occurs_type}
 use Rattle.lf_checks.specs.ModeRows.{called, called_by_hypotheses, first_unmoded}

@@ -1,5 +1,5 @@
 -- The end of a clause, by what is ground and what needn't be.
-use Rattle.std.proofs.Common.{◌≡◌, ℕ, zero, suc, ◌+◌, ◌<◌, ◌≤◌, List, [], ◌∷◌, ◌++◌, length, drop, get_or, map, take, refl, sym, ap, ap₂, ◌∙◌, subst, arith, inl, inr, true≢false}
+use Rattle.std.proofs.Common.{◌≡◌, ℕ, zero, suc, ◌+◌, ◌<◌, ◌≤◌, List, [], ◌∷◌, ◌++◌, length, drop, get_or, take, refl, sym, ap, ap₂, ◌∙◌, subst, arith, inl, inr, true≢false}
 use Rattle.std.specs.Prelude.{Bool, true, false, cond, Option, Some, None, Decides, ◌⊎◌, ◌↔◌}
 use Rattle.std.proofs.Math.ListN.{drop_of_length-le}
 use Rattle.lf.specs.Syntax.{constant, variable, metavariable, Term, Spine, lambda, root, nil, app}
@@ -24,7 +24,6 @@ use Rattle.tw_mode.specs.Rows.{marks_in}
 use Rattle.tw_mode.specs.Scopes.{in_marks}
 use Rattle.tw_mode.specs.declared.table.Table.{Table}
 use Rattle.tw_mode.proofs.Sets.{in_marks_past, marked_set, number_is, same_self}
-use Rattle.tw_mode.proofs.Using.{decides_no, decides_yes, no_of}
 use mathlib.Core.Path.{fun_ext}
 
 either_no : (a b : Bool) → either a b ≡ false → (a ≡ false) × (b ≡ false)

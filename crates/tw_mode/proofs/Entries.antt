@@ -1,10 +1,10 @@
 -- Clauses of typed signatures and blocks fit, and what stands outside them.
-use Rattle.std.proofs.Common.{◌≡◌, ℕ, zero, suc, ◌+◌, ◌-◌, ◌<◌, List, [], ◌∷◌, ◌++◌, Bool, true, false, Some, length, length-append, drop, refl, sym, ap, ap₂, ◌∙◌, subst, arith}
+use Rattle.std.proofs.Common.{◌≡◌, ℕ, zero, suc, ◌+◌, List, [], ◌∷◌, ◌++◌, Bool, true, false, Some, length, length-append, refl, sym, ap, ap₂, ◌∙◌, subst, arith}
 use Rattle.std.specs.Prelude.{slice_get}
 use Rattle.lf.specs.Entries.{Entry, IsCanonicalSignature, kind_quantifiers, signature_of}
-use Rattle.lf.specs.Substitution.{Image, lift, reduce, substitute_kind}
+use Rattle.lf.specs.Substitution.{Image, reduce, substitute_kind}
 use Rattle.lf.specs.Syntax.{Spine, nil, app, LfType, Kind, kind_pi, star, pi, atom}
-use Rattle.lf.specs.Typing.{Signature, HasType, IsContext, IsSignature, IsType, SpineFitsKind, instantiate_kind}
+use Rattle.lf.specs.Typing.{Signature, IsContext, IsSignature, IsType, SpineFitsKind, instantiate_kind}
 use Rattle.lf.specs.Variables.{everything, nothing, onto}
 use Rattle.lf.proofs.Entries.{canonical_is_signature}
 use Rattle.lf_checks.specs.Clause.{among, with_newest}

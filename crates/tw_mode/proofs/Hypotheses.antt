@@ -1,13 +1,13 @@
 -- The hypotheses of a subgoal, one after the other, and what a subgoal and a clause come to.
 use Rattle.std.proofs.Common.{◌≡◌, ℕ, zero, suc, ◌+◌, ◌-◌, ◌≤◌, List, [], ◌∷◌, ◌++◌, Bool, true, false, length, length-append, refl, sym, ap, ap₂, ◌∙◌, subst, arith}
-use Rattle.std.specs.Prelude.{cond, Option, Some, None, Decides, is_none, is_some, option_map}
+use Rattle.std.specs.Prelude.{cond, Option, Some, None, Decides, is_none, is_some}
 use Rattle.lf.specs.Syntax.{LfType, pi, atom}
 use Rattle.lf.specs.Typing.{Signature}
 use Rattle.lf.specs.Variables.{same_number, target, under}
-use Rattle.lf_checks.specs.Clause.{Clause, outside, scope}
+use Rattle.lf_checks.specs.Clause.{Clause, scope}
 use Rattle.lf_checks.specs.Ground.{UsesGoal}
-use Rattle.lf_checks.specs.Marks.{Mark, HasSoundMarks, input_places}
-use Rattle.lf_checks.specs.ModeFaults.{HasUnsoundMarks, SubgoalFault, SubgoalIsModed, unsound_marks, unground_type, unground_input, wrong_hypothesis}
+use Rattle.lf_checks.specs.Marks.{HasSoundMarks, input_places}
+use Rattle.lf_checks.specs.ModeFaults.{HasUnsoundMarks, unsound_marks, unground_type, unground_input, wrong_hypothesis}
 use Rattle.lf_checks.specs.Modes.{EachHypothesis, WellModedFrom}
 use Rattle.lf_checks.specs.Tests.{choose}
 use Rattle.lf_checks.proofs.ModeRefuted.{mode_refuted}

@@ -17,5 +17,7 @@ pub mod Entries
 pub mod Listing
 pub mod Grouping
 pub mod Tabling
+pub mod Completing
+pub mod Placing
 pub mod Stepping
 pub mod Outer

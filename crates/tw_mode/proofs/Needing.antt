@@ -1,5 +1,5 @@
 -- Whether what a goal needs is in a set, one part after the other.
-use Rattle.std.proofs.Common.{◌≡◌, ℕ, zero, suc, ◌+◌, ◌≤◌, List, [], ◌∷◌, Bool, true, false, length, drop, get_or, refl, sym, ap, ◌∙◌, subst, arith, inl, inr, true≢false}
+use Rattle.std.proofs.Common.{◌≡◌, ℕ, zero, suc, ◌+◌, ◌≤◌, List, [], ◌∷◌, Bool, true, false, length, drop, get_or, refl, sym, subst, arith, inl, inr, true≢false}
 use Rattle.std.specs.Prelude.{Option, Some, None, Decides}
 use Rattle.std.proofs.Math.ListN.{drop_of_length-le}
 use Rattle.lf.specs.Syntax.{Term, Spine, nil, app, LfType, pi, atom}
@@ -11,7 +11,7 @@ use Rattle.lf_checks.specs.ModeFaults.{FirstOutside, HypothesesUse}
 use Rattle.tw_terms.specs.View.{args_of}
 use Rattle.tw_terms.specs.declared.canonical.Term.{Term as RustTerm}
 use Rattle.tw_mode.specs.Checks.{Outcome}
-use Rattle.tw_mode.specs.Outcomes.{NeedsFault, NeedsOutcome, in_type, in_input}
+use Rattle.tw_mode.specs.Outcomes.{NeedsOutcome, in_type, in_input}
 use Rattle.tw_mode.proofs.Using.{decides_no, decides_same, no_of}
 
 pub pi_hypotheses : (a b : Bool) (U V : ℕ → Bool) (T A B : LfType) → T ≡ pi A B → V ≡ under U → a ≡ true → Decides a (UsesType U A) → Decides b (HypothesesUse V B) → Decides b (HypothesesUse U T)

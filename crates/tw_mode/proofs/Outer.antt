@@ -1,5 +1,5 @@
 -- What a constant and an entry come to, by what stands outside them.
-use Rattle.std.proofs.Common.{◌≡◌, ℕ, zero, suc, ◌+◌, ◌-◌, ◌<◌, List, [], ◌∷◌, Bool, true, false, Option, length, drop, length-drop, refl, sym, ap, ap₂, ◌∙◌, subst, arith}
+use Rattle.std.proofs.Common.{◌≡◌, ℕ, suc, ◌+◌, ◌-◌, ◌<◌, List, [], Bool, true, false, Option, length, drop, length-drop, refl, sym, ap, ap₂, ◌∙◌, subst, arith}
 use Rattle.lf.specs.Subordination.{Block}
 use Rattle.lf.specs.Syntax.{LfType}
 use Rattle.lf.specs.Typing.{Signature}

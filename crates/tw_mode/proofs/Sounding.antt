@@ -1,8 +1,8 @@
 -- Whether marks are sound, one place of a kind after the other.
-use Rattle.std.proofs.Common.{◌≡◌, ℕ, zero, suc, ◌+◌, ◌<◌, List, [], ◌∷◌, ◌++◌, Bool, true, false, length, map, length-append, refl, sym, ap, ◌∙◌, subst, arith, inl, inr, true≢false}
+use Rattle.std.proofs.Common.{◌≡◌, ℕ, suc, ◌+◌, ◌<◌, List, [], ◌∷◌, ◌++◌, Bool, true, false, length, map, length-append, refl, sym, ap, ◌∙◌, subst, arith, inl, inr}
 use Rattle.std.specs.Prelude.{not, Option, Some, None, Decides}
 use Rattle.lf.specs.Syntax.{LfType, Kind, kind_pi, star}
-use Rattle.lf.specs.Variables.{hide, under, UsesType}
+use Rattle.lf.specs.Variables.{UsesType}
 use Rattle.lf_checks.specs.Clause.{with_newest}
 use Rattle.lf_checks.specs.Marks.{Mark, input, output, free, is_input, is_output, AreSound}
 use Rattle.lf_checks.specs.ModeFaults.{FirstUnsound}

@@ -1,25 +1,24 @@
 -- One step of a walk over the quantifiers of a type, from the last one on.
-use Rattle.std.proofs.Common.{◌≡◌, ℕ, zero, suc, ◌+◌, ◌-◌, ◌<◌, ◌≤◌, List, [], ◌∷◌, Bool, true, false, Some, None, Option, length, get_or, map, refl, sym, ap, ap₂, ◌∙◌, subst, arith}
-use Rattle.std.specs.Prelude.{not, is_some, option_map, Result, Ok, Err, IfOk, OnOk}
+use Rattle.std.proofs.Common.{◌≡◌, ℕ, suc, ◌+◌, ◌-◌, ◌<◌, ◌≤◌, List, [], ◌∷◌, Bool, true, false, Some, None, Option, length, get_or, map, refl, sym, ap, ap₂, ◌∙◌, subst, arith}
+use Rattle.std.specs.Prelude.{is_some, option_map, Result, Ok, Err, IfOk, OnOk}
 use Rattle.lf.specs.AtOnce.{shift_by}
 use Rattle.lf.specs.Entries.{kind_quantifiers, quantifiers}
 use Rattle.lf.specs.Syntax.{LfType, atom, nil, rename_type}
 use Rattle.lf.specs.Typing.{Signature}
 use Rattle.lf.specs.Variables.{everything, target, target_arguments}
 use Rattle.lf_unification.specs.Search.{occurs_type}
-use Rattle.lf_checks.specs.Clause.{Clause, outside, scope, variables}
-use Rattle.lf_checks.specs.Ground.{ground_from}
+use Rattle.lf_checks.specs.Clause.{outside, scope, variables}
 use Rattle.lf_checks.specs.GroundUntil.{ground_at_end, ground_until}
-use Rattle.lf_checks.specs.Marks.{Mark, HasSoundMarks}
+use Rattle.lf_checks.specs.Marks.{HasSoundMarks}
 use Rattle.lf_checks.specs.ModeFaults.{EndFault, HasUnsoundMarks, ModeFaultFrom, ModedBefore, SubgoalFault, SubgoalIsModed, of_end, of_head, place_of}
 use Rattle.lf_checks.specs.ModeForms.{argument_count}
 use Rattle.lf_checks.specs.Modes.{AllGround, WellModedFrom}
-use Rattle.lf_checks.specs.Parts.{count_below, shape, type_at}
+use Rattle.lf_checks.specs.Parts.{shape, type_at}
 use Rattle.tw_mode.specs.Checks.{Fits, Outcome}
 use Rattle.tw_mode.specs.Outcomes.{ClauseOutcome, EndOutcome, QuantifierOutcome, SubgoalOutcome, SubgoalsOutcome, plain_place}
 use Rattle.tw_mode.specs.Rows.{marks_in, moded_in}
 use Rattle.tw_mode.specs.Scopes.{in_marks}
-use Rattle.tw_mode.specs.Solved.{FirstFaulty, GoesPast, Stands, after, clause_in, domain_types, excused, ground_outside, with_free}
+use Rattle.tw_mode.specs.Solved.{GoesPast, Stands, after, clause_in, domain_types, ground_outside, with_free}
 use Rattle.tw_mode.specs.declared.clause.Place.{Place}
 use Rattle.tw_mode.specs.declared.clause.Walk.{Walk}
 use Rattle.tw_mode.specs.declared.outside.Outside.{Outside}

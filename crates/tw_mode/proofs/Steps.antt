@@ -1,6 +1,6 @@
 -- Marks, one after the other.
-use Rattle.std.proofs.Common.{◌≡◌, ℕ, zero, suc, ◌-◌, ◌<◌, ◌≤◌, List, [], ◌∷◌, ◌++◌, Bool, true, false, length, length-append, sym, ap, ◌∙◌, arith}
-use Rattle.tw_mode.specs.Solved.{after_all, with_hidden, with_shown}
+use Rattle.std.proofs.Common.{◌≡◌, ℕ, zero, suc, ◌-◌, ◌<◌, ◌≤◌, List, [], ◌∷◌, ◌++◌, Bool, false, length, length-append, ap, ◌∙◌, arith}
+use Rattle.tw_mode.specs.Solved.{with_hidden}
 
 -- Marks that say no, one after the other.
 pub hidden_step : (d : ℕ) (ms ns : List Bool) → length ms < d → ns ≡ ms ++ false ∷ [] → with_hidden ns (d - length ns) ≡ with_hidden ms (d - length ms)

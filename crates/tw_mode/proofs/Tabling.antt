@@ -1,82 +1,113 @@
--- The first row of each family, one row after the other.
-use Rattle.std.proofs.Common.{◌≡◌, ℕ, zero, suc, ◌+◌, ◌<◌, List, [], ◌∷◌, ◌++◌, Bool, true, false, Some, None, Option, Vec, Global, length, drop, get_or, map, take, add-one, drop-cons, nat_eq, refl, sym, ap, ap₂, ◌∙◌, subst, arith}
-use Rattle.std.specs.Prelude.{cond, is_some, option_map}
-use Rattle.std.proofs.lemmas.Bool.Decides.{nat_tests}
+-- A table of modes answers as its entries do, and as its rows do.
+use Rattle.std.proofs.Common.{◌≡◌, sym, ap, ap₂, subst, ◌∙◌, ℕ, List, [], ◌∷◌, Bool, true, false, cond, map, Option, None, Some, Vec, Global, ⊎_elim, refl}
+use Rattle.std.proofs.lemmas.Bool.{cases_Bool, cond-true, cond-false}
+use Rattle.std.specs.Cmp.{eq_by_cmp_equiv, nat_cmp_total, Equal-is}
+use Rattle.std.specs.FinMap.{entries, find, get, insert, get-empty, get-entries, get-insert, same_map, nat_cmp-IsAntisymmetric}
+use Rattle.std.specs.Borrow.{Bor}
+use Rattle.std.specs.Option.{option_map, option_copied}
+use Rattle.std.specs.Map.{lookup, KeepsOthers}
+use Rattle.std.specs.Ordering.{nat_cmp, is_eq, eq_by_cmp}
 use Rattle.lf.specs.Variables.{same_number}
-use Rattle.lf_checks.specs.ModeRows.{ModeRow, row_of}
-use Rattle.tw_clause.specs.Tables.{mode_row_of}
+use Rattle.lf_checks.specs.Marks.{Mark}
+use Rattle.lf_checks.specs.ModeRows.{row_of}
 use Rattle.tw_clause.specs.View.{mark_of}
 use Rattle.tw_clause.specs.declared.name.Mark3.{Mark3}
-use Rattle.tw_terms.specs.declared.canonical.ConstId.{ConstId}
-use Rattle.lf_checks.specs.Marks.{Mark}
+use Rattle.tw_mode.specs.ModeTables.{MarksByFamily, mode_row, mode_rows, rows_map}
 use Rattle.tw_mode.specs.Rows.{with_row}
-use Rattle.tw_mode.proofs.Sets.{number_is}
+use Rattle.tw_mode.specs.declared.table.Row.{Row}
+use Rattle.tw_mode.proofs.Sets.{number_is, same_not, same_self}
 
-abbrev Row : Type 0
-Row = ConstId × Vec Mark3 Global
+abbrev pub Marks : Type 0
+Marks = Vec Mark3 Global
 
-pub same_test : (a b : ℕ) → nat_eq a b ≡ same_number a b
-same_test zero zero = refl
-same_test zero (suc b) = grind (arith, nat_tests)
-same_test (suc a) zero = grind (arith, nat_tests)
-same_test (suc a) (suc b) = down ∙ same_test a b
+abbrev pub marks_in : Marks → List Mark
+marks_in v = map mark_of v.items
+
+-- whether a key is this number
+abbrev pub is_number : ℕ → ℕ → Bool
+is_number n key = is_eq (nat_cmp n key)
+
+abbrev pub seen : Option Marks → Option (List Mark)
+seen (Some v) = Some (marks_in v)
+seen None = None
+
+-- what a look-up that lends the marks gives
+pub seen_lent : (o : Option (Bor Marks)) → option_map (λ p. marks_in p.now) o ≡ seen (option_copied o)
+seen_lent (Some p) = refl
+seen_lent None = refl
+
+seen_cond : (b : Bool) (v : Marks) (o : Option Marks) → cond b (Some (marks_in v)) (seen o) ≡ seen (cond b (Some v) o)
+seen_cond true v o = refl
+seen_cond false v o = refl
+
+pub get_rows : (rows : List (ℕ × Marks)) (n : ℕ) → get (rows_map rows) n ≡ seen (lookup (is_number n) rows)
+get_rows [] n = get-empty nat_cmp n
+get_rows (row ∷ rows) n = get-insert nat_cmp_total (rows_map rows) row.0 (marks_in row.1) n ∙ ap (cond (is_number n row.0) (Some (marks_in row.1))) (get_rows rows n) ∙ seen_cond (is_number n row.0) row.1 (lookup (is_number n) rows)
+
+same_key : (p q : ℕ) → is_eq (nat_cmp p q) ≡ true → p ≡ q
+same_key p q h = nat_cmp-IsAntisymmetric p q ((Equal-is (nat_cmp p q)).0 h)
+
+apart : (p q k : ℕ) → is_eq (nat_cmp p q) ≡ false → is_eq (nat_cmp q k) ≡ true → is_eq (nat_cmp p k) ≡ false
+apart p q k differ tie =
+    let laws = eq_by_cmp_equiv nat_cmp_total in
+    laws.symm p k ∙ sym (laws.congr q k p tie) ∙ laws.symm q p ∙ differ
+
+others_stay : (old new : List (ℕ × Marks)) (name : ℕ) → KeepsOthers (λ x y. is_eq (nat_cmp x y)) (is_number name) old new
+    → (other : ℕ) → is_eq (nat_cmp other name) ≡ false → lookup (is_number other) new ≡ lookup (is_number other) old
+unfolding KeepsOthers
+others_stay old new name keeps other differ =
+    keeps (is_number other) (λ x y. (eq_by_cmp_equiv nat_cmp_total).congr other x y) (λ k. apart other name k differ)
+
+-- after a change of one row
+changed : (old new : List (ℕ × Marks)) (name : ℕ) (row : Marks) → lookup (is_number name) new ≡ Some row
+    → KeepsOthers (λ x y. is_eq (nat_cmp x y)) (is_number name) old new
+    → (other : ℕ) → get (rows_map new) other ≡ cond (eq_by_cmp nat_cmp other name) (Some (marks_in row)) (get (rows_map old) other)
+changed old new name row here keeps other =
+    ⊎_elim
+    (λ tie. get_rows new other ∙ ap seen (subst (λ n. lookup (is_number n) new ≡ Some row) (sym (same_key other name tie)) here) ∙ sym (cond-true _ (Some (marks_in row)) (get (rows_map old) other) tie))
+    (λ differ. get_rows new other ∙ ap seen (others_stay old new name keeps other differ) ∙ sym (get_rows old other) ∙ sym (cond-false _ (Some (marks_in row)) (get (rows_map old) other) differ))
+    (cases_Bool (eq_by_cmp nat_cmp other name))
+
+pub set_row : (old new : List (ℕ × Marks)) (name : ℕ) (row : Marks) → lookup (is_number name) new ≡ Some row
+    → KeepsOthers (λ x y. is_eq (nat_cmp x y)) (is_number name) old new → rows_map new ≡ insert (rows_map old) name (marks_in row)
+set_row old new name row here keeps =
+    same_map nat_cmp_total nat_cmp-IsAntisymmetric _ _
+    (λ q. changed old new name row here keeps q ∙ sym (get-insert nat_cmp_total (rows_map old) name (marks_in row) q))
+
+-- the two tests of numbers
+pub same_tests : (q k : ℕ) → eq_by_cmp nat_cmp q k ≡ same_number k q
+same_tests q k =
+    ⊎_elim
+    (λ tie. tie ∙ sym (ap (same_number k) (same_key q k tie) ∙ same_self k))
+    (λ differ. differ ∙ sym (no_tie (same_number k q) refl differ))
+    (cases_Bool (eq_by_cmp nat_cmp q k))
   where
-    down : nat_eq (suc a) (suc b) ≡ nat_eq a b
-    down = grind (arith, nat_tests)
+    tied : (q : ℕ) → eq_by_cmp nat_cmp q q ≡ true
+    tied q = (eq_by_cmp_equiv nat_cmp_total).refl q
 
-take_more : {A : Type 0} (xs : List A) (k : ℕ) (x : A) → k < length xs → x ≡ get_or xs k x → take (suc k) xs ≡ take k xs ++ x ∷ []
-take_more [] k x h e = absurd (omega (arith, h))
-take_more (y ∷ xs) zero x h e = ap (λ z. z ∷ []) (sym e)
-take_more (y ∷ xs) (suc k) x h e = ap (λ zs. y ∷ zs) (take_more xs k x (omega (arith, h)) e)
+    no_tie : (b : Bool) → same_number k q ≡ b → eq_by_cmp nat_cmp q k ≡ false → same_number k q ≡ false
+    no_tie true e d = absurd (let s : true ≡ false = sym (tied q) ∙ ap (eq_by_cmp nat_cmp q) (sym (number_is k q e)) ∙ d in cc)
+    no_tie false e d = e
 
-map_push : {A B : Type 0} (f : A → B) (xs : List A) (x : A) → map f (xs ++ x ∷ []) ≡ map f xs ++ f x ∷ []
-map_push f [] x = refl
-map_push f (y ∷ xs) x = ap (λ zs. f y ∷ zs) (map_push f xs x)
+rows_of_entries : (es : List (ℕ × List Mark)) (f : ℕ) → find nat_cmp f es ≡ row_of (map mode_row es) f
+rows_of_entries [] f = refl
+rows_of_entries (e ∷ es) f = ap₂ (λ b o. cond b (Some e.1) o) (same_tests f e.0) (rows_of_entries es f)
 
--- one more row behind the others
-other_row : (rs : List ModeRow) (r : ModeRow) (f : ℕ) → same_number r.family f ≡ false → row_of (rs ++ r ∷ []) f ≡ row_of rs f
-other_row [] r f e = ap (λ t. cond t (Some r.marks) None) e
-other_row (x ∷ rs) r f e = ap (cond (same_number x.family f) (Some x.marks)) (other_row rs r f e)
+-- the rows of a table have what the table has
+pub rows_have : (m : MarksByFamily) (f : ℕ) → get m f ≡ row_of (mode_rows m) f
+rows_have m f = get-entries m f ∙ rows_of_entries (entries m) f
 
-later_row : (rs : List ModeRow) (r : ModeRow) (f : ℕ) → is_some (row_of rs r.family) ≡ true → row_of (rs ++ r ∷ []) f ≡ row_of rs f
-later_row [] r f e = absurd cc
-later_row (x ∷ rs) r f e = by (same_number x.family r.family) refl (later_row rs r f) e
-  where
-    at : same_number x.family r.family ≡ true → (t : Bool) → same_number x.family f ≡ t → cond t (Some x.marks) (row_of (rs ++ r ∷ []) f) ≡ cond t (Some x.marks) (row_of rs f)
-    at q true s = refl
-    at q false s = other_row rs r f (ap (λ n. same_number n f) (sym (number_is x.family r.family q)) ∙ s)
+-- a table with one more row
+pub row_over : (m : MarksByFamily) (k : ℕ) (ms : List Mark) (f : ℕ) → cond (same_number k f) (Some ms) (get m f) ≡ get (insert m k ms) f
+row_over m k ms f = sym (get-insert nat_cmp_total m k ms f ∙ ap (λ b. cond b (Some ms) (get m f)) (same_tests f k))
 
-    by : (t : Bool) → same_number x.family r.family ≡ t → (is_some (row_of rs r.family) ≡ true → row_of (rs ++ r ∷ []) f ≡ row_of rs f) → is_some (cond t (Some x.marks) (row_of rs r.family)) ≡ true → row_of (x ∷ rs ++ r ∷ []) f ≡ row_of (x ∷ rs) f
-    by true q g s = at q (same_number x.family f) refl
-    by false q g s = ap (cond (same_number x.family f) (Some x.marks)) (g s)
+-- a look-up in rows with one over them
+module _ (r : ℕ → Option (List Mark)) (f : ℕ) where
+  pub over_found : (o : Option Row) (w : Row) → o ≡ Some w → w.family.0 ≡ f → Some (map mark_of w.marks.now) ≡ with_row o r f
+  over_found o w e h = sym (ap (λ x. with_row x r f) e ∙ ap (λ b. cond b (Some (map mark_of w.marks.now)) (r f)) (ap (λ n. same_number n f) h ∙ same_self f))
 
-first_row : (rs : List ModeRow) (r : ModeRow) (f : ℕ) → is_some (row_of rs r.family) ≡ false → row_of (rs ++ r ∷ []) f ≡ cond (same_number r.family f) (Some r.marks) (row_of rs f)
-first_row [] r f e = refl
-first_row (x ∷ rs) r f e = by (same_number x.family r.family) refl (first_row rs r f) e
-  where
-    at : same_number x.family r.family ≡ false → (t : Bool) → same_number r.family f ≡ t → cond (same_number x.family f) (Some x.marks) (cond t (Some r.marks) (row_of rs f)) ≡ cond t (Some r.marks) (cond (same_number x.family f) (Some x.marks) (row_of rs f))
-    at q true s = ap (λ b. cond b (Some x.marks) (Some r.marks)) (ap (same_number x.family) (sym (number_is r.family f s)) ∙ q)
-    at q false s = refl
+  pub over_passed : (o : Option Row) (w : Row) → o ≡ Some w → (w.family.0 ≡ f → ⊥) → r f ≡ with_row o r f
+  over_passed o w e h = sym (ap (λ x. with_row x r f) e ∙ ap (λ b. cond b (Some (map mark_of w.marks.now)) (r f)) (same_not w.family.0 f h))
 
-    by : (t : Bool) → same_number x.family r.family ≡ t → (is_some (row_of rs r.family) ≡ false → row_of (rs ++ r ∷ []) f ≡ cond (same_number r.family f) (Some r.marks) (row_of rs f)) → is_some (cond t (Some x.marks) (row_of rs r.family)) ≡ false → row_of (x ∷ rs ++ r ∷ []) f ≡ cond (same_number r.family f) (Some r.marks) (row_of (x ∷ rs) f)
-    by true q g s = absurd cc
-    by false q g s = ap (cond (same_number x.family f) (Some x.marks)) (g s) ∙ at q (same_number r.family f) refl
-
-taken : (rs : List Row) (k : ℕ) (r : Row) → k < length rs → r ≡ get_or rs k r → map mode_row_of (take (k + 1) rs) ≡ map mode_row_of (take k rs) ++ mode_row_of r ∷ []
-taken rs k r h e = ap (λ n. map mode_row_of (take n rs)) (let q : k + 1 ≡ suc k = omega arith in q) ∙ ap (map mode_row_of) (take_more rs k r h e) ∙ map_push mode_row_of (take k rs) r
-
--- the row k counts where its family has none before
-pub row_next : (rs : List Row) (k : ℕ) (r : Row) (f : ℕ) → k < length rs → r ≡ get_or rs k r → with_row r.0.0 (map mark_of r.1.items) (row_of (map mode_row_of (take k rs))) f ≡ row_of (map mode_row_of (take (k + 1) rs)) f
-row_next rs k r f h e = by (is_some (row_of (map mode_row_of (take k rs)) r.0.0)) refl ∙ sym (ap (λ xs. row_of xs f) (taken rs k r h e))
-  where
-    by : (t : Bool) → is_some (row_of (map mode_row_of (take k rs)) r.0.0) ≡ t → with_row r.0.0 (map mark_of r.1.items) (row_of (map mode_row_of (take k rs))) f ≡ row_of (map mode_row_of (take k rs) ++ mode_row_of r ∷ []) f
-    by true q = ap (λ b. cond b (row_of (map mode_row_of (take k rs)) f) (cond (same_number r.0.0 f) (Some (map mark_of r.1.items)) (row_of (map mode_row_of (take k rs)) f))) q ∙ sym (later_row (map mode_row_of (take k rs)) (mode_row_of r) f q)
-    by false q = ap (λ b. cond b (row_of (map mode_row_of (take k rs)) f) (cond (same_number r.0.0 f) (Some (map mark_of r.1.items)) (row_of (map mode_row_of (take k rs)) f))) q ∙ sym (first_row (map mode_row_of (take k rs)) (mode_row_of r) f q)
-
-pub same_rows : (k : ℕ) (m : List Mark) (r s : ℕ → Option (List Mark)) (f : ℕ) → ((g : ℕ) → r g ≡ s g) → with_row k m r f ≡ with_row k m s f
-same_rows k m r s f h = ap₂ (λ x y. cond (is_some x) y (cond (same_number k f) (Some m) y)) (h k) (h f)
-
--- a look-up after a row was put in
-pub option_cond : {A B : Type 0} (g : A → B) (t : Bool) (x : A) (y : Option A) → option_map g (cond t (Some x) y) ≡ cond t (Some (g x)) (option_map g y)
-option_cond g true x y = refl
-option_cond g false x y = refl
+  pub none_over : (o : Option Row) → o ≡ None → r f ≡ with_row o r f
+  none_over o e = sym (ap (λ x. with_row x r f) e)

@@ -1,8 +1,8 @@
 -- Whether the variables of a term are in a set, one part after the other.
-use Rattle.std.proofs.Common.{◌≡◌, ℕ, zero, suc, ◌+◌, ◌≤◌, List, [], ◌∷◌, Bool, true, false, length, drop, refl, sym, ap, ap₂, ◌∙◌, subst, arith, true≢false}
+use Rattle.std.proofs.Common.{◌≡◌, ℕ, zero, suc, ◌≤◌, List, Bool, true, false, length, drop, refl, sym, ap, ap₂, ◌∙◌, subst, true≢false}
 use Rattle.std.specs.Prelude.{Decides, ◌↔◌}
 use Rattle.std.proofs.Math.ListN.{drop_of_length-le}
-use Rattle.lf.specs.Syntax.{Term, Spine, nil, app, root, constant, variable, lambda, LfType, pi, atom}
+use Rattle.lf.specs.Syntax.{Term, Spine, app, root, constant, variable, lambda, LfType, pi, atom}
 use Rattle.lf.specs.Variables.{under, Uses, UsesSpine, UsesType}
 use Rattle.lf_checks.specs.Tests.{either}
 use Rattle.tw_terms.specs.View.{args_of}

@@ -11,8 +11,7 @@ use Rattle.lf_checks.specs.Clause.{Clause, IsSubgoal, is_variable, outside, scop
 use Rattle.lf_checks.specs.Ground.{ground_from}
 use Rattle.lf_checks.specs.GroundUntil.{ground_past, ground_until, ground_at_end}
 use Rattle.lf_checks.specs.Marks.{Mark, HasSoundMarks, free_places, input_places, output_places}
-use Rattle.lf_checks.specs.ModeFaults.{EndFault, HasUnsoundMarks, ModedBefore, ModeFaultFrom, MustBeGround, SubgoalFault, SubgoalIsModed, of_end, of_head, of_subgoal}
-use Rattle.lf_checks.specs.ModeForms.{argument_count}
+use Rattle.lf_checks.specs.ModeFaults.{ModedBefore, ModeFaultFrom, MustBeGround, SubgoalFault, SubgoalIsModed, of_subgoal}
 use Rattle.lf_checks.specs.Modes.{AllGround, InFreePlace, WellModedFrom, occurs_at, occurs_goal}
 use Rattle.lf_checks.specs.Parts.{count_below, shape, subgoal_at, type_at}
 use Rattle.lf_checks.specs.Strict.{strict_at, strict_goal}

@@ -7,3 +7,5 @@ pub mod Ends
 pub mod Outcomes
 pub mod Listing
 pub mod Groups
+pub mod ModeTables
+pub mod Forms

@@ -1,21 +1,23 @@
 -- The rows of a table of modes, and the places of a family with a mark.
-use Rattle.std.specs.Prelude.{ℕ, List, Bool, Option, Some, cond, map, is_some, option_map, nat_eq}
-use Rattle.std.specs.HashMap.{get}
+use Rattle.std.specs.Prelude.{ℕ, List, Bool, Option, Some, None, cond, map, is_some}
+use Rattle.std.specs.FinMap as finite
 use Rattle.lf.specs.Variables.{same_number}
 use Rattle.lf_checks.specs.Marks.{Mark, is_free, is_input, is_output}
 use Rattle.lf_checks.specs.ModeRows.{or_no_marks}
 use Rattle.tw_clause.specs.View.{mark_of}
 use Rattle.tw_clause.specs.declared.name.Mark3.{Mark3}
 use Rattle.tw_clause.specs.declared.name.Mark3.TheVariants.{Plus, Minus, Free}
+use Rattle.tw_mode.specs.declared.table.Row.{Row}
 use Rattle.tw_mode.specs.declared.table.Table.{Table}
+
+-- the marks by one more row, which counts for its family
+abbrev pub with_row : Option Row → (ℕ → Option (List Mark)) → ℕ → Option (List Mark)
+with_row None r f = r f
+with_row (Some w) r f = cond (same_number w.family.0 f) (Some (map mark_of w.marks.now)) (r f)
 
 -- the marks of a family, if it has a row
 abbrev pub row_in : Table → ℕ → Option (List Mark)
-row_in t f = option_map (λ s. map mark_of s.now) (get nat_eq t.rows f)
-
--- one more row, of the family k, which counts if k has none
-abbrev pub with_row : ℕ → List Mark → (ℕ → Option (List Mark)) → ℕ → Option (List Mark)
-with_row k m r f = cond (is_some (r k)) (r f) (cond (same_number k f) (Some m) (r f))
+row_in t f = with_row t.over (finite.get t.rows.now) f
 
 -- its marks, or none
 abbrev pub marks_in : Table → ℕ → List Mark

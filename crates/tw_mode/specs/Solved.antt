@@ -1,6 +1,5 @@
 -- What is ground while the subgoals of a clause are met, and what needn't be ground.
-use Rattle.std.specs.Prelude.{◌≡◌, ◌+◌, ℕ, zero, suc, List, [], ◌∷◌, ◌++◌, Bool, true, false, not, length, Option, Some, None}
-use Rattle.lf.specs.Entries.{quantifiers}
+use Rattle.std.specs.Prelude.{◌≡◌, ℕ, zero, suc, List, [], ◌∷◌, ◌++◌, Bool, true, false, not, length, Option, Some, None}
 use Rattle.lf.specs.Syntax.{LfType, pi, atom}
 use Rattle.lf.specs.Typing.{Signature}
 use Rattle.lf.specs.Variables.{everything, nothing, target, target_arguments}

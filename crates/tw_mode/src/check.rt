@@ -1,17 +1,19 @@
 //! The check of modes of a group.
-ghost use Rattle.std.specs.Prelude.{◌≡◌, ◌<◌, ◌-◌, [], ◌∷◌, suc, List, drop, length, map, option_map, slice_get, IfOk};
+ghost use Rattle.std.specs.Prelude.{◌≡◌, ◌<◌, ◌-◌, [], ◌∷◌, ℕ, suc, List, drop, length, map, option_map, slice_get, IfOk};
+ghost use Rattle.std.specs.FinMap as finite;
 ghost use Rattle.lf.specs.Entries.{signature_of};
 ghost use Rattle.lf.specs.Subordination.{AreTypedBlocks, IsTypedBlock};
 ghost use Rattle.lf.specs.Typing.{Signature as PlainSignature};
 ghost use Rattle.lf_checks.specs.Clause.{constant_clause, entry_clause};
 ghost use Rattle.lf_checks.specs.Clauses.{NamedClause, of_entry, with_constant};
-ghost use Rattle.tw_clause.specs.Tables.{mode_rows_of};
-ghost use Rattle.tw_clause.specs.View.{block_of, name_of, worlds_of};
+ghost use Rattle.lf_checks.specs.ModeRows.{ModeRow, row_of};
+ghost use Rattle.tw_clause.specs.View.{block_of, mark_of, name_of, worlds_of};
 ghost use Rattle.tw_terms.specs.View.{type_of};
 ghost use Rattle.tw_mode.specs.Checks.{Fits};
 ghost use Rattle.tw_mode.specs.Groups.{FaultsOutcome, GroupOutcome, ModesOutcome, NamedOutcome};
 ghost use Rattle.tw_mode.specs.Listing.{as_list, clause_at, in_block, listed_clauses, with_entry};
-ghost use Rattle.tw_mode.specs.Rows.{marks_in, moded_in};
+ghost use Rattle.tw_mode.specs.ModeTables.{mode_rows};
+ghost use Rattle.tw_mode.specs.Rows.{marks_in, moded_in, row_in};
 ghost use Rattle.tw_mode.specs.Solved.{with_hidden, with_shown};
 ghost use Rattle.tw_mode.specs.declared.table.Table.{Table as PlainTable};
 
@@ -19,30 +21,61 @@ use crate::called::unmoded;
 use crate::clause::{Place, clause_fault};
 use crate::fault::ModeFault;
 use crate::listed::{Listed, list_group};
+use crate::mode_table::ModeTable;
 use crate::outside::{Outside, outside_of};
 use crate::table::Table;
 use std::alloc::{AllocError, Global};
-use tw_clause::{Block, ClauseName, Modes, Worlds};
+use tw_clause::{Block, ClauseName, Mark3, Worlds};
 use tw_signature::Signature;
 use tw_terms::{ConstId, Ty, target};
 
 /// Whether each clause of a group is well-moded. The clauses are those of the signature and of the entries of the worlds. First comes a family without a mode: the first
-/// that the check meets, a clause's own before those that it calls. Then comes the first fault of the clauses in order. Takes the size of the clauses, and a step for
-/// each row of modes.
+/// that the check meets, a clause's own before those that it calls. Then comes the first fault of the clauses in order. Takes the size of the clauses.
 pub fn check_modes(
     alloc: Global,
     sig: &Signature,
-    modes: &Modes,
+    modes: &ModeTable,
     worlds: &Worlds,
     group: &[ConstId],
 ) -> Result<(), ModeFault>
     requires { AreTypedBlocks (signature_of sig.now) (worlds_of worlds.now) }
-    ensures { GroupOutcome sig.now (mode_rows_of modes.now) (worlds_of worlds.now) (map (λ f. f.0) group.now) result }
+    ensures { GroupOutcome sig.now (mode_rows modes.now) (worlds_of worlds.now) (map (λ f. f.0) group.now) result }
 {
-    let table = Table::of(alloc, modes)?;
+    let table = Table::of(modes);
+    check_rows(alloc, sig, &table, worlds, group)
+}
+
+/// The same of one family in the empty worlds, after these marks of it are set. Nothing is set, and the table isn't copied.
+pub fn check_mode(
+    alloc: Global,
+    sig: &Signature,
+    modes: &ModeTable,
+    family: ConstId,
+    marks: &[Mark3],
+) -> Result<(), ModeFault>
+    ensures { GroupOutcome sig.now (mode_rows (finite.insert modes.now family.0 (map mark_of marks.now))) [] (family.0 ∷ []) result }
+{
+    let table = Table::after(modes, family, marks);
+    let worlds = Worlds {
+        blocks: Vec::new(alloc),
+    };
+    check_rows(alloc, sig, &table, &worlds, &[family])
+}
+
+/// The same of a group by any rows with these marks.
+fn check_rows(
+    alloc: Global,
+    sig: &Signature,
+    table: &Table,
+    worlds: &Worlds,
+    group: &[ConstId],
+) -> Result<(), ModeFault>
+    requires { AreTypedBlocks (signature_of sig.now) (worlds_of worlds.now) }
+    ensures { (rows : List ModeRow) → ((f : ℕ) → row_in table.now f ≡ row_of rows f) → GroupOutcome sig.now rows (worlds_of worlds.now) (map (λ f. f.0) group.now) result }
+{
     let listed = list_group(alloc, sig, worlds, group)?;
-    all_have_modes(alloc, sig, &table, worlds, &listed)?;
-    all_are_moded(alloc, sig, &table, worlds, &listed)
+    all_have_modes(alloc, sig, table, worlds, &listed)?;
+    all_are_moded(alloc, sig, table, worlds, &listed)
 }
 
 /// Whether the families that clauses meet have modes; else the first without one.

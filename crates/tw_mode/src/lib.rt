@@ -10,6 +10,7 @@ mod end;
 #[tactic(auto, using(tw_terms::proofs::Args::types))]
 mod eta;
 mod fault;
+mod full;
 #[tactic(auto, using(tw_terms::proofs::Args::types))]
 mod head;
 #[tactic(auto, using(tw_terms::proofs::Args::types))]
@@ -18,11 +19,14 @@ mod listed;
 mod marks;
 #[tactic(auto, using(tw_terms::proofs::Args::types))]
 mod mentions;
+mod mode_table;
 mod outside;
 mod pattern;
 mod places;
 mod rows;
 mod scope;
+#[tactic(auto, using(tw_terms::proofs::Args::types))]
+mod short;
 #[tactic(auto, using(tw_terms::proofs::Args::types))]
 mod sound;
 mod strict;
@@ -30,9 +34,11 @@ mod table;
 #[tactic(auto, using(tw_terms::proofs::Args::types))]
 mod uses;
 
-pub use check::check_modes;
+pub use check::{check_mode, check_modes};
 pub use fault::ModeFault;
+pub use full::full_marks;
+pub use mode_table::ModeTable;
 pub use places::{mark_strict_at, mark_strict_goal};
 pub use scope::Scope;
+pub use short::short_marks;
 pub use strict::mark_strict;
-pub use table::Table;

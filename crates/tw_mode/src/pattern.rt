@@ -3,16 +3,16 @@ ghost use Rattle.std.specs.Prelude.{◌≡◌, [], IfOk, Some};
 ghost use Rattle.lf_checks.specs.Strict.{is_bound, pattern_arguments};
 ghost use Rattle.lf_checks.specs.Tests.{is_in};
 ghost use Rattle.tw_terms.specs.View.{spine_of, term_of};
-ghost use Rattle.tw_mode.specs.Scopes.{newest};
+ghost use Rattle.tw_mode.specs.Scopes.{newest_of};
 
 use crate::eta::{is_eta_variable, variable_at_head};
 use crate::marks::is_newest;
 use std::alloc::{AllocError, Global};
 use tw_terms::{Spine, Term};
 
-/// Whether all arguments are bound variables, each another one, where so many newest variables are bound.
-pub fn is_pattern(alloc: Global, bound: u64, spine: &Spine) -> Result<bool, AllocError>
-    ensures { IfOk result (λ b. b ≡ pattern_arguments (newest bound) [] (spine_of spine.now)) }
+/// Whether all arguments are bound variables, each another one, where so many newest variables are bound, or all.
+pub fn is_pattern(alloc: Global, bound: Option<u64>, spine: &Spine) -> Result<bool, AllocError>
+    ensures { IfOk result (λ b. b ≡ pattern_arguments (newest_of bound) [] (spine_of spine.now)) }
 {
     let mut seen = Vec::new(alloc);
     for arg in &spine.args {
@@ -25,14 +25,29 @@ pub fn is_pattern(alloc: Global, bound: u64, spine: &Spine) -> Result<bool, Allo
 }
 
 /// Whether the argument is this variable up to eta, which is bound and wasn't seen.
-fn is_unseen(bound: u64, arg: &Term, variable: u64, seen: &[u64]) -> Result<bool, AllocError>
-    ensures { IfOk result (λ b. b ≡ is_bound (newest bound) seen.now (term_of arg.now) (Some variable)) }
+fn is_unseen(
+    bound: Option<u64>,
+    arg: &Term,
+    variable: u64,
+    seen: &[u64],
+) -> Result<bool, AllocError>
+    ensures { IfOk result (λ b. b ≡ is_bound (newest_of bound) seen.now (term_of arg.now) (Some variable)) }
 {
     Ok(
         is_eta_variable(arg, 0, variable)?
-            && is_newest(bound, variable)
+            && is_among(bound, variable)
             && !has_number(seen, variable),
     )
+}
+
+/// Whether a variable is one of so many newest ones, or of all.
+fn is_among(bound: Option<u64>, variable: u64) -> bool
+    ensures { result ≡ newest_of bound variable }
+{
+    match bound {
+        Some(count) => is_newest(count, variable),
+        None => true,
+    }
 }
 
 /// Whether the number is one of the list.

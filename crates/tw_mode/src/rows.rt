@@ -42,6 +42,14 @@ pub fn has_mark(mark: Mark3, wanted: Mark3) -> bool
     }
 }
 
+/// The marks past the first one.
+pub fn past_first(marks: &[Mark3]) -> &[Mark3]
+    requires { 0 < length marks.now }
+    ensures { result.now ≡ drop 1 marks.now }
+{
+    &marks[1..]
+}
+
 /// The mark of a place.
 pub fn nth_mark(marks: &[Mark3], place: usize) -> Mark3
     requires { place < length marks.now }

@@ -1,5 +1,5 @@
 //! Whether the marks of a family are sound: the type of an input mentions no output.
-ghost use Rattle.std.specs.Prelude.{◌≡◌, ◌<◌, ◌+◌, false, drop, length, map, Decides, IfOk};
+ghost use Rattle.std.specs.Prelude.{◌≡◌, ◌+◌, false, length, map, Decides, IfOk};
 ghost use Rattle.lf.specs.Entries.{signature_of};
 ghost use Rattle.lf.specs.Subordination.{IsDeclared};
 ghost use Rattle.lf_checks.specs.Marks.{AreSound, HasSoundMarks};
@@ -10,7 +10,7 @@ ghost use Rattle.tw_mode.specs.Checks.{MayHave, Outcome};
 ghost use Rattle.tw_mode.specs.Rows.{marks_in};
 ghost use Rattle.tw_mode.specs.Scopes.{in_marks};
 
-use crate::rows::{has_mark, nth_mark};
+use crate::rows::{has_mark, nth_mark, past_first};
 use crate::table::Table;
 use crate::uses::{Allowed, uses_type};
 use std::alloc::{AllocError, Global};
@@ -66,14 +66,6 @@ fn first_unsound(
             }
         }
     }
-}
-
-/// The marks past the first one.
-fn past_first(marks: &[Mark3]) -> &[Mark3]
-    requires { 0 < length marks.now }
-    ensures { result.now ≡ drop 1 marks.now }
-{
-    &marks[1..]
 }
 
 /// Whether a place of this type may have this mark.

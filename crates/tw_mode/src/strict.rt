@@ -67,7 +67,7 @@ fn mark_pattern(
 ) -> Result<(), AllocError>
     ensures { OnOk result (marks.new ≡ marked scope.now.depth (λ i. both (same_number variable i) (pattern_arguments (bound_in scope.now) [] (spine_of spine.now))) marks.old) }
 {
-    if is_pattern(alloc, scope.bound, spine)? {
+    if is_pattern(alloc, Some(scope.bound), spine)? {
         mark_variable(variable, scope.depth, marks);
     }
     Ok(())

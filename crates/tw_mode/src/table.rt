@@ -1,51 +1,60 @@
-//! The rows of modes, found by their families.
-ghost use Rattle.std.specs.Prelude.{◌≡◌, ℕ, map, IfOk, OnOk};
-ghost use Rattle.lf_checks.specs.ModeRows.{row_of};
-ghost use Rattle.tw_clause.specs.Tables.{mode_rows_of};
+//! The rows of modes that a check reads.
+ghost use Rattle.std.specs.Prelude.{◌≡◌, ℕ, map, option_map};
+ghost use Rattle.std.specs.FinMap as finite;
 ghost use Rattle.tw_clause.specs.View.{mark_of};
-ghost use Rattle.tw_mode.specs.Rows.{marks_in, moded_in, row_in, with_row};
+ghost use Rattle.tw_mode.specs.Rows.{marks_in, moded_in, row_in};
 
-use std::alloc::{AllocError, Global};
-use std::collections::HashMap;
-use tw_clause::{Mark3, Modes};
+use crate::mode_table::ModeTable;
+use tw_clause::Mark3;
 use tw_terms::ConstId;
 
-/// The marks of families. To find those of one takes one look-up.
-#[derive(Drop)]
+/// The marks of one family.
+#[derive(Clone, Copy)]
+pub struct Row<'a> {
+    pub family: ConstId,
+    pub marks: &'a [Mark3],
+}
+
+/// The rows of a table, and perhaps one that counts in place of its family's there. Nothing is copied.
+#[derive(Clone, Copy)]
 pub struct Table<'a> {
-    rows: HashMap<u64, &'a [Mark3]>,
+    rows: &'a ModeTable,
+    over: Option<Row<'a>>,
 }
 
 impl<'a> Table<'a> {
-    /// The first row of each family. Takes a step for each row. Fails only for want of memory.
-    pub fn of(alloc: Global, modes: &'a Modes) -> Result<Table<'a>, AllocError>
-        ensures { IfOk result (λ t. (f : ℕ) → row_in t f ≡ row_of (mode_rows_of modes.now) f) }
+    /// The rows of a table.
+    pub fn of(rows: &'a ModeTable) -> Table<'a>
+        ensures { (f : ℕ) → row_in result f ≡ finite.get rows.now f }
     {
-        let mut table = Table {
-            rows: HashMap::new(alloc),
-        };
-        for (family, marks) in &modes.rows {
-            table.add(*family, marks.as_slice())?;
-        }
-        Ok(table)
+        Table { rows, over: None }
     }
 
-    /// Adds a row, which counts if the family has none.
-    fn add(&mut self, family: ConstId, marks: &'a [Mark3]) -> Result<(), AllocError>
-        ensures { OnOk result ((f : ℕ) → row_in self.new f ≡ with_row family.0 (map mark_of marks.now) (row_in self.old) f) }
+    /// The rows of a table after these marks of a family are set.
+    pub fn after(rows: &'a ModeTable, family: ConstId, marks: &'a [Mark3]) -> Table<'a>
+        ensures { (f : ℕ) → row_in result f ≡ finite.get (finite.insert rows.now family.0 (map mark_of marks.now)) f }
     {
-        if self.has(family) {
-            return Ok(());
+        Table {
+            rows,
+            over: Some(Row { family, marks }),
         }
-        self.rows.insert(family.0, marks)?;
-        Ok(())
+    }
+
+    /// The marks of a family, if it has a row.
+    fn find(&self, family: ConstId) -> Option<&[Mark3]>
+        ensures { option_map (λ s. map mark_of s.now) result ≡ row_in self.now family.0 }
+    {
+        match self.over {
+            Some(row) if row.family.0 == family.0 => Some(row.marks),
+            _ => self.rows.marks(family),
+        }
     }
 
     /// The marks of a family; one without a row has none.
     pub fn marks(&self, family: ConstId) -> &[Mark3]
         ensures { map mark_of result.now ≡ marks_in self.now family.0 }
     {
-        match self.rows.get(&family.0) {
+        match self.find(family) {
             Some(marks) => marks,
             None => &[],
         }
@@ -55,6 +64,6 @@ impl<'a> Table<'a> {
     pub fn has(&self, family: ConstId) -> bool
         ensures { result ≡ moded_in self.now family.0 }
     {
-        self.rows.contains_key(&family.0)
+        self.find(family).is_some()
     }
 }

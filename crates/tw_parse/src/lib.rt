@@ -26,7 +26,13 @@ mod words;
 
 pub use decl::{ExtDecl, ExtName};
 pub use fault::SyntaxFault;
+pub use keywords::{is_identifier, is_in_language, is_upper};
 pub use laws::{one_outline, one_query, one_reading, readings_are_decided};
+pub use nesting::too_deep;
 pub use parse::parse_decl;
-pub use query::{ExtQuery, parse_query};
+pub use parts::Part;
+pub use query::{ExtQuery, parse_query, read_query};
+pub use sequences::sequence;
+pub use source::Source;
 pub use term::ExtTerm;
+pub use words::Word;

@@ -83,8 +83,8 @@ fn asked(alloc: Global, source: &Source<'_>, goal: ExtTerm) -> Result<Option<Ext
     }))
 }
 
-// Reads a query from the tokens of a source.
-fn query(alloc: Global, source: &Source<'_>) -> Result<ExtQuery, SyntaxFault>
+/// Reads a query from the tokens of a source, whose brackets are not counted here: the one reading that the operators give it, or the cause why there is none.
+pub fn read_query(alloc: Global, source: &Source<'_>) -> Result<ExtQuery, SyntaxFault>
     requires dot { DotEnds source.now }
     ensures reads { IfOk result (λ q. AsksAll source.now (query_of q)) }
     ensures fault { IfErr result (AskingFaultOf source.now) }
@@ -138,5 +138,5 @@ pub fn parse_query(
     if let Some(place) = too_deep(alloc, &source)? {
         return Err(SyntaxFault::Nesting(place));
     }
-    query(alloc, &source)
+    read_query(alloc, &source)
 }

@@ -1,8 +1,5 @@
 -- Heads of terms, as they are walked to.
-use Rattle.std.proofs.Common.{◌≡◌, ℕ, suc, ◌+◌, ◌<◌, List, [], drop, get_or, length, Option, Some, None, refl, sym, ap, ◌∙◌, subst, IfSome, arith, add-one, drop-cons, Bool, true, false, nat_eq}
-use Rattle.std.specs.Bool.{OnTrue}
-use Rattle.std.specs.Prelude.{not}
-use Rattle.std.proofs.lemmas.Bool.Decides.{nat_tests}
+use Rattle.std.proofs.Common.{◌≡◌, ℕ, suc, ◌+◌, ◌<◌, List, drop, get_or, length, Some, sym, ap, ◌∙◌, subst, add-one, drop-cons}
 use Rattle.lf.specs.Syntax.{LfType, Spine, Term, app, constant, lambda, metavariable, nil, pi, root}
 use Rattle.lf.specs.Variables.{target_arguments}
 use Rattle.lf_unification.specs.Unifiers.{Binding}
@@ -11,9 +8,8 @@ use Rattle.tw_metas.specs.State.{State, value_of}
 use Rattle.tw_putting.specs.Stores.{ValuesAreBound, bindings_of}
 use Rattle.tw_putting.proofs.Views.{binding_of_value}
 use Rattle.tw_terms.specs.View.{args_of, term_of}
-use Rattle.tw_terms.specs.declared.canonical.ConstId.{ConstId}
 use Rattle.tw_terms.specs.declared.canonical.Term.{Term as ClosedTerm}
-use Rattle.tw_search.specs.Clashing.{AreApart, Clashes, head_under}
+use Rattle.tw_search.specs.Clashing.{AreApart, head_under}
 
 -- what has constant heads under whatever number of binders
 abbrev pub HasConstant : List Binding → Term → ℕ → Type 0
@@ -48,41 +44,23 @@ comes_further s m n j V b v e w = record { heads = λ c h. w.heads c (by_value s
 pub comes_to_constant : (s : State) (m n c : ℕ) (V : Term) → ValuesAreBound s → Some V ≡ value_of s n → head_under V ≡ constant c → ComesTo s m n → HasConstant (bindings_of s) (root (metavariable m) nil) c
 comes_to_constant s m n c V b v e w = w.heads c (by_value s n V c b v (constant_under (bindings_of s) V c e))
 
-pub apart : (bs : List Binding) (M N : Term) (c d : ℕ) → HasConstant bs M c → HasConstant [] N d → (c ≡ d → ⊥) → AreApart bs M N
-apart bs M N c d f g n = record { found = constant c; wanted = constant d; goal_has = f 0; clause_has = g; differ = λ e. n (let p : c ≡ d = cc in p) }
-
 -- spines
-pub clash_first : (bs : List Binding) (S T : Spine) (M N : Term) (S' T' : Spine) → S ≡ app M S' → T ≡ app N T' → AreApart bs M N → Clashes bs S T
-clash_first bs S T M N S' T' e f a k = subst (λ X. Clash bs k X T) (sym e) (subst (λ X. Clash bs k (app M S') X) (sym f) (clash_here a.goal_has (a.clause_has k) a.differ))
+pub clash_first : (bs : List Binding) (k : ℕ) (S T : Spine) (M N : Term) (S' T' : Spine) → S ≡ app M S' → T ≡ app N T' → AreApart bs k M N → Clash bs k S T
+clash_first bs k S T M N S' T' e f a = subst (λ X. Clash bs k X T) (sym e) (subst (λ X. Clash bs k (app M S') X) (sym f) (clash_here a.goal_has a.clause_has a.differ))
 
 -- a walk along two spines has come to their rests
-pub record WalksTo (bs : List Binding) (S T S' T' : Spine) : Type 0 where
-  pub clashes : Clashes bs S' T' → Clashes bs S T
+pub record WalksTo (bs : List Binding) (k : ℕ) (S T S' T' : Spine) : Type 0 where
+  pub clashes : Clash bs k S' T' → Clash bs k S T
 
-pub walks_nowhere : (bs : List Binding) (S T S' T' : Spine) → S ≡ S' → T ≡ T' → WalksTo bs S T S' T'
-walks_nowhere bs S T S' T' e f = record { clashes = λ c. subst (λ X. Clashes bs X T) (sym e) (subst (λ X. Clashes bs S' X) (sym f) c) }
+pub walks_nowhere : (bs : List Binding) (k : ℕ) (S T S' T' : Spine) → S ≡ S' → T ≡ T' → WalksTo bs k S T S' T'
+walks_nowhere bs k S T S' T' e f = record { clashes = λ c. subst (λ X. Clash bs k X T) (sym e) (subst (λ X. Clash bs k S' X) (sym f) c) }
 
-pub walks_on : (bs : List Binding) (S T S' T' S'' T'' : Spine) (M N : Term) → S' ≡ app M S'' → T' ≡ app N T'' → WalksTo bs S T S' T' → WalksTo bs S T S'' T''
-walks_on bs S T S' T' S'' T'' M N e f w = record { clashes = λ c. w.clashes (λ k. subst (λ X. Clash bs k X T') (sym e) (subst (λ X. Clash bs k (app M S'') X) (sym f) (clash_later (c k)))) }
+pub walks_on : (bs : List Binding) (k : ℕ) (S T S' T' S'' T'' : Spine) (M N : Term) → S' ≡ app M S'' → T' ≡ app N T'' → WalksTo bs k S T S' T' → WalksTo bs k S T S'' T''
+walks_on bs k S T S' T' S'' T'' M N e f w = record { clashes = λ c. w.clashes (subst (λ X. Clash bs k X T') (sym e) (subst (λ X. Clash bs k (app M S'') X) (sym f) (clash_later c))) }
 
 -- the target of a type
 pub same_target : (A B C D : LfType) → A ≡ pi B C → D ≡ C → target_arguments D ≡ target_arguments A
 same_target A B C D e q = ap target_arguments q ∙ sym (ap target_arguments e)
-
--- where a call tells the head of a metavariable
-pub some_by_meta : (bs : List Binding) (M : Term) (m : ℕ) (o : Option ConstId) → head_under M ≡ metavariable m → IfSome o (λ c. HasConstant bs (root (metavariable m) nil) c.0) → IfSome o (λ c. HasConstant bs M c.0)
-some_by_meta bs M m None e h = tt
-some_by_meta bs M m (Some c) e h = head_by_meta bs M m c.0 e h
-
-differ : (a b : ℕ) → nat_eq a b ≡ false → a ≡ b → ⊥
-differ a b e q = grind (arith, nat_tests)
-
-pub on_differ : (a b : ℕ) (P : Type 0) → ((a ≡ b → ⊥) → P) → OnTrue (not (nat_eq a b)) P
-on_differ a b P f = go (nat_eq a b) refl
-  where
-    go : (x : Bool) → nat_eq a b ≡ x → OnTrue (not x) P
-    go true e = tt
-    go false e = f (differ a b e)
 
 -- the arguments of a closed spine from one on
 pub closed_arguments_from : (ts us : List ClosedTerm) (i : ℕ) (x : ClosedTerm) → us ≡ ts → i < length us → x ≡ get_or us i x → args_of (drop i ts) ≡ app (term_of x) (args_of (drop (i + 1) ts))

@@ -2,7 +2,7 @@
 use Rattle.std.proofs.Common.{◌≡◌, ℕ, suc, ◌+◌, ◌-◌, ◌<◌, ◌≤◌, List, [], ◌∷◌, length, map, reverse, None, refl, sym, ap, ◌∙◌, subst, arith}
 use Rattle.lf.specs.Depth.{depth_limit}
 use Rattle.lf.specs.Entries.{Entry, IsCanonicalSignature, signature_of}
-use Rattle.lf.specs.Syntax.{Head, LfType, Term}
+use Rattle.lf.specs.Syntax.{Head, LfType}
 use Rattle.lf.proofs.Entries.{canonical_is_signature}
 use Rattle.lf_unification.specs.Lists.{followed}
 use Rattle.lf_unification.specs.Search.{Node, Offer, Pending, SearchesFrom, TryIsDue, at_node, begin_search, declared_constants, take_leaf}

@@ -1,5 +1,6 @@
 pub mod NewTerms
 pub mod ClashingHeads
+pub mod RigidHeads
 pub mod Offering
 pub mod Offered
 pub mod OneTry

@@ -1,5 +1,5 @@
 -- Postponed equations that are left over stay so when a head is offered: none hangs on the hole that is bound.
-use Rattle.std.proofs.Common.{◌≡◌, ℕ, List, [], ◌∷◌, length, Option, Some, Bool, true, false, ◌⊎◌, inl, inr, refl, sym, ap, ◌∙◌, subst}
+use Rattle.std.proofs.Common.{◌≡◌, ℕ, List, [], ◌∷◌, length, Option, Some, Bool, true, false, ◌⊎◌, inl, inr, refl, sym, subst}
 use Rattle.lf.specs.Subordination.{Member}
 use Rattle.lf.specs.Syntax.{Head, LfType, Term, root}
 use Rattle.lf.specs.Typing.{Signature}

@@ -1,23 +1,25 @@
 //! Heads that clash: a try that can't have a unifier, seen without making anything.
-ghost use Rattle.std.specs.Prelude.{◌≡◌, ℕ, [], IfSome};
+ghost use Rattle.std.specs.Prelude.{◌≡◌, ℕ, ◌+◌};
 ghost use Rattle.std.specs.Bool.{OnTrue};
+ghost use Rattle.lf.specs.AtOnce.{lift_renaming_by, shift_by};
 ghost use Rattle.lf.specs.Entries.{quantifiers};
-ghost use Rattle.lf.specs.Syntax.{constant, metavariable, nil, root};
+ghost use Rattle.lf.specs.Syntax.{rename, rename_head, rename_spine, rename_type};
 ghost use Rattle.lf.specs.Variables.{target_arguments};
-ghost use Rattle.lf_search.specs.Heads.{Clash, HasRigidHead};
+ghost use Rattle.lf_search.specs.Heads.{Clash};
 ghost use Rattle.tw_putting.specs.Stores.{ValuesAreBound, bindings_of};
-ghost use Rattle.tw_terms.specs.OpenView.{open_head_of, open_spine_of, open_term_of};
+ghost use Rattle.tw_terms.specs.OpenView.{open_spine_of, open_term_of, open_type_of};
 ghost use Rattle.tw_terms.specs.View.{head_of, spine_of, term_of, type_of};
-ghost use Rattle.tw_search.specs.Clashing.{AreApart, Clashes, head_under};
+ghost use Rattle.tw_search.specs.Clashing.{AreApart, TypeClashes};
 
+use crate::rigid::{clause_constant, goal_head, rigid_head};
 use tw_metas::Store;
-use tw_terms::{ConstId, Head, MetaId, Open, OpenHead, OpenSpine, Spine, Term, Ty};
+use tw_terms::{Head, Open, OpenSpine, OpenTy, Spine, Term, Ty};
 
-/// Whether at some place the goal's argument and the clause's have different constants as heads, with the goal's values put in. It reads no more than the heads, and
-/// takes no memory.
+/// Whether at some place the goal's argument, with its values put in, and that of the constant's type have different heads, of which the second is a constant, and the first one a constant
+/// or a local variable. It reads no more than the heads, and takes no memory.
 pub(crate) fn clashes(store: &Store, indices: &OpenSpine, ty: &Ty) -> bool
     requires { ValuesAreBound store.now.now }
-    ensures { OnTrue result (Clash (bindings_of store.now.now) (quantifiers (type_of ty.now)) (open_spine_of indices.now) (target_arguments (type_of ty.now))) }
+    ensures { OnTrue result (TypeClashes (bindings_of store.now.now) (open_spine_of indices.now) (type_of ty.now)) }
 {
     let mut rest = ty;
     loop {
@@ -28,10 +30,10 @@ pub(crate) fn clashes(store: &Store, indices: &OpenSpine, ty: &Ty) -> bool
     }
 }
 
-/// The same of the arguments.
+/// The same of the arguments, under whatever number of quantifiers.
 fn spines_clash(store: &Store, indices: &OpenSpine, spine: &Spine) -> bool
     requires { ValuesAreBound store.now.now }
-    ensures { OnTrue result (Clashes (bindings_of store.now.now) (open_spine_of indices.now) (spine_of spine.now)) }
+    ensures { OnTrue result ((k : ℕ) → Clash (bindings_of store.now.now) k (open_spine_of indices.now) (spine_of spine.now)) }
 {
     for (place, index) in indices.args.iter().enumerate() {
         match spine.args.get(place) {
@@ -49,80 +51,103 @@ fn spines_clash(store: &Store, indices: &OpenSpine, spine: &Spine) -> bool
 /// The same of one argument.
 fn terms_clash(store: &Store, index: &Open, arg: &Term) -> bool
     requires { ValuesAreBound store.now.now }
-    ensures { OnTrue result (AreApart (bindings_of store.now.now) (open_term_of index.now) (term_of arg.now)) }
+    ensures { OnTrue result ((k : ℕ) → AreApart (bindings_of store.now.now) k (open_term_of index.now) (term_of arg.now)) }
 {
     match clause_constant(arg) {
-        Some(wanted) => match goal_constant(store, index) {
-            Some(found) => found.0 != wanted.0,
+        Some(wanted) => match goal_head(store, index) {
+            Some(found) => differ(found, Head::Const(wanted)),
             None => false,
         },
         None => false,
     }
 }
 
-/// The constant that a clause's argument has as its head, under its lambdas.
-fn clause_constant(arg: &Term) -> Option<ConstId>
-    ensures { IfSome result (λ c. (k : ℕ) → HasRigidHead [] k (term_of arg.now) (constant c.0)) }
-{
-    match term_head(arg) {
-        Head::Const(constant) => Some(constant),
-        Head::Var(_) => None,
-    }
-}
-
-/// The constant that a goal's argument has as its head, under its lambdas and with the values put in.
-fn goal_constant(store: &Store, index: &Open) -> Option<ConstId>
+/// Whether the goal's argument and that of a local variable's type clash so, where this type is seen from inside of `by` more local variables.
+pub(crate) fn local_clashes(store: &Store, indices: &OpenSpine, ty: &OpenTy, by: u64) -> bool
     requires { ValuesAreBound store.now.now }
-    ensures { IfSome result (λ c. (k : ℕ) → HasRigidHead (bindings_of store.now.now) k (open_term_of index.now) (constant c.0)) }
+    ensures { OnTrue result (TypeClashes (bindings_of store.now.now) (open_spine_of indices.now) (rename_type (shift_by by) (open_type_of ty.now))) }
 {
-    match open_head(index) {
-        OpenHead::Const(constant) => Some(constant),
-        OpenHead::Var(_) => None,
-        OpenHead::Meta(meta) => value_constant(store, meta),
-    }
-}
-
-/// The same of a metavariable.
-fn value_constant(store: &Store, meta: MetaId) -> Option<ConstId>
-    requires { ValuesAreBound store.now.now }
-    ensures { IfSome result (λ c. (k : ℕ) → HasRigidHead (bindings_of store.now.now) k (root (metavariable meta.0) nil) (constant c.0)) }
-{
-    let mut here = meta;
-    for _ in 0..u64::MAX {
-        match store.value(here) {
-            None => return None,
-            Some(value) => match open_head(value) {
-                OpenHead::Const(constant) => return Some(constant),
-                OpenHead::Var(_) => return None,
-                OpenHead::Meta(next) => here = next,
-            },
-        }
-    }
-    None
-}
-
-/// The head of a term, under its lambdas.
-fn term_head(term: &Term) -> Head
-    ensures { head_of result ≡ head_under (term_of term.now) }
-{
-    let mut rest = term;
+    let mut rest = ty;
+    let mut binders: u64 = 0;
     loop {
         match rest {
-            Term::Lam(body) => rest = body,
-            Term::Root(head, _) => return *head,
+            OpenTy::Pi(_, range) => {
+                let Some(inside) = binders.checked_add(1) else {
+                    return false;
+                };
+                binders = inside;
+                rest = range;
+            }
+            OpenTy::Atom(_, spine) => {
+                return local_spines_clash(store, indices, spine, binders, by);
+            }
         }
     }
 }
 
-/// The same of an open term.
-fn open_head(term: &Open) -> OpenHead
-    ensures { open_head_of result ≡ head_under (open_term_of term.now) }
+/// The same of the arguments, under so many quantifiers.
+fn local_spines_clash(
+    store: &Store,
+    indices: &OpenSpine,
+    spine: &OpenSpine,
+    binders: u64,
+    by: u64,
+) -> bool
+    requires { ValuesAreBound store.now.now }
+    ensures { OnTrue result (Clash (bindings_of store.now.now) binders (open_spine_of indices.now) (rename_spine (lift_renaming_by binders (shift_by by)) (open_spine_of spine.now))) }
 {
-    let mut rest = term;
-    loop {
-        match rest {
-            Open::Lam(body) => rest = body,
-            Open::Root(head, _) => return *head,
+    for (place, index) in indices.args.iter().enumerate() {
+        match spine.args.get(place) {
+            Some(arg) => {
+                if local_terms_clash(store, index, arg, binders, by) {
+                    return true;
+                }
+            }
+            None => return false,
         }
+    }
+    false
+}
+
+/// The same of one argument.
+fn local_terms_clash(store: &Store, index: &Open, arg: &Open, binders: u64, by: u64) -> bool
+    requires { ValuesAreBound store.now.now }
+    ensures { OnTrue result (AreApart (bindings_of store.now.now) binders (open_term_of index.now) (rename (lift_renaming_by binders (shift_by by)) (open_term_of arg.now))) }
+{
+    match rigid_head(arg, binders) {
+        Some(wanted) => match goal_head(store, index) {
+            Some(found) => differ_moved(found, wanted, by),
+            None => false,
+        },
+        None => false,
+    }
+}
+
+/// Whether the heads differ, where a variable of the second one is seen from inside of `by` more local variables.
+fn differ_moved(found: Head, wanted: Head, by: u64) -> bool
+    ensures { OnTrue result (head_of found ≡ rename_head (shift_by by) (head_of wanted) → ⊥) }
+{
+    match wanted {
+        Head::Const(_) => differ(found, wanted),
+        Head::Var(variable) => match variable.checked_add(by) {
+            Some(moved) => differ(found, Head::Var(moved)),
+            None => false,
+        },
+    }
+}
+
+/// Whether the heads differ.
+fn differ(found: Head, wanted: Head) -> bool
+    ensures { OnTrue result (head_of found ≡ head_of wanted → ⊥) }
+{
+    match found {
+        Head::Const(constant) => match wanted {
+            Head::Const(other) => constant.0 != other.0,
+            Head::Var(_) => true,
+        },
+        Head::Var(variable) => match wanted {
+            Head::Const(_) => true,
+            Head::Var(other) => variable != other,
+        },
     }
 }

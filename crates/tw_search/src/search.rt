@@ -58,6 +58,13 @@ impl Search {
         self.tries
     }
 
+    /// The search's store. After a leaf it is that of the leaf, until the next call.
+    pub fn store(&self) -> &Store
+        ensures { result.now ≡ self.now.store }
+    {
+        &self.store
+    }
+
     /// The next leaf in the order of the tree, or the end of the tree or of the budget, which is a number of tries. Over one signature, all calls search one tree.
     ///
     /// After an answer or a leaf that is left over the search's store is the leaf's until the next call. After `Budget` the search stands where it was, and goes on with the next call. After

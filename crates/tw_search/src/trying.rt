@@ -7,7 +7,7 @@ ghost use Rattle.tw_terms.specs.View.{head_of};
 ghost use Rattle.tw_search.specs.Goals.{IsHeadFor, StandsAtGoal};
 ghost use Rattle.tw_search.specs.Tries.{IsTried, NeverFits, TriesDeep};
 
-use crate::clash::clashes;
+use crate::clash::{clashes, local_clashes};
 use crate::goal::OpenGoal;
 use crate::offer::{Offered, offer};
 use std::alloc::Global;
@@ -46,7 +46,7 @@ pub(crate) fn attempt(
     }
 }
 
-/// Whether the heads of the goal's arguments and of the clause's clash, where the head is a constant.
+/// Whether the heads of the goal's arguments and of the clause's clash.
 fn heads_clash(store: &Store, signature: &Signature, goal: &OpenGoal, head: Head) -> bool
     requires goal { StandsAtGoal (signature_of signature.now) store.now.now goal.now }
     requires head { IsHeadFor (signature_of signature.now) goal.now (head_of head) }
@@ -58,6 +58,12 @@ fn heads_clash(store: &Store, signature: &Signature, goal: &OpenGoal, head: Head
             Some(ty) => clashes(store, &goal.indices, ty),
             None => false,
         },
-        Head::Var(_) => false,
+        Head::Var(variable) => match goal.locals.get(variable) {
+            Some(ty) => match variable.checked_add(1) {
+                Some(by) => local_clashes(store, &goal.indices, ty, by),
+                None => false,
+            },
+            None => false,
+        },
     }
 }

@@ -2,6 +2,7 @@ pub mod Pieces
 pub mod Seen
 pub mod Counted
 pub mod Showing
+pub mod ShowingBelow
 pub mod Loads
 pub mod Steps
 pub mod Sound

@@ -1,7 +1,7 @@
 -- What accepting a declaration, setting a parameter and starting anew keep of a session, each step of the program keeps.
 use Rattle.std.proofs.Common.{◌≡◌, ℕ, List, Bool, sym, subst, inl, inr, None, Some}
 use Rattle.std.specs.declared.option.Option.{Option}
-use Rattle.tw_command.specs.Meaning.{Meaning, blank, unknown, bad_parameter, read_declaration, load_file, show_entry, show_signature, reset, set, get, version, quit}
+use Rattle.tw_command.specs.Meaning.{Meaning, blank, unknown, bad_parameter, read_declaration, load_file, show_entry, show_signature, show_subordination, reset, set, get, version, quit}
 use Rattle.tw_command.specs.declared.command.Setting.{Setting}
 use Rattle.tw_command.specs.declared.command.Setting.TheVariants as settings
 use Rattle.tw_decl.specs.Declaration.{Accepts, AcceptsFrom}
@@ -15,6 +15,7 @@ use Rattle.tw_server.specs.Words.{Said, too_long, meant}
 use Rattle.tw_server.specs.Loading.{AnswersFile, Declares, no_more, one_more, ShowsEntry, ShowsSignature}
 use Rattle.tw_server.specs.Machine.{Answers, AnswersMeaning, Loads, RepliesTo, Step, with_setting}
 use Rattle.tw_server.specs.Outcome.{with_words}
+use Rattle.tw_server.specs.Subordination.{ShowsSubordination}
 
 -- a property of sessions that accepting, setting and starting anew keep
 pub record IsKept (P : View → Type 0) : Type 0 where
@@ -57,6 +58,10 @@ module _ (P : View → Type 0) (kept : IsKept P) where
   signature_keeps v w reply (inl h) s = same_keeps v w h.same s
   signature_keeps v w reply (inr h) s = same_keeps v w h.1 s
 
+  subordination_keeps : (v w : View) (reply : List ℕ) → ShowsSubordination v reply w → P v → P w
+  subordination_keeps v w reply (inl h) s = same_keeps v w h.same s
+  subordination_keeps v w reply (inr h) s = same_keeps v w h.same s
+
   pub words_keeps : (steps : Option ℕ) (v : State) → P v.view → P (with_words steps v).view
   words_keeps None v s = s
   words_keeps (Some n) v s = kept.setting v.view (settings.Steps n) s
@@ -69,6 +74,7 @@ module _ (P : View → Type 0) (kept : IsKept P) where
   meaning_keeps v w (load_file name) reply h s = absurd h
   meaning_keeps v w (show_entry name) reply h s = entry_keeps v w name reply h s
   meaning_keeps v w show_signature reply h s = signature_keeps v w reply h s
+  meaning_keeps v w show_subordination reply h s = subordination_keeps v w reply h s
   meaning_keeps v w reset reply h s = subst P (sym h.1) (kept.starting v s)
   meaning_keeps v w (set setting) reply h s = subst P (sym h.1) (kept.setting v setting s)
   meaning_keeps v w (get parameter) reply h s = same_keeps v w h.1 s

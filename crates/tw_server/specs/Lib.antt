@@ -4,6 +4,7 @@ pub mod Words
 pub mod State
 pub mod Replies
 pub mod Loading
+pub mod Subordination
 pub mod Machine
 pub mod Outcome
 pub mod Laws

@@ -1,7 +1,9 @@
 -- What the calls that load files and show declarations come to. The proofs of the loop need these; the transcript theorem doesn't speak of them.
-use Rattle.std.specs.Prelude.{◌≡◌, ◌⊎◌, ℕ, ◌≤◌, ◌+◌, List, [], ◌++◌, length, Bool, false}
+use Rattle.std.specs.Prelude.{◌≡◌, ◌⊎◌, ◌↔◌, ℕ, ◌≤◌, ◌<◌, List, [], ◌++◌, length, Contains, Bool, false}
 use Rattle.std.specs.declared.option.Option.{Option}
 use Rattle.std.specs.declared.result.Result.{Result}
+use Rattle.lf.specs.Entries.{signature_of}
+use Rattle.lf.specs.Subordination.{Below}
 use Rattle.tw_decl.specs.Refusals.{refusal_line}
 use Rattle.tw_decl.specs.View.{View}
 use Rattle.tw_decl.specs.declared.refusal.Refusal.{Refusal}
@@ -12,8 +14,9 @@ use Rattle.tw_ports.specs.Ports.{Gains}
 use Rattle.tw_server.specs.Loading.{Declares, Opens, IsNotOpened, LoadsFile, LoadsAlone, ShowsEntry, ShowsSignature}
 use Rattle.tw_server.specs.Machine.{Answers}
 use Rattle.tw_server.specs.Replies.{no_memory, opening}
-use Rattle.tw_server.specs.Saying.{Says}
 use Rattle.tw_server.specs.State.{State}
+use Rattle.tw_server.specs.Subordination.{LinesBelow, ShowsSubordination, declared_blocks}
+use Rattle.tw_subord.specs.Rows.{row}
 use Rattle.tw_server.specs.Words as words
 use Rattle.tw_server.specs.Written.{GainsLines, GainsReply}
 
@@ -39,6 +42,20 @@ IsShown v name old new result = (reply : List ℕ) × ShowsEntry v name reply v 
 
 abbrev pub AreShown : {E : Type 0} → View → Option (List ℕ) → Option (List ℕ) → Result (Unit {0}) E → Type 0
 AreShown v old new result = (reply : List ℕ) × ShowsSignature v reply v × GainsReply old new reply result
+
+-- the rows have for each entry the families below it
+abbrev pub Lists : View → List (List ℕ) → Type 0
+Lists v rows = (a b : ℕ) → b < length v.signature → (Contains (row rows b) a) ↔ Below (signature_of v.signature) (declared_blocks v) a b
+
+-- for each family those below it were shown
+abbrev pub IsSubordinationShown : {E : Type 0} → View → Option (List ℕ) → Option (List ℕ) → Result (Unit {0}) E → Type 0
+IsSubordinationShown v old new result = (reply : List ℕ) × ShowsSubordination v reply v × GainsReply old new reply result
+
+-- the lines of the first entries were written, as many as this
+pub record BelowSoFar (v : View) (n : ℕ) (old new : Option (List ℕ)) : Type 0 where
+  pub lines : List ℕ
+  pub shows : LinesBelow v n lines
+  pub gains : Gains old new lines
 
 -- the declarations of a file so far, each of which was reported
 pub record LoadedSoFar (v : View) (name text : List ℕ) (old new : Option (List ℕ)) (w : View) (from : ℕ) (at : Place) : Type 0 where

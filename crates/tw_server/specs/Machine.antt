@@ -1,7 +1,7 @@
 -- The machine of commands: what a command may reply, and the state after it, by the lines that are read for it.
 use Rattle.std.specs.Prelude.{◌≡◌, ◌⊎◌, ℕ, ◌≤◌, ◌<◌, List, [], ◌∷◌, ◌++◌, length, Bool, true, false, codes}
 use Rattle.tw_server.specs.Lines.{IsLine, IsText}
-use Rattle.tw_command.specs.Meaning.{Meaning, blank, unknown, bad_parameter, read_declaration, load_file, show_entry, show_signature, reset, set, get, version, quit}
+use Rattle.tw_command.specs.Meaning.{Meaning, blank, unknown, bad_parameter, read_declaration, load_file, show_entry, show_signature, show_subordination, reset, set, get, version, quit}
 use Rattle.tw_command.specs.declared.command.Setting.{Setting}
 use Rattle.tw_command.specs.declared.command.Setting.TheVariants as settings
 use Rattle.tw_ports.specs.Files.{Held}
@@ -9,6 +9,7 @@ use Rattle.std.specs.declared.option.Option.{Option}
 use Rattle.tw_server.specs.Words.{Said, too_long, meant, said_of}
 use Rattle.tw_server.specs.Replies.{accepted, refused, version_line, value_of}
 use Rattle.tw_server.specs.Loading.{WantsMemory, LoadsAlone, ShowsEntry, ShowsSignature}
+use Rattle.tw_server.specs.Subordination.{ShowsSubordination}
 use Rattle.tw_decl.specs.View.{View, reset_view, with_chatter, with_implicit, with_steps}
 use Rattle.tw_server.specs.State.{State}
 use Rattle.tw_decl.specs.Declaration.{Accepts, Refuses}
@@ -66,7 +67,7 @@ with_setting v (settings.Chatter n) = with_chatter v n
 with_setting v (settings.Implicit b) = with_implicit v b
 with_setting v (settings.Steps n) = with_steps v n
 
--- What a command of one line answers, and the view after it. Only the commands that show declarations want memory. `quit` has no reply: it ends the run.
+-- What a command of one line answers, and the view after it. Only the commands that show declarations and subordination want memory. `quit` has no reply: it ends the run.
 abbrev pub AnswersMeaning : View → Meaning → List ℕ → View → Type 0
 AnswersMeaning v blank reply w = (reply ≡ []) × (w ≡ v)
 AnswersMeaning v unknown reply w = (reply ≡ codes "C1 UnknownCommand\n" ++ refused) × (w ≡ v)
@@ -75,6 +76,7 @@ AnswersMeaning v read_declaration reply w = ⊥
 AnswersMeaning v (load_file name) reply w = ⊥
 AnswersMeaning v (show_entry name) reply w = ShowsEntry v name reply w
 AnswersMeaning v show_signature reply w = ShowsSignature v reply w
+AnswersMeaning v show_subordination reply w = ShowsSubordination v reply w
 AnswersMeaning v reset reply w = (reply ≡ accepted) × (w ≡ reset_view v)
 AnswersMeaning v (set setting) reply w = (reply ≡ accepted) × (w ≡ with_setting v setting)
 AnswersMeaning v (get parameter) reply w = (reply ≡ (value_of v parameter ++ codes "\n") ++ accepted) × (w ≡ v)

@@ -15,6 +15,7 @@ use crate::declaration::answer_text;
 use crate::load::load_file;
 use crate::reply::{Reply, write_reply};
 use crate::show::{show_name, show_signature, show_value};
+use crate::subordination::show_subordination;
 use crate::text::Text;
 use crate::write::Unwritten;
 use std::alloc::Global;
@@ -56,6 +57,7 @@ fn carry_out<K: Sink, F: Files>(
         },
         Command::Decl(name) => show_name(alloc, session, name, sink),
         Command::PrintSgn => show_signature(alloc, session, sink),
+        Command::PrintSubord => show_subordination(alloc, session, sink),
         Command::Reset => {
             session.reset(alloc);
             write_reply(sink, &Reply::Done)

@@ -13,7 +13,9 @@ mod reply;
 mod server;
 mod show;
 mod status;
+mod subordination;
 mod text;
+mod word;
 mod write;
 
 pub use laws::{faultless_is_done, one_reading, short_is_not_long, step_keeps_sound};

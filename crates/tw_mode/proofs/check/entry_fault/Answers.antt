@@ -1,4 +1,4 @@
-use Rattle.std.proofs.Common.{◌≡◌, ◌+◌, ◌∙◌, [], ap, arith, length, refl}
+use Rattle.std.proofs.Common.{◌∙◌, [], ap, arith, length, refl}
 use Rattle.lf.specs.Entries.{signature_of}
 use Rattle.tw_clause.specs.View.{block_of}
 use Rattle.tw_terms.specs.View.{type_of}

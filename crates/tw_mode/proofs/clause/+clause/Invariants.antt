@@ -1,4 +1,4 @@
-use Rattle.std.proofs.Common.{◌≡◌, ◌+◌, ◌*◌, ◌-◌, ◌≤◌, List, length}
+use Rattle.std.proofs.Common.{◌+◌, ◌*◌, ◌-◌, ◌≤◌, List, length}
 use Rattle.lf.specs.Depth.{type_depth}
 use Rattle.lf.specs.Entries.{signature_of}
 use Rattle.lf.specs.Syntax.{LfType}

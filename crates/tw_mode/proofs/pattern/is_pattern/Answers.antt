@@ -3,7 +3,7 @@ use Rattle.lf_checks.specs.Strict.{is_bound, pattern_arguments}
 use Rattle.tw_terms.specs.View.{args_of, spine_of, term_of}
 use Rattle.tw_terms.proofs.Args.{types}
 use Rattle.tw_clause.proofs.Marking.{args_at}
-use Rattle.tw_mode.specs.Scopes.{newest}
+use Rattle.tw_mode.specs.Scopes.{newest_of}
 use Rattle.tw_mode.proofs.Patterns.{pattern_done, pattern_fails, pattern_next}
 use Rattle.tw_mode.proofs.pattern.is_pattern.Goals.{in_default-via-in-Some+in_ok-is_unseen+else-branch, in_default-via-in_default}
 use Rattle.tw_mode.proofs.pattern.is_pattern.Goals as goal
@@ -12,7 +12,7 @@ pub returns-in_default : goal.returns-in_default
 returns-in_default c =
     let items = c.deref-arg-items.result.now in
     let k = c.loop-arg.arg-index in
-    let B = newest c.args.bound in
+    let B = newest_of c.args.bound in
     let seen = c.loop-arg.seen.items in
     let M = term_of c.arg-item.result in
     let S = args_of (drop k items) in
@@ -28,7 +28,7 @@ pub loop-arg-preserved : goal.loop-arg-preserved
 loop-arg-preserved c =
     let items = c.deref-arg-items.result.now in
     let k = c.loop-arg.arg-index in
-    let B = newest c.args.bound in
+    let B = newest_of c.args.bound in
     let y = c.in-Some.variable in
     ap (λ s. pattern_arguments B s (args_of (drop (k + 1) items))) c.in_ok-push-in-Some.ensures.items
     ∙ pattern_next B c.loop-arg.seen.items (term_of c.arg-item.result) (args_of (drop k items)) (args_of (drop (k + 1) items)) y (args_at items k c.arg-item.result (omega arith) c.arg-item.is) (sym c.in-Some.is ∙ c.in_ok-variable.ensures) (sym c.if-branch.true ∙ c.in_ok-is_unseen.ensures ∙ ap (λ s. is_bound B s (term_of c.arg-item.result) (Some y)) c.deref.ensures.value)
@@ -38,4 +38,4 @@ pub returns : goal.returns
 returns c =
     let items = c.deref-arg-items.result.now in
     let whole : args_of items ≡ spine_of c.args.spine.now = grind (arith, types) in
-    pattern_done (newest c.args.bound) c.loop-arg.seen.items items c.loop-arg.arg-index (omega arith) ∙ c.loop-arg.invariant ∙ ap (pattern_arguments (newest c.args.bound) []) whole
+    pattern_done (newest_of c.args.bound) c.loop-arg.seen.items items c.loop-arg.arg-index (omega arith) ∙ c.loop-arg.invariant ∙ ap (pattern_arguments (newest_of c.args.bound) []) whole

@@ -23,6 +23,11 @@ returns-in-PrintSgn-clause-reply g c held holds =
     let s = c.show_signature.ensures.reply in
     carried held _ _ _ commands.PrintSgn _ _ s.0 c.show_signature.result c.in-PrintSgn.is (s.1, refl) s.2
 
+pub returns-in-PrintSubord-clause-reply : goal.returns-in-PrintSubord-clause-reply
+returns-in-PrintSubord-clause-reply g c held holds =
+    let s = c.show_subordination.ensures.reply in
+    carried held _ _ _ commands.PrintSubord _ _ s.0 c.show_subordination.result c.in-PrintSubord.is (s.1, refl) s.2
+
 pub returns-in-Reset-clause-reply : goal.returns-in-Reset-clause-reply
 returns-in-Reset-clause-reply g c held holds = carried held _ _ _ commands.Reset _ _ accepted c.write_reply.result c.in-Reset.is ((refl, c.reset.ensures), refl) c.write_reply.ensures.bytes
 

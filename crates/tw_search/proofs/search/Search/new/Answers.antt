@@ -1,4 +1,4 @@
-use Rattle.std.proofs.Common.{◌≡◌, ◌+◌, ◌++◌, ◌∷◌, [], length, ap, refl, reverse, subst, ◌∙◌, arith}
+use Rattle.std.proofs.Common.{◌+◌, ◌++◌, ◌∷◌, [], length, ap, refl, reverse, ◌∙◌}
 use Rattle.lf_unification.specs.Search.{begin_search}
 use Rattle.tw_search.specs.Chains.{frames_of}
 use Rattle.tw_terms.specs.View.{type_of}

@@ -1,4 +1,4 @@
-use Rattle.std.proofs.Common.{◌<◌, ◌≤◌, ◌-◌, ℕ, List, map, reverse, refl, subst, arith}
+use Rattle.std.proofs.Common.{◌<◌, ◌-◌, ℕ, List, map, reverse, refl, subst, arith}
 use Rattle.lf.specs.Entries.{signature_of}
 use Rattle.lf_unification.specs.Lists.{followed}
 use Rattle.tw_terms.specs.View.{head_of}

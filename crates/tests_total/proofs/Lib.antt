@@ -1,0 +1,4 @@
+pub mod Entries
+pub mod Clauses
+pub mod Coverage
+pub mod Passed

@@ -1,0 +1,8 @@
+use Rattle.std.proofs.Common.{◌≡◌, ◌++◌, codes}
+use Rattle.std.specs.Prelude.{drop, map}
+use Rattle.tw_clause.specs.View.{mark_of as plain_mark}
+use Rattle.tw_decl.specs.Modes.{mark_words}
+use Rattle.tw_decl.proofs.modes.mode_line.Given as goal
+
+abbrev pub invariant-loop-mark : goal.invariant-loop-mark
+invariant-loop-mark l = l.line.items ++ mark_words (map plain_mark (drop l.mark-index l.marks)) ≡ (codes "%mode " ++ l.family) ++ mark_words (map plain_mark l.marks)

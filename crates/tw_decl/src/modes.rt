@@ -1,0 +1,230 @@
+//! Modes: what a declaration of them asks of its family, and its line.
+ghost use Rattle.std.specs.Prelude.{◌≡◌, ◌++◌, codes, decimal, map, IfOk, None};
+ghost use Rattle.lf.specs.Entries.{entry as entry_numbered};
+ghost use Rattle.tw_clause.specs.View.{mark_of as plain_mark, name_of};
+ghost use Rattle.tw_names.specs.Earliest.{earlier, earliest};
+ghost use Rattle.tw_names.specs.Unknown.{unknown_in};
+ghost use Rattle.tw_parse.specs.View.{declaration_of};
+ghost use Rattle.tw_parse_checks.specs.Checks.{check_of};
+ghost use Rattle.tw_print.specs.Names.{constant_word, is_plain, name_in};
+ghost use Rattle.tw_decl.specs.Modes.{argument_count, check_family, clause_word, mark_of, mark_word, mode_line, takes_just, unknown_in_check, unknown_in_terms};
+ghost use Rattle.tw_decl.specs.View.{scene_of};
+
+use crate::preferences::is_family;
+use crate::session::Session;
+use std::alloc::{AllocError, Global};
+use tw_clause::{ClauseName, Mark3};
+use tw_fixity::Name;
+use tw_names::{Mention, first_mention, is_no_later};
+use tw_parse::{ExtDecl, ExtName};
+use tw_parse_checks::{ExtCheck, ExtMark};
+use tw_signature::Signature;
+use tw_terms::ConstId;
+
+/// The mark that is written.
+pub fn mark_of(mark: ExtMark) -> Mark3
+    ensures { plain_mark result ≡ mark_of mark }
+{
+    match mark {
+        ExtMark::Input => Mark3::Plus,
+        ExtMark::Output => Mark3::Minus,
+        ExtMark::Free => Mark3::Free,
+    }
+}
+
+/// The marks that are written. Fails only for want of memory.
+pub fn marks_of(alloc: Global, written: &[ExtMark]) -> Result<Vec<Mark3>, AllocError>
+    ensures { IfOk result (λ marks. map plain_mark marks.items ≡ map mark_of written.now) }
+{
+    let mut marks = Vec::new(alloc);
+    for mark in written {
+        marks.push(mark_of(*mark))?;
+    }
+    Ok(marks)
+}
+
+/// The family that a check names.
+pub fn check_family(check: &ExtCheck) -> &ExtName
+    ensures { result.now ≡ check_family (check_of check.now) }
+{
+    match check {
+        ExtCheck::ModeShort(family, _) => family,
+        ExtCheck::ModeFull(_, family, _, _) => family,
+    }
+}
+
+/// How many arguments of it are written.
+pub fn argument_count(check: &ExtCheck) -> usize
+    ensures { result ≡ argument_count (check_of check.now) }
+{
+    match check {
+        ExtCheck::ModeShort(_, marks) => marks.len(),
+        ExtCheck::ModeFull(_, _, count, _) => *count,
+    }
+}
+
+// The first name of a declaration that names nothing.
+fn unknown_in(
+    alloc: Global,
+    signature: &Signature,
+    declaration: &ExtDecl,
+) -> Result<Option<Mention>, AllocError>
+    ensures { IfOk result (λ m. m ≡ earliest None (unknown_in signature.now (declaration_of declaration.now))) }
+{
+    match declaration {
+        ExtDecl::Declare(_, _, term) => first_mention(alloc, signature, &None, term),
+        ExtDecl::Define(_, ty, term, _) => first_mention(alloc, signature, ty, term),
+        ExtDecl::NamePref(_, _, _) | ExtDecl::Fixity(_, _) => Ok(None),
+    }
+}
+
+// The first such name in the terms of a check.
+fn unknown_in_terms(
+    alloc: Global,
+    signature: &Signature,
+    check: &ExtCheck,
+) -> Result<Option<Mention>, AllocError>
+    ensures { IfOk result (λ m. m ≡ earliest None (unknown_in_terms signature.now (check_of check.now))) }
+{
+    match check {
+        ExtCheck::ModeShort(_, _) => Ok(None),
+        ExtCheck::ModeFull(_, _, _, declaration) => unknown_in(alloc, signature, declaration),
+    }
+}
+
+// The earlier of what was found before and this name.
+fn earlier(alloc: Global, before: Option<Mention>, name: &ExtName) -> Result<Mention, AllocError>
+    ensures { IfOk result (λ m. m ≡ earlier before (record { name = name.now.name; at = name.now.at })) }
+{
+    if let Some(found) = before {
+        if is_no_later(found.at, name.at) {
+            return Ok(found);
+        }
+    }
+    Ok(Mention {
+        name: name.name.copy(alloc)?,
+        at: name.at,
+    })
+}
+
+/// The first name of a check that names nothing.
+pub fn first_unknown(
+    alloc: Global,
+    signature: &Signature,
+    check: &ExtCheck,
+) -> Result<Option<Mention>, AllocError>
+    ensures { IfOk result (λ m. m ≡ earliest None (unknown_in_check signature.now (check_of check.now))) }
+{
+    let found = unknown_in_terms(alloc, signature, check)?;
+    let family = check_family(check);
+    if signature.lookup(&family.name).is_some() {
+        return Ok(found);
+    }
+    Ok(Some(earlier(alloc, found, family)?))
+}
+
+/// Whether the entry of this number is a family with just so many explicit arguments.
+pub fn takes_just(signature: &Signature, count: usize, id: ConstId) -> bool
+    ensures { result ≡ takes_just count (entry_numbered signature.now id.0) }
+{
+    signature.is_canonical();
+    let Some(entry) = signature.entry(id) else {
+        return false;
+    };
+    is_family(signature, id) && entry.hints.len().saturating_sub(entry.implicit as usize) == count
+}
+
+// The name of a constant, which is empty where no entry has this number.
+fn name_of_constant(session: &Session, id: ConstId) -> &[u8]
+    ensures { result.now ≡ name_in (entry_numbered session.now.signature id.0) }
+{
+    match session.signature().entry(id) {
+        Some(entry) => entry.name.as_bytes(),
+        None => b"",
+    }
+}
+
+// Whether a constant is the newest of its name.
+fn is_plain(session: &Session, id: ConstId) -> bool
+    ensures { result ≡ is_plain (scene_of session.now) id.0 }
+{
+    match session
+        .signature()
+        .lookup_bytes(name_of_constant(session, id))
+    {
+        Some(newest) => newest.0 == id.0,
+        None => false,
+    }
+}
+
+// The name of a constant as it is shown: between percent signs where it is shadowed. Fails only for want of memory.
+fn constant_word(alloc: Global, session: &Session, id: ConstId) -> Result<Vec<u8>, AllocError>
+    ensures { IfOk result (λ word. word.items ≡ constant_word (scene_of session.now) id.0) }
+{
+    let name = name_of_constant(session, id);
+    if is_plain(session, id) {
+        return Vec::from_slice(alloc, name);
+    }
+    let mut word = Vec::from_slice(alloc, b"%")?;
+    word.extend_from_slice(name)?;
+    word.push(b'%')?;
+    Ok(word)
+}
+
+/// `mode` and a family. Fails only for want of memory.
+pub fn mode_words(alloc: Global, session: &Session, family: ConstId) -> Result<Vec<u8>, AllocError>
+    ensures { IfOk result (λ words. words.items ≡ codes "mode " ++ constant_word (scene_of session.now) family.0) }
+{
+    let mut words = b"mode ".to_vec(alloc)?;
+    let family = constant_word(alloc, session, family)?;
+    words.extend_from_slice(&family)?;
+    Ok(words)
+}
+
+/// The name of a clause as it is shown. Fails only for want of memory.
+pub fn clause_word(
+    alloc: Global,
+    session: &Session,
+    clause: &ClauseName,
+) -> Result<Vec<u8>, AllocError>
+    ensures { IfOk result (λ word. word.items ≡ clause_word (scene_of session.now) (name_of clause.now)) }
+{
+    match clause {
+        ClauseName::Constant(id) => constant_word(alloc, session, *id),
+        ClauseName::BlockEntry(label, entry) => entry_word(alloc, label, *entry),
+    }
+}
+
+// The label of a block, and the number of an entry.
+fn entry_word(alloc: Global, label: &Name, entry: u64) -> Result<Vec<u8>, AllocError>
+    ensures { IfOk result (λ word. word.items ≡ label.now ++ codes "/" ++ decimal entry) }
+{
+    let mut word = Vec::from_slice(alloc, label.as_bytes())?;
+    let number = format!(in alloc; "/{entry}")?;
+    word.extend_from_slice(number.as_bytes())?;
+    Ok(word)
+}
+
+// A mark behind one space.
+fn mark_word(mark: Mark3) -> &'static [u8]
+    ensures { result.now ≡ mark_word (plain_mark mark) }
+{
+    match mark {
+        Mark3::Plus => b" +",
+        Mark3::Minus => b" -",
+        Mark3::Free => b" *",
+    }
+}
+
+/// The line of a declaration of modes. Fails only for want of memory.
+pub fn mode_line(alloc: Global, family: &Name, marks: &[Mark3]) -> Result<Vec<u8>, AllocError>
+    ensures { IfOk result (λ line. line.items ≡ mode_line family.now (map plain_mark marks.now)) }
+{
+    let mut line = b"%mode ".to_vec(alloc)?;
+    line.extend_from_slice(family.as_bytes())?;
+    for mark in marks {
+        line.extend_from_slice(mark_word(*mark))?;
+    }
+    line.extend_from_slice(b".\n")?;
+    Ok(line)
+}

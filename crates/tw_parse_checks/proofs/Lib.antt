@@ -1,0 +1,10 @@
+pub mod Rows
+pub mod Names
+pub mod Types
+pub mod Means
+pub mod Once
+pub mod Faults
+pub mod Variables
+pub mod Tokens
+pub mod Sources
+pub mod Forms

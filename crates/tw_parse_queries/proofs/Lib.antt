@@ -1,0 +1,6 @@
+pub mod Numbers
+pub mod Headers
+pub mod Stopping
+pub mod Reading
+pub mod OneSearch
+pub mod Examples

@@ -1,0 +1,5 @@
+pub mod Leaves
+pub mod Naming
+pub mod Steps
+pub mod Values
+pub mod Closing
