@@ -182,7 +182,7 @@ def edits_section(text):
 def write_edits():
     for crate in crates():
         path = f"crates/{crate}/README.md"
-        if os.path.exists(f"{TOP}/{path}") and edits_of(crate):
+        if os.path.exists(f"{TOP}/{path}") and edit_lines(crate):
             lines, first, last = edits_section(read(path))
             if first is None:
                 lines, first, last = [*lines, "", EDITS], len(lines) + 2, len(lines) + 2
