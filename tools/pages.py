@@ -31,7 +31,7 @@ EDITS = "## Refused edits"
 BY_HAND = "wrong-bodies"
 BELIEVED = "## To be believed"
 OF_PROOF = "## Of the proof"
-EDIT_WIDTH = 190
+EDIT_WIDTH = 220
 
 # Names in backticks that may stand in no source of ours.
 OTHER_WORDS = set(
