@@ -1,13 +1,19 @@
 //! What a call of a search shows, as a part of a line. The free variables of an answer have names that are made for them, from the outermost.
 use std::alloc::{AllocError, Global};
-use tests_forms::{Names, opened_type, show_closed_term, show_term, show_type};
-use tw_metas::Equation;
+use std::str;
+use tests_forms::{Names, opened_type, show_closed_term, show_type};
+use tw_equation::show_equation;
+use tw_fixity::FixTable;
+use tw_metas::LeftEquation;
+use tw_print::{Names as Preferences, ShowEnv};
 use tw_search::{Answer, Step};
+use tw_signature::Signature;
 use tw_terms::Context;
 
 /// The step, behind ` | `, and in front of the number of tries so far.
 pub(crate) fn show_step(
     alloc: Global,
+    signature: &Signature,
     names: &mut Names,
     line: &mut String,
     step: &Step,
@@ -16,7 +22,7 @@ pub(crate) fn show_step(
     line.push_str(" | ")?;
     match step {
         Step::Answer(answer) => show_answer(alloc, names, line, answer)?,
-        Step::Leftover(equation) => show_equation(alloc, names, line, equation)?,
+        Step::Leftover(left) => show_left(alloc, signature, line, left)?,
         Step::Exhausted => line.push_str("exhausted")?,
         Step::Budget => line.push_str("budget")?,
         Step::TooDeep => line.push_str("too deep")?,
@@ -63,15 +69,26 @@ fn show_free(
     }
 }
 
-/// Both sides of an equation that is left, whose metavariables and local variables have no names.
-fn show_equation(
+/// The text of an equation that is left.
+pub(crate) fn show_left(
     alloc: Global,
-    names: &mut Names,
+    signature: &Signature,
     line: &mut String,
-    equation: &Equation,
+    left: &LeftEquation,
 ) -> Result<(), AllocError> {
-    line.push_str("left ")?;
-    show_term(alloc, line, names, &equation.left)?;
-    line.push_str(" = ")?;
-    show_term(alloc, line, names, &equation.right)
+    let fixities = FixTable::new(alloc);
+    let names = Preferences::new(alloc);
+    let env = ShowEnv {
+        sig: signature,
+        fixities: &fixities,
+        names: &names,
+        implicit: false,
+    };
+    line.push_str("outside ")?;
+    add_text(line, &show_equation(alloc, &env, left)?)
+}
+
+/// Adds a text.
+pub(crate) fn add_text(line: &mut String, text: &[u8]) -> Result<(), AllocError> {
+    line.push_str(str::from_utf8(text).unwrap_or("?"))
 }

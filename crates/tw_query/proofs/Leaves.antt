@@ -6,10 +6,10 @@ use Rattle.lf_unification.specs.Lists.{followed}
 use Rattle.lf_unification.specs.Search.{Node, answer_leaves, without_equations}
 use Rattle.lf_unification.specs.Unifiers.{Equation}
 use Rattle.lf_search.specs.Bounded.{answers_among, end_by, unless_left}
+use Rattle.tw_search.specs.Left.{IsLeftAt}
 use Rattle.tw_search.specs.declared.answer.Answer.{Answer}
 use Rattle.tw_signature.specs.Goal.{Goal}
 use Rattle.tw_metas.specs.declared.left.LeftEquation.{LeftEquation}
-use Rattle.tw_query.specs.Left.{IsLeftAt}
 use Rattle.tw_query.specs.Runs.{AreShownAs, IsAnswerAt, IsShownAs, answers_in, end_in}
 use Rattle.tw_query.specs.View.{end_of}
 use Rattle.tw_query.specs.declared.run.Leaf.{Leaf}

@@ -1,5 +1,4 @@
 pub mod Leaves
-pub mod Naming
 pub mod Steps
 pub mod Values
 pub mod Closing

@@ -4,13 +4,11 @@ use Rattle.std.specs.Prelude.{IsTrue}
 use Rattle.std.proofs.lemmas.Bool.{cases_lt}
 use Rattle.lf.specs.Depth.{depth_limit}
 use Rattle.lf.specs.Entries.{Entry, IsCanonicalSignature, signature_of}
-use Rattle.lf.specs.Syntax.{LfType}
 use Rattle.lf.specs.Typing.{IsContext, IsType}
 use Rattle.lf.proofs.Entries.{canonical_is_signature}
 use Rattle.lf_unification.specs.Lists.{followed}
 use Rattle.lf_unification.specs.Query.{Query, Searches, StopsAtAnswer, none_asked}
 use Rattle.lf_unification.specs.Search.{Node, Pending, SearchesFrom, at_node, declared_constants}
-use Rattle.lf_unification.specs.Unifiers.{Equation}
 use Rattle.lf_search.specs.Bounded.{AsManyAs, Bound, FewerThan, QueryRuns, answers_among, number, star, stopped, stops}
 use Rattle.lf_search.specs.Calls.{AfterAnswer, AfterLeftOver}
 use Rattle.lf_search.specs.Coming.{Comes, Seen, answer, exhausted, left_over, out_of_budget, to_end, too_deep}
@@ -19,24 +17,19 @@ use Rattle.lf_search.proofs.Ends.{followed_none, search_then}
 use Rattle.lf_search.proofs.Calls.{after_answer, after_budget, after_deep, after_end, after_left_over}
 use Rattle.lf_search.proofs.LeafAnswer.{closed_is_found, leaf_answer}
 use Rattle.lf_search.proofs.QueryForm.{is_query, the_query}
-use Rattle.tw_metas.specs.View.{equation_of}
-use Rattle.tw_metas.specs.declared.equation.Equation.{Equation as Postponed}
-use Rattle.tw_putting.specs.Ready.{IsReady}
-use Rattle.tw_search.specs.Standing.{Stands, StepIs, tries_of}
+use Rattle.tw_metas.specs.declared.left.LeftEquation.{LeftEquation}
+use Rattle.tw_search.specs.Standing.{IsDeepLeaf, Stands, StepIs, tries_of}
 use Rattle.tw_search.specs.declared.answer.Answer.{Answer}
 use Rattle.tw_search.specs.declared.search.Search.{Search}
 use Rattle.tw_search.specs.declared.step.Step.{Step}
 use Rattle.tw_search.specs.declared.step.Step.TheVariants as step
 use Rattle.tw_signature.specs.Goal.{Goal}
 use Rattle.tw_terms.specs.View.{term_of}
-use Rattle.tw_query.specs.Left.{BlamesFirst, FirstIsDeep, ShowsFirst}
-use Rattle.tw_query.specs.Names.{VariableIsDeep}
 use Rattle.tw_query.specs.Runs.{AllAreFound, AreShownAs, HasCause, IsRunOf, answers_in, at_leaf, end_in, in_search, values_of}
-use Rattle.tw_query.specs.UnderWay.{AddsLeft, GoesOn, IsUnderWay}
-use Rattle.tw_query.specs.View.{end_of, store_of}
+use Rattle.tw_query.specs.UnderWay.{GoesOn, IsUnderWay}
+use Rattle.tw_query.specs.View.{end_of}
 use Rattle.tw_query.specs.declared.run.Leaf.TheVariants as leaf
 use Rattle.tw_query.specs.declared.run.QueryEnd.TheVariants as ends
-use Rattle.tw_query.specs.declared.run.QueryFault.{QueryFault}
 use Rattle.tw_query.specs.declared.run.QueryFault.TheVariants as faults
 use Rattle.tw_query.specs.declared.running.Running.{Running}
 use Rattle.tw_query.proofs.Leaves.{answer_at, as_many, ends_so, last_member, more_answers, same_answers, shown_then}
@@ -51,7 +44,7 @@ not_both (number t) k a f = (let q : k ≡ t = a in let r : k < t = f in omega (
 
 -- the root is a run under way
 pub begins : (es : List Entry) → IsCanonicalSignature es → (g : Goal) → IsContext (signature_of es) g.variables → IsType (signature_of es) g.variables g.goal → (r : Running) →
-    Stands es g.variables g.goal r.search [] (at_node (root_of g.variables g.goal) ∷ []) → tries_of r.search ≡ 0 → r.leaves.items ≡ [] → r.answers ≡ 0 → (b : Bound) (n : ℕ) → IsUnderWay es g b n r
+    Stands es g r.search [] (at_node (root_of g.variables g.goal) ∷ []) → tries_of r.search ≡ 0 → r.leaves.items ≡ [] → r.answers ≡ 0 → (b : Bound) (n : ℕ) → IsUnderWay es g b n r
 begins es ok g context goal r w z ls none b n =
     let sg = canonical_is_signature es ok in
     let q : Query = the_query (signature_of es) sg g.variables g.goal context goal in
@@ -79,9 +72,9 @@ not_reached false P e h p = (let t : IsTrue false = h.1 p in absurd cc)
 
 -- a call, with what is left of the budget
 pub called : (es : List Entry) (g : Goal) (b : Bound) (n : ℕ) (old : Running) (u : IsUnderWay es g b n old) (s : Search) (t : ℕ) (st st' : Step) → t ≡ tries_of old.search → st ≡ st' →
-    ((G : List LfType) (A : LfType) (leaves : List Node) (agenda : List Pending) → Stands es G A old.search leaves agenda → StepIs es G A old.search s leaves agenda (n - t) st) → StepIs es g.variables g.goal old.search s u.nodes u.agenda (n - tries_of old.search) st'
+    ((a : Goal) (leaves : List Node) (agenda : List Pending) → Stands es a old.search leaves agenda → StepIs es a old.search s leaves agenda (n - t) st) → StepIs es g old.search s u.nodes u.agenda (n - tries_of old.search) st'
 called es g b n old u s t st st' e f h =
-    subst (λ x. StepIs es g.variables g.goal old.search s u.nodes u.agenda (n - tries_of old.search) x) f (subst (λ k. StepIs es g.variables g.goal old.search s u.nodes u.agenda (n - k) st) e (h g.variables g.goal u.nodes u.agenda u.stands))
+    subst (λ x. StepIs es g old.search s u.nodes u.agenda (n - tries_of old.search) x) f (subst (λ k. StepIs es g old.search s u.nodes u.agenda (n - k) st) e (h g u.nodes u.agenda u.stands))
 
 -- One call from where a run stands, with fewer answers than are asked for.
 module _ (es : List Entry) (ok : IsCanonicalSignature es) (g : Goal) (b : Bound) (n : ℕ) (old : Running) (u : IsUnderWay es g b n old) (fewer : FewerThan b old.answers) (s : Search) where
@@ -102,15 +95,16 @@ module _ (es : List Entry) (ok : IsCanonicalSignature es) (g : Goal) (b : Bound)
   fewer_nodes = subst (FewerThan b) count_is fewer
 
   -- what a call of it comes to
-  comes_so : (st : Step) (w : StepIs es g.variables g.goal old.search s u.nodes u.agenda (n - k) st) (x : Seen) → w.seen ≡ x → Comes es depth_limit g.variables u.agenda (n - k) x w.tries w.after
+  comes_so : (st : Step) (w : StepIs es g old.search s u.nodes u.agenda (n - k) st) (x : Seen) → w.seen ≡ x → Comes es depth_limit g.variables u.agenda (n - k) x w.tries w.after
   comes_so st w x e = subst (λ y. Comes es depth_limit g.variables u.agenda (n - k) y w.tries w.after) e w.comes
 
   -- it stands behind another leaf, with the same agenda
-  stands_at : (ls ls' : List Node) (m : ℕ) (after : List Pending) → Stands es g.variables g.goal s ls after → tries_of s ≡ k + m → Searches es u.query ls' (k + m) after → Stands es g.variables g.goal s ls' after
+  stands_at : (ls ls' : List Node) (m : ℕ) (after : List Pending) → Stands es g s ls after → tries_of s ≡ k + m → Searches es u.query ls' (k + m) after → Stands es g s ls' after
   stands_at ls ls' m after w e r = record {
     context = w.context;
     goal = w.goal;
     variables = w.variables;
+    asked = w.asked;
     run = subst (λ j. SearchesFrom es (at_node (root_of g.variables g.goal) ∷ []) ls' j after) (sym e) (subst (λ l. SearchesFrom es (at_node l ∷ []) ls' (k + m) after) u.of_goal r);
     at = w.at;
   }
@@ -130,7 +124,7 @@ module _ (es : List Entry) (ok : IsCanonicalSignature es) (g : Goal) (b : Bound)
       let (given, j, w) = at l i in
       record { given = given; is_given = j; instance = each given.free (values_of given) (term_of given.proof) w.read }
 
-  pub at_end : StepIs es g.variables g.goal old.search s u.nodes u.agenda (n - k) step.Exhausted → IsRunOf es g b n old.leaves.items (end_in old.leaves.items) (tries_of s)
+  pub at_end : StepIs es g old.search s u.nodes u.agenda (n - k) step.Exhausted → IsRunOf es g b n old.leaves.items (end_in old.leaves.items) (tries_of s)
   at_end st =
       let c = comes_so step.Exhausted st exhausted st.shows in
       let ran = after_end es depth_limit g.variables u.query n u.nodes k (n - k) u.agenda run budget_is b fewer_nodes st.tries st.after c in
@@ -144,7 +138,7 @@ module _ (es : List Entry) (ok : IsCanonicalSignature es) (g : Goal) (b : Bound)
         all_found = all_found st.tries st.after c;
       }
 
-  pub at_budget : StepIs es g.variables g.goal old.search s u.nodes u.agenda (n - k) step.Budget → HasCause es g b n (faults.Budget n)
+  pub at_budget : StepIs es g old.search s u.nodes u.agenda (n - k) step.Budget → HasCause es g b n (faults.Budget n)
   at_budget st = (
     refl,
     record {
@@ -155,8 +149,14 @@ module _ (es : List Entry) (ok : IsCanonicalSignature es) (g : Goal) (b : Bound)
     },
   )
 
-  pub at_deep : StepIs es g.variables g.goal old.search s u.nodes u.agenda (n - k) step.TooDeep → HasCause es g b n faults.TooDeep
-  at_deep st = in_search u.query u.nodes u.of_goal (after_deep es depth_limit g.variables u.query n u.nodes k (n - k) u.agenda run budget_is b fewer_nodes st.tries st.after (comes_so step.TooDeep st too_deep st.shows))
+  deep_by : (st : StepIs es g old.search s u.nodes u.agenda (n - k) step.TooDeep) → (st.seen ≡ too_deep) ⊎ IsDeepLeaf es g st.seen → HasCause es g b n faults.TooDeep
+  deep_by st (inl e) = in_search u.query u.nodes u.of_goal (after_deep es depth_limit g.variables u.query n u.nodes k (n - k) u.agenda run budget_is b fewer_nodes st.tries st.after (comes_so step.TooDeep st too_deep e))
+  deep_by st (inr (l, d, e, w)) =
+      let v = after_left_over es depth_limit g.variables u.query n u.nodes k (n - k) u.agenda run budget_is l d st.tries st.after (comes_so step.TooDeep st (left_over l d) e) in
+      at_leaf u.query u.nodes l (k + st.tries) st.after u.of_goal v.run v.within fewer_nodes w
+
+  pub at_deep : StepIs es g old.search s u.nodes u.agenda (n - k) step.TooDeep → HasCause es g b n faults.TooDeep
+  at_deep st = deep_by st st.shows
 
   -- with one answer more, as many may be found as are asked for
   bounded_then : (c : Bound) → FewerThan c old.answers → (q : Query) (ls : List Node) (m : ℕ) (new : Running) → new.answers ≡ suc old.answers → QueryRuns es q n (number (suc old.answers)) ls stopped (tries_of new.search) →
@@ -168,7 +168,7 @@ module _ (es : List Entry) (ok : IsCanonicalSignature es) (g : Goal) (b : Bound)
       go (inl h) = inl h
       go (inr h) = (let below : old.answers < t = f in let same : new.answers ≡ t = omega (arith, e, below, h) in inr (same, subst (λ j. QueryRuns es q n (number j) ls stopped (tries_of new.search)) (sym e ∙ same) r))
 
-  pub at_answer : (a : Answer) → StepIs es g.variables g.goal old.search s u.nodes u.agenda (n - k) (step.Answer a) → (new : Running) → new.leaves.items ≡ old.leaves.items ++ leaf.Answer a ∷ [] → new.answers ≡ old.answers + 1 → new.search ≡ s → GoesOn es g b n old new None
+  pub at_answer : (a : Answer) → StepIs es g old.search s u.nodes u.agenda (n - k) (step.Answer a) → (new : Running) → new.leaves.items ≡ old.leaves.items ++ leaf.Answer a ∷ [] → new.answers ≡ old.answers + 1 → new.search ≡ s → GoesOn es g b n old new None
   at_answer a st new ls more same =
       let F = a.free in
       let Ms = values_of a in
@@ -186,7 +186,7 @@ module _ (es : List Entry) (ok : IsCanonicalSignature es) (g : Goal) (b : Bound)
           of_goal = u.of_goal;
           nodes = nodes;
           agenda = st.after;
-          stands = subst (λ x. Stands es g.variables g.goal x nodes st.after) (sym same) (stands_at (followed u.nodes (l ∷ [])) nodes st.tries st.after stood st.count w.run);
+          stands = subst (λ x. Stands es g x nodes st.after) (sym same) (stands_at (followed u.nodes (l ∷ [])) nodes st.tries st.after stood st.count w.run);
           shown = subst (AreShownAs es g nodes) (sym ls) (shown_then es g u.nodes old.leaves.items w.leaf (leaf.Answer a) u.shown (record { none_left = w.no_equations; read = w.read; is_answer = is_answer }));
           within = let h = w.within in omega (arith, counted, h);
           count = one ∙ ap suc u.count ∙ sym (more_answers old.leaves.items a) ∙ ap answers_in (sym ls);
@@ -196,61 +196,36 @@ module _ (es : List Entry) (ok : IsCanonicalSignature es) (g : Goal) (b : Bound)
         ap length ls ∙ one_longer old.leaves.items (leaf.Answer a),
       )
 
-  -- A leaf that is left over: the search holds it.
-  module _ (e : Postponed) (st : StepIs es g.variables g.goal old.search s u.nodes u.agenda (n - k) (step.Leftover e)) where
+  -- A leaf that is left over.
+  module _ (left : LeftEquation) (st : StepIs es g old.search s u.nodes u.agenda (n - k) (step.Leftover left)) where
     abbrev there : Node
     there = st.then_stands.0
 
     abbrev nodes : List Node
     nodes = followed u.nodes (st.then_stands.0 ∷ [])
 
-    pub is_ready : IsReady (signature_of es) [] (store_of s).now
-    is_ready = st.then_stands.1.holds.ready
-
-    equations_are : (store_of s).now.equations ≡ equation_of e ∷ st.then_stands.1.others
-    equations_are = sym (ap (λ x. x.equations) st.then_stands.1.holds.store) ∙ st.then_stands.1.first
-
-    pub has_first : (d : Equation) × (ds : List Equation) × ((store_of s).now.equations ≡ d ∷ ds)
-    has_first = (equation_of e, st.then_stands.1.others, equations_are)
-
     -- the tries are within the budget
-    after : AfterLeftOver es u.query n u.nodes k st.shows.0 (equation_of e) st.tries st.after
-    after = after_left_over es depth_limit g.variables u.query n u.nodes k (n - k) u.agenda run budget_is st.shows.0 (equation_of e) st.tries st.after (comes_so (step.Leftover e) st (left_over st.shows.0 (equation_of e)) st.shows.1)
-
-    run_there : Searches es u.query nodes (tries_of s) st.after
-    run_there = subst (λ l. SearchesFrom es (at_node l ∷ []) nodes (tries_of s) st.after) (sym u.of_goal) st.then_stands.2.run
+    after : AfterLeftOver es u.query n u.nodes k st.shows.0 st.shows.1 st.tries st.after
+    after = after_left_over es depth_limit g.variables u.query n u.nodes k (n - k) u.agenda run budget_is st.shows.0 st.shows.1 st.tries st.after (comes_so (step.Leftover left) st (left_over st.shows.0 st.shows.1) st.shows.2)
 
     within_there : tries_of s ≤ n
     within_there = let h = after.within in let c = st.count in omega (arith, h, c)
 
-    pub deep_there : FirstIsDeep (store_of s).now g ⊎ VariableIsDeep (store_of s).now g.variables → HasCause es g b n faults.TooDeep
-    deep_there d = at_leaf u.query u.nodes there (tries_of s) st.after u.of_goal run_there within_there fewer_nodes
-        (record { state = (store_of s).now; is_store = record { store = st.then_stands.1.holds.store; ready = is_ready }; first = equation_of e; others = st.then_stands.1.others; left_over = st.then_stands.1.first; deep = d })
-
-    pub fault_there : (f : QueryFault) → BlamesFirst f (store_of s).now g → HasCause es g b n f
-    fault_there (faults.Budget m) d = absurd d
-    fault_there faults.TooDeep d = deep_there d
-    fault_there faults.NoMemory d = tt
-
-    pub at_left_over : (mid new : Running) → mid.search ≡ s → mid.leaves.items ≡ old.leaves.items → mid.answers ≡ old.answers → AddsLeft g mid new → GoesOn es g b n old new None
-    at_left_over mid new same ls found w =
-        let now : new.search ≡ s = w.search ∙ same in
-        let items : new.leaves.items ≡ old.leaves.items ++ leaf.Outside w.left ∷ [] = w.leaves ∙ ap (λ xs. xs ++ leaf.Outside w.left ∷ []) ls in
-        let answers : new.answers ≡ old.answers = w.answers ∙ found in (
-          record {
-            query = u.query;
-            of_goal = u.of_goal;
-            nodes = nodes;
-            agenda = st.after;
-            stands = subst (λ x. Stands es g.variables g.goal x nodes st.after) (sym now) st.then_stands.2;
-            shown = subst (AreShownAs es g nodes) (sym items) (shown_then es g u.nodes old.leaves.items there (leaf.Outside w.left) u.shown
-                (record { state = (store_of s).now; is_store = record { store = st.then_stands.1.holds.store; ready = is_ready }; shows = subst (λ x. ShowsFirst (store_of x).now g w.left) same w.shows }));
-            within = subst (λ x. tries_of x ≤ n) (sym now) within_there;
-            count = answers ∙ u.count ∙ sym (same_answers old.leaves.items w.left) ∙ ap answers_in (sym items);
-            bounded = inl (subst (FewerThan b) (sym answers) fewer);
-          },
-          ap length items ∙ one_longer old.leaves.items (leaf.Outside w.left),
-        )
+    pub at_left_over : (new : Running) → new.leaves.items ≡ old.leaves.items ++ leaf.Outside left ∷ [] → new.answers ≡ old.answers → new.search ≡ s → GoesOn es g b n old new None
+    at_left_over new items answers now = (
+      record {
+        query = u.query;
+        of_goal = u.of_goal;
+        nodes = nodes;
+        agenda = st.after;
+        stands = subst (λ x. Stands es g x nodes st.after) (sym now) st.then_stands.2;
+        shown = subst (AreShownAs es g nodes) (sym items) (shown_then es g u.nodes old.leaves.items there (leaf.Outside left) u.shown st.then_stands.1);
+        within = subst (λ x. tries_of x ≤ n) (sym now) within_there;
+        count = answers ∙ u.count ∙ sym (same_answers old.leaves.items left) ∙ ap answers_in (sym items);
+        bounded = inl (subst (FewerThan b) (sym answers) fewer);
+      },
+      ap length items ∙ one_longer old.leaves.items (leaf.Outside left),
+    )
 
 -- as many answers were found as are asked for
 pub at_bound : (es : List Entry) (g : Goal) (b : Bound) (n : ℕ) (old : Running) → IsUnderWay es g b n old → AsManyAs b old.answers → IsRunOf es g b n old.leaves.items ends.Stopped (tries_of old.search)

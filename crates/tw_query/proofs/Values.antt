@@ -17,8 +17,8 @@ use Rattle.lf_unification.specs.Offering.{pi_over}
 use Rattle.tw_hered.specs.Fits.{TypeFits}
 use Rattle.tw_metas.specs.State.{joined}
 use Rattle.tw_print.specs.Showable.{HasSkeleton, IsShowableType}
+use Rattle.tw_search.specs.Names.{place_of}
 use Rattle.tw_signature.specs.Goal.{Goal}
-use Rattle.tw_query.specs.Names.{place_of}
 use Rattle.tw_query.specs.Rows.{AreShowable, FitAlong}
 use Rattle.tw_query.specs.Text.{Row, at, row_in, rows_for, rows_of, types_along}
 

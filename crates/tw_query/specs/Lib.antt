@@ -1,7 +1,4 @@
 pub mod View
-pub mod Names
-pub mod Left
-pub mod Faults
 pub mod Runs
 pub mod UnderWay
 pub mod Text

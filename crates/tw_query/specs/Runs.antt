@@ -11,10 +11,10 @@ use Rattle.lf_unification.specs.Search.{Node, Pending}
 use Rattle.lf_search.specs.Answers.{IsAnswerOf, IsInstanceOfAnswer, IsReadOffLeaf}
 use Rattle.lf_search.specs.Bounded.{Bound, FewerThan, QueryRuns, RunsDeep, RunsOut, answers_among}
 use Rattle.lf_search.specs.Goals.{IsQueryOf}
+use Rattle.tw_search.specs.Left.{IsDeepAt, IsLeftAt}
 use Rattle.tw_search.specs.declared.answer.Answer.{Answer}
 use Rattle.tw_signature.specs.Goal.{Goal}
 use Rattle.tw_terms.specs.View.{term_of}
-use Rattle.tw_query.specs.Left.{IsDeepAt, IsLeftAt}
 use Rattle.tw_query.specs.View.{end_of}
 use Rattle.tw_query.specs.declared.run.Leaf.{Leaf}
 use Rattle.tw_query.specs.declared.run.Leaf.TheVariants as leaf
@@ -85,7 +85,7 @@ pub record IsOutOf (es : List Entry) (g : Goal) (bound : Bound) (budget : ℕ) :
   pub nodes : List Node
   pub out : RunsOut es query budget bound nodes
 
--- The run comes, with fewer answers than are asked for, to something deep: to equations or an answer, or to a leaf whose first equation can't be shown.
+-- The run comes, with fewer answers than are asked for, to something deep: to equations or an answer, or to a leaf that is left over where what is needed to show it is deep.
 pub data MeetsDeep (es : List Entry) (g : Goal) (bound : Bound) (budget : ℕ) : Type 0 where
   in_search : (q : Query) (nodes : List Node) → IsQueryOf g.variables g.goal q → RunsDeep es depth_limit g.variables q budget bound nodes → MeetsDeep es g bound budget
   at_leaf : (q : Query) (nodes : List Node) (l : Node) (tries : ℕ) (agenda : List Pending) → IsQueryOf g.variables g.goal q → Searches es q (followed nodes (l ∷ [])) tries agenda →

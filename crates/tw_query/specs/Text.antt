@@ -11,8 +11,8 @@ use Rattle.tw_print.specs.Shown.{term_text_in}
 use Rattle.tw_prune.specs.Walks.{eta_variable_under}
 use Rattle.tw_shown.specs.Naming.{lacks_name, named}
 use Rattle.tw_shown.specs.Shown.{shown_in_term}
+use Rattle.tw_search.specs.Names.{place_of}
 use Rattle.tw_signature.specs.Goal.{Goal}
-use Rattle.tw_query.specs.Names.{place_of}
 
 -- a line: the name of a variable of the query, its value, and the type by which lambdas in it are shown
 pub record Row : Type 0 where

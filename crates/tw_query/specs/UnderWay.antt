@@ -1,17 +1,13 @@
 -- A run of a query that is under way.
-use Rattle.std.specs.Prelude.{◌≡◌, ℕ, ◌≤◌, List, [], ◌∷◌, ◌++◌, length, suc, Option, Some, None, ◌⊎◌}
+use Rattle.std.specs.Prelude.{◌≡◌, ℕ, ◌≤◌, List, length, suc, Option, Some, None, ◌⊎◌}
 use Rattle.lf.specs.Entries.{Entry}
 use Rattle.lf_unification.specs.Query.{Query}
 use Rattle.lf_unification.specs.Search.{Node, Pending}
 use Rattle.lf_search.specs.Bounded.{AsManyAs, Bound, FewerThan, QueryRuns, stopped}
 use Rattle.lf_search.specs.Goals.{IsQueryOf}
-use Rattle.tw_metas.specs.declared.left.LeftEquation.{LeftEquation}
 use Rattle.tw_search.specs.Standing.{Stands, tries_of}
 use Rattle.tw_signature.specs.Goal.{Goal}
-use Rattle.tw_query.specs.Left.{ShowsFirst}
 use Rattle.tw_query.specs.Runs.{AreShownAs, IsRunOf, answers_in}
-use Rattle.tw_query.specs.View.{store_of}
-use Rattle.tw_query.specs.declared.run.Leaf.TheVariants as leaf
 use Rattle.tw_query.specs.declared.run.QueryEnd.{QueryEnd}
 use Rattle.tw_query.specs.declared.running.Running.{Running}
 
@@ -21,19 +17,11 @@ pub record IsUnderWay (es : List Entry) (g : Goal) (bound : Bound) (budget : ℕ
   pub of_goal : IsQueryOf g.variables g.goal query
   pub nodes : List Node
   pub agenda : List Pending
-  pub stands : Stands es g.variables g.goal r.search nodes agenda
+  pub stands : Stands es g r.search nodes agenda
   pub shown : AreShownAs es g nodes r.leaves.items
   pub within : tries_of r.search ≤ budget
   pub count : r.answers ≡ answers_in r.leaves.items
   pub bounded : FewerThan bound r.answers ⊎ (AsManyAs bound r.answers × QueryRuns es query budget bound nodes stopped (tries_of r.search))
-
--- one leaf more, which the search holds and which is left over
-pub record AddsLeft (g : Goal) (old new : Running) : Type 0 where
-  pub left : LeftEquation
-  pub shows : ShowsFirst (store_of old.search).now g left
-  pub leaves : new.leaves.items ≡ old.leaves.items ++ leaf.Outside left ∷ []
-  pub answers : new.answers ≡ old.answers
-  pub search : new.search ≡ old.search
 
 -- after a step: it ended so, or there is one leaf more
 abbrev pub GoesOn : List Entry → Goal → Bound → ℕ → Running → Running → Option QueryEnd → Type 0

@@ -1,7 +1,5 @@
 -- What the values of the program stand for.
 use Rattle.lf_search.specs.Bounded as search
-use Rattle.tw_metas.specs.State.{Story}
-use Rattle.tw_search.specs.declared.search.Search.{Search}
 use Rattle.tw_query.specs.declared.run.Bound.{Bound}
 use Rattle.tw_query.specs.declared.run.Bound.TheVariants as bounds
 use Rattle.tw_query.specs.declared.run.QueryEnd.{QueryEnd}
@@ -15,7 +13,3 @@ abbrev pub end_of : QueryEnd → search.QueryEnd
 end_of ends.Stopped = search.stopped
 end_of ends.Exhausted = search.exhausted
 end_of ends.Incomplete = search.incomplete
-
--- a search's store
-abbrev pub store_of : Search → Story
-store_of s = s.store

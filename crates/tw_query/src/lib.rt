@@ -1,14 +1,11 @@
 //! The run of a query with its bound and budget, and the text of an answer.
 //!
-//! `query` runs it, call by call (`running`), and `run` has what it comes to. A leaf that is left over is shown by its first equation (`left`), in which metavariables have the names of the
-//! query's variables (`names`).
+//! `query` runs it, call by call (`running`), and `run` has what it comes to.
 //!
 //! `text` shows an answer: its lines (`rows`), and the names of its free variables (`free`), of which one that is a value alone (`sole`) has the name of its variable.
 #![tactic(auto)]
 
 mod free;
-mod left;
-mod names;
 mod query;
 #[tactic(auto, using(crate::proofs::Closing::closings))]
 mod rows;

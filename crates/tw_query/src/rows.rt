@@ -9,11 +9,10 @@ ghost use Rattle.tw_terms.specs.View.{term_of, type_of};
 ghost use Rattle.tw_query.specs.Rows.{FitAlong, option_list, row_of};
 ghost use Rattle.tw_query.specs.Text.{at, row_in, rows_of, types_along};
 
-use crate::names::place_of;
 use std::alloc::{AllocError, Global};
 use tw_fixity::Name;
 use tw_print::instantiated;
-use tw_search::Answer;
+use tw_search::{Answer, place_of};
 use tw_signature::Goal;
 use tw_terms::{Context, Term, Ty, skeleton};
 

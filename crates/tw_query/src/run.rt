@@ -1,17 +1,14 @@
 //! What a query asks for, and what its run comes to.
 ghost use Rattle.std.specs.Prelude.{◌≡◌, ◌↔◌, ◌+◌, IfOk, IsTrue, length};
 ghost use Rattle.lf_search.specs.Bounded.{AsManyAs};
-ghost use Rattle.tw_query.specs.Faults.{of_reading, of_unifying};
 ghost use Rattle.tw_query.specs.Runs.{answers_in};
 ghost use Rattle.tw_query.specs.View.{bound_of};
 ghost use Rattle.tw_query.specs.declared.run.QueryFault.TheVariants.{NoMemory};
 
 use std::alloc::AllocError;
 use thiserror::Error;
-use tw_hered::HeredFault;
 use tw_metas::LeftEquation;
 use tw_search::Answer;
-use tw_unify::UnifyFault;
 
 /// How many answers are asked for.
 #[derive(Clone, Copy, PartialEq, Eq, Debug)]
@@ -94,27 +91,5 @@ impl From<AllocError> for QueryFault {
 
     fn from(_error: AllocError) -> QueryFault {
         QueryFault::NoMemory
-    }
-}
-
-impl From<HeredFault> for QueryFault {
-    ghost from_gives = { λ fault e. e ≡ of_reading fault };
-
-    fn from(fault: HeredFault) -> QueryFault {
-        match fault {
-            HeredFault::TooDeep => QueryFault::TooDeep,
-            HeredFault::NoMemory => QueryFault::NoMemory,
-        }
-    }
-}
-
-impl From<UnifyFault> for QueryFault {
-    ghost from_gives = { λ fault e. e ≡ of_unifying fault };
-
-    fn from(fault: UnifyFault) -> QueryFault {
-        match fault {
-            UnifyFault::TooDeep => QueryFault::TooDeep,
-            UnifyFault::NoMemory => QueryFault::NoMemory,
-        }
     }
 }

@@ -2,18 +2,14 @@
 ghost use Rattle.std.specs.Prelude.{◌≡◌, ◌∷◌, ◌++◌, ◌+◌, ◌≤◌, [], ℕ, List, IfErr, IfOk, OnOk, length};
 ghost use Rattle.lf.specs.Entries.{signature_of};
 ghost use Rattle.lf.specs.Typing.{IsContext, IsType};
-ghost use Rattle.lf_unification.specs.Unifiers as unifiers;
 ghost use Rattle.lf_search.specs.Bounded.{Bound as AnswerBound};
-ghost use Rattle.tw_putting.specs.Ready.{IsReady};
 ghost use Rattle.tw_signature.specs.Goal.{goal_of};
 ghost use Rattle.tw_terms.specs.View.{type_of};
-ghost use Rattle.tw_query.specs.Left.{BlamesFirst, ShowsFirst};
 ghost use Rattle.tw_query.specs.Runs.{HasCause, end_in};
-ghost use Rattle.tw_query.specs.UnderWay.{AddsLeft, GoesOn, IsUnderWay};
-ghost use Rattle.tw_query.specs.View.{bound_of, store_of};
+ghost use Rattle.tw_query.specs.UnderWay.{GoesOn, IsUnderWay};
+ghost use Rattle.tw_query.specs.View.{bound_of};
 ghost use Rattle.tw_query.specs.declared.run.Leaf.TheVariants as leaves;
 
-use crate::left::first_equation;
 use crate::run::{Bound, Leaf, QueryEnd, QueryFault};
 use std::alloc::{AllocError, Global};
 use tw_search::{Answer, Search, Step};
@@ -70,10 +66,10 @@ impl Running {
                 self.add_answer(answer)?;
                 Ok(None)
             }
-            Step::Leftover(_) => match self.add_left_over(alloc, signature, goal) {
-                Ok(()) => Ok(None),
-                Err(fault) => Err(fault),
-            },
+            Step::Leftover(left) => {
+                self.add(Leaf::Outside(left))?;
+                Ok(None)
+            }
             Step::Exhausted => Ok(Some(end_of(&self.leaves))),
             Step::Budget => Err(QueryFault::Budget(budget)),
             Step::TooDeep => Err(QueryFault::TooDeep),
@@ -99,23 +95,6 @@ impl Running {
         ensures search { self.new.search ≡ self.old.search }
     {
         self.leaves.push(leaf)?;
-        Ok(())
-    }
-
-    /// One leaf more, which is left over: the search holds it.
-    fn add_left_over(
-        &mut self,
-        alloc: Global,
-        signature: &Signature,
-        goal: &Goal,
-    ) -> Result<(), QueryFault>
-        requires ready { IsReady (signature_of signature.now) [] (store_of self.old.search).now }
-        requires first { (e : unifiers.Equation) × (es : List unifiers.Equation) × ((store_of self.old.search).now.equations ≡ e ∷ es) }
-        ensures added { OnOk result (AddsLeft (goal_of goal.now) self.old self.new) }
-        ensures fault { IfErr result (λ f. BlamesFirst f (store_of self.old.search).now (goal_of goal.now)) }
-    {
-        let left = first_equation(alloc, signature, self.search.store(), goal)?;
-        self.add(Leaf::Outside(left))?;
         Ok(())
     }
 }

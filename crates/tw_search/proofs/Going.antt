@@ -9,8 +9,7 @@ use Rattle.lf_unification.specs.Search.{Pending, SearchesFrom, begin_search}
 use Rattle.lf_unification.specs.Unifiers.{Equation}
 use Rattle.lf_search.specs.Coming.{AnswerIsDeep, Comes}
 use Rattle.tw_metas.specs.State.{Story}
-use Rattle.tw_metas.specs.View.{equation_of}
-use Rattle.tw_metas.specs.declared.equation.Equation.{Equation as Postponed}
+use Rattle.tw_metas.specs.declared.left.LeftEquation.{LeftEquation}
 use Rattle.tw_putting.specs.Ready.{IsLater}
 use Rattle.tw_putting.specs.Whole.{whole}
 use Rattle.tw_terms.specs.View.{term_of}
@@ -20,7 +19,8 @@ use Rattle.tw_search.specs.Choosing.{heads_left}
 use Rattle.tw_search.specs.Going.{Goes, GoesFrom, IsBelow}
 use Rattle.tw_search.specs.Goals.{IsOpened}
 use Rattle.tw_search.specs.Leaves.{IsLeaf, IsReadOff}
-use Rattle.tw_search.specs.Standing.{Came, ChoicesStand, GaveOut, IsAt, IsOver, IsTakenUp, NodeStands, PlaceStands, TriesHead, WentOn, choices_of}
+use Rattle.tw_search.specs.Left.{ShowingIsDeep, ShowsFirst}
+use Rattle.tw_search.specs.Standing.{Came, ChoicesStand, GaveOut, IsAt, IsOver, IsTakenUp, NodeStands, PlaceStands, TriesHead, WentOn, asked_of, choices_of}
 use Rattle.tw_search.specs.Tries.{GivesChild, NeverFits}
 use Rattle.tw_search.specs.declared.answer.Answer.{Answer}
 use Rattle.tw_search.specs.declared.frames.Frame.{Frame}
@@ -31,7 +31,7 @@ use Rattle.tw_search.specs.declared.step.End.TheVariants as end
 use Rattle.tw_search.specs.declared.step.Place.TheVariants as place
 use Rattle.tw_search.specs.declared.step.Step.{Step}
 use Rattle.tw_search.specs.declared.step.Step.TheVariants as step
-use Rattle.tw_search.proofs.Leaving.{answer_came, budget_came, deep_came, left_came}
+use Rattle.tw_search.proofs.Leaving.{answer_came, budget_came, deep_came, left_came, left_deep_came}
 use Rattle.tw_search.proofs.Standing as standing
 
 -- Where a search is.
@@ -51,7 +51,7 @@ heads_are es s n cs fs y agenda p v q f k w =
     (subst (λ xs. ChoicesStand es n y fs xs agenda) (sym k) w))))
 
 -- Tries.
-module _ (es : List Entry) (ok : IsCanonicalSignature es) (old new : Search) (c : Choice) (h : Head) (agenda : List Pending) (w : TriesHead es old c h agenda) (later : IsLater old.store new.store) (choices : choices_of new ≡ c ∷ choices_of old) (variables : new.variables ≡ old.variables) (tries : new.tries ≡ old.tries + 1) where
+module _ (es : List Entry) (ok : IsCanonicalSignature es) (old new : Search) (c : Choice) (h : Head) (agenda : List Pending) (w : TriesHead es old c h agenda) (later : IsLater old.store new.store) (choices : choices_of new ≡ c ∷ choices_of old) (variables : new.variables ≡ old.variables) (same_goal : new.goal ≡ old.goal) (tries : new.tries ≡ old.tries + 1) where
   pub none_tried : NeverFits (signature_of es) old.store.now c.goal h → IsGrown (frames_of old.frames) (frames_of new.frames) → new.place ≡ place.Heads → WentOn es old new agenda
   none_tried n f p = record {
     tries = 1;
@@ -59,6 +59,7 @@ module _ (es : List Entry) (ok : IsCanonicalSignature es) (old new : Search) (c 
     run = standing.run_none es ok old c h agenda w new.store later n;
     count = tries;
     variables = variables;
+    same_goal = same_goal;
     at = heads_are es new old.variables (c ∷ choices_of old) (frames_of new.frames) new.store _ p variables refl refl choices (standing.choice_after es ok old c h agenda w new.store later (frames_of new.frames) f);
   }
 
@@ -70,6 +71,7 @@ module _ (es : List Entry) (ok : IsCanonicalSignature es) (old new : Search) (c 
     run = standing.run_child es ok old c h agenda w new.store later subgoals child;
     count = tries;
     variables = variables;
+    same_goal = same_goal;
     at = node_here es new list _ p
         (subst (λ m. NodeStands es m list new.store (frames_of new.frames) (choices_of new) (standing.after_child es ok old c h agenda w new.store later subgoals child)) (sym variables)
         (subst (λ xs. NodeStands es old.variables list new.store (frames_of new.frames) xs (standing.after_child es ok old c h agenda w new.store later subgoals child)) (sym choices)
@@ -93,13 +95,14 @@ module _ (es : List Entry) (old : Search) (c : Choice) (agenda : List Pending) (
     run = standing.passed_over es old c agenda w e;
     count = omega arith;
     variables = refl;
+    same_goal = refl;
     at = heads_here es old w.rest at_heads w.older;
   }
 
-  pub budget_spent : (G : List LfType) (new : Search) (last : ℕ) (k : Head) (ks : List Head) → heads_left es c.goal.family.0 c.goal.locals c.local c.constant ≡ k ∷ ks → old.tries ≡ last → new.tries ≡ old.tries → new.variables ≡ old.variables →
+  pub budget_spent : (G : List LfType) (new : Search) (last : ℕ) (k : Head) (ks : List Head) → heads_left es c.goal.family.0 c.goal.locals c.local c.constant ≡ k ∷ ks → old.tries ≡ last → new.tries ≡ old.tries → new.variables ≡ old.variables → new.goal ≡ old.goal →
       new.store ≡ old.store → frames_of new.frames ≡ frames_of old.frames → choices_of new ≡ c ∷ choices_of old → new.place ≡ place.Heads → Came es G old new agenda (last - old.tries) step.Budget
-  budget_spent G new last k ks e spent t v q f cs p =
-      budget_came es G old new agenda (standing.next_agenda es old c agenda w k ks e) (last - old.tries) (standing.up_to_head es old c agenda w k ks e) (standing.try_due es old c agenda w k ks e) (omega (arith, spent)) t v
+  budget_spent G new last k ks e spent t v g q f cs p =
+      budget_came es G old new agenda (standing.next_agenda es old c agenda w k ks e) (last - old.tries) (standing.up_to_head es old c agenda w k ks e) (standing.try_due es old c agenda w k ks e) (omega (arith, spent)) t v g
       (heads_are es new old.variables (c ∷ choices_of old) (frames_of old.frames) old.store _ p v q f cs (standing.stays es old c agenda w k ks e))
 
 -- What is come to later on, or from another record of the same search.
@@ -107,9 +110,9 @@ pub goes_later : (es : List Entry) (last : ℕ) (old new : Search) (o : Option S
 goes_later es last old new None agenda agenda' r g = standing.went_later es old new agenda agenda' r g
 goes_later es last old new (Some s) agenda agenda' r g = λ G len. standing.came_later es G old new agenda agenda' (last - old.tries) s r (g G len)
 
-pub goes_from_same : (es : List Entry) (last : ℕ) (old mid new : Search) (o : Option Step) (agenda : List Pending) → mid.tries ≡ old.tries → mid.variables ≡ old.variables → GoesFrom es last mid new o agenda → GoesFrom es last old new o agenda
-goes_from_same es last old mid new None agenda t v g = record { tries = g.tries; after = g.after; run = g.run; count = g.count ∙ ap (λ n. n + g.tries) t; variables = g.variables ∙ v; at = g.at }
-goes_from_same es last old mid new (Some s) agenda t v g = λ G len. same G (g G (len ∙ sym v))
+pub goes_from_same : (es : List Entry) (last : ℕ) (old mid new : Search) (o : Option Step) (agenda : List Pending) → mid.tries ≡ old.tries → mid.variables ≡ old.variables → mid.goal ≡ old.goal → GoesFrom es last mid new o agenda → GoesFrom es last old new o agenda
+goes_from_same es last old mid new None agenda t v e g = record { tries = g.tries; after = g.after; run = g.run; count = g.count ∙ ap (λ n. n + g.tries) t; variables = g.variables ∙ v; same_goal = g.same_goal ∙ e; at = g.at }
+goes_from_same es last old mid new (Some s) agenda t v e g = λ G len. same G (g G (len ∙ sym v))
   where
     same : (G : List LfType) → Came es G mid new agenda (last - mid.tries) s → Came es G old new agenda (last - old.tries) s
     same G m = let budget : last - mid.tries ≡ last - old.tries = ap (λ n. last - n) t in record {
@@ -121,6 +124,7 @@ goes_from_same es last old mid new (Some s) agenda t v g = λ G len. same G (g G
       passes = m.passes;
       count = m.count ∙ ap (λ n. n + m.tries) t;
       variables = m.variables ∙ v;
+      same_goal = m.same_goal ∙ e;
       then_is = m.then_is;
     }
 
@@ -132,13 +136,14 @@ below_more steps steps' last new (Some s) h b = tt
 -- A goal that is chosen.
 module _ (es : List Entry) (old new : Search) (list : ℕ) (agenda : List Pending) (w : NodeStands es old.variables list old.store (frames_of old.frames) (choices_of old) agenda) where
   pub goal_chosen : (f : Frame) → IsFirst (frames_of old.frames) list (Some f) → (g : OpenGoal) → IsOpened old.store.now f.hole.0 g → (c : Choice) → c ≡ record { mark = length old.store.before; frames = length (frames_of old.frames); goal = g; rest = f.next; local = 0; constant = 0 } →
-      new.tries ≡ old.tries → new.variables ≡ old.variables → new.store ≡ old.store → frames_of new.frames ≡ frames_of old.frames → choices_of new ≡ c ∷ choices_of old → new.place ≡ place.Heads → WentOn es old new agenda
-  goal_chosen f first g o c is t v q e k p = record {
+      new.tries ≡ old.tries → new.variables ≡ old.variables → new.goal ≡ old.goal → new.store ≡ old.store → frames_of new.frames ≡ frames_of old.frames → choices_of new ≡ c ∷ choices_of old → new.place ≡ place.Heads → WentOn es old new agenda
+  goal_chosen f first g o c is t v same q e k p = record {
     tries = 0;
     after = standing.chosen es old.variables list old.store (frames_of old.frames) (choices_of old) agenda w f first g o c is;
     run = standing.run_chosen es old.variables list old.store (frames_of old.frames) (choices_of old) agenda w f first g o c is;
     count = omega (arith, t);
     variables = v;
+    same_goal = same;
     at = heads_are es new old.variables (c ∷ choices_of old) (frames_of old.frames) old.store _ p v q e k (standing.chosen_stands es old.variables list old.store (frames_of old.frames) (choices_of old) agenda w f first g o c is);
   }
 
@@ -147,23 +152,26 @@ module _ (es : List Entry) (old new : Search) (list : ℕ) (agenda : List Pendin
     pub is_leaf : old.store.now.equations ≡ [] → IsLeaf old.store.now old.variables
     is_leaf e = record { signature = signature_of es; is_signature = canonical_is_signature es ok; ready = w.kept.ready; none_left = e; declared = w.kept.declared; reached = w.kept.from_query }
 
-    module _ (G : List LfType) (len : length G ≡ old.variables) (budget : ℕ) (tries : new.tries ≡ old.tries) (variables : new.variables ≡ old.variables) where
+    module _ (G : List LfType) (len : length G ≡ old.variables) (budget : ℕ) (tries : new.tries ≡ old.tries) (variables : new.variables ≡ old.variables) (same_goal : new.goal ≡ old.goal) where
       module _ (store : new.store ≡ old.store) (frames : frames_of new.frames ≡ frames_of old.frames) (choices : choices_of new ≡ choices_of old) (heads : new.place ≡ place.Heads) where
         behind : IsAt es new w.rest
         behind = heads_are es new old.variables (choices_of old) (frames_of old.frames) old.store w.rest heads variables store frames choices w.choices
 
         pub answer_shown : old.store.now.equations ≡ [] → (a : Answer) → IsReadOff old.store.now old.variables a.free (reverse (map term_of a.values.items)) (term_of a.proof) → Came es G old new agenda budget (step.Answer a)
-        answer_shown e a r = answer_came es ok old new list G len agenda budget w first tries variables store e a r behind
+        answer_shown e a r = answer_came es ok old new list G len agenda budget w first tries variables same_goal e a r behind
 
-        pub left_shown : (q : Postponed) (fs : List Equation) → old.store.now.equations ≡ equation_of q ∷ fs → (shown : Postponed) → equation_of shown ≡ equation_of q → Came es G old new agenda budget (step.Leftover shown)
-        left_shown q fs e shown s = left_came es ok old new list G len agenda budget w first tries variables store q fs e shown s behind
+        pub left_shown : (left : LeftEquation) → ShowsFirst old.store.now (asked_of old) left → Came es G old new agenda budget (step.Leftover left)
+        left_shown left s = left_came es ok old new list G len agenda budget w first tries variables same_goal left s behind
+
+      pub left_deep_shown : (e : Equation) (fs : List Equation) → old.store.now.equations ≡ e ∷ fs → ShowingIsDeep old.store.now (asked_of old) → IsOver end.TooDeep new → Came es G old new agenda budget step.TooDeep
+      left_deep_shown e fs q d over = left_deep_came es ok old new list G len agenda budget w first tries variables same_goal e fs q d over
 
       pub deep_shown : old.store.now.equations ≡ [] → AnswerIsDeep depth_limit G (whole [] old.store.now) → IsOver end.TooDeep new → Came es G old new agenda budget step.TooDeep
-      deep_shown e d over = deep_came es ok old new list G len agenda budget w first tries variables e d over
+      deep_shown e d over = deep_came es ok old new list G len agenda budget w first tries variables same_goal e d over
 
 -- Steps one after another.
 pub went_nowhere : (es : List Entry) (s : Search) (agenda : List Pending) → IsAt es s agenda → WentOn es s s agenda
-went_nowhere es s agenda w = record { tries = 0; after = agenda; run = begin_search; count = omega arith; variables = refl; at = w }
+went_nowhere es s agenda w = record { tries = 0; after = agenda; run = begin_search; count = omega arith; variables = refl; same_goal = refl; at = w }
 
 module _ (es : List Entry) (first old new : Search) (went : (agenda : List Pending) → IsAt es first agenda → WentOn es first old agenda) where
   pub went_further : (last : ℕ) → Goes es last old new None → (agenda : List Pending) → IsAt es first agenda → WentOn es first new agenda

@@ -18,3 +18,4 @@ pub mod Leaving
 pub mod Going
 pub mod Calling
 pub mod StillLeft
+pub mod Naming

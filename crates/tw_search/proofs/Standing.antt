@@ -120,6 +120,7 @@ went_later es old new agenda agenda' r w = record {
   run = search_then (signature_of es) (declared_constants es) r w.run;
   count = (let e = w.count in omega (arith, e));
   variables = w.variables;
+  same_goal = w.same_goal;
   at = w.at;
 }
 
@@ -141,6 +142,7 @@ came_later es G old new agenda agenda' budget s r w = record {
   passes = (let u : 0 + w.tries ≡ w.tries = omega arith in subst (λ k. PassesLeaf es G new agenda s k w.after) u (passes_later es G new agenda agenda' 0 w.tries w.after s r w.passes));
   count = w.count;
   variables = w.variables;
+  same_goal = w.same_goal;
   then_is = w.then_is;
 }
 
@@ -155,6 +157,7 @@ went_then_came es G first old new agenda last s w h v = record {
   passes = passes_later es G new agenda w.after w.tries v.tries v.after s w.run v.passes;
   count = (let c = w.count in let d = v.count in omega (arith, c, d));
   variables = v.variables ∙ w.variables;
+  same_goal = v.same_goal ∙ w.same_goal;
   then_is = v.then_is;
 }
 
@@ -165,6 +168,7 @@ went_then es first old new agenda w v = record {
   run = search_then (signature_of es) (declared_constants es) w.run v.run;
   count = (let c = w.count in let d = v.count in omega (arith, c, d));
   variables = v.variables ∙ w.variables;
+  same_goal = v.same_goal ∙ w.same_goal;
   at = v.at;
 }
 

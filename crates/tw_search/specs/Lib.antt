@@ -7,5 +7,7 @@ pub mod Leaves
 pub mod Roots
 pub mod Choosing
 pub mod Chains
+pub mod Names
+pub mod Left
 pub mod Standing
 pub mod Going

@@ -1,5 +1,5 @@
 -- Where a search stands: the agenda of the tree that a value of the program stands for. Only here is it said how the program keeps it.
-use Rattle.std.specs.Prelude.{◌≡◌, ℕ, ◌+◌, ◌≤◌, List, [], ◌∷◌, length, map, reverse}
+use Rattle.std.specs.Prelude.{◌≡◌, ℕ, ◌+◌, ◌≤◌, List, [], ◌∷◌, length, map, reverse, ◌⊎◌}
 use Rattle.lf.specs.Depth.{depth_limit}
 use Rattle.lf.specs.Entries.{Entry, signature_of}
 use Rattle.lf.specs.Subordination.{Member}
@@ -14,15 +14,14 @@ use Rattle.lf_search.specs.Goals.{root_of}
 use Rattle.lf_search.specs.Heads.{AreOffered}
 use Rattle.lf_search.specs.Holes.{HolesAreOpen}
 use Rattle.tw_metas.specs.State.{State, Story}
-use Rattle.tw_metas.specs.View.{equation_of}
-use Rattle.tw_metas.specs.declared.equation.Equation.{Equation as Postponed}
 use Rattle.tw_putting.specs.Ready.{IsLater, IsReady}
-use Rattle.tw_putting.specs.Whole.{whole}
+use Rattle.tw_signature.specs.Goal.{Goal, goal_of}
 use Rattle.tw_terms.specs.View.{term_of}
 use Rattle.tw_search.specs.Chains.{GoalsAre, IsGrown, frames_of}
 use Rattle.tw_search.specs.Choosing.{heads_left}
 use Rattle.tw_search.specs.Goals.{AreLeft, IsDeclared, IsHeadFor, StandsAtGoal, at_goal, node_of}
 use Rattle.tw_search.specs.Leaves.{AllFromQuery}
+use Rattle.tw_search.specs.Left.{IsDeepAt, IsLeftAt}
 use Rattle.tw_search.specs.declared.answer.Answer.{Answer}
 use Rattle.tw_search.specs.declared.frames.Frame.{Frame}
 use Rattle.tw_search.specs.declared.step.Choice.{Choice}
@@ -89,12 +88,17 @@ choices_of s = reverse s.choices.items
 abbrev pub IsAt : List Entry → Search → List Pending → Type 0
 IsAt es s agenda = PlaceStands es s.variables s.place s.store (frames_of s.frames) (choices_of s) agenda
 
--- The search for the goal A over G stands at this agenda, behind these leaves.
-pub record Stands (es : List Entry) (G : List LfType) (A : LfType) (s : Search) (leaves : List Node) (agenda : List Pending) : Type 0 where
-  pub context : IsContext (signature_of es) G
-  pub goal : IsType (signature_of es) G A
-  pub variables : s.variables ≡ length G
-  pub run : SearchesFrom es (at_node (root_of G A) ∷ []) leaves s.tries agenda
+-- the goal of a search
+abbrev pub asked_of : Search → Goal
+asked_of s = goal_of s.goal
+
+-- The search for this goal stands at this agenda, behind these leaves.
+pub record Stands (es : List Entry) (g : Goal) (s : Search) (leaves : List Node) (agenda : List Pending) : Type 0 where
+  pub context : IsContext (signature_of es) g.variables
+  pub goal : IsType (signature_of es) g.variables g.goal
+  pub variables : s.variables ≡ length g.variables
+  pub asked : asked_of s ≡ g
+  pub run : SearchesFrom es (at_node (root_of g.variables g.goal) ∷ []) leaves s.tries agenda
   pub at : IsAt es s agenda
 
 -- how many tries a search made
@@ -106,47 +110,38 @@ IsOver e s = s.place ≡ place.Over e
 
 -- some search over these entries, which stands or is over
 pub data IsSearch (es : List Entry) (s : Search) : Type 0 where
-  stands : (G : List LfType) (A : LfType) (leaves : List Node) (agenda : List Pending) → Stands es G A s leaves agenda → IsSearch es s
+  stands : (g : Goal) (leaves : List Node) (agenda : List Pending) → Stands es g s leaves agenda → IsSearch es s
   is_over : (e : End) → IsOver e s → IsSearch es s
 
--- what a step shows, in the theory's words
-abbrev pub Shows : Step → Seen → Type 0
-Shows (step.Answer a) seen = seen ≡ answer a.free (reverse (map term_of a.values.items)) (term_of a.proof)
-Shows (step.Leftover e) seen = (l : Node) × (seen ≡ left_over l (equation_of e))
-Shows step.Exhausted seen = seen ≡ exhausted
-Shows step.Budget seen = seen ≡ out_of_budget
-Shows step.TooDeep seen = seen ≡ too_deep
+-- the search comes to a leaf that is left over, and what is needed to show its first equation is deep
+abbrev pub IsDeepLeaf : List Entry → Goal → Seen → Type 0
+IsDeepLeaf es g seen = (l : Node) × (e : Equation) × (seen ≡ left_over l e) × IsDeepAt es g l
+
+-- what a step of a search for the goal g shows, in the theory's words
+abbrev pub Shows : List Entry → Goal → Step → Seen → Type 0
+Shows es g (step.Answer a) seen = seen ≡ answer a.free (reverse (map term_of a.values.items)) (term_of a.proof)
+Shows es g (step.Leftover left) seen = (l : Node) × (e : Equation) × (seen ≡ left_over l e)
+Shows es g step.Exhausted seen = seen ≡ exhausted
+Shows es g step.Budget seen = seen ≡ out_of_budget
+Shows es g step.TooDeep seen = (seen ≡ too_deep) ⊎ IsDeepLeaf es g seen
 
 -- after it the search is at this agenda, or over
 abbrev pub IsAfter : List Entry → Step → Search → List Pending → Type 0
 IsAfter es (step.Answer a) s after = IsAt es s after
-IsAfter es (step.Leftover e) s after = IsAt es s after
+IsAfter es (step.Leftover left) s after = IsAt es s after
 IsAfter es step.Exhausted s after = IsOver end.Exhausted s
 IsAfter es step.Budget s after = IsAt es s after
 IsAfter es step.TooDeep s after = IsOver end.TooDeep s
 
--- The store of the search is that of the leaf until the next call, and it is ready.
-pub record HoldsLeaf (es : List Entry) (s : Search) (l : Node) : Type 0 where
-  pub no_goals : l.goals ≡ []
-  pub store : l.store ≡ whole [] s.store.now
-  pub ready : IsReady (signature_of es) [] s.store.now
-
--- The search holds a leaf without equations, and the answer is read off it. Of `nat` with z that leaf has the hole bound to z, and the proof is z.
-pub record IsAnswerOfLeaf (es : List Entry) (G : List LfType) (s : Search) (a : Answer) (l : Node) : Type 0 where
-  pub holds : HoldsLeaf es s l
+-- The leaf has no equations, and the answer is read off it. Of `nat` with z that leaf has the hole bound to z, and the proof is z.
+pub record IsAnswerOfLeaf (es : List Entry) (G : List LfType) (a : Answer) (l : Node) : Type 0 where
   pub none_left : l.store.equations ≡ []
   pub read : IsReadOffLeaf (signature_of es) G l a.free (reverse (map term_of a.values.items)) (term_of a.proof)
 
--- The search holds a leaf that is left over, and the equation is the first of its equations.
-pub record IsLeftAtLeaf (es : List Entry) (s : Search) (e : Postponed) (l : Node) : Type 0 where
-  pub holds : HoldsLeaf es s l
-  pub others : List Equation
-  pub first : l.store.equations ≡ equation_of e ∷ others
-
 -- where the step shows a leaf, a run comes to it with so many tries and is behind it then
 abbrev pub PassesLeaf : List Entry → List LfType → Search → List Pending → Step → ℕ → List Pending → Type 0
-PassesLeaf es G s agenda (step.Answer a) tries after = (l : Node) × IsAnswerOfLeaf es G s a l × SearchesFrom es agenda (l ∷ []) tries after
-PassesLeaf es G s agenda (step.Leftover e) tries after = (l : Node) × IsLeftAtLeaf es s e l × SearchesFrom es agenda (l ∷ []) tries after
+PassesLeaf es G s agenda (step.Answer a) tries after = (l : Node) × IsAnswerOfLeaf es G a l × SearchesFrom es agenda (l ∷ []) tries after
+PassesLeaf es G s agenda (step.Leftover left) tries after = (l : Node) × IsLeftAt es (asked_of s) l left × SearchesFrom es agenda (l ∷ []) tries after
 PassesLeaf es G s agenda step.Exhausted tries after = Unit {0}
 PassesLeaf es G s agenda step.Budget tries after = Unit {0}
 PassesLeaf es G s agenda step.TooDeep tries after = Unit {0}
@@ -157,10 +152,11 @@ pub record Came (es : List Entry) (G : List LfType) (old new : Search) (agenda :
   pub tries : ℕ
   pub after : List Pending
   pub comes : Comes es depth_limit G agenda budget seen tries after
-  pub shows : Shows step seen
+  pub shows : Shows es (asked_of new) step seen
   pub passes : PassesLeaf es G new agenda step tries after
   pub count : new.tries ≡ old.tries + tries
   pub variables : new.variables ≡ old.variables
+  pub same_goal : new.goal ≡ old.goal
   pub then_is : IsAfter es step new after
 
 -- The search went on to this agenda without a leaf.
@@ -170,6 +166,7 @@ pub record WentOn (es : List Entry) (old new : Search) (agenda : List Pending) :
   pub run : SearchesFrom es agenda [] tries after
   pub count : new.tries ≡ old.tries + tries
   pub variables : new.variables ≡ old.variables
+  pub same_goal : new.goal ≡ old.goal
   pub at : IsAt es new after
 
 -- Memory gave out. The tries that were made are those of a run from the agenda without a leaf, and they are within this number of all tries.
@@ -180,23 +177,23 @@ pub record GaveOut (es : List Entry) (old new : Search) (agenda : List Pending) 
   pub count : new.tries ≡ old.tries + tries
   pub within : new.tries ≤ last
 
--- after the step the search stands behind the leaf that was shown, if any, whose store it holds; or it is over
-abbrev pub StandsAfter : List Entry → List LfType → LfType → Step → Search → List Node → List Pending → Type 0
-StandsAfter es G A (step.Answer a) s leaves after = (l : Node) × IsAnswerOfLeaf es G s a l × Stands es G A s (followed leaves (l ∷ [])) after
-StandsAfter es G A (step.Leftover e) s leaves after = (l : Node) × IsLeftAtLeaf es s e l × Stands es G A s (followed leaves (l ∷ [])) after
-StandsAfter es G A step.Exhausted s leaves after = IsOver end.Exhausted s
-StandsAfter es G A step.Budget s leaves after = Stands es G A s leaves after
-StandsAfter es G A step.TooDeep s leaves after = IsOver end.TooDeep s
+-- after the step the search stands behind the leaf that was shown, if any; or it is over
+abbrev pub StandsAfter : List Entry → Goal → Step → Search → List Node → List Pending → Type 0
+StandsAfter es g (step.Answer a) s leaves after = (l : Node) × IsAnswerOfLeaf es g.variables a l × Stands es g s (followed leaves (l ∷ [])) after
+StandsAfter es g (step.Leftover left) s leaves after = (l : Node) × IsLeftAt es g l left × Stands es g s (followed leaves (l ∷ [])) after
+StandsAfter es g step.Exhausted s leaves after = IsOver end.Exhausted s
+StandsAfter es g step.Budget s leaves after = Stands es g s leaves after
+StandsAfter es g step.TooDeep s leaves after = IsOver end.TooDeep s
 
--- What a call of a search for A over G comes to, which stood behind these leaves.
-pub record StepIs (es : List Entry) (G : List LfType) (A : LfType) (old new : Search) (leaves : List Node) (agenda : List Pending) (budget : ℕ) (step : Step) : Type 0 where
+-- What a call of a search for the goal g comes to, which stood behind these leaves.
+pub record StepIs (es : List Entry) (g : Goal) (old new : Search) (leaves : List Node) (agenda : List Pending) (budget : ℕ) (step : Step) : Type 0 where
   pub seen : Seen
   pub tries : ℕ
   pub after : List Pending
-  pub comes : Comes es depth_limit G agenda budget seen tries after
-  pub shows : Shows step seen
+  pub comes : Comes es depth_limit g.variables agenda budget seen tries after
+  pub shows : Shows es g step seen
   pub count : new.tries ≡ old.tries + tries
-  pub then_stands : StandsAfter es G A step new leaves after
+  pub then_stands : StandsAfter es g step new leaves after
 
 -- The newest choice point is taken up, with the store and the frames as at its mark, and the head h is to be tried at its goal.
 pub record TriesHead (es : List Entry) (old : Search) (c : Choice) (h : Head) (agenda : List Pending) : Type 0 where

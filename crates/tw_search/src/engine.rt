@@ -13,6 +13,7 @@ use crate::answer::read_answer;
 use crate::choice::{Next, next_head};
 use crate::frames::Frame;
 use crate::goal::open_goal;
+use crate::left::first_equation;
 use crate::search::Search;
 use crate::step::{Choice, End, Place, Step};
 use crate::trying::attempt;
@@ -111,11 +112,17 @@ impl Search {
     {
         signature.is_canonical();
         match self.store.equations().first() {
-            Some(equation) => {
-                let shown = equation.copy(alloc)?;
-                self.place = Place::Heads;
-                Ok(Step::Leftover(shown))
-            }
+            Some(_) => match first_equation(alloc, signature, &self.store, &self.goal) {
+                Ok(left) => {
+                    self.place = Place::Heads;
+                    Ok(Step::Leftover(left))
+                }
+                Err(UnifyFault::TooDeep) => {
+                    self.place = Place::Over(End::TooDeep);
+                    Ok(Step::TooDeep)
+                }
+                Err(UnifyFault::NoMemory) => Err(AllocError),
+            },
             None => match read_answer(alloc, &self.store, self.variables) {
                 Ok(answer) => {
                     self.place = Place::Heads;

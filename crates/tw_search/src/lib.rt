@@ -1,7 +1,8 @@
 //! Search for the proofs of a goal, as a value: each call gives the next leaf of the goal's tree, with a budget of tries.
 //!
 //! `search` has the calls, and `engine` the steps between them, over the goals that wait (`frames`), the choice points (`step`) and the heads of a goal (`choice`). How terms are represented
-//! is the matter of the others: `root` declares a goal, `goal` takes the type of a hole apart, `trying` tries a head (`clash`, `rigid`, `offer`, `taking`, `occurs`), and `answer` reads what a leaf has.
+//! is the matter of the others: `root` declares a goal, `goal` takes the type of a hole apart, `trying` tries a head (`clash`, `rigid`, `offer`, `taking`, `occurs`), and `answer` and `left` read what a leaf has;
+//! in an equation that is left metavariables have the names of the goal's variables (`names`).
 #![tactic(auto)]
 
 mod answer;
@@ -12,6 +13,8 @@ mod engine;
 mod frames;
 #[tactic(auto, using(tw_open::proofs::Steps::steps))]
 mod goal;
+mod left;
+mod names;
 #[tactic(auto, using(tw_open::proofs::Steps::steps))]
 mod occurs;
 #[tactic(auto, using(tw_open::proofs::Steps::steps))]
@@ -27,5 +30,6 @@ mod taking;
 mod trying;
 
 pub use answer::Answer;
+pub use names::place_of;
 pub use search::Search;
 pub use step::Step;

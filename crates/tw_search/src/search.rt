@@ -5,6 +5,7 @@ ghost use Rattle.lf.specs.Syntax.{LfType};
 ghost use Rattle.lf.specs.Typing.{IsContext, IsType};
 ghost use Rattle.lf_unification.specs.Search.{Node, Pending, at_node};
 ghost use Rattle.lf_search.specs.Goals.{root_of};
+ghost use Rattle.tw_signature.specs.Goal.{Goal as Asked, goal_of};
 ghost use Rattle.tw_terms.specs.View.{type_of};
 ghost use Rattle.tw_search.specs.Going.{GivesOut};
 ghost use Rattle.tw_search.specs.Standing.{Came, GaveOut, IsAt, IsOver, IsSearch, Stands, StepIs, tries_of};
@@ -26,13 +27,15 @@ pub struct Search {
     pub(crate) place: Place,
     /// How many variables the goal has: they are the first metavariables, and the hole of the proof is the next one.
     pub(crate) variables: u64,
+    /// An equation that is left is shown with the names of its variables.
+    pub(crate) goal: Goal,
     pub(crate) tries: u64,
 }
 
 impl Search {
     /// A search at the root of the goal's tree. Fails only for want of memory.
     pub fn new(alloc: Global, goal: &Goal) -> Result<Search, AllocError>
-        ensures stands { IfOk result (λ s. (es : List Entry) → IsCanonicalSignature es → IsContext (signature_of es) goal.now.variables → IsType (signature_of es) goal.now.variables (type_of goal.now.goal) → Stands es goal.now.variables (type_of goal.now.goal) s [] (at_node (root_of goal.now.variables (type_of goal.now.goal)) ∷ [])) }
+        ensures stands { IfOk result (λ s. (es : List Entry) → IsCanonicalSignature es → IsContext (signature_of es) goal.now.variables → IsType (signature_of es) goal.now.variables (type_of goal.now.goal) → Stands es (goal_of goal.now) s [] (at_node (root_of goal.now.variables (type_of goal.now.goal)) ∷ [])) }
         ensures tries { IfOk result (λ s. tries_of s ≡ 0) }
     {
         let mut store = Store::new(alloc);
@@ -41,12 +44,14 @@ impl Search {
         let root = frames.push(hole, 0)?;
         let choices = Vec::new(alloc);
         let variables = goal.variables.len() as u64;
+        let asked = goal.copy(alloc)?;
         Ok(Search {
             store,
             frames,
             choices,
             place: Place::Node(root),
             variables,
+            goal: asked,
             tries: 0,
         })
     }
@@ -58,17 +63,10 @@ impl Search {
         self.tries
     }
 
-    /// The search's store. After a leaf it is that of the leaf, until the next call.
-    pub fn store(&self) -> &Store
-        ensures { result.now ≡ self.now.store }
-    {
-        &self.store
-    }
-
     /// The next leaf in the order of the tree, or the end of the tree or of the budget, which is a number of tries. Over one signature, all calls search one tree.
     ///
-    /// After an answer or a leaf that is left over the search's store is the leaf's until the next call. After `Budget` the search stands where it was, and goes on with the next call. After
-    /// `Exhausted`, `TooDeep` or want of memory each later call answers the same; tries that were made before memory gave out are counted.
+    /// After `Budget` the search stands where it was, and goes on with the next call. After `Exhausted`, `TooDeep` or want of memory each later call answers the same; tries that were made
+    /// before memory gave out are counted.
     pub fn next(
         &mut self,
         alloc: Global,
@@ -77,12 +75,12 @@ impl Search {
     ) -> Result<Step, AllocError>
         requires search { IsSearch signature.now self.old }
         requires budget { tries_of self.old + budget < 2 ^ 64 }
-        ensures step { IfOk result (λ s. (G : List LfType) (A : LfType) (leaves : List Node) (agenda : List Pending) → Stands signature.now G A self.old leaves agenda → StepIs signature.now G A self.old self.new leaves agenda budget s) }
+        ensures step { IfOk result (λ s. (g : Asked) (leaves : List Node) (agenda : List Pending) → Stands signature.now g self.old leaves agenda → StepIs signature.now g self.old self.new leaves agenda budget s) }
         ensures exhausted { IsOver ends.Exhausted self.old → (result ≡ Ok Step.Exhausted) × (self.new ≡ self.old) }
         ensures too_deep { IsOver ends.TooDeep self.old → (result ≡ Ok Step.TooDeep) × (self.new ≡ self.old) }
         ensures no_memory { IsOver ends.NoMemory self.old → (result ≡ Err alloc_error) × (self.new ≡ self.old) }
         ensures err { OnErr result (IsOver ends.NoMemory self.new) }
-        ensures gave_out { OnErr result ((G : List LfType) (A : LfType) (leaves : List Node) (agenda : List Pending) → Stands signature.now G A self.old leaves agenda → GaveOut signature.now self.old self.new agenda (tries_of self.old + budget)) }
+        ensures gave_out { OnErr result ((g : Asked) (leaves : List Node) (agenda : List Pending) → Stands signature.now g self.old leaves agenda → GaveOut signature.now self.old self.new agenda (tries_of self.old + budget)) }
         ensures again { IsSearch signature.now self.new }
     {
         match self.place {

@@ -1,20 +1,20 @@
 //! What a search is made of besides its store: where it stands, its choice points, and what a call shows.
 use crate::answer::Answer;
 use crate::goal::OpenGoal;
-use tw_metas::{Equation, Mark};
+use tw_metas::{LeftEquation, Mark};
 
 /// What a call of a search comes to.
 #[derive(Drop, Debug)]
 pub enum Step {
     /// A leaf where no equation is postponed.
     Answer(Answer),
-    /// A leaf is left over. This is its first equation, as it was postponed.
-    Leftover(Equation),
+    /// A leaf is left over. This is its first equation, with the values put in.
+    Leftover(LeftEquation),
     /// The tree has no further leaf.
     Exhausted,
     /// The budget's tries were made, and one more is due.
     Budget,
-    /// The equations of the next try are deep, or an answer is.
+    /// The equations of the next try are deep, or an answer is, or what is to be shown of a leaf that is left over.
     TooDeep,
 }
 

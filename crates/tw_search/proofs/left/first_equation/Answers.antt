@@ -1,6 +1,6 @@
 use Rattle.lf.specs.Entries.{signature_of}
 use Rattle.lf.proofs.Entries.{canonical_is_signature}
-use Rattle.tw_query.proofs.left.first_equation.Goals as goal
+use Rattle.tw_search.proofs.left.first_equation.Goals as goal
 
 pub names-requires : goal.names-requires
 names-requires c = record {

@@ -11,10 +11,9 @@ use Rattle.tw_putting.specs.Ready.{IsReady}
 use Rattle.tw_putting.specs.Whole.{whole}
 use Rattle.tw_signature.specs.Goal.{Goal}
 use Rattle.tw_unify.specs.Showing.{BlamesShown, Shows}
-use Rattle.tw_unify.specs.declared.fault.UnifyFault.TheVariants as unify
-use Rattle.tw_query.specs.Names.{AreNames, VariableIsDeep}
-use Rattle.tw_query.specs.declared.run.QueryFault.{QueryFault}
-use Rattle.tw_query.specs.declared.run.QueryFault.TheVariants as fault
+use Rattle.tw_unify.specs.declared.fault.UnifyFault.{UnifyFault}
+use Rattle.tw_unify.specs.declared.fault.UnifyFault.TheVariants as fault
+use Rattle.tw_search.specs.Names.{AreNames, VariableIsDeep}
 
 -- The first equation that is postponed, with the values put in; metavariables have the names of variables of the query.
 pub record ShowsFirst (s : State) (g : Goal) (left : LeftEquation) : Type 0 where
@@ -32,12 +31,15 @@ pub record FirstIsDeep (s : State) (g : Goal) : Type 0 where
   pub is_first : s.equations ≡ first ∷ others
   pub names : List (ℕ × List ℕ)
   pub are_names : AreNames s g names
-  pub deep : BlamesShown unify.TooDeep s first names
+  pub deep : BlamesShown fault.TooDeep s first names
 
--- why it isn't shown: it is deep, or the value of a variable of the query is
-abbrev pub BlamesFirst : QueryFault → State → Goal → Type 0
-BlamesFirst (fault.Budget n) s g = ⊥
-BlamesFirst fault.TooDeep s g = FirstIsDeep s g ⊎ VariableIsDeep s g.variables
+-- something that is needed to show it is deep: of it, or the value of a variable of the goal, which may give a name
+abbrev pub ShowingIsDeep : State → Goal → Type 0
+ShowingIsDeep s g = FirstIsDeep s g ⊎ VariableIsDeep s g
+
+-- why it isn't shown
+abbrev pub BlamesFirst : UnifyFault → State → Goal → Type 0
+BlamesFirst fault.TooDeep s g = ShowingIsDeep s g
 BlamesFirst fault.NoMemory s g = Unit {0}
 
 -- a state of the program's store that is the store of a leaf
@@ -51,11 +53,11 @@ pub record IsLeftAt (es : List Entry) (g : Goal) (l : Node) (left : LeftEquation
   pub is_store : IsStoreOf es l state
   pub shows : ShowsFirst state g left
 
--- the leaf is left over, and its first equation is deep
+-- the leaf is left over, and what is needed to show its first equation is deep
 pub record IsDeepAt (es : List Entry) (g : Goal) (l : Node) : Type 0 where
   pub state : State
   pub is_store : IsStoreOf es l state
   pub first : Equation
   pub others : List Equation
   pub left_over : l.store.equations ≡ first ∷ others
-  pub deep : FirstIsDeep state g ⊎ VariableIsDeep state g.variables
+  pub deep : ShowingIsDeep state g

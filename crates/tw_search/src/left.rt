@@ -4,14 +4,13 @@ ghost use Rattle.lf.specs.Entries.{signature_of};
 ghost use Rattle.lf_unification.specs.Unifiers as unifiers;
 ghost use Rattle.tw_putting.specs.Ready.{IsReady};
 ghost use Rattle.tw_signature.specs.Goal.{goal_of};
-ghost use Rattle.tw_query.specs.Left.{BlamesFirst, ShowsFirst};
+ghost use Rattle.tw_search.specs.Left.{BlamesFirst, ShowsFirst};
 
 use crate::names::names;
-use crate::run::QueryFault;
 use std::alloc::Global;
 use tw_metas::{LeftEquation, Store};
 use tw_signature::{Goal, Signature};
-use tw_unify::left_equation;
+use tw_unify::{UnifyFault, left_equation};
 
 /// The first equation that is postponed, as it can be shown: metavariables have the names of the goal's variables. Answers `TooDeep` only where what is shown is deeper than 4,096, or the
 /// value of a variable is.
@@ -20,7 +19,7 @@ pub(crate) fn first_equation(
     signature: &Signature,
     store: &Store,
     goal: &Goal,
-) -> Result<LeftEquation, QueryFault>
+) -> Result<LeftEquation, UnifyFault>
     requires ready { IsReady (signature_of signature.now) [] store.now.now }
     requires first { (e : unifiers.Equation) × (es : List unifiers.Equation) × (store.now.now.equations ≡ e ∷ es) }
     ensures { MatchResult result (λ left. ShowsFirst store.now.now (goal_of goal.now) left) (λ f. BlamesFirst f store.now.now (goal_of goal.now)) }

@@ -1,8 +1,8 @@
 use Rattle.std.proofs.Common.{sym}
 use Rattle.tw_terms.specs.OpenView.{open_term_of}
 use Rattle.tw_abstract.proofs.Standing.{settled_values}
-use Rattle.tw_query.proofs.Naming.{sole_found}
-use Rattle.tw_query.proofs.names.sole_of.Goals as goal
+use Rattle.tw_search.proofs.Naming.{sole_found}
+use Rattle.tw_search.proofs.names.sole_of.Goals as goal
 
 pub put_in-requires : goal.put_in-requires
 put_in-requires c = settled_values _ c.requires _ _ (sym c.in-Some.ensures)

@@ -2,8 +2,8 @@ use Rattle.std.proofs.Common.{rules, ◌≡◌, Err, Some, ap, map, subst, sym}
 use Rattle.tw_hered.specs.declared.fault.HeredFault.TheVariants as reading
 use Rattle.tw_metas.specs.Named.{named_of}
 use Rattle.tw_putting.specs.Whole.{AreDistinct}
-use Rattle.tw_query.proofs.Naming.{of_names, place_within, with_name_distinct}
-use Rattle.tw_query.proofs.names.name_variable.Goals as goal
+use Rattle.tw_search.proofs.Naming.{of_names, with_name_distinct}
+use Rattle.tw_search.proofs.names.name_variable.Goals as goal
 
 pub returns-in_err-sole-clause-too_deep : goal.returns-in_err-sole-clause-too_deep
 returns-in_err-sole-clause-too_deep c = λ e.
@@ -11,7 +11,7 @@ returns-in_err-sole-clause-too_deep c = λ e.
     let q : c.from_residual-in_err-sole.result ≡ Err f = search rules in
     let p : f ≡ reading.TooDeep = cc in
     let (N, v, d) = c.in_err-sole.ensures.too_deep (ap Err p) in
-    (c.in-Some.place, N, place_within c.args.goal.now.variables c.args.variable c.in-Some.place (sym c.in-Some.ensures), v, d)
+    (c.in-Some.place, N, sym c.in-Some.ensures, v, d)
 
 pub returns-in_ok-add_name-clause-distinct : goal.returns-in_ok-add_name-clause-distinct
 returns-in_ok-add_name-clause-distinct c = λ d.

@@ -17,7 +17,7 @@ use Rattle.tw_putting.proofs.Calls.{one_result}
 use Rattle.tw_signature.specs.Goal.{Goal}
 use Rattle.tw_terms.specs.declared.canonical.MetaId.{MetaId}
 use Rattle.tw_unify.specs.Showing.{name_of}
-use Rattle.tw_query.specs.Names.{IsSole, NamesAll, NamesOne, NamesVariable, ValueIsAlone, place_of, with_name}
+use Rattle.tw_search.specs.Names.{IsSole, NamesAll, NamesOne, NamesVariable, ValueIsAlone, place_of, with_name}
 
 -- for which one a metavariable stands alone, with its value put in
 pub sole_found : (s : State) (m : ℕ) (N N' : Term) → value_of s m ≡ Some N → PutFits s 0 N → Puts s 0 N N' → (r : Option MetaId) → MatchOption r ((n : ℕ) (a : Skeleton) → N' ≡ eta_long a (metavariable n) → ⊥) (λ n. (a : Skeleton) × (N' ≡ eta_long a (metavariable n.0))) → IsSole s m (option_map (λ n. n.0) r)
@@ -52,10 +52,11 @@ place_past [] i h = refl
 place_past (A ∷ G) zero h = absurd (omega arith)
 place_past (A ∷ G) (suc i) h = place_past G i (omega arith)
 
-pub place_within : (G : List LfType) (i m : ℕ) → place_of G i ≡ Some m → m ≤ length G
-place_within [] i m e = absurd cc
-place_within (A ∷ G) zero m e = (let q : length G ≡ m = cc in omega (arith, q))
-place_within (A ∷ G) (suc i) m e = (let h = place_within G i m e in omega (arith, h))
+-- what stands at a place is in the list
+pub member_at : (xs : List ℕ) (k : ℕ) → k < length xs → Member (get_or xs k 0) xs
+member_at [] k h = absurd (omega arith)
+member_at (x ∷ xs) zero h = inl refl
+member_at (x ∷ xs) (suc k) h = inr (member_at xs k (omega arith))
 
 -- no metavariable has two names
 abbrev pub of_names : List (ℕ × List ℕ) → List ℕ

@@ -1,6 +1,7 @@
 -- The names that the variables of a query give to metavariables: one that is the value of a variable alone, up to eta, has the name of the first such variable.
-use Rattle.std.specs.Prelude.{◌≡◌, ℕ, zero, suc, ◌≤◌, List, [], ◌∷◌, ◌++◌, length, Option, Some, None, is_some, if◌then◌else◌, slice_get}
+use Rattle.std.specs.Prelude.{◌≡◌, ℕ, zero, suc, List, [], ◌∷◌, ◌++◌, length, Option, Some, None, is_some, if◌then◌else◌, slice_get}
 use Rattle.lf.specs.Eta.{eta_long}
+use Rattle.lf.specs.Subordination.{Member}
 use Rattle.lf.specs.Syntax.{LfType, Skeleton, Term, metavariable}
 use Rattle.tw_metas.specs.State.{State, joined, value_of}
 use Rattle.tw_putting.specs.Stores.{Puts, PutsDeep}
@@ -49,6 +50,10 @@ NamesAll s g (i ∷ is) old new = (mid : List (ℕ × List ℕ)) × NamesVariabl
 abbrev pub AreNames : State → Goal → List (ℕ × List ℕ) → Type 0
 AreNames s g names = NamesAll s g g.shown [] names
 
--- with the values put in, the value of a variable is deeper than 4,096
-abbrev pub VariableIsDeep : State → List LfType → Type 0
-VariableIsDeep s G = (m : ℕ) × (N : Term) × (m ≤ length G) × (value_of s m ≡ Some N) × PutsDeep s 0 N
+-- with the values put in, the value of this variable is deeper than 4,096
+abbrev pub ThisIsDeep : State → Goal → ℕ → Type 0
+ThisIsDeep s g i = (m : ℕ) × (N : Term) × (place_of g.variables i ≡ Some m) × (value_of s m ≡ Some N) × PutsDeep s 0 N
+
+-- of one of those that are shown
+abbrev pub VariableIsDeep : State → Goal → Type 0
+VariableIsDeep s g = (i : ℕ) × Member i g.shown × ThisIsDeep s g i

@@ -1,4 +1,4 @@
-//! The names that the variables of a query give to metavariables.
+//! The names that the variables of a goal give to metavariables.
 ghost use Rattle.std.specs.Prelude.{◌≡◌, [], ℕ, Option, Some, IfOk, IsErrOf, OnOk, is_some, length, map, option_map, slice_get};
 ghost use Rattle.lf.specs.Syntax.{Term};
 ghost use Rattle.tw_abstract.specs.Reading.{IsSettled};
@@ -8,7 +8,7 @@ ghost use Rattle.tw_putting.specs.Stores.{PutsDeep};
 ghost use Rattle.tw_putting.specs.Whole.{AreDistinct};
 ghost use Rattle.tw_signature.specs.Goal.{goal_of};
 ghost use Rattle.tw_unify.specs.Showing.{name_of};
-ghost use Rattle.tw_query.specs.Names.{AreNames, IsSole, NamesVariable, VariableIsDeep, place_of, with_name};
+ghost use Rattle.tw_search.specs.Names.{AreNames, IsSole, NamesVariable, ThisIsDeep, VariableIsDeep, place_of, with_name};
 
 use std::alloc::{AllocError, Global};
 use tw_abstract::sole_metavariable;
@@ -30,7 +30,7 @@ pub(crate) fn names(
     requires { IsSettled store.now.now }
     ensures named { IfOk result (λ v. AreNames store.now.now (goal_of goal.now) (map named_of v.items)) }
     ensures distinct { IfOk result (λ v. AreDistinct (map (λ n. n.0) (map named_of v.items))) }
-    ensures too_deep { IsErrOf result HeredFault.TooDeep → VariableIsDeep store.now.now goal.now.variables }
+    ensures too_deep { IsErrOf result HeredFault.TooDeep → VariableIsDeep store.now.now (goal_of goal.now) }
 {
     let mut names = Vec::new(alloc);
     for variable in &goal.shown {
@@ -50,7 +50,7 @@ fn name_variable(
     requires { IsSettled store.now.now }
     ensures named { OnOk result (NamesVariable store.now.now (goal_of goal.now) variable (map named_of names.old.items) (map named_of names.new.items)) }
     ensures distinct { OnOk result (AreDistinct (map (λ n. n.0) (map named_of names.old.items)) → AreDistinct (map (λ n. n.0) (map named_of names.new.items))) }
-    ensures too_deep { IsErrOf result HeredFault.TooDeep → VariableIsDeep store.now.now goal.now.variables }
+    ensures too_deep { IsErrOf result HeredFault.TooDeep → ThisIsDeep store.now.now (goal_of goal.now) variable }
 {
     let Some(place) = place_of(&goal.variables, variable) else {
         return Ok(());
@@ -74,8 +74,8 @@ fn name_in(alloc: Global, names: &[Option<Name>], variable: u64) -> Result<Optio
     }
 }
 
-/// The place of a variable from the outermost: its metavariable has this number.
-pub(crate) fn place_of(variables: &Context, variable: u64) -> Option<u64>
+/// The place of a variable of a goal among the values of an answer, which has that of the outermost variable first: its metavariable has this number.
+pub fn place_of(variables: &Context, variable: u64) -> Option<u64>
     ensures { result ≡ place_of variables.now variable }
 {
     let count = variables.len() as u64;
