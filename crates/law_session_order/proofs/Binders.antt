@@ -22,6 +22,10 @@ use Rattle.tw_parse.specs.declared.words.Binder.TheVariants.{Pi, Lambda}
 use Rattle.tw_parse.specs.declared.words.Separator.TheVariants.{Forward, Backward, Colon}
 use Rattle.tw_parse.specs.declared.words.Word.{Word}
 use Rattle.tw_parse.specs.declared.words.Word.TheVariants as words
+use Rattle.tw_parse.specs.Queries.{Query, asked}
+use Rattle.tw_parse_queries.specs.Bounds.{bound_of}
+use Rattle.tw_parse_queries.specs.Searches as searches
+use Rattle.tw_parse_queries.specs.declared.search.ExtBound.{ExtBound}
 use Rattle.tw_recon.specs.Hints.{lambda_hints, written_hints}
 use Rattle.tw_fixity.specs.Names.{Names}
 use Rattle.law_reading_back.specs.Names.{IsName, AreGoodHints, PreferNames}
@@ -330,3 +334,24 @@ free_are_named table ws d es x all r h = free_in_named es x d (declaration_named
 
 pub preferred_names : PreferredAreNames
 preferred_names table ws a x y all r = declaration_named table ws (prefer a x y) all r
+
+-- what `%solve` defines has a name, and its goal has names
+not_solved : (e t : Option ExtBound) (q : Option Query) (c : List ℕ) (at : Place) (A : Term) → searches.queried e t q ≡ Some (searches.solve c at A) → ⊥
+not_solved (Some e) (Some t) (Some q) c at A h = let clash : Some (searches.query e t q) ≡ Some (searches.solve c at A) = h in absurd cc
+not_solved (Some e) (Some t) None c at A h = let clash : None ≡ Some (searches.solve c at A) = h in absurd cc
+not_solved (Some e) None q c at A h = let clash : None ≡ Some (searches.solve c at A) = h in absurd cc
+not_solved None t q c at A h = let clash : None ≡ Some (searches.solve c at A) = h in absurd cc
+
+same_solve : (c b : List ℕ) (at p : Place) (A B : Term) → Some (searches.solve c at A) ≡ Some (searches.solve b p B) → (c ≡ b) × (A ≡ B)
+same_solve c b at p A B e = (cc, cc)
+
+search_named : (table : Table) (ws : List Lexeme) (h : searches.Header) (goal : List Lexeme) (O : Outline) (M : Term) (c : List ℕ) (at : Place) (A : Term) → searches.Heads ws h goal → searches.Aims table h goal O → Means O M → searches.wanted h goal M ≡ Some (searches.solve c at A) → AreSpelled ws
+    → IsName c × TermNamed A
+search_named table ws (searches.counts e t) goal O M c at A x aims m w all = absurd (not_solved (bound_of e) (bound_of t) (asked goal M) c at A w)
+search_named table ws (searches.names b p) goal O M c at A (searches.of_solve k f n l) (dot, d, s) m w (key, (x, (colon, all))) =
+    let q = same_solve b c p at M A w in
+    (subst IsName q.0 (x.name n), subst TermNamed q.1 (means_named m (sequence_named s all).0))
+
+pub solved_named : (table : Table) (ws : List Lexeme) (c : List ℕ) (at : Place) (A : Term) → AreSpelled ws → searches.Searches table ws (searches.solve c at A) → IsName c × AreGoodHints (hints A) × ((es : List Entry) (x : List ℕ) → IsFreeIn es x [] A → IsName x)
+solved_named table ws c at A all (h, goal, heads, (O, aims, (M, m, w))) =
+    let n = search_named table ws h goal O M c at A heads aims m w all in (n.0, type_hints A n.1, λ es x f. free_named es x [] A n.1 f)

@@ -1,6 +1,6 @@
 -- What is accepted keeps a session in order.
-use Rattle.std.proofs.Common.{◌≡◌, ℕ, zero, suc, ◌-◌, ◌<◌, ◌≤◌, List, [], ◌∷◌, length, Bool, true, false, cond, Option, Some, None, refl, sym, ap, ◌∙◌, subst, arith, ◌++◌}
-use Rattle.std.specs.Prelude.{◌&&◌, nat_le}
+use Rattle.std.proofs.Common.{◌≡◌, ℕ, zero, suc, ◌-◌, ◌<◌, ◌≤◌, List, [], ◌∷◌, length, Bool, true, false, cond, Option, Some, None, refl, sym, ap, ◌∙◌, subst, arith, ◌++◌, inl, inr}
+use Rattle.std.specs.Prelude.{◌&&◌, nat_le, reverse, slice_get}
 use Rattle.std.specs.Str.{bytes_eq}
 use Rattle.std.proofs.lemmas.Bool.{cond-false}
 use Rattle.std.proofs.lemmas.Bool.Decides.{nat_tests}
@@ -9,7 +9,7 @@ use Rattle.std.specs.Cmp.{eq_by_cmp_equiv, nat_cmp_total}
 use Rattle.std.specs.Cmp.Lexicographic.{nat_list_cmp_total, bytes_decides}
 use Rattle.std.specs.FinMap.{FinMap, empty, get, insert, remove, get-empty, get-insert, get-remove}
 use Rattle.std.specs.Ordering.{eq_by_cmp, nat_cmp}
-use Rattle.lf.specs.Entries.{Entry, entry, signature_of, body_quantifiers, IsCanonicalEntry, IsCanonicalSignature}
+use Rattle.lf.specs.Entries.{Entry, declare_constant, entry, quantifiers, signature_of, body_quantifiers, IsCanonicalEntry, IsCanonicalSignature}
 use Rattle.lf.specs.Variables.{same_number}
 use Rattle.lf.proofs.Checker.{number_is}
 use Rattle.tw_fixity.specs.Rows.{name_order}
@@ -17,7 +17,18 @@ use Rattle.tw_fixity.specs.declared.table.Fix.{Fix}
 use Rattle.tw_fixity.specs.declared.table.Fix.TheVariants.{Infix, Prefix, Postfix}
 use Rattle.tw_parse.specs.Outlines.{Table}
 use Rattle.tw_parse.specs.Readings.{Declares}
-use Rattle.tw_parse.specs.Syntax.{Declaration, declare, define, prefer, give}
+use Rattle.std.proofs.lemmas.List.{reverse-append}
+use Rattle.tw_approx.specs.Names.{IsFreeIn}
+use Rattle.tw_lexer.specs.declared.place.Place.{Place}
+use Rattle.tw_metas.specs.State.{joined}
+use Rattle.tw_names.specs.Texts.{hints}
+use Rattle.tw_parse.specs.Queries.{Query}
+use Rattle.tw_parse.specs.Syntax.{Declaration, Term, declare, define, prefer, give}
+use Rattle.tw_parse_queries.specs.Searches.{Searches, query, solve}
+use Rattle.tw_recon.specs.Queries.{IsGoalOf}
+use Rattle.tw_search.specs.declared.answer.Answer.{Answer}
+use Rattle.tw_signature.specs.Goal.{Goal}
+use Rattle.tw_decl.specs.Solutions.{AreHints, NamedBy, alone}
 use Rattle.tw_parse.specs.Words.{Lexeme}
 use Rattle.tw_parse.specs.declared.decl.ExtName.{ExtName}
 use Rattle.tw_print.specs.Names.{Preferences}
@@ -28,9 +39,9 @@ use Rattle.tw_recon.specs.Hints.{fitted, written_hints}
 use Rattle.tw_recon.specs.Reconstruction.{IsReconstructed, declared_name}
 use Rattle.tw_recon.proofs.OfRows.{AreOfRows, hints_of_rows}
 use Rattle.tw_signature.specs.Names.{number_of}
-use Rattle.tw_decl.specs.Reading.{Read, plain, check, Reads}
+use Rattle.tw_decl.specs.Reading.{Read, plain, check, searching, Reads}
 use Rattle.tw_decl.specs.View.{View, with_mode, with_chatter, with_implicit, with_steps, with_entry, scene_of}
-use Rattle.tw_decl.specs.Declaration.{IsWritten, Enters, is_unnamed, GivesRows, Prefers, Does, ReadDoes}
+use Rattle.tw_decl.specs.Declaration.{IsWritten, Enters, is_unnamed, GivesRows, Prefers, Does, ReadDoes, KeepsAnswer}
 use Rattle.tw_decl.specs.Reports.{Reported}
 use Rattle.tw_decl.specs.Operators.{entry_by, newest, explicit_count, operand_count, takes, all_take, with_rows}
 use Rattle.law_reading_back.specs.Names.{IsName, AreGoodHints, PreferNames, HasGoodRows}
@@ -38,7 +49,7 @@ use Rattle.law_session_order.specs.Laws.{NewIsInOrder, SettingKeepsOrder, Making
 use Rattle.law_session_order.specs.Order.{IsViewInOrder}
 use Rattle.law_session_order.specs.Words.{AreSpelled}
 use Rattle.law_session_order.proofs.Identifiers.{tokens_spelled}
-use Rattle.law_session_order.proofs.Binders.{declared_named, defined_named, free_are_named, hints_more, preferred_names}
+use Rattle.law_session_order.proofs.Binders.{declared_named, defined_named, free_are_named, hints_more, preferred_names, solved_named}
 
 some_inj : {X : Type 0} {x y : X} → Some x ≡ Some y → x ≡ y
 some_inj e = cc
@@ -153,6 +164,44 @@ entered_keeps v w words d report all r n g named h o =
     subst IsViewInOrder (sym kept)
     (one_more v h.entry h.stands (subst IsName (sym k.is_entry.name) n) (reconstructed_good v.signature d h.entry (λ x f. free_are_named v.fixities words d v.signature x all r f) g k) o)
 
+-- the hints of a definition by an answer are names of the query's variables, and binders that are written
+rows_front : (rows : Rows) (hs ks : List (Option (List ℕ))) → AreOfRows rows (hs ++ ks) → AreOfRows rows hs × AreOfRows rows ks
+rows_front rows [] ks h = (tt, h)
+rows_front rows (x ∷ hs) ks h = let q = rows_front rows hs ks h.1 in ((h.0, q.0), q.1)
+
+rows_reversed : (rows : Rows) (hs : List (Option (List ℕ))) → AreOfRows rows (reverse hs) → AreOfRows rows hs
+rows_reversed rows [] h = tt
+rows_reversed rows (x ∷ hs) h = let q = rows_front rows (reverse hs) (x ∷ []) (subst (AreOfRows rows) (reverse-append (x ∷ []) hs) h) in (q.1.0, rows_reversed rows hs q.0)
+
+joined_slice : (hs : List (Option (List ℕ))) (i : ℕ) (y : List ℕ) → joined (slice_get hs i) ≡ Some y → slice_get hs i ≡ Some (Some y)
+joined_slice [] i y e = cc
+joined_slice (x ∷ hs) zero y e = ap Some e
+joined_slice (x ∷ hs) (suc i) y e = joined_slice hs i y e
+
+named_good : (g : Goal) (a : Answer) (is : List ℕ) (f : ℕ) (h : Option (List ℕ)) → AreGoodHints g.names → NamedBy g a is f h → (y : List ℕ) → h ≡ Some y → IsName y
+named_good g a [] f h good n y e = let clash : None ≡ Some y = sym n ∙ e in absurd cc
+named_good g a (i ∷ is) f h good (inl n) y e = good i y (joined_slice g.names i y (sym n.1 ∙ e))
+named_good g a (i ∷ is) f h good (inr n) y e = named_good g a is f h good n.1 y e
+
+hints_good : (g : Goal) (a : Answer) (fs : List ℕ) (hs : List (Option (List ℕ))) → AreGoodHints g.names → AreHints g a fs hs → AreGoodHints hs
+hints_good g a [] [] good h = λ k y e. cc
+hints_good g a [] (x ∷ hs) good h = absurd h
+hints_good g a (f ∷ fs) [] good h = absurd h
+hints_good g a (f ∷ fs) (x ∷ hs) good h = hints_more x hs (named_good g a g.shown f x good h.0) (hints_good g a fs hs good h.1)
+
+goal_good : (es : List Entry) (q : Query) (g : Goal) → ((x : List ℕ) → IsFreeIn es x [] q.goal → IsName x) → IsGoalOf es q g → AreGoodHints g.names
+goal_good es q g free k = good_rows k.rows g.names (λ x r. free x (k.is_written.skeletons.row_is_free x r)) (rows_reversed k.rows g.names (hints_of_rows es k.rows k.written g.variables (reverse g.names) g.shown (declare_constant g.goal) k.completed))
+
+solved_keeps : (v w : View) (words : List Lexeme) (c : List ℕ) (at : Place) (A : Term) (report : Reported) → AreSpelled words → Searches v.fixities words (solve c at A) → KeepsAnswer v c A report w → IsViewInOrder v → IsViewInOrder w
+solved_keeps v w words c at A report all r h o =
+    let (n, b, free) = solved_named v.fixities words c at A all r in
+    let k = h.found in
+    let s = k.solution in
+    let good : AreGoodHints k.goal.names = goal_good v.signature (alone A) k.goal (free v.signature) k.runs.asked.reconstructs in
+    subst IsViewInOrder (sym h.keeps)
+    (one_more v h.entry k.stands (subst IsName (sym s.name) n)
+    (subst AreGoodHints (sym s.hints_are) (good_append s.named (fitted (quantifiers s.of_type) (hints A)) (hints_good k.goal k.answer s.order s.named good s.are_hints) (good_fitted (quantifiers s.of_type) (hints A) b))) o)
+
 -- rows that are given
 same_count : (fix : Fix) → shown.operand_count fix ≡ operand_count fix
 same_count (Infix a n) = refl
@@ -241,6 +290,8 @@ making_keeps v w words report all m o = by_read m.read m.reads m.does
     by_read : (x : Read) → Reads v words x → ReadDoes v x report w → IsViewInOrder w
     by_read (plain d) r h = by_declaration d r.reads h
     by_read (check c) r h = subst IsViewInOrder (sym h.keeps) (same_parts v (with_mode v h.family h.marks) refl refl refl o)
+    by_read (searching (query e t q)) r h = subst IsViewInOrder (sym h.keeps) o
+    by_read (searching (solve c at A)) r h = solved_keeps v w words c at A report all r.reads h o
 
 pub written_spelled : {text : List ℕ} {from upto : ℕ} {words : List Lexeme} {end : _} → IsWritten text from upto words end → AreSpelled words
 written_spelled {text = text} {from = from} {upto = upto} w = subst AreSpelled (sym w.spelled) (tokens_spelled text from upto w.tokens w.through)

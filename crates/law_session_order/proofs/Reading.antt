@@ -20,6 +20,7 @@ use Rattle.tw_print.specs.Shown.{declaration_line, keyword, scene_after}
 use Rattle.tw_signature.specs.Names.{number_of}
 use Rattle.tw_decl.specs.View.{View, with_entry, scene_of, told}
 use Rattle.tw_decl.specs.Declaration.{entry_line, entry_report, Does, Makes, ReadDoes}
+use Rattle.tw_parse_queries.specs.Searches as searches
 use Rattle.tw_decl.specs.Reading as reading
 use Rattle.tw_decl.specs.Reading.{Read}
 use Rattle.tw_decl.specs.Reports.{Reported, lines_alone}
@@ -189,6 +190,8 @@ made_back v w words report e all m grows o i room = by_read m.read m.does
     by_read : (x : Read) → ReadDoes v x report w → Reports v w report e
     by_read (reading.plain d) h = by_declaration d h
     by_read (reading.check c) h = absurd (no_more e v.signature (sym (ap (λ (u : View). u.signature) h.keeps) ∙ grows))
+    by_read (reading.searching (searches.query x t q)) h = absurd (no_more e v.signature (sym (ap (λ (u : View). u.signature) h.keeps) ∙ grows))
+    by_read (reading.searching (searches.solve c at A)) h = by_entry h.entry h.keeps h.says
 
 pub report_back : ReportReadsBack
 report_back v w text report e a grows o i room = made_back v w a.words report e (written_spelled a.written.written) a.makes grows o i room

@@ -15,9 +15,10 @@ use Rattle.tw_parse.specs.declared.words.Word.{Word}
 use Rattle.tw_parse.specs.declared.words.Word.TheVariants.{Name, Underscore, Keyword}
 use Rattle.tw_parse_checks.specs.Shapes as drafts
 use Rattle.tw_parse_checks.specs.Shapes.{Draft, is_short, is_full}
+use Rattle.tw_parse_queries.specs.Searches.{Header, Heads, of_query, of_solve}
 use Rattle.tw_decl.specs.View.{View}
 use Rattle.tw_decl.specs.Declaration.{AcceptsFrom}
-use Rattle.tw_decl.specs.Reading.{Read, plain, check, Reads}
+use Rattle.tw_decl.specs.Reading.{Read, plain, check, searching, Reads}
 use Rattle.tw_decl.specs.Reports.{Reported}
 
 -- a declaration may begin with this word
@@ -44,9 +45,14 @@ draft_begins : (table : Table) (words : List Lexeme) (D : Draft) → drafts.Shap
 draft_begins table words D (is_short w k f m e) = ap begins w
 draft_begins table words D (is_full w k q f n e) = ap begins w
 
+header_begins : (words : List Lexeme) (h : Header) (goal : List Lexeme) → Heads words h goal → begins (first_word words) ≡ true
+header_begins words h goal (of_query w k b c) = ap begins w
+header_begins words h goal (of_solve w k n c) = ap begins w
+
 read_begins : (v : View) (words : List Lexeme) (r : Read) → Reads v words r → begins (first_word words) ≡ true
 read_begins v words (plain d) h = shape_begins v.fixities words h.reads.0 h.reads.1
 read_begins v words (check c) h = draft_begins v.fixities words h.reads.0 h.reads.1
+read_begins v words (searching s) h = header_begins words h.reads.0 h.reads.1 h.reads.2
 
 -- neither a dot nor the end of the text does
 begins_on : (kind : TokenKind) (bytes : List ℕ) → begins (word_of kind bytes) ≡ true → ends kind ≡ false

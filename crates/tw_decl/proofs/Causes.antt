@@ -9,6 +9,7 @@ use Rattle.tw_lexer.specs.declared.token.TokenKind.{TokenKind}
 use Rattle.tw_lexer.specs.declared.token.TokenKind.TheVariants.{End}
 use Rattle.tw_parse.specs.Syntax.{Declaration, declare, define, prefer, give}
 use Rattle.tw_parse_checks.specs.Checks.{mode_short, mode_full}
+use Rattle.tw_parse_queries.specs.Searches.{query, solve}
 use Rattle.tw_parse.specs.Words.{Lexeme, lexemes, first_place}
 use Rattle.tw_recon.specs.declared.fault.ReconFault.{ReconFault}
 use Rattle.tw_recon.specs.declared.fault.ReconFault.TheVariants as reconstructions
@@ -18,7 +19,7 @@ use Rattle.tw_parse.specs.declared.fault.SyntaxFault.TheVariants as faults
 use Rattle.tw_decl.specs.View.{View}
 use Rattle.tw_decl.specs.Declaration.{IsWritten, IsWrittenAlone, HasNoMore, IsPastSyntax, IsCause, IsCauseAlone, IsLastCause, HasCauseFrom, HasCause}
 use Rattle.tw_decl.specs.Obstacles.{ReconstructionFails, IsNotEntered, HasObstacle, ReadHasObstacle}
-use Rattle.tw_decl.specs.Reading.{Read, plain, check, Reads, ReadFault}
+use Rattle.tw_decl.specs.Reading.{Read, plain, check, searching, Reads, ReadFault}
 use Rattle.tw_decl.specs.Steps.{ShowsLeft, IsRefusedFor, IsTokenCause, is_end, is_over, refusal_of, refused_alone}
 use Rattle.tw_decl.specs.declared.refusal.Refusal.{Refusal}
 use Rattle.tw_decl.specs.declared.refusal.Refusal.TheVariants as refusals
@@ -120,6 +121,8 @@ none_before : (v : View) (r : Read) (first place : Place)
 none_before v (plain d) first place = no_obstacle_before v d first place
 none_before v (check (mode_short a ms)) first place = (λ h. h.1, λ h. h.1, λ h. h.1)
 none_before v (check (mode_full ms a n d)) first place = (λ h. h.1, λ h. h.1, λ h. h.1)
+none_before v (searching (query e t q)) first place = (λ h. h, λ h. h, λ h. h)
+none_before v (searching (solve c at A)) first place = (λ h. h, λ h. h, λ h. h)
 
 -- an obstacle of the words is a cause
 pub last_cause : (v : View) (end : Place) (words : List Lexeme) (r : Read) (refusal : Refusal) → Reads v words r → ReadHasObstacle v r (first_place end words) refusal → IsLastCause v end words refusal

@@ -1,7 +1,7 @@
 -- A declaration that is read has no fault.
-use Rattle.std.proofs.Common.{◌≡◌, ℕ, List, Bool, true, false, codes, refl, sym, ap, ◌∙◌, subst}
-use Rattle.std.specs.Bool.{MatchBool}
-use Rattle.std.specs.Prelude.{◌&&◌}
+use Rattle.std.proofs.Common.{◌≡◌, ℕ, List, Some, None, Bool, true, false, codes, refl, sym, ap, ◌∙◌}
+use Rattle.std.specs.Prelude.{◌&&◌, if◌then◌else◌}
+use Rattle.std.specs.Str.{bytes_eq}
 use Rattle.std.specs.Cmp.Lexicographic.{bytes_decides}
 use Rattle.tw_lexer.specs.declared.place.Place.{Place}
 use Rattle.tw_parse.proofs.Misfits.{no_stop}
@@ -17,10 +17,15 @@ use Rattle.tw_parse.specs.declared.fault.SyntaxFault.TheVariants as faults
 use Rattle.tw_parse.specs.declared.words.Word.{Word}
 use Rattle.tw_parse.specs.declared.words.Word.TheVariants.{Keyword}
 use Rattle.tw_parse_checks.specs.Checks.{Check}
-use Rattle.tw_parse_checks.specs.Faults.{CheckFaultStands}
 use Rattle.tw_parse_checks.specs.Marks.{is_check}
 use Rattle.tw_parse_checks.specs.Shapes.{Draft, Shapes, is_short, is_full}
-use Rattle.tw_decl.specs.Reading.{IsReadAs, IsReadAsCheck, Read, plain, check, Reads, ReadFault, asks_check, is_keyword}
+use Rattle.tw_parse_queries.specs.Keywords as queries
+use Rattle.tw_parse_queries.specs.Keywords.{has_form, is_search}
+use Rattle.tw_parse_queries.specs.Searches.{Header, Heads, Search, of_query, of_solve}
+use Rattle.tw_parse_queries.specs.declared.keywords.Form.{Form}
+use Rattle.tw_parse_queries.specs.declared.keywords.Form.TheVariants.{Query, Solve}
+use Rattle.tw_decl.specs.Reading.{IsReadAs, IsReadAsCheck, IsReadAsSearch, Read, plain, check, searching, Reads, ReadFault, asks_check, asks_search, is_keyword}
+use Rattle.tw_decl.proofs.Asking.{of_plain}
 use Rattle.tw_decl.specs.View.{View}
 
 pub read_faultless : (table : Table) (end : Place) (words : List Lexeme) (d : Declaration) → IsRead words → Declares table words d → (fault : SyntaxFault) → FaultStands table end words fault → fault ≡ faults.NoMemory
@@ -45,10 +50,26 @@ plain_by w bytes b e known = refl
 pub asks_none : (words : List Lexeme) → IsKnown words → asks_check words ≡ false
 asks_none words known = plain_by (first_word words) (first_bytes words) (is_check (first_bytes words)) refl known
 
+-- nor for a search
+search_by : (a b : Bool) (bytes : List ℕ) → bytes_eq bytes (codes "%query") ≡ a → bytes_eq bytes (codes "%solve") ≡ b → has_form (if a then Some Query else if b then Some Solve else None) ≡ true → is_built (form_of bytes) ≡ false
+search_by true b bytes e f h = let query : bytes ≡ codes "%query" = (bytes_decides bytes (codes "%query")).0 e in ap (λ (bs : List ℕ). is_built (form_of bs)) query
+search_by false true bytes e f h = let solve : bytes ≡ codes "%solve" = (bytes_decides bytes (codes "%solve")).0 f in ap (λ (bs : List ℕ). is_built (form_of bs)) solve
+search_by false false bytes e f h = let clash : false ≡ true = h in absurd cc
+
+search_unbuilt : (bytes : List ℕ) → is_search bytes ≡ true → is_built (form_of bytes) ≡ false
+search_unbuilt bytes h = search_by (bytes_eq bytes (codes "%query")) (bytes_eq bytes (codes "%solve")) bytes refl refl h
+
+unsearched_by : (w : Word) (bytes : List ℕ) (b : Bool) → is_search bytes ≡ b → (w ≡ Keyword → is_built (form_of bytes) ≡ true) → is_keyword w && is_search bytes ≡ false
+unsearched_by Keyword bytes true e known = let clash : false ≡ true = sym (search_unbuilt bytes e) ∙ known refl in absurd cc
+unsearched_by Keyword bytes false e known = e
+unsearched_by w bytes b e known = refl
+
+pub searches_none : (words : List Lexeme) → IsKnown words → asks_search words ≡ false
+searches_none words known = unsearched_by (first_word words) (first_bytes words) (is_search (first_bytes words)) refl known
+
 -- so a fault of what is read is one of the grammar of declarations
 pub of_grammar : (v : View) (end : Place) (words : List Lexeme) (fault : SyntaxFault) → IsRead words → ReadFault v end words fault → FaultStands v.fixities end words fault
-of_grammar v end words fault read h =
-    subst (λ (b : Bool). MatchBool b (CheckFaultStands v.fixities end words fault) (FaultStands v.fixities end words fault)) (asks_none words read.0) h
+of_grammar v end words fault read h = of_plain v end words fault (asks_none words read.0) (searches_none words read.0) h
 
 -- and a check does
 asked : (x : Lexeme) → x.word ≡ Keyword → is_check x.bytes ≡ true → is_keyword x.word && is_check x.bytes ≡ true
@@ -61,7 +82,19 @@ draft_asks table words D (is_full {keyword = x} w k q f n e) = asked x w k
 pub check_asks : (v : View) (words : List Lexeme) (c : Check) → IsReadAsCheck v words c → asks_check words ≡ true
 check_asks v words c h = draft_asks v.fixities words h.reads.0 h.reads.1
 
+-- as a search does for one
+searched : (x : Lexeme) (f : Form) → x.word ≡ Keyword → queries.form_of x.bytes ≡ Some f → is_keyword x.word && is_search x.bytes ≡ true
+searched x f w k = ap (λ (u : Word). is_keyword u && is_search x.bytes) w ∙ ap has_form k
+
+header_asks : (words : List Lexeme) (h : Header) (goal : List Lexeme) → Heads words h goal → asks_search words ≡ true
+header_asks words h goal (of_query {keyword = x} w k b c) = searched x Query w k
+header_asks words h goal (of_solve {keyword = x} w k n c) = searched x Solve w k
+
+pub search_asks : (v : View) (words : List Lexeme) (s : Search) → IsReadAsSearch v words s → asks_search words ≡ true
+search_asks v words s r = header_asks words r.reads.0 r.reads.1 r.reads.2
+
 -- there is no other reading
 pub only_read : (v : View) (words : List Lexeme) (d : Declaration) → IsReadAs v words d → (x : Read) → Reads v words x → x ≡ plain d
 only_read v words d r (plain x) h = ap plain ((one_reading v.fixities words d r.reads).0 x h.reads)
 only_read v words d r (check c) h = let clash : false ≡ true = sym (asks_none words r.begins.0) ∙ check_asks v words c h in absurd cc
+only_read v words d r (searching s) h = let clash : false ≡ true = sym (searches_none words r.begins.0) ∙ search_asks v words s h in absurd cc

@@ -1,5 +1,6 @@
 pub mod Reports
 pub mod Causes
+pub mod Questions
 pub mod Sound
 pub mod Asking
 pub mod Faultless
@@ -10,4 +11,8 @@ pub mod Naming
 pub mod Unset
 pub mod GoodText
 pub mod GoodDefinition
+pub mod Runs
+pub mod Searched
+pub mod AnswerTypes
+pub mod Solved
 pub mod Ahead

@@ -5,7 +5,6 @@ use Rattle.lf.specs.Entries.{Entry}
 use Rattle.tw_names.proofs.Order.{none_is_empty}
 use Rattle.tw_names.proofs.Unknowns.{earliest-append}
 use Rattle.tw_names.specs.Earliest.{earlier, earliest}
-use Rattle.tw_names.specs.Unknown.{IsOneOf}
 use Rattle.tw_names.specs.declared.unknown.Mention.{Mention}
 use Rattle.tw_parse.specs.declared.decl.ExtName.{ExtName}
 use Rattle.tw_signature.specs.Names.{number_of}

@@ -2,9 +2,10 @@
 use Rattle.std.proofs.Common.{List, None, Some, sym, subst}
 use Rattle.tw_parse.specs.Syntax.{Declaration, declare, define, prefer, give}
 use Rattle.tw_parse.specs.Words.{Lexeme}
+use Rattle.tw_parse_queries.specs.Searches.{query, solve}
 use Rattle.tw_decl.specs.View.{View, IsSound}
 use Rattle.tw_decl.specs.Declaration.{Does, Makes, ReadDoes}
-use Rattle.tw_decl.specs.Reading.{Read, plain, check}
+use Rattle.tw_decl.specs.Reading.{Read, plain, check, searching}
 use Rattle.tw_decl.specs.Reports.{Reported}
 use Rattle.tw_decl.specs.Laws.{AcceptingKeepsSound, AcceptingFromKeepsSound}
 
@@ -18,6 +19,8 @@ does_sound v w (give fix names) report h s = subst IsSound (sym h.keeps) s
 read_sound : (v w : View) (r : Read) (report : Reported) → ReadDoes v r report w → IsSound v → IsSound w
 read_sound v w (plain d) report h s = does_sound v w d report h s
 read_sound v w (check c) report h s = subst IsSound (sym h.keeps) s
+read_sound v w (searching (query e t q)) report h s = subst IsSound (sym h.keeps) s
+read_sound v w (searching (solve c at A)) report h s = subst IsSound (sym h.keeps) (s, h.found.stands)
 
 makes_sound : (v w : View) (words : List Lexeme) (report : Reported) → Makes v words report w → IsSound v → IsSound w
 makes_sound v w words report h s = read_sound v w h.read report h.does s

@@ -1,6 +1,6 @@
 -- Why a check doesn't give its family a mode, from the causes of each step.
-use Rattle.std.proofs.Common.{◌≡◌, ℕ, List, [], ◌++◌, false, None, Some, refl, sym, ap, ◌∙◌, subst, inl, inr}
-use Rattle.lf.specs.Entries.{Entry, entry}
+use Rattle.std.proofs.Common.{◌≡◌, ℕ, List, [], false, Some, refl, sym, ap, ◌∙◌, subst, inl, inr}
+use Rattle.lf.specs.Entries.{entry}
 use Rattle.lf_checks.specs.Marks.{Mark}
 use Rattle.tw_lexer.specs.declared.place.Place.{Place}
 use Rattle.tw_names.specs.Unknown.{IsFirst, IsOneOf, unknown_in}
@@ -12,8 +12,8 @@ use Rattle.tw_parse_checks.specs.declared.check.ExtMark.{ExtMark}
 use Rattle.tw_signature.specs.Names.{number_of}
 use Rattle.tw_decl.specs.Modes.{GivesMarks, IsApplied, LacksMode, IsIllModed, argument_count, check_family, takes_just, undeclared, unknown_in_check}
 use Rattle.lf_checks.specs.Clauses.{ClauseName}
-use Rattle.tw_decl.specs.Obstacles.{GivesNoMarks, IsMisapplied, IsNotEntered, IsNotFull, IsNotModed, IsNotSet}
-use Rattle.tw_decl.specs.Operators.{entry_by, newest}
+use Rattle.tw_decl.specs.Obstacles.{GivesNoMarks, IsNotEntered, IsNotFull, IsNotModed, IsNotSet}
+use Rattle.tw_decl.specs.Operators.{entry_by}
 use Rattle.tw_decl.specs.Steps.{ShowsFault, ShowsUnmoded}
 use Rattle.tw_decl.specs.View.{View}
 use Rattle.tw_decl.specs.declared.refusal.Refusal.{Refusal}

@@ -9,22 +9,31 @@ use Rattle.tw_lexer.specs.Tokens.{first_token, ThroughDot, IsFew, HasFault, HasT
 use Rattle.tw_lexer.specs.declared.place.Place.{Place}
 use Rattle.tw_lexer.specs.declared.token.Token.{Token}
 use Rattle.tw_lexer.specs.declared.token.TokenKind.TheVariants.{End}
-use Rattle.tw_parse.specs.Syntax.{Declaration, declare, define, prefer, give}
+use Rattle.tw_parse.specs.Queries.{Query}
+use Rattle.tw_parse.specs.Syntax.{Declaration, Term, declare, define, prefer, give}
 use Rattle.tw_parse.specs.declared.decl.ExtName.{ExtName}
 use Rattle.tw_parse.specs.Words.{Lexeme, lexemes, first_place}
 use Rattle.tw_parse.specs.declared.fault.SyntaxFault.TheVariants as faults
 use Rattle.tw_print.specs.Shown.{declaration_line, scene_after}
 use Rattle.tw_parse_checks.specs.Checks.{Check}
+use Rattle.tw_parse_queries.specs.Searches.{query, solve}
+use Rattle.tw_parse_queries.specs.declared.search.ExtBound.{ExtBound}
+use Rattle.tw_query.specs.Runs.{answers_in}
+use Rattle.tw_query.specs.declared.run.Leaf.{Leaf}
+use Rattle.tw_query.specs.declared.run.QueryEnd.{QueryEnd}
 use Rattle.tw_recon.specs.Reconstruction.{IsReconstructed}
 use Rattle.tw_decl.specs.View.{View, scene_of, told, with_entry, with_mode}
+use Rattle.tw_signature.specs.Goal.{Goal}
 use Rattle.tw_signature.specs.Names.{number_of}
 use Rattle.tw_decl.specs.Modes.{GivesMarks, IsApplied, IsModed, check_family, mode_line}
 use Rattle.tw_decl.specs.Obstacles.{ReadHasObstacle}
 use Rattle.tw_decl.specs.Operators.{operand_count, all_take, first_undeclared, with_rows, fixity_line}
 use Rattle.tw_decl.specs.Preferences.{is_family, preference_line}
-use Rattle.tw_decl.specs.Reading.{Read, plain, check, Reads, ReadFault}
+use Rattle.tw_decl.specs.Reading.{Read, plain, check, searching, Reads, ReadFault}
 use Rattle.tw_decl.specs.Refusals.{refusal_line}
-use Rattle.tw_decl.specs.Reports.{Reported, lines_alone, reported}
+use Rattle.tw_decl.specs.Reports.{Reported, lines_alone, reported, with_answers}
+use Rattle.tw_decl.specs.Searching.{IsAsExpected, Runs, bound_of, query_lines}
+use Rattle.tw_decl.specs.Solutions.{IsFound}
 use Rattle.tw_decl.specs.declared.declaration.Next.{Next}
 use Rattle.tw_decl.specs.declared.declaration.Next.TheVariants as nexts
 use Rattle.tw_decl.specs.declared.refusal.Refusal.{Refusal}
@@ -96,10 +105,30 @@ pub record SetsMode (v : View) (c : Check) (report : Reported) (w : View) : Type
   pub says : report ≡ lines_alone (told v (mode_line (check_family c).name marks))
   pub keeps : w ≡ with_mode v family marks
 
+-- A query: its search ends within the budget, with answers as expected. Its lines are told, with the number of answers, and nothing changes.
+pub record AnswersQuery (v : View) (e t : ExtBound) (q : Query) (report : Reported) (w : View) : Type 0 where
+  pub goal : Goal
+  pub leaves : List Leaf
+  pub end : QueryEnd
+  pub tries : ℕ
+  pub runs : Runs v q (bound_of t) goal leaves end tries
+  pub expected : IsAsExpected e leaves end
+  pub says : report ≡ with_answers (told v (query_lines v e t goal leaves end tries)) (answers_in leaves)
+  pub keeps : w ≡ v
+
+-- `%solve`: the definition by the first answer is kept, and the report shows it
+pub record KeepsAnswer (v : View) (c : List ℕ) (A : Term) (report : Reported) (w : View) : Type 0 where
+  pub entry : Entry
+  pub found : IsFound v c A entry
+  pub says : report ≡ entry_report v entry
+  pub keeps : w ≡ with_entry v entry
+
 -- what is done of what is read
 abbrev pub ReadDoes : View → Read → Reported → View → Type 0
 ReadDoes v (plain d) report w = Does v d report w
 ReadDoes v (check c) report w = SetsMode v c report w
+ReadDoes v (searching (query e t q)) report w = AnswersQuery v e t q report w
+ReadDoes v (searching (solve c at A)) report w = KeepsAnswer v c A report w
 
 -- what is read is made
 pub record Makes (v : View) (words : List Lexeme) (report : Reported) (w : View) : Type 0 where

@@ -6,9 +6,15 @@ pub mod Operators
 pub mod Preferences
 pub mod Reading
 pub mod Modes
+pub mod Equations
+pub mod Searching
+pub mod Solutions
+pub mod Unanswered
 pub mod Obstacles
 pub mod Declaration
+pub mod Question
 pub mod Steps
+pub mod SearchSteps
 pub mod Undoing
 pub mod Laws
 pub mod Examples

@@ -1,27 +1,27 @@
 -- Why a declaration that is read isn't made: by its form, and then by its refusals.
-use Rattle.std.specs.Prelude.{◌≡◌, ◌⊎◌, List, [], ◌++◌, ℕ, map as each, false, codes, None, Some, IsSome}
+use Rattle.std.specs.Prelude.{◌≡◌, ◌⊎◌, List, [], ◌++◌, ℕ, false, codes, None, Some, IsSome}
 use Rattle.lf.specs.Entries.{Entry}
 use Rattle.lf_checks.specs.Clauses.{ClauseName}
 use Rattle.lf_checks.specs.Marks.{Mark}
-use Rattle.tw_equation.specs.Text.{equation_text}
 use Rattle.tw_fixity.specs.declared.table.Fix.{Fix}
 use Rattle.tw_lexer.specs.declared.place.Place.{Place}
-use Rattle.tw_metas.specs.Named.{shown_type_of}
-use Rattle.tw_metas.specs.View.{equation_of}
 use Rattle.tw_metas.specs.declared.left.LeftEquation.{LeftEquation}
 use Rattle.tw_names.specs.Unknown.{IsFirst}
 use Rattle.tw_parse.specs.Syntax.{Declaration, declare, define, prefer, give}
 use Rattle.tw_parse.specs.declared.decl.ExtName.{ExtName}
 use Rattle.tw_parse_checks.specs.Checks.{Check, mode_short, mode_full}
+use Rattle.tw_parse_queries.specs.Searches.{query, solve}
 use Rattle.tw_print.specs.Names.{constant_word}
 use Rattle.tw_recon.specs.Causes as reconstruction
 use Rattle.tw_recon.specs.declared.fault.ReconFault.{ReconFault}
 use Rattle.tw_recon.specs.declared.fault.ReconFault.TheVariants as reconstructions
 use Rattle.tw_signature.specs.Names.{number_of}
+use Rattle.tw_decl.specs.Equations.{left_text}
 use Rattle.tw_decl.specs.Modes.{GivesMarks, IsApplied, IsIllModed, IsNoFullForm, LacksMode, argument_count, check_family, clause_word, takes_just, unknown_in_check}
 use Rattle.tw_decl.specs.Operators.{newest, operand_count, all_take, first_undeclared}
 use Rattle.tw_decl.specs.Preferences.{is_family}
-use Rattle.tw_decl.specs.Reading.{Read, plain, check}
+use Rattle.tw_decl.specs.Reading.{Read, plain, check, searching}
+use Rattle.tw_decl.specs.Unanswered.{IsNotAnswered, IsNotSolved}
 use Rattle.tw_decl.specs.View.{View, scene_of}
 use Rattle.tw_decl.specs.declared.refusal.Refusal.{Refusal}
 use Rattle.tw_decl.specs.declared.refusal.Refusal.TheVariants as refusals
@@ -33,10 +33,6 @@ ReconstructionFails v d fault = reconstruction.HasCause v.signature d fault
 -- A definition or a lambda stands at the level of types: the fault is told at the declaration's first token, or at the lambda's bracket.
 abbrev pub IsTypeLevel : View → Declaration → Place → Place → Type 0
 IsTypeLevel v d first place = (ReconstructionFails v d (reconstructions.TypeLevel None) × (place ≡ first)) ⊎ ReconstructionFails v d (reconstructions.TypeLevel (Some place))
-
--- the text of an equation that is left
-abbrev pub left_text : View → LeftEquation → List ℕ
-left_text v left = equation_text (scene_of v) (each shown_type_of left.metas.items) left.names.items (equation_of left.equation)
 
 -- an equation with this text is left
 abbrev pub IsLeft : View → Declaration → List ℕ → Type 0
@@ -121,3 +117,5 @@ IsNotSet v c first refusal = MarksFail v c first refusal
 abbrev pub ReadHasObstacle : View → Read → Place → Refusal → Type 0
 ReadHasObstacle v (plain d) first refusal = HasObstacle v d first refusal
 ReadHasObstacle v (check c) first refusal = IsNotSet v c first refusal
+ReadHasObstacle v (searching (query e t q)) first refusal = IsNotAnswered v e t q first refusal
+ReadHasObstacle v (searching (solve c at A)) first refusal = IsNotSolved v c A first refusal

@@ -12,6 +12,10 @@ pub record Reported : Type 0 where
 abbrev pub lines_alone : List ℕ → Reported
 lines_alone lines = record { text = lines; totals = 0; answers = 0 }
 
+-- that of a query, which found so many answers
+abbrev pub with_answers : List ℕ → ℕ → Reported
+with_answers lines n = record { text = lines; totals = 0; answers = n }
+
 -- what a report in memory says
 abbrev pub reported : Report → Reported
 reported r = record { text = r.text.items; totals = r.totals; answers = r.answers }

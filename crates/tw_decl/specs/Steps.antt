@@ -1,12 +1,17 @@
 -- What the steps of a declaration come to. The proofs need these; the definitions of a declaration don't speak of them.
-use Rattle.std.specs.Prelude.{◌≡◌, ◌⊎◌, ℕ, List, [], ◌∷◌, ◌++◌, map as each, Bool, true, false, codes, Option, None, Some, Vec, MatchResult, ◌||◌, if◌then◌else◌}
+use Rattle.std.specs.Prelude.{◌≡◌, ◌⊎◌, ℕ, List, [], ◌∷◌, ◌++◌, map as each, Bool, true, false, codes, Option, None, Some, Vec, MatchResult, ◌||◌, not, if◌then◌else◌}
 use Rattle.std.specs.Global.{Global}
 use Rattle.std.specs.declared.result.Result.{Result}
 use Rattle.tw_lexer.specs.Tokens.{HasFault, HasTooMany}
 use Rattle.tw_lexer.specs.declared.place.Place.{Place}
 use Rattle.tw_lexer.specs.declared.token.Token.{Token}
 use Rattle.tw_lexer.specs.declared.token.TokenKind.{TokenKind}
-use Rattle.tw_lexer.specs.declared.token.TokenKind.TheVariants.{End}
+use Rattle.tw_lexer.specs.declared.token.TokenKind.TheVariants.{Dot, End}
+use Rattle.tw_lexer.specs.Cut.{cut_after, is_done}
+use Rattle.tw_lexer.specs.declared.cut.Cut.TheVariants.{Plain}
+use Rattle.tw_parse.specs.Queries.{QueryFaultStands, query_of}
+use Rattle.tw_parse.specs.declared.query.ExtQuery.{ExtQuery}
+use Rattle.tw_decl.specs.Question.{IsReadAsQuery}
 use Rattle.tw_parse.specs.Words.{Lexeme}
 use Rattle.tw_parse.specs.declared.fault.SyntaxFault.{SyntaxFault}
 use Rattle.tw_parse.specs.declared.fault.SyntaxFault.TheVariants as faults
@@ -24,7 +29,7 @@ use Rattle.tw_clause.specs.declared.name.Mark3.{Mark3}
 use Rattle.tw_print.specs.Names.{constant_word}
 use Rattle.tw_decl.specs.View.{View, scene_of}
 use Rattle.tw_decl.specs.Modes.{HasFullForm, clause_word}
-use Rattle.tw_decl.specs.Obstacles.{left_text}
+use Rattle.tw_decl.specs.Equations.{left_text}
 use Rattle.tw_decl.specs.Reading.{Reads, ReadFault, read_of}
 use Rattle.tw_decl.specs.declared.reading.Written.{Written}
 use Rattle.tw_decl.specs.declared.refusal.Refusal.{Refusal}
@@ -68,6 +73,20 @@ refused_alone fault next = if is_first fault || is_end next.kind then refusal_of
 -- what the grammar makes of the words
 abbrev pub IsParsed : View → Place → List Lexeme → Result Written SyntaxFault → Type 0
 IsParsed v end words parsed = MatchResult parsed (λ r. Reads v words (read_of r)) (ReadFault v end words)
+
+-- what the grammar makes of the words of a query
+abbrev pub IsParsedQuery : View → Place → List Lexeme → Result ExtQuery SyntaxFault → Type 0
+IsParsedQuery v end words parsed = MatchResult parsed (λ q. IsReadAsQuery v words (query_of q)) (QueryFaultStands v.fixities end words)
+
+-- whether a text asks nothing whose first token is of this kind, and where this token follows the dot
+abbrev pub nothing_by : List ℕ → TokenKind → Token → Bool
+nothing_by text Dot next = is_end next.kind
+nothing_by text End next = not (is_done (cut_after Plain text))
+nothing_by text _ next = false
+
+abbrev pub asks_nothing : List ℕ → List Token → Token → Bool
+asks_nothing text [] next = false
+asks_nothing text (t ∷ ts) next = nothing_by text t.kind next
 
 -- a name that isn't declared, or want of memory
 abbrev pub NamesUnknown : ExtName → Refusal → Type 0

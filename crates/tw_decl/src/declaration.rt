@@ -4,9 +4,10 @@ ghost use Rattle.tw_lexer.specs.Places.{place_of};
 ghost use Rattle.tw_lexer.specs.Tokens.{IsWithin, Lexes};
 ghost use Rattle.tw_parse.specs.View.{declaration_of};
 ghost use Rattle.tw_parse.specs.Words.{first_place, lexemes};
+ghost use Rattle.tw_parse_queries.specs.Searches.{search_of};
 ghost use Rattle.tw_decl.specs.Declaration.{Accepts, HasCause, HasCauseFrom, Comes, Does, GivesRows, Prefers, ReadDoes};
 ghost use Rattle.tw_decl.specs.Obstacles.{HasObstacle, IsNotGiven, IsNotPreferred, ReadHasObstacle};
-ghost use Rattle.tw_decl.specs.Reading.{read_of};
+ghost use Rattle.tw_decl.specs.Reading.{read_of, searching};
 ghost use Rattle.tw_decl.specs.Reports.{reported};
 ghost use Rattle.tw_decl.specs.Steps.{NamesUnknown, IsTokenCause, is_over};
 
@@ -14,14 +15,17 @@ use crate::entering::enter;
 use crate::moding::set_mode;
 use crate::operators::{all_take, first_undeclared, fixity_line, operand_count};
 use crate::preferences::{is_family, preference, preference_line};
+use crate::querying::answer;
 use crate::reading::{Written, alone, parsed, refusal_of};
 use crate::refusal::Refusal;
 use crate::report::{Report, told};
 use crate::session::Session;
+use crate::solving::solve;
 use std::alloc::Global;
 use tw_fixity::{Fix, Name};
 use tw_lexer::{LexFault, Place, Token, TokenKind, Tokens, lex, next_token};
 use tw_parse::{ExtDecl, ExtName};
+use tw_parse_queries::ExtSearch;
 
 /// What comes next in a text of declarations.
 #[derive(Debug, Drop)]
@@ -36,8 +40,8 @@ pub enum Next {
     },
 }
 
-// The tokens of the declaration that begins here.
-fn tokens_of(alloc: Global, text: &[u8], from: usize, at: Place) -> Result<Tokens, Refusal>
+/// The tokens of the declaration that begins here.
+pub fn tokens_of(alloc: Global, text: &[u8], from: usize, at: Place) -> Result<Tokens, Refusal>
     requires short { length text.now < 2 ^ 32 - 1 }
     requires within { from ≤ length text.now }
     requires place { at ≡ place_of text.now from }
@@ -155,25 +159,45 @@ fn perform(
     }
 }
 
+// Makes a search. After a refusal nothing has changed.
+fn make_search(
+    alloc: Global,
+    session: &mut Session,
+    first: Place,
+    search: ExtSearch,
+) -> Result<Report, Refusal>
+    ensures ok { IfOk result (λ report. ReadDoes session.old (searching (search_of search)) (reported report) session.new) }
+    ensures err { OnErr result (session.new ≡ session.old) }
+    ensures cause { IfErr result (ReadHasObstacle session.old (searching (search_of search)) first) }
+{
+    match search {
+        ExtSearch::Query(expected, sought, query) => {
+            answer(alloc, session, first, expected, sought, &query)
+        }
+        ExtSearch::Solve(name, _, goal) => solve(alloc, session, first, name, goal),
+    }
+}
+
 // Does what is read. After a refusal nothing has changed.
 fn make(
     alloc: Global,
     session: &mut Session,
     first: Place,
-    read: &Written,
+    read: Written,
 ) -> Result<Report, Refusal>
-    ensures ok { IfOk result (λ report. ReadDoes session.old (read_of read.now) (reported report) session.new) }
+    ensures ok { IfOk result (λ report. ReadDoes session.old (read_of read) (reported report) session.new) }
     ensures err { OnErr result (session.new ≡ session.old) }
-    ensures cause { IfErr result (ReadHasObstacle session.old (read_of read.now) first) }
+    ensures cause { IfErr result (ReadHasObstacle session.old (read_of read) first) }
 {
     match read {
-        Written::Plain(declaration) => perform(alloc, session, first, declaration),
-        Written::Check(check) => set_mode(alloc, session, first, check),
+        Written::Plain(declaration) => perform(alloc, session, first, &declaration),
+        Written::Check(check) => set_mode(alloc, session, first, &check),
+        Written::Search(search) => make_search(alloc, session, first, search),
     }
 }
 
-// The place of the first token.
-fn first_place(tokens: &Tokens) -> Place
+/// The place of the first token.
+pub fn first_place(tokens: &Tokens) -> Place
     ensures { (text : List ℕ) → result ≡ first_place tokens.now.at (lexemes text tokens.now.list.items) }
 {
     match tokens.list.as_slice() {
@@ -208,7 +232,7 @@ pub fn declare(
         Ok(read) => read,
         Err(fault) => return Err(refusal_of(fault)),
     };
-    match make(alloc, session, first_place(&tokens), &read) {
+    match make(alloc, session, first_place(&tokens), read) {
         Ok(report) => Ok(Next::Done {
             report,
             upto: tokens.upto,
@@ -237,7 +261,7 @@ pub fn declare_one(alloc: Global, session: &mut Session, text: &[u8]) -> Result<
         Ok(read) => read,
         Err(refusal) => return Err(refusal),
     };
-    match make(alloc, session, first_place(&tokens), &read) {
+    match make(alloc, session, first_place(&tokens), read) {
         Ok(report) => Ok(report),
         Err(refusal) => Err(refusal),
     }

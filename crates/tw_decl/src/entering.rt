@@ -46,8 +46,8 @@ fn no_type(alloc: Global, at: Place) -> Refusal
     }
 }
 
-// The refusal of a declaration of which an equation is left.
-fn leftover(alloc: Global, session: &Session, first: Place, left: &LeftEquation) -> Refusal
+/// The refusal of a declaration of which an equation is left.
+pub fn leftover(alloc: Global, session: &Session, first: Place, left: &LeftEquation) -> Refusal
     ensures { ShowsLeft session.now first left.now result }
 {
     match show_equation(alloc, &environment(session), left) {
@@ -56,8 +56,13 @@ fn leftover(alloc: Global, session: &Session, first: Place, left: &LeftEquation)
     }
 }
 
-// The refusal of a declaration whose reconstruction has a fault, where its first token stands here.
-fn not_reconstructed(alloc: Global, session: &Session, first: Place, fault: ReconFault) -> Refusal
+/// The refusal of a declaration whose reconstruction has a fault, where its first token stands here.
+pub fn not_reconstructed(
+    alloc: Global,
+    session: &Session,
+    first: Place,
+    fault: ReconFault,
+) -> Refusal
     ensures { IsRefusedFor session.now first fault result }
 {
     match fault {
@@ -82,8 +87,8 @@ fn line_of(alloc: Global, session: &Session, entry: &Entry) -> Result<Vec<u8>, A
     Ok(text)
 }
 
-// What is reported of an entry that is kept.
-fn report_of(alloc: Global, session: &Session, entry: &Entry) -> Result<Report, AllocError>
+/// What is reported of an entry that is kept.
+pub fn report_of(alloc: Global, session: &Session, entry: &Entry) -> Result<Report, AllocError>
     requires { IsCanonicalEntry (signature_of session.now.signature) (entry_of entry.now) }
     ensures { IfOk result (λ report. reported report ≡ entry_report session.now (entry_of entry.now)) }
 {

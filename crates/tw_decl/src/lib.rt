@@ -9,10 +9,16 @@ mod moding;
 mod operators;
 mod parameters;
 mod preferences;
+mod querying;
+mod question;
 mod reading;
 mod refusal;
 mod report;
+mod searching;
 mod session;
+#[tactic(auto, using(tw_terms::proofs::Args::types_and_skeletons))]
+mod solution;
+mod solving;
 
 pub use declaration::{Next, declare, declare_one};
 pub use laws::{
@@ -20,6 +26,7 @@ pub use laws::{
     good_from_is_accepted, good_is_accepted,
 };
 pub use parameters::Parameters;
+pub use question::{Question, read_query};
 pub use refusal::{Refusal, show_refusal};
 pub use report::Report;
 pub use session::Session;

@@ -1,10 +1,10 @@
-//! What is read of a text: a declaration, or a check of what is declared.
+//! What is read of a text: a declaration, a check of what is declared, or a search over it.
 ghost use Rattle.std.specs.Prelude.{◌≡◌, ◌≢◌, List, ℕ, length, All, MatchResult};
 ghost use Rattle.tw_lexer.specs.Tokens.{IsWithin, ThroughDot};
 ghost use Rattle.tw_lexer.specs.declared.place.Place.{Place};
 ghost use Rattle.tw_parse.specs.Words.{Lexeme, lexemes};
 ghost use Rattle.tw_decl.specs.Declaration.{IsCauseAlone};
-ghost use Rattle.tw_decl.specs.Reading.{asks_check, Reads, read_of};
+ghost use Rattle.tw_decl.specs.Reading.{asks_check, asks_search, Reads, read_of};
 ghost use Rattle.tw_decl.specs.Steps.{IsParsed, is_first, refusal_of, refused_alone};
 ghost use Rattle.tw_decl.specs.View.{View};
 
@@ -14,6 +14,7 @@ use std::alloc::Global;
 use tw_lexer::{Token, TokenKind, Tokens};
 use tw_parse::{ExtDecl, Source, SyntaxFault, Word, parse_decl};
 use tw_parse_checks::{ExtCheck, is_check, parse_check};
+use tw_parse_queries::{ExtSearch, is_search, parse_search};
 
 /// What is read.
 #[derive(Debug, Drop)]
@@ -22,6 +23,8 @@ pub enum Written {
     Plain(ExtDecl),
     /// A check of what is declared.
     Check(ExtCheck),
+    /// A search over what is declared.
+    Search(ExtSearch),
 }
 
 // Whether a keyword stands first that asks for a check.
@@ -38,6 +41,20 @@ fn asks_check(session: &Session, text: &[u8], tokens: &Tokens) -> bool
     source.word(0) == Word::Keyword && is_check(source.bytes(0))
 }
 
+// Whether one stands first that asks for a search.
+fn asks_search(session: &Session, text: &[u8], tokens: &Tokens) -> bool
+    requires within { All (IsWithin (length text.now)) tokens.now.list.items }
+    ensures { result ≡ asks_search (lexemes text.now tokens.now.list.items) }
+{
+    let source = Source {
+        text,
+        tokens: &tokens.list,
+        end: tokens.at,
+        fixities: session.fixities(),
+    };
+    source.word(0) == Word::Keyword && is_search(source.bytes(0))
+}
+
 /// What the grammar makes of the tokens.
 pub fn parsed(
     alloc: Global,
@@ -52,6 +69,12 @@ pub fn parsed(
     if asks_check(session, text, tokens) {
         return match parse_check(alloc, tokens, text, session.fixities()) {
             Ok(check) => Ok(Written::Check(check)),
+            Err(fault) => Err(fault),
+        };
+    }
+    if asks_search(session, text, tokens) {
+        return match parse_search(alloc, tokens, text, session.fixities()) {
+            Ok(search) => Ok(Written::Search(search)),
             Err(fault) => Err(fault),
         };
     }
@@ -82,8 +105,8 @@ fn is_first(fault: &SyntaxFault) -> bool
     !matches!(fault, SyntaxFault::Fixity(_) | SyntaxFault::BadDecl(_))
 }
 
-// The refusal of a declaration with a fault of the grammar, where this token follows it.
-fn refused_alone(fault: SyntaxFault, next: &Token) -> Refusal
+/// The refusal of a declaration with a fault of the grammar, where this token follows it.
+pub fn refused_alone(fault: SyntaxFault, next: &Token) -> Refusal
     ensures { result ≡ refused_alone fault next.now }
 {
     if is_first(&fault) || next.kind == TokenKind::End {

@@ -1,6 +1,6 @@
 //! Why declarations are refused.
-ghost use Rattle.std.specs.Prelude.{◌≡◌, ◌++◌, codes, IfOk};
-ghost use Rattle.tw_decl.specs.Refusals.{fault_words, refusal_line, show_place};
+ghost use Rattle.std.specs.Prelude.{◌≡◌, ◌++◌, codes, decimal, IfOk};
+ghost use Rattle.tw_decl.specs.Refusals.{count_words, fault_words, refusal_line, show_place};
 ghost use Rattle.tw_decl.specs.declared.refusal.Refusal.TheVariants.{Memory};
 
 use std::alloc::{AllocError, AllocFailed, Global};
@@ -43,6 +43,12 @@ pub enum Refusal {
     /// This clause isn't well-moded: the subgoal in solving order from 1, 0 being the head; the argument from 1, implicit ones
     /// counted, 0 being none of them.
     ModeFault(Place, Vec<u8>, u64, u64),
+    /// So many answers of a query were found, and so many there have to be.
+    Count(Place, u64, u64),
+    /// A search made so many tries, which is its budget, and one more is due.
+    Budget(Place, u64),
+    /// A search came to its end without an answer, and nothing was left over.
+    NoAnswer(Place),
 }
 
 impl From<AllocError> for Refusal {
@@ -91,6 +97,11 @@ pub fn show_refusal(alloc: Global, refusal: &Refusal, origin: &str) -> Result<Ve
         Refusal::ModeFault(place, clause, subgoal, argument) => {
             clause_line(alloc, origin, place, clause, *subgoal, *argument)
         }
+        Refusal::Count(place, found, expected) => {
+            count_line(alloc, origin, place, *found, *expected)
+        }
+        Refusal::Budget(place, tries) => budget_line(alloc, origin, place, *tries),
+        Refusal::NoAnswer(place) => place_line(alloc, origin, place, b" E23 NoAnswer\n"),
     }
 }
 
@@ -153,4 +164,41 @@ fn clause_line(
 {
     let words = fault_words(alloc, clause, subgoal, argument)?;
     line_with(alloc, origin, place, b" E13 ModeFault ", &words)
+}
+
+// How many answers were found, and how many there have to be.
+fn count_words(alloc: Global, found: u64, expected: u64) -> Result<Vec<u8>, AllocError>
+    ensures { IfOk result (λ words. words.items ≡ count_words found expected) }
+{
+    let mut words = b"found ".to_vec(alloc)?;
+    let numbers = format!(in alloc; "{found} expected {expected}")?;
+    words.extend_from_slice(numbers.as_bytes())?;
+    Ok(words)
+}
+
+// A line that ends with how many answers were found, and how many there have to be.
+fn count_line(
+    alloc: Global,
+    origin: &str,
+    place: &Place,
+    found: u64,
+    expected: u64,
+) -> Result<Vec<u8>, AllocError>
+    ensures { IfOk result (λ line. line.items ≡ show_place origin.now place.now ++ codes " E19 Count " ++ count_words found expected ++ codes "\n") }
+{
+    let words = count_words(alloc, found, expected)?;
+    line_with(alloc, origin, place, b" E19 Count ", &words)
+}
+
+// A line that ends with a number of tries.
+fn budget_line(
+    alloc: Global,
+    origin: &str,
+    place: &Place,
+    tries: u64,
+) -> Result<Vec<u8>, AllocError>
+    ensures { IfOk result (λ line. line.items ≡ show_place origin.now place.now ++ codes " E20 Budget " ++ decimal tries ++ codes "\n") }
+{
+    let words = format!(in alloc; "{tries}")?;
+    line_with(alloc, origin, place, b" E20 Budget ", words.as_bytes())
 }

@@ -1,6 +1,6 @@
 //! What is reported of accepted declarations.
 ghost use Rattle.std.specs.Prelude.{◌≡◌};
-ghost use Rattle.tw_decl.specs.Reports.{lines_alone, reported};
+ghost use Rattle.tw_decl.specs.Reports.{lines_alone, reported, with_answers};
 ghost use Rattle.tw_decl.specs.View.{told};
 
 use crate::session::Session;
@@ -16,7 +16,7 @@ pub struct Report {
     pub text: Vec<u8>,
     /// How many records of totality are made. No form that is built makes one.
     pub totals: u32,
-    /// How many answers are found. No form that is built asks for any.
+    /// How many answers of a query are found.
     pub answers: u64,
 }
 
@@ -28,6 +28,17 @@ pub fn lines_alone(text: Vec<u8>) -> Report
         text,
         totals: 0,
         answers: 0,
+    }
+}
+
+/// The report of a query, which found so many answers.
+pub fn with_answers(text: Vec<u8>, answers: u64) -> Report
+    ensures { reported result ≡ with_answers text.items answers }
+{
+    Report {
+        text,
+        totals: 0,
+        answers,
     }
 }
 

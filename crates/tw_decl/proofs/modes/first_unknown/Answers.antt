@@ -1,4 +1,4 @@
-use Rattle.std.proofs.Common.{◌≡◌, List, ℕ, false, ap, ◌∙◌}
+use Rattle.std.proofs.Common.{◌≡◌, false, ap, ◌∙◌}
 use Rattle.std.specs.Prelude.{is_some}
 use Rattle.tw_names.specs.Earliest.{earlier}
 use Rattle.tw_parse.specs.declared.decl.ExtName.{ExtName}

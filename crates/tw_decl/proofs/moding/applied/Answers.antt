@@ -1,4 +1,4 @@
-use Rattle.std.proofs.Common.{◌≡◌, List, [], ◌∷◌, false, true, Some, None, sym, ap, ◌∙◌, subst, inl, refl}
+use Rattle.std.proofs.Common.{◌≡◌, List, [], false, true, Some, sym, ap, ◌∙◌, subst}
 use Rattle.lf.specs.Entries.{Entry, entry}
 use Rattle.tw_names.proofs.Order.{earliest_is_first}
 use Rattle.tw_names.specs.Unknown.{IsFirst}

@@ -1,0 +1,4 @@
+pub mod Variables
+pub mod Waiting
+pub mod Moving
+pub mod Reordered
