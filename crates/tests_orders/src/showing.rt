@@ -1,0 +1,33 @@
+//! Verdicts as lines.
+use std::alloc::{AllocError, Global};
+use tests_forms::{FormFault, Names};
+use tw_clause::ClauseName;
+use tw_order::OrderFault;
+
+/// `ok`, or the clause with the number of its subgoal.
+pub(crate) fn show_verdict(
+    alloc: Global,
+    names: &Names,
+    verdict: &Result<(), OrderFault>,
+) -> Result<String, FormFault> {
+    let mut line = String::new(alloc);
+    match verdict {
+        Ok(()) => line.push_str("ok")?,
+        Err(OrderFault::NoMemory) => return Err(FormFault::NoMemory),
+        Err(OrderFault::Fault { clause, subgoal }) => {
+            show_name(&mut line, names, clause)?;
+            write!(line, " {subgoal}")?;
+        }
+    }
+    Ok(line)
+}
+
+fn show_name(line: &mut String, names: &Names, name: &ClauseName) -> Result<(), AllocError> {
+    match name {
+        ClauseName::Constant(id) => names.show_constant(line, *id),
+        ClauseName::BlockEntry(label, entry) => {
+            line.push_str(std::str::from_utf8(label.as_bytes()).unwrap_or("?"))?;
+            write!(line, "/{entry}")
+        }
+    }
+}

@@ -1,0 +1,13 @@
+pub mod Deciding
+pub mod Newest
+pub mod Renamed
+pub mod Standing
+pub mod Comparing
+pub mod Lists
+pub mod Reaching
+pub mod Arguments
+pub mod Solving
+pub mod Collecting
+pub mod Calling
+pub mod Ordering
+pub mod Faults

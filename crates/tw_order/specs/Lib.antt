@@ -1,0 +1,11 @@
+pub mod Scopes
+pub mod Taking
+pub mod Smaller
+pub mod Places
+pub mod Components
+pub mod Goals
+pub mod Leading
+pub mod Rows
+pub mod Listing
+pub mod Calls
+pub mod Outcomes

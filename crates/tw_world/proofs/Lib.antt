@@ -1,0 +1,9 @@
+pub mod Numbers
+pub mod Patterns
+pub mod Moved
+pub mod Walking
+pub mod Found
+pub mod Instances
+pub mod Joining
+pub mod Served
+pub mod Tables

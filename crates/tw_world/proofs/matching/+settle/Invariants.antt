@@ -1,0 +1,4 @@
+use Rattle.tw_world.proofs.matching.+settle.Given as goal
+
+abbrev pub decreases-settle : goal.decreases-settle
+decreases-settle l = l.left

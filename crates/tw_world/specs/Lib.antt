@@ -1,0 +1,5 @@
+pub mod Finding
+pub mod Changes
+pub mod Instances
+pub mod Serving
+pub mod Sequences

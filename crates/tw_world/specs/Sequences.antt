@@ -1,0 +1,51 @@
+-- A table of the parts of a local context that are sequences of instances.
+use Rattle.std.specs.Prelude.{◌≡◌, ℕ, zero, suc, ◌++◌, ◌-◌, ◌<◌, ◌≤◌, List, [], ◌∷◌, length, drop, take, get_or, Bool, true, false, ◌⊎◌}
+use Rattle.lf.specs.Subordination.{Block, Member}
+use Rattle.lf.specs.Syntax.{LfType}
+use Rattle.lf.specs.Typing.{Signature}
+use Rattle.lf.specs.Variables.{onto}
+use Rattle.lf_checks.specs.Worlded.{IsSequence, IsStrictBlock}
+use Rattle.tw_world.specs.Instances.{InstanceGoesDeep, IsInstance}
+
+-- the types of D from number k on, which are older than the k newest, are a sequence
+abbrev pub says : List Bool → ℕ → Bool
+says t k = get_or t k false
+
+-- no part of so many is said to be one
+abbrev pub none_said : ℕ → List Bool
+none_said zero = []
+none_said (suc n) = none_said n ++ false ∷ []
+
+-- of a context with n types, the part without any alone is
+abbrev pub first_said : ℕ → List Bool
+first_said n = none_said n ++ true ∷ []
+
+-- a strict block has an instance where the k newest types of D end, in what stands before it
+pub record Stands (Σ : Signature) (G D : List LfType) (k : ℕ) (B : Block) : Type 0 where
+  pub strict : IsStrictBlock B
+  pub entries : 0 < length B.entries
+  pub within : length B.entries ≤ k
+  pub is_instance : IsInstance Σ B G (take (length B.entries) (drop (k - length B.entries) D))
+
+-- The table so far: it says yes of sequences alone, and of what each block adds to those older than `left`, and each of V to that one.
+pub record TableAt (Σ : Signature) (W V : List Block) (C D : List LfType) (left : ℕ) (t : List Bool) : Type 0 where
+  pub size : length t ≡ suc (length D)
+  pub start : says t (length D) ≡ true
+  pub sound : (k : ℕ) → says t k ≡ true → IsSequence Σ W C (drop k D)
+  pub complete : (k : ℕ) (B : Block) → Member B W → (left < k) ⊎ ((k ≡ left) × Member B V) → k ≤ length D → says t k ≡ true → Stands Σ (onto (drop k D) C) D k B → says t (k - length B.entries) ≡ true
+
+-- after one more block, which adds to what is older than `left`
+abbrev pub Adds : Signature → Block → List LfType → List LfType → ℕ → List Bool → List Bool → Type 0
+Adds Σ B G D left old new = (W V : List Block) (C : List LfType) → Member B W → G ≡ onto (drop left D) C → says old left ≡ true → TableAt Σ W V C D left old → TableAt Σ W (B ∷ V) C D left new
+
+-- after all blocks
+abbrev pub Extends : Signature → List Block → List LfType → List LfType → ℕ → List Bool → List Bool → Type 0
+Extends Σ W G D left old new = (C : List LfType) → G ≡ onto (drop left D) C → TableAt Σ W [] C D left old → TableAt Σ W [] C D (left - 1) new
+
+-- the typing of a value goes too deep at this place
+abbrev pub StandsDeep : Signature → List LfType → List LfType → ℕ → Block → Type 0
+StandsDeep Σ G D left B = InstanceGoesDeep Σ B G (take (length B.entries) (drop (left - length B.entries) D))
+
+-- or at some block and some place
+abbrev pub SequenceGoesDeep : Signature → List Block → List LfType → List LfType → Type 0
+SequenceGoesDeep Σ W C D = (B : Block) × Member B W × (left : ℕ) × (left ≤ length D) × StandsDeep Σ (onto (drop left D) C) D left B

@@ -1,0 +1,172 @@
+//! Whether a local context is a sequence of instances of blocks, by a table of its parts.
+ghost use Rattle.std.specs.Prelude.{◌≡◌, ◌<◌, List, ◌≤◌, ◌↔◌, ℕ, suc, cond, length, drop, map, IfOk, IsErrOf, IsTrue, OnOk, true};
+ghost use Rattle.lf.specs.Entries.{signature_of};
+ghost use Rattle.lf.specs.Subordination.{AreTypedBlocks, Block as PlainBlock, IsTypedBlock, Member};
+ghost use Rattle.lf.specs.Syntax.{LfType};
+ghost use Rattle.lf.specs.Typing.{IsContext};
+ghost use Rattle.lf.specs.Variables.{onto, same_number};
+ghost use Rattle.lf_checks.specs.Worlded.{IsSequence};
+ghost use Rattle.tw_clause.specs.View.{block_of, worlds_of};
+ghost use Rattle.tw_world.specs.Sequences.{Adds, Extends, SequenceGoesDeep, Stands, StandsDeep, first_said, says};
+
+use crate::blocks::{is_instance, is_strict_block};
+use std::alloc::{AllocError, Global};
+use tw_clause::{Block, Worlds};
+use tw_hered::HeredFault;
+use tw_signature::Signature;
+use tw_terms::Context;
+
+/// Whether a local context is a sequence of instances of strict blocks of these worlds, in the context outside it. Takes the length of the local context times the size of the blocks.
+/// Answers `TooDeep` only where the typing of a `some` term goes deeper than 4,096.
+pub fn is_sequence(
+    alloc: Global,
+    sig: &Signature,
+    worlds: &Worlds,
+    outer: &Context,
+    local: &Context,
+) -> Result<bool, HeredFault>
+    requires blocks { AreTypedBlocks (signature_of sig.now) (worlds_of worlds.now) }
+    requires context { IsContext (signature_of sig.now) (onto local.now outer.now) }
+    ensures decided { IfOk result (λ b. IsTrue b ↔ IsSequence (signature_of sig.now) (worlds_of worlds.now) outer.now local.now) }
+    ensures too_deep { IsErrOf result HeredFault.TooDeep → SequenceGoesDeep (signature_of sig.now) (worlds_of worlds.now) outer.now local.now }
+{
+    let mut left = local.len() as u64;
+    let mut table = first_table(alloc, local.len())?;
+    let mut whole = outer.copy(alloc)?;
+    while left > 0 {
+        match extend(alloc, sig, worlds, &whole, local, left, &mut table) {
+            Ok(()) => (),
+            Err(fault) => return Err(fault),
+        }
+        left -= 1;
+        push_type(alloc, &mut whole, local, left)?;
+    }
+    Ok(first(&table))
+}
+
+/// The table of a context with so many types: no type is a sequence.
+fn first_table(alloc: Global, count: usize) -> Result<Vec<bool>, AllocError>
+    ensures { IfOk result (λ v. v.items ≡ first_said count) }
+{
+    let mut table = Vec::new(alloc);
+    for _ in 0..count {
+        table.push(false)?;
+    }
+    table.push(true)?;
+    Ok(table)
+}
+
+/// Moves the type of a variable of the local context into the whole one.
+fn push_type(
+    alloc: Global,
+    whole: &mut Context,
+    local: &Context,
+    place: u64,
+) -> Result<(), AllocError>
+    ensures { OnOk result ((C : List LfType) → place < length local.now → whole.old ≡ onto (drop (suc place) local.now) C → whole.new ≡ onto (drop place local.now) C) }
+{
+    match local.get(place) {
+        Some(ty) => whole.push(ty.copy(alloc)?),
+        None => Ok(()),
+    }
+}
+
+/// What the blocks add to a part that is a sequence.
+fn extend(
+    alloc: Global,
+    sig: &Signature,
+    worlds: &Worlds,
+    whole: &Context,
+    local: &Context,
+    left: u64,
+    table: &mut Vec<bool>,
+) -> Result<(), HeredFault>
+    requires blocks { AreTypedBlocks (signature_of sig.now) (worlds_of worlds.now) }
+    requires context { IsContext (signature_of sig.now) whole.now }
+    requires some { 0 < left }
+    requires within { left ≤ length local.now }
+    requires size { length table.old.items ≡ suc (length local.now) }
+    ensures extended { OnOk result (Extends (signature_of sig.now) (worlds_of worlds.now) whole.now local.now left table.old.items table.new.items) }
+    ensures too_deep { IsErrOf result HeredFault.TooDeep → (B : PlainBlock) × Member B (worlds_of worlds.now) × StandsDeep (signature_of sig.now) whole.now local.now left B }
+{
+    if !table[left as usize] {
+        return Ok(());
+    }
+    for block in &worlds.blocks {
+        match add(alloc, sig, block, whole, local, left, table) {
+            Ok(()) => (),
+            Err(fault) => return Err(fault),
+        }
+    }
+    Ok(())
+}
+
+/// What a block adds to it.
+fn add(
+    alloc: Global,
+    sig: &Signature,
+    block: &Block,
+    whole: &Context,
+    local: &Context,
+    left: u64,
+    table: &mut Vec<bool>,
+) -> Result<(), HeredFault>
+    requires block { IsTypedBlock (signature_of sig.now) (block_of block.now) }
+    requires context { IsContext (signature_of sig.now) whole.now }
+    requires within { left ≤ length local.now }
+    requires size { length table.old.items ≡ suc (length local.now) }
+    ensures size { length table.new.items ≡ length table.old.items }
+    ensures keeps { (k : ℕ) → says table.old.items k ≡ true → says table.new.items k ≡ true }
+    ensures added { OnOk result (Adds (signature_of sig.now) (block_of block.now) whole.now local.now left table.old.items table.new.items) }
+    ensures too_deep { IsErrOf result HeredFault.TooDeep → StandsDeep (signature_of sig.now) whole.now local.now left (block_of block.now) }
+{
+    if stands(alloc, sig, block, whole, local, left)? {
+        mark(table, left - block.entries.len() as u64);
+    }
+    Ok(())
+}
+
+/// Whether the block is strict and has an instance here.
+fn stands(
+    alloc: Global,
+    sig: &Signature,
+    block: &Block,
+    whole: &Context,
+    local: &Context,
+    left: u64,
+) -> Result<bool, HeredFault>
+    requires block { IsTypedBlock (signature_of sig.now) (block_of block.now) }
+    requires context { IsContext (signature_of sig.now) whole.now }
+    requires within { left ≤ length local.now }
+    ensures stands { IfOk result (λ b. IsTrue b ↔ Stands (signature_of sig.now) whole.now local.now left (block_of block.now)) }
+    ensures too_deep { IsErrOf result HeredFault.TooDeep → StandsDeep (signature_of sig.now) whole.now local.now left (block_of block.now) }
+{
+    let size = block.entries.len() as u64;
+    if size == 0 {
+        return Ok(false);
+    }
+    if size > left {
+        return Ok(false);
+    }
+    if !is_strict_block(alloc, block)? {
+        return Ok(false);
+    }
+    is_instance(alloc, sig, block, whole, local, left - size)
+}
+
+/// Says yes at a place.
+fn mark(table: &mut Vec<bool>, place: u64)
+    requires { place < length table.old.items }
+    ensures size { length table.new.items ≡ length table.old.items }
+    ensures marked { (k : ℕ) → says table.new.items k ≡ cond (same_number k place) true (says table.old.items k) }
+{
+    table[place as usize] = true;
+}
+
+/// What is said of the whole context.
+fn first(table: &Vec<bool>) -> bool
+    requires { 0 < length table.now.items }
+    ensures { result ≡ says table.now.items 0 }
+{
+    table[0]
+}
