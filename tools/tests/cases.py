@@ -17,13 +17,14 @@ NUMBERS = "nat : type.\nz : nat.\ns : nat -> nat.\nplus : nat -> nat -> nat -> t
 RULES = NUMBERS + "plus-z : plus z N N.\nplus-s : plus (s M) N (s P) <- plus M N P.\n"
 CALLS = "nat : type.\ng : nat -> type.\nh : nat -> type.\nh-c : h X <- g X.\n"
 UNDETERMINED = "nat : type.\nf : nat -> nat -> type.\nf-a : f X Y.\n"
+LOOP = "a : type.\nl : a <- a.\n"
 OPEN = "a : type.\nc : a.\nk : a -> type.\nh : {x:a} k x -> type.\n"
 
 # Of the program itself: what stands before, the declaration, and its refusal with line and column.
 REFUSED = [
     (NUMBERS, 'c : "a".', "5:5 E1 Lex"),
     ("b : type.\n", "c : " + "b -> " * 33000 + "b.", "2:163840 E8 TooMany"),
-    (NUMBERS, "%query 1 * plus (s z) z X.", "5:1 E21 Unsupported"),
+    (NUMBERS, "%total plus.", "5:1 E21 Unsupported"),
     (NUMBERS, "n2 : type = nat.", "5:1 E21 Unsupported"),
     (NUMBERS, "c : [x:nat] nat.", "5:5 E21 Unsupported"),
     ("b : type.\n", "c : " + "(" * 1001 + "b" + ")" * 1001 + ".", "2:1005 E9 Nesting"),
@@ -38,6 +39,9 @@ REFUSED = [
     ("b : type.\n", "c : " + "b -> " * 4100 + "b.", "2:1 E10 TooDeep"),
     (CALLS, "%mode h +X.", "5:1 E12 NotDeclared"),
     (UNDETERMINED, "%mode f +X -Y.", "4:1 E13 ModeFault"),
+    (RULES, "%query 1 * plus X Y (s z).", "7:1 E19 Count"),
+    (LOOP, "%query 0 * a.", "3:1 E20 Budget"),
+    (RULES, "%solve bad : plus z z (s z).", "7:1 E23 NoAnswer"),
 ]
 
 
