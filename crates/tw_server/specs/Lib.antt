@@ -5,7 +5,6 @@ pub mod State
 pub mod Replies
 pub mod Loading
 pub mod Subordination
-pub mod Phases
 pub mod Machine
 pub mod Outcome
 pub mod Laws
@@ -16,5 +15,4 @@ pub mod Gather
 pub mod Written
 pub mod Saying
 pub mod Loaded
-pub mod Playing
 pub mod Turns

@@ -9,8 +9,6 @@ mod laws;
 mod limits;
 mod line;
 mod load;
-mod phase;
-mod query;
 mod reply;
 mod server;
 mod show;
