@@ -3,7 +3,7 @@
 
     tools/failing.py [--show] [PROGRAM]      the program, else `crates/twelf/out/twelf`; --show writes a line for each allocation
 
-A run is right if the program refuses one command with `E0 Memory`, and answers all others as it does where that command was never given;
+A run is right if the program refuses one command with `E0 Memory`, or ends one search so, and answers all others as it does where that command was never given;
 or if it ends with the exit status of want of memory, and what it wrote before is the front of what it writes with enough memory; or if it
 answers as ever. The line at the end counts each of the three, and the status is 1 where any run is otherwise.
 
@@ -19,8 +19,10 @@ TOP = os.path.dirname(os.path.dirname(os.path.abspath(__file__)))
 NO_MEMORY = 4
 BANNER = b"Twelf 1.4 LF profile\n%% OK %%\n"
 REFUSED = b"E0 Memory\n%% ABORT %%\n"
+# In the loop of answers a search ends so, or the loop at the end of the input.
+LEFT = b"E0 Memory\n%% OK %%\n"
 
-# Declarations with arguments that are left out, a definition that is solved for, one that is refused, and questions.
+# Declarations with arguments that are left out, a definition that is solved for, one that is refused, questions, and searches, of which the last is the loop's.
 SESSION = [
     b"readDecl\nnat : type.\n",
     b"readDecl\nz : nat.\n",
@@ -33,6 +35,12 @@ SESSION = [
     b"readDecl\nbad : vec nat.\n",
     b"decl cons\n",
     b"decl two\n",
+    b"readDecl\nplus : nat -> nat -> nat -> type.\n",
+    b"readDecl\nplus-z : plus z Y Y.\n",
+    b"readDecl\nplus-s : plus (s X) Y (s Z) <- plus X Y Z.\n",
+    b"readDecl\n%query 2 * plus X Y (s z).\n",
+    b"readDecl\n%solve one : plus (s z) z X.\n",
+    b"top\nplus (s (s z)) X (s z).\n",
 ]
 
 LIBRARY = r"""
@@ -88,7 +96,7 @@ class Runs:
     def run(self, commands, failing=0):
         """What is written where this allocation fails, 0 for none; the exit status; and how many allocations there were."""
         given = {**os.environ, "LD_PRELOAD": self.library, "FAILING_AT": str(failing), "FAILING_COUNT": self.count}
-        done = subprocess.run([self.program], input=b"".join([*commands, b"quit\n"]), stdout=subprocess.PIPE, env=given, timeout=60)
+        done = subprocess.run([self.program], input=b"".join(commands), stdout=subprocess.PIPE, env=given, timeout=60)
         with open(self.count, encoding="utf-8") as file:
             return done.stdout, done.returncode, int(file.read())
 
@@ -124,7 +132,7 @@ def main(words):
         for failing in range(1, count + 1):
             written, status, _ = runs.run(SESSION, failing)
             told = replies(written)
-            at = told.index(REFUSED) if REFUSED in told else 0
+            at = next((at for at, part in enumerate(told) if part == REFUSED or part.endswith(LEFT)), 0)
             if written == right and status == 0:
                 same += 1
                 says = "as ever"

@@ -78,18 +78,20 @@ def sessions(name):
     """The sessions of a page are one, from the first block on; what the text calls declared stands between two of them."""
     session = prover.Session(SECONDS)
     text = page(name)
-    declared = re.search(r"^So are declared (.*?), and then:$", text, re.M | re.S)
+    declared = re.search(r"^(?:So are declared (.*?), and then|Where (.*?) are declared):$", text, re.M | re.S)
     for number, lines in blocks(text):
         if not any(line.startswith("> ") for line in lines):
             continue
         if declared and text.count("\n", 0, declared.start()) < number:
-            for declaration in re.findall(r"`([^`]+)`", declared[1]):
+            for declaration in re.findall(r"`([^`]+)`", declared[1] or declared[2]):
                 expect(f"{name}: {declaration}", asked(session, ["readDecl", declaration])[-1], "%% OK %%")
             declared = None
         typed, wanted = [], []
         for line in [*lines, None]:
             is_typed = line is not None and line.startswith("> ")
-            if typed and wanted and (line is None or is_typed):
+            # The lines of a dialogue are typed all at once.
+            is_open = typed[:1] == ["top"] and wanted[-1:] != ["%% OK %%"]
+            if typed and wanted and not is_open and (line is None or is_typed):
                 expect(f"{name}:{number}: {' / '.join(typed)}", asked(session, typed), wanted)
                 typed, wanted = [], []
             if is_typed:

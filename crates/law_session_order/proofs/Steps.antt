@@ -9,6 +9,7 @@ use Rattle.tw_ports.specs.Files.{Held}
 use Rattle.tw_server.specs.State.{State, state_at}
 use Rattle.tw_server.specs.Machine.{Turn, Run, Opening, with_setting}
 use Rattle.tw_server.specs.Outcome.{with_words}
+use Rattle.tw_server.specs.Phases.{Phase, a_command}
 use Rattle.law_session_order.specs.Laws.{StepKeepsOrder, RunIsInOrder, RunReadsBack}
 use Rattle.law_session_order.specs.Order.{IsViewInOrder, ReadsItselfBack}
 use Rattle.tw_server.proofs.Steps.{IsKept, loads_keeps, step_keeps as every_step_keeps, words_keeps}
@@ -34,17 +35,17 @@ opening_keeps held [] v [] w h s = (tt, subst (λ (u : State). IsViewInOrder u.v
 opening_keeps held [] v (t ∷ ts) w h s = absurd h
 opening_keeps held (name ∷ names) v [] w h s = absurd h
 opening_keeps held (name ∷ names) v (t ∷ ts) w h s =
-    let k = loads_keeps IsViewInOrder order_kept held name v t.after t.reply h.1 s in
-    let r = opening_keeps held names t.after ts w h.2 k in ((k, r.0), r.1)
+    let k = loads_keeps IsViewInOrder order_kept held name v t.after t.reply h.2 s in
+    let r = opening_keeps held names t.after ts w h.3 k in ((k, r.0), r.1)
 
-run_keeps : (held : Option Held) (v : State) (ts : List Turn) (w : State) → Run held v ts w → IsViewInOrder v.view → AllInOrder ts
-run_keeps held v [] w h s = tt
-run_keeps held v (t ∷ ts) w h s = let k = step_keeps held true v t.after t.took t.reply h.0 s in (k, run_keeps held t.after ts w h.1 k)
+run_keeps : (held : Option Held) (p : Phase) (v : State) (ts : List Turn) (q : Phase) (w : State) → Run held p v ts q w → IsViewInOrder v.view → AllInOrder ts
+run_keeps held p v [] q w h s = tt
+run_keeps held p v (t ∷ ts) q w h s = let k = step_keeps held true p t.next v t.after t.took t.reply h.0 s in (k, run_keeps held t.next t.after ts q w h.1 k)
 
 pub run_in_order : RunIsInOrder
 run_in_order held words left status n taken gained w (steps, files, good, ran) =
     let s = words_keeps IsViewInOrder order_kept steps (state_at empty_view n) new_in_order.0 in
-    let o = opening_keeps held files (with_words steps (state_at empty_view n)) ran.opened ran.begun ran.opening s in (o.0, run_keeps held ran.begun ran.turns ran.mid ran.run o.1)
+    let o = opening_keeps held files (with_words steps (state_at empty_view n)) ran.opened ran.begun ran.opening s in (o.0, run_keeps held a_command ran.begun ran.turns ran.phase ran.mid ran.run o.1)
 
 each_turn : (P Q : View → Type 0) → ((v : View) → P v → Q v) → (ts : List Turn) → AllByRecursion (λ t. P t.after.view) ts → AllByRecursion (λ t. Q t.after.view) ts
 each_turn P Q f [] h = tt

@@ -24,6 +24,7 @@ use Rattle.tw_ports.specs.Files.{Held}
 use Rattle.tw_server.specs.Loading.{first_lines}
 use Rattle.tw_server.specs.Machine.{Step}
 use Rattle.tw_server.specs.Outcome.{RanTo}
+use Rattle.tw_server.specs.Phases.{Phase}
 use Rattle.tw_server.specs.State.{State, state_at}
 use Rattle.tw_server.specs.declared.status.Status.{Status}
 use Rattle.law_session_order.specs.Words.{AreSpelled}
@@ -71,7 +72,7 @@ AcceptingFromKeepsOrder = (v w : View) (text : List ℕ) (report : Reported) (fr
 
 -- and so does a step of the program, whatever its command is
 abbrev pub StepKeepsOrder : Type 0
-StepKeepsOrder = (held : Option Held) (whole : Bool) (v w : State) (took reply : List ℕ) → Step held whole v took reply w → IsViewInOrder v.view → IsViewInOrder w.view
+StepKeepsOrder = (held : Option Held) (whole : Bool) (phase next : Phase) (v w : State) (took reply : List ℕ) → Step held whole phase v took reply next w → IsViewInOrder v.view → IsViewInOrder w.view
 
 -- so in a run that begins with a new session each session is in order: after each file of the words, and after each command
 abbrev pub RunIsInOrder : Type 0

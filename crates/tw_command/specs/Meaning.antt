@@ -25,6 +25,7 @@ pub data Meaning : Type 0 where
   show_entry : List ℕ → Meaning
   show_signature : Meaning
   show_subordination : Meaning
+  top : Meaning
   reset : Meaning
   set : Setting → Meaning
   get : Parameter → Meaning
@@ -42,6 +43,7 @@ alone =
     (codes "readDecl", read_declaration)
     ∷ (codes "Print.sgn", show_signature)
     ∷ (codes "Print.subord", show_subordination)
+    ∷ (codes "top", top)
     ∷ (codes "reset", reset)
     ∷ (codes "version", version)
     ∷ (codes "quit", quit)
@@ -110,6 +112,7 @@ command_means (commands.LoadFile name) = load_file name
 command_means (commands.Decl name) = show_entry name
 command_means commands.PrintSgn = show_signature
 command_means commands.PrintSubord = show_subordination
+command_means commands.Top = top
 command_means commands.Reset = reset
 command_means (commands.Set setting) = set setting
 command_means (commands.Get parameter) = get parameter

@@ -37,6 +37,8 @@ pub enum Command {
     PrintSgn,
     /// `Print.subord`: for each family those below it are printed.
     PrintSubord,
+    /// `top`: queries are read from the lines that follow, and answered one by one.
+    Top,
     /// `reset`: all declarations are forgotten.
     Reset,
     /// `set p v`: the parameter gets the value.

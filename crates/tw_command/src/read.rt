@@ -66,6 +66,8 @@ fn command_alone(word: &str) -> Result<Command, CommandFault>
         Ok(Command::PrintSgn)
     } else if word == "Print.subord" {
         Ok(Command::PrintSubord)
+    } else if word == "top" {
+        Ok(Command::Top)
     } else if word == "reset" {
         Ok(Command::Reset)
     } else if word == "version" {

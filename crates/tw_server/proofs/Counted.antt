@@ -1,5 +1,5 @@
 -- Counts of faults over several calls.
-use Rattle.std.proofs.Common.{◌≡◌, ℕ, true, refl, sym, ap, ◌∙◌, subst, Ok, Err, None, Some}
+use Rattle.std.proofs.Common.{◌≡◌, ℕ, refl, subst, None, Some}
 use Rattle.std.specs.declared.result.Result.{Result}
 use Rattle.std.specs.declared.option.Option.{Option}
 use Rattle.tw_ports.specs.Files.{Held, HoldsOn}

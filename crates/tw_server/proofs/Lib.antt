@@ -8,4 +8,6 @@ pub mod Steps
 pub mod Sound
 pub mod Readings
 pub mod Turned
+pub mod Played
+pub mod Rounded
 pub mod Served

@@ -1,5 +1,5 @@
 -- How the lines of a file, and the reply to it, are put together of what is written for it.
-use Rattle.std.proofs.Common.{◌≡◌, ℕ, ◌+◌, ◌<◌, ◌≤◌, List, [], ◌∷◌, ◌++◌, length, refl, sym, ap, ◌∙◌, Bool, true, false, arith, subst, append-nil, append_assoc, None, Some, Ok, Err, inl, inr}
+use Rattle.std.proofs.Common.{◌≡◌, ℕ, ◌≤◌, List, [], ◌++◌, length, refl, sym, ap, ◌∙◌, Bool, true, false, arith, subst, append-nil, append_assoc, None, Some, Ok, Err, inl, inr}
 use Rattle.std.specs.declared.option.Option.{Option}
 use Rattle.std.specs.declared.result.Result.{Result}
 use Rattle.tw_decl.specs.Declaration.{AcceptsFrom, Comes, HasCauseFrom, HasNoMore}
@@ -15,9 +15,9 @@ use Rattle.tw_lexer.specs.Places.{place_of}
 use Rattle.tw_lexer.specs.declared.place.Place.{Place}
 use Rattle.tw_ports.specs.Files.{Held, HoldsOn, Tells, Within, FileCounts}
 use Rattle.tw_ports.specs.Ports.{Gains}
-use Rattle.tw_ports.proofs.Gained.{Gains-nil, Gains-same, Gains-trans}
+use Rattle.tw_ports.proofs.Gained.{Gains-same, Gains-trans}
 use Rattle.tw_ports.specs.declared.files.FileAnswer.{FileAnswer}
-use Rattle.tw_server.specs.Loading.{AnswersFile, Declares, no_more, one_more, Opens, LoadsAlone}
+use Rattle.tw_server.specs.Loading.{AnswersFile, Declares, no_more, one_more}
 use Rattle.tw_server.specs.Limits.{text_limit}
 use Rattle.tw_server.specs.Loaded.{HasLines, IsLoaded, IsOpened, IsRefusedWith, LoadedSoFar}
 use Rattle.tw_server.specs.Replies.{last_line, no_memory, opening, closing}

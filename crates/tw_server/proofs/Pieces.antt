@@ -1,5 +1,5 @@
 -- What is written and read in pieces.
-use Rattle.std.proofs.Common.{◌≡◌, ◌≢◌, ℕ, ◌+◌, ◌-◌, ◌<◌, ◌≤◌, List, [], ◌∷◌, ◌++◌, length, take, drop, refl, sym, ap, ◌∙◌, arith, length-drop, length-take, take-add, take_all, subst, None, Some}
+use Rattle.std.proofs.Common.{◌≡◌, ◌≢◌, ℕ, ◌+◌, ◌-◌, ◌<◌, ◌≤◌, List, [], ◌∷◌, ◌++◌, length, take, drop, refl, sym, ap, ◌∙◌, arith, length-drop, length-take, take-add, take_all, subst}
 use Rattle.std.specs.declared.option.Option.{Option}
 use Rattle.std.proofs.Common.{append_assoc, Bool, Ok, Err}
 use Rattle.std.specs.declared.result.Result.{Result}

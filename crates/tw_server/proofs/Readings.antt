@@ -1,9 +1,8 @@
 -- How an input is divided.
-use Rattle.std.proofs.Common.{◌≡◌, ◌≢◌, ℕ, ◌+◌, ◌-◌, ◌<◌, ◌≤◌, ◌^◌, List, [], ◌∷◌, ◌++◌, length, refl, sym, ap, ap₂, ◌∙◌, arith, subst, append-nil, append_assoc, length-append, Bool, true, false, inl, inr, None, Some}
+use Rattle.std.proofs.Common.{◌≡◌, ◌≢◌, ℕ, ◌-◌, ◌<◌, ◌≤◌, ◌^◌, List, [], ◌∷◌, ◌++◌, length, refl, sym, ap, ap₂, ◌∙◌, arith, subst, append-nil, append_assoc, length-append, Bool, true, false, inl, inr, None, Some}
 use Rattle.std.specs.Prelude.{◌⊎◌, nat_lt}
 use Rattle.std.specs.declared.option.Option.{Option}
 use Rattle.std.specs.Io.KnownBytes.{Consumes}
-use Rattle.tw_lexer.specs.Cut.{cut_after, is_done}
 use Rattle.tw_lexer.specs.declared.cut.Cut.TheVariants.{Plain}
 use Rattle.tw_lexer.proofs.Cuts.{is_done-append}
 use Rattle.tw_server.specs.Lines.{ending, IsLine, IsText, IsOpen, HasNoFeed, is_over}
@@ -13,8 +12,9 @@ use Rattle.tw_command.specs.Meaning.{read_declaration}
 use Rattle.tw_words.specs.Words.{AreBad}
 use Rattle.tw_words.proofs.Uniqueness.{bad_words_say_nothing}
 use Rattle.tw_ports.specs.Files.{Held}
-use Rattle.tw_server.specs.Machine.{Behind, Takes, Step}
-use Rattle.tw_server.specs.Outcome.{Serves, Outcome, Ran, AreGoodWords, with_words}
+use Rattle.tw_server.specs.Machine.{Behind, Takes}
+use Rattle.tw_server.specs.Phases.{a_choice, a_command, a_query}
+use Rattle.tw_server.specs.Outcome.{Outcome, Ran, AreGoodWords, with_words}
 use Rattle.tw_ports.specs.Ports.{count_after}
 use Rattle.tw_server.specs.Counts.{StatusCounts}
 use Rattle.tw_server.specs.Laws.{FaultlessIsDone, OneReading, ShortIsNotLong}
@@ -148,13 +148,26 @@ spelled {text = text} {said = said} t =
       subst (λ b. Behind said b true text) e t.behind,
     )
 
-pub one_reading : OneReading
-one_reading held held' v v' w w' took took' more more' reply reply' s t e =
-    let p = spelled s.takes in
-    let q = spelled t.takes in
-    let whole : s.takes.body ++ 10 ∷ (s.text ++ more) ≡ t.takes.body ++ 10 ∷ (t.text ++ more') =
-    sym (append_assoc s.takes.body (10 ∷ s.text) more) ∙ ap (λ (l : List ℕ). l ++ more) (sym p.0) ∙ e ∙ ap (λ (l : List ℕ). l ++ more') q.0 ∙ append_assoc t.takes.body (10 ∷ t.text) more' in
-    let r = same_line s.takes.body t.takes.body (s.text ++ more) (t.text ++ more') s.takes.first.plain t.takes.first.plain whole in
-    let said : t.said ≡ s.said = t.takes.says ∙ ap said_of (sym r.0) ∙ sym s.takes.says in
-    let rest = same_rest s.said s.text t.text more more' p.1 (subst (λ x. Behind x true true t.text) said q.1) r.1 in
+same_command : (took took' more more' text text' : List ℕ) (said said' : Said) → Takes true took said text → Takes true took' said' text' → took ++ more ≡ took' ++ more' → took ≡ took'
+same_command took took' more more' text text' said said' s t e =
+    let p = spelled s in
+    let q = spelled t in
+    let whole : s.body ++ 10 ∷ (text ++ more) ≡ t.body ++ 10 ∷ (text' ++ more') =
+    sym (append_assoc s.body (10 ∷ text) more) ∙ ap (λ (l : List ℕ). l ++ more) (sym p.0) ∙ e ∙ ap (λ (l : List ℕ). l ++ more') q.0 ∙ append_assoc t.body (10 ∷ text') more' in
+    let r = same_line s.body t.body (text ++ more) (text' ++ more') s.first.plain t.first.plain whole in
+    let one : said' ≡ said = t.says ∙ ap said_of (sym r.0) ∙ sym s.says in
+    let rest = same_rest said text text' more more' p.1 (subst (λ x. Behind x true true text') one q.1) r.1 in
     p.0 ∙ ap₂ (λ (a b : List ℕ). a ++ 10 ∷ b) r.0 rest ∙ sym q.0
+
+-- two lines at the front of one input
+same_choice : (took took' more more' body body' : List ℕ) → IsLine true took body → IsLine true took' body' → took ++ more ≡ took' ++ more' → took ≡ took'
+same_choice took took' more more' body body' s t e =
+    let whole : body ++ 10 ∷ more ≡ body' ++ 10 ∷ more' =
+    sym (append_assoc body (10 ∷ []) more) ∙ ap (λ (l : List ℕ). l ++ more) (sym s.spelled) ∙ e ∙ ap (λ (l : List ℕ). l ++ more') t.spelled ∙ append_assoc body' (10 ∷ []) more' in
+    let r = same_line body body' more more' s.plain t.plain whole in
+    s.spelled ∙ ap (λ (l : List ℕ). l ++ 10 ∷ []) r.0 ∙ sym t.spelled
+
+pub one_reading : OneReading
+one_reading held held' a_command next next' v v' w w' took took' more more' reply reply' s t e = same_command took took' more more' s.text t.text s.said t.said s.takes t.takes e
+one_reading held held' a_query next next' v v' w w' took took' more more' reply reply' s t e = same_text took took' more more' s.takes t.takes e
+one_reading held held' (a_choice waiting) next next' v v' w w' took took' more more' reply reply' s t e = same_choice took took' more more' s.body t.body s.takes t.takes e

@@ -1,24 +1,21 @@
 -- Laws of what is looked at.
-use Rattle.std.proofs.Common.{◌≡◌, ◌≢◌, ℕ, ◌+◌, ◌<◌, ◌≤◌, ◌^◌, List, [], ◌∷◌, ◌++◌, length, refl, sym, ap, ◌∙◌, arith, subst, None, Some, append-nil, append_assoc, length-append, Bool, true, false}
+use Rattle.std.proofs.Common.{◌≡◌, ◌≢◌, ℕ, ◌<◌, ◌≤◌, List, [], ◌∷◌, ◌++◌, length, refl, sym, ap, ◌∙◌, arith, subst, None, Some, append-nil, append_assoc, length-append, Bool, true, false}
 use Rattle.std.specs.declared.option.Option.{Option}
-use Rattle.std.specs.Prelude.{◌||◌, ◌==◌, nat_lt}
+use Rattle.std.specs.Prelude.{nat_lt}
 use Rattle.std.specs.Bool.{MatchBool}
-use Rattle.std.specs.List.{AllByRecursion}
-use Rattle.std.specs.Io.KnownBytes.{Consumes, prepend_known}
 use Rattle.std.proofs.KnownBytes.{Consumes-nil, Consumes-trans}
 use borrow.Author.Tests.{ltb-true, ltb-false}
 use Rattle.tw_lexer.specs.Cut.{cut_after, is_done, open_count}
 use Rattle.tw_lexer.specs.declared.cut.Cut.{Cut}
-use Rattle.tw_lexer.specs.declared.cut.Cut.TheVariants.{Plain, Done}
+use Rattle.tw_lexer.specs.declared.cut.Cut.TheVariants.{Plain}
 use Rattle.tw_lexer.proofs.Cuts.{cut_after-append, cut_after-open, feed_not_done}
 use Rattle.tw_server.specs.Lines.{HasNoFeed, IsOpen, is_over}
-use Rattle.tw_server.specs.Feed.{Pending, Sees, GivesByte, Stopped}
-use Rattle.tw_server.specs.declared.feed.Stop.{Stop}
+use Rattle.tw_server.specs.Feed.{Pending, Sees}
 use Rattle.tw_server.specs.declared.text.Lost.TheVariants as losts
 use Rattle.std.specs.Prelude.{◌⊎◌}
-use Rattle.std.proofs.Common.{inl, inr, Ok, Err}
+use Rattle.std.proofs.Common.{inl, inr}
 use Rattle.tw_server.specs.declared.text.Lost.{Lost}
-use Rattle.tw_server.specs.Gather.{IsKept, IsPushed, IsGathered, LineSoFar, TextSoFar, ReadsText}
+use Rattle.tw_server.specs.Gather.{IsKept, IsPushed, IsGathered, TextSoFar}
 
 pub Sees-nil : (a : Pending) (left : Option (List ℕ)) → Sees a left a left []
 Sees-nil a left = record { first = Consumes-nil _; counted = omega arith }

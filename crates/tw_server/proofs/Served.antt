@@ -1,18 +1,18 @@
 -- How a run is put together of its turns.
-use Rattle.std.proofs.Common.{◌≡◌, ℕ, zero, suc, ◌+◌, ◌<◌, ◌≤◌, ◌^◌, List, [], ◌∷◌, ◌++◌, length, take, drop, get_or, take-append-drop, take_all, refl, sym, ap, ◌∙◌, arith, subst, append-nil, append_assoc, length-append, Bool, true, false, inl, inr, Ok, Err, None, Some, map}
+use Rattle.std.proofs.Common.{◌≡◌, ℕ, zero, suc, ◌+◌, ◌<◌, ◌≤◌, List, [], ◌∷◌, ◌++◌, length, take, drop, get_or, take-append-drop, take_all, refl, sym, ap, ◌∙◌, arith, subst, append-nil, append_assoc, true, inl, inr, Ok, Err, None, Some, map}
 use Rattle.std.proofs.lemmas.List.{length-map}
 use Rattle.std.specs.List.{flat_map, AllByRecursion}
 use Rattle.std.specs.declared.option.Option.{Option}
 use Rattle.std.specs.declared.result.Result.{Result}
-use Rattle.std.specs.Io.KnownBytes.{Consumes, IsAtEnd, prepend_known}
+use Rattle.std.specs.Io.KnownBytes.{Consumes, prepend_known}
 use Rattle.std.proofs.KnownBytes.{Consumes-nil}
-use Rattle.tw_ports.specs.Files.{Held, HoldsOn}
+use Rattle.tw_ports.specs.Files.{Held}
 use Rattle.tw_ports.specs.Ports.{Gains}
 use Rattle.tw_ports.proofs.Gained.{Gains-nil, Gains-trans, Gains-same}
 use Rattle.tw_words.specs.Words.{Answers, AreWords, AreBad}
 use Rattle.tw_words.specs.declared.words.WordsFault.{WordsFault}
 use Rattle.tw_words.specs.declared.words.WordsFault.TheVariants.{Bad}
-use Rattle.tw_server.specs.Written.{GainsFront, GainsReply}
+use Rattle.tw_server.specs.Written.{GainsFront}
 use Rattle.tw_server.specs.State.{State}
 use Rattle.tw_server.specs.Feed.{Pending, Sees}
 use Rattle.tw_server.specs.Replies.{banner, usage}
@@ -23,42 +23,50 @@ use Rattle.tw_server.specs.Outcome.{Ends, AreGoodWords, IsCut, IsCutOpening, Ran
 use Rattle.tw_server.specs.Turns.{Commanded, IsCutAt, Moves, OpenedSoFar, RanSoFar, TurnOf}
 use Rattle.tw_server.specs.declared.status.Status.{Status}
 use Rattle.tw_server.specs.declared.status.Status.TheVariants.{Done, BadWords, ReadFault, WriteFault, NoMemory, InputLong}
-use Rattle.tw_server.proofs.Sound.{step_sound, loads_sound, words_sound}
+use Rattle.tw_server.specs.Phases.{Phase, a_command}
+use Rattle.tw_server.specs.Playing.{IsPhase}
+use Rattle.tw_server.specs.declared.phase.Phase.{Phase as Kept}
+use Rattle.tw_server.specs.declared.phase.Phase.TheVariants as kept
+use Rattle.tw_server.proofs.Sound.{step_sound, last_sound, loads_sound, replies_sound, words_sound}
 use Rattle.tw_server.proofs.Seen.{Sees-nil, Sees-trans, Sees-same}
 
 -- a run goes on by a step
-run_more : (held : Option Held) (v : State) (ts : List Turn) (u : State) (t : Turn) → Run held v ts u → Step held true u t.took t.reply t.after → Run held v (ts ++ t ∷ []) t.after
-run_more held v [] u t r s = (subst (λ x. Step held true x t.took t.reply t.after) r s, refl)
-run_more held v (x ∷ xs) u t r s = (r.0, run_more held x.after xs u t r.1 s)
+run_more : (held : Option Held) (p : Phase) (v : State) (ts : List Turn) (q : Phase) (u : State) (t : Turn) → Run held p v ts q u → Step held true q u t.took t.reply t.next t.after → Run held p v (ts ++ t ∷ []) t.next t.after
+run_more held p v [] q u t r s = (subst (λ x. Step held true x v t.took t.reply t.next t.after) r.0 (subst (λ x. Step held true q x t.took t.reply t.next t.after) r.1 s), (refl, refl))
+run_more held p v (x ∷ xs) q u t r s = (r.0, run_more held x.next x.after xs q u t r.1 s)
 
 -- and the files that are loaded by one
-opening_more : (held : Option Held) (names : List (List ℕ)) (v : State) (ts : List Turn) (u : State) (name : List ℕ) (t : Turn) → Opening held names v ts u → t.took ≡ [] → Loads held name u t.reply t.after → Opening held (names ++ name ∷ []) v (ts ++ t ∷ []) t.after
-opening_more held [] v [] u name t o e l = (e, subst (λ x. Loads held name x t.reply t.after) o l, refl)
-opening_more held [] v (x ∷ xs) u name t o e l = absurd o
-opening_more held (n ∷ ns) v [] u name t o e l = absurd o
-opening_more held (n ∷ ns) v (x ∷ xs) u name t o e l = (o.0, o.1, opening_more held ns x.after xs u name t o.2 e l)
+opening_more : (held : Option Held) (names : List (List ℕ)) (v : State) (ts : List Turn) (u : State) (name : List ℕ) (t : Turn) → Opening held names v ts u → t.took ≡ [] → t.next ≡ a_command → Loads held name u t.reply t.after → Opening held (names ++ name ∷ []) v (ts ++ t ∷ []) t.after
+opening_more held [] v [] u name t o e n l = (e, n, subst (λ x. Loads held name x t.reply t.after) o l, refl)
+opening_more held [] v (x ∷ xs) u name t o e n l = absurd o
+opening_more held (f ∷ fs) v [] u name t o e n l = absurd o
+opening_more held (f ∷ fs) v (x ∷ xs) u name t o e n l = (o.0, o.1, o.2, opening_more held fs x.after xs u name t o.3 e n l)
 
 flat_more : (f : Turn → List ℕ) (ts : List Turn) (t : Turn) → flat_map f (ts ++ t ∷ []) ≡ flat_map f ts ++ f t
 flat_more f [] t = append-nil (f t)
 flat_more f (x ∷ xs) t = ap (λ (l : List ℕ). f x ++ l) (flat_more f xs t) ∙ sym (append_assoc (f x) (flat_map f xs) (f t))
 
 -- before the first turn
-pub so_far_nil : (held : Option Held) (left written : Option (List ℕ)) (v : State) (feed : Pending) → feed ≡ record { held = []; seen = 0 } → RanSoFar held left left written written v feed v
-so_far_nil held left written v feed e = record {
+pub so_far_nil : (held : Option Held) (left written : Option (List ℕ)) (v : State) (feed : Pending) (k : Kept) → feed ≡ record { held = []; seen = 0 } → k ≡ kept.Command → RanSoFar held left left written written v feed k v
+so_far_nil held left written v feed k e c = record {
   turns = [];
-  run = refl;
+  next = a_command;
+  is_next = subst (λ (x : Kept). IsPhase v.view.signature x a_command) (sym c) tt;
+  run = (refl, refl);
   sees = subst (λ (f : Pending). Sees (record { held = []; seen = 0 }) left f left []) (sym e) (Sees-nil _ left);
   gains = Gains-nil written;
 }
 
 -- after one turn more
-pub so_far_more : {held : Option Held} {left lb lc written wb wc : Option (List ℕ)} {v u w : State} {b c : Pending} (done : Unit {0}) → RanSoFar held left lb written wb v b u
-    → Moves b lb c lc wb wc (λ took last. TurnOf held lc c (Ok done) u took last w) → RanSoFar held left lc written wc v c w
-so_far_more {held = held} {written = written} {wb = wb} {wc = wc} {v = v} {u = u} {w = w} done i m =
-    let t : Turn = record { took = m.took; reply = m.last; after = w } in
+pub so_far_more : {held : Option Held} {left lb lc written wb wc : Option (List ℕ)} {v u w : State} {b c : Pending} {k : Kept} (n : Kept) (i : RanSoFar held left lb written wb v b k u)
+    → Moves b lb c lc wb wc (λ took last. TurnOf held lc c (Ok n) i.next u took last w) → RanSoFar held left lc written wc v c n w
+so_far_more {held = held} {written = written} {wb = wb} {wc = wc} {v = v} {u = u} {w = w} n i m =
+    let t : Turn = record { took = m.took; reply = m.last; next = m.outcome.0; after = w } in
     record {
       turns = i.turns ++ t ∷ [];
-      run = run_more held v i.turns u t i.run m.outcome.0;
+      next = m.outcome.0;
+      is_next = m.outcome.1;
+      run = run_more held a_command v i.turns i.next u t i.run m.outcome.2;
       sees = Sees-same (Sees-trans i.sees m.sees) (sym (flat_more (λ x. x.took) i.turns t));
       gains = Gains-same written wc _ _ (sym (flat_more (λ x. x.reply) i.turns t)) (Gains-trans written wb wc _ _ i.gains m.gains);
     }
@@ -70,31 +78,32 @@ taken_all (Some xs) None held bytes h = absurd h
 taken_all (Some xs) (Some ys) held bytes h = h ∙ sym (append_assoc bytes held ys)
 
 -- the last turn ends the run
-pub commanded : {held : Option Held} {left lb lc written wb wc : Option (List ℕ)} {v u w : State} {b c : Pending} (status : Status) → RanSoFar held left lb written wb v b u
-    → Moves b lb c lc wb wc (λ took last. TurnOf held lc c (Err status) u took last w) → Commanded held left lc written wc v status w
+pub commanded : {held : Option Held} {left lb lc written wb wc : Option (List ℕ)} {v u w : State} {b c : Pending} {k : Kept} (status : Status) (i : RanSoFar held left lb written wb v b k u)
+    → Moves b lb c lc wb wc (λ took last. TurnOf held lc c (Err status) i.next u took last w) → Commanded held left lc written wc v status w
 commanded {held = held} {left = left} {lc = lc} {written = written} {wb = wb} {wc = wc} {u = u} {w = w} {c = c} status i m =
     let front = flat_map (λ x. x.took) i.turns in
     let s = Sees-trans i.sees m.sees in
     let looked : c.seen ≡ length (front ++ m.took) = omega (arith, s.counted) in
     record {
       turns = i.turns;
+      phase = i.next;
       mid = u;
       tail = m.took;
       last = m.last;
       ahead = c.held;
       run = i.run;
-      ends = subst (λ (n : ℕ). Ends held lc status u m.took m.last w c.held n) looked m.outcome;
+      ends = subst (λ (n : ℕ). Ends held lc status i.next u m.took m.last w c.held n) looked m.outcome;
       consumed = taken_all left lc c.held (front ++ m.took) s.first;
       gains = Gains-trans written wb wc _ _ i.gains m.gains;
       within = let k = m.within in omega (arith, s.counted);
     }
 
 -- the steps of a run keep the signature canonical
-run_sound : (held : Option Held) (v : State) (ts : List Turn) (u : State) → Run held v ts u → IsSound v.view → AllByRecursion (λ t. IsSound t.after.view) ts × IsSound u.view
-run_sound held v [] u r s = (tt, subst (λ (x : State). IsSound x.view) (sym r) s)
-run_sound held v (t ∷ ts) u r s =
-    let k = step_sound held true v t.after t.took t.reply r.0 s in
-    let rest = run_sound held t.after ts u r.1 k in
+run_sound : (held : Option Held) (p : Phase) (v : State) (ts : List Turn) (q : Phase) (u : State) → Run held p v ts q u → IsSound v.view → AllByRecursion (λ t. IsSound t.after.view) ts × IsSound u.view
+run_sound held p v [] q u r s = (tt, subst (λ (x : State). IsSound x.view) (sym r.1) s)
+run_sound held p v (t ∷ ts) q u r s =
+    let k = step_sound held true p t.next v t.after t.took t.reply r.0 s in
+    let rest = run_sound held t.next t.after ts q u r.1 k in
     ((k, rest.0), rest.1)
 
 -- and so do the files that are loaded
@@ -103,28 +112,28 @@ opening_sound held [] v [] u o s = (tt, subst (λ (x : State). IsSound x.view) (
 opening_sound held [] v (t ∷ ts) u o s = absurd o
 opening_sound held (name ∷ names) v [] u o s = absurd o
 opening_sound held (name ∷ names) v (t ∷ ts) u o s =
-    let k = loads_sound held name v t.after t.reply o.1 s in
-    let rest = opening_sound held names t.after ts u o.2 k in
+    let k = loads_sound held name v t.after t.reply o.2 s in
+    let rest = opening_sound held names t.after ts u o.3 k in
     ((k, rest.0), rest.1)
 
 -- and so does the end of a run
-ends_sound : (held : Option Held) (left : Option (List ℕ)) (status : Status) (v w : State) (tail last ahead : List ℕ) (looked : ℕ) → Ends held left status v tail last w ahead looked → IsSound v.view → IsSound w.view
-ends_sound held left Done v w tail last ahead looked (inl quit) s = subst (λ (x : State). IsSound x.view) (sym quit.2) s
-ends_sound held left Done v w tail last ahead looked (inr step) s = step_sound held false v w tail last step.0 s
-ends_sound held left ReadFault v w tail last ahead looked h s = subst (λ (x : State). IsSound x.view) (sym h.0.same) s
-ends_sound held left InputLong v w tail last ahead looked h s = subst (λ (x : State). IsSound x.view) (sym h.0.same) s
-ends_sound held left WriteFault v w tail last ahead looked h s = step_sound held h.whole v w tail h.reply h.step s
-ends_sound held left NoMemory v w tail last ahead looked h s = absurd h
-ends_sound held left BadWords v w tail last ahead looked h s = absurd h
+ends_sound : (held : Option Held) (left : Option (List ℕ)) (status : Status) (phase : Phase) (v w : State) (tail last ahead : List ℕ) (looked : ℕ) → Ends held left status phase v tail last w ahead looked → IsSound v.view → IsSound w.view
+ends_sound held left Done phase v w tail last ahead looked (inl quit) s = subst (λ (x : State). IsSound x.view) (sym quit.3) s
+ends_sound held left Done phase v w tail last ahead looked (inr step) s = last_sound held phase v w tail last step.0 s
+ends_sound held left ReadFault phase v w tail last ahead looked h s = subst (λ (x : State). IsSound x.view) (sym h.0.same) s
+ends_sound held left InputLong phase v w tail last ahead looked h s = subst (λ (x : State). IsSound x.view) (sym h.0.same) s
+ends_sound held left WriteFault phase v w tail last ahead looked h s = replies_sound held h.whole phase v w tail h.reply h.step s
+ends_sound held left NoMemory phase v w tail last ahead looked h s = absurd h
+ends_sound held left BadWords phase v w tail last ahead looked h s = absurd h
 
-outcome_of : (held : Option Held) (words : List (List ℕ)) (left : Option (List ℕ)) (status : Status) (v u w : State) (taken gained tail last ahead : List ℕ) (looked : ℕ) → Ends held left status u tail last w ahead looked
+outcome_of : (held : Option Held) (words : List (List ℕ)) (left : Option (List ℕ)) (status : Status) (phase : Phase) (v u w : State) (taken gained tail last ahead : List ℕ) (looked : ℕ) → Ends held left status phase u tail last w ahead looked
     → RanTo held words left status v taken gained w → Outcome held words left status v taken gained w
-outcome_of held words left Done v u w taken gained tail last ahead looked e r = r
-outcome_of held words left ReadFault v u w taken gained tail last ahead looked e r = r
-outcome_of held words left InputLong v u w taken gained tail last ahead looked e r = r
-outcome_of held words left WriteFault v u w taken gained tail last ahead looked e r = inr (inr (inr r))
-outcome_of held words left NoMemory v u w taken gained tail last ahead looked e r = absurd e
-outcome_of held words left BadWords v u w taken gained tail last ahead looked e r = absurd e
+outcome_of held words left Done phase v u w taken gained tail last ahead looked e r = r
+outcome_of held words left ReadFault phase v u w taken gained tail last ahead looked e r = r
+outcome_of held words left InputLong phase v u w taken gained tail last ahead looked e r = r
+outcome_of held words left WriteFault phase v u w taken gained tail last ahead looked e r = inr (inr (inr r))
+outcome_of held words left NoMemory phase v u w taken gained tail last ahead looked e r = absurd e
+outcome_of held words left BadWords phase v u w taken gained tail last ahead looked e r = absurd e
 
 -- no file was loaded yet
 pub opened_nil : (held : Option Held) (v : State) (written : Option (List ℕ)) → OpenedSoFar held [] v written written v
@@ -133,10 +142,10 @@ opened_nil held v written = record { turns = []; opening = refl; gains = Gains-n
 -- one file more was loaded
 pub opened_next : (E : Type 0) (held : Option Held) (names : List (List ℕ)) (name : List ℕ) (v u w : State) (a b c : Option (List ℕ)) (done : Unit {0}) → OpenedSoFar held names v a b u → IsLoaded {E = E} held name u b c w (Ok done) → OpenedSoFar held (names ++ name ∷ []) v a c w
 opened_next E held names name v u w a b c done so l =
-    let t : Turn = record { took = []; reply = l.0; after = w } in
+    let t : Turn = record { took = []; reply = l.0; next = a_command; after = w } in
     record {
       turns = so.turns ++ t ∷ [];
-      opening = opening_more held names v so.turns u name t so.opening refl (inr l.1);
+      opening = opening_more held names v so.turns u name t so.opening refl refl (inr l.1);
       gains = Gains-same a c _ _ (sym (flat_more (λ x. x.reply) so.turns t)) (Gains-trans a b c _ _ so.gains l.2);
     }
 
@@ -187,13 +196,14 @@ pub ran : {left left' a b c d : Option (List ℕ)} (held : Option Held) (words f
     → Commanded held left left' c d u status w → Serves held words left left' a d v status w
 ran {left = left} {left' = left'} {a = a} {b = b} {c = c} {d = d} held words files steps v u w status good sound g so m =
     let opened = opening_sound held files (with_words steps v) so.turns u so.opening (words_sound steps v sound) in
-    let kept = run_sound held u m.turns m.mid m.run opened.1 in
+    let steps_sound = run_sound held a_command u m.turns m.phase m.mid m.run opened.1 in
     let took = flat_map (λ x. x.took) m.turns ++ m.tail in
     let gained = ((banner ++ flat_map (λ x. x.reply) so.turns) ++ flat_map (λ x. x.reply) m.turns) ++ m.last in
     let r : Ran held files left' status (with_words steps v) (took ++ m.ahead) gained w = record {
       opened = so.turns;
       begun = u;
       turns = m.turns;
+      phase = m.phase;
       mid = m.mid;
       tail = m.tail;
       last = m.last;
@@ -205,16 +215,16 @@ ran {left = left} {left' = left'} {a = a} {b = b} {c = c} {d = d} held words fil
       wrote = refl;
       within = m.within;
       sound_opened = opened.0;
-      sound = kept.0;
+      sound = steps_sound.0;
     } in
     record {
       taken = took ++ m.ahead;
       gained = gained;
       consumed = m.consumed;
       gains = Gains-same a d _ _ (sym (append_assoc (banner ++ flat_map (λ x. x.reply) so.turns) (flat_map (λ x. x.reply) m.turns) m.last)) (Gains-trans a c d _ _ (Gains-trans a b c _ _ g so.gains) m.gains);
-      outcome = outcome_of held words left' status v m.mid w _ _ m.tail m.last m.ahead (length took) m.ends (steps, files, good, r);
+      outcome = outcome_of held words left' status m.phase v m.mid w _ _ m.tail m.last m.ahead (length took) m.ends (steps, files, good, r);
       sound_before = sound;
-      sound_after = ends_sound held left' status m.mid w m.tail m.last m.ahead (length took) m.ends kept.1;
+      sound_after = ends_sound held left' status m.phase m.mid w m.tail m.last m.ahead (length took) m.ends steps_sound.1;
     }
 
 -- a part that is not all

@@ -1,5 +1,5 @@
 -- Each step keeps the signature canonical.
-use Rattle.std.proofs.Common.{List, None, Some, ℕ}
+use Rattle.std.proofs.Common.{Bool, List, ℕ}
 use Rattle.std.specs.declared.option.Option.{Option}
 use Rattle.tw_command.specs.declared.command.Setting.{Setting}
 use Rattle.tw_command.specs.declared.command.Setting.TheVariants as settings
@@ -7,10 +7,11 @@ use Rattle.tw_decl.specs.View.{View, IsSound}
 use Rattle.tw_decl.proofs.Sound.{accepted_sound, accepted_from_sound}
 use Rattle.tw_ports.specs.Files.{Held}
 use Rattle.tw_server.specs.State.{State}
-use Rattle.tw_server.specs.Machine.{Loads, with_setting}
-use Rattle.tw_server.specs.Outcome.{with_words}
+use Rattle.tw_server.specs.Machine.{LastStep, Loads, with_setting}
+use Rattle.tw_server.specs.Outcome.{Replies, with_words}
+use Rattle.tw_server.specs.Phases.{Phase}
 use Rattle.tw_server.specs.Laws.{StepKeepsSound}
-use Rattle.tw_server.proofs.Steps.{IsKept, loads_keeps, step_keeps, words_keeps}
+use Rattle.tw_server.proofs.Steps.{IsKept, last_keeps, loads_keeps, replies_keeps, step_keeps, words_keeps}
 
 setting_sound : (v : View) (setting : Setting) → IsSound v → IsSound (with_setting v setting)
 setting_sound v (settings.Chatter n) s = s
@@ -28,3 +29,9 @@ words_sound = words_keeps IsSound sound_kept
 
 pub step_sound : StepKeepsSound
 step_sound = step_keeps IsSound sound_kept
+
+pub last_sound : (held : Option Held) (phase : Phase) (v w : State) (took reply : List ℕ) → LastStep held phase v took reply w → IsSound v.view → IsSound w.view
+last_sound = last_keeps IsSound sound_kept
+
+pub replies_sound : (held : Option Held) (whole : Bool) (phase : Phase) (v w : State) (took reply : List ℕ) → Replies held whole phase v took reply w → IsSound v.view → IsSound w.view
+replies_sound = replies_keeps IsSound sound_kept

@@ -1,7 +1,7 @@
 -- What accepting a declaration, setting a parameter and starting anew keep of a session, each step of the program keeps.
-use Rattle.std.proofs.Common.{◌≡◌, ℕ, List, Bool, sym, subst, inl, inr, None, Some}
+use Rattle.std.proofs.Common.{◌≡◌, ℕ, List, Bool, true, false, sym, ap, subst, inl, inr, None, Some}
 use Rattle.std.specs.declared.option.Option.{Option}
-use Rattle.tw_command.specs.Meaning.{Meaning, blank, unknown, bad_parameter, read_declaration, load_file, show_entry, show_signature, show_subordination, reset, set, get, version, quit}
+use Rattle.tw_command.specs.Meaning.{Meaning, blank, unknown, bad_parameter, read_declaration, load_file, show_entry, show_signature, show_subordination, reset, set, get, top, version, quit}
 use Rattle.tw_command.specs.declared.command.Setting.{Setting}
 use Rattle.tw_command.specs.declared.command.Setting.TheVariants as settings
 use Rattle.tw_decl.specs.Declaration.{Accepts, AcceptsFrom}
@@ -13,8 +13,9 @@ use Rattle.tw_ports.specs.declared.files.FileAnswer.TheVariants.{Found, Absent, 
 use Rattle.tw_server.specs.State.{State}
 use Rattle.tw_server.specs.Words.{Said, too_long, meant}
 use Rattle.tw_server.specs.Loading.{AnswersFile, Declares, no_more, one_more, ShowsEntry, ShowsSignature}
-use Rattle.tw_server.specs.Machine.{Answers, AnswersMeaning, Loads, RepliesTo, Step, with_setting}
-use Rattle.tw_server.specs.Outcome.{with_words}
+use Rattle.tw_server.specs.Machine.{Answers, AnswersMeaning, LastStep, Loads, RepliesTo, Step, with_setting}
+use Rattle.tw_server.specs.Outcome.{Replies, with_words}
+use Rattle.tw_server.specs.Phases.{Phase, a_choice, a_command, a_query}
 use Rattle.tw_server.specs.Subordination.{ShowsSubordination}
 
 -- a property of sessions that accepting, setting and starting anew keep
@@ -75,6 +76,7 @@ module _ (P : View → Type 0) (kept : IsKept P) where
   meaning_keeps v w (show_entry name) reply h s = entry_keeps v w name reply h s
   meaning_keeps v w show_signature reply h s = signature_keeps v w reply h s
   meaning_keeps v w show_subordination reply h s = subordination_keeps v w reply h s
+  meaning_keeps v w top reply h s = same_keeps v w h.1 s
   meaning_keeps v w reset reply h s = subst P (sym h.1) (kept.starting v s)
   meaning_keeps v w (set setting) reply h s = subst P (sym h.1) (kept.setting v setting s)
   meaning_keeps v w (get parameter) reply h s = same_keeps v w h.1 s
@@ -87,5 +89,14 @@ module _ (P : View → Type 0) (kept : IsKept P) where
   answer_keeps held v w (meant (load_file name)) text reply h s = loads_keeps held name v w reply h s
   answer_keeps held v w (meant meaning) text reply h s = meaning_keeps v.view w.view meaning reply h.0 s
 
-  pub step_keeps : (held : Option Held) (whole : Bool) (v w : State) (took reply : List ℕ) → Step held whole v took reply w → P v.view → P w.view
-  step_keeps held whole v w took reply step s = answer_keeps held v w step.said step.text reply step.answers s
+  pub step_keeps : (held : Option Held) (whole : Bool) (phase next : Phase) (v w : State) (took reply : List ℕ) → Step held whole phase v took reply next w → P v.view → P w.view
+  step_keeps held whole a_command next v w took reply step s = answer_keeps held v w step.said step.text reply step.answers s
+  step_keeps held whole a_query next v w took reply step s = same_keeps v.view w.view (ap (λ (u : State). u.view) step.same) s
+  step_keeps held whole (a_choice waiting) next v w took reply step s = same_keeps v.view w.view (ap (λ (u : State). u.view) step.same) s
+
+  pub last_keeps : (held : Option Held) (phase : Phase) (v w : State) (took reply : List ℕ) → LastStep held phase v took reply w → P v.view → P w.view
+  last_keeps held phase v w took reply last s = step_keeps held false phase last.next v w took last.said last.step s
+
+  pub replies_keeps : (held : Option Held) (whole : Bool) (phase : Phase) (v w : State) (took reply : List ℕ) → Replies held whole phase v took reply w → P v.view → P w.view
+  replies_keeps held true phase v w took reply h s = step_keeps held true phase h.0 v w took reply h.1 s
+  replies_keeps held false phase v w took reply h s = last_keeps held phase v w took reply h s

@@ -6,6 +6,7 @@ use Rattle.tw_server.specs.State.{State}
 use Rattle.tw_ports.specs.Files.{Held}
 use Rattle.tw_server.specs.Counts.{StatusCounts}
 use Rattle.tw_server.specs.Machine.{Step}
+use Rattle.tw_server.specs.Phases.{Phase}
 use Rattle.tw_server.specs.Outcome.{Serves, AreGoodWords}
 use Rattle.tw_server.specs.declared.status.Status.{Status}
 use Rattle.tw_server.specs.declared.status.Status.TheVariants.{Done, NoMemory, InputLong}
@@ -22,11 +23,11 @@ FaultlessIsDone = (held : Option Held) (words : List (List ℕ)) (input : List �
     → AreGoodWords words → length input ≤ input_limit → read_faults < 2 ^ 64 - 1 → write_faults < 2 ^ 64 - 1 → StatusCounts read_faults read_faults write_faults write_faults status
     → Serves held words (Some input) left' written written' v status w → (status ≡ Done) ⊎ (status ≡ NoMemory)
 
--- two commands on whole lines at the front of one input take the same bytes
+-- two steps on whole lines at the front of one input, where the same is read next, take the same bytes
 abbrev pub OneReading : Type 0
-OneReading = (held held' : Option Held) (v v' w w' : State) (took took' more more' reply reply' : List ℕ)
-    → Step held true v took reply w → Step held' true v' took' reply' w' → took ++ more ≡ took' ++ more' → took ≡ took'
+OneReading = (held held' : Option Held) (phase next next' : Phase) (v v' w w' : State) (took took' more more' reply reply' : List ℕ)
+    → Step held true phase v took reply next w → Step held' true phase v' took' reply' next' w' → took ++ more ≡ took' ++ more' → took ≡ took'
 
 -- a step keeps the signature canonical
 abbrev pub StepKeepsSound : Type 0
-StepKeepsSound = (held : Option Held) (whole : Bool) (v w : State) (took reply : List ℕ) → Step held whole v took reply w → IsSound v.view → IsSound w.view
+StepKeepsSound = (held : Option Held) (whole : Bool) (phase next : Phase) (v w : State) (took reply : List ℕ) → Step held whole phase v took reply next w → IsSound v.view → IsSound w.view

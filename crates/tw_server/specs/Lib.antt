@@ -5,6 +5,7 @@ pub mod State
 pub mod Replies
 pub mod Loading
 pub mod Subordination
+pub mod Phases
 pub mod Machine
 pub mod Outcome
 pub mod Laws
@@ -15,4 +16,5 @@ pub mod Gather
 pub mod Written
 pub mod Saying
 pub mod Loaded
+pub mod Playing
 pub mod Turns

@@ -1,5 +1,5 @@
 -- What the commands that load files and show declarations reply.
-use Rattle.std.specs.Prelude.{◌≡◌, ◌⊎◌, ℕ, zero, suc, ◌+◌, ◌≤◌, ◌<◌, List, [], ◌∷◌, ◌++◌, length, codes, Bool, true, false, None, Some}
+use Rattle.std.specs.Prelude.{◌≡◌, ◌⊎◌, ℕ, zero, suc, ◌≤◌, List, [], ◌++◌, length, codes, Bool, true, false, None, Some}
 use Rattle.std.specs.declared.option.Option.{Option}
 use Rattle.tw_decl.specs.Declaration.{AcceptsFrom, HasCauseFrom, HasNoMore}
 use Rattle.tw_decl.specs.Refusals.{refusal_line}

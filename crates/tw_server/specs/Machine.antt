@@ -1,7 +1,7 @@
 -- The machine of commands: what a command may reply, and the state after it, by the lines that are read for it.
 use Rattle.std.specs.Prelude.{◌≡◌, ◌⊎◌, ℕ, ◌≤◌, ◌<◌, List, [], ◌∷◌, ◌++◌, length, Bool, true, false, codes}
 use Rattle.tw_server.specs.Lines.{IsLine, IsText}
-use Rattle.tw_command.specs.Meaning.{Meaning, blank, unknown, bad_parameter, read_declaration, load_file, show_entry, show_signature, show_subordination, reset, set, get, version, quit}
+use Rattle.tw_command.specs.Meaning.{Meaning, blank, unknown, bad_parameter, read_declaration, load_file, show_entry, show_signature, show_subordination, reset, set, get, top, version, quit}
 use Rattle.tw_command.specs.declared.command.Setting.{Setting}
 use Rattle.tw_command.specs.declared.command.Setting.TheVariants as settings
 use Rattle.tw_ports.specs.Files.{Held}
@@ -15,6 +15,7 @@ use Rattle.tw_server.specs.State.{State}
 use Rattle.tw_decl.specs.Declaration.{Accepts, Refuses}
 use Rattle.tw_decl.specs.Reports.{Reported}
 use Rattle.tw_server.specs.Limits.{text_limit}
+use Rattle.tw_server.specs.Phases.{AnswersChoice, AnswersQuestion, Phase, Waiting, a_choice, a_command, a_query, choice_of, last_reply}
 
 -- The text behind a command's line, where the line ended with its line feed or not. There is none where the input ends with that line.
 abbrev pub TextAfter : Bool → Bool → List ℕ → Type 0
@@ -77,6 +78,7 @@ AnswersMeaning v (load_file name) reply w = ⊥
 AnswersMeaning v (show_entry name) reply w = ShowsEntry v name reply w
 AnswersMeaning v show_signature reply w = ShowsSignature v reply w
 AnswersMeaning v show_subordination reply w = ShowsSubordination v reply w
+AnswersMeaning v top reply w = (reply ≡ []) × (w ≡ v)
 AnswersMeaning v reset reply w = (reply ≡ accepted) × (w ≡ reset_view v)
 AnswersMeaning v (set setting) reply w = (reply ≡ accepted) × (w ≡ with_setting v setting)
 AnswersMeaning v (get parameter) reply w = (reply ≡ (value_of v parameter ++ codes "\n") ++ accepted) × (w ≡ v)
@@ -94,27 +96,61 @@ Answers held v (meant read_declaration) text reply w = RepliesTo v.view text rep
 Answers held v (meant (load_file name)) text reply w = Loads held name v reply w
 Answers held v (meant meaning) text reply w = AnswersMeaning v.view meaning reply w.view × (w.faults ≡ v.faults)
 
--- One step: from v, the command on these bytes may give this reply and lead to w. `held` is what the files held at first, where they told it.
-pub record Step (held : Option Held) (whole : Bool) (v : State) (took reply : List ℕ) (w : State) : Type 0 where
+-- what is read behind a command: the text of a query behind `top`, and a command behind any other
+abbrev pub phase_behind : Said → Phase
+phase_behind (meant top) = a_query
+phase_behind said = a_command
+
+-- A command: from v, the command on these bytes may give this reply and lead to w. `held` is what the files held at first, where they told it.
+pub record CommandStep (held : Option Held) (whole : Bool) (v : State) (took reply : List ℕ) (next : Phase) (w : State) : Type 0 where
   pub said : Said
   pub text : List ℕ
   pub takes : Takes whole took said text
   pub answers : Answers held v said text reply w
+  pub then_reads : next ≡ phase_behind said
+
+-- a query of the loop of answers: its text; nothing of the session changes
+pub record QueryStep (whole : Bool) (v : State) (took reply : List ℕ) (next : Phase) (w : State) : Type 0 where
+  pub takes : IsText whole took
+  pub answers : AnswersQuestion v.view took reply next
+  pub same : w ≡ v
+
+-- a line behind `More?`
+pub record ChoiceStep (whole : Bool) (waiting : Waiting) (v : State) (took reply : List ℕ) (next : Phase) (w : State) : Type 0 where
+  pub body : List ℕ
+  pub takes : IsLine whole took body
+  pub answers : AnswersChoice v.view waiting (choice_of body) reply next
+  pub same : w ≡ v
+
+-- One step, by what is read next: the bytes that it took, its reply, and what is read and known then. Behind `top` and `plus X Y (s z).`, which gives `solution 1`, `X = z`, `Y = s z` and
+-- `More?`, the line `y` gives the second solution, and `n` drops the search.
+abbrev pub Step : Option Held → Bool → Phase → State → List ℕ → List ℕ → Phase → State → Type 0
+Step held whole a_command v took reply next w = CommandStep held whole v took reply next w
+Step held whole a_query v took reply next w = QueryStep whole v took reply next w
+Step held whole (a_choice waiting) v took reply next w = ChoiceStep whole waiting v took reply next w
+
+-- the last step: where the end of the input cuts it short, the loop of answers ends behind it
+pub record LastStep (held : Option Held) (phase : Phase) (v : State) (took reply : List ℕ) (w : State) : Type 0 where
+  pub said : List ℕ
+  pub next : Phase
+  pub step : Step held false phase v took said next w
+  pub says : reply ≡ said ++ last_reply next
 
 -- a step that was made
 pub record Turn : Type 0 where
   pub took : List ℕ
   pub reply : List ℕ
+  pub next : Phase
   pub after : State
 
 -- a run: each step on whole lines, from where the last one led
-abbrev pub Run : Option Held → State → List Turn → State → Type 0
-Run held v [] w = w ≡ v
-Run held v (t ∷ ts) w = Step held true v t.took t.reply t.after × Run held t.after ts w
+abbrev pub Run : Option Held → Phase → State → List Turn → Phase → State → Type 0
+Run held p v [] q w = (q ≡ p) × (w ≡ v)
+Run held p v (t ∷ ts) q w = Step held true p v t.took t.reply t.next t.after × Run held t.next t.after ts q w
 
 -- the files of the program's words are loaded one behind the other, as by a command for each, with no bytes of the input; a refused one keeps none from being loaded
 abbrev pub Opening : Option Held → List (List ℕ) → State → List Turn → State → Type 0
 Opening held [] v [] w = w ≡ v
 Opening held [] v (t ∷ ts) w = ⊥
 Opening held (name ∷ names) v [] w = ⊥
-Opening held (name ∷ names) v (t ∷ ts) w = (t.took ≡ []) × Loads held name v t.reply t.after × Opening held names t.after ts w
+Opening held (name ∷ names) v (t ∷ ts) w = (t.took ≡ []) × (t.next ≡ a_command) × Loads held name v t.reply t.after × Opening held names t.after ts w

@@ -10,9 +10,10 @@ use Rattle.tw_ports.specs.Files.{Held}
 use Rattle.tw_words.specs.Words.{AreWords, AreBad}
 use Rattle.tw_server.specs.Words.{meant, said_of}
 use Rattle.tw_server.specs.Replies.{banner, usage}
-use Rattle.tw_decl.specs.View.{View, IsSound, with_steps}
+use Rattle.tw_decl.specs.View.{IsSound, with_steps}
 use Rattle.tw_server.specs.State.{State, state_at}
-use Rattle.tw_server.specs.Machine.{Step, Turn, Run, Loads, Opening}
+use Rattle.tw_server.specs.Machine.{LastStep, Step, Turn, Run, Loads, Opening}
+use Rattle.tw_server.specs.Phases.{Phase, a_choice, a_command, a_query}
 use Rattle.tw_server.specs.declared.status.Status.{Status}
 use Rattle.tw_server.specs.declared.status.Status.TheVariants.{Done, BadWords, ReadFault, WriteFault, NoMemory, InputLong}
 use Rattle.tw_server.specs.Limits.{input_limit}
@@ -42,49 +43,57 @@ pub record IsQuit (left : Option (List ℕ)) (ahead bytes : List ℕ) : Type 0 w
   pub says : said_of body ≡ meant quit
   pub at_end : whole ≡ false → HasEnded left ahead
 
--- no command is whole in these bytes: a line without its line feed, or the begin of a declaration
-abbrev pub IsUnfinished : List ℕ → Type 0
-IsUnfinished bytes = HasNoFeed bytes
+-- No step is whole in these bytes: a line without its line feed, or the begin of a declaration or of a query.
+abbrev pub IsUnfinished : Phase → List ℕ → Type 0
+IsUnfinished a_command bytes = HasNoFeed bytes
     ⊎ ((line body text rest : List ℕ) × (bytes ≡ line ++ text) × IsLine true line body × (said_of body ≡ meant read_declaration) × IsOpen text rest)
+IsUnfinished a_query bytes = (rest : List ℕ) × IsOpen bytes rest
+IsUnfinished (a_choice waiting) bytes = HasNoFeed bytes
 
--- what came of the bytes after the last whole command, where they break off: nothing
-pub record BreaksOff (v : State) (tail last : List ℕ) (w : State) : Type 0 where
-  pub unfinished : IsUnfinished tail
+-- what came of the bytes after the last whole step, where they break off: nothing
+pub record BreaksOff (phase : Phase) (v : State) (tail last : List ℕ) (w : State) : Type 0 where
+  pub unfinished : IsUnfinished phase tail
   pub silent : last ≡ []
   pub same : w ≡ v
 
+-- a step on whole lines, or the last one
+abbrev pub Replies : Option Held → Bool → Phase → State → List ℕ → List ℕ → State → Type 0
+Replies held true phase v took reply w = (next : Phase) × Step held true phase v took reply next w
+Replies held false phase v took reply w = LastStep held phase v took reply w
+
 -- The step was made, and its reply written in part. Where the lines of a file are being written, it is a step that wanted memory behind the declarations that were made: what was written is the first part of its reply. A body that takes a declaration back where its report can't be written passes too, as a step that wanted memory.
-pub record IsCutShort (held : Option Held) (left : Option (List ℕ)) (v : State) (tail last : List ℕ) (w : State) (ahead : List ℕ) : Type 0 where
+pub record IsCutShort (held : Option Held) (left : Option (List ℕ)) (phase : Phase) (v : State) (tail last : List ℕ) (w : State) (ahead : List ℕ) : Type 0 where
   pub whole : Bool
   pub reply : List ℕ
-  pub step : Step held whole v tail reply w
+  pub step : Replies held whole phase v tail reply w
   pub cut : IsCut last reply
   pub at_end : whole ≡ false → HasEnded left ahead
 
 -- How a run ends, after its last whole step. The tail is what was looked at then, last what was written for it; ahead was read from the source and not looked at; so many bytes were looked at in all.
-abbrev pub Ends : Option Held → Option (List ℕ) → Status → State → List ℕ → List ℕ → State → List ℕ → ℕ → Type 0
--- `quit`, or the end of the input, with the command that it cuts short
-Ends held left Done v tail last w ahead looked =
-    (IsQuit left ahead tail × (last ≡ []) × (w ≡ v)) ⊎ (Step held false v tail last w × HasEnded left ahead)
+abbrev pub Ends : Option Held → Option (List ℕ) → Status → Phase → State → List ℕ → List ℕ → State → List ℕ → ℕ → Type 0
+-- `quit` where a command is read, or the end of the input, with the step that it cuts short
+Ends held left Done phase v tail last w ahead looked =
+    ((phase ≡ a_command) × IsQuit left ahead tail × (last ≡ []) × (w ≡ v)) ⊎ (LastStep held phase v tail last w × HasEnded left ahead)
 -- all that was read is whole steps and less than one more
-Ends held left ReadFault v tail last w ahead looked = BreaksOff v tail last w × (ahead ≡ [])
-Ends held left InputLong v tail last w ahead looked = BreaksOff v tail last w × (ahead ≢ []) × (looked ≡ input_limit)
-Ends held left WriteFault v tail last w ahead looked = IsCutShort held left v tail last w ahead
-Ends held left NoMemory v tail last w ahead looked = ⊥
-Ends held left BadWords v tail last w ahead looked = ⊥
+Ends held left ReadFault phase v tail last w ahead looked = BreaksOff phase v tail last w × (ahead ≡ [])
+Ends held left InputLong phase v tail last w ahead looked = BreaksOff phase v tail last w × (ahead ≢ []) × (looked ≡ input_limit)
+Ends held left WriteFault phase v tail last w ahead looked = IsCutShort held left phase v tail last w ahead
+Ends held left NoMemory phase v tail last w ahead looked = ⊥
+Ends held left BadWords phase v tail last w ahead looked = ⊥
 
 -- A run of the session from v to w: it took these bytes from the source, and gained is its transcript. The files of the words come first.
 pub record Ran (held : Option Held) (files : List (List ℕ)) (left : Option (List ℕ)) (status : Status) (v : State) (taken gained : List ℕ) (w : State) : Type 0 where
   pub opened : List Turn
   pub begun : State
   pub turns : List Turn
+  pub phase : Phase
   pub mid : State
   pub tail : List ℕ
   pub last : List ℕ
   pub ahead : List ℕ
   pub opening : Opening held files v opened begun
-  pub run : Run held begun turns mid
-  pub ends : Ends held left status mid tail last w ahead (length (flat_map (λ t. t.took) turns ++ tail))
+  pub run : Run held a_command begun turns phase mid
+  pub ends : Ends held left status phase mid tail last w ahead (length (flat_map (λ t. t.took) turns ++ tail))
   pub read : taken ≡ (flat_map (λ t. t.took) turns ++ tail) ++ ahead
   pub wrote : gained ≡ ((banner ++ flat_map (λ t. t.reply) opened) ++ flat_map (λ t. t.reply) turns) ++ last
   pub within : length (flat_map (λ t. t.took) turns ++ tail) ≤ input_limit

@@ -75,3 +75,6 @@ reply_bytes replies.TextLong = codes "C4 TextLong\n" ++ refused
 reply_bytes replies.LongLine = codes "C5 LongLine\n" ++ refused
 reply_bytes replies.Done = accepted
 reply_bytes replies.Version = version_line ++ accepted
+reply_bytes (replies.Lines lines) = lines.items
+reply_bytes replies.MemoryAlone = no_memory
+reply_bytes replies.TextLongAlone = codes "C4 TextLong\n"

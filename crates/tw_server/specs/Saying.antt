@@ -4,7 +4,7 @@ use Rattle.tw_command.specs.Meaning.{Meaning, blank, unknown, bad_parameter, com
 use Rattle.tw_server.specs.Words as words
 use Rattle.tw_server.specs.declared.command.Said.{Said}
 use Rattle.tw_command.specs.declared.command.Command.{Command as Heard}
-use Rattle.tw_command.specs.declared.command.Command.TheVariants.{ReadDecl, Quit}
+use Rattle.tw_command.specs.declared.command.Command.TheVariants.{ReadDecl, Top, Quit}
 use Rattle.tw_server.specs.declared.command.Said.TheVariants.{TooLong, Blank, Unknown, BadParameter, NoMemory, Command}
 
 -- the line says this; where memory is wanting it is a command that has a name
@@ -29,6 +29,11 @@ quits _ = false
 abbrev pub is_quit : Said → Bool
 is_quit (Command c) = quits c
 is_quit _ = false
+
+-- queries follow
+abbrev pub is_top : Said → Bool
+is_top (Command Top) = true
+is_top _ = false
 
 -- a declaration's text follows
 abbrev pub takes_text : Said → Bool

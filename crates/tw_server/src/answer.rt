@@ -58,6 +58,7 @@ fn carry_out<K: Sink, F: Files>(
         Command::Decl(name) => show_name(alloc, session, name, sink),
         Command::PrintSgn => show_signature(alloc, session, sink),
         Command::PrintSubord => show_subordination(alloc, session, sink),
+        Command::Top => write_reply(sink, &Reply::Nothing),
         Command::Reset => {
             session.reset(alloc);
             write_reply(sink, &Reply::Done)

@@ -1,10 +1,12 @@
 //! What a command line says.
 ghost use Rattle.std.specs.Prelude.{◌≡◌, List, ℕ};
 ghost use Rattle.tw_server.specs.Gather.{IsKept};
-ghost use Rattle.tw_server.specs.Words.{said_of};
-ghost use Rattle.tw_server.specs.Saying.{HasText, Says, is_quit, takes_text};
+ghost use Rattle.tw_server.specs.Playing.{IsPhaseBehind};
+ghost use Rattle.tw_server.specs.Words.{Said as SaidLine, said_of};
+ghost use Rattle.tw_server.specs.Saying.{HasText, Says, is_quit, is_top, takes_text};
 
 use crate::line::Line;
+use crate::phase::Phase;
 use std::alloc::Global;
 use tw_command::{Command, CommandFault, read_command};
 
@@ -38,6 +40,24 @@ impl Said {
         ensures { result ≡ takes_text self.now }
     {
         matches!(self, Said::Command(Command::ReadDecl))
+    }
+
+    // Whether queries follow.
+    fn is_top(&self) -> bool
+        ensures { result ≡ is_top self.now }
+    {
+        matches!(self, Said::Command(Command::Top))
+    }
+
+    /// What is read behind the command.
+    pub fn next(&self) -> Phase
+        ensures { (line : SaidLine) → Says line self.now → IsPhaseBehind line result }
+    {
+        if self.is_top() {
+            Phase::Query
+        } else {
+            Phase::Command
+        }
     }
 }
 

@@ -9,6 +9,8 @@ mod laws;
 mod limits;
 mod line;
 mod load;
+mod phase;
+mod query;
 mod reply;
 mod server;
 mod show;

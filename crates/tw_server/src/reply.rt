@@ -35,6 +35,9 @@ pub fn last_line(well: bool) -> &'static [u8]
 /// The line of want of memory.
 pub const MEMORY: &[u8] = b"E0 Memory\n";
 
+/// The line of a text that is too long.
+const LONG: &[u8] = b"C4 TextLong\n";
+
 /// What a command answers.
 #[derive(Drop)]
 pub enum Reply {
@@ -58,6 +61,12 @@ pub enum Reply {
     Done,
     /// The version.
     Version,
+    /// Lines of the loop of answers, behind which no last line comes.
+    Lines(Vec<u8>),
+    /// Memory is wanting in that loop.
+    MemoryAlone,
+    /// The text of a query is too long.
+    TextLongAlone,
 }
 
 /// Writes a reply. It takes no memory.
@@ -76,5 +85,8 @@ pub fn write_reply<K: Sink>(sink: &mut K, reply: &Reply) -> Result<(), Unwritten
         Reply::BadParameter => write_all(sink, BAD_PARAMETER),
         Reply::Done => write_all(sink, OK),
         Reply::Version => write_all(sink, VERSION),
+        Reply::Lines(lines) => write_all(sink, lines),
+        Reply::MemoryAlone => write_all(sink, MEMORY),
+        Reply::TextLongAlone => write_all(sink, LONG),
     }
 }

@@ -7,7 +7,11 @@ ghost use Rattle.tw_decl.specs.View.{View, IsSound};
 ghost use Rattle.tw_server.specs.State.{state_at};
 ghost use Rattle.tw_server.specs.Outcome.{Serves, with_words};
 ghost use Rattle.tw_words.specs.Words.{AreWords};
+ghost use Rattle.tw_server.specs.Phases as phases;
+ghost use Rattle.tw_server.specs.Playing.{HoldsSearch, IsPhase, SaysLast, SaysReply, last_of};
+ghost use Rattle.tw_server.specs.Replies.{reply_bytes};
 ghost use Rattle.tw_server.specs.Turns.{AreOpened, Commanded, DeclTurn, LastTurn, Moves, TurnOf};
+ghost use Rattle.tw_server.specs.Written.{GainsReply};
 ghost use Rattle.tw_server.specs.Gather.{IsKept};
 ghost use Rattle.tw_server.specs.Counts.{CountsWrites, StatusCounts, TurnCounts};
 ghost use Rattle.tw_server.specs.Limits.{input_limit};
@@ -18,6 +22,9 @@ use crate::declaration::answer_text;
 use crate::feed::{Feed, Stop};
 use crate::line::{Line, read_line};
 use crate::load::load_file;
+use crate::phase::{Phase, Waiting};
+use crate::query::{Answered, answer_choice, answer_query};
+use crate::reply::{Reply, write_reply};
 use crate::status::Status;
 use crate::text::{Text, read_text};
 use crate::write::{Unwritten, write_all};
@@ -66,11 +73,11 @@ fn command<S: Source, K: Sink, F: Files>(
     source: &mut S,
     sink: &mut K,
     files: &mut F,
-) -> Result<(), Status>
+) -> Result<Phase, Status>
     requires { feed.old.seen ≤ input_limit }
     ensures moves { (held : Option Held) (bytes body : List ℕ) → HoldsOn held (F.held files.old) → IsLine true bytes body → IsKept line.now body
         → Moves feed.old (S.left source.old) feed.new (S.left source.new) (K.written sink.old) (K.written sink.new)
-        (λ rest last. TurnOf held (S.left source.new) feed.new result (state_at session.old (F.faults files.old)) (bytes ++ rest) last (state_at session.new (F.faults files.new))) }
+        (λ rest last. TurnOf held (S.left source.new) feed.new result phases.a_command (state_at session.old (F.faults files.old)) (bytes ++ rest) last (state_at session.new (F.faults files.new))) }
     ensures counts { TurnCounts (S.faults source.old) (S.faults source.new) (K.faults sink.old) (K.faults sink.new) result }
     ensures files { HoldsOn (F.held files.old) (F.held files.new) }
 {
@@ -79,10 +86,13 @@ fn command<S: Source, K: Sink, F: Files>(
         return Err(Status::Done);
     }
     if said.takes_text() {
-        return declaration(alloc, session, feed, source, sink);
+        return match declaration(alloc, session, feed, source, sink) {
+            Ok(()) => Ok(Phase::Command),
+            Err(status) => Err(status),
+        };
     }
     match answer(alloc, session, &said, sink, files) {
-        Ok(()) => Ok(()),
+        Ok(()) => Ok(said.next()),
         Err(_) => Err(Status::WriteFault),
     }
 }
@@ -104,11 +114,92 @@ fn last_command<K: Sink, F: Files>(
     if said.is_quit() {
         return Ok(());
     }
-    answer(alloc, session, &said, sink, files)
+    if let Err(error) = answer(alloc, session, &said, sink, files) {
+        return Err(error);
+    }
+    write_reply(sink, &said.next().last_reply())
 }
 
-// One turn of the loop.
-fn turn<S: Source, K: Sink, F: Files>(
+// Writes a reply, and gives what is read behind it.
+fn say_reply<K: Sink>(answered: Answered, sink: &mut K) -> Result<Phase, Status>
+    ensures said { SaysReply answered (K.written sink.old) (K.written sink.new) result }
+    ensures counts { (reads : ℕ) → TurnCounts reads reads (K.faults sink.old) (K.faults sink.new) result }
+{
+    match write_reply(sink, &answered.reply) {
+        Ok(()) => Ok(answered.next),
+        Err(_) => Err(Status::WriteFault),
+    }
+}
+
+// Writes a reply, and that of the end of the input.
+fn write_last<K: Sink>(sink: &mut K, reply: &Reply, next: &Phase) -> Result<(), Unwritten>
+    ensures bytes { GainsReply (K.written sink.old) (K.written sink.new) (reply_bytes reply.now ++ last_of next.now) result }
+    ensures counts { CountsWrites (K.faults sink.old) (K.faults sink.new) result }
+{
+    match write_reply(sink, reply) {
+        Ok(()) => write_reply(sink, &next.last_reply()),
+        Err(error) => Err(error),
+    }
+}
+
+// The last reply, at the end of the input.
+fn say_last<K: Sink>(answered: Answered, sink: &mut K) -> Status
+    ensures said { SaysLast answered (K.written sink.old) (K.written sink.new) result }
+    ensures counts { (reads : ℕ) → StatusCounts reads reads (K.faults sink.old) (K.faults sink.new) result }
+{
+    match write_last(sink, &answered.reply, &answered.next) {
+        Ok(()) => Status::Done,
+        Err(_) => Status::WriteFault,
+    }
+}
+
+// One turn of the loop of answers that reads a query.
+fn query_turn<S: Source, K: Sink>(
+    alloc: Global,
+    session: &Session,
+    feed: &mut Feed,
+    source: &mut S,
+    sink: &mut K,
+) -> Result<Phase, Status>
+    ensures moves { (held : Option Held) (n : ℕ) → Moves feed.old (S.left source.old) feed.new (S.left source.new) (K.written sink.old) (K.written sink.new)
+        (λ took last. TurnOf held (S.left source.new) feed.new result phases.a_query (state_at session.now n) took last (state_at session.now n)) }
+    ensures counts { TurnCounts (S.faults source.old) (S.faults source.new) (K.faults sink.old) (K.faults sink.new) result }
+{
+    let mut text = Text::new(alloc);
+    match read_text(feed, &mut text, source) {
+        Ok(()) => say_reply(answer_query(alloc, session, &text), sink),
+        Err(Stop::End) => Err(say_last(answer_query(alloc, session, &text), sink)),
+        Err(Stop::Failed) => Err(Status::ReadFault),
+        Err(Stop::Long) => Err(Status::InputLong),
+    }
+}
+
+// One turn of the loop of answers that reads a line behind `More?`.
+fn choice_turn<S: Source, K: Sink>(
+    alloc: Global,
+    session: &Session,
+    feed: &mut Feed,
+    line: &mut Line,
+    waiting: Waiting,
+    source: &mut S,
+    sink: &mut K,
+) -> Result<Phase, Status>
+    requires { (w : phases.Waiting) × HoldsSearch session.now.signature waiting w }
+    ensures moves { (held : Option Held) (n : ℕ) (w : phases.Waiting) → HoldsSearch session.now.signature waiting w
+        → Moves feed.old (S.left source.old) feed.new (S.left source.new) (K.written sink.old) (K.written sink.new)
+        (λ took last. TurnOf held (S.left source.new) feed.new result (phases.a_choice w) (state_at session.now n) took last (state_at session.now n)) }
+    ensures counts { TurnCounts (S.faults source.old) (S.faults source.new) (K.faults sink.old) (K.faults sink.new) result }
+{
+    match read_line(feed, line, source) {
+        Ok(()) => say_reply(answer_choice(alloc, session, waiting, line.body()), sink),
+        Err(Stop::End) => Err(say_last(answer_choice(alloc, session, waiting, line.body()), sink)),
+        Err(Stop::Failed) => Err(Status::ReadFault),
+        Err(Stop::Long) => Err(Status::InputLong),
+    }
+}
+
+// One turn of the loop that reads a command.
+fn command_turn<S: Source, K: Sink, F: Files>(
     alloc: Global,
     session: &mut Session,
     feed: &mut Feed,
@@ -116,14 +207,12 @@ fn turn<S: Source, K: Sink, F: Files>(
     source: &mut S,
     sink: &mut K,
     files: &mut F,
-) -> Result<(), Status>
+) -> Result<Phase, Status>
     ensures moves { (held : Option Held) → HoldsOn held (F.held files.old)
         → Moves feed.old (S.left source.old) feed.new (S.left source.new) (K.written sink.old) (K.written sink.new)
-        (λ took last. TurnOf held (S.left source.new) feed.new result (state_at session.old (F.faults files.old)) took last (state_at session.new (F.faults files.new))) }
+        (λ took last. TurnOf held (S.left source.new) feed.new result phases.a_command (state_at session.old (F.faults files.old)) took last (state_at session.new (F.faults files.new))) }
     ensures counts { TurnCounts (S.faults source.old) (S.faults source.new) (K.faults sink.old) (K.faults sink.new) result }
     ensures files { HoldsOn (F.held files.old) (F.held files.new) }
-    ensures within { IfOk result (λ _. feed.new.seen ≤ input_limit) }
-    ensures onward { IfOk result (λ _. feed.old.seen < feed.new.seen) }
 {
     match read_line(feed, line, source) {
         Ok(()) => command(alloc, session, feed, line, source, sink, files),
@@ -133,6 +222,31 @@ fn turn<S: Source, K: Sink, F: Files>(
         },
         Err(Stop::Failed) => Err(Status::ReadFault),
         Err(Stop::Long) => Err(Status::InputLong),
+    }
+}
+
+// One turn of the loop, by what it reads.
+fn turn<S: Source, K: Sink, F: Files>(
+    alloc: Global,
+    session: &mut Session,
+    feed: &mut Feed,
+    line: &mut Line,
+    phase: Phase,
+    source: &mut S,
+    sink: &mut K,
+    files: &mut F,
+) -> Result<Phase, Status>
+    requires phase { (p : phases.Phase) × IsPhase session.old.signature phase p }
+    ensures moves { (held : Option Held) (p : phases.Phase) → HoldsOn held (F.held files.old) → IsPhase session.old.signature phase p
+        → Moves feed.old (S.left source.old) feed.new (S.left source.new) (K.written sink.old) (K.written sink.new)
+        (λ took last. TurnOf held (S.left source.new) feed.new result p (state_at session.old (F.faults files.old)) took last (state_at session.new (F.faults files.new))) }
+    ensures counts { TurnCounts (S.faults source.old) (S.faults source.new) (K.faults sink.old) (K.faults sink.new) result }
+    ensures files { HoldsOn (F.held files.old) (F.held files.new) }
+{
+    match phase {
+        Phase::Command => command_turn(alloc, session, feed, line, source, sink, files),
+        Phase::Query => query_turn(alloc, session, feed, source, sink),
+        Phase::Choice(waiting) => choice_turn(alloc, session, feed, line, waiting, source, sink),
     }
 }
 
@@ -153,9 +267,11 @@ fn commands<S: Source, K: Sink, F: Files>(
     ensures counts { StatusCounts (S.faults source.old) (S.faults source.new) (K.faults sink.old) (K.faults sink.new) result }
     ensures files { HoldsOn (F.held files.old) (F.held files.new) }
 {
+    let mut phase = Phase::Command;
     loop {
-        if let Err(status) = turn(alloc, session, feed, line, source, sink, files) {
-            return status;
+        match turn(alloc, session, feed, line, phase, source, sink, files) {
+            Ok(next) => phase = next,
+            Err(status) => return status,
         }
     }
 }

@@ -1,6 +1,7 @@
 //! Showing declarations and parameters.
 ghost use Rattle.std.specs.Prelude.{◌≡◌, ◌<◌, ◌++◌, codes, decimal, length, IfOk};
 ghost use Rattle.tw_decl.specs.View.{scene_of};
+ghost use Rattle.tw_print.specs.ShowEnv.{scene_of as scene_of_env};
 ghost use Rattle.tw_print.specs.Shown.{line_of};
 ghost use Rattle.tw_server.specs.Counts.{CountsWrites};
 ghost use Rattle.tw_server.specs.Loaded.{IsShown, AreShown};
@@ -35,18 +36,24 @@ fn refuse<K: Sink>(sink: &mut K, words: &[u8], name: &[u8]) -> Result<(), Unwrit
     }
 }
 
+/// What texts depend on.
+pub fn environment(session: &Session) -> ShowEnv<'_>
+    ensures { scene_of_env result ≡ scene_of session.now }
+{
+    ShowEnv {
+        sig: session.signature(),
+        fixities: session.fixities(),
+        names: session.names(),
+        implicit: session.parameters().implicit,
+    }
+}
+
 // The line of a declaration.
 fn entry_line(alloc: Global, session: &Session, id: ConstId) -> Result<Vec<u8>, AllocError>
     requires { id.0 < length session.now.signature }
     ensures { IfOk result (λ line. line.items ≡ line_of (scene_of session.now) id.0 ++ codes "\n") }
 {
-    let env = ShowEnv {
-        sig: session.signature(),
-        fixities: session.fixities(),
-        names: session.names(),
-        implicit: session.parameters().implicit,
-    };
-    let mut line = show_decl(alloc, &env, id)?;
+    let mut line = show_decl(alloc, &environment(session), id)?;
     line.push(b'\n')?;
     Ok(line)
 }

@@ -24,7 +24,7 @@ use Rattle.tw_search.specs.declared.step.Step.TheVariants as step
 use Rattle.tw_signature.specs.Goal.{Goal, goal_of}
 use Rattle.tw_terms.specs.View.{term_of}
 use Rattle.tw_top.specs.Lines.{answer_lines, budget_lines, end_line, ended, outside_line}
-use Rattle.tw_top.specs.Rounds.{IsReached, Rounds, Standing, answers, behind, deep, ends, further, leaf_is_deep, leaves_over, next_is_deep, over, paused, root, runs_out}
+use Rattle.tw_top.specs.Rounds.{FindsNoLeaf, FindsLeaf, IsReached, Rounds, Standing, answers, behind, deep, ends, further, leaf_is_deep, leaves_over, next_is_deep, over, paused, root, runs_out}
 use Rattle.tw_top.specs.UnderWay.{Adds, ComesTo, Holds, WentOn, asked}
 use Rattle.tw_top.specs.declared.asking.Asking.{Asking}
 use Rattle.tw_top.specs.declared.pause.Pause.TheVariants as pauses
@@ -96,6 +96,12 @@ module _ (es : List Entry) (ok : IsCanonicalSignature es) (scene : Scene) (a : A
       subst (λ n. SearchesFrom es (root g) (followed s.leaves (l ∷ [])) n after) (omega arith)
       (search_then (signature_of es) (declared_constants es) (reach k (at_node l ∷ after) r) (one_step (signature_of es) (declared_constants es) (take_leaf e)))
 
+  no_leaf : (k : ℕ) (after : List Pending) → SearchesFrom es s.agenda [] k after → FindsNoLeaf es g s k after
+  no_leaf k after r = (r, reach k after r)
+
+  next_leaf : (l : Node) (k : ℕ) (after : List Pending) → SearchesFrom es s.agenda [] k (at_node l ∷ after) → l.goals ≡ [] → FindsLeaf es g s l k after
+  next_leaf l k after r e = (r, e, reach_behind l k after r e)
+
   -- the search stands in such a run
   stands_in : (t : Standing) (ls : List Node) → Stands es g found ls t.agenda → IsReached es g t → tries_of found ≡ t.tries → Stands es g found t.leaves t.agenda
   stands_in t ls w r e = record {
@@ -126,10 +132,10 @@ module _ (es : List Entry) (ok : IsCanonicalSignature es) (scene : Scene) (a : A
 
   -- an answer
   abbrev AtAnswer : Answer → ℕ → List Pending → Type 0
-  AtAnswer x k after = (l : Node) × (l.store.equations ≡ []) × IsReadOffLeaf (signature_of es) g.variables l x.free (values_of x) (term_of x.proof) × IsReached es g (behind s l k after) × (k ≤ b)
+  AtAnswer x k after = (l : Node) × (l.store.equations ≡ []) × IsReadOffLeaf (signature_of es) g.variables l x.free (values_of x) (term_of x.proof) × FindsLeaf es g s l k after × (k ≤ b)
 
   answer_leaf : (x : Answer) (k : ℕ) (after : List Pending) → Comes es depth_limit g.variables s.agenda b (answer x.free (values_of x) (term_of x.proof)) k after → AtAnswer x k after
-  answer_leaf x k after (to_answer {l = l} r w e n d) = (l, n, d, reach_behind l k after r e, w)
+  answer_leaf x k after (to_answer {l = l} r w e n d) = (l, n, d, next_leaf l k after r e, w)
 
   module _ (x : Answer) (w : Called (step.Answer x)) where
     there : AtAnswer x w.tries w.after
@@ -139,14 +145,14 @@ module _ (es : List Entry) (ok : IsCanonicalSignature es) (scene : Scene) (a : A
     is_answer = record {
       none_left = there.1;
       read = there.2;
-      is_answer = leaf_answer es ok g.variables g.goal h.stands.context h.stands.goal (followed s.leaves (there.0 ∷ [])) (s.tries + w.tries) w.after there.3 there.0 (last_member s.leaves there.0) there.1 x.free (values_of x) (term_of x.proof) there.2;
+      is_answer = leaf_answer es ok g.variables g.goal h.stands.context h.stands.goal (followed s.leaves (there.0 ∷ [])) (s.tries + w.tries) w.after there.3.2 there.0 (last_member s.leaves there.0) there.1 x.free (values_of x) (term_of x.proof) there.2;
     }
 
     pub typed : (l : Node) × IsAnswerAt es g l x
     typed = (there.0, is_answer)
 
     pub counts : last < 2 ^ 64 → a.answers + 1 < 2 ^ 64
-    counts m = let c = few there.0 w.tries w.after there.3 in let t = there.4 in let d = budget_is in omega (arith, c, t, d, m)
+    counts m = let c = few there.0 w.tries w.after there.3.2 in let t = there.4 in let d = budget_is in omega (arith, c, t, d, m)
 
     pub at_answer : (new : Asking) → new.goal ≡ a.goal → new.search ≡ found → new.answers ≡ a.answers + 1 → new.left_over ≡ a.left_over → ComesTo es scene g b s new (answer_lines scene g (a.answers + 1) x) pauses.More
     at_answer new same now one left =
@@ -155,7 +161,7 @@ module _ (es : List Entry) (ok : IsCanonicalSignature es) (scene : Scene) (a : A
           paused t,
           subst (λ k. Rounds es scene g b s (answer_lines scene g k x) (paused t)) (sym n) (answers there.0 w.tries w.after x there.3 there.4 is_answer),
           record {
-            stands = holds_there new t same now (stands_in t (followed s.leaves (w.then_stands.0 ∷ [])) w.then_stands.2 there.3 (tries_are (step.Answer x) w));
+            stands = holds_there new t same now (stands_in t (followed s.leaves (w.then_stands.0 ∷ [])) w.then_stands.2 there.3.2 (tries_are (step.Answer x) w));
             tries = ap tries_of now ∙ tries_are (step.Answer x) w;
             answers = one ∙ n ∙ sym (last_answer s.leaves there.0 there.1);
             left_over = ap ended left ∙ h.left_over ∙ sym (same_end s.leaves there.0 there.1);
@@ -166,8 +172,8 @@ module _ (es : List Entry) (ok : IsCanonicalSignature es) (scene : Scene) (a : A
   few_tries_of : (l : Node) (d : Equation) (k : ℕ) (after : List Pending) → Comes es depth_limit g.variables s.agenda b (left_over l d) k after → k ≤ b
   few_tries_of l d k after (to_left_over r f n q) = f
 
-  reached_left : (l : Node) (d : Equation) (k : ℕ) (after : List Pending) → Comes es depth_limit g.variables s.agenda b (left_over l d) k after → IsReached es g (behind s l k after)
-  reached_left l d k after (to_left_over r f n q) = reach_behind l k after r n
+  leaf_left : (l : Node) (d : Equation) (k : ℕ) (after : List Pending) → Comes es depth_limit g.variables s.agenda b (left_over l d) k after → FindsLeaf es g s l k after
+  leaf_left l d k after (to_left_over r f n q) = next_leaf l k after r n
 
   module _ (left : LeftEquation) (w : Called (step.Leftover left)) where
     few_tries : w.tries ≤ b
@@ -202,8 +208,8 @@ module _ (es : List Entry) (ok : IsCanonicalSignature es) (scene : Scene) (a : A
     at_outside new same now count left_so before then e = (outside_line scene left, e, outside_some left, went_on new same now count left_so)
 
   -- the end of the tree
-  ended_at : (k : ℕ) (after : List Pending) → Comes es depth_limit g.variables s.agenda b exhausted k after → IsReached es g (further s k []) × (k ≤ b)
-  ended_at k after (to_end r f) = (reach k [] r, f)
+  ended_at : (k : ℕ) (after : List Pending) → Comes es depth_limit g.variables s.agenda b exhausted k after → FindsNoLeaf es g s k [] × (k ≤ b)
+  ended_at k after (to_end r f) = (no_leaf k [] r, f)
 
   pub at_end : Called step.Exhausted → (n : ℕ) → n ≡ tries_of found → (new : Asking) → ComesTo es scene g b s new (end_line (ended a.left_over) n) pauses.Over
   at_end w n e new =
@@ -214,8 +220,8 @@ module _ (es : List Entry) (ok : IsCanonicalSignature es) (scene : Scene) (a : A
       )
 
   -- the end of the budget
-  out_at : (k : ℕ) (after : List Pending) → Comes es depth_limit g.variables s.agenda b out_of_budget k after → IsReached es g (further s b after) × TryIsDue (signature_of es) after × (k ≡ b)
-  out_at k after (to_budget r d) = (reach b after r, d, refl)
+  out_at : (k : ℕ) (after : List Pending) → Comes es depth_limit g.variables s.agenda b out_of_budget k after → FindsNoLeaf es g s b after × TryIsDue (signature_of es) after × (k ≡ b)
+  out_at k after (to_budget r d) = (no_leaf b after r, d, refl)
 
   pub at_budget : Called step.Budget → (n : ℕ) → n ≡ tries_of found → (new : Asking) → new.goal ≡ a.goal → new.search ≡ found → new.answers ≡ a.answers → new.left_over ≡ a.left_over → ComesTo es scene g b s new (budget_lines n) pauses.More
   at_budget w n e new same now count left =
@@ -225,7 +231,7 @@ module _ (es : List Entry) (ok : IsCanonicalSignature es) (scene : Scene) (a : A
         paused t,
         subst (λ k. Rounds es scene g b s (budget_lines k) (paused t)) (sym (e ∙ all)) (runs_out w.after r.0 r.1),
         record {
-          stands = holds_there new t same now (stands_in t s.leaves w.then_stands r.0 all);
+          stands = holds_there new t same now (stands_in t s.leaves w.then_stands r.0.1 all);
           tries = ap tries_of now ∙ all;
           answers = count ∙ h.answers;
           left_over = ap ended left ∙ h.left_over;
@@ -234,10 +240,10 @@ module _ (es : List Entry) (ok : IsCanonicalSignature es) (scene : Scene) (a : A
 
   -- something deep
   deep_at : (k : ℕ) (after : List Pending) → Comes es depth_limit g.variables s.agenda b too_deep k after → Rounds es scene g b s [] deep
-  deep_at k after (to_deep {left = left} r f d) = next_is_deep k left after (reach k after r) f d
+  deep_at k after (to_deep {left = left} r f d) = next_is_deep k left after (no_leaf k after r) f d
 
   deep_leaf : (l : Node) (d : Equation) (k : ℕ) (after : List Pending) → Comes es depth_limit g.variables s.agenda b (left_over l d) k after → IsDeepAt es g l → Rounds es scene g b s [] deep
-  deep_leaf l d k after c x = leaf_is_deep l k after (reached_left l d k after c) (few_tries_of l d k after c) x
+  deep_leaf l d k after c x = leaf_is_deep l k after (leaf_left l d k after c) (few_tries_of l d k after c) x
 
   deep_so : (w : Called step.TooDeep) → (w.seen ≡ too_deep) ⊎ IsDeepLeaf es g w.seen → Rounds es scene g b s [] deep
   deep_so w (inl e) = deep_at w.tries w.after (comes_so step.TooDeep w too_deep e)

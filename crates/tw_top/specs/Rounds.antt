@@ -40,6 +40,14 @@ behind s l k after = record { leaves = followed s.leaves (l ∷ []); tries = s.t
 abbrev pub IsReached : List Entry → Goal → Standing → Type 0
 IsReached es g s = SearchesFrom es (root g) s.leaves s.tries s.agenda
 
+-- The search goes k tries on from where it stands, and comes to no leaf.
+abbrev pub FindsNoLeaf : List Entry → Goal → Standing → ℕ → List Pending → Type 0
+FindsNoLeaf es g s k after = SearchesFrom es s.agenda [] k after × IsReached es g (further s k after)
+
+-- The next leaf is this one, k tries on from where the search stands; it then stands behind it.
+abbrev pub FindsLeaf : List Entry → Goal → Standing → Node → ℕ → List Pending → Type 0
+FindsLeaf es g s l k after = SearchesFrom es s.agenda [] k (at_node l ∷ after) × (l.goals ≡ []) × IsReached es g (behind s l k after)
+
 -- What a round ends with: a pause, from which the search goes on; the end of the tree; or something that is too deep.
 pub data Ending : Type 0 where
   paused : Standing → Ending
@@ -47,25 +55,26 @@ pub data Ending : Type 0 where
   deep : Ending
 
 -- A round from where the search of the goal stands, with a budget of tries: its lines, and what it ends with. Leaves that are left over are shown on the way. Over z and s the first
--- round of `nat` shows `solution 1`, `Empty Substitution.` and `More?`; so does the second one as `solution 2`.
+-- round of `nat` shows `solution 1`, `Empty Substitution.` and `More?`; so does the second one as `solution 2`. With c : a, l : b <- b and d : a <- b, and 10 tries for a round,
+-- the first one of `a` shows its answer at try 1, the second one `budget tries 11`.
 pub data Rounds (es : List Entry) (scene : Scene) (g : Goal) : ℕ → Standing → List ℕ → Ending → Type 0 where
   answers : {budget : ℕ} {s : Standing} (l : Node) (k : ℕ) (after : List Pending) (a : Answer) →
-      IsReached es g (behind s l k after) → k ≤ budget → IsAnswerAt es g l a →
+      FindsLeaf es g s l k after → k ≤ budget → IsAnswerAt es g l a →
       Rounds es scene g budget s (answer_lines scene g (suc (answers_among s.leaves)) a) (paused (behind s l k after))
   leaves_over : {budget : ℕ} {s : Standing} {lines : List ℕ} {end : Ending} (l : Node) (k : ℕ) (after : List Pending) (left : LeftEquation) →
       IsReached es g (behind s l k after) → k ≤ budget → IsLeftAt es g l left → Rounds es scene g (budget - k) (behind s l k after) lines end →
       Rounds es scene g budget s (outside_line scene left ++ lines) end
   ends : {budget : ℕ} {s : Standing} (k : ℕ) →
-      IsReached es g (further s k []) → k ≤ budget →
+      FindsNoLeaf es g s k [] → k ≤ budget →
       Rounds es scene g budget s (end_line (end_by s.leaves) (s.tries + k)) over
   runs_out : {budget : ℕ} {s : Standing} (after : List Pending) →
-      IsReached es g (further s budget after) → TryIsDue (signature_of es) after →
+      FindsNoLeaf es g s budget after → TryIsDue (signature_of es) after →
       Rounds es scene g budget s (budget_lines (s.tries + budget)) (paused (further s budget after))
   next_is_deep : {budget : ℕ} {s : Standing} (k left : ℕ) (after : List Pending) →
-      IsReached es g (further s k after) → k + left ≡ budget → IsDeepNext depth_limit (signature_of es) g.variables left after →
+      FindsNoLeaf es g s k after → k + left ≡ budget → IsDeepNext depth_limit (signature_of es) g.variables left after →
       Rounds es scene g budget s [] deep
   leaf_is_deep : {budget : ℕ} {s : Standing} (l : Node) (k : ℕ) (after : List Pending) →
-      IsReached es g (behind s l k after) → k ≤ budget → IsDeepAt es g l →
+      FindsLeaf es g s l k after → k ≤ budget → IsDeepAt es g l →
       Rounds es scene g budget s [] deep
 
 -- The budget of a round: as many tries as are allowed, but no more than 2^64 - 1 in all rounds of a search. Each round has a new one.

@@ -28,8 +28,11 @@ returns-in-PrintSubord-clause-reply g c held holds =
     let s = c.show_subordination.ensures.reply in
     carried held _ _ _ commands.PrintSubord _ _ s.0 c.show_subordination.result c.in-PrintSubord.is (s.1, refl) s.2
 
+pub returns-in-Top-clause-reply : goal.returns-in-Top-clause-reply
+returns-in-Top-clause-reply g c held holds = carried held _ _ _ commands.Top _ _ [] c.write_reply.result c.in-Top.is ((refl, refl), refl) c.write_reply.ensures.bytes
+
 pub returns-in-Reset-clause-reply : goal.returns-in-Reset-clause-reply
-returns-in-Reset-clause-reply g c held holds = carried held _ _ _ commands.Reset _ _ accepted c.write_reply.result c.in-Reset.is ((refl, c.reset.ensures), refl) c.write_reply.ensures.bytes
+returns-in-Reset-clause-reply g c held holds = let r = c.write_reply-in-Reset in carried held _ _ _ commands.Reset _ _ accepted r.result c.in-Reset.is ((refl, c.reset.ensures), refl) r.ensures.bytes
 
 pub returns-in-Set-clause-reply : goal.returns-in-Set-clause-reply
 returns-in-Set-clause-reply g c held holds =

@@ -1,4 +1,4 @@
-use Rattle.std.proofs.Common.{refl, rules, ◌≡◌, ℕ, List, [], ◌∷◌, ◌++◌}
+use Rattle.std.proofs.Common.{refl, rules, [], ◌∷◌, ◌++◌}
 use Rattle.tw_server.proofs.Seen.{Sees-trans, NoFeed-more, kept_more}
 use Rattle.tw_server.proofs.line.read_line.Goals as goal
 

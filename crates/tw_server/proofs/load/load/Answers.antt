@@ -1,4 +1,4 @@
-use Rattle.std.proofs.Common.{◌≡◌, ◌≤◌, ◌∙◌, refl, arith, length}
+use Rattle.std.proofs.Common.{◌≡◌, ◌∙◌, refl, arith}
 use Rattle.tw_decl.proofs.Ahead.{accepted_ahead}
 use Rattle.tw_decl.specs.declared.declaration.Next.TheVariants as nexts
 use Rattle.tw_decl.specs.Reports.{reported}

@@ -1,4 +1,3 @@
-use Rattle.std.proofs.Common.{refl}
 use Rattle.tw_server.specs.State.{state_at}
 use Rattle.tw_server.specs.declared.write.Unwritten.{Unwritten}
 use Rattle.tw_server.proofs.Loads.{lines_short, loaded_alone}

@@ -1,4 +1,4 @@
-use Rattle.std.proofs.Common.{◌≡◌, ap, map}
+use Rattle.std.proofs.Common.{ap, map}
 use Rattle.std.specs.Prelude.{string_bytes}
 use Rattle.tw_server.proofs.Counted.{holds_trans}
 use Rattle.tw_server.proofs.Served.{banner_cut, cut_from, files_cut, opened_from, ran}

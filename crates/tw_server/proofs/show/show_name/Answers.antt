@@ -1,8 +1,5 @@
-use Rattle.std.proofs.Common.{◌≡◌, ◌∙◌, ap, sym, subst, List, ℕ, ◌<◌, length, None, Some}
-use Rattle.std.specs.Option.{option_map}
+use Rattle.std.proofs.Common.{◌∙◌, ap, sym, List}
 use Rattle.lf.specs.Entries.{Entry}
-use Rattle.tw_server.specs.Replies.{accepted}
-use Rattle.tw_server.specs.Written.{GainsReply}
 use Rattle.tw_server.proofs.Showing.{number_within, shown_lost, shown_none, shown_some}
 use Rattle.tw_signature.specs.Names.{number_of}
 use Rattle.tw_server.proofs.show.show_name.Goals as goal

@@ -1,4 +1,4 @@
-use Rattle.std.proofs.Common.{◌≡◌, ◌≤◌, refl, ap, sym, ◌∙◌, arith, subst, ℕ, length, true}
+use Rattle.std.proofs.Common.{refl, ap, ◌∙◌, arith, length, true}
 use Rattle.tw_ports.specs.Ports.{count_after}
 use Rattle.tw_ports.proofs.Gained.{Gains-nil}
 use Rattle.tw_server.specs.declared.write.Unwritten.{Unwritten}

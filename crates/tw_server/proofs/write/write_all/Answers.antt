@@ -1,4 +1,4 @@
-use Rattle.std.proofs.Common.{◌≡◌, ◌∙◌, ap, true, ℕ, List, ◌++◌, ◌+◌, ◌≤◌, ◌<◌, ◌-◌, length, take, drop, arith, sym, take-append-drop, append-nil, length-drop, length-take, rules, subst}
+use Rattle.std.proofs.Common.{◌∙◌, ap, true, ◌≤◌, ◌-◌, length, take, drop, arith, sym, take-append-drop, append-nil, length-drop, length-take, subst}
 use Rattle.tw_ports.specs.Ports.{Gains, count_after}
 use Rattle.tw_ports.proofs.Gained.{Gains-trans}
 use Rattle.tw_server.proofs.Pieces.{wrote_more, drop_some}

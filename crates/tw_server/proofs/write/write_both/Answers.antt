@@ -1,4 +1,3 @@
-use Rattle.std.proofs.Common.{◌≡◌}
 use Rattle.tw_server.proofs.Pieces.{front_first, reply_second}
 use Rattle.tw_server.proofs.write.write_both.Goals as goal
 

@@ -1,4 +1,4 @@
-use Rattle.std.proofs.Common.{◌≡◌, ℕ, List, [], ◌<◌, ◌≤◌, ◌^◌, ◌-◌, arith, ap, refl, length, sym, ◌∙◌, subst}
+use Rattle.std.proofs.Common.{◌≤◌, ◌^◌, arith, ap, refl, length, ◌∙◌, subst}
 use Rattle.std.proofs.KnownBytes.{Keeps-refl}
 use Rattle.tw_server.specs.Feed.{Pending}
 use Rattle.tw_server.proofs.Pieces.{length_between}
