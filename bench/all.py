@@ -29,6 +29,7 @@ def built(crate):
 # The name of each bench, the program that has to be built for it, and the command that prints its figures.
 BENCHES = {
     **{name: (built("twelf"), [sys.executable, os.path.join(HERE, f"{name}.py")]) for name in ("serve", "declare", "files", "reconstruct")},
+    "checks": (built("bench_checks"), [sys.executable, os.path.join(HERE, "checks.py")]),
     "unify": (built("bench_unify"), [sys.executable, os.path.join(HERE, "unify.py")]),
     "hered": (built("bench_hered"), [built("bench_hered"), "run"]),
 }

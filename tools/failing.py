@@ -22,7 +22,7 @@ REFUSED = b"E0 Memory\n%% ABORT %%\n"
 # In the loop of answers a search ends so, or the loop at the end of the input.
 LEFT = b"E0 Memory\n%% OK %%\n"
 
-# Declarations with arguments that are left out, a definition that is solved for, one that is refused, questions, and searches, of which the last is the loop's.
+# Declarations with arguments that are left out, a definition that is solved for, one that is refused, questions, checks, and searches, of which the last is the loop's.
 SESSION = [
     b"readDecl\nnat : type.\n",
     b"readDecl\nz : nat.\n",
@@ -38,6 +38,8 @@ SESSION = [
     b"readDecl\nplus : nat -> nat -> nat -> type.\n",
     b"readDecl\nplus-z : plus z Y Y.\n",
     b"readDecl\nplus-s : plus (s X) Y (s Z) <- plus X Y Z.\n",
+    b"readDecl\n%mode plus +X +Y -Z.\n",
+    b"readDecl\n%terminates X (plus X _ _).\n",
     b"readDecl\n%query 2 * plus X Y (s z).\n",
     b"readDecl\n%solve one : plus (s z) z X.\n",
     b"top\nplus (s (s z)) X (s z).\n",

@@ -24,6 +24,7 @@ use Rattle.tw_metas.specs.State.{joined}
 use Rattle.tw_names.specs.Texts.{hints}
 use Rattle.tw_parse.specs.Queries.{Query}
 use Rattle.tw_parse.specs.Syntax.{Declaration, Term, declare, define, prefer, give}
+use Rattle.tw_parse_checks.specs.Checks.{Check, mode_short, mode_full, block, worlds, terminates}
 use Rattle.tw_parse_queries.specs.Searches.{Searches, query, solve}
 use Rattle.tw_recon.specs.Queries.{IsGoalOf}
 use Rattle.tw_search.specs.declared.answer.Answer.{Answer}
@@ -40,8 +41,8 @@ use Rattle.tw_recon.specs.Reconstruction.{IsReconstructed, declared_name}
 use Rattle.tw_recon.proofs.OfRows.{AreOfRows, hints_of_rows}
 use Rattle.tw_signature.specs.Names.{number_of}
 use Rattle.tw_decl.specs.Reading.{Read, plain, check, searching, Reads}
-use Rattle.tw_decl.specs.View.{View, with_mode, with_chatter, with_implicit, with_steps, with_entry, scene_of}
-use Rattle.tw_decl.specs.Declaration.{IsWritten, Enters, is_unnamed, GivesRows, Prefers, Does, ReadDoes, KeepsAnswer}
+use Rattle.tw_decl.specs.View.{View, with_chatter, with_implicit, with_steps, with_entry, scene_of}
+use Rattle.tw_decl.specs.Declaration.{Checks, IsWritten, Enters, is_unnamed, GivesRows, Prefers, Does, ReadDoes, KeepsAnswer}
 use Rattle.tw_decl.specs.Reports.{Reported}
 use Rattle.tw_decl.specs.Operators.{entry_by, newest, explicit_count, operand_count, takes, all_take, with_rows}
 use Rattle.law_reading_back.specs.Names.{IsName, AreGoodHints, PreferNames, HasGoodRows}
@@ -275,6 +276,14 @@ same_parts v u p q r o = record {
   rows = subst (λ t. AreRight u.signature t) (sym q) (subst (λ es. AreRight es v.fixities) (sym p) o.rows);
 }
 
+-- a check leaves entries, operators and preferred names alone
+pub checked_parts : (v w : View) (c : Check) (report : Reported) → Checks v c report w → (w.signature ≡ v.signature) × (w.fixities ≡ v.fixities) × (w.names ≡ v.names)
+checked_parts v w (mode_short a ms) report h = (ap (λ (u : View). u.signature) h.keeps, ap (λ (u : View). u.fixities) h.keeps, ap (λ (u : View). u.names) h.keeps)
+checked_parts v w (mode_full ms a n d) report h = (ap (λ (u : View). u.signature) h.keeps, ap (λ (u : View). u.fixities) h.keeps, ap (λ (u : View). u.names) h.keeps)
+checked_parts v w (terminates O ps) report h = (ap (λ (u : View). u.signature) h.keeps, ap (λ (u : View). u.fixities) h.keeps, ap (λ (u : View). u.names) h.keeps)
+checked_parts v w (block l n d) report h = absurd h
+checked_parts v w (worlds ls ps) report h = absurd h
+
 pub making_keeps : MakingKeepsOrder
 making_keeps v w words report all m o = by_read m.read m.reads m.does
   where
@@ -289,7 +298,7 @@ making_keeps v w words report all m o = by_read m.read m.reads m.does
 
     by_read : (x : Read) → Reads v words x → ReadDoes v x report w → IsViewInOrder w
     by_read (plain d) r h = by_declaration d r.reads h
-    by_read (check c) r h = subst IsViewInOrder (sym h.keeps) (same_parts v (with_mode v h.family h.marks) refl refl refl o)
+    by_read (check c) r h = let p = checked_parts v w c report h in same_parts v w p.0 p.1 p.2 o
     by_read (searching (query e t q)) r h = subst IsViewInOrder (sym h.keeps) o
     by_read (searching (solve c at A)) r h = solved_keeps v w words c at A report all r.reads h o
 

@@ -31,7 +31,7 @@ use Rattle.law_reading_back.proofs.Defined.{definition_back, open_definition_bac
 use Rattle.law_session_order.specs.Laws.{KeptReadsBack, OpenReadsBack, NewReadsBack, Reports, ReportReadsBack, ReportFromReadsBack}
 use Rattle.law_session_order.specs.Words.{AreSpelled}
 use Rattle.law_session_order.specs.Order.{HasOpenLine, HasPlainLine, IsOpen, IsViewInOrder, LineReadsBack, ReadsBody}
-use Rattle.law_session_order.proofs.Keeping.{same_name, newest_below, making_keeps, written_spelled}
+use Rattle.law_session_order.proofs.Keeping.{same_name, newest_below, checked_parts, making_keeps, written_spelled}
 
 -- an entry among others
 pub older_stays : (f : Entry) (es : List Entry) (c : ℕ) (e : Entry) → c < length es → entry es c ≡ Some e → entry (f ∷ es) c ≡ Some e
@@ -189,7 +189,7 @@ made_back v w words report e all m grows o i room = by_read m.read m.does
 
     by_read : (x : Read) → ReadDoes v x report w → Reports v w report e
     by_read (reading.plain d) h = by_declaration d h
-    by_read (reading.check c) h = absurd (no_more e v.signature (sym (ap (λ (u : View). u.signature) h.keeps) ∙ grows))
+    by_read (reading.check c) h = absurd (no_more e v.signature (sym (checked_parts v w c report h).0 ∙ grows))
     by_read (reading.searching (searches.query x t q)) h = absurd (no_more e v.signature (sym (ap (λ (u : View). u.signature) h.keeps) ∙ grows))
     by_read (reading.searching (searches.solve c at A)) h = by_entry h.entry h.keeps h.says
 

@@ -1,11 +1,13 @@
 //! The check of modes and subordination on the cases of a file: a line for what came out of each, after its name.
 #![tactic(auto)]
 
+mod before;
 mod blocks;
 mod forms;
 mod reading;
 mod showing;
 
+use crate::before::ground;
 use crate::blocks::{are_typed, block_types};
 use crate::forms::{full, short};
 use crate::reading::{read_group, read_marks, read_modes, read_worlds};
@@ -110,6 +112,7 @@ fn answer(
         "mode" => mode(alloc, signature, names, case),
         "short" => short(alloc, signature, names, case),
         "full" => full(alloc, names, case),
+        "ground" => ground(alloc, names, case),
         "below" => below(alloc, signature, names, case),
         "families" => families(alloc, signature, names, case),
         _ => Err(FormFault::NoMeaning),

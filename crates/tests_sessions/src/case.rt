@@ -53,12 +53,14 @@ pub struct Case {
 impl Case {
     /// A session without words and input. It writes the banner alone.
     pub fn new(alloc: Global, name: &str) -> Result<Case, AllocError> {
+        let name = String::from_str(alloc, name)?;
+        let written = BANNER.to_vec(alloc)?;
         Ok(Case {
-            name: String::from_str(alloc, name)?,
+            name,
             words: Vec::new(alloc),
             files: Vec::new(alloc),
             input: Vec::new(alloc),
-            written: BANNER.to_vec(alloc)?,
+            written,
             status: 0,
             piece: 0,
             failing: Failing {
@@ -71,16 +73,17 @@ impl Case {
         })
     }
 
-    /// The number of this name, where it has one.
-    pub fn number(&mut self, name: &str) -> Option<&mut u64> {
+    /// Sets the number of this name, and says whether there is such a number.
+    pub fn set(&mut self, name: &str, value: u64) -> bool {
         match name {
-            "status" => Some(&mut self.status),
-            "piece" => Some(&mut self.piece),
-            "read" => Some(&mut self.failing.read),
-            "write" => Some(&mut self.failing.write),
-            "file" => Some(&mut self.failing.file),
-            "times" => Some(&mut self.times),
-            _ => None,
+            "status" => self.status = value,
+            "piece" => self.piece = value,
+            "read" => self.failing.read = value,
+            "write" => self.failing.write = value,
+            "file" => self.failing.file = value,
+            "times" => self.times = value,
+            _ => return false,
         }
+        true
     }
 }

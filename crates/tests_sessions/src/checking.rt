@@ -30,18 +30,45 @@ pub fn holds(rt: &(impl Print + AllocGlobal), case: &Case) -> io::Result<bool> {
 fn holds_in_pieces(rt: &(impl Print + AllocGlobal), case: &Case, piece: usize) -> io::Result<bool>
     requires { 0 < piece }
 {
-    let alloc = rt.alloc();
-    let told = served(alloc, case, piece, case.failing)?;
-    if !told.is_wanted(case) {
-        return differs(rt, case, piece, &told);
+    Ok(
+        holds_over_failing(rt, case, piece)?
+            && (case.failing.fails() || holds_surely(rt, case, piece)?)
+            && (!case.in_turn || stops(rt, case, piece, false)? && stops(rt, case, piece, true)?),
+    )
+}
+
+// The same over ports of which the session's calls fail.
+fn holds_over_failing(
+    rt: &(impl Print + AllocGlobal),
+    case: &Case,
+    piece: usize,
+) -> io::Result<bool>
+    requires { 0 < piece }
+{
+    let told = served(rt.alloc(), case, piece, case.failing)?;
+    judge(rt, case, piece, &told)
+}
+
+// The same over ports that never fail.
+fn holds_surely(rt: &(impl Print + AllocGlobal), case: &Case, piece: usize) -> io::Result<bool>
+    requires { 0 < piece }
+{
+    let told = served_surely(rt.alloc(), case, piece)?;
+    judge(rt, case, piece, &told)
+}
+
+// Whether what came of a session is wanted. Where it isn't, a line says in which way.
+fn judge(
+    rt: &(impl Print + AllocGlobal),
+    case: &Case,
+    piece: usize,
+    told: &Told,
+) -> io::Result<bool> {
+    if told.is_wanted(case) {
+        Ok(true)
+    } else {
+        differs(rt, case, piece, told)
     }
-    if !case.failing.fails() {
-        let told = served_surely(alloc, case, piece)?;
-        if !told.is_wanted(case) {
-            return differs(rt, case, piece, &told);
-        }
-    }
-    Ok(!case.in_turn || stops(rt, case, piece, false)? && stops(rt, case, piece, true)?)
 }
 
 // Whether each write that fails, or else each read, ends the session with its status, and what was written before it is
@@ -54,18 +81,33 @@ fn stops(
 ) -> io::Result<bool>
     requires { 0 < piece }
 {
-    let alloc = rt.alloc();
-    let status = if writes { WRITE_FAULT } else { READ_FAULT };
     for call in 1..CALLS {
-        let told = served(alloc, case, piece, Failing::at(call, writes))?;
-        if call > 1 && told.is_wanted(case) {
-            return Ok(true);
-        }
-        if told.status != status || !case.written.starts_with(&told.written) {
-            return differs(rt, case, piece, &told);
+        match holds_at(rt, case, piece, call, writes)? {
+            Some(holds) => return Ok(holds),
+            None => (),
         }
     }
     Ok(false)
+}
+
+// Whether the session holds where the write of this number fails, or else the read. None where a later one is to fail, too.
+fn holds_at(
+    rt: &(impl Print + AllocGlobal),
+    case: &Case,
+    piece: usize,
+    call: u64,
+    writes: bool,
+) -> io::Result<Option<bool>>
+    requires { 0 < piece }
+{
+    let told = served(rt.alloc(), case, piece, Failing::at(call, writes))?;
+    if call > 1 && told.is_wanted(case) {
+        Ok(Some(true))
+    } else if told.stops(case, if writes { WRITE_FAULT } else { READ_FAULT }) {
+        Ok(None)
+    } else {
+        Ok(Some(differs(rt, case, piece, &told)?))
+    }
 }
 
 // Says in which way a session differs from what is wanted.

@@ -7,15 +7,28 @@ pub fn put_text(bytes: &mut Vec<u8>, text: &str) -> Result<bool, AllocError> {
     let mut parts = text.split('\\');
     bytes.extend_from_slice(parts.next().unwrap_or("").as_bytes())?;
     for part in parts {
-        let Some((digits, rest)) = part.split_at_checked(2) else {
+        if !put_part(bytes, part)? {
             return Ok(false);
-        };
-        let Ok(byte) = u8::from_str_radix(digits, 16) else {
-            return Ok(false);
-        };
-        bytes.push(byte)?;
-        bytes.extend_from_slice(rest.as_bytes())?;
+        }
     }
+    Ok(true)
+}
+
+// Puts what stands between a backslash and the next one behind the bytes.
+fn put_part(bytes: &mut Vec<u8>, part: &str) -> Result<bool, AllocError> {
+    match part.split_at_checked(2) {
+        Some((digits, rest)) => put_byte(bytes, digits, rest),
+        None => Ok(false),
+    }
+}
+
+// Puts the byte with these digits behind the bytes, and then the text.
+fn put_byte(bytes: &mut Vec<u8>, digits: &str, rest: &str) -> Result<bool, AllocError> {
+    let Ok(byte) = u8::from_str_radix(digits, 16) else {
+        return Ok(false);
+    };
+    bytes.push(byte)?;
+    bytes.extend_from_slice(rest.as_bytes())?;
     Ok(true)
 }
 

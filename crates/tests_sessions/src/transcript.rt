@@ -35,18 +35,28 @@ pub fn read_line(
     let (word, text) = line.split_once(' ').unwrap_or((line, ""));
     match word {
         "" | "#" => Ok(true),
-        "=" => {
-            cases.push(Case::new(rt.alloc(), text)?)?;
-            Ok(true)
-        }
-        "row" => {
-            cases.push(row(rt, text)?)?;
-            Ok(true)
-        }
-        _ => match cases.last_mut() {
-            Some(case) => Ok(add(rt.alloc(), case, word, text)?),
-            None => Ok(false),
-        },
+        "=" => Ok(begin(cases, Case::new(rt.alloc(), text)?)?),
+        "row" => Ok(begin(cases, row(rt, text)?)?),
+        _ => Ok(add_to_last(rt.alloc(), cases, word, text)?),
+    }
+}
+
+// Puts the session behind the others.
+fn begin(cases: &mut Vec<Case>, case: Case) -> Result<bool, AllocError> {
+    cases.push(case)?;
+    Ok(true)
+}
+
+// Adds what a line says to the newest session, and says whether there is one.
+fn add_to_last(
+    alloc: Global,
+    cases: &mut Vec<Case>,
+    word: &str,
+    text: &str,
+) -> Result<bool, AllocError> {
+    match cases.last_mut() {
+        Some(case) => add(alloc, case, word, text),
+        None => Ok(false),
     }
 }
 
@@ -55,27 +65,49 @@ fn add(alloc: Global, case: &mut Case, word: &str, text: &str) -> Result<bool, A
     match word {
         "<" | "<." | "<*" => put(alloc, &mut case.input, word, text),
         ">" | ">." | ">*" => put(alloc, &mut case.written, word, text),
-        "|" | "|." | "|*" => match case.files.last_mut() {
-            Some(file) => put(alloc, &mut file.1, word, text),
-            None => Ok(false),
-        },
-        ":" => {
-            case.input.extend_from_slice(b"readDecl\n")?;
-            put_line(&mut case.input, text)
-        }
-        "ok" => reply(case, text, b"%% OK %%\n"),
-        "no" => reply(case, text, b"%% ABORT %%\n"),
-        "$" => {
-            case.words.push(String::from_str(alloc, text)?)?;
-            Ok(true)
-        }
-        "@" => {
-            let name = String::from_str(alloc, text)?;
-            case.files.push((name, Vec::new(alloc)))?;
-            Ok(true)
-        }
+        "|" | "|." | "|*" => put_in_file(alloc, &mut case.files, word, text),
+        ":" => put_declaration(&mut case.input, text),
+        "ok" => reply(&mut case.written, text, b"%% OK %%\n"),
+        "no" => reply(&mut case.written, text, b"%% ABORT %%\n"),
+        "$" => put_word(alloc, &mut case.words, text),
+        "@" => begin_file(alloc, &mut case.files, text),
         _ => Ok(set(case, word, text)),
     }
+}
+
+// Puts a text behind the newest file, and says whether there is one.
+fn put_in_file(
+    alloc: Global,
+    files: &mut Vec<(String, Vec<u8>)>,
+    word: &str,
+    text: &str,
+) -> Result<bool, AllocError> {
+    match files.last_mut() {
+        Some(file) => put(alloc, &mut file.1, word, text),
+        None => Ok(false),
+    }
+}
+
+// Puts a declaration behind the input.
+fn put_declaration(input: &mut Vec<u8>, text: &str) -> Result<bool, AllocError> {
+    input.extend_from_slice(b"readDecl\n")?;
+    put_line(input, text)
+}
+
+fn put_word(alloc: Global, words: &mut Vec<String>, word: &str) -> Result<bool, AllocError> {
+    words.push(String::from_str(alloc, word)?)?;
+    Ok(true)
+}
+
+// A file of this name begins.
+fn begin_file(
+    alloc: Global,
+    files: &mut Vec<(String, Vec<u8>)>,
+    name: &str,
+) -> Result<bool, AllocError> {
+    let name = String::from_str(alloc, name)?;
+    files.push((name, Vec::new(alloc)))?;
+    Ok(true)
 }
 
 // Puts a text behind the bytes: as a line, as it stands, or many times.
@@ -90,9 +122,9 @@ fn put(alloc: Global, bytes: &mut Vec<u8>, word: &str, text: &str) -> Result<boo
 }
 
 // A reply of one line is to be written, with this line at its end.
-fn reply(case: &mut Case, text: &str, end: &[u8]) -> Result<bool, AllocError> {
-    let is_read = put_line(&mut case.written, text)?;
-    case.written.extend_from_slice(end)?;
+fn reply(written: &mut Vec<u8>, text: &str, end: &[u8]) -> Result<bool, AllocError> {
+    let is_read = put_line(written, text)?;
+    written.extend_from_slice(end)?;
     Ok(is_read)
 }
 
@@ -106,28 +138,42 @@ fn set(case: &mut Case, word: &str, text: &str) -> bool {
         case.in_turn = true;
         return true;
     }
-    match (case.number(word), text.parse()) {
-        (Some(number), Ok(value)) => {
-            *number = value;
-            true
-        }
-        _ => false,
+    match text.parse() {
+        Ok(value) => case.set(word, value),
+        Err(_) => false,
     }
 }
 
 // The session of a folder, with the names of its files behind the folder's name.
 fn row(rt: &(impl Files + AllocGlobal), names: &str) -> io::Result<Case> {
-    let mut names = names.split(' ');
-    let folder = names.next().unwrap_or("");
+    let (folder, _) = names.split_once(' ').unwrap_or((names, ""));
     let mut case = Case::new(rt.alloc(), folder)?;
+    put_parts(rt, &mut case, folder)?;
+    put_files(rt, &mut case.files, names)?;
+    Ok(case)
+}
+
+// What a folder says of its session, but for the files that can be loaded.
+fn put_parts(rt: &(impl Files + AllocGlobal), case: &mut Case, folder: &str) -> io::Result<()> {
     case.input = part(rt, folder, "input")?;
     case.written = part(rt, folder, "expected")?;
-    put_words(rt.alloc(), &mut case, &part(rt, folder, "args")?)?;
-    put_status(rt.alloc(), &mut case, &part(rt, folder, "status")?)?;
+    put_words(rt.alloc(), &mut case.words, &part(rt, folder, "args")?)?;
+    case.status = status_of(rt.alloc(), &part(rt, folder, "status")?)?;
+    Ok(())
+}
+
+// The files of these names, behind the folder's name.
+fn put_files(
+    rt: &(impl Files + AllocGlobal),
+    files: &mut Vec<(String, Vec<u8>)>,
+    names: &str,
+) -> io::Result<()> {
+    let mut names = names.split(' ');
+    let folder = names.next().unwrap_or("");
     for name in names {
-        put_file(rt, &mut case, folder, name)?;
+        put_file(rt, files, folder, name)?;
     }
-    Ok(case)
+    Ok(())
 }
 
 // The bytes of a file in a folder, none where there is no such file.
@@ -140,34 +186,33 @@ fn part(rt: &(impl Files + AllocGlobal), folder: &str, name: &str) -> io::Result
 }
 
 // The words of a session, one a line.
-fn put_words(alloc: Global, case: &mut Case, lines: &[u8]) -> Result<(), AllocError> {
+fn put_words(alloc: Global, words: &mut Vec<String>, lines: &[u8]) -> Result<(), AllocError> {
     let lines = String::from_utf8_lossy(alloc, lines)?;
     for word in lines.lines() {
-        case.words.push(String::from_str(alloc, word)?)?;
+        put_word(alloc, words, word)?;
     }
     Ok(())
 }
 
 // The status of a session, 0 where none is given. What can't be read is no exit status, so that the session is told to differ.
-fn put_status(alloc: Global, case: &mut Case, line: &[u8]) -> Result<(), AllocError> {
+fn status_of(alloc: Global, line: &[u8]) -> Result<u64, AllocError> {
     let line = String::from_utf8_lossy(alloc, line)?;
-    let line = line.trim();
-    if !line.is_empty() {
-        case.status = line.parse().unwrap_or(u64::MAX);
-    }
-    Ok(())
+    Ok(match line.trim() {
+        "" => 0,
+        line => line.parse().unwrap_or(u64::MAX),
+    })
 }
 
 // A file that the session can load.
 fn put_file(
     rt: &(impl Files + AllocGlobal),
-    case: &mut Case,
+    files: &mut Vec<(String, Vec<u8>)>,
     folder: &str,
     name: &str,
 ) -> io::Result<()> {
     let path = format!(in rt.alloc(); "files/{name}")?;
     let bytes = part(rt, folder, path.as_str())?;
     let name = String::from_str(rt.alloc(), name)?;
-    case.files.push((name, bytes))?;
+    files.push((name, bytes))?;
     Ok(())
 }

@@ -7,7 +7,7 @@ use tw_equation::show_equation;
 use tw_fixity::Name;
 use tw_metas::{Equation, LeftEquation};
 use tw_print::ShowEnv;
-use tw_terms::OpenContext;
+use tw_terms::{OpenContext, OpenTy};
 
 // The name of a metavariable that is written `(NAME TYPE)`, and its type.
 fn parts(form: &Form) -> Result<(&str, &Form), FormFault> {
@@ -35,32 +35,74 @@ fn read_equation(alloc: Global, names: &mut Names, text: &str) -> Result<LeftEqu
     if equals.as_str() != "=" || colon.as_str() != ":" {
         return Err(FormFault::NoMeaning);
     }
-    let mut given = Vec::new(alloc);
-    for meta in metas {
-        let (name, _) = parts(meta)?;
-        names.add_meta(alloc, name)?;
-        if name.starts_with('?') {
-            given.push(None)?;
-        } else {
-            given.push(Some(Name::from_text(alloc, name)?))?;
-        }
-    }
-    let mut types = Vec::new(alloc);
-    for meta in metas {
-        let (_, ty) = parts(meta)?;
-        types.push((OpenContext::new(alloc), read_type(alloc, names, ty)?))?;
-    }
-    let context = read_context(alloc, names, context.as_slice())?;
-    let equation = Equation {
-        context,
-        left: read_term(alloc, names, left)?,
-        right: read_term(alloc, names, right)?,
-        ty: read_type(alloc, names, ty)?,
-    };
+    let given = names_of(alloc, names, metas)?;
+    let metas = types_of(alloc, names, metas)?;
+    let equation = equation_of(alloc, names, context, left, right, ty)?;
     Ok(LeftEquation {
-        metas: types,
+        metas,
         names: given,
         equation,
+    })
+}
+
+// The names of the metavariables, which words name from then on.
+fn names_of(
+    alloc: Global,
+    names: &mut Names,
+    metas: &[Form],
+) -> Result<Vec<Option<Name>>, FormFault> {
+    let mut given = Vec::new(alloc);
+    for meta in metas {
+        given.push(name_of(alloc, names, meta)?)?;
+    }
+    Ok(given)
+}
+
+fn name_of(alloc: Global, names: &mut Names, meta: &Form) -> Result<Option<Name>, FormFault> {
+    let (name, _) = parts(meta)?;
+    names.add_meta(alloc, name)?;
+    if name.starts_with('?') {
+        Ok(None)
+    } else {
+        Ok(Some(Name::from_text(alloc, name)?))
+    }
+}
+
+// The types of the metavariables, each in the empty context.
+fn types_of(
+    alloc: Global,
+    names: &mut Names,
+    metas: &[Form],
+) -> Result<Vec<(OpenContext, OpenTy)>, FormFault> {
+    let mut types = Vec::new(alloc);
+    for meta in metas {
+        types.push((OpenContext::new(alloc), type_of(alloc, names, meta)?))?;
+    }
+    Ok(types)
+}
+
+fn type_of(alloc: Global, names: &mut Names, meta: &Form) -> Result<OpenTy, FormFault> {
+    let (_, ty) = parts(meta)?;
+    read_type(alloc, names, ty)
+}
+
+fn equation_of(
+    alloc: Global,
+    names: &mut Names,
+    context: &[Form],
+    left: &Form,
+    right: &Form,
+    ty: &Form,
+) -> Result<Equation, FormFault> {
+    let context = read_context(alloc, names, context)?;
+    let left = read_term(alloc, names, left)?;
+    let right = read_term(alloc, names, right)?;
+    let ty = read_type(alloc, names, ty)?;
+    Ok(Equation {
+        context,
+        left,
+        right,
+        ty,
     })
 }
 

@@ -4,6 +4,7 @@
 #[tactic(auto, using(tw_terms::proofs::Args::types))]
 mod entries;
 mod equations;
+mod line;
 mod names;
 mod parsing;
 #[tactic(auto, using(tw_terms::proofs::Args::types))]
@@ -25,7 +26,7 @@ mod written;
 use crate::steps::done;
 use crate::world::World;
 use std::{fs, io};
-use tests_forms::{Case, FormFault, read_cases};
+use tests_forms::{Case, Field, FormFault, read_cases};
 
 /// The files of cases, in order.
 const FILES: [&str; 11] = [
@@ -42,19 +43,44 @@ const FILES: [&str; 11] = [
     "depth.txt",
 ];
 
-fn run_case(rt: &HostRuntime, cases: &[Case], case: &Case) -> io::Result<()> {
-    let alloc = rt.alloc();
-    let mut world = World::new(alloc);
+// Prints what came out of a question, behind the question.
+fn tell(
+    rt: &HostRuntime,
+    field: &Field,
+    answer: &Result<Option<String>, FormFault>,
+) -> io::Result<()> {
+    let (word, text) = (&field.word, &field.text);
+    match answer {
+        Ok(Some(line)) => println!(rt; "  {word} {text} ⇒ {line}"),
+        Ok(None) => Ok(()),
+        Err(FormFault::NoMeaning) => println!(rt; "  {word} {text} can't be read"),
+        Err(FormFault::NoMemory) => println!(rt; "  {word} {text} wants memory"),
+    }
+}
+
+fn run_field(rt: &HostRuntime, cases: &[Case], world: &mut World, field: &Field) -> io::Result<()> {
+    let answer = done(rt.alloc(), cases, world, field);
+    tell(rt, field, &answer)
+}
+
+fn run_fields(rt: &HostRuntime, cases: &[Case], case: &Case) -> io::Result<()> {
+    let mut world = World::new(rt.alloc());
     for field in &case.fields {
-        let (word, text) = (&field.word, &field.text);
-        match done(alloc, cases, &mut world, field) {
-            Ok(Some(line)) => println!(rt; "  {word} {text} ⇒ {line}")?,
-            Ok(None) => (),
-            Err(FormFault::NoMeaning) => println!(rt; "  {word} {text} can't be read")?,
-            Err(FormFault::NoMemory) => println!(rt; "  {word} {text} wants memory")?,
-        }
+        run_field(rt, cases, &mut world, field)?;
     }
     Ok(())
+}
+
+fn run_case(rt: &HostRuntime, cases: &[Case], case: &Case) -> io::Result<()> {
+    let name = &case.name;
+    match case.kind.as_str() {
+        "setting" => Ok(()),
+        "case" => {
+            println!(rt; "{name}")?;
+            run_fields(rt, cases, case)
+        }
+        _ => println!(rt; "{name} can't be read"),
+    }
 }
 
 fn run_file(rt: &HostRuntime, file: &str) -> io::Result<()> {
@@ -64,15 +90,7 @@ fn run_file(rt: &HostRuntime, file: &str) -> io::Result<()> {
     };
     println!(rt; "{file}")?;
     for case in &cases {
-        let name = &case.name;
-        match case.kind.as_str() {
-            "setting" => (),
-            "case" => {
-                println!(rt; "{name}")?;
-                run_case(rt, &cases, case)?;
-            }
-            _ => println!(rt; "{name} can't be read")?,
-        }
+        run_case(rt, &cases, case)?;
     }
     Ok(())
 }

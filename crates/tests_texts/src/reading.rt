@@ -1,8 +1,8 @@
 //! Declarations and queries that are read from texts.
 use crate::texts::bytes_of;
-use std::alloc::{AllocError, Global};
+use std::alloc::Global;
 use tests_forms::FormFault;
-use tw_fixity::{FixTable, Name};
+use tw_fixity::FixTable;
 use tw_lexer::{LexFault, Place, Tokens, lex};
 use tw_parse::{ExtDecl, ExtQuery, SyntaxFault, parse_decl, parse_query};
 
@@ -68,19 +68,6 @@ pub(crate) fn read_query(
     text: &str,
 ) -> Result<ExtQuery, FormFault> {
     told_query(alloc, fixities, text)?.or(Err(FormFault::NoMeaning))
-}
-
-/// Puts the name behind the line.
-pub(crate) fn push_name(line: &mut String, name: &Name) -> Result<(), AllocError> {
-    for byte in name.as_bytes() {
-        line.push(char::from(*byte))?;
-    }
-    Ok(())
-}
-
-/// Puts the place behind the line.
-pub(crate) fn push_place(line: &mut String, at: Place) -> Result<(), AllocError> {
-    write!(line, " {}:{}", at.line, at.column)
 }
 
 /// The line that the bytes are.

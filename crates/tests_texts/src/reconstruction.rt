@@ -1,35 +1,37 @@
 //! Declarations and queries, and what they are reconstructed to.
-use crate::reading::{line_of, push_name, push_place, read_decl, read_query};
+use crate::line::Line;
+use crate::reading::{line_of, read_decl, read_query};
+use crate::skeletons::put_unknown;
 use crate::world::World;
 use std::alloc::{AllocError, Global};
 use tests_forms::FormFault;
-use tw_fixity::Name;
-use tw_parse::ExtQuery;
+use tw_names::Mention;
+use tw_parse::{ExtQuery, ExtTerm};
 use tw_print::{ShowEnv, show_entry};
 use tw_recon::{
     Goal, ReconFault, first_free_variable, reconstruct, reconstruct_goal, reconstruct_query,
 };
 
 fn fault_line(alloc: Global, fault: &ReconFault) -> Result<String, FormFault> {
-    let mut line = String::new(alloc);
+    let mut line = Line::new(alloc);
+    put_fault(&mut line, fault);
+    Ok(line.whole()?)
+}
+
+fn put_fault(line: &mut Line, fault: &ReconFault) {
     match fault {
-        ReconFault::Unknown(name, at) => {
-            line.push_str("unknown ")?;
-            push_name(&mut line, name)?;
-            push_place(&mut line, *at)?;
-        }
+        ReconFault::Unknown(name, at) => put_unknown(line, name, *at),
         ReconFault::TypeLevel(Some(at)) => {
-            line.push_str("type level")?;
-            push_place(&mut line, *at)?;
+            line.put("type level");
+            line.put_place(*at);
         }
-        ReconFault::TypeLevel(None) => line.push_str("type level")?,
-        ReconFault::Loose => line.push_str("loose")?,
-        ReconFault::Mismatch => line.push_str("mismatch")?,
-        ReconFault::Leftover(_) => line.push_str("left over")?,
-        ReconFault::TooDeep => line.push_str("too deep")?,
-        ReconFault::NoMemory => line.push_str("no memory")?,
+        ReconFault::TypeLevel(None) => line.put("type level"),
+        ReconFault::Loose => line.put("loose"),
+        ReconFault::Mismatch => line.put("mismatch"),
+        ReconFault::Leftover(_) => line.put("left over"),
+        ReconFault::TooDeep => line.put("too deep"),
+        ReconFault::NoMemory => line.put("no memory"),
     }
-    Ok(line)
 }
 
 /// The line of the entry that the declaration gives, or what its fault is.
@@ -58,30 +60,28 @@ pub(crate) fn is_declared(alloc: Global, world: &World, text: &str) -> Result<St
     }
 }
 
-fn push_optional(line: &mut String, name: &Option<Name>) -> Result<(), AllocError> {
-    match name {
-        Some(name) => push_name(line, name),
-        None => line.push('_'),
-    }
-}
-
 // The names of the variables, the newest first; those that are shown; and the name of the proof.
 fn goal_line(alloc: Global, goal: &Goal) -> Result<String, FormFault> {
     if goal.variables.len() != goal.names.len() {
         return Ok(String::from_str(alloc, "there aren't as many names as variables")?);
     }
-    let mut line = String::new(alloc);
+    let mut line = Line::new(alloc);
+    put_goal(&mut line, goal);
+    Ok(line.whole()?)
+}
+
+fn put_goal(line: &mut Line, goal: &Goal) {
     for name in &goal.names {
-        push_optional(&mut line, name)?;
-        line.push(' ')?;
+        line.put_name_or(name, "_");
+        line.put(" ");
     }
-    line.push('|')?;
+    line.put("|");
     for variable in &goal.shown {
-        write!(line, " {variable}")?;
+        line.put(" ");
+        line.put_number(*variable);
     }
-    line.push_str(" | ")?;
-    push_optional(&mut line, &goal.proof)?;
-    Ok(line)
+    line.put(" | ");
+    line.put_name_or(&goal.proof, "_");
 }
 
 /// What is asked by the query, or what its fault is.
@@ -93,10 +93,15 @@ pub(crate) fn asked(alloc: Global, world: &World, text: &str) -> Result<String, 
     }
 }
 
+fn goal_of(query: ExtQuery) -> ExtTerm {
+    let ExtQuery { proof: _, goal } = query;
+    goal
+}
+
 /// What is asked by the type alone, or what its fault is.
 pub(crate) fn goal(alloc: Global, world: &World, text: &str) -> Result<String, FormFault> {
-    let ExtQuery { goal, .. } = read_query(alloc, &world.fixities, text)?;
-    match reconstruct_goal(alloc, &world.signature, goal) {
+    let query = read_query(alloc, &world.fixities, text)?;
+    match reconstruct_goal(alloc, &world.signature, goal_of(query)) {
         Ok(goal) => goal_line(alloc, &goal),
         Err(fault) => fault_line(alloc, &fault),
     }
@@ -105,13 +110,19 @@ pub(crate) fn goal(alloc: Global, world: &World, text: &str) -> Result<String, F
 /// The free variable that stands first in the type, with its place.
 pub(crate) fn first_free(alloc: Global, world: &World, text: &str) -> Result<String, FormFault> {
     let query = read_query(alloc, &world.fixities, text)?;
-    let mut line = String::new(alloc);
-    match first_free_variable(alloc, &world.signature, &query.goal)? {
-        Some(found) => {
-            push_name(&mut line, &found.name)?;
-            push_place(&mut line, found.at)?;
+    let found = first_free_variable(alloc, &world.signature, &query.goal)?;
+    Ok(mention_line(alloc, &found)?)
+}
+
+/// The name that is mentioned, and where it stands; `none` where there is none.
+pub(crate) fn mention_line(alloc: Global, found: &Option<Mention>) -> Result<String, AllocError> {
+    let mut line = Line::new(alloc);
+    match found {
+        Some(mention) => {
+            line.put_name(&mention.name);
+            line.put_place(mention.at);
         }
-        None => line.push_str("none")?,
+        None => line.put("none"),
     }
-    Ok(line)
+    line.whole()
 }

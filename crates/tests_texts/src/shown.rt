@@ -1,22 +1,21 @@
 //! Lists of variables that are shown. A variable has its number, from the innermost.
-use crate::reading::push_name;
+use crate::line::Line;
 use crate::typed::{read_typed_term, read_typed_type};
 use crate::world::World;
-use std::alloc::Global;
+use std::alloc::{AllocError, Global};
 use tests_forms::{Form, FormFault, number_of, read_closed_context, read_forms};
 use tw_fixity::{Name, Scope};
 use tw_print::ShowEnv;
 use tw_shown::{name_shown, outside, shown_in_term, shown_in_type, shown_marks};
+use tw_terms::Context;
 
 fn list_line(alloc: Global, numbers: &[u64]) -> Result<String, FormFault> {
-    let mut line = String::new(alloc);
+    let mut line = Line::new(alloc);
     for number in numbers {
-        if !line.is_empty() {
-            line.push(' ')?;
-        }
-        write!(line, "{number}")?;
+        line.put_blank();
+        line.put_number(*number);
     }
-    Ok(line)
+    Ok(line.whole()?)
 }
 
 /// The variables that a term shows.
@@ -51,46 +50,67 @@ pub(crate) fn in_type(alloc: Global, world: &mut World, text: &str) -> Result<St
 fn numbers_of(alloc: Global, forms: &[Form]) -> Result<Vec<u64>, FormFault> {
     let mut numbers = Vec::new(alloc);
     for form in forms {
-        numbers.push(number_of(form.word().ok_or(FormFault::NoMeaning)?)?)?;
+        numbers.push(number_at(form)?)?;
     }
     Ok(numbers)
 }
 
+fn number_at(form: &Form) -> Result<u64, FormFault> {
+    number_of(form.word().ok_or(FormFault::NoMeaning)?)
+}
+
+// The same of a text.
+fn read_numbers(alloc: Global, text: &str) -> Result<Vec<u64>, FormFault> {
+    let forms = read_forms(alloc, text)?;
+    numbers_of(alloc, &forms)
+}
+
 /// Of the numbers behind the first, which are outside of so many innermost variables, and as what.
 pub(crate) fn outer(alloc: Global, text: &str) -> Result<String, FormFault> {
-    let numbers = numbers_of(alloc, read_forms(alloc, text)?.as_slice())?;
-    let (count, shown) = numbers
-        .as_slice()
-        .split_first()
-        .ok_or(FormFault::NoMeaning)?;
-    list_line(alloc, &outside(alloc, shown, *count)?)
+    let numbers = read_numbers(alloc, text)?;
+    outer_line(alloc, &numbers)
+}
+
+fn outer_line(alloc: Global, numbers: &[u64]) -> Result<String, FormFault> {
+    let (count, shown) = numbers.split_first().ok_or(FormFault::NoMeaning)?;
+    let outside = outside(alloc, shown, *count)?;
+    list_line(alloc, &outside)
 }
 
 /// For each of so many innermost variables as the first number says whether it is among the others.
 pub(crate) fn marks(alloc: Global, text: &str) -> Result<String, FormFault> {
-    let numbers = numbers_of(alloc, read_forms(alloc, text)?.as_slice())?;
+    let numbers = read_numbers(alloc, text)?;
     let (count, shown) = numbers
         .as_slice()
         .split_first()
         .ok_or(FormFault::NoMeaning)?;
-    let mut line = String::new(alloc);
-    for mark in &shown_marks(alloc, shown, *count as usize)? {
-        line.push_str(if *mark { "+" } else { "-" })?;
+    let marks = shown_marks(alloc, shown, *count as usize)?;
+    Ok(marks_line(alloc, &marks)?)
+}
+
+fn marks_line(alloc: Global, marks: &[bool]) -> Result<String, AllocError> {
+    let mut line = Line::new(alloc);
+    for mark in marks {
+        line.put(if *mark { "+" } else { "-" });
     }
-    Ok(line)
+    line.whole()
 }
 
 // The names that the forms are; `_` is none.
 fn names_of(alloc: Global, forms: &[Form]) -> Result<Vec<Option<Name>>, FormFault> {
     let mut names = Vec::new(alloc);
     for form in forms {
-        match form.word() {
-            Some("_") => names.push(None)?,
-            Some(word) => names.push(Some(Name::from_text(alloc, word)?))?,
-            None => return Err(FormFault::NoMeaning),
-        }
+        names.push(name_at(alloc, form)?)?;
     }
     Ok(names)
+}
+
+fn name_at(alloc: Global, form: &Form) -> Result<Option<Name>, FormFault> {
+    match form.word() {
+        Some("_") => Ok(None),
+        Some(word) => Ok(Some(Name::from_text(alloc, word)?)),
+        None => Err(FormFault::NoMeaning),
+    }
 }
 
 /// Of `(CONTEXT) (SHOWN ..) (NAME ..) (TAKEN ..)`, with the names from the innermost variable on: the names of all variables, after those that are shown got theirs.
@@ -107,27 +127,44 @@ pub(crate) fn named(alloc: Global, world: &mut World, text: &str) -> Result<Stri
     };
     let context = read_closed_context(alloc, &mut world.names, context.as_slice())?;
     let shown = numbers_of(alloc, shown.as_slice())?;
-    let mut names = names_of(alloc, names.as_slice())?;
-    let mut scope = Scope::new(alloc);
-    for name in names_of(alloc, taken.as_slice())? {
-        scope.push(name)?;
-    }
+    let names = all_named(alloc, world, &context, &shown, names, taken)?;
+    Ok(names_line(alloc, &names)?)
+}
+
+// The names of all variables of the context.
+fn all_named(
+    alloc: Global,
+    world: &World,
+    context: &Context,
+    shown: &[u64],
+    names: &[Form],
+    taken: &[Form],
+) -> Result<Vec<Option<Name>>, FormFault> {
+    let mut names = names_of(alloc, names)?;
+    let scope = scope_of(alloc, taken)?;
     let env = ShowEnv {
         sig: &world.signature,
         fixities: &world.fixities,
         names: &world.preferences,
         implicit: world.implicit,
     };
-    name_shown(alloc, &env, &context, &shown, &mut names, scope)?;
-    let mut line = String::new(alloc);
-    for name in &names {
-        if !line.is_empty() {
-            line.push(' ')?;
-        }
-        match name {
-            Some(name) => push_name(&mut line, name)?,
-            None => line.push('_')?,
-        }
+    name_shown(alloc, &env, context, shown, &mut names, scope)?;
+    Ok(names)
+}
+
+fn scope_of(alloc: Global, forms: &[Form]) -> Result<Scope, FormFault> {
+    let mut scope = Scope::new(alloc);
+    for form in forms {
+        scope.push(name_at(alloc, form)?)?;
     }
-    Ok(line)
+    Ok(scope)
+}
+
+fn names_line(alloc: Global, names: &[Option<Name>]) -> Result<String, AllocError> {
+    let mut line = Line::new(alloc);
+    for name in names {
+        line.put_blank();
+        line.put_name_or(name, "_");
+    }
+    line.whole()
 }

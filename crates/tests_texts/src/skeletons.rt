@@ -1,94 +1,95 @@
 //! The skeletons of what isn't written.
-use crate::reading::{push_name, push_place, read_decl, read_query};
+use crate::line::Line;
+use crate::reading::{read_decl, read_query};
 use crate::world::World;
 use std::alloc::{AllocError, Global};
 use tests_forms::FormFault;
 use tw_approx::{Approx, ApproxFault, approximate, approximate_query};
+use tw_fixity::Name;
+use tw_lexer::Place;
 use tw_signature::Signature;
 use tw_terms::{ConstId, Skeleton};
 
 /// Puts the name of the entry behind the line.
-pub(crate) fn push_entry(
-    line: &mut String,
-    signature: &Signature,
-    id: ConstId,
-) -> Result<(), AllocError> {
+pub(crate) fn put_entry(line: &mut Line, signature: &Signature, id: ConstId) {
     match signature.entry(id) {
-        Some(entry) => push_name(line, &entry.name),
-        None => line.push('?'),
+        Some(entry) => line.put_name(&entry.name),
+        None => line.put("?"),
     }
 }
 
 /// Puts the skeleton behind the line, with `>` for an arrow.
-pub(crate) fn push_skeleton(
-    line: &mut String,
-    signature: &Signature,
-    skeleton: &Skeleton,
-) -> Result<(), AllocError> {
+pub(crate) fn put_skeleton(line: &mut Line, signature: &Signature, skeleton: &Skeleton) {
     match skeleton {
-        Skeleton::Base(family) => push_entry(line, signature, *family),
+        Skeleton::Base(family) => put_entry(line, signature, *family),
         Skeleton::Arrow(domain, range) => {
-            line.push('(')?;
-            push_skeleton(line, signature, domain)?;
-            line.push('>')?;
-            push_skeleton(line, signature, range)?;
-            line.push(')')
+            line.put("(");
+            put_skeleton(line, signature, domain);
+            line.put(">");
+            put_skeleton(line, signature, range);
+            line.put(")");
         }
     }
 }
 
-fn push_found(line: &mut String, signature: &Signature, found: &Approx) -> Result<(), AllocError> {
-    line.push_str("found")?;
+fn put_found(line: &mut Line, signature: &Signature, found: &Approx) {
+    line.put("found");
     for row in &found.free {
-        line.push(' ')?;
-        push_name(line, &row.name)?;
-        line.push(':')?;
-        push_skeleton(line, signature, &row.skeleton)?;
+        line.put(" ");
+        line.put_name(&row.name);
+        line.put(":");
+        put_skeleton(line, signature, &row.skeleton);
     }
     for skeleton in &found.omitted {
-        line.push_str(" _:")?;
-        push_skeleton(line, signature, skeleton)?;
+        line.put(" _:");
+        put_skeleton(line, signature, skeleton);
     }
-    Ok(())
 }
 
-fn push_answer(
-    line: &mut String,
-    signature: &Signature,
-    answer: Result<Approx, ApproxFault>,
-) -> Result<(), AllocError> {
-    match answer {
-        Ok(found) => push_found(line, signature, &found),
-        Err(ApproxFault::Unknown(name, at)) => {
-            line.push_str("unknown ")?;
-            push_name(line, &name)?;
-            push_place(line, at)
+fn put_fault(line: &mut Line, fault: &ApproxFault) {
+    match fault {
+        ApproxFault::Unknown(name, at) => put_unknown(line, name, *at),
+        ApproxFault::TypeLevel(None) => line.put("type level"),
+        ApproxFault::TypeLevel(Some(at)) => {
+            line.put("type level");
+            line.put_place(*at);
         }
-        Err(ApproxFault::TypeLevel(None)) => line.push_str("type level"),
-        Err(ApproxFault::TypeLevel(Some(at))) => {
-            line.push_str("type level")?;
-            push_place(line, at)
-        }
-        Err(ApproxFault::Clash) => line.push_str("clash"),
-        Err(ApproxFault::Loose) => line.push_str("loose"),
-        Err(ApproxFault::NoMemory) => line.push_str("no memory"),
+        ApproxFault::Clash => line.put("clash"),
+        ApproxFault::Loose => line.put("loose"),
+        ApproxFault::NoMemory => line.put("no memory"),
     }
+}
+
+/// Puts the name that is unknown, and where it stands, behind the line.
+pub(crate) fn put_unknown(line: &mut Line, name: &Name, at: Place) {
+    line.put("unknown ");
+    line.put_name(name);
+    line.put_place(at);
+}
+
+fn answer_line(
+    alloc: Global,
+    signature: &Signature,
+    answer: &Result<Approx, ApproxFault>,
+) -> Result<String, AllocError> {
+    let mut line = Line::new(alloc);
+    match answer {
+        Ok(found) => put_found(&mut line, signature, found),
+        Err(fault) => put_fault(&mut line, fault),
+    }
+    line.whole()
 }
 
 /// The skeletons of the free variables and of what isn't written in a declaration.
 pub(crate) fn of_decl(alloc: Global, world: &World, text: &str) -> Result<String, FormFault> {
     let decl = read_decl(alloc, &world.fixities, text)?;
-    let mut line = String::new(alloc);
-    let found = approximate(alloc, &world.signature, &decl);
-    push_answer(&mut line, &world.signature, found)?;
-    Ok(line)
+    let answer = approximate(alloc, &world.signature, &decl);
+    Ok(answer_line(alloc, &world.signature, &answer)?)
 }
 
 /// The same of a query.
 pub(crate) fn of_query(alloc: Global, world: &World, text: &str) -> Result<String, FormFault> {
     let query = read_query(alloc, &world.fixities, text)?;
-    let mut line = String::new(alloc);
-    let found = approximate_query(alloc, &world.signature, &query);
-    push_answer(&mut line, &world.signature, found)?;
-    Ok(line)
+    let answer = approximate_query(alloc, &world.signature, &query);
+    Ok(answer_line(alloc, &world.signature, &answer)?)
 }

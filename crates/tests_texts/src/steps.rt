@@ -32,12 +32,7 @@ fn settle(alloc: Global, cases: &[Case], world: &mut World, name: &str) -> Resul
     for case in cases {
         if case.kind.as_str() == "setting" && case.name.as_str() == name {
             count = count.saturating_add(1);
-            for field in &case.fields {
-                world.names.forget_all_but_constants(alloc);
-                if !is_set(alloc, world, field)? {
-                    answer(alloc, world, field.word.as_str(), field.text.as_str())?;
-                }
-            }
+            settle_fields(alloc, world, &case.fields)?;
         }
     }
     if count == 1 {
@@ -45,6 +40,21 @@ fn settle(alloc: Global, cases: &[Case], world: &mut World, name: &str) -> Resul
     } else {
         Err(FormFault::NoMeaning)
     }
+}
+
+fn settle_fields(alloc: Global, world: &mut World, fields: &[Field]) -> Result<(), FormFault> {
+    for field in fields {
+        world.names.forget_all_but_constants(alloc);
+        settle_field(alloc, world, field)?;
+    }
+    Ok(())
+}
+
+fn settle_field(alloc: Global, world: &mut World, field: &Field) -> Result<(), FormFault> {
+    if !is_set(alloc, world, field)? {
+        answer(alloc, world, field.word.as_str(), field.text.as_str())?;
+    }
+    Ok(())
 }
 
 // Whether the line isn't a question; then it is done.

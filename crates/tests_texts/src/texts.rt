@@ -35,28 +35,28 @@ impl Text {
 
     // What stands behind a backslash, up to the next one.
     fn escape(&mut self, alloc: Global, part: &str) -> Result<(), FormFault> {
-        if let Some(rest) = part.strip_prefix('n') {
-            self.bytes.push(b'\n')?;
-            return Ok(self.push(rest)?);
+        match part.split_at_checked(1) {
+            Some(("n", rest)) => Ok(self.put(b'\n', rest)?),
+            Some(("r", rest)) => Ok(self.put(b'\r', rest)?),
+            Some(("t", rest)) => Ok(self.put(b'\t', rest)?),
+            Some((")", rest)) => self.closed(rest),
+            Some(("x", rest)) => self.byte(rest),
+            Some(("u", rest)) => self.character(alloc, rest),
+            _ => self.opened(alloc, part),
         }
-        if let Some(rest) = part.strip_prefix('r') {
-            self.bytes.push(b'\r')?;
-            return Ok(self.push(rest)?);
-        }
-        if let Some(rest) = part.strip_prefix('t') {
-            self.bytes.push(b'\t')?;
-            return Ok(self.push(rest)?);
-        }
-        if let Some(rest) = part.strip_prefix(')') {
-            self.close()?;
-            return Ok(self.push(rest)?);
-        }
-        if let Some(rest) = part.strip_prefix('x') {
-            return self.byte(rest);
-        }
-        if let Some(rest) = part.strip_prefix("u{") {
-            return self.character(alloc, rest);
-        }
+    }
+
+    fn put(&mut self, byte: u8, rest: &str) -> Result<(), AllocError> {
+        self.bytes.push(byte)?;
+        self.push(rest)
+    }
+
+    fn closed(&mut self, rest: &str) -> Result<(), FormFault> {
+        self.close()?;
+        Ok(self.push(rest)?)
+    }
+
+    fn opened(&mut self, alloc: Global, part: &str) -> Result<(), FormFault> {
         let (count, rest) = part.split_once('(').ok_or(FormFault::NoMeaning)?;
         self.open(alloc, number_of(count)?)?;
         Ok(self.push(rest)?)
@@ -65,17 +65,32 @@ impl Text {
     fn byte(&mut self, part: &str) -> Result<(), FormFault> {
         let (digits, rest) = part.split_at_checked(2).ok_or(FormFault::NoMeaning)?;
         let byte = u8::from_str_radix(digits, 16).or(Err(FormFault::NoMeaning))?;
-        self.bytes.push(byte)?;
-        Ok(self.push(rest)?)
+        Ok(self.put(byte, rest)?)
     }
 
     fn character(&mut self, alloc: Global, part: &str) -> Result<(), FormFault> {
+        let part = part.strip_prefix('{').ok_or(FormFault::NoMeaning)?;
         let (digits, rest) = part.split_once('}').ok_or(FormFault::NoMeaning)?;
         let number = u32::from_str_radix(digits, 16).or(Err(FormFault::NoMeaning))?;
-        let mut text = String::new(alloc);
-        text.push(char::from_u32(number).ok_or(FormFault::NoMeaning)?)?;
-        self.push(text.as_str())?;
+        let letter = char::from_u32(number).ok_or(FormFault::NoMeaning)?;
+        self.push_letter(alloc, letter)?;
         Ok(self.push(rest)?)
+    }
+
+    fn push_letter(&mut self, alloc: Global, letter: char) -> Result<(), AllocError> {
+        let mut text = String::new(alloc);
+        text.push(letter)?;
+        self.push(text.as_str())
+    }
+
+    // The bytes, where every part has ended.
+    fn whole(self) -> Result<Vec<u8>, FormFault> {
+        let Text { bytes, outer } = self;
+        if outer.is_empty() {
+            Ok(bytes)
+        } else {
+            Err(FormFault::NoMeaning)
+        }
     }
 }
 
@@ -90,11 +105,7 @@ pub(crate) fn bytes_of(alloc: Global, written: &str) -> Result<Vec<u8>, FormFaul
     for part in parts {
         text.escape(alloc, part)?;
     }
-    if text.outer.is_empty() {
-        Ok(text.bytes)
-    } else {
-        Err(FormFault::NoMeaning)
-    }
+    text.whole()
 }
 
 /// What stands in front of the bar `\|`, and what behind.

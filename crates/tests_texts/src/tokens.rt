@@ -2,10 +2,11 @@
 ghost use Rattle.std.specs.Prelude.{◌≡◌, ◌≤◌, ◌<◌, ◌^◌, ◌-◌, IfOk, length};
 ghost use Rattle.tw_lexer.specs.Places.{place_of};
 
-use crate::reading::{LONGEST, START, push_place};
+use crate::line::Line;
+use crate::reading::{LONGEST, START};
 use crate::texts::{bytes_of, halves_of};
 use std::alloc::{AllocError, Global};
-use tests_forms::{FormFault, number_of, read_forms};
+use tests_forms::{Form, FormFault, number_of, read_forms};
 use tw_lexer::{
     Class, Cut, LexFault, Place, Token, TokenKind, Tokens, class_of, cut_piece, is_done, lex,
     next_token,
@@ -33,46 +34,69 @@ fn letter(class: Class) -> char {
 /// The class of each character of the text.
 pub(crate) fn classes(alloc: Global, text: &str) -> Result<String, FormFault> {
     let bytes = bytes_of(alloc, text)?;
-    let mut line = String::new(alloc);
-    for character in String::from_utf8_lossy(alloc, &bytes)?.chars() {
-        line.push(letter(class_of(character)))?;
+    let text = String::from_utf8_lossy(alloc, &bytes)?;
+    Ok(classes_line(alloc, text.as_str())?)
+}
+
+fn classes_line(alloc: Global, text: &str) -> Result<String, AllocError> {
+    let mut line = Line::new(alloc);
+    for character in text.chars() {
+        line.put_letter(letter(class_of(character)));
     }
-    Ok(line)
+    line.whole()
 }
 
 /// The class of each of the 16 characters from this number on.
 pub(crate) fn sixteen_classes(alloc: Global, text: &str) -> Result<String, FormFault> {
     let first = number_of(text)?;
-    let mut line = String::new(alloc);
+    let mut line = Line::new(alloc);
     for step in 0..16u64 {
-        let code = first.checked_add(step).ok_or(FormFault::NoMeaning)?;
-        let code = u32::try_from(code).or(Err(FormFault::NoMeaning))?;
-        let character = char::from_u32(code).ok_or(FormFault::NoMeaning)?;
-        line.push(letter(class_of(character)))?;
+        let character = character_behind(first, step)?;
+        line.put_letter(letter(class_of(character)));
     }
-    Ok(line)
+    Ok(line.whole()?)
 }
 
-fn push_token(line: &mut String, token: &Token) -> Result<(), AllocError> {
-    write!(line, "{:?} {}-{}", token.kind, token.from, token.upto)?;
-    push_place(line, token.at)
+// the character that is so many steps behind this number
+fn character_behind(first: u64, step: u64) -> Result<char, FormFault> {
+    let code = first.checked_add(step).ok_or(FormFault::NoMeaning)?;
+    let code = u32::try_from(code).or(Err(FormFault::NoMeaning))?;
+    char::from_u32(code).ok_or(FormFault::NoMeaning)
 }
 
-fn push_end(line: &mut String, tokens: &Tokens) -> Result<(), AllocError> {
-    write!(line, "then {}", tokens.upto)?;
-    push_place(line, tokens.at)
+fn put_token(line: &mut Line, token: &Token) {
+    line.put_kind(token.kind);
+    line.put(" ");
+    line.put_number(token.from as u64);
+    line.put("-");
+    line.put_number(token.upto as u64);
+    line.put_place(token.at);
 }
 
-fn push_fault(line: &mut String, fault: LexFault) -> Result<(), AllocError> {
+fn put_end(line: &mut Line, tokens: &Tokens) {
+    line.put("then ");
+    line.put_number(tokens.upto as u64);
+    line.put_place(tokens.at);
+}
+
+fn put_tokens(line: &mut Line, tokens: &Tokens) {
+    for token in &tokens.list {
+        put_token(line, token);
+        line.put(", ");
+    }
+    put_end(line, tokens);
+}
+
+fn put_fault(line: &mut Line, fault: LexFault) {
     match fault {
-        LexFault::NoMemory => line.push_str("no memory"),
+        LexFault::NoMemory => line.put("no memory"),
         LexFault::Bad(at) => {
-            line.push_str("bad")?;
-            push_place(line, at)
+            line.put("bad");
+            line.put_place(at);
         }
         LexFault::TooMany(at) => {
-            line.push_str("too many")?;
-            push_place(line, at)
+            line.put("too many");
+            line.put_place(at);
         }
     }
 }
@@ -83,18 +107,12 @@ pub(crate) fn tokens(alloc: Global, text: &str) -> Result<String, FormFault> {
     if bytes.len() >= LONGEST {
         return Err(FormFault::NoMeaning);
     }
-    let mut line = String::new(alloc);
+    let mut line = Line::new(alloc);
     match lex(alloc, &bytes, 0, START) {
-        Err(fault) => push_fault(&mut line, fault)?,
-        Ok(tokens) => {
-            for token in &tokens.list {
-                push_token(&mut line, token)?;
-                line.push_str(", ")?;
-            }
-            push_end(&mut line, &tokens)?;
-        }
+        Err(fault) => put_fault(&mut line, fault),
+        Ok(tokens) => put_tokens(&mut line, &tokens),
     }
-    Ok(line)
+    Ok(line.whole()?)
 }
 
 /// How many tokens the text has.
@@ -103,12 +121,17 @@ pub(crate) fn count(alloc: Global, text: &str) -> Result<String, FormFault> {
     if bytes.len() >= LONGEST {
         return Err(FormFault::NoMeaning);
     }
-    let mut line = String::new(alloc);
+    let mut line = Line::new(alloc);
     match lex(alloc, &bytes, 0, START) {
-        Err(fault) => push_fault(&mut line, fault)?,
-        Ok(tokens) => write!(line, "{} tokens", tokens.list.len())?,
+        Err(fault) => put_fault(&mut line, fault),
+        Ok(tokens) => put_count(&mut line, &tokens),
     }
-    Ok(line)
+    Ok(line.whole()?)
+}
+
+fn put_count(line: &mut Line, tokens: &Tokens) {
+    line.put_number(tokens.list.len() as u64);
+    line.put(" tokens");
 }
 
 /// How many tokens each declaration of the text has and where it ends, up to one without tokens.
@@ -117,35 +140,29 @@ pub(crate) fn declarations(alloc: Global, text: &str) -> Result<String, FormFaul
     if bytes.len() >= LONGEST {
         return Err(FormFault::NoMeaning);
     }
-    let mut line = String::new(alloc);
-    push_declarations(alloc, &mut line, &bytes, 0, START, 100)?;
-    Ok(line)
+    let mut line = Line::new(alloc);
+    push_declarations(alloc, &mut line, &bytes, 0, START, 100);
+    Ok(line.whole()?)
 }
 
 // The same from a byte on, of so many declarations at most.
-fn push_declarations(
-    alloc: Global,
-    line: &mut String,
-    text: &[u8],
-    from: usize,
-    at: Place,
-    most: u32,
-) -> Result<(), AllocError>
+fn push_declarations(alloc: Global, line: &mut Line, text: &[u8], from: usize, at: Place, most: u32)
     requires short { length text.now < 2 ^ 32 - 1 }
     requires within { from ≤ length text.now }
     requires place { at ≡ place_of text.now from }
 {
     let tokens = match lex(alloc, text, from, at) {
         Ok(tokens) => tokens,
-        Err(fault) => return push_fault(line, fault),
+        Err(fault) => return put_fault(line, fault),
     };
-    write!(line, "{} ", tokens.list.len())?;
-    push_end(line, &tokens)?;
+    line.put_number(tokens.list.len() as u64);
+    line.put(" ");
+    put_end(line, &tokens);
     if tokens.list.len() < 2 || most == 0 {
-        return Ok(());
+        return;
     }
-    line.push_str(", ")?;
-    push_declarations(alloc, line, text, tokens.upto, tokens.at, most - 1)
+    line.put(", ");
+    push_declarations(alloc, line, text, tokens.upto, tokens.at, most - 1);
 }
 
 /// The first token from the bar on.
@@ -154,16 +171,21 @@ pub(crate) fn token_behind(alloc: Global, text: &str) -> Result<String, FormFaul
     let from = front.len();
     let mut whole = front;
     whole.extend_from_slice(&back)?;
-    if whole.len() >= LONGEST || from > whole.len() {
+    token_from(alloc, &whole, from)
+}
+
+// The first token from this byte on.
+fn token_from(alloc: Global, text: &[u8], from: usize) -> Result<String, FormFault> {
+    if text.len() >= LONGEST || from > text.len() {
         return Err(FormFault::NoMeaning);
     }
-    let mut line = String::new(alloc);
-    let at = place_of(alloc, &whole, from)?;
-    match next_token(&whole, from, at) {
-        Err(at) => push_fault(&mut line, LexFault::Bad(at))?,
-        Ok(token) => push_token(&mut line, &token)?,
+    let at = place_of(alloc, text, from)?;
+    let mut line = Line::new(alloc);
+    match next_token(text, from, at) {
+        Err(at) => put_fault(&mut line, LexFault::Bad(at)),
+        Ok(token) => put_token(&mut line, &token),
     }
-    Ok(line)
+    Ok(line.whole()?)
 }
 
 // Where the byte stands. What stands in front of it must be tokens without a dot.
@@ -192,24 +214,34 @@ pub(crate) fn cut(alloc: Global, text: &str) -> Result<String, FormFault> {
 
 /// What is said of a fault: `bad` or `many` with a line and a column, or `memory`.
 pub(crate) fn said(alloc: Global, text: &str) -> Result<String, FormFault> {
-    let words = read_forms(alloc, text)?;
-    let mut numbers = Vec::new(alloc);
-    for word in words.iter().skip(1) {
-        let number = number_of(word.word().ok_or(FormFault::NoMeaning)?)?;
-        numbers.push(u32::try_from(number).or(Err(FormFault::NoMeaning))?)?;
-    }
-    let kind = words.first().and_then(|form| form.word()).unwrap_or("");
-    let fault = match (kind, numbers.as_slice()) {
-        ("bad", [line, column]) => LexFault::Bad(Place {
-            line: *line,
-            column: *column,
-        }),
-        ("many", [line, column]) => LexFault::TooMany(Place {
-            line: *line,
-            column: *column,
-        }),
-        ("memory", []) => LexFault::NoMemory,
-        _ => return Err(FormFault::NoMeaning),
-    };
+    let forms = read_forms(alloc, text)?;
+    let fault = fault_of(&forms)?;
     Ok(format!(in alloc; "{}", fault)?)
+}
+
+fn fault_of(forms: &[Form]) -> Result<LexFault, FormFault> {
+    match forms {
+        [Form::Word(kind), line, column] => fault_at(kind.as_str(), place_at(line, column)?),
+        [Form::Word(kind)] if kind.as_str() == "memory" => Ok(LexFault::NoMemory),
+        _ => Err(FormFault::NoMeaning),
+    }
+}
+
+fn fault_at(kind: &str, at: Place) -> Result<LexFault, FormFault> {
+    match kind {
+        "bad" => Ok(LexFault::Bad(at)),
+        "many" => Ok(LexFault::TooMany(at)),
+        _ => Err(FormFault::NoMeaning),
+    }
+}
+
+fn place_at(line: &Form, column: &Form) -> Result<Place, FormFault> {
+    let line = small_number(line)?;
+    let column = small_number(column)?;
+    Ok(Place { line, column })
+}
+
+fn small_number(form: &Form) -> Result<u32, FormFault> {
+    let number = number_of(form.word().ok_or(FormFault::NoMeaning)?)?;
+    u32::try_from(number).or(Err(FormFault::NoMeaning))
 }

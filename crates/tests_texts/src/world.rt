@@ -5,11 +5,30 @@ ghost use Rattle.tw_signature.specs.View.{entry_of};
 use crate::reading::{line_of, read_decl};
 use std::alloc::Global;
 use tests_forms::{FormFault, Names};
-use tw_fixity::{FixTable, Name};
-use tw_parse::ExtDecl;
+use tw_fixity::{Fix, FixTable, Name};
+use tw_parse::{ExtDecl, ExtName};
 use tw_print::Preference;
 use tw_recon::reconstruct;
 use tw_signature::{Entry, Signature};
+use tw_terms::ConstId;
+
+// what the declaration says of operators, if it does
+fn operators_of(decl: ExtDecl) -> Option<(Fix, Vec<ExtName>)> {
+    match decl {
+        ExtDecl::Fixity(fix, names) => Some((fix, names)),
+        _ => None,
+    }
+}
+
+// which family the declaration gives preferred names to, if it does, and which
+fn preference_of(decl: ExtDecl) -> Option<(Name, Preference)> {
+    match decl {
+        ExtDecl::NamePref(family, upper, lower) => {
+            Some((family.name, Preference { upper, lower }))
+        }
+        _ => None,
+    }
+}
 
 /// What stands before a question. Every entry has its name among those of the forms.
 #[derive(Drop)]
@@ -55,28 +74,27 @@ impl World {
 
     /// Gives the operators of the text, which is a declaration of them, their rows.
     pub(crate) fn set_operators(&mut self, alloc: Global, text: &str) -> Result<(), FormFault> {
-        match read_decl(alloc, &self.fixities, text)? {
-            ExtDecl::Fixity(fix, names) => {
-                for name in names {
-                    self.fixities.set(name.name, fix)?;
-                }
-                Ok(())
-            }
-            _ => Err(FormFault::NoMeaning),
+        let decl = read_decl(alloc, &self.fixities, text)?;
+        let (fix, names) = operators_of(decl).ok_or(FormFault::NoMeaning)?;
+        for name in names {
+            self.fixities.set(name.name, fix)?;
         }
+        Ok(())
     }
 
     /// Gives the family of the text, which is a declaration of its preferred names, these names.
     pub(crate) fn prefer(&mut self, alloc: Global, text: &str) -> Result<(), FormFault> {
-        match read_decl(alloc, &self.fixities, text)? {
-            ExtDecl::NamePref(family, upper, lower) => {
-                let name = line_of(alloc, family.name.as_bytes())?;
-                let id = self.names.constant(name.as_str())?;
-                self.preferences.set(id, Preference { upper, lower })?;
-                Ok(())
-            }
-            _ => Err(FormFault::NoMeaning),
-        }
+        let decl = read_decl(alloc, &self.fixities, text)?;
+        let (family, preference) = preference_of(decl).ok_or(FormFault::NoMeaning)?;
+        let id = self.family(alloc, &family)?;
+        self.preferences.set(id, preference)?;
+        Ok(())
+    }
+
+    // the family of this name
+    fn family(&self, alloc: Global, name: &Name) -> Result<ConstId, FormFault> {
+        let name = line_of(alloc, name.as_bytes())?;
+        self.names.constant(name.as_str())
     }
 
     /// Whether implicit arguments are shown: `shown` or `hidden`.

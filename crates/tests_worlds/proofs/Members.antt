@@ -7,10 +7,10 @@ use Rattle.std.proofs.Math.ListN.{drop_of_length-le}
 use Rattle.lf.specs.Subordination.{Member}
 use Rattle.lf.specs.Syntax.{LfType}
 use Rattle.lf.specs.Variables.{onto}
-use Rattle.tw_mode.proofs.Listing.{drop_found, found_below}
+use Rattle.tw_world.proofs.Checked.{found_below, found_drop}
 
 pub entry_before : (es some : List LfType) (n : ℕ) (old new : List LfType) → n < length es → old ≡ onto (drop (suc n) es) some → ((E : LfType) → slice_get es n ≡ Some E → new ≡ E ∷ old) → new ≡ onto (drop n es) some
-entry_before es some n old new h e f = let (E, q) = found_below es n h in f E q ∙ ap (λ xs. E ∷ xs) e ∙ ap (λ xs. onto xs some) (sym (drop_found es n E q))
+entry_before es some n old new h e f = let (E, q) = found_below es n h in f E q ∙ ap (λ xs. E ∷ xs) e ∙ ap (λ xs. onto xs some) (sym (found_drop es n E q))
 
 pub none_before : (es some : List LfType) (n : ℕ) → length es ≤ n → some ≡ onto (drop n es) some
 none_before es some n h = ap (λ xs. onto xs some) (sym (drop_of_length-le es h))

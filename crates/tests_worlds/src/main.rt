@@ -1,11 +1,13 @@
-//! The check of worlds of single subgoals, on the cases of a file: a line for what came out of each, after its name.
+//! The check of worlds of single subgoals and of groups, on the cases of a file: a line for what came out of each, after its name.
 #![tactic(auto)]
 
 mod blocks;
 mod reading;
+mod showing;
 
 use crate::blocks::{are_typed, block_types, is_context, is_type};
 use crate::reading::{read_group, read_rows, read_worlds};
+use crate::showing::show_verdict;
 use std::alloc::Global;
 use std::{fs, io};
 use tests_forms::{
@@ -17,9 +19,9 @@ use tw_hered::HeredFault;
 use tw_signature::Signature;
 use tw_subord::Subord;
 use tw_terms::{ConstId, Context, Ty};
-use tw_world::subgoal_is_worlded;
+use tw_world::{check_worlds, subgoal_is_worlded};
 
-/// The blocks, rows and families that a subgoal is looked at with.
+/// The blocks, rows and families that a subgoal or a group is looked at with.
 #[derive(Drop)]
 struct Check {
     worlds: Worlds,
@@ -27,20 +29,60 @@ struct Check {
     group: Vec<ConstId>,
 }
 
-/// Whether a subgoal passes.
+/// The line of a case.
 fn answer(
     alloc: Global,
     signature: &Signature,
     names: &mut Names,
     case: &Case,
-) -> Result<&'static str, FormFault> {
+) -> Result<String, FormFault> {
     let check = read_check(alloc, names, case)?;
     let types = block_types(alloc, &check.worlds)?;
     let subord = Subord::of(alloc, signature, &types)?;
+    match case.kind.as_str() {
+        "subgoal" => subgoal_answer(alloc, signature, names, case, &subord, &check),
+        "group" => group_answer(alloc, signature, names, &subord, &check),
+        _ => Err(FormFault::NoMeaning),
+    }
+}
+
+/// Whether a subgoal passes.
+fn subgoal_answer(
+    alloc: Global,
+    signature: &Signature,
+    names: &mut Names,
+    case: &Case,
+    subord: &Subord,
+    check: &Check,
+) -> Result<String, FormFault> {
     names.forget_all_but_constants(alloc);
     let scope = read_closed_context(alloc, names, &read_forms(alloc, case.text("scope")?)?)?;
     let goal = read_closed_type(alloc, names, &case.form(alloc, "goal")?)?;
-    verdict(alloc, signature, &subord, &check, &scope, &goal)
+    let mut line = String::new(alloc);
+    line.push_str(verdict(alloc, signature, subord, check, &scope, &goal)?)?;
+    Ok(line)
+}
+
+/// What the check of worlds says of a group, where the blocks are typed.
+fn group_answer(
+    alloc: Global,
+    signature: &Signature,
+    names: &Names,
+    subord: &Subord,
+    check: &Check,
+) -> Result<String, FormFault> {
+    if !are_typed(alloc, signature, &check.worlds)? {
+        return Err(FormFault::NoMeaning);
+    }
+    let verdict = check_worlds(
+        alloc,
+        signature,
+        subord,
+        &check.rows,
+        &check.group,
+        &check.worlds,
+    );
+    show_verdict(alloc, names, &verdict)
 }
 
 fn read_check(alloc: Global, names: &mut Names, case: &Case) -> Result<Check, FormFault> {

@@ -7,3 +7,4 @@ pub mod Read
 pub mod Subgoals
 pub mod Examples
 pub mod OrderViews
+pub mod Patterns

@@ -76,11 +76,11 @@ marked_one (suc d) v zero f (m ∷ ms) e l y n =
 marked_one (suc d) v (suc k) f (m ∷ ms) e l y n =
     ap₂ (λ x xs. x ∷ xs) (sym (ap (λ b. either m b) (n d (λ q. omega (arith, q, e))) ∙ or_false m)) (marked_one d v k f ms (omega (arith, e)) (omega (arith, l)) y n)
 
-same_self : (v : ℕ) → same_number v v ≡ true
+pub same_self : (v : ℕ) → same_number v v ≡ true
 same_self zero = refl
 same_self (suc v) = same_self v
 
-same_not : (i v : ℕ) → (i ≡ v → ⊥) → same_number i v ≡ false
+pub same_not : (i v : ℕ) → (i ≡ v → ⊥) → same_number i v ≡ false
 same_not zero zero n = absurd (n refl)
 same_not zero (suc v) n = refl
 same_not (suc i) zero n = refl

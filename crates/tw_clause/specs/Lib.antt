@@ -6,3 +6,4 @@ pub mod Entries
 pub mod Laws
 pub mod Orders
 pub mod Tables
+pub mod Patterns

@@ -13,13 +13,12 @@ use Rattle.tw_parse.specs.Syntax.{DeclarationOf}
 use Rattle.tw_parse.specs.Words.{Lexeme, lexemes, first_word, word_of}
 use Rattle.tw_parse.specs.declared.words.Word.{Word}
 use Rattle.tw_parse.specs.declared.words.Word.TheVariants.{Name, Underscore, Keyword}
-use Rattle.tw_parse_checks.specs.Shapes as drafts
-use Rattle.tw_parse_checks.specs.Shapes.{Draft, is_short, is_full}
 use Rattle.tw_parse_queries.specs.Searches.{Header, Heads, of_query, of_solve}
 use Rattle.tw_decl.specs.View.{View}
 use Rattle.tw_decl.specs.Declaration.{AcceptsFrom}
 use Rattle.tw_decl.specs.Reading.{Read, plain, check, searching, Reads}
 use Rattle.tw_decl.specs.Reports.{Reported}
+use Rattle.tw_decl.proofs.Asking.{asked_word}
 
 -- a declaration may begin with this word
 abbrev begins : Word → Bool
@@ -41,17 +40,13 @@ shape_begins table words D (prefers w f a x u d) = ap begins w
 shape_begins table words D (prefers_both w f a x u y l d) = ap begins w
 shape_begins table words D (gives front xs dot w t f n d) = ap begins w
 
-draft_begins : (table : Table) (words : List Lexeme) (D : Draft) → drafts.Shapes table words D → begins (first_word words) ≡ true
-draft_begins table words D (is_short w k f m e) = ap begins w
-draft_begins table words D (is_full w k q f n e) = ap begins w
-
 header_begins : (words : List Lexeme) (h : Header) (goal : List Lexeme) → Heads words h goal → begins (first_word words) ≡ true
 header_begins words h goal (of_query w k b c) = ap begins w
 header_begins words h goal (of_solve w k n c) = ap begins w
 
 read_begins : (v : View) (words : List Lexeme) (r : Read) → Reads v words r → begins (first_word words) ≡ true
 read_begins v words (plain d) h = shape_begins v.fixities words h.reads.0 h.reads.1
-read_begins v words (check c) h = draft_begins v.fixities words h.reads.0 h.reads.1
+read_begins v words (check c) h = ap begins (asked_word words h.asked)
 read_begins v words (searching s) h = header_begins words h.reads.0 h.reads.1 h.reads.2
 
 -- neither a dot nor the end of the text does

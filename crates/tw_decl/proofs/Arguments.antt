@@ -4,7 +4,7 @@ use Rattle.std.specs.Prelude.{nat_le, ◌==◌, ◌&&◌}
 use Rattle.lf.specs.Entries.{Entry, entry, body_quantifiers, IsCanonicalSignature}
 use Rattle.lf.specs.Variables.{same_number}
 use Rattle.tw_signature.specs.Names.{number_of}
-use Rattle.tw_decl.specs.Modes.{takes_just}
+use Rattle.tw_decl.specs.Applications.{takes_just}
 use Rattle.tw_decl.specs.Operators.{entry_by, explicit_count, newest, takes}
 use Rattle.tw_decl.specs.Preferences.{is_family, is_family_body}
 

@@ -8,7 +8,7 @@ use Rattle.tw_lexer.specs.declared.token.Tokens.{Tokens}
 use Rattle.tw_lexer.specs.declared.token.TokenKind.{TokenKind}
 use Rattle.tw_lexer.specs.declared.token.TokenKind.TheVariants.{End}
 use Rattle.tw_parse.specs.Syntax.{Declaration, declare, define, prefer, give}
-use Rattle.tw_parse_checks.specs.Checks.{mode_short, mode_full}
+use Rattle.tw_parse_checks.specs.Checks.{mode_short, mode_full, block, worlds, terminates}
 use Rattle.tw_parse_queries.specs.Searches.{query, solve}
 use Rattle.tw_parse.specs.Words.{Lexeme, lexemes, first_place}
 use Rattle.tw_recon.specs.declared.fault.ReconFault.{ReconFault}
@@ -121,6 +121,9 @@ none_before : (v : View) (r : Read) (first place : Place)
 none_before v (plain d) first place = no_obstacle_before v d first place
 none_before v (check (mode_short a ms)) first place = (λ h. h.1, λ h. h.1, λ h. h.1)
 none_before v (check (mode_full ms a n d)) first place = (λ h. h.1, λ h. h.1, λ h. h.1)
+none_before v (check (terminates O ps)) first place = (λ h. h, λ h. h, λ h. h)
+none_before v (check (block l n d)) first place = (λ h. h, λ h. h, λ h. h)
+none_before v (check (worlds ls ps)) first place = (λ h. h, λ h. h, λ h. h)
 none_before v (searching (query e t q)) first place = (λ h. h, λ h. h, λ h. h)
 none_before v (searching (solve c at A)) first place = (λ h. h, λ h. h, λ h. h)
 

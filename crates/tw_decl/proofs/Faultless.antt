@@ -16,16 +16,15 @@ use Rattle.tw_parse.specs.declared.fault.SyntaxFault.{SyntaxFault}
 use Rattle.tw_parse.specs.declared.fault.SyntaxFault.TheVariants as faults
 use Rattle.tw_parse.specs.declared.words.Word.{Word}
 use Rattle.tw_parse.specs.declared.words.Word.TheVariants.{Keyword}
-use Rattle.tw_parse_checks.specs.Checks.{Check}
-use Rattle.tw_parse_checks.specs.Marks.{is_check}
-use Rattle.tw_parse_checks.specs.Shapes.{Draft, Shapes, is_short, is_full}
+use Rattle.tw_parse_checks.specs.Marks.{is_check, is_form}
+use Rattle.tw_parse_checks.specs.declared.check.CheckForm.TheVariants.{Mode, Block, Worlds, Terminates}
 use Rattle.tw_parse_queries.specs.Keywords as queries
 use Rattle.tw_parse_queries.specs.Keywords.{has_form, is_search}
 use Rattle.tw_parse_queries.specs.Searches.{Header, Heads, Search, of_query, of_solve}
 use Rattle.tw_parse_queries.specs.declared.keywords.Form.{Form}
 use Rattle.tw_parse_queries.specs.declared.keywords.Form.TheVariants.{Query, Solve}
-use Rattle.tw_decl.specs.Reading.{IsReadAs, IsReadAsCheck, IsReadAsSearch, Read, plain, check, searching, Reads, ReadFault, asks_check, asks_search, is_keyword}
-use Rattle.tw_decl.proofs.Asking.{of_plain}
+use Rattle.tw_decl.specs.Reading.{IsReadAs, IsReadAsSearch, Read, plain, check, searching, Reads, ReadFault, asks_check, asks_search, is_keyword, is_made}
+use Rattle.tw_decl.proofs.Asking.{made_is_check, of_plain}
 use Rattle.tw_decl.specs.View.{View}
 
 pub read_faultless : (table : Table) (end : Place) (words : List Lexeme) (d : Declaration) → IsRead words → Declares table words d → (fault : SyntaxFault) → FaultStands table end words fault → fault ≡ faults.NoMemory
@@ -39,16 +38,24 @@ read_faultless table end words d read shaped (faults.BadDecl place) h = absurd (
 read_faultless table end words d read shaped faults.NoMemory h = refl
 
 -- it asks for no check
-not_built : (bytes : List ℕ) → is_check bytes ≡ true → is_built (form_of bytes) ≡ false
-not_built bytes h = let mode : bytes ≡ codes "%mode" = (bytes_decides bytes (codes "%mode")).0 h in ap (λ (bs : List ℕ). is_built (form_of bs)) mode
+check_by : (a b c d : Bool) (bytes : List ℕ) → bytes_eq bytes (codes "%mode") ≡ a → bytes_eq bytes (codes "%block") ≡ b → bytes_eq bytes (codes "%worlds") ≡ c → bytes_eq bytes (codes "%terminates") ≡ d
+    → is_form (if a then Some Mode else if b then Some Block else if c then Some Worlds else if d then Some Terminates else None) ≡ true → is_built (form_of bytes) ≡ false
+check_by true b c d bytes e f g k h = let word : bytes ≡ codes "%mode" = (bytes_decides bytes (codes "%mode")).0 e in ap (λ (bs : List ℕ). is_built (form_of bs)) word
+check_by false true c d bytes e f g k h = let word : bytes ≡ codes "%block" = (bytes_decides bytes (codes "%block")).0 f in ap (λ (bs : List ℕ). is_built (form_of bs)) word
+check_by false false true d bytes e f g k h = let word : bytes ≡ codes "%worlds" = (bytes_decides bytes (codes "%worlds")).0 g in ap (λ (bs : List ℕ). is_built (form_of bs)) word
+check_by false false false true bytes e f g k h = let word : bytes ≡ codes "%terminates" = (bytes_decides bytes (codes "%terminates")).0 k in ap (λ (bs : List ℕ). is_built (form_of bs)) word
+check_by false false false false bytes e f g k h = let clash : false ≡ true = h in absurd cc
 
-plain_by : (w : Word) (bytes : List ℕ) (b : Bool) → is_check bytes ≡ b → (w ≡ Keyword → is_built (form_of bytes) ≡ true) → is_keyword w && is_check bytes ≡ false
-plain_by Keyword bytes true e known = let clash : false ≡ true = sym (not_built bytes e) ∙ known refl in absurd cc
+not_built : (bytes : List ℕ) → is_check bytes ≡ true → is_built (form_of bytes) ≡ false
+not_built bytes h = check_by (bytes_eq bytes (codes "%mode")) (bytes_eq bytes (codes "%block")) (bytes_eq bytes (codes "%worlds")) (bytes_eq bytes (codes "%terminates")) bytes refl refl refl refl h
+
+plain_by : (w : Word) (bytes : List ℕ) (b : Bool) → is_made bytes ≡ b → (w ≡ Keyword → is_built (form_of bytes) ≡ true) → is_keyword w && is_made bytes ≡ false
+plain_by Keyword bytes true e known = let clash : false ≡ true = sym (not_built bytes (made_is_check bytes e)) ∙ known refl in absurd cc
 plain_by Keyword bytes false e known = e
 plain_by w bytes b e known = refl
 
 pub asks_none : (words : List Lexeme) → IsKnown words → asks_check words ≡ false
-asks_none words known = plain_by (first_word words) (first_bytes words) (is_check (first_bytes words)) refl known
+asks_none words known = plain_by (first_word words) (first_bytes words) (is_made (first_bytes words)) refl known
 
 -- nor for a search
 search_by : (a b : Bool) (bytes : List ℕ) → bytes_eq bytes (codes "%query") ≡ a → bytes_eq bytes (codes "%solve") ≡ b → has_form (if a then Some Query else if b then Some Solve else None) ≡ true → is_built (form_of bytes) ≡ false
@@ -71,18 +78,7 @@ searches_none words known = unsearched_by (first_word words) (first_bytes words)
 pub of_grammar : (v : View) (end : Place) (words : List Lexeme) (fault : SyntaxFault) → IsRead words → ReadFault v end words fault → FaultStands v.fixities end words fault
 of_grammar v end words fault read h = of_plain v end words fault (asks_none words read.0) (searches_none words read.0) h
 
--- and a check does
-asked : (x : Lexeme) → x.word ≡ Keyword → is_check x.bytes ≡ true → is_keyword x.word && is_check x.bytes ≡ true
-asked x w k = ap (λ (u : Word). is_keyword u && is_check x.bytes) w ∙ k
-
-draft_asks : (table : Table) (words : List Lexeme) (D : Draft) → Shapes table words D → asks_check words ≡ true
-draft_asks table words D (is_short {keyword = x} w k f m e) = asked x w k
-draft_asks table words D (is_full {keyword = x} w k q f n e) = asked x w k
-
-pub check_asks : (v : View) (words : List Lexeme) (c : Check) → IsReadAsCheck v words c → asks_check words ≡ true
-check_asks v words c h = draft_asks v.fixities words h.reads.0 h.reads.1
-
--- as a search does for one
+-- and a search asks for one
 searched : (x : Lexeme) (f : Form) → x.word ≡ Keyword → queries.form_of x.bytes ≡ Some f → is_keyword x.word && is_search x.bytes ≡ true
 searched x f w k = ap (λ (u : Word). is_keyword u && is_search x.bytes) w ∙ ap has_form k
 
@@ -96,5 +92,5 @@ search_asks v words s r = header_asks words r.reads.0 r.reads.1 r.reads.2
 -- there is no other reading
 pub only_read : (v : View) (words : List Lexeme) (d : Declaration) → IsReadAs v words d → (x : Read) → Reads v words x → x ≡ plain d
 only_read v words d r (plain x) h = ap plain ((one_reading v.fixities words d r.reads).0 x h.reads)
-only_read v words d r (check c) h = let clash : false ≡ true = sym (asks_none words r.begins.0) ∙ check_asks v words c h in absurd cc
+only_read v words d r (check c) h = let clash : false ≡ true = sym (asks_none words r.begins.0) ∙ h.asked in absurd cc
 only_read v words d r (searching s) h = let clash : false ≡ true = sym (searches_none words r.begins.0) ∙ search_asks v words s h in absurd cc

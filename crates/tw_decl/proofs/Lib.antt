@@ -16,3 +16,6 @@ pub mod Searched
 pub mod AnswerTypes
 pub mod Solved
 pub mod Ahead
+pub mod Ordered
+pub mod Rows
+pub mod Counts

@@ -1,5 +1,5 @@
 -- What a text of the loop of answers asks, and the causes of its refusals.
-use Rattle.std.proofs.Common.{◌≡◌, ◌≢◌, ℕ, List, [], ◌∷◌, Bool, true, false, None, Some, refl, sym, ap, ◌∙◌, subst, inl, inr, Ok, Err}
+use Rattle.std.proofs.Common.{◌≡◌, ◌≢◌, ℕ, List, [], ◌∷◌, Bool, true, false, refl, sym, ap, ◌∙◌, subst, inl, inr, Ok, Err}
 use Rattle.std.specs.Bool.{MatchBool}
 use Rattle.std.specs.Prelude.{if◌then◌else◌, not, IfErr, IfOk, OnOk}
 use Rattle.std.specs.declared.result.Result.{Result}
@@ -16,11 +16,9 @@ use Rattle.tw_parse.specs.Outlines.{Table}
 use Rattle.tw_parse.specs.Words.{Lexeme, first_place}
 use Rattle.tw_parse.specs.declared.fault.SyntaxFault.{SyntaxFault}
 use Rattle.tw_parse.specs.declared.fault.SyntaxFault.TheVariants as faults
-use Rattle.tw_recon.specs.declared.fault.ReconFault.{ReconFault}
-use Rattle.tw_recon.specs.declared.fault.ReconFault.TheVariants as reconstructions
 use Rattle.tw_decl.specs.Question.{AsksNothing, HasQueryCause, IsLastQueryCause, IsQueryCause, IsQueryPastSyntax, IsReadAsQuery, RefusesWords}
 use Rattle.tw_decl.specs.Unanswered.{IsNotAsked}
-use Rattle.tw_decl.specs.Steps.{IsParsedQuery, IsRefusedFor, IsTokenCause, asks_nothing, is_end, nothing_by, refused_alone}
+use Rattle.tw_decl.specs.Steps.{IsParsedQuery, IsTokenCause, asks_nothing, is_end, nothing_by, refused_alone}
 use Rattle.tw_decl.specs.View.{View}
 use Rattle.tw_decl.specs.declared.refusal.Refusal.{Refusal}
 use Rattle.tw_decl.specs.declared.refusal.Refusal.TheVariants as refusals

@@ -2,9 +2,10 @@
 use Rattle.std.proofs.Common.{List, None, Some, sym, subst}
 use Rattle.tw_parse.specs.Syntax.{Declaration, declare, define, prefer, give}
 use Rattle.tw_parse.specs.Words.{Lexeme}
+use Rattle.tw_parse_checks.specs.Checks.{Check, mode_short, mode_full, block, worlds, terminates}
 use Rattle.tw_parse_queries.specs.Searches.{query, solve}
 use Rattle.tw_decl.specs.View.{View, IsSound}
-use Rattle.tw_decl.specs.Declaration.{Does, Makes, ReadDoes}
+use Rattle.tw_decl.specs.Declaration.{Checks, Does, Makes, ReadDoes}
 use Rattle.tw_decl.specs.Reading.{Read, plain, check, searching}
 use Rattle.tw_decl.specs.Reports.{Reported}
 use Rattle.tw_decl.specs.Laws.{AcceptingKeepsSound, AcceptingFromKeepsSound}
@@ -16,9 +17,16 @@ does_sound v w (define (Some c) A M b) report h s = subst IsSound (sym h.keeps) 
 does_sound v w (prefer a x y) report h s = subst IsSound (sym h.keeps) s
 does_sound v w (give fix names) report h s = subst IsSound (sym h.keeps) s
 
+check_sound : (v w : View) (c : Check) (report : Reported) → Checks v c report w → IsSound v → IsSound w
+check_sound v w (mode_short a ms) report h s = subst IsSound (sym h.keeps) s
+check_sound v w (mode_full ms a n d) report h s = subst IsSound (sym h.keeps) s
+check_sound v w (terminates O ps) report h s = subst IsSound (sym h.keeps) s
+check_sound v w (block l n d) report h s = absurd h
+check_sound v w (worlds ls ps) report h s = absurd h
+
 read_sound : (v w : View) (r : Read) (report : Reported) → ReadDoes v r report w → IsSound v → IsSound w
 read_sound v w (plain d) report h s = does_sound v w d report h s
-read_sound v w (check c) report h s = subst IsSound (sym h.keeps) s
+read_sound v w (check c) report h s = check_sound v w c report h s
 read_sound v w (searching (query e t q)) report h s = subst IsSound (sym h.keeps) s
 read_sound v w (searching (solve c at A)) report h s = subst IsSound (sym h.keeps) (s, h.found.stands)
 

@@ -1,20 +1,21 @@
 -- Why a check doesn't give its family a mode, from the causes of each step.
-use Rattle.std.proofs.Common.{◌≡◌, ℕ, List, [], false, Some, refl, sym, ap, ◌∙◌, subst, inl, inr}
-use Rattle.lf.specs.Entries.{entry}
+use Rattle.std.proofs.Common.{ℕ, List, [], ◌∷◌, ◌++◌, sym, subst, inl, inr}
 use Rattle.lf_checks.specs.Marks.{Mark}
 use Rattle.tw_lexer.specs.declared.place.Place.{Place}
 use Rattle.tw_names.specs.Unknown.{IsFirst, IsOneOf, unknown_in}
 use Rattle.tw_names.specs.declared.unknown.Mention.{Mention}
 use Rattle.tw_parse.specs.Syntax.{Declaration}
 use Rattle.tw_parse.specs.declared.decl.ExtName.{ExtName}
-use Rattle.tw_parse_checks.specs.Checks.{Check, mode_short, mode_full}
+use Rattle.tw_parse_checks.specs.Checks.{Call, Check, Order, mode_short, mode_full, terminates}
 use Rattle.tw_parse_checks.specs.declared.check.ExtMark.{ExtMark}
-use Rattle.tw_signature.specs.Names.{number_of}
-use Rattle.tw_decl.specs.Modes.{GivesMarks, IsApplied, LacksMode, IsIllModed, argument_count, check_family, takes_just, undeclared, unknown_in_check}
+use Rattle.tw_decl.specs.Applications.{IsApplied, undeclared}
+use Rattle.tw_decl.specs.Modes.{GivesMarks, LacksMode, IsIllModed}
 use Rattle.lf_checks.specs.Clauses.{ClauseName}
-use Rattle.tw_decl.specs.Obstacles.{GivesNoMarks, IsNotEntered, IsNotFull, IsNotModed, IsNotSet}
-use Rattle.tw_decl.specs.Operators.{entry_by}
-use Rattle.tw_decl.specs.Steps.{ShowsFault, ShowsUnmoded}
+use Rattle.tw_decl.specs.Obstacles.{GivesNoMarks, IsNotApplied, IsNotDescending, IsNotEntered, IsNotFull, IsNotModed, IsNotSet, LacksModes}
+use Rattle.tw_decl.specs.Steps.{CallFails, ShowsFault, ShowsUnmoded}
+use Rattle.tw_decl.specs.Termination.{GivesOrders}
+use Rattle.tw_clause.specs.declared.order.Order.{Order as PlainOrder}
+use Rattle.tw_terms.specs.declared.canonical.ConstId.{ConstId}
 use Rattle.tw_decl.specs.View.{View}
 use Rattle.tw_decl.specs.declared.refusal.Refusal.{Refusal}
 use Rattle.tw_decl.specs.declared.refusal.Refusal.TheVariants as refusals
@@ -26,9 +27,9 @@ not_full v d first (refusals.BadDecl place) h = absurd h
 not_full v d first refusal h = h
 
 -- what keeps the full form from giving marks
-module _ (v : View) (ms : List ExtMark) (a : ExtName) (n : ℕ) (d : Declaration) (first : Place) (family : ℕ) (applied : IsApplied v.signature (mode_full ms a n d) family) where
+module _ (v : View) (ms : List ExtMark) (a : ExtName) (n : ℕ) (d : Declaration) (first : Place) (family : ℕ) (applied : IsApplied v.signature (mode_full ms a n d) (family ∷ [])) where
   known : (m : Mention) → IsFirst m (unknown_in v.signature d) → ⊥
-  known m h = let none : IsOneOf m [] = subst (IsOneOf m) (none_left (unknown_in v.signature d) (undeclared v.signature a) applied.known) h.stands in none
+  known m h = let none : IsOneOf m [] = subst (IsOneOf m) (none_left (unknown_in v.signature d) (undeclared v.signature a ++ []) applied.known) h.stands in none
 
   pub full_not_set : (refusal : Refusal) → IsNotFull v d first refusal → IsNotSet v (mode_full ms a n d) first refusal
   full_not_set refusals.Memory h = tt
@@ -39,16 +40,20 @@ module _ (v : View) (ms : List ExtMark) (a : ExtName) (n : ℕ) (d : Declaration
   full_not_set refusal h = ((family, applied), h)
 
 -- the check is applied, and gives no marks
-pub marks_fail : (v : View) (c : Check) (first : Place) (family : ℕ) → IsApplied v.signature c family → (refusal : Refusal) → GivesNoMarks v c first refusal → IsNotSet v c first refusal
+pub marks_fail : (v : View) (c : Check) (first : Place) (family : ℕ) → IsApplied v.signature c (family ∷ []) → (refusal : Refusal) → GivesNoMarks v c first refusal → IsNotSet v c first refusal
 marks_fail v (mode_short a ms) first family applied refusal h = absurd h
 marks_fail v (mode_full ms a n d) first family applied refusal h = full_not_set v ms a n d first family applied refusal h
+marks_fail v _ first family applied refusal h = absurd h
 
--- the number of arguments, or what the name is
-pub misapplied : (v : View) (c : Check) (first : Place) (family : ℕ) (known : unknown_in_check v.signature c ≡ []) → Some family ≡ number_of v.signature (check_family c).name → takes_just (argument_count c) (entry v.signature family) ≡ false → IsNotSet v c first (refusals.BadDecl first)
-misapplied v c first family known named off = inl ((known, ap (λ x. takes_just (argument_count c) (entry_by v.signature x)) (sym named) ∙ off), refl)
+-- the check doesn't come to its families
+pub not_applied : (v : View) (c : Check) (first : Place) (refusal : Refusal) → IsNotApplied v c first refusal → IsNotSet v c first refusal
+not_applied v c first refusals.Memory h = tt
+not_applied v c first (refusals.Unknown place name) h = h
+not_applied v c first (refusals.BadDecl place) h = inl h
+not_applied v c first refusal h = absurd h
 
 -- the clauses aren't well-moded
-pub row_fails : (v : View) (c : Check) (first : Place) (family : ℕ) (marks : List Mark) (refusal : Refusal) → IsApplied v.signature c family → GivesMarks v.signature c family marks → IsNotModed v family marks first refusal → IsNotSet v c first refusal
+pub row_fails : (v : View) (c : Check) (first : Place) (family : ℕ) (marks : List Mark) (refusal : Refusal) → IsApplied v.signature c (family ∷ []) → GivesMarks v.signature c family marks → IsNotModed v family marks first refusal → IsNotSet v c first refusal
 row_fails v c first family marks refusals.Memory applied gives h = tt
 row_fails v c first family marks (refusals.NotDeclared place text) applied gives h = record { family = family; marks = marks; applied = applied; gives = gives; fails = h }
 row_fails v c first family marks (refusals.ModeFault place clause k j) applied gives h = record { family = family; marks = marks; applied = applied; gives = gives; fails = h }
@@ -64,3 +69,20 @@ fault_fails v family marks first name k j refusals.Memory h s = tt
 fault_fails v family marks first name k j (refusals.ModeFault place clause l i) h s =
     ((name, subst (λ (x : ℕ). IsIllModed v family marks name x i) (sym s.1) (subst (λ (x : ℕ). IsIllModed v family marks name k x) (sym s.2) h), s.0), s.3)
 fault_fails v family marks first name k j refusal h s = absurd s
+
+-- why calls aren't tested, or don't descend
+pub not_come : (v : View) (O : Order) (ps : List Call) (first : Place) (refusal : Refusal) → IsNotApplied v (terminates O ps) first refusal → IsNotDescending v O ps first refusal
+not_come v O ps first (refusals.BadDecl place) h = inl h
+not_come v O ps first (refusals.NotDeclared place text) h = absurd h
+not_come v O ps first (refusals.OrderFault place clause k) h = absurd h
+not_come v O ps first refusal h = h
+
+pub modes_lacking : (v : View) (O : Order) (ps : List Call) (first : Place) (g : ℕ) (refusal : Refusal) → LacksModes v O ps g → ShowsUnmoded v first g refusal → IsNotDescending v O ps first refusal
+modes_lacking v O ps first g refusals.Memory h s = tt
+modes_lacking v O ps first g (refusals.NotDeclared place text) h s = ((g, h, s.0), s.1)
+modes_lacking v O ps first g refusal h s = absurd s
+
+pub calls_fail : (v : View) (O : Order) (ps : List Call) (first : Place) (rows : List (ConstId × PlainOrder)) (refusal : Refusal) → GivesOrders v O ps rows → CallFails v rows first refusal → IsNotDescending v O ps first refusal
+calls_fail v O ps first rows refusals.Memory h s = tt
+calls_fail v O ps first rows (refusals.OrderFault place clause k) h ((name, call, word), at) = ((name, record { rows = rows; gives = h; first = call }, word), at)
+calls_fail v O ps first rows refusal h s = absurd s

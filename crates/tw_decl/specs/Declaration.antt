@@ -1,8 +1,10 @@
 -- A declaration's text: when it is made, with its report and the view after it, and when it is refused.
-use Rattle.std.specs.Prelude.{◌≡◌, ◌≢◌, ◌⊎◌, ℕ, List, ◌++◌, Bool, true, false, codes, Option, None, Some, Ok, Err, if◌then◌else◌}
+use Rattle.std.specs.Prelude.{◌≡◌, ◌≢◌, ◌⊎◌, ℕ, List, [], ◌∷◌, ◌++◌, map as each, Bool, true, false, codes, Option, None, Some, Ok, Err, if◌then◌else◌}
 use Rattle.std.specs.FinMap as map
 use Rattle.lf.specs.Entries.{Entry, entry, signature_of, IsCanonicalEntry}
 use Rattle.lf_checks.specs.Marks.{Mark}
+use Rattle.tw_clause.specs.declared.order.Order.{Order as PlainOrder}
+use Rattle.tw_terms.specs.declared.canonical.ConstId.{ConstId}
 use Rattle.tw_fixity.specs.declared.table.Fix.{Fix}
 use Rattle.tw_lexer.specs.Places.{place_of}
 use Rattle.tw_lexer.specs.Tokens.{first_token, ThroughDot, IsFew, HasFault, HasTooMany}
@@ -15,7 +17,7 @@ use Rattle.tw_parse.specs.declared.decl.ExtName.{ExtName}
 use Rattle.tw_parse.specs.Words.{Lexeme, lexemes, first_place}
 use Rattle.tw_parse.specs.declared.fault.SyntaxFault.TheVariants as faults
 use Rattle.tw_print.specs.Shown.{declaration_line, scene_after}
-use Rattle.tw_parse_checks.specs.Checks.{Check}
+use Rattle.tw_parse_checks.specs.Checks.{Call, Check, Order, mode_short, mode_full, block, worlds, terminates}
 use Rattle.tw_parse_queries.specs.Searches.{query, solve}
 use Rattle.tw_parse_queries.specs.declared.search.ExtBound.{ExtBound}
 use Rattle.tw_query.specs.Runs.{answers_in}
@@ -25,7 +27,9 @@ use Rattle.tw_recon.specs.Reconstruction.{IsReconstructed}
 use Rattle.tw_decl.specs.View.{View, scene_of, told, with_entry, with_mode}
 use Rattle.tw_signature.specs.Goal.{Goal}
 use Rattle.tw_signature.specs.Names.{number_of}
-use Rattle.tw_decl.specs.Modes.{GivesMarks, IsApplied, IsModed, check_family, mode_line}
+use Rattle.tw_decl.specs.Applications.{IsApplied, application_of, applications}
+use Rattle.tw_decl.specs.Modes.{GivesMarks, IsModed, mode_line}
+use Rattle.tw_decl.specs.Termination.{Descend, GivesOrders, termination_line}
 use Rattle.tw_decl.specs.Obstacles.{ReadHasObstacle}
 use Rattle.tw_decl.specs.Operators.{operand_count, all_take, first_undeclared, with_rows, fixity_line}
 use Rattle.tw_decl.specs.Preferences.{is_family, preference_line}
@@ -99,11 +103,27 @@ Does v (give fix names) report w = GivesRows v fix names report w
 pub record SetsMode (v : View) (c : Check) (report : Reported) (w : View) : Type 0 where
   pub family : ℕ
   pub marks : List Mark
-  pub applied : IsApplied v.signature c family
+  pub applied : IsApplied v.signature c (family ∷ [])
   pub gives : GivesMarks v.signature c family marks
   pub moded : IsModed v family marks
-  pub says : report ≡ lines_alone (told v (mode_line (check_family c).name marks))
+  pub says : report ≡ lines_alone (told v (mode_line (applications c) marks))
   pub keeps : w ≡ with_mode v family marks
+
+-- `%terminates`: the declaration gives families orders over inputs, by which their calls descend in the empty worlds; nothing changes
+pub record TestsOrders (v : View) (O : Order) (ps : List Call) (report : Reported) (w : View) : Type 0 where
+  pub rows : List (ConstId × PlainOrder)
+  pub gives : GivesOrders v O ps rows
+  pub descends : Descend v rows
+  pub says : report ≡ lines_alone (told v (termination_line (each application_of ps)))
+  pub keeps : w ≡ v
+
+-- what a check does
+abbrev pub Checks : View → Check → Reported → View → Type 0
+Checks v (mode_short a ms) report w = SetsMode v (mode_short a ms) report w
+Checks v (mode_full ms a n d) report w = SetsMode v (mode_full ms a n d) report w
+Checks v (terminates O ps) report w = TestsOrders v O ps report w
+Checks v (block l n d) report w = ⊥
+Checks v (worlds ls ps) report w = ⊥
 
 -- A query: its search ends within the budget, with answers as expected. Its lines are told, with the number of answers, and nothing changes.
 pub record AnswersQuery (v : View) (e t : ExtBound) (q : Query) (report : Reported) (w : View) : Type 0 where
@@ -126,7 +146,7 @@ pub record KeepsAnswer (v : View) (c : List ℕ) (A : Term) (report : Reported) 
 -- what is done of what is read
 abbrev pub ReadDoes : View → Read → Reported → View → Type 0
 ReadDoes v (plain d) report w = Does v d report w
-ReadDoes v (check c) report w = SetsMode v c report w
+ReadDoes v (check c) report w = Checks v c report w
 ReadDoes v (searching (query e t q)) report w = AnswersQuery v e t q report w
 ReadDoes v (searching (solve c at A)) report w = KeepsAnswer v c A report w
 

@@ -5,7 +5,9 @@ pub mod Reports
 pub mod Operators
 pub mod Preferences
 pub mod Reading
+pub mod Applications
 pub mod Modes
+pub mod Termination
 pub mod Equations
 pub mod Searching
 pub mod Solutions

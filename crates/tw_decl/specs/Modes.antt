@@ -1,5 +1,5 @@
 -- What `%mode` asks of its family, the marks that it gives, and its line.
-use Rattle.std.specs.Prelude.{◌≡◌, ℕ, List, [], ◌∷◌, ◌++◌, length, map as each, Bool, true, false, ◌&&◌, ◌==◌, Option, None, Some, is_some, codes, decimal, if◌then◌else◌}
+use Rattle.std.specs.Prelude.{◌≡◌, ℕ, List, [], ◌∷◌, ◌++◌, map as each, Option, None, Some, codes, decimal}
 use Rattle.lf.specs.Entries.{Body, Entry, declare_constant, declare_family, entry}
 use Rattle.lf.specs.Syntax.{LfType}
 use Rattle.lf_checks.specs.Clauses.{ClauseName, of_constant, of_entry, group_clauses}
@@ -8,58 +8,27 @@ use Rattle.lf_checks.specs.ModeFaults.{GroupIsModed, GroupModeFault, place_of}
 use Rattle.lf_checks.specs.ModeForms.{completed_marks, full_marks}
 use Rattle.lf_checks.specs.ModeRows.{FirstUnmoded}
 use Rattle.tw_mode.specs.Forms.{FullFormStands}
-use Rattle.tw_names.specs.Unknown.{unknown_in}
-use Rattle.tw_names.specs.declared.unknown.Mention.{Mention}
 use Rattle.tw_parse.specs.Syntax.{Declaration}
-use Rattle.tw_parse.specs.declared.decl.ExtName.{ExtName}
 use Rattle.tw_parse_checks.specs.Checks.{Check, mode_short, mode_full}
 use Rattle.tw_parse_checks.specs.declared.check.ExtMark.{ExtMark}
 use Rattle.tw_parse_checks.specs.declared.check.ExtMark.TheVariants.{Input, Output, Free}
 use Rattle.tw_print.specs.Names.{Scene, constant_word}
 use Rattle.tw_recon.specs.Reconstruction.{IsReconstructed}
-use Rattle.tw_signature.specs.Names.{number_of}
-use Rattle.tw_decl.specs.Operators.{explicit_count}
-use Rattle.tw_decl.specs.Preferences.{is_family_body}
+use Rattle.tw_decl.specs.Applications.{Application, families_named}
+use Rattle.tw_decl.specs.Operators.{spaced}
 use Rattle.tw_decl.specs.View.{View, rows_with}
+
+-- the check is one of modes
+abbrev pub IsMode : Check → Type 0
+IsMode (mode_short a ms) = Unit {0}
+IsMode (mode_full ms a n d) = Unit {0}
+IsMode _ = ⊥
 
 -- the mark that is written
 abbrev pub mark_of : ExtMark → Mark
 mark_of Input = input
 mark_of Output = output
 mark_of Free = free
-
--- the family that a check names, and how many arguments of it are written
-abbrev pub check_family : Check → ExtName
-check_family (mode_short a ms) = a
-check_family (mode_full ms a n d) = a
-
-abbrev pub argument_count : Check → ℕ
-argument_count (mode_short a ms) = length ms
-argument_count (mode_full ms a n d) = n
-
--- the name of a family, where it isn't declared
-abbrev pub undeclared : List Entry → ExtName → List Mention
-undeclared es a = if is_some (number_of es a.name) then [] else record { name = a.name; at = a.at } ∷ []
-
--- the lowercase names in the terms of a check that name nothing
-abbrev pub unknown_in_terms : List Entry → Check → List Mention
-unknown_in_terms es (mode_short a ms) = []
-unknown_in_terms es (mode_full ms a n d) = unknown_in es d
-
--- the names of a check that name nothing, in some order: those, and its family, in upper case too
-abbrev pub unknown_in_check : List Entry → Check → List Mention
-unknown_in_check es c = unknown_in_terms es c ++ undeclared es (check_family c)
-
--- it is a family, and has just so many explicit arguments
-abbrev pub takes_just : ℕ → Option Entry → Bool
-takes_just n (Some e) = is_family_body e.body && (explicit_count e == n)
-takes_just n None = false
-
--- Each name of the check is known, and it names this family, with all explicit arguments.
-pub record IsApplied (es : List Entry) (c : Check) (family : ℕ) : Type 0 where
-  pub known : unknown_in_check es c ≡ []
-  pub named : number_of es (check_family c).name ≡ Some family
-  pub takes : takes_just (argument_count c) (entry es family) ≡ true
 
 -- the marks of all arguments of an entry, where these are given for the explicit ones
 abbrev pub completed_in : Body → ℕ → List Mark → List Mark
@@ -87,6 +56,7 @@ pub record GivesFull (es : List Entry) (ms : List Mark) (d : Declaration) (marks
 abbrev pub GivesMarks : List Entry → Check → ℕ → List Mark → Type 0
 GivesMarks es (mode_short a ms) family marks = marks ≡ completed (entry es family) (each mark_of ms)
 GivesMarks es (mode_full ms a n d) family marks = GivesFull es (each mark_of ms) d marks
+GivesMarks es _ family marks = ⊥
 
 -- The full form is reconstructed, and isn't one: an argument is no quantified variable alone, or not each of them is one.
 pub record IsNoFullForm (es : List Entry) (d : Declaration) : Type 0 where
@@ -121,6 +91,6 @@ abbrev pub mark_words : List Mark → List ℕ
 mark_words [] = []
 mark_words (m ∷ ms) = mark_word m ++ mark_words ms
 
--- the family with the marks of all its places
-abbrev pub mode_line : List ℕ → List Mark → List ℕ
-mode_line family marks = (codes "%mode " ++ family) ++ mark_words marks ++ codes ".\n"
+-- the keyword, the family and the marks of all its places
+abbrev pub mode_line : List Application → List Mark → List ℕ
+mode_line xs marks = (codes "%mode" ++ spaced (families_named xs)) ++ mark_words marks ++ codes ".\n"

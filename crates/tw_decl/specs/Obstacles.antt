@@ -1,15 +1,18 @@
 -- Why a declaration that is read isn't made: by its form, and then by its refusals.
-use Rattle.std.specs.Prelude.{◌≡◌, ◌⊎◌, List, [], ◌++◌, ℕ, false, codes, None, Some, IsSome}
-use Rattle.lf.specs.Entries.{Entry}
+use Rattle.std.specs.Prelude.{◌≡◌, ◌⊎◌, List, [], ◌∷◌, ◌++◌, ℕ, false, codes, None, Some, IsSome}
 use Rattle.lf_checks.specs.Clauses.{ClauseName}
 use Rattle.lf_checks.specs.Marks.{Mark}
+use Rattle.lf_checks.specs.ModeRows.{first_unmoded, is_moded}
+use Rattle.tw_clause.specs.declared.order.Order.{Order as PlainOrder}
+use Rattle.tw_mode.specs.ModeTables.{mode_rows}
+use Rattle.tw_terms.specs.declared.canonical.ConstId.{ConstId}
 use Rattle.tw_fixity.specs.declared.table.Fix.{Fix}
 use Rattle.tw_lexer.specs.declared.place.Place.{Place}
 use Rattle.tw_metas.specs.declared.left.LeftEquation.{LeftEquation}
 use Rattle.tw_names.specs.Unknown.{IsFirst}
 use Rattle.tw_parse.specs.Syntax.{Declaration, declare, define, prefer, give}
 use Rattle.tw_parse.specs.declared.decl.ExtName.{ExtName}
-use Rattle.tw_parse_checks.specs.Checks.{Check, mode_short, mode_full}
+use Rattle.tw_parse_checks.specs.Checks.{Call, Check, Order, mode_short, mode_full, block, worlds, terminates}
 use Rattle.tw_parse_queries.specs.Searches.{query, solve}
 use Rattle.tw_print.specs.Names.{constant_word}
 use Rattle.tw_recon.specs.Causes as reconstruction
@@ -17,7 +20,9 @@ use Rattle.tw_recon.specs.declared.fault.ReconFault.{ReconFault}
 use Rattle.tw_recon.specs.declared.fault.ReconFault.TheVariants as reconstructions
 use Rattle.tw_signature.specs.Names.{number_of}
 use Rattle.tw_decl.specs.Equations.{left_text}
-use Rattle.tw_decl.specs.Modes.{GivesMarks, IsApplied, IsIllModed, IsNoFullForm, LacksMode, argument_count, check_family, clause_word, takes_just, unknown_in_check}
+use Rattle.tw_decl.specs.Applications.{IsApplied, IsMisapplied, unknown_in_check}
+use Rattle.tw_decl.specs.Modes.{GivesMarks, IsIllModed, IsNoFullForm, LacksMode, clause_word}
+use Rattle.tw_decl.specs.Termination.{AreAtInputs, GivesOrders, IsFirstCall, NamesModed}
 use Rattle.tw_decl.specs.Operators.{newest, operand_count, all_take, first_undeclared}
 use Rattle.tw_decl.specs.Preferences.{is_family}
 use Rattle.tw_decl.specs.Reading.{Read, plain, check, searching}
@@ -71,9 +76,12 @@ HasObstacle v (define c A M b) first refusal = IsNotEntered v (define c A M b) f
 HasObstacle v (prefer a x y) first refusal = IsNotPreferred v a first refusal
 HasObstacle v (give fix names) first refusal = IsNotGiven v fix names first refusal
 
--- The names of a check are known, and it names no family, or one with more or fewer explicit arguments.
-abbrev pub IsMisapplied : List Entry → Check → Type 0
-IsMisapplied es c = (unknown_in_check es c ≡ []) × (takes_just (argument_count c) (newest es (check_family c).name) ≡ false)
+-- Why a check doesn't come to its families, where its first token stands at this place: this is the first name of it that isn't known; or what one names is no family with just its arguments.
+abbrev pub IsNotApplied : View → Check → Place → Refusal → Type 0
+IsNotApplied v c first refusals.Memory = Unit {0}
+IsNotApplied v c first (refusals.Unknown place name) = IsFirst (record { name = name; at = place }) (unknown_in_check v.signature c)
+IsNotApplied v c first (refusals.BadDecl place) = IsMisapplied v.signature c × (place ≡ first)
+IsNotApplied v c first _ = ⊥
 
 -- why a full form gives no marks: it isn't reconstructed, or what comes of it has not the form
 abbrev pub IsNotFull : View → Declaration → Place → Refusal → Type 0
@@ -84,9 +92,10 @@ IsNotFull v d first refusal = IsNotEntered v d first refusal
 abbrev pub GivesNoMarks : View → Check → Place → Refusal → Type 0
 GivesNoMarks v (mode_short a ms) first refusal = ⊥
 GivesNoMarks v (mode_full ms a n d) first refusal = IsNotFull v d first refusal
+GivesNoMarks v _ first refusal = ⊥
 
 abbrev pub MarksFail : View → Check → Place → Refusal → Type 0
-MarksFail v c first refusal = ((family : ℕ) × IsApplied v.signature c family) × GivesNoMarks v c first refusal
+MarksFail v c first refusal = ((family : ℕ) × IsApplied v.signature c (family ∷ [])) × GivesNoMarks v c first refusal
 
 -- Why a family isn't checked by these marks: it meets this family, which has no mode and is shown behind `mode`; or this clause isn't well-moded.
 abbrev pub IsNotModed : View → ℕ → List Mark → Place → Refusal → Type 0
@@ -99,7 +108,7 @@ IsNotModed v family marks first _ = ⊥
 pub record RowFails (v : View) (c : Check) (first : Place) (refusal : Refusal) : Type 0 where
   pub family : ℕ
   pub marks : List Mark
-  pub applied : IsApplied v.signature c family
+  pub applied : IsApplied v.signature c (family ∷ [])
   pub gives : GivesMarks v.signature c family marks
   pub fails : IsNotModed v family marks first refusal
 
@@ -107,15 +116,55 @@ pub record RowFails (v : View) (c : Check) (first : Place) (refusal : Refusal) :
 -- gives no marks; or the family isn't checked by them.
 abbrev pub IsNotSet : View → Check → Place → Refusal → Type 0
 IsNotSet v c first refusals.Memory = Unit {0}
-IsNotSet v c first (refusals.Unknown place name) = IsFirst (record { name = name; at = place }) (unknown_in_check v.signature c)
-IsNotSet v c first (refusals.BadDecl place) = (IsMisapplied v.signature c × (place ≡ first)) ⊎ MarksFail v c first (refusals.BadDecl place)
+IsNotSet v c first (refusals.Unknown place name) = IsNotApplied v c first (refusals.Unknown place name)
+IsNotSet v c first (refusals.BadDecl place) = IsNotApplied v c first (refusals.BadDecl place) ⊎ MarksFail v c first (refusals.BadDecl place)
 IsNotSet v c first (refusals.NotDeclared place text) = RowFails v c first (refusals.NotDeclared place text)
 IsNotSet v c first (refusals.ModeFault place clause k j) = RowFails v c first (refusals.ModeFault place clause k j)
 IsNotSet v c first refusal = MarksFail v c first refusal
 
+-- the families of a `%terminates` and the first of them without a mode
+pub record LacksModes (v : View) (O : Order) (ps : List Call) (g : ℕ) : Type 0 where
+  pub families : List ℕ
+  pub applied : IsApplied v.signature (terminates O ps) families
+  pub unmoded : first_unmoded (is_moded (mode_rows v.checked.modes)) families ≡ Some g
+
+-- its families have modes, and a place that it gives one of them isn't an input
+pub record MissesInputs (v : View) (O : Order) (ps : List Call) : Type 0 where
+  pub families : List ℕ
+  pub named : NamesModed v O ps families
+  pub off : AreAtInputs v 0 O ps → ⊥
+
+-- it gives them orders over inputs, and this is the first call that doesn't descend, in the empty worlds
+pub record Ascends (v : View) (O : Order) (ps : List Call) (name : ClauseName) (k : ℕ) : Type 0 where
+  pub rows : List (ConstId × PlainOrder)
+  pub gives : GivesOrders v O ps rows
+  pub first : IsFirstCall v rows name k
+
+-- Why families don't descend by an order, where the first token stands at this place: it doesn't come to its families; this one of them has no mode, and is shown behind `mode`; a variable stands at no
+-- input; or this clause doesn't descend.
+abbrev pub IsNotDescending : View → Order → List Call → Place → Refusal → Type 0
+IsNotDescending v O ps first (refusals.BadDecl place) = IsNotApplied v (terminates O ps) first (refusals.BadDecl place) ⊎ (MissesInputs v O ps × (place ≡ first))
+IsNotDescending v O ps first (refusals.NotDeclared place text) = ((g : ℕ) × LacksModes v O ps g × (text.items ≡ codes "mode " ++ constant_word (scene_of v) g)) × (place ≡ first)
+IsNotDescending v O ps first (refusals.OrderFault place clause k) = ((name : ClauseName) × Ascends v O ps name k × (clause.items ≡ clause_word (scene_of v) name)) × (place ≡ first)
+IsNotDescending v O ps first refusal = IsNotApplied v (terminates O ps) first refusal
+
+-- a declaration of a form that isn't built is refused where its first token stands, and its keyword is shown
+abbrev pub IsNotBuilt : List ℕ → Place → Refusal → Type 0
+IsNotBuilt keyword first refusals.Memory = Unit {0}
+IsNotBuilt keyword first (refusals.Unsupported place shown) = (place ≡ first) × (shown ≡ keyword)
+IsNotBuilt keyword first _ = ⊥
+
+-- why a check isn't made
+abbrev pub IsNotChecked : View → Check → Place → Refusal → Type 0
+IsNotChecked v (mode_short a ms) first refusal = IsNotSet v (mode_short a ms) first refusal
+IsNotChecked v (mode_full ms a n d) first refusal = IsNotSet v (mode_full ms a n d) first refusal
+IsNotChecked v (terminates O ps) first refusal = IsNotDescending v O ps first refusal
+IsNotChecked v (block l n d) first refusal = IsNotBuilt (codes "%block") first refusal
+IsNotChecked v (worlds ls ps) first refusal = IsNotBuilt (codes "%worlds") first refusal
+
 -- why what is read isn't made
 abbrev pub ReadHasObstacle : View → Read → Place → Refusal → Type 0
 ReadHasObstacle v (plain d) first refusal = HasObstacle v d first refusal
-ReadHasObstacle v (check c) first refusal = IsNotSet v c first refusal
+ReadHasObstacle v (check c) first refusal = IsNotChecked v c first refusal
 ReadHasObstacle v (searching (query e t q)) first refusal = IsNotAnswered v e t q first refusal
 ReadHasObstacle v (searching (solve c at A)) first refusal = IsNotSolved v c A first refusal

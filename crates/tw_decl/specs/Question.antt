@@ -1,5 +1,5 @@
 -- A text of the loop of answers: what it asks, and why it is refused.
-use Rattle.std.specs.Prelude.{◌≡◌, ◌≢◌, ◌⊎◌, ℕ, List, false, codes, None, Some, Ok}
+use Rattle.std.specs.Prelude.{◌≡◌, ◌≢◌, ◌⊎◌, ℕ, List, false, Ok}
 use Rattle.lf.specs.Entries.{signature_of}
 use Rattle.tw_lexer.specs.Cut.{cut_after, is_done}
 use Rattle.tw_lexer.specs.Tokens.{first_token, HasFault, HasTooMany}

@@ -29,6 +29,18 @@ use Rattle.tw_clause.specs.declared.name.Mark3.{Mark3}
 use Rattle.tw_print.specs.Names.{constant_word}
 use Rattle.tw_decl.specs.View.{View, scene_of}
 use Rattle.tw_decl.specs.Modes.{HasFullForm, clause_word}
+use Rattle.lf_checks.specs.Order as lf
+use Rattle.tw_clause.specs.Orders.{order_of}
+use Rattle.tw_clause.specs.declared.order.Order.{Order}
+use Rattle.tw_order.specs.Rows.{families_of}
+use Rattle.tw_parse_checks.specs.Checks as written
+use Rattle.tw_decl.specs.Termination.{AreAtInputs, IsAtInputs, IsFirstCall, order_by, orders_given}
+use Rattle.tw_decl.specs.Applications as plain
+use Rattle.tw_decl.specs.Applications.{NameFamilies, all_take_just, takes_just}
+use Rattle.tw_decl.specs.Operators.{newest}
+use Rattle.tw_decl.specs.declared.applications.Application.{Application}
+use Rattle.tw_signature.specs.Names.{number_of}
+use Rattle.tw_terms.specs.declared.canonical.ConstId.{ConstId}
 use Rattle.tw_decl.specs.Equations.{left_text}
 use Rattle.tw_decl.specs.Reading.{Reads, ReadFault, read_of}
 use Rattle.tw_decl.specs.declared.reading.Written.{Written}
@@ -133,3 +145,44 @@ ShowsFault v first name k j _ = ⊥
 abbrev pub FullOutcome : List Mark → Entry → Option (Vec Mark3 Global) → Type 0
 FullOutcome ms e (Some marks) = (U : LfType) × HasFullForm e U × (each plain_mark marks.items ≡ full_marks ms U)
 FullOutcome ms e None = (U : LfType) → HasFullForm e U → ⊥
+
+-- what a family on its arguments in memory says
+abbrev pub application_of : Application → plain.Application
+application_of x = plain.on x.family.now x.count
+
+-- the number of the family, or that it isn't one with just so many arguments
+abbrev pub IsTaken : List Entry → plain.Application → Option ConstId → Type 0
+IsTaken es x (Some id) = (number_of es x.family.name ≡ Some id.0) × (takes_just x.count (newest es x.family.name) ≡ true)
+IsTaken es x None = takes_just x.count (newest es x.family.name) ≡ false
+
+-- those of all of them
+abbrev pub AreTaken : List Entry → List plain.Application → Option (Vec ConstId Global) → Type 0
+AreTaken es xs (Some ids) = NameFamilies es xs (each (λ (id : ConstId). id.0) ids.items) × (all_take_just es xs ≡ true)
+AreTaken es xs None = all_take_just es xs ≡ false
+
+-- the order, whose places are all chosen, or that some place isn't
+abbrev pub IsOrderAt : List Bool → lf.Order → Option Order → Type 0
+IsOrderAt m P (Some o) = (order_of o ≡ P) × lf.IsAtPlaces m P
+IsOrderAt m P None = lf.IsAtPlaces m P → ⊥
+
+-- the family of call pattern k and its order, or that some place isn't an input
+abbrev pub IsRowOf : View → ℕ → written.Order → written.Call → Option (ConstId × Order) → Type 0
+IsRowOf v k O p (Some r) = (number_of v.signature p.family.name ≡ Some r.0.0) × (order_of r.1 ≡ order_by v.signature k O p) × IsAtInputs v (Some r.0.0) (order_by v.signature k O p)
+IsRowOf v k O p None = IsAtInputs v (number_of v.signature p.family.name) (order_by v.signature k O p) → ⊥
+
+-- those of all call patterns
+abbrev pub AreRowsOf : View → written.Order → List written.Call → Option (Vec (ConstId × Order) Global) → Type 0
+AreRowsOf v O ps (Some rows) = NameFamilies v.signature (each plain.application_of ps) (families_of rows.items) × (each (λ (r : ConstId × Order). order_of r.1) rows.items ≡ orders_given v.signature 0 O ps) × AreAtInputs v 0 O ps
+AreRowsOf v O ps None = AreAtInputs v 0 O ps → ⊥
+
+-- want of memory, or a clause that doesn't descend at this place
+abbrev pub ShowsCall : View → Place → ClauseName → ℕ → Refusal → Type 0
+ShowsCall v first name k refusals.Memory = Unit {0}
+ShowsCall v first name k (refusals.OrderFault place clause l) = (clause.items ≡ clause_word (scene_of v) name) × (l ≡ k) × (place ≡ first)
+ShowsCall v first name k _ = ⊥
+
+-- want of memory, or the first call that doesn't descend by these orders
+abbrev pub CallFails : View → List (ConstId × Order) → Place → Refusal → Type 0
+CallFails v rows first refusals.Memory = Unit {0}
+CallFails v rows first (refusals.OrderFault place clause k) = ((name : ClauseName) × IsFirstCall v rows name k × (clause.items ≡ clause_word (scene_of v) name)) × (place ≡ first)
+CallFails v rows first _ = ⊥

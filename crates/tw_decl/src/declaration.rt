@@ -4,9 +4,10 @@ ghost use Rattle.tw_lexer.specs.Places.{place_of};
 ghost use Rattle.tw_lexer.specs.Tokens.{IsWithin, Lexes};
 ghost use Rattle.tw_parse.specs.View.{declaration_of};
 ghost use Rattle.tw_parse.specs.Words.{first_place, lexemes};
+ghost use Rattle.tw_parse_checks.specs.Checks.{check_of};
 ghost use Rattle.tw_parse_queries.specs.Searches.{search_of};
-ghost use Rattle.tw_decl.specs.Declaration.{Accepts, HasCause, HasCauseFrom, Comes, Does, GivesRows, Prefers, ReadDoes};
-ghost use Rattle.tw_decl.specs.Obstacles.{HasObstacle, IsNotGiven, IsNotPreferred, ReadHasObstacle};
+ghost use Rattle.tw_decl.specs.Declaration.{Accepts, Checks, HasCause, HasCauseFrom, Comes, Does, GivesRows, Prefers, ReadDoes};
+ghost use Rattle.tw_decl.specs.Obstacles.{HasObstacle, IsNotBuilt, IsNotChecked, IsNotGiven, IsNotPreferred, ReadHasObstacle};
 ghost use Rattle.tw_decl.specs.Reading.{read_of, searching};
 ghost use Rattle.tw_decl.specs.Reports.{reported};
 ghost use Rattle.tw_decl.specs.Steps.{NamesUnknown, IsTokenCause, is_over};
@@ -21,10 +22,12 @@ use crate::refusal::Refusal;
 use crate::report::{Report, told};
 use crate::session::Session;
 use crate::solving::solve;
+use crate::terminating::terminate;
 use std::alloc::Global;
 use tw_fixity::{Fix, Name};
 use tw_lexer::{LexFault, Place, Token, TokenKind, Tokens, lex, next_token};
 use tw_parse::{ExtDecl, ExtName};
+use tw_parse_checks::ExtCheck;
 use tw_parse_queries::ExtSearch;
 
 /// What comes next in a text of declarations.
@@ -178,6 +181,38 @@ fn make_search(
     }
 }
 
+// The refusal of a form that isn't built.
+fn not_built(alloc: Global, first: Place, keyword: &str) -> Refusal
+    ensures { IsNotBuilt keyword.now first result }
+{
+    match Name::from_text(alloc, keyword) {
+        Ok(shown) => Refusal::Unsupported(first, shown),
+        Err(_) => Refusal::Memory,
+    }
+}
+
+// Makes a check. After a refusal nothing has changed.
+fn make_check(
+    alloc: Global,
+    session: &mut Session,
+    first: Place,
+    check: &ExtCheck,
+) -> Result<Report, Refusal>
+    ensures ok { IfOk result (λ report. Checks session.old (check_of check.now) (reported report) session.new) }
+    ensures err { OnErr result (session.new ≡ session.old) }
+    ensures cause { IfErr result (IsNotChecked session.old (check_of check.now) first) }
+{
+    match check {
+        ExtCheck::ModeShort(_, _) => set_mode(alloc, session, first, check),
+        ExtCheck::ModeFull(_, _, _, _) => set_mode(alloc, session, first, check),
+        ExtCheck::Terminates(order, patterns) => {
+            terminate(alloc, session, first, order, patterns)
+        }
+        ExtCheck::Block(_, _, _) => Err(not_built(alloc, first, "%block")),
+        ExtCheck::Worlds(_, _) => Err(not_built(alloc, first, "%worlds")),
+    }
+}
+
 // Does what is read. After a refusal nothing has changed.
 fn make(
     alloc: Global,
@@ -191,7 +226,7 @@ fn make(
 {
     match read {
         Written::Plain(declaration) => perform(alloc, session, first, &declaration),
-        Written::Check(check) => set_mode(alloc, session, first, &check),
+        Written::Check(check) => make_check(alloc, session, first, &check),
         Written::Search(search) => make_search(alloc, session, first, search),
     }
 }

@@ -1,12 +1,14 @@
 //! The session, and one declaration: read, completed, kept and reported.
 #![tactic(auto)]
 
+mod applications;
 mod declaration;
 mod entering;
 mod laws;
 mod modes;
 mod moding;
 mod operators;
+mod orders;
 mod parameters;
 mod preferences;
 mod querying;
@@ -19,6 +21,7 @@ mod session;
 #[tactic(auto, using(tw_terms::proofs::Args::types_and_skeletons))]
 mod solution;
 mod solving;
+mod terminating;
 
 pub use declaration::{Next, declare, declare_one};
 pub use laws::{

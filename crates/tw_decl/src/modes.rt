@@ -2,21 +2,23 @@
 ghost use Rattle.std.specs.Prelude.{◌≡◌, ◌++◌, codes, decimal, map, IfOk, None};
 ghost use Rattle.lf.specs.Entries.{entry as entry_numbered};
 ghost use Rattle.tw_clause.specs.View.{mark_of as plain_mark, name_of};
-ghost use Rattle.tw_names.specs.Earliest.{earlier, earliest};
+ghost use Rattle.tw_names.specs.Earliest.{earliest};
 ghost use Rattle.tw_names.specs.Unknown.{unknown_in};
 ghost use Rattle.tw_parse.specs.View.{declaration_of};
 ghost use Rattle.tw_parse_checks.specs.Checks.{check_of};
 ghost use Rattle.tw_print.specs.Names.{constant_word, is_plain, name_in};
-ghost use Rattle.tw_decl.specs.Modes.{argument_count, check_family, clause_word, mark_of, mark_word, mode_line, takes_just, unknown_in_check, unknown_in_terms};
+ghost use Rattle.tw_decl.specs.Applications.{unknown_in_terms};
+ghost use Rattle.tw_decl.specs.Modes.{clause_word, mark_of, mark_word, mode_line};
+ghost use Rattle.tw_decl.specs.Steps.{application_of};
 ghost use Rattle.tw_decl.specs.View.{scene_of};
 
-use crate::preferences::is_family;
+use crate::applications::{Application, family_words};
 use crate::session::Session;
 use std::alloc::{AllocError, Global};
 use tw_clause::{ClauseName, Mark3};
 use tw_fixity::Name;
-use tw_names::{Mention, first_mention, is_no_later};
-use tw_parse::{ExtDecl, ExtName};
+use tw_names::{Mention, first_mention};
+use tw_parse::ExtDecl;
 use tw_parse_checks::{ExtCheck, ExtMark};
 use tw_signature::Signature;
 use tw_terms::ConstId;
@@ -43,26 +45,6 @@ pub fn marks_of(alloc: Global, written: &[ExtMark]) -> Result<Vec<Mark3>, AllocE
     Ok(marks)
 }
 
-/// The family that a check names.
-pub fn check_family(check: &ExtCheck) -> &ExtName
-    ensures { result.now ≡ check_family (check_of check.now) }
-{
-    match check {
-        ExtCheck::ModeShort(family, _) => family,
-        ExtCheck::ModeFull(_, family, _, _) => family,
-    }
-}
-
-/// How many arguments of it are written.
-pub fn argument_count(check: &ExtCheck) -> usize
-    ensures { result ≡ argument_count (check_of check.now) }
-{
-    match check {
-        ExtCheck::ModeShort(_, marks) => marks.len(),
-        ExtCheck::ModeFull(_, _, count, _) => *count,
-    }
-}
-
 // The first name of a declaration that names nothing.
 fn unknown_in(
     alloc: Global,
@@ -78,8 +60,8 @@ fn unknown_in(
     }
 }
 
-// The first such name in the terms of a check.
-fn unknown_in_terms(
+/// The first such name in the terms of a check.
+pub fn unknown_in_terms(
     alloc: Global,
     signature: &Signature,
     check: &ExtCheck,
@@ -87,51 +69,12 @@ fn unknown_in_terms(
     ensures { IfOk result (λ m. m ≡ earliest None (unknown_in_terms signature.now (check_of check.now))) }
 {
     match check {
-        ExtCheck::ModeShort(_, _) => Ok(None),
         ExtCheck::ModeFull(_, _, _, declaration) => unknown_in(alloc, signature, declaration),
+        ExtCheck::ModeShort(_, _)
+        | ExtCheck::Terminates(_, _)
+        | ExtCheck::Worlds(_, _)
+        | ExtCheck::Block(_, _, _) => Ok(None),
     }
-}
-
-// The earlier of what was found before and this name.
-fn earlier(alloc: Global, before: Option<Mention>, name: &ExtName) -> Result<Mention, AllocError>
-    ensures { IfOk result (λ m. m ≡ earlier before (record { name = name.now.name; at = name.now.at })) }
-{
-    if let Some(found) = before {
-        if is_no_later(found.at, name.at) {
-            return Ok(found);
-        }
-    }
-    Ok(Mention {
-        name: name.name.copy(alloc)?,
-        at: name.at,
-    })
-}
-
-/// The first name of a check that names nothing.
-pub fn first_unknown(
-    alloc: Global,
-    signature: &Signature,
-    check: &ExtCheck,
-) -> Result<Option<Mention>, AllocError>
-    ensures { IfOk result (λ m. m ≡ earliest None (unknown_in_check signature.now (check_of check.now))) }
-{
-    let found = unknown_in_terms(alloc, signature, check)?;
-    let family = check_family(check);
-    if signature.lookup(&family.name).is_some() {
-        return Ok(found);
-    }
-    Ok(Some(earlier(alloc, found, family)?))
-}
-
-/// Whether the entry of this number is a family with just so many explicit arguments.
-pub fn takes_just(signature: &Signature, count: usize, id: ConstId) -> bool
-    ensures { result ≡ takes_just count (entry_numbered signature.now id.0) }
-{
-    signature.is_canonical();
-    let Some(entry) = signature.entry(id) else {
-        return false;
-    };
-    is_family(signature, id) && entry.hints.len().saturating_sub(entry.implicit as usize) == count
 }
 
 // The name of a constant, which is empty where no entry has this number.
@@ -217,11 +160,14 @@ fn mark_word(mark: Mark3) -> &'static [u8]
 }
 
 /// The line of a declaration of modes. Fails only for want of memory.
-pub fn mode_line(alloc: Global, family: &Name, marks: &[Mark3]) -> Result<Vec<u8>, AllocError>
-    ensures { IfOk result (λ line. line.items ≡ mode_line family.now (map plain_mark marks.now)) }
+pub fn mode_line(
+    alloc: Global,
+    applications: &[Application],
+    marks: &[Mark3],
+) -> Result<Vec<u8>, AllocError>
+    ensures { IfOk result (λ line. line.items ≡ mode_line (map application_of applications.now) (map plain_mark marks.now)) }
 {
-    let mut line = b"%mode ".to_vec(alloc)?;
-    line.extend_from_slice(family.as_bytes())?;
+    let mut line = family_words(alloc, b"%mode", applications)?;
     for mark in marks {
         line.extend_from_slice(mark_word(*mark))?;
     }

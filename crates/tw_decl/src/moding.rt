@@ -1,5 +1,5 @@
 //! Declarations of modes: the family's clauses are checked by them, and they are kept and reported.
-ghost use Rattle.std.specs.Prelude.{◌≡◌, map, IfErr, IfOk, OnErr, OnOk};
+ghost use Rattle.std.specs.Prelude.{◌≡◌, ◌∷◌, [], map, IfErr, IfOk, OnErr, OnOk};
 ghost use Rattle.lf.specs.Entries.{entry as entry_numbered};
 ghost use Rattle.tw_clause.specs.View.{mark_of as plain_mark, name_of};
 ghost use Rattle.tw_parse.specs.View.{declaration_of};
@@ -7,17 +7,16 @@ ghost use Rattle.tw_parse_checks.specs.Checks.{check_of};
 ghost use Rattle.tw_signature.specs.View.{entry_of};
 ghost use Rattle.tw_recon.specs.Reconstruction.{IsReconstructed};
 ghost use Rattle.tw_decl.specs.Declaration.{SetsMode};
-ghost use Rattle.tw_decl.specs.Modes.{GivesFull, GivesMarks, IsApplied, IsModed, check_family, completed, mark_of, mode_line};
+ghost use Rattle.tw_decl.specs.Applications.{IsApplied, applications as applications_in};
+ghost use Rattle.tw_decl.specs.Modes.{GivesFull, GivesMarks, IsMode, IsModed, completed, mark_of, mode_line};
 ghost use Rattle.tw_decl.specs.Obstacles.{IsNotFull, IsNotModed, IsNotSet};
 ghost use Rattle.tw_decl.specs.Reports.{lines_alone, reported};
-ghost use Rattle.tw_decl.specs.Steps.{FullOutcome, ShowsFault, ShowsUnmoded};
+ghost use Rattle.tw_decl.specs.Steps.{FullOutcome, ShowsFault, ShowsUnmoded, application_of};
 ghost use Rattle.tw_decl.specs.View.{told, with_mode};
 
+use crate::applications::{Application, applications, applied};
 use crate::entering::given;
-use crate::modes::{
-    argument_count, check_family, clause_word, first_unknown, marks_of, mode_line, mode_words,
-    takes_just,
-};
+use crate::modes::{clause_word, marks_of, mode_line, mode_words, unknown_in_terms};
 use crate::refusal::Refusal;
 use crate::report::{Report, told};
 use crate::session::Session;
@@ -30,29 +29,31 @@ use tw_parse_checks::{ExtCheck, ExtMark};
 use tw_signature::{Body, Entry};
 use tw_terms::ConstId;
 
-// The family that a check names with just its arguments, where each name is known.
-fn applied(
+// The family that a mode's check names with just its arguments, where each name is known.
+fn family_of(
     alloc: Global,
     session: &Session,
     first: Place,
     check: &ExtCheck,
+    applications: &[Application],
 ) -> Result<ConstId, Refusal>
-    ensures applied { IfOk result (λ id. IsApplied session.now.signature (check_of check.now) id.0) }
+    requires mode { IsMode (check_of check.now) }
+    requires named { map application_of applications.now ≡ applications_in (check_of check.now) }
+    ensures applied { IfOk result (λ id. IsApplied session.now.signature (check_of check.now) (id.0 ∷ [])) }
     ensures cause { IfErr result (IsNotSet session.now (check_of check.now) first) }
 {
-    let signature = session.signature();
-    match first_unknown(alloc, signature, check) {
-        Ok(None) => {}
-        Ok(Some(mention)) => return Err(Refusal::Unknown(mention.at, mention.name)),
+    let found = match unknown_in_terms(alloc, session.signature(), check) {
+        Ok(found) => found,
         Err(_) => return Err(Refusal::Memory),
-    }
-    let Some(id) = signature.lookup(&check_family(check).name) else {
-        unreachable!()
     };
-    if !takes_just(signature, argument_count(check), id) {
-        return Err(Refusal::BadDecl(first));
+    let families = match applied(alloc, session, first, found, applications) {
+        Ok(families) => families,
+        Err(refusal) => return Err(refusal),
+    };
+    match families.as_slice() {
+        [family] => Ok(*family),
+        _ => unreachable!(),
     }
-    Ok(id)
 }
 
 // The marks that the short form gives. Fails only for want of memory.
@@ -119,7 +120,8 @@ fn marks(
     check: &ExtCheck,
     family: ConstId,
 ) -> Result<Vec<Mark3>, Refusal>
-    requires { IsApplied session.now.signature (check_of check.now) family.0 }
+    requires mode { IsMode (check_of check.now) }
+    requires applied { IsApplied session.now.signature (check_of check.now) (family.0 ∷ []) }
     ensures gives { IfOk result (λ marks. GivesMarks session.now.signature (check_of check.now) family.0 (map plain_mark marks.items)) }
     ensures cause { IfErr result (IsNotSet session.now (check_of check.now) first) }
 {
@@ -134,11 +136,14 @@ fn marks(
                 Err(refusal) => Err(refusal),
             }
         }
+        ExtCheck::Terminates(_, _) | ExtCheck::Worlds(_, _) | ExtCheck::Block(_, _, _) => {
+            unreachable!()
+        }
     }
 }
 
-// A family without a mode.
-fn no_mode(alloc: Global, session: &Session, first: Place, family: ConstId) -> Refusal
+/// A family without a mode.
+pub fn no_mode(alloc: Global, session: &Session, first: Place, family: ConstId) -> Refusal
     ensures { ShowsUnmoded session.now first family.0 result }
 {
     match mode_words(alloc, session, family) {
@@ -193,15 +198,15 @@ fn moded(
 fn keep(
     alloc: Global,
     session: &mut Session,
-    check: &ExtCheck,
+    applications: &[Application],
     family: ConstId,
     marks: Vec<Mark3>,
 ) -> Result<Report, AllocError>
-    ensures says { IfOk result (λ report. reported report ≡ lines_alone (told session.old (mode_line (check_family (check_of check.now)).name (map plain_mark marks.items)))) }
+    ensures says { IfOk result (λ report. reported report ≡ lines_alone (told session.old (mode_line (map application_of applications.now) (map plain_mark marks.items)))) }
     ensures keeps { OnOk result (session.new ≡ with_mode session.old family.0 (map plain_mark marks.items)) }
     ensures err { OnErr result (session.new ≡ session.old) }
 {
-    let line = mode_line(alloc, &check_family(check).name, &marks)?;
+    let line = mode_line(alloc, applications, &marks)?;
     let report = told(alloc, session, line);
     session.set_mode(family, marks)?;
     Ok(report)
@@ -214,11 +219,16 @@ pub fn set_mode(
     first: Place,
     check: &ExtCheck,
 ) -> Result<Report, Refusal>
+    requires { IsMode (check_of check.now) }
     ensures ok { IfOk result (λ report. SetsMode session.old (check_of check.now) (reported report) session.new) }
     ensures err { OnErr result (session.new ≡ session.old) }
     ensures cause { IfErr result (IsNotSet session.old (check_of check.now) first) }
 {
-    let family = match applied(alloc, session, first, check) {
+    let applications = match applications(alloc, check) {
+        Ok(applications) => applications,
+        Err(_) => return Err(Refusal::Memory),
+    };
+    let family = match family_of(alloc, session, first, check, &applications) {
         Ok(family) => family,
         Err(refusal) => return Err(refusal),
     };
@@ -230,7 +240,7 @@ pub fn set_mode(
         Ok(()) => {}
         Err(refusal) => return Err(refusal),
     }
-    match keep(alloc, session, check, family, given) {
+    match keep(alloc, session, &applications, family, given) {
         Ok(report) => Ok(report),
         Err(_) => Err(Refusal::Memory),
     }

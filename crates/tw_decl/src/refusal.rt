@@ -1,6 +1,6 @@
 //! Why declarations are refused.
 ghost use Rattle.std.specs.Prelude.{◌≡◌, ◌++◌, codes, decimal, IfOk};
-ghost use Rattle.tw_decl.specs.Refusals.{count_words, fault_words, refusal_line, show_place};
+ghost use Rattle.tw_decl.specs.Refusals.{count_words, fault_words, refusal_line, show_place, subgoal_words};
 ghost use Rattle.tw_decl.specs.declared.refusal.Refusal.TheVariants.{Memory};
 
 use std::alloc::{AllocError, AllocFailed, Global};
@@ -43,6 +43,8 @@ pub enum Refusal {
     /// This clause isn't well-moded: the subgoal in solving order from 1, 0 being the head; the argument from 1, implicit ones
     /// counted, 0 being none of them.
     ModeFault(Place, Vec<u8>, u64, u64),
+    /// This clause doesn't descend: the call is this subgoal, in solving order from 1.
+    OrderFault(Place, Vec<u8>, u64),
     /// So many answers of a query were found, and so many there have to be.
     Count(Place, u64, u64),
     /// A search made so many tries, which is its budget, and one more is due.
@@ -96,6 +98,9 @@ pub fn show_refusal(alloc: Global, refusal: &Refusal, origin: &str) -> Result<Ve
         }
         Refusal::ModeFault(place, clause, subgoal, argument) => {
             clause_line(alloc, origin, place, clause, *subgoal, *argument)
+        }
+        Refusal::OrderFault(place, clause, subgoal) => {
+            subgoal_line(alloc, origin, place, clause, *subgoal)
         }
         Refusal::Count(place, found, expected) => {
             count_line(alloc, origin, place, *found, *expected)
@@ -164,6 +169,30 @@ fn clause_line(
 {
     let words = fault_words(alloc, clause, subgoal, argument)?;
     line_with(alloc, origin, place, b" E13 ModeFault ", &words)
+}
+
+// A clause, and the number of a subgoal.
+fn subgoal_words(alloc: Global, clause: &[u8], subgoal: u64) -> Result<Vec<u8>, AllocError>
+    ensures { IfOk result (λ words. words.items ≡ subgoal_words clause.now subgoal) }
+{
+    let mut words = Vec::from_slice(alloc, clause)?;
+    let number = format!(in alloc; " {subgoal}")?;
+    words.extend_from_slice(number.as_bytes())?;
+    Ok(words)
+}
+
+// A line that ends with these.
+fn subgoal_line(
+    alloc: Global,
+    origin: &str,
+    place: &Place,
+    clause: &[u8],
+    subgoal: u64,
+) -> Result<Vec<u8>, AllocError>
+    ensures { IfOk result (λ line. line.items ≡ show_place origin.now place.now ++ codes " E15 OrderFault " ++ subgoal_words clause.now subgoal ++ codes "\n") }
+{
+    let words = subgoal_words(alloc, clause, subgoal)?;
+    line_with(alloc, origin, place, b" E15 OrderFault ", &words)
 }
 
 // How many answers were found, and how many there have to be.

@@ -23,7 +23,9 @@ use Rattle.tw_mode.specs.Outcomes.{EndOutcome}
 use Rattle.tw_mode.specs.Rows.{marks_in}
 use Rattle.tw_mode.specs.Scopes.{in_marks}
 use Rattle.tw_mode.specs.declared.table.Table.{Table}
-use Rattle.tw_mode.proofs.Sets.{in_marks_past, marked_set, number_is, same_self}
+use Rattle.lf.proofs.Checker.{number_is}
+use Rattle.tw_clause.proofs.Marking.{same_self}
+use Rattle.tw_mode.proofs.Sets.{in_marks_past, marked_set}
 use mathlib.Core.Path.{fun_ext}
 
 either_no : (a b : Bool) → either a b ≡ false → (a ≡ false) × (b ≡ false)

@@ -1,5 +1,4 @@
 pub mod Sets
-pub mod Patterns
 pub mod Strictness
 pub mod Steps
 pub mod Occurring
@@ -21,3 +20,4 @@ pub mod Completing
 pub mod Placing
 pub mod Stepping
 pub mod Outer
+pub mod Reaching

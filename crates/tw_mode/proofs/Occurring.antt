@@ -10,7 +10,9 @@ use Rattle.lf_checks.specs.Strict.{pattern_arguments, strict, strict_at, strict_
 use Rattle.lf_checks.specs.Tests.{both, either}
 use Rattle.lf_checks.proofs.EtaTest.{both_l, both_r}
 use Rattle.tw_clause.proofs.Walks.{at_quantifier}
-use Rattle.tw_mode.proofs.Sets.{number_is, same_self, same_turned}
+use Rattle.lf.proofs.Checker.{number_is}
+use Rattle.tw_clause.proofs.Marking.{same_self}
+use Rattle.tw_mode.proofs.Sets.{same_turned}
 
 either_left : (a b : Bool) → a ≡ true → either a b ≡ true
 either_left a b e = ap (λ t. either t b) e

@@ -5,34 +5,16 @@ use Rattle.lf.specs.Variables.{hide, same_number, under}
 use Rattle.lf_checks.specs.Clause.{with_newest}
 use Rattle.lf_checks.specs.Tests.{either}
 use Rattle.tw_clause.specs.Marks.{marked}
-use Rattle.tw_mode.specs.Scopes.{in_marks, newest}
+use Rattle.lf.proofs.Checker.{number_is}
+use Rattle.tw_clause.proofs.Marking.{same_not, same_self}
+use Rattle.tw_mode.specs.Scopes.{in_marks}
 use mathlib.Core.Path.{fun_ext}
-
-pub same_self : (i : ℕ) → same_number i i ≡ true
-same_self zero = refl
-same_self (suc i) = same_self i
-
-pub same_not : (i j : ℕ) → (i ≡ j → ⊥) → same_number i j ≡ false
-same_not zero zero n = absurd (n refl)
-same_not zero (suc j) n = refl
-same_not (suc i) zero n = refl
-same_not (suc i) (suc j) n = same_not i j (λ q. n (ap suc q))
 
 pub same_turned : (i j : ℕ) → same_number i j ≡ same_number j i
 same_turned zero zero = refl
 same_turned zero (suc j) = refl
 same_turned (suc i) zero = refl
 same_turned (suc i) (suc j) = same_turned i j
-
-pub newest_in : (n i : ℕ) → i < n → newest n i ≡ true
-newest_in zero i h = absurd (omega (arith, h))
-newest_in (suc n) zero h = refl
-newest_in (suc n) (suc i) h = newest_in n i (omega (arith, h))
-
-pub newest_out : (n i : ℕ) → n ≤ i → newest n i ≡ false
-newest_out zero i h = refl
-newest_out (suc n) zero h = absurd (omega (arith, h))
-newest_out (suc n) (suc i) h = newest_out n i (omega (arith, h))
 
 -- past the variables in scope
 pub in_marks_past : (b : Bool) (d i : ℕ) (ms : List Bool) → d ≤ i → in_marks b d ms i ≡ b
@@ -77,12 +59,6 @@ added d ms h = fun_ext (λ i. added_at d i ms h)
 either_cond : (t m a b : Bool) → either (cond t m a) b ≡ cond t (either m b) (either a b)
 either_cond true m a b = refl
 either_cond false m a b = refl
-
-pub number_is : (i j : ℕ) → same_number i j ≡ true → i ≡ j
-number_is zero zero e = refl
-number_is zero (suc j) e = absurd cc
-number_is (suc i) zero e = absurd cc
-number_is (suc i) (suc j) e = ap suc (number_is i j e)
 
 at_number : (f : ℕ → Bool) (i d : ℕ) (t m x : Bool) → same_number i d ≡ t → cond t (either m (f d)) x ≡ cond t (either m (f i)) x
 at_number f i d true m x e = ap (λ n. either m (f n)) (sym (number_is i d e))

@@ -48,7 +48,7 @@ module _ (C : List LfType) (o : Outside) (T : LfType) (left : ℕ) (h : left < q
   inside : Here < quantifiers T
   inside = omega (arith, h)
 
-  is_variable_here : (b : Bool) → get_or (shape T) left false ≡ b → variables (clause_in C o T) Here ≡ b
+  pub is_variable_here : (b : Bool) → get_or (shape T) left false ≡ b → variables (clause_in C o T) Here ≡ b
   is_variable_here b e = shape_at T everything Here inside ∙ ap (λ k. get_or (shape T) k false) place ∙ e
 
   type_here : (D A : LfType) → A ≡ rename_type (shift_by (quantifiers T - left)) (get_or (domain_types T) left D) → type_at (scope (clause_in C o T)) Here ≡ Some A

@@ -15,7 +15,8 @@ use Rattle.tw_clause.specs.declared.name.Mark3.{Mark3}
 use Rattle.tw_mode.specs.ModeTables.{MarksByFamily, mode_row, mode_rows, rows_map}
 use Rattle.tw_mode.specs.Rows.{with_row}
 use Rattle.tw_mode.specs.declared.table.Row.{Row}
-use Rattle.tw_mode.proofs.Sets.{number_is, same_not, same_self}
+use Rattle.lf.proofs.Checker.{number_is}
+use Rattle.tw_clause.proofs.Marking.{same_not, same_self}
 
 abbrev pub Marks : Type 0
 Marks = Vec Mark3 Global

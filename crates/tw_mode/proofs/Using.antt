@@ -7,7 +7,8 @@ use Rattle.lf.specs.Variables.{under, Uses, UsesSpine, UsesType}
 use Rattle.lf_checks.specs.Tests.{either}
 use Rattle.tw_terms.specs.View.{args_of}
 use Rattle.tw_terms.specs.declared.canonical.Term.{Term as RustTerm}
-use Rattle.tw_mode.specs.Scopes.{in_marks, newest}
+use Rattle.tw_clause.specs.Patterns.{newest}
+use Rattle.tw_mode.specs.Scopes.{in_marks}
 use Rattle.tw_mode.proofs.Sets.{in_marks_inside}
 use mathlib.Core.Path.{fun_ext}
 

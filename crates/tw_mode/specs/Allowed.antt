@@ -1,7 +1,8 @@
 -- The set of variables that a term may use.
 use Rattle.std.specs.Prelude.{ℕ, Bool}
 use Rattle.lf_checks.specs.Tests.{either}
-use Rattle.tw_mode.specs.Scopes.{in_marks, newest}
+use Rattle.tw_clause.specs.Patterns.{newest}
+use Rattle.tw_mode.specs.Scopes.{in_marks}
 use Rattle.tw_mode.specs.declared.uses.Allowed.{Allowed}
 
 -- the newest, and those that are marked

@@ -9,3 +9,4 @@ pub mod Listing
 pub mod Groups
 pub mod ModeTables
 pub mod Forms
+pub mod Before

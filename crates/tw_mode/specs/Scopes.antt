@@ -1,17 +1,8 @@
 -- Sets of variables that a scope and its marks stand for.
-use Rattle.std.specs.Prelude.{ℕ, zero, suc, List, [], ◌∷◌, Bool, Option, Some, None, false, cond}
-use Rattle.lf.specs.Variables.{everything, nothing, same_number, under}
+use Rattle.std.specs.Prelude.{ℕ, zero, suc, List, [], ◌∷◌, Bool, false, cond}
+use Rattle.lf.specs.Variables.{same_number}
+use Rattle.tw_clause.specs.Patterns.{newest}
 use Rattle.tw_mode.specs.declared.scope.Scope.{Scope}
-
--- the n newest variables
-abbrev pub newest : ℕ → ℕ → Bool
-newest zero = nothing
-newest (suc n) = under (newest n)
-
--- these, or all where no number is given
-abbrev pub newest_of : Option ℕ → ℕ → Bool
-newest_of (Some n) = newest n
-newest_of None = everything
 
 -- The set of these marks, the first being that of the outermost of `depth` variables; a variable without a mark is in it where b says so. With two variables in scope
 -- and the mark `true` of the outer one, variable 1 is in `in_marks false 2 (true ∷ [])` alone.

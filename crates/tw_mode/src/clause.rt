@@ -43,10 +43,10 @@ pub struct Place {
 
 /// Where a walk over the subgoals of a clause stands: which variables are ground, which needn't be, and how many subgoals were met.
 #[derive(Drop)]
-struct Walk {
-    ground: Vec<bool>,
-    excused: Vec<bool>,
-    subgoals: u64,
+pub struct Walk {
+    pub ground: Vec<bool>,
+    pub excused: Vec<bool>,
+    pub subgoals: u64,
 }
 
 /// The first fault of a type as a clause, if there is one. Fails only for want of memory. The stack nests as deep as the type does.
@@ -131,7 +131,7 @@ fn clause_end(
 }
 
 /// Before the first subgoal.
-fn begin(
+pub fn begin(
     alloc: Global,
     table: &Table,
     outside: &Outside,
@@ -206,7 +206,7 @@ fn not_variables(alloc: Global, outside: u64, shape: &[bool]) -> Result<Vec<bool
 }
 
 /// The types of the leading quantifiers, the outermost first.
-fn domains_of<'a>(alloc: Global, ty: &'a Ty) -> Result<Vec<&'a Ty>, AllocError>
+pub fn domains_of<'a>(alloc: Global, ty: &'a Ty) -> Result<Vec<&'a Ty>, AllocError>
     ensures { IfOk result (λ ds. map (λ d. type_of d.now) ds.items ≡ domain_types (type_of ty.now)) }
 {
     let mut domains: Vec<&'a Ty> = Vec::new(alloc);
@@ -260,7 +260,7 @@ fn subgoals_fault(
 }
 
 /// The test at a place.
-fn nth_test(tests: &[bool], place: usize) -> bool
+pub fn nth_test(tests: &[bool], place: usize) -> bool
     requires { place < length tests.now }
     ensures { result ≡ get_or tests.now place false }
 {
@@ -268,7 +268,7 @@ fn nth_test(tests: &[bool], place: usize) -> bool
 }
 
 /// The type at a place.
-fn nth_domain<'a>(domains: &[&'a Ty], place: usize) -> &'a Ty
+pub fn nth_domain<'a>(domains: &[&'a Ty], place: usize) -> &'a Ty
     requires { place < length domains.now }
     ensures { type_of result.now ≡ get_or (map (λ d. type_of d.now) domains.now) place (atom 0 nil) }
 {
@@ -333,7 +333,7 @@ fn step(
 }
 
 /// What a subgoal makes ground, and what it excuses.
-fn solve_goal(
+pub fn solve_goal(
     alloc: Global,
     table: &Table,
     scope: &Scope,

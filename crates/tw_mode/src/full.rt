@@ -5,11 +5,9 @@ ghost use Rattle.tw_clause.specs.View.{mark_of};
 ghost use Rattle.tw_terms.specs.View.{spine_of, type_of};
 ghost use Rattle.tw_mode.specs.Forms.{FullFormOutcome};
 
-use crate::eta::variable_at_head;
 use crate::head::{count_quantifiers, target_spine};
-use crate::pattern::is_pattern;
 use std::alloc::{AllocError, Global};
-use tw_clause::Mark3;
+use tw_clause::{Mark3, is_pattern, variable_at_head};
 use tw_terms::{Spine, Ty};
 
 /// The marks of a family's places, from those of the quantifiers of a reconstructed type, the first one first. There are any exactly where no quantifier is implicit, and the target's

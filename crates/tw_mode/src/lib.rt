@@ -2,13 +2,13 @@
 #![tactic(auto)]
 
 #[tactic(auto, using(tw_terms::proofs::Args::types))]
+mod before;
+#[tactic(auto, using(tw_terms::proofs::Args::types))]
 mod called;
 mod check;
 #[tactic(auto, using(tw_terms::proofs::Args::types))]
 mod clause;
 mod end;
-#[tactic(auto, using(tw_terms::proofs::Args::types))]
-mod eta;
 mod fault;
 mod full;
 #[tactic(auto, using(tw_terms::proofs::Args::types))]
@@ -21,7 +21,6 @@ mod marks;
 mod mentions;
 mod mode_table;
 mod outside;
-mod pattern;
 mod places;
 mod rows;
 mod scope;
@@ -34,10 +33,12 @@ mod table;
 #[tactic(auto, using(tw_terms::proofs::Args::types))]
 mod uses;
 
+pub use before::ground_before;
 pub use check::{check_mode, check_modes};
 pub use fault::ModeFault;
 pub use full::full_marks;
 pub use mode_table::ModeTable;
+pub use outside::Outside;
 pub use places::{mark_strict_at, mark_strict_goal};
 pub use scope::Scope;
 pub use short::short_marks;

@@ -2,7 +2,7 @@
 ghost use Rattle.std.specs.Prelude.{◌≡◌};
 ghost use Rattle.lf.specs.Variables.{same_number};
 ghost use Rattle.tw_clause.specs.Marks.{marked};
-ghost use Rattle.tw_mode.specs.Scopes.{in_marks, newest};
+ghost use Rattle.tw_mode.specs.Scopes.{in_marks};
 
 /// Whether a variable is marked, where so many are in scope; one without a mark counts as `other`.
 pub fn is_marked(marks: &[bool], depth: u64, variable: u64, other: bool) -> bool
@@ -16,13 +16,6 @@ pub fn is_marked(marks: &[bool], depth: u64, variable: u64, other: bool) -> bool
         return other;
     }
     marks[place as usize]
-}
-
-/// Whether a variable is one of so many newest ones.
-pub fn is_newest(count: u64, variable: u64) -> bool
-    ensures { result ≡ newest count variable }
-{
-    variable < count
 }
 
 /// Marks a variable, if it has a mark.

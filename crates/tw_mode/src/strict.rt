@@ -7,10 +7,10 @@ ghost use Rattle.tw_clause.specs.Marks.{marked};
 ghost use Rattle.tw_terms.specs.View.{spine_of, term_of};
 ghost use Rattle.tw_mode.specs.Scopes.{bound_in, fixed_in};
 
-use crate::marks::{is_marked, is_newest, mark_variable};
-use crate::pattern::is_pattern;
+use crate::marks::{is_marked, mark_variable};
 use crate::scope::{Scope, inside};
 use std::alloc::{AllocError, Global};
+use tw_clause::{is_newest, is_pattern};
 use tw_terms::{Head, Spine, Term};
 
 /// Marks the variables with a strict occurrence in a term. Fails for want of memory, as where no context in memory is so long.

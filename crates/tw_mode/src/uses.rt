@@ -4,8 +4,9 @@ ghost use Rattle.lf.specs.Variables.{under, Uses, UsesSpine, UsesType};
 ghost use Rattle.tw_terms.specs.View.{spine_of, term_of, type_of};
 ghost use Rattle.tw_mode.specs.Allowed.{allowed_in};
 
-use crate::marks::{is_marked, is_newest};
+use crate::marks::is_marked;
 use std::alloc::AllocError;
+use tw_clause::is_newest;
 use tw_terms::numbers::one_more;
 use tw_terms::{Head, Spine, Term, Ty};
 

@@ -14,9 +14,6 @@ use std::alloc::{AllocError, Global};
 use tw_signature::Signature;
 use tw_terms::{Kind, Spine, Term, Ty, target};
 
-/// How many steps a comparison of two arguments may take.
-const STEPS: u64 = 4_194_304;
-
 /// A call, and the target of the clause that makes it, which is an atom; both stand under the quantifiers of the call.
 #[derive(Clone, Copy)]
 pub struct Call<'a> {
@@ -48,7 +45,7 @@ pub fn same_places(goal: &Ty, head: &Ty, one: u32, other: u32) -> bool
     term.same(than)
 }
 
-/// Whether the argument of the call is smaller than that of the clause. Fails for want of memory, and where the comparison takes too many steps.
+/// Whether the argument of the call is smaller than that of the clause. Fails only for want of memory.
 pub fn smaller_places(
     alloc: Global,
     sig: &Signature,
@@ -66,10 +63,7 @@ pub fn smaller_places(
         return Ok(false);
     };
     match family_place(alloc, sig, call.head, other)? {
-        Some(ty) => {
-            let mut steps = STEPS;
-            smaller(alloc, sig, &call.scope, &mut steps, term, than, &ty)
-        }
+        Some(ty) => smaller(alloc, sig, &call.scope, term, than, &ty),
         None => Ok(false),
     }
 }

@@ -12,17 +12,15 @@ use crate::scope::Scope;
 use crate::taking::{has_type, head_type, past_argument};
 use std::alloc::{AllocError, Global};
 use tw_signature::Signature;
-use tw_terms::numbers::one_less;
 use tw_terms::{Head, Spine, Term, Ty};
 
-/// Whether a term is smaller than another one, which has this type. Takes so many steps at most, one for each term that it comes to; past these it fails as for want of memory. Under a lambda
-/// each local variable of its type is tried, so that k of one type and d nested lambdas have up to k to the d terms to come to.
+/// Whether a term is smaller than another one, which has this type. Fails only for want of memory. Under a lambda each local variable of its type is tried, so that k of one type and d nested
+/// lambdas have up to k to the d terms to come to.
 #[cycle(smaller)]
 pub fn smaller(
     alloc: Global,
     sig: &Signature,
     scope: &Scope,
-    steps: &mut u64,
     term: &Term,
     than: &Term,
     ty: &Ty,
@@ -30,13 +28,10 @@ pub fn smaller(
     requires { TermStands (signature_of sig.now) scope.now.context.now (term_of than.now) (type_of ty.now) }
     ensures { IfOk result (λ b. Decides b (IsSmaller (signature_of sig.now) scope.now (term_of term.now) (term_of than.now) (type_of ty.now))) }
 {
-    *steps = one_less(*steps)?;
     match than {
-        Term::Root(head, spine) => under_head(alloc, sig, scope, steps, term, *head, spine),
+        Term::Root(head, spine) => under_head(alloc, sig, scope, term, *head, spine),
         Term::Lam(body) => match ty {
-            Ty::Pi(domain, range) => {
-                under_lambda(alloc, sig, scope, steps, term, body, domain, range)
-            }
+            Ty::Pi(domain, range) => { under_lambda(alloc, sig, scope, term, body, domain, range) }
             Ty::Atom(_, _) => Ok(false),
         },
     }
@@ -48,7 +43,6 @@ fn under_head(
     alloc: Global,
     sig: &Signature,
     scope: &Scope,
-    steps: &mut u64,
     term: &Term,
     head: Head,
     spine: &Spine,
@@ -57,7 +51,7 @@ fn under_head(
     ensures { IfOk result (λ b. (A : LfType) → Decides b (IsSmaller (signature_of sig.now) scope.now (term_of term.now) (root (head_of head) (spine_of spine.now)) A)) }
 {
     match head_type(alloc, sig, scope, head)? {
-        Some(function) => in_arguments(alloc, sig, scope, steps, term, spine, function),
+        Some(function) => in_arguments(alloc, sig, scope, term, spine, function),
         None => Ok(false),
     }
 }
@@ -68,7 +62,6 @@ fn in_arguments(
     alloc: Global,
     sig: &Signature,
     scope: &Scope,
-    steps: &mut u64,
     term: &Term,
     spine: &Spine,
     function: Ty,
@@ -78,7 +71,7 @@ fn in_arguments(
 {
     let mut ty = function;
     for arg in &spine.args {
-        if in_argument(alloc, sig, scope, steps, term, arg, &ty)? {
+        if in_argument(alloc, sig, scope, term, arg, &ty)? {
             return Ok(true);
         }
         ty = past_argument(alloc, &ty, arg)?;
@@ -92,7 +85,6 @@ fn in_argument(
     alloc: Global,
     sig: &Signature,
     scope: &Scope,
-    steps: &mut u64,
     term: &Term,
     arg: &Term,
     ty: &Ty,
@@ -101,7 +93,7 @@ fn in_argument(
     ensures { IfOk result (λ b. Decides b (IsInFirst (signature_of sig.now) scope.now (term_of term.now) (term_of arg.now) (type_of ty.now))) }
 {
     match ty {
-        Ty::Pi(domain, _) => smaller_or_equal(alloc, sig, scope, steps, term, arg, domain),
+        Ty::Pi(domain, _) => smaller_or_equal(alloc, sig, scope, term, arg, domain),
         Ty::Atom(_, _) => Ok(false),
     }
 }
@@ -112,7 +104,6 @@ fn smaller_or_equal(
     alloc: Global,
     sig: &Signature,
     scope: &Scope,
-    steps: &mut u64,
     term: &Term,
     than: &Term,
     ty: &Ty,
@@ -123,7 +114,7 @@ fn smaller_or_equal(
     if term.same(than) {
         return Ok(true);
     }
-    smaller(alloc, sig, scope, steps, term, than, ty)
+    smaller(alloc, sig, scope, term, than, ty)
 }
 
 /// Whether it is smaller than the lambda with this body: the body with a local variable of the domain in it, or smaller.
@@ -132,7 +123,6 @@ fn under_lambda(
     alloc: Global,
     sig: &Signature,
     scope: &Scope,
-    steps: &mut u64,
     term: &Term,
     body: &Term,
     domain: &Ty,
@@ -142,9 +132,7 @@ fn under_lambda(
     ensures { IfOk result (λ b. Decides b (IsSmaller (signature_of sig.now) scope.now (term_of term.now) (lambda (term_of body.now)) (pi (type_of domain.now) (type_of range.now)))) }
 {
     for variable in 0..scope.locals {
-        if in_body(
-            alloc, sig, scope, steps, term, body, domain, range, variable,
-        )? {
+        if in_body(alloc, sig, scope, term, body, domain, range, variable)? {
             return Ok(true);
         }
     }
@@ -157,7 +145,6 @@ fn in_body(
     alloc: Global,
     sig: &Signature,
     scope: &Scope,
-    steps: &mut u64,
     term: &Term,
     body: &Term,
     domain: &Ty,
@@ -172,5 +159,5 @@ fn in_body(
     }
     let body = put_variable(alloc, body, variable)?;
     let range = put_variable_in_type(alloc, range, variable)?;
-    smaller_or_equal(alloc, sig, scope, steps, term, &body, &range)
+    smaller_or_equal(alloc, sig, scope, term, &body, &range)
 }

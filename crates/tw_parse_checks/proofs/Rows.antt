@@ -3,16 +3,15 @@ use Rattle.std.proofs.Common.{◌≡◌, List, [], ◌∷◌, ◌++◌, Some, No
 use Rattle.tw_parse.specs.Keywords.{is_identifier}
 use Rattle.tw_parse.specs.Words.{Lexeme, first_word, first_bytes}
 use Rattle.tw_parse_checks.specs.Marks.{named_mark_by}
-use Rattle.tw_parse_checks.specs.Shapes.{Row, no_more, one_more, TakesMark, a_mark, TakesName, a_name}
+use Rattle.tw_parse.specs.declared.words.Word.{Word}
+use Rattle.tw_parse.specs.declared.words.Word.TheVariants.{RParen}
+use Rattle.tw_parse_checks.specs.Parts.{Stuck}
+use Rattle.tw_parse_checks.specs.Shapes.{Row, no_more, one_more, TakesMark, a_mark, TakesName, a_name, is_variable, TakesVariable, a_variable}
 
 -- one more at the end
 pub push : {A : Type 0} {Takes : List Lexeme → A → List Lexeme → Type 0} {tokens next rest : List Lexeme} {row : List A} {x : A} → Row Takes tokens row next → Takes next x rest → Row Takes tokens (row ++ x ∷ []) rest
 push no_more t = one_more t no_more
 push (one_more h w) t = one_more h (push w t)
-
--- nothing of the row stands first
-abbrev pub Stuck : {A : Type 0} → (List Lexeme → A → List Lexeme → Type 0) → List Lexeme → Type 0
-Stuck {A} Takes tokens = (x : A) (rest : List Lexeme) → Takes tokens x rest → ⊥
 
 abbrev pub IsOnce : {A : Type 0} → (List Lexeme → A → List Lexeme → Type 0) → Type 0
 IsOnce {A} Takes = (tokens rest others : List Lexeme) (x y : A) → Takes tokens x rest → Takes tokens y others → (x ≡ y) × (rest ≡ others)
@@ -34,6 +33,15 @@ marks_once tokens rest others x y (a_mark e) (a_mark f) = (let same : Some x ≡
 
 pub names_once : IsOnce TakesName
 names_once tokens rest others x y (a_name e) (a_name f) = (refl, refl)
+
+pub variables_once : IsOnce TakesVariable
+variables_once tokens rest others x y (a_variable e) (a_variable f) = (refl, refl)
+
+pub stuck_variable : (tokens : List Lexeme) → is_variable (first_word tokens) (first_bytes tokens) ≡ false → Stuck TakesVariable tokens
+stuck_variable tokens e x rest (a_variable f) = let clash : false ≡ true = sym e ∙ f in cc
+
+pub paren_is_no_variable : (c : Lexeme) (rest : List Lexeme) → c.word ≡ RParen → Stuck TakesVariable (c ∷ rest)
+paren_is_no_variable c rest e = stuck_variable (c ∷ rest) (ap (λ (w : Word). is_variable w c.bytes) e)
 
 pub stuck_mark : (tokens : List Lexeme) → named_mark_by (first_word tokens) (first_bytes tokens) ≡ None → Stuck TakesMark tokens
 stuck_mark tokens e x rest (a_mark f) = let clash : None ≡ Some x = sym e ∙ f in cc

@@ -1,86 +1,37 @@
--- What stands before and behind the types of a check.
+-- Families, ends, names and marks.
 use Rattle.std.proofs.Common.{◌≡◌, ℕ, ◌+◌, List, [], ◌∷◌, ◌++◌, Bool, true, false, None, Some, drop, refl, sym, ap, subst, ◌∙◌, arith}
 use Rattle.tw_lexer.specs.declared.place.Place.{Place}
 use Rattle.tw_parse.specs.Keywords.{is_identifier}
 use Rattle.tw_parse.specs.Outlines.{Table, Outline, Sequence, named}
 use Rattle.tw_parse.specs.Telling.{Tells}
-use Rattle.tw_parse.specs.Words.{Lexeme, first_word, first_bytes, first_place, is_bindable}
+use Rattle.tw_parse.specs.Words.{Lexeme, first_word, first_bytes, first_place}
 use Rattle.tw_parse.specs.declared.decl.ExtName.{ExtName}
 use Rattle.tw_parse.specs.declared.parts.Part.{Part}
 use Rattle.tw_parse.specs.declared.words.Word.{Word}
-use Rattle.tw_parse.specs.declared.words.Word.TheVariants.{Name, Colon, Dot, LParen, RParen, LBrace, RBrace, End}
-use Rattle.tw_parse.proofs.Building.{Token, a_token, bindable_stands}
-use Rattle.tw_parse_checks.specs.Marks.{mark_of, lone_mark_by, named_mark_by}
-use Rattle.tw_parse_checks.specs.Parts.{HasNoHead, HasNoFamily}
-use Rattle.tw_parse_checks.specs.Shapes.{Row, TakesMark, a_mark, TakesName, a_name, Head, a_head, Family, bare, in_parens, Closing, by_dot, by_paren}
+use Rattle.tw_parse.specs.declared.words.Word.TheVariants.{Dot, LParen, RParen, RBrace, End}
+use Rattle.tw_parse.proofs.Building.{Token, a_token}
+use Rattle.tw_parse_checks.specs.Marks.{named_mark_by}
+use Rattle.tw_parse_checks.specs.Parts.{HasNoFamily}
+use Rattle.tw_parse_checks.specs.Shapes.{Row, TakesMark, a_mark, TakesName, a_name, TakesVariable, a_variable, is_variable, Family, bare, in_parens, Closing, by_dot, by_paren}
 use Rattle.tw_parse_checks.specs.declared.check.ExtMark.{ExtMark}
 use Rattle.tw_parse_checks.proofs.Rows.{push}
 
 pub token : (xs : List Lexeme) (i j : ℕ) (w : Word) → j ≡ i + 1 → first_word (drop i xs) ≡ w → (w ≡ End → ⊥) → Token xs i j w
 token xs i j w step is some = a_token xs i j w step (sym is) some
 
-identifier_stands : (w : Word) → is_identifier w ≡ true → w ≡ End → ⊥
+pub identifier_stands : (w : Word) → is_identifier w ≡ true → w ≡ End → ⊥
 identifier_stands w e f = let clash : false ≡ true = sym (ap is_identifier f) ∙ e in cc
 
 mark_stands : (w : Word) (bytes : List ℕ) (m : ExtMark) → named_mark_by w bytes ≡ Some m → w ≡ End → ⊥
 mark_stands w bytes m e f = let clash : None ≡ Some m = sym (ap (λ (v : Word). named_mark_by v bytes) f) ∙ e in cc
 
--- Heads
-
-brace_behind : {t : Lexeme} {ts rest : List Lexeme} {m : ExtMark} {x : ExtName} → Head (t ∷ ts) m x rest → first_word ts ≡ LBrace
-brace_behind (a_head e f g h) = f
-
-name_behind : {t u : Lexeme} {ts rest : List Lexeme} {m : ExtMark} {x : ExtName} → Head (t ∷ u ∷ ts) m x rest → is_bindable (first_word ts) ≡ true
-name_behind (a_head e f g h) = g
-
-colon_behind : {t u v : Lexeme} {ts rest : List Lexeme} {m : ExtMark} {x : ExtName} → Head (t ∷ u ∷ v ∷ ts) m x rest → first_word ts ≡ Colon
-colon_behind (a_head e f g h) = h
-
-pub no_brace_head : (xs : List Lexeme) (n : ℕ) → first_word (drop n xs) ≡ Name → (first_word (drop (n + 1) xs) ≡ LBrace → ⊥) → HasNoHead (drop n xs)
-no_brace_head xs n is isnt m x rest h =
-    let t : Token xs n (n + 1) Name = token xs n (n + 1) Name refl is (λ e. cc) in
-    isnt (brace_behind (subst (λ (ts : List Lexeme). Head ts m x rest) t.1 h))
-
-pub no_name_head : (xs : List Lexeme) (n : ℕ) → first_word (drop n xs) ≡ Name → first_word (drop (n + 1) xs) ≡ LBrace → is_bindable (first_word (drop (n + 2) xs)) ≡ false → HasNoHead (drop n xs)
-no_name_head xs n is opens isnt m x rest h =
-    let t : Token xs n (n + 1) Name = token xs n (n + 1) Name refl is (λ e. cc) in
-    let u : Token xs (n + 1) (n + 2) LBrace = token xs (n + 1) (n + 2) LBrace (omega arith) opens (λ e. cc) in
-    let all : drop n xs ≡ t.0 ∷ u.0 ∷ drop (n + 2) xs = t.1 ∙ ap (λ (ts : List Lexeme). t.0 ∷ ts) u.1 in
-    let clash : false ≡ true = sym isnt ∙ name_behind (subst (λ (ts : List Lexeme). Head ts m x rest) all h) in
-    cc
-
-pub no_colon_head : (xs : List Lexeme) (n : ℕ) → first_word (drop n xs) ≡ Name → first_word (drop (n + 1) xs) ≡ LBrace → is_bindable (first_word (drop (n + 2) xs)) ≡ true → (first_word (drop (n + 3) xs) ≡ Colon → ⊥) → HasNoHead (drop n xs)
-no_colon_head xs n is opens binds isnt m x rest h =
-    let t : Token xs n (n + 1) Name = token xs n (n + 1) Name refl is (λ e. cc) in
-    let u : Token xs (n + 1) (n + 2) LBrace = token xs (n + 1) (n + 2) LBrace (omega arith) opens (λ e. cc) in
-    let v : Token xs (n + 2) (n + 3) (first_word (drop (n + 2) xs)) = token xs (n + 2) (n + 3) _ (omega arith) refl (bindable_stands _ binds) in
-    let all : drop n xs ≡ t.0 ∷ u.0 ∷ v.0 ∷ drop (n + 3) xs = t.1 ∙ ap (λ (ts : List Lexeme). t.0 ∷ ts) (u.1 ∙ ap (λ (ts : List Lexeme). u.0 ∷ ts) v.1) in
-    isnt (colon_behind (subst (λ (ts : List Lexeme). Head ts m x rest) all h))
-
-same_name : (a b : ExtName) → a.name ≡ b.name → a.at ≡ b.at → a ≡ b
+pub same_name : (a b : ExtName) → a.name ≡ b.name → a.at ≡ b.at → a ≡ b
 same_name a b e f = ap (λ (x : List ℕ). record { name = x; at = a.at }) e ∙ ap (λ (p : Place). record { name = b.name; at = p }) f
-
-pub head_here : (end : Place) (xs : List Lexeme) (n : ℕ) (m : ExtMark) → first_word (drop n xs) ≡ Name → mark_of (first_bytes (drop n xs)) ≡ Some m → first_word (drop (n + 1) xs) ≡ LBrace → is_bindable (first_word (drop (n + 2) xs)) ≡ true → first_word (drop (n + 3) xs) ≡ Colon
-    → Head (drop n xs) m (record { name = first_bytes (drop (n + 2) xs); at = first_place end (drop (n + 1) xs) }) (drop (n + 4) xs)
-head_here end xs n m is marks opens binds colons =
-    let t : Token xs n (n + 1) Name = token xs n (n + 1) Name refl is (λ e. cc) in
-    let u : Token xs (n + 1) (n + 2) LBrace = token xs (n + 1) (n + 2) LBrace (omega arith) opens (λ e. cc) in
-    let v : Token xs (n + 2) (n + 3) (first_word (drop (n + 2) xs)) = token xs (n + 2) (n + 3) _ (omega arith) refl (bindable_stands _ binds) in
-    let l : Token xs (n + 3) (n + 4) Colon = token xs (n + 3) (n + 4) Colon (omega arith) colons (λ e. cc) in
-    let rest : List Lexeme = drop (n + 4) xs in
-    let all : drop n xs ≡ t.0 ∷ u.0 ∷ v.0 ∷ l.0 ∷ rest = t.1 ∙ ap (λ (ts : List Lexeme). t.0 ∷ ts) (u.1 ∙ ap (λ (ts : List Lexeme). u.0 ∷ ts) (v.1 ∙ ap (λ (ts : List Lexeme). v.0 ∷ ts) l.1)) in
-    let named : lone_mark_by t.0.word t.0.bytes ≡ mark_of t.0.bytes = ap (λ (w : Word). lone_mark_by w t.0.bytes) t.2 in
-    let same_bytes : mark_of (first_bytes (drop n xs)) ≡ mark_of t.0.bytes = ap (λ (ts : List Lexeme). mark_of (first_bytes ts)) t.1 in
-    let lone : lone_mark_by t.0.word t.0.bytes ≡ Some m = named ∙ (sym same_bytes ∙ marks) in
-    let variable : ExtName = record { name = v.0.bytes; at = u.0.at } in
-    let same : variable ≡ record { name = first_bytes (drop (n + 2) xs); at = first_place end (drop (n + 1) xs) } = same_name variable _ (sym (ap first_bytes v.1)) (sym (ap (first_place end) u.1)) in
-    let here : Head (t.0 ∷ u.0 ∷ v.0 ∷ l.0 ∷ rest) m variable rest = a_head lone u.2 (ap is_bindable v.2 ∙ binds) l.2 in
-    subst (λ (ts : List Lexeme). Head ts m (record { name = first_bytes (drop (n + 2) xs); at = first_place end (drop (n + 1) xs) }) rest) (sym all) (subst (λ (x : ExtName). Head (t.0 ∷ u.0 ∷ v.0 ∷ l.0 ∷ rest) m x rest) same here)
 
 -- Families
 
 -- a token as a name
-as_name : (end : Place) (ts rest : List Lexeme) (x : Lexeme) (a : ExtName) → ts ≡ x ∷ rest → a.name ≡ first_bytes ts → a.at ≡ first_place end ts → named x ≡ a
+pub as_name : (end : Place) (ts rest : List Lexeme) (x : Lexeme) (a : ExtName) → ts ≡ x ∷ rest → a.name ≡ first_bytes ts → a.at ≡ first_place end ts → named x ≡ a
 as_name end ts rest x a e f g = same_name (named x) a (sym (f ∙ ap first_bytes e)) (sym (g ∙ ap (first_place end) e))
 
 pub bare_family : (end : Place) (xs : List Lexeme) (n : ℕ) (b : Bool) (a : ExtName) → b ≡ false → is_identifier (first_word (drop n xs)) ≡ true → a.name ≡ first_bytes (drop n xs) → a.at ≡ first_place end (drop n xs) → Family b (drop n xs) a (drop (n + 1) xs)
@@ -155,6 +106,18 @@ no_dot_close xs n b flag is isnt c =
     let p : Token xs n (n + 1) RParen = token xs n (n + 1) RParen refl is (λ e. cc) in
     isnt (dot_behind (subst (Closing true) p.1 (subst (λ (d : Bool). Closing d (drop n xs)) flag c)))
 
+-- Variables of call patterns
+
+variable_stands : (w : Word) (bytes : List ℕ) → is_variable w bytes ≡ true → w ≡ End → ⊥
+variable_stands w bytes e f = let clash : false ≡ true = sym (ap (λ (v : Word). is_variable v bytes) f) ∙ e in cc
+
+pub variable_here : (end : Place) (xs : List Lexeme) (n : ℕ) (a : ExtName) → is_variable (first_word (drop n xs)) (first_bytes (drop n xs)) ≡ true → a.name ≡ first_bytes (drop n xs) → a.at ≡ first_place end (drop n xs) → TakesVariable (drop n xs) a (drop (n + 1) xs)
+variable_here end xs n a is name at =
+    let t : Token xs n (n + 1) (first_word (drop n xs)) = token xs n (n + 1) _ refl refl (variable_stands _ _ is) in
+    let rest : List Lexeme = drop (n + 1) xs in
+    let here : TakesVariable (t.0 ∷ rest) (named t.0) rest = a_variable (sym (ap (λ (ts : List Lexeme). is_variable (first_word ts) (first_bytes ts)) t.1) ∙ is) in
+    subst (λ (ts : List Lexeme). TakesVariable ts a rest) (sym t.1) (subst (λ (x : ExtName). TakesVariable (t.0 ∷ rest) x rest) (as_name end (drop n xs) rest t.0 a t.1 name at) here)
+
 -- Names and marks
 
 pub one_more_name : (end : Place) (xs : List Lexeme) (from upto : ℕ) (names new : List ExtName) (a : ExtName) → Row TakesName (drop from xs) names (drop upto xs) → is_identifier (first_word (drop upto xs)) ≡ true → a.name ≡ first_bytes (drop upto xs)
@@ -165,6 +128,10 @@ one_more_name end xs from upto names new a row is name at e =
     let here : TakesName (t.0 ∷ rest) (named t.0) rest = a_name (ap is_identifier t.2 ∙ is) in
     let takes : TakesName (drop upto xs) a rest = subst (λ (ts : List Lexeme). TakesName ts a rest) (sym t.1) (subst (λ (x : ExtName). TakesName (t.0 ∷ rest) x rest) (as_name end (drop upto xs) rest t.0 a t.1 name at) here) in
     subst (λ (ns : List ExtName). Row TakesName (drop from xs) ns rest) (sym e) (push row takes)
+
+pub one_more_variable : (end : Place) (xs : List Lexeme) (from upto : ℕ) (names new : List ExtName) (a : ExtName) → Row TakesVariable (drop from xs) names (drop upto xs) → is_variable (first_word (drop upto xs)) (first_bytes (drop upto xs)) ≡ true
+    → a.name ≡ first_bytes (drop upto xs) → a.at ≡ first_place end (drop upto xs) → new ≡ names ++ a ∷ [] → Row TakesVariable (drop from xs) new (drop (upto + 1) xs)
+one_more_variable end xs from upto names new a row is name at e = subst (λ (ns : List ExtName). Row TakesVariable (drop from xs) ns (drop (upto + 1) xs)) (sym e) (push row (variable_here end xs upto a is name at))
 
 pub one_more_mark : (xs : List Lexeme) (from upto : ℕ) (marks new : List ExtMark) (m : ExtMark) → Row TakesMark (drop from xs) marks (drop upto xs) → named_mark_by (first_word (drop upto xs)) (first_bytes (drop upto xs)) ≡ Some m
     → new ≡ marks ++ m ∷ [] → Row TakesMark (drop from xs) new (drop (upto + 1) xs)

@@ -3,12 +3,27 @@ use Rattle.std.specs.Prelude.{ℕ, List, [], Bool, true, false, Option, None, So
 use Rattle.std.specs.Str.{bytes_eq}
 use Rattle.tw_parse.specs.declared.words.Word.{Word}
 use Rattle.tw_parse.specs.declared.words.Word.TheVariants.{Name}
+use Rattle.tw_parse_checks.specs.declared.check.CheckForm.{CheckForm}
+use Rattle.tw_parse_checks.specs.declared.check.CheckForm.TheVariants.{Mode, Block, Worlds, Terminates}
 use Rattle.tw_parse_checks.specs.declared.check.ExtMark.{ExtMark}
 use Rattle.tw_parse_checks.specs.declared.check.ExtMark.TheVariants.{Input, Output, Free}
 
+-- what a keyword declares
+abbrev pub form_of : List ℕ → Option CheckForm
+form_of bytes =
+    if bytes_eq bytes (codes "%mode") then Some Mode else
+    if bytes_eq bytes (codes "%block") then Some Block else
+    if bytes_eq bytes (codes "%worlds") then Some Worlds else
+    if bytes_eq bytes (codes "%terminates") then Some Terminates else
+    None
+
+abbrev pub is_form : Option CheckForm → Bool
+is_form (Some form) = true
+is_form None = false
+
 -- the keywords whose declarations are read here
 abbrev pub is_check : List ℕ → Bool
-is_check bytes = bytes_eq bytes (codes "%mode")
+is_check bytes = is_form (form_of bytes)
 
 -- the mark with this sign
 abbrev pub mark_of : List ℕ → Option ExtMark

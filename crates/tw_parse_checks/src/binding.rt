@@ -1,9 +1,10 @@
 //! The type of the constant by which the full form of a check is reconstructed.
-ghost use Rattle.std.specs.Prelude.{◌≡◌, IfOk, Ok, reverse};
+ghost use Rattle.std.specs.Prelude.{◌≡◌, IfOk, reverse};
 ghost use Rattle.tw_parse.specs.View.{term_of};
 ghost use Rattle.tw_parse_checks.specs.Meanings.{family_on};
 ghost use Rattle.tw_parse_checks.specs.Parts.{bound_by, bound_over, seen};
 
+use crate::bound::Bound;
 use std::alloc::{AllocError, Global};
 use tw_parse::{ExtName, ExtTerm, Part};
 
@@ -24,15 +25,15 @@ pub fn family_on(alloc: Global, family: &ExtName, names: &[ExtName]) -> Result<E
 fn bound_by(
     alloc: Global,
     variable: ExtName,
-    domain: Part,
+    domain: Option<Part>,
     behind: Part,
 ) -> Result<Part, AllocError>
     ensures { IfOk result (λ part. seen part ≡ bound_by variable domain (seen behind)) }
 {
     let ExtName { name, at } = variable;
     match domain {
-        Part::AtFault(place) => Ok(Part::AtFault(place)),
-        Part::Term(domain) => match behind {
+        Some(Part::AtFault(place)) => Ok(Part::AtFault(place)),
+        Some(Part::Term(domain)) => match behind {
             Part::AtFault(place) => Ok(Part::AtFault(place)),
             Part::Term(body) => {
                 let domain = Box::new(alloc, domain)?;
@@ -40,21 +41,25 @@ fn bound_by(
                 Ok(Part::Term(ExtTerm::Pi(name, at, Some(domain), body)))
             }
         },
+        None => match behind {
+            Part::AtFault(place) => Ok(Part::AtFault(place)),
+            Part::Term(body) => {
+                let body = Box::new(alloc, body)?;
+                Ok(Part::Term(ExtTerm::Pi(name, at, None, body)))
+            }
+        },
     }
 }
 
-/// Quantified variables of these types before the term, or the first fault of the types.
-pub fn bound_over(
-    alloc: Global,
-    variables: Vec<ExtName>,
-    domains: Vec<Part>,
-    term: ExtTerm,
-) -> Result<Part, AllocError>
-    ensures { IfOk result (λ part. seen part ≡ bound_over (reverse variables.items) (reverse domains.items) (Ok (term_of term))) }
+/// Quantified variables of these types before what stands behind them, or the first fault of the types.
+pub fn bound_over(alloc: Global, bound: Bound, behind: Part) -> Result<Part, AllocError>
+    ensures { IfOk result (λ part. seen part ≡ bound_over (reverse bound.variables.items) (reverse bound.domains.items) (seen behind)) }
 {
-    let mut variables = variables;
-    let mut domains = domains;
-    let mut part = Part::Term(term);
+    let Bound {
+        mut variables,
+        mut domains,
+    } = bound;
+    let mut part = behind;
     while let Some(variable) = variables.pop() {
         let Some(domain) = domains.pop() else {
             return Ok(part);

@@ -1,20 +1,20 @@
 //! What stands before and behind the types of a check.
-ghost use Rattle.std.specs.Prelude.{◌≡◌, ◌<◌, ◌+◌, length, IfOk, IsSome, MatchBool, MatchOption, None, false};
+ghost use Rattle.std.specs.Prelude.{◌≡◌, ◌<◌, ◌+◌, length, IfOk, IsSome, MatchBool, MatchOption, None, true, false};
 ghost use Rattle.tw_parse.specs.Faults.{DotEnds};
 ghost use Rattle.tw_parse.specs.Keywords.{is_identifier};
 ghost use Rattle.tw_parse.specs.Sources.{lexemes_from};
 ghost use Rattle.tw_parse.specs.Words.{first_bytes, first_place, first_word, is_bindable};
 ghost use Rattle.tw_parse_checks.specs.Marks.{named_mark_by};
-ghost use Rattle.tw_parse_checks.specs.Parts.{HasNoFamily, HasNoHead, variable_at};
-ghost use Rattle.tw_parse_checks.specs.Shapes.{Closing, Family, Head, Row, TakesMark, TakesName};
+ghost use Rattle.tw_parse_checks.specs.Parts.{HasNoFamily, HasNoHead, HasNoLabel, HasNoOpening, SaysFirst, name_at, variable_at};
+ghost use Rattle.tw_parse_checks.specs.Shapes.{Closing, Family, Head, Opening, Row, TakesLabel, TakesMark, TakesName};
 
 use crate::check::ExtMark;
 use crate::marks::{mark_of, named_mark};
 use std::alloc::{AllocError, Global};
 use tw_parse::{ExtName, Source, Word, is_identifier};
 
-// The token with this number as a name that is looked up.
-fn ext_name(alloc: Global, source: &Source<'_>, number: usize) -> Result<ExtName, AllocError>
+/// The token with this number as a name that is looked up.
+pub fn ext_name(alloc: Global, source: &Source<'_>, number: usize) -> Result<ExtName, AllocError>
     ensures { IfOk result (λ x. (x.name ≡ first_bytes (lexemes_from source.now number)) × (x.at ≡ first_place source.now.end (lexemes_from source.now number))) }
 {
     let name = source.name(alloc, number)?;
@@ -24,29 +24,65 @@ fn ext_name(alloc: Global, source: &Source<'_>, number: usize) -> Result<ExtName
     })
 }
 
-// Whether the token may be a bound name.
-fn is_bindable(word: Word) -> bool
+/// Whether the token may be a bound name.
+pub fn is_bindable(word: Word) -> bool
     ensures { result ≡ is_bindable word }
 {
     matches!(word, Word::Name | Word::Underscore)
 }
 
+/// Whether the token of this number is this word.
+pub fn says(source: &Source<'_>, number: usize, word: &[u8]) -> bool
+    ensures says { MatchBool result (SaysFirst word.now (lexemes_from source.now number)) (SaysFirst word.now (lexemes_from source.now number) → ⊥) }
+    ensures within { result ≡ true → number < length source.now.tokens.now }
+{
+    if source.word(number) != Word::Name {
+        return false;
+    }
+    source.bytes(number) == word
+}
+
+/// Whether the label of a block begins with the token of this number.
+pub fn is_label(source: &Source<'_>, number: usize) -> bool
+    ensures labels { MatchBool result (TakesLabel (lexemes_from source.now number) (name_at source.now number) (lexemes_from source.now (number + 2))) (HasNoLabel (lexemes_from source.now number)) }
+    ensures within { result ≡ true → number + 1 < length source.now.tokens.now }
+{
+    if source.word(number) != Word::Name {
+        return false;
+    }
+    if source.word(number + 1) != Word::Colon {
+        return false;
+    }
+    true
+}
+
+/// Whether what stands before the type of a binder begins with the token of this number.
+pub fn opens(source: &Source<'_>, number: usize) -> bool
+    ensures opens { MatchBool result (Opening (lexemes_from source.now number) (variable_at source.now number) (lexemes_from source.now (number + 3))) (HasNoOpening (lexemes_from source.now number)) }
+    ensures within { result ≡ true → number + 2 < length source.now.tokens.now }
+{
+    if source.word(number) != Word::LBrace {
+        return false;
+    }
+    if !is_bindable(source.word(number + 1)) {
+        return false;
+    }
+    if source.word(number + 2) != Word::Colon {
+        return false;
+    }
+    true
+}
+
 /// The mark of the quantified variable whose head begins with the token of this number, if one does.
 pub fn head(source: &Source<'_>, number: usize) -> Option<ExtMark>
-    ensures head { MatchOption result (HasNoHead (lexemes_from source.now number)) (λ mark. Head (lexemes_from source.now number) mark (variable_at source.now number) (lexemes_from source.now (number + 4))) }
+    ensures head { MatchOption result (HasNoHead (lexemes_from source.now number)) (λ mark. Head (lexemes_from source.now number) mark (variable_at source.now (number + 1)) (lexemes_from source.now (number + 4))) }
     ensures within { IsSome result → number + 3 < length source.now.tokens.now }
 {
     if source.word(number) != Word::Name {
         return None;
     }
     let mark = mark_of(source.bytes(number))?;
-    if source.word(number + 1) != Word::LBrace {
-        return None;
-    }
-    if !is_bindable(source.word(number + 2)) {
-        return None;
-    }
-    if source.word(number + 3) != Word::Colon {
+    if !opens(source, number + 1) {
         return None;
     }
     Some(mark)

@@ -1,14 +1,31 @@
 //! The keywords of checks, and marks.
 ghost use Rattle.std.specs.Prelude.{◌≡◌};
-ghost use Rattle.tw_parse_checks.specs.Marks.{is_check, is_name, mark_of, named_mark};
+ghost use Rattle.tw_parse_checks.specs.Marks.{form_of, is_check, is_name, mark_of, named_mark};
 
-use crate::check::ExtMark;
+use crate::check::{CheckForm, ExtMark};
+
+/// What the keyword declares, if its declarations are read here.
+pub fn form_of(bytes: &[u8]) -> Option<CheckForm>
+    ensures { result ≡ form_of bytes.now }
+{
+    if bytes == b"%mode".as_slice() {
+        Some(CheckForm::Mode)
+    } else if bytes == b"%block".as_slice() {
+        Some(CheckForm::Block)
+    } else if bytes == b"%worlds".as_slice() {
+        Some(CheckForm::Worlds)
+    } else if bytes == b"%terminates".as_slice() {
+        Some(CheckForm::Terminates)
+    } else {
+        None
+    }
+}
 
 /// Whether declarations with this keyword are read here.
 pub fn is_check(bytes: &[u8]) -> bool
     ensures { result ≡ is_check bytes.now }
 {
-    bytes == b"%mode".as_slice()
+    form_of(bytes).is_some()
 }
 
 /// The mark with this sign.

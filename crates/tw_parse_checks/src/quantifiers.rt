@@ -1,19 +1,19 @@
 //! The quantified variables of the full form of a check.
-ghost use Rattle.std.specs.Prelude.{◌≡◌, ◌<◌, ◌++◌, ◌∷◌, [], IfOk, IfErr, OnOk};
+ghost use Rattle.std.specs.Prelude.{◌≡◌, ◌<◌, ◌++◌, ◌∷◌, [], IfOk, IfErr, OnOk, Some};
 ghost use Rattle.tw_parse.specs.Sources.{lexemes_from};
 ghost use Rattle.tw_parse_checks.specs.Parts.{AreQuantified, DomainFault, HasNoHead, IsDomain, TypeFault};
 
+use crate::bound::{Bound, bind};
 use crate::check::ExtMark;
 use crate::heads::head;
 use std::alloc::{AllocError, Global};
 use tw_parse::{ExtName, Part, Source, SyntaxFault, Word, sequence};
 
-/// Quantified variables: the marks, the names with the places of their brackets, and the types.
+/// Quantified variables: the marks, and the variables.
 #[derive(Debug, Drop)]
 pub struct Quantified {
     pub marks: Vec<ExtMark>,
-    pub variables: Vec<ExtName>,
-    pub domains: Vec<Part>,
+    pub bound: Bound,
 }
 
 // Puts a quantified variable behind the others.
@@ -24,17 +24,16 @@ fn add(
     domain: Part,
 ) -> Result<(), AllocError>
     ensures marks { OnOk result (quantified.new.marks.items ≡ quantified.old.marks.items ++ mark ∷ []) }
-    ensures variables { OnOk result (quantified.new.variables.items ≡ quantified.old.variables.items ++ variable ∷ []) }
-    ensures domains { OnOk result (quantified.new.domains.items ≡ quantified.old.domains.items ++ domain ∷ []) }
+    ensures variables { OnOk result (quantified.new.bound.variables.items ≡ quantified.old.bound.variables.items ++ variable ∷ []) }
+    ensures domains { OnOk result (quantified.new.bound.domains.items ≡ quantified.old.bound.domains.items ++ Some domain ∷ []) }
 {
     quantified.marks.push(mark)?;
-    quantified.variables.push(variable)?;
-    quantified.domains.push(domain)?;
+    bind(&mut quantified.bound, variable, Some(domain))?;
     Ok(())
 }
 
-// Reads the type that begins with this token, and its brace. Gives the number of the token behind it.
-fn domain(alloc: Global, source: &Source<'_>, from: usize) -> Result<(Part, usize), SyntaxFault>
+/// Reads the type that begins with this token, and its brace. Gives the number of the token behind it.
+pub fn domain(alloc: Global, source: &Source<'_>, from: usize) -> Result<(Part, usize), SyntaxFault>
     ensures onward { IfOk result (λ r. from < r.1) }
     ensures reads { IfOk result (λ r. IsDomain source.now from r.0 r.1) }
     ensures fault { IfErr result (DomainFault source.now from) }
@@ -58,8 +57,10 @@ pub fn quantifiers(
 {
     let mut quantified = Quantified {
         marks: Vec::new(alloc),
-        variables: Vec::new(alloc),
-        domains: Vec::new(alloc),
+        bound: Bound {
+            variables: Vec::new(alloc),
+            domains: Vec::new(alloc),
+        },
     };
     let mut upto = from;
     'variables: while let Some(mark) = head(source, upto) {

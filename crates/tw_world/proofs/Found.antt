@@ -21,8 +21,11 @@ use Rattle.lf.proofs.EtaTypes.{SameForm, eta_form, eta_spine, eta_at_type}
 use Rattle.lf_checks.proofs.EtaTest.{is_eta, both_l, both_r}
 use Rattle.lf_checks.specs.Strict.{eta_at, head_variable, is_bound, pattern_arguments, with_seen, strict, strict_spine, strict_type}
 use Rattle.lf_checks.specs.Tests.{both, either, is_in}
-use Rattle.tw_world.specs.Finding.{abstracted, arguments_of, first_of, heads, inverted, nearer, newest, standing, to_front, value_in, value_in_spine, value_in_type}
-use Rattle.tw_world.proofs.Numbers.{newest_out, number_is, same_not, same_self}
+use Rattle.tw_clause.specs.Patterns.{heads, newest}
+use Rattle.tw_world.specs.Finding.{abstracted, arguments_of, first_of, inverted, nearer, standing, to_front, value_in, value_in_spine, value_in_type}
+use Rattle.lf.proofs.Checker.{number_is}
+use Rattle.tw_clause.proofs.Marking.{same_not, same_self}
+use Rattle.tw_clause.proofs.Patterns.{newest_out}
 use Rattle.lf.proofs.AtOnce.{shift_zero}
 use Rattle.lf.proofs.Uses.{uses_renamed}
 use Rattle.lf.proofs.Partial.{uses_all}

@@ -1,5 +1,5 @@
 -- Values for the variables of a type, one after the other, the oldest variable first.
-use Rattle.std.proofs.Common.{◌≡◌, ◌↔◌, ℕ, zero, suc, List, [], ◌∷◌, length, refl, sym, ap, ◌∙◌, subst, arith, IsTrue}
+use Rattle.std.proofs.Common.{◌≡◌, ◌↔◌, Err, Result, ℕ, zero, suc, List, [], ◌∷◌, length, refl, sym, ap, ◌∙◌, subst, arith, inl, inr, IsTrue}
 use Rattle.std.specs.Prelude.{Bool, true, false, Some, None}
 use Rattle.lf.specs.AtOnce.{in_front}
 use Rattle.lf.specs.Syntax.{Term, LfType, pi, atom, Skeleton, skeleton, weaken}
@@ -21,9 +21,13 @@ use Rattle.lf_checks.specs.Worlded.{IsTerm, past_types}
 use Rattle.lf_unification.specs.Offering.{pi_over}
 use Rattle.tw_hered.specs.Fits.{TypeFits}
 use Rattle.tw_world.specs.Finding.{value_in_type}
-use Rattle.tw_world.specs.Instances.{Agrees, AllStrict, AreValues, HasDeepValue, IsInstanceOf, Matches, Reaches, Settles, Takes, TakesDeep}
+use Rattle.tw_world.specs.Instances.{Agrees, AllStrict, AreValues, GoesDeep, IsInstanceOf, Matches, Reaches, Settles, Takes, TakesDeep}
 use Rattle.tw_world.proofs.Found.{found, found_in_type}
 use mathlib.Core.Path.{fun_ext}
+
+-- an outcome has one fault
+pub same_cause : {T E : Type 0} {f g : E} (r : Result T E) → r ≡ Err f → r ≡ Err g → f ≡ g
+same_cause r p q = cc
 
 -- Lists of types.
 past_onto : (R : List LfType) (A : LfType) (i : ℕ) → past_types (onto R (A ∷ [])) i ≡ past_types R (suc i)
@@ -245,6 +249,9 @@ module _ (Σ : Signature) (ok : IsSignature Σ) (G : List LfType) where
   taken_is_type (atom a S) V C c t k = absurd k
   taken_is_type (pi A B) V C c (t1, t2) (m, e) = subst (IsType Σ G) (sym e) (instance_is_type Σ ok G A V B c t1 t2 m)
 
-  pub taken_deep : (P T : LfType) (l : ℕ) (A : LfType) (V : Term) → value_in_type 0 l P T ≡ Some V → IsType Σ G A → TakesDeep Σ G A V → HasDeepValue Σ G P T
-  taken_deep P T l (atom a S) V v t d = absurd d
-  taken_deep P T l (pi A B) V v (t1, t2) d = (l, V, A, v, t1, d)
+  -- the value that comes next can't be put in, or a later one
+  pub deep_here : (P T : LfType) (l k : ℕ) (A : LfType) (V : Term) → l ≡ suc k → value_in_type 0 k P T ≡ Some V → TakesDeep Σ G A V → GoesDeep Σ G P T l A
+  deep_here P T l k A V e v d = subst (λ n. GoesDeep Σ G P T n A) (sym e) (V, v, inl d)
+
+  pub deep_later : (P T : LfType) (l k : ℕ) (A : LfType) (V : Term) (C : LfType) → l ≡ suc k → value_in_type 0 k P T ≡ Some V → Takes Σ G A V (Some C) → GoesDeep Σ G P T k C → GoesDeep Σ G P T l A
+  deep_later P T l k A V C e v t d = subst (λ n. GoesDeep Σ G P T n A) (sym e) (V, v, inr (C, t, d))

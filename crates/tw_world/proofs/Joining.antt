@@ -14,7 +14,8 @@ use Rattle.lf_checks.specs.Strict.{pattern_arguments, strict, strict_spine, stri
 use Rattle.lf_checks.specs.Tests.{both, either}
 use Rattle.lf_checks.specs.Worlded.{IsStrictBlock, past_types}
 use Rattle.lf_unification.specs.Offering.{pi_over}
-use Rattle.tw_world.specs.Finding.{first_of, heads, inverted, newest, standing, value_in, value_in_spine, value_in_type}
+use Rattle.tw_clause.specs.Patterns.{heads, newest}
+use Rattle.tw_world.specs.Finding.{first_of, inverted, standing, value_in, value_in_spine, value_in_type}
 use Rattle.tw_world.specs.Instances.{AreValues, as_type, IsInstance, Reaches, Settles}
 use Rattle.tw_world.proofs.Found.{hidden_nothing}
 use Rattle.tw_world.proofs.Instances.{older_is_context, over_is_type, pis_substituted}

@@ -1,5 +1,3 @@
-pub mod Numbers
-pub mod Patterns
 pub mod Moved
 pub mod Walking
 pub mod Found
@@ -7,3 +5,5 @@ pub mod Instances
 pub mod Joining
 pub mod Served
 pub mod Tables
+pub mod Checked
+pub mod Solving

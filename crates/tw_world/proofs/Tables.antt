@@ -10,7 +10,8 @@ use Rattle.lf.specs.Worlds.{instance}
 use Rattle.lf_checks.specs.Worlded.{IsSequence, no_instance, next_instance, IsStrictBlock, IsTerm}
 use Rattle.tw_world.specs.Sequences.{Adds, Extends, Stands, TableAt, first_said, none_said, says}
 use Rattle.tw_world.proofs.Joining.{drop_first}
-use Rattle.tw_world.proofs.Numbers.{number_is, same_not, same_self}
+use Rattle.lf.proofs.Checker.{number_is}
+use Rattle.tw_clause.proofs.Marking.{same_not, same_self}
 
 -- One place of the table.
 pub said_after : (t : List Bool) (p k : ℕ) → p < length t → says (set t p true) k ≡ cond (same_number k p) true (says t k)

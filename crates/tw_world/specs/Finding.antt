@@ -3,22 +3,9 @@
 -- In `t (c x) ([y] F y)` with x and F as `some` variables the instance `t (c z) ([y] s y)` gives x the value `z`, and F the value `[y] s y`.
 use Rattle.std.specs.Prelude.{ℕ, zero, suc, ◌-◌, List, [], ◌∷◌, Bool, Option, Some, None, cond}
 use Rattle.lf.specs.Syntax.{constant, variable, metavariable, Term, Spine, lambda, root, nil, app, LfType, pi, atom, rename}
-use Rattle.lf.specs.Variables.{nothing, same_number, under}
-use Rattle.lf_checks.specs.Strict.{head_variable, pattern_arguments, with_seen}
-
--- the n newest variables
-abbrev pub newest : ℕ → ℕ → Bool
-newest zero = nothing
-newest (suc n) = under (newest n)
-
--- the variables at the heads of arguments, in order
-abbrev pub heads : Spine → List ℕ
-heads nil = []
-heads (app M S) = with_seen (head_variable zero M) (heads S)
-
--- these, where the arguments are distinct ones of the n newest variables
-abbrev pub pattern_heads : ℕ → Spine → Option (List ℕ)
-pattern_heads n S = cond (pattern_arguments (newest n) [] S) (Some (heads S)) None
+use Rattle.lf.specs.Variables.{same_number}
+use Rattle.lf_checks.specs.Strict.{pattern_arguments}
+use Rattle.tw_clause.specs.Patterns.{heads, newest}
 
 -- the renaming that brings y in front of all variables
 abbrev pub to_front : ℕ → ℕ → ℕ

@@ -1,8 +1,8 @@
 -- Instances of types and of blocks: terms are put in for their variables.
 --
 -- `some {n:nat} block {x:t n}` has the instance `{x:t (s z)}`, by the term `s z`.
-use Rattle.std.specs.Prelude.{◌≡◌, ℕ, List, [], ◌∷◌, length, Bool, true, false, Option, Some, None}
-use Rattle.lf.specs.Depth.{depth_limit}
+use Rattle.std.specs.Prelude.{◌≡◌, ◌⊎◌, ◌^◌, ◌≤◌, ℕ, zero, suc, List, [], ◌∷◌, length, Bool, true, false, Option, Some, None}
+use Rattle.lf.specs.Depth.{depth_limit, type_depth}
 use Rattle.lf.specs.DeepTyping.{TypingReachesDeep}
 use Rattle.lf.specs.Substitution.{Image, substitute_type, reduce}
 use Rattle.lf.specs.Subordination.{Block}
@@ -49,9 +49,9 @@ Takes Σ G (pi A B) V (Some C) = HasType Σ G V A × (C ≡ instantiate_type A V
 Takes Σ G (atom a S) V None = Unit {0}
 Takes Σ G (atom a S) V (Some C) = ⊥
 
--- the typing of a term at the domain of a type's first quantifier goes too deep
+-- A type can't be told to take a term: the typing of the term at the domain of its first quantifier goes too deep, or what would be left is deeper than any number of the program.
 abbrev pub TakesDeep : Signature → List LfType → LfType → Term → Type 0
-TakesDeep Σ G (pi A B) V = TypingReachesDeep depth_limit Σ G V A
+TakesDeep Σ G (pi A B) V = TypingReachesDeep depth_limit Σ G V A ⊎ (2 ^ 64 ≤ type_depth (instantiate_type A V B))
 TakesDeep Σ G (atom a S) V = ⊥
 
 -- The variables O have their values, those of R, which are newer, have none yet, and `rest` is what is left of P closed over all.
@@ -71,10 +71,11 @@ Agrees R O τ θ = (i : ℕ) (A : LfType) → TypeAt O i A → τ (past_types R 
 abbrev pub Settles : Signature → List LfType → LfType → LfType → ℕ → LfType → Bool → Type 0
 Settles Σ G P T left rest b = (R O : List LfType) (θ : ℕ → Image) → Reaches Σ G P R O θ left rest → (b ≡ true → IsInstanceOf Σ (onto R O) P G T) × (b ≡ false → (τ : ℕ → Image) → Matches Σ (onto R O) P G T τ → Agrees R O τ θ → ⊥)
 
--- A value that each instance would give a variable has a typing that goes too deep.
-abbrev pub HasDeepValue : Signature → List LfType → LfType → LfType → Type 0
-HasDeepValue Σ G P T = (x : ℕ) × (V : Term) × (A : LfType) × (value_in_type 0 x P T ≡ Some V) × IsType Σ G A × TypingReachesDeep depth_limit Σ G V A
+-- P, closed over its variables, takes the values that T would give them, the oldest first; `rest` is what is left before the n newest have theirs. Whether it takes one of these can't be told.
+abbrev pub GoesDeep : Signature → List LfType → LfType → LfType → ℕ → LfType → Type 0
+GoesDeep Σ G P T zero rest = ⊥
+GoesDeep Σ G P T (suc n) rest = (V : Term) × (value_in_type 0 n P T ≡ Some V) × (TakesDeep Σ G rest V ⊎ ((C : LfType) × Takes Σ G rest V (Some C) × GoesDeep Σ G P T n C))
 
--- The same of a `some` variable of a block, in a part of a context.
+-- The same of a block and its `some` variables, in a part of a context.
 abbrev pub InstanceGoesDeep : Signature → Block → List LfType → List LfType → Type 0
-InstanceGoesDeep Σ B G es = (P : LfType) × (T : LfType) × (as_type B.entries ≡ Some P) × (as_type es ≡ Some T) × HasDeepValue Σ G P T
+InstanceGoesDeep Σ B G es = (P : LfType) × (T : LfType) × (as_type B.entries ≡ Some P) × (as_type es ≡ Some T) × GoesDeep Σ G P T (length B.some) (pi_over B.some P)

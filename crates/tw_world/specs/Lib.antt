@@ -3,3 +3,6 @@ pub mod Changes
 pub mod Instances
 pub mod Serving
 pub mod Sequences
+pub mod Faults
+pub mod Outcomes
+pub mod Checks

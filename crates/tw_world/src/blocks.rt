@@ -33,7 +33,7 @@ pub fn is_strict_block(alloc: Global, block: &Block) -> Result<bool, AllocError>
 }
 
 /// Whether the part of a context that begins with the type of variable `newest`, of as many types as the block has entries, is an instance of the block in what stands before it. The
-/// block must be strict. Answers `TooDeep` only where the typing of a `some` term goes deeper than 4,096.
+/// block must be strict. Answers `TooDeep` only where the typing of a `some` term goes deeper than 4,096, or the block with it put in is deeper than any number says.
 pub fn is_instance(
     alloc: Global,
     sig: &Signature,

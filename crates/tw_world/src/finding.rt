@@ -2,11 +2,12 @@
 ghost use Rattle.std.specs.Prelude.{◌≡◌, IfOk, None, cond, option_map};
 ghost use Rattle.lf.specs.Variables.{same_number};
 ghost use Rattle.tw_terms.specs.View.{spine_of, term_of, type_of};
-ghost use Rattle.tw_world.specs.Finding.{arguments_of, newest, standing, value_at, value_in, value_in_spine, value_in_type};
+ghost use Rattle.tw_clause.specs.Patterns.{newest};
+ghost use Rattle.tw_world.specs.Finding.{arguments_of, standing, value_at, value_in, value_in_spine, value_in_type};
 
 use crate::moving::invert;
-use crate::pattern::{is_newest, pattern_variables};
 use std::alloc::{AllocError, Global};
+use tw_clause::{is_newest, pattern_variables};
 use tw_terms::numbers::one_more;
 use tw_terms::{Head, Spine, Term, Ty};
 
@@ -167,7 +168,7 @@ fn value_standing(
 ) -> Result<Option<Term>, AllocError>
     ensures { IfOk result (λ r. option_map term_of r ≡ standing bound (spine_of spine.now) (term_of instance.now)) }
 {
-    match pattern_variables(alloc, bound, spine)? {
+    match pattern_variables(alloc, Some(bound), spine)? {
         Some(variables) => Ok(Some(invert(alloc, bound, &variables, instance)?)),
         None => Ok(None),
     }

@@ -20,7 +20,8 @@ use tw_subord::Subord;
 use tw_terms::{ConstId, Context, Ty, target};
 
 /// Whether a subgoal passes, where `scope` is the context of its whole clause: its local context is a sequence of instances of blocks of these worlds, and its family knows them, is one
-/// of the group or has no worlds. Answers `TooDeep` only where the typing of a `some` term goes deeper than 4,096.
+/// of the group or has no worlds. Answers `TooDeep` only where the typing of a `some` term goes deeper than 4,096, or a block with it put in is deeper than any
+/// number says.
 pub fn subgoal_is_worlded(
     alloc: Global,
     sig: &Signature,
@@ -37,26 +38,26 @@ pub fn subgoal_is_worlded(
     ensures decided { IfOk result (λ b. IsTrue b ↔ PassesIn (signature_of sig.now) (world_rows_of rows.now) (map (λ f. f.0) group.now) (below_in subord.now) (worlds_of worlds.now) scope.now (type_of subgoal.now)) }
     ensures too_deep { IsErrOf result HeredFault.TooDeep → SequenceGoesDeep (signature_of sig.now) (worlds_of worlds.now) scope.now (binders [] (type_of subgoal.now)) }
 {
-    let local = local_context(alloc, subgoal)?;
+    let local = under_quantifiers(alloc, &Context::new(alloc), subgoal)?;
     if !is_sequence(alloc, sig, worlds, scope, &local)? {
         return Ok(false);
     }
     Ok(is_served(subord, rows, group, worlds, target(subgoal)))
 }
 
-/// The context under the leading quantifiers of a type, without what stands outside.
-fn local_context(alloc: Global, ty: &Ty) -> Result<Context, AllocError>
-    ensures { IfOk result (λ g. g ≡ binders [] (type_of ty.now)) }
+/// The context under the leading quantifiers of a type.
+pub fn under_quantifiers(alloc: Global, outer: &Context, ty: &Ty) -> Result<Context, AllocError>
+    ensures { IfOk result (λ g. g ≡ binders outer.now (type_of ty.now)) }
 {
-    let mut local = Context::new(alloc);
+    let mut context = outer.copy(alloc)?;
     let mut rest = ty;
     loop {
         match rest {
             Ty::Pi(domain, range) => {
-                local.push(domain.copy(alloc)?)?;
+                context.push(domain.copy(alloc)?)?;
                 rest = range;
             }
-            Ty::Atom(_, _) => return Ok(local),
+            Ty::Atom(_, _) => return Ok(context),
         }
     }
 }

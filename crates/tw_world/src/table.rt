@@ -17,7 +17,7 @@ use tw_signature::Signature;
 use tw_terms::Context;
 
 /// Whether a local context is a sequence of instances of strict blocks of these worlds, in the context outside it. Takes the length of the local context times the size of the blocks.
-/// Answers `TooDeep` only where the typing of a `some` term goes deeper than 4,096.
+/// Answers `TooDeep` only where the typing of a `some` term goes deeper than 4,096, or a block with it put in is deeper than any number says.
 pub fn is_sequence(
     alloc: Global,
     sig: &Signature,
@@ -57,7 +57,7 @@ fn first_table(alloc: Global, count: usize) -> Result<Vec<bool>, AllocError>
 }
 
 /// Moves the type of a variable of the local context into the whole one.
-fn push_type(
+pub fn push_type(
     alloc: Global,
     whole: &mut Context,
     local: &Context,

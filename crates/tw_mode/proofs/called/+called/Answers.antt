@@ -7,7 +7,7 @@ use Rattle.tw_terms.specs.View.{type_of}
 use Rattle.tw_terms.proofs.Args.{types}
 use Rattle.tw_mode.specs.Rows.{moded_in}
 use Rattle.tw_mode.proofs.Calling.{called_first, called_rest, hypothesis_first, hypothesis_rest}
-use Rattle.tw_mode.proofs.Patterns.{on_value}
+use Rattle.tw_clause.proofs.Patterns.{on_value}
 use Rattle.tw_mode.proofs.called.+called.Goals as goal
 
 pub unmoded_hypothesis-returns-then-is_some : goal.unmoded_hypothesis-returns-then-is_some

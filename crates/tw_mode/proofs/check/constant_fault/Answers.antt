@@ -1,7 +1,7 @@
 use Rattle.lf.specs.Entries.{signature_of}
 use Rattle.tw_terms.specs.View.{type_of}
 use Rattle.tw_mode.proofs.Outer.{constant_outcome}
-use Rattle.tw_mode.proofs.Patterns.{on_value}
+use Rattle.tw_clause.proofs.Patterns.{on_value}
 use Rattle.tw_mode.proofs.check.constant_fault.Goals as goal
 
 pub returns : goal.returns

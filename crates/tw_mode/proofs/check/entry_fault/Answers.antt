@@ -4,7 +4,7 @@ use Rattle.tw_clause.specs.View.{block_of}
 use Rattle.tw_terms.specs.View.{type_of}
 use Rattle.tw_mode.proofs.Entries.{shown_count}
 use Rattle.tw_mode.proofs.Outer.{entry_outcome}
-use Rattle.tw_mode.proofs.Patterns.{on_value}
+use Rattle.tw_clause.proofs.Patterns.{on_value}
 use Rattle.tw_mode.proofs.check.entry_fault.Goals as goal
 
 pub clause_fault-requires-clause-ground : goal.clause_fault-requires-clause-ground

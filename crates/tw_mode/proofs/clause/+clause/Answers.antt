@@ -17,7 +17,7 @@ use Rattle.tw_mode.specs.Rows.{marks_in, moded_in}
 use Rattle.tw_mode.specs.Scopes.{fixed_in, in_marks}
 use Rattle.tw_mode.specs.Solved.{Stands, clause_in, ground_outside}
 use Rattle.tw_mode.proofs.Hypotheses.{filled, hypothesis_there, hypothesis_fails, hypothesis_passes, needs_sound, pushed_under, subgoal_decided, subgoal_sound, subgoal_unground, subgoal_unsound}
-use Rattle.tw_mode.proofs.Patterns.{on_value}
+use Rattle.tw_clause.proofs.Patterns.{on_value}
 use Rattle.tw_mode.proofs.Quantified.{domain_depth, domain_fits, fits_declared, fits_renamed}
 use Rattle.tw_mode.proofs.Stepping.{all_walked, clause_ends, clause_faulty, clause_unsound, excused_count, ground_count, listed_domains, loop_walked, walked_of}
 use Rattle.tw_mode.proofs.clause.+clause.Goals as goal

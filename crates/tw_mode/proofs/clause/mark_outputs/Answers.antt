@@ -3,7 +3,8 @@ use Rattle.lf_checks.specs.Marks.{output_places}
 use Rattle.tw_clause.proofs.Marking.{on_ok}
 use Rattle.tw_terms.specs.View.{type_of}
 use Rattle.tw_mode.specs.Rows.{marks_in}
-use Rattle.tw_mode.specs.Scopes.{bound_in, fixed_in, newest}
+use Rattle.tw_clause.specs.Patterns.{newest}
+use Rattle.tw_mode.specs.Scopes.{bound_in, fixed_in}
 use Rattle.tw_mode.proofs.Walking.{outputs_marked}
 use Rattle.tw_mode.proofs.clause.mark_outputs.Goals as goal
 

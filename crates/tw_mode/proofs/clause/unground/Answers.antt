@@ -4,7 +4,7 @@ use Rattle.tw_terms.specs.View.{type_of}
 use Rattle.tw_mode.specs.Rows.{marks_in}
 use Rattle.tw_mode.specs.Scopes.{in_marks}
 use Rattle.tw_mode.proofs.Needing.{GoalOutcome, needs_met, needs_no_type}
-use Rattle.tw_mode.proofs.Patterns.{on_value}
+use Rattle.tw_clause.proofs.Patterns.{on_value}
 use Rattle.tw_mode.proofs.Using.{no_of}
 use Rattle.tw_mode.proofs.clause.unground.Goals as goal
 

@@ -10,7 +10,7 @@ use Rattle.tw_mode.specs.Ends.{AreAllTrue}
 use Rattle.tw_mode.specs.Rows.{marks_in}
 use Rattle.tw_mode.specs.Scopes.{in_marks}
 use Rattle.tw_mode.proofs.Ending.{LostOutcome, all_stable, end_nowhere, end_somewhere, settled_count}
-use Rattle.tw_mode.proofs.Patterns.{on_value}
+use Rattle.tw_clause.proofs.Patterns.{on_value}
 use Rattle.tw_mode.proofs.Using.{no_of}
 use Rattle.tw_mode.proofs.end.end_fault.Goals as goal
 

@@ -5,7 +5,7 @@ use Rattle.lf_checks.specs.ModeForms.{argument_count}
 use Rattle.lf_checks.specs.Strict.{pattern_arguments}
 use Rattle.tw_terms.specs.View.{args_of, spine_of, type_of}
 use Rattle.tw_terms.proofs.Args.{types}
-use Rattle.tw_mode.proofs.Patterns.{on_value}
+use Rattle.tw_clause.proofs.Patterns.{on_value}
 use Rattle.tw_mode.proofs.Placing.{count_args}
 use Rattle.tw_mode.proofs.full.is_full_form.Goals as goal
 

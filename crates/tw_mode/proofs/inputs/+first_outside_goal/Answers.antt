@@ -4,7 +4,7 @@ use Rattle.tw_terms.specs.View.{type_of}
 use Rattle.tw_terms.proofs.Args.{types}
 use Rattle.tw_mode.specs.Allowed.{allowed_in}
 use Rattle.tw_mode.proofs.Needing.{goal_inside}
-use Rattle.tw_mode.proofs.Patterns.{on_value}
+use Rattle.tw_clause.proofs.Patterns.{on_value}
 use Rattle.tw_mode.proofs.inputs.+first_outside_goal.Goals as goal
 
 pub returns-in_ok-under_one-in-Pi : goal.returns-in_ok-under_one-in-Pi

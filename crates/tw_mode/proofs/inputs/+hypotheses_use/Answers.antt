@@ -4,7 +4,7 @@ use Rattle.tw_terms.specs.View.{type_of}
 use Rattle.tw_terms.proofs.Args.{types}
 use Rattle.tw_mode.specs.Allowed.{allowed_in}
 use Rattle.tw_mode.proofs.Needing.{pi_hypotheses}
-use Rattle.tw_mode.proofs.Patterns.{on_value}
+use Rattle.tw_clause.proofs.Patterns.{on_value}
 use Rattle.tw_mode.proofs.inputs.+hypotheses_use.Goals as goal
 
 pub returns-in_ok-under_one-in-Pi : goal.returns-in_ok-under_one-in-Pi

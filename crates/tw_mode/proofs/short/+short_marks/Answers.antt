@@ -5,7 +5,7 @@ use Rattle.tw_clause.specs.View.{mark_of}
 use Rattle.tw_terms.specs.View.{kind_of, type_of}
 use Rattle.tw_terms.proofs.Args.{types}
 use Rattle.tw_mode.proofs.Completing.{completed_next, completed_star}
-use Rattle.tw_mode.proofs.Patterns.{on_value}
+use Rattle.tw_clause.proofs.Patterns.{on_value}
 use Rattle.tw_mode.proofs.short.+short_marks.Goals as goal
 
 pub returns-in_ok-implicit_mark-in-Pi : goal.returns-in_ok-implicit_mark-in-Pi

@@ -6,7 +6,7 @@ use Rattle.tw_terms.specs.View.{kind_of, type_of}
 use Rattle.tw_terms.proofs.Args.{types}
 use Rattle.tw_mode.specs.Checks.{MayHave}
 use Rattle.tw_mode.specs.Scopes.{in_marks}
-use Rattle.tw_mode.proofs.Patterns.{on_value}
+use Rattle.tw_clause.proofs.Patterns.{on_value}
 use Rattle.tw_mode.proofs.Sounding.{marks_go_on, no_place}
 use Rattle.tw_mode.proofs.sound.+first_unsound.Goals as goal
 

@@ -6,7 +6,7 @@ use Rattle.tw_clause.proofs.Marking.{args_at}
 use Rattle.tw_terms.specs.View.{args_of, spine_of, term_of}
 use Rattle.tw_terms.proofs.Args.{types}
 use Rattle.tw_mode.specs.Allowed.{allowed_in}
-use Rattle.tw_mode.proofs.Patterns.{on_value}
+use Rattle.tw_clause.proofs.Patterns.{on_value}
 use Rattle.tw_mode.proofs.Using.{spine_done, spine_fails, spine_next, uses_lambda}
 use Rattle.tw_mode.proofs.uses.+uses.Goals as goal
 

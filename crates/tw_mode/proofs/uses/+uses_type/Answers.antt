@@ -3,7 +3,7 @@ use Rattle.lf.specs.Syntax.{pi}
 use Rattle.tw_terms.specs.View.{type_of}
 use Rattle.tw_terms.proofs.Args.{types}
 use Rattle.tw_mode.specs.Allowed.{allowed_in}
-use Rattle.tw_mode.proofs.Patterns.{on_value}
+use Rattle.tw_clause.proofs.Patterns.{on_value}
 use Rattle.tw_mode.proofs.Using.{pi_uses}
 use Rattle.tw_mode.proofs.uses.+uses_type.Goals as goal
 

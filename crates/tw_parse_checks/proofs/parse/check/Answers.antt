@@ -1,27 +1,18 @@
-use Rattle.std.proofs.Common.{◌≡◌, List, [], ◌∷◌, length, refl, ap, arith, rules}
-use Rattle.std.proofs.lemmas.Result.{err_from_is_err_and}
-use Rattle.tw_parse.proofs.Stopping.{exits}
-use Rattle.tw_parse_checks.specs.Faults.{FaultOf}
-use Rattle.tw_parse_checks.proofs.Forms.{no_head_first}
-use Rattle.tw_parse_checks.proofs.Sources.{type_fault}
+use Rattle.std.proofs.Common.{◌≡◌, Some, rules}
+use Rattle.tw_parse.specs.Sources.{lexemes_from}
+use Rattle.tw_parse.specs.Words.{first_bytes}
+use Rattle.tw_parse_checks.specs.Marks.{form_of}
+use Rattle.tw_parse_checks.proofs.Keywords.{all_read, all_fault}
 use Rattle.tw_parse_checks.proofs.parse.check.Goals as goal
 
-pub returns-in_err-quantified-clause-fault : goal.returns-in_err-quantified-clause-fault
-returns-in_err-quantified-clause-fault c =
+pub returns-clause-reads : goal.returns-clause-reads
+returns-clause-reads c =
     let source = c.args.source.now in
-    let p = err_from_is_err_and c.from_residual.result c.from_residual.ensures.1 in
-    let f = c.in_err-quantified.field-0.0 in
-    exits c.from_residual.result p.0 f (FaultOf source) p.1 p.2 (type_fault source f c.requires.keyword c.in_err-quantified.ensures.fault)
+    let is : form_of (first_bytes (lexemes_from source 0)) ≡ Some c.in-Some.form = search rules in
+    all_read source c.in-Some.form c.behind.result c.requires.keyword is c.behind.ensures.reads
 
-no_items : {A : Type 0} (xs : List A) → length xs ≡ 0 → xs ≡ []
-no_items [] e = refl
-no_items (x ∷ xs) e = absurd (omega (e, arith))
-
-pub short-requires-clause-no_head : goal.short-requires-clause-no_head
-short-requires-clause-no_head c =
-    let q = c.in_ok-quantified.quantified in
-    let none : length q.marks.items ≡ 0 = search rules in
-    no_head_first c.args.source.now q c.in_ok-quantified.at c.in_ok-quantified.ensures.reads (no_items q.marks.items none) c.in_ok-quantified.ensures.stops
-
-pub full-requires-clause-some : goal.full-requires-clause-some
-full-requires-clause-some c = λ e. let none : length c.in_ok-quantified.quantified.marks.items ≡ 0 = ap length e in search rules
+pub returns-clause-fault : goal.returns-clause-fault
+returns-clause-fault c =
+    let source = c.args.source.now in
+    let is : form_of (first_bytes (lexemes_from source 0)) ≡ Some c.in-Some.form = search rules in
+    all_fault source c.in-Some.form c.behind.result c.requires.keyword is c.behind.ensures.fault

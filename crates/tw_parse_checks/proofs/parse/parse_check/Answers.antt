@@ -6,7 +6,7 @@ use Rattle.tw_parse.specs.declared.words.Word.TheVariants.{Dot, Keyword}
 use Rattle.tw_parse.proofs.Dots.{nothing_behind}
 use Rattle.tw_parse_checks.specs.Faults.{CheckFault}
 use Rattle.tw_parse_checks.specs.Marks.{is_check}
-use Rattle.tw_parse_checks.proofs.Forms.{check_stands}
+use Rattle.tw_parse_checks.proofs.Keywords.{check_stands}
 use Rattle.tw_parse_checks.proofs.parse.parse_check.Goals as goal
 
 pub check-requires-clause-dot : goal.check-requires-clause-dot

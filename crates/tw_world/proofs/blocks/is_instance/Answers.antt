@@ -7,7 +7,7 @@ use Rattle.tw_clause.specs.View.{block_of}
 use Rattle.tw_terms.specs.View.{type_of}
 use Rattle.tw_world.specs.Instances.{as_type}
 use Rattle.tw_world.proofs.Joining.{block_anywhere, instance_settled, length_taken, take_whole}
-use Rattle.tw_world.proofs.Patterns.{on_value}
+use Rattle.tw_clause.proofs.Patterns.{on_value}
 use Rattle.tw_world.proofs.blocks.is_instance.Goals as goal
 
 pub settle-requires-clause-rest : goal.settle-requires-clause-rest

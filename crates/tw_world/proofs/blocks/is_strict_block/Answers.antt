@@ -6,7 +6,7 @@ use Rattle.tw_clause.specs.View.{block_of}
 use Rattle.tw_terms.specs.View.{type_of}
 use Rattle.tw_world.specs.Instances.{as_type}
 use Rattle.tw_world.proofs.Joining.{strict_block, strict_empty, take_whole}
-use Rattle.tw_world.proofs.Patterns.{on_value}
+use Rattle.tw_clause.proofs.Patterns.{on_value}
 use Rattle.tw_world.proofs.blocks.is_strict_block.Goals as goal
 
 pub returns-in-Some : goal.returns-in-Some

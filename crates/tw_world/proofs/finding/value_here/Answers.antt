@@ -3,8 +3,8 @@ use Rattle.std.specs.Prelude.{cond}
 use Rattle.lf.specs.Variables.{same_number}
 use Rattle.tw_terms.specs.View.{spine_of, term_of}
 use Rattle.tw_world.specs.Finding.{standing}
-use Rattle.tw_world.proofs.Numbers.{same_not, same_self}
-use Rattle.tw_world.proofs.Patterns.{on_value}
+use Rattle.tw_clause.proofs.Marking.{same_not, same_self}
+use Rattle.tw_clause.proofs.Patterns.{on_value}
 use Rattle.tw_world.proofs.finding.value_here.Goals as goal
 
 pub returns-then-head-variable : goal.returns-then-head-variable

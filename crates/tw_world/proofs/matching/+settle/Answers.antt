@@ -4,7 +4,7 @@ use Rattle.lf.proofs.Entries.{canonical_is_signature}
 use Rattle.tw_terms.specs.View.{term_of, type_of}
 use Rattle.tw_world.specs.Instances.{Takes}
 use Rattle.tw_world.proofs.Instances.{settled_done, settled_next, settled_none, settled_refused, taken_is_type}
-use Rattle.tw_world.proofs.Patterns.{on_value}
+use Rattle.tw_clause.proofs.Patterns.{on_value}
 use Rattle.tw_world.proofs.matching.+settle.Goals as goal
 
 pub returns-then-left-eq0-clause-settled : goal.returns-then-left-eq0-clause-settled

@@ -1,7 +1,7 @@
 use Rattle.std.proofs.Common.{◌∙◌, ap, sym}
 use Rattle.tw_world.specs.Changes.{change_of}
 use Rattle.tw_world.proofs.Moved.{front_other, front_same}
-use Rattle.tw_world.proofs.Patterns.{on_value}
+use Rattle.tw_clause.proofs.Patterns.{on_value}
 use Rattle.tw_world.proofs.moving.changed.Goals as goal
 
 pub returns-then-variable-newest : goal.returns-then-variable-newest
