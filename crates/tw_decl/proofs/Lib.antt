@@ -1,6 +1,8 @@
 pub mod Reports
 pub mod Causes
 pub mod Questions
+pub mod Standing
+pub mod Alone
 pub mod Sound
 pub mod Asking
 pub mod Faultless
