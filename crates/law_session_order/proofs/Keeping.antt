@@ -281,8 +281,8 @@ pub checked_parts : (v w : View) (c : Check) (report : Reported) → Checks v c 
 checked_parts v w (mode_short a ms) report h = (ap (λ (u : View). u.signature) h.keeps, ap (λ (u : View). u.fixities) h.keeps, ap (λ (u : View). u.names) h.keeps)
 checked_parts v w (mode_full ms a n d) report h = (ap (λ (u : View). u.signature) h.keeps, ap (λ (u : View). u.fixities) h.keeps, ap (λ (u : View). u.names) h.keeps)
 checked_parts v w (terminates O ps) report h = (ap (λ (u : View). u.signature) h.keeps, ap (λ (u : View). u.fixities) h.keeps, ap (λ (u : View). u.names) h.keeps)
-checked_parts v w (block l n d) report h = (ap (λ (u : View). u.signature) h.keeps, ap (λ (u : View). u.fixities) h.keeps, ap (λ (u : View). u.names) h.keeps)
-checked_parts v w (worlds ls ps) report h = (ap (λ (u : View). u.signature) h.keeps, ap (λ (u : View). u.fixities) h.keeps, ap (λ (u : View). u.names) h.keeps)
+checked_parts v w (block l n d) report h = absurd h
+checked_parts v w (worlds ls ps) report h = absurd h
 
 pub making_keeps : MakingKeepsOrder
 making_keeps v w words report all m o = by_read m.read m.reads m.does

@@ -292,11 +292,8 @@ definition_good =
 
 sound : IsSound with_constant
 sound = (
-  (
-    (tt, record { typed = tt; within = lit≤ tt; implicit_lead = lit≤ tt; hint_each = refl }),
-    record { typed = (lf_star, refl, tt); within = lit≤ tt; implicit_lead = lit≤ tt; hint_each = refl },
-  ),
-  record { typed = λ B m. absurd m; listed = λ r m. absurd m },
+  (tt, record { typed = tt; within = lit≤ tt; implicit_lead = lit≤ tt; hint_each = refl }),
+  record { typed = (lf_star, refl, tt); within = lit≤ tt; implicit_lead = lit≤ tt; hint_each = refl },
 )
 
 pub good : DefinitionIsGood

@@ -1,8 +1,6 @@
 pub mod Reports
 pub mod Causes
 pub mod Questions
-pub mod Standing
-pub mod Alone
 pub mod Sound
 pub mod Asking
 pub mod Faultless

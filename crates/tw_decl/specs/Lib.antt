@@ -1,6 +1,5 @@
 pub mod View
 pub mod ViewCode
-pub mod Labels
 pub mod Refusals
 pub mod Reports
 pub mod Operators
@@ -8,8 +7,6 @@ pub mod Preferences
 pub mod Reading
 pub mod Applications
 pub mod Modes
-pub mod Blocks
-pub mod Worlds
 pub mod Termination
 pub mod Equations
 pub mod Searching

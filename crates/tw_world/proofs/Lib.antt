@@ -7,4 +7,3 @@ pub mod Served
 pub mod Tables
 pub mod Checked
 pub mod Solving
-pub mod TakenIn

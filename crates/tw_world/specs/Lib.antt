@@ -6,4 +6,3 @@ pub mod Sequences
 pub mod Faults
 pub mod Outcomes
 pub mod Checks
-pub mod Joined
