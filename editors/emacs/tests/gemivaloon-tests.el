@@ -144,8 +144,10 @@
       (kill-buffer buffer))))
 
 (ert-deftest gemivaloon-says-what-is-not-built ()
+  (let ((gemivaloon-program (expand-file-name "editors/tests/stand_in.py" gemivaloon-folder)))
+    (gemivaloon-with "a.elf" "nat : type.\n"
+      (should (string-match-p "queries yet" (gemivaloon-top)))))
   (gemivaloon-with "a.elf" "nat : type.\n"
-    (should (string-match-p "queries yet" (gemivaloon-top)))
     (gemivaloon-set "chatter" "2")
     (should (equal (gemivaloon-get "chatter") "2"))
     (should (string-prefix-p "C6 BadParameter" (gemivaloon-set "chatter" "7")))))
