@@ -6,3 +6,4 @@ pub mod FromTyping
 pub mod Known
 pub mod Whole
 pub mod Making
+pub mod Unmade

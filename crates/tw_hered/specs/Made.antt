@@ -1,8 +1,8 @@
 -- Arguments whose canonical forms are made before a closure takes them.
-use Rattle.std.specs.Prelude.{◌≡◌, List, [], ◌∷◌, Option, Some, None}
+use Rattle.std.specs.Prelude.{◌≡◌, ℕ, zero, suc, List, [], ◌∷◌, Option, Some, None, Bool, true, false}
 use Rattle.lf.specs.Syntax as lf
 use Rattle.lf_closures.specs.Environments as pure
-use Rattle.lf_closures.specs.Environments.{value_in}
+use Rattle.lf_closures.specs.Environments.{value_in, found, stays, closure}
 use Rattle.tw_terms.specs.View.{term_of}
 use Rattle.tw_terms.specs.declared.canonical.Term.{Term}
 
@@ -29,3 +29,16 @@ AreMade e ms (t ∷ ts) = IsMade e (first_made ms) t × AreMade e (rest_made ms)
 abbrev pub with_argument : lf.Skeleton → lf.Term → Option Term → pure.Environment → pure.Environment → pure.Environment
 with_argument a N (Some m) c e = pure.extended a (term_of m) pure.outside e
 with_argument a N None c e = pure.extended a N c e
+
+-- a closure was found, and no variable
+abbrev pub is_closure : pure.Found → Bool
+is_closure (stays i) = false
+is_closure (closure a N c n) = true
+
+-- Under n binders of a function the term applies what e has a closure for: [y] g (g y) does where g is one, [y] y doesn't, and g itself is no function.
+abbrev pub applies_closure : pure.Environment → ℕ → lf.Term → Bool
+applies_closure e n (lf.lambda M) = applies_closure e (suc n) M
+applies_closure e n (lf.root (lf.constant c) S) = false
+applies_closure e n (lf.root (lf.metavariable m) S) = false
+applies_closure e zero (lf.root (lf.variable i) S) = false
+applies_closure e (suc n) (lf.root (lf.variable i) S) = is_closure (found (pure.under (suc n) e) i)

@@ -1,10 +1,11 @@
 //! The head of a term in an environment: closures are entered one after another, and nothing is copied.
 ghost use Rattle.std.specs.Prelude.{◌≡◌, IfOk, option_map};
+ghost use Rattle.std.specs.List.{list_any};
 ghost use Rattle.lf_closures.specs.Environments.{move_by, value_in, applied_in};
 ghost use Rattle.lf_closures.specs.Typing.{ClosureFits, ClosureApplies};
 ghost use Rattle.tw_terms.specs.View.{term_of, args_of, skeleton_of};
 ghost use Rattle.tw_hered.specs.View.{environment_of, value_of_step, StepFits, value_of_exposed, ExposedFits};
-ghost use Rattle.tw_hered.specs.Made.{AreMade, first_made, rest_made, with_argument};
+ghost use Rattle.tw_hered.specs.Made.{AreMade, applies_closure, first_made, rest_made, with_argument};
 
 use crate::environment::{Closure, Environment, Found, find, moved_by, placed};
 use bumpalo::Bump;
@@ -114,8 +115,10 @@ fn taken<'a>(
     }
 }
 
-/// Whether a function applies a closure at once, so that its body would be run anew at each use.
-pub fn is_unmade<'a>(term: &'a Term, environment: &'a Environment<'a>) -> Result<bool, AllocError> {
+/// Whether the term is a function that applies a closure at once, so that its body would be run anew at each use. Fails only where no context in memory is so long.
+pub fn is_unmade<'a>(term: &'a Term, environment: &'a Environment<'a>) -> Result<bool, AllocError>
+    ensures { IfOk result (λ b. b ≡ applies_closure (environment_of environment.now) 0 (term_of term.now)) }
+{
     let mut bound: u64 = 0;
     let mut body = term;
     while let Term::Lam(inner) = body {
@@ -123,8 +126,9 @@ pub fn is_unmade<'a>(term: &'a Term, environment: &'a Environment<'a>) -> Result
         body = inner;
     }
     match body {
-        Term::Root(Head::Var(variable), _) if bound > 0 && *variable >= bound => {
-            match find(environment, *variable - bound)? {
+        Term::Root(Head::Var(variable), _) if bound > 0 => {
+            let inside = Environment::Under(bound, environment);
+            match find(&inside, *variable)? {
                 Found::Closure(_) => Ok(true),
                 Found::Variable(_) => Ok(false),
             }
@@ -134,7 +138,9 @@ pub fn is_unmade<'a>(term: &'a Term, environment: &'a Environment<'a>) -> Result
 }
 
 /// Whether one of the arguments does.
-fn has_unmade<'a>(args: &'a [Term], environment: &'a Environment<'a>) -> Result<bool, AllocError> {
+fn has_unmade<'a>(args: &'a [Term], environment: &'a Environment<'a>) -> Result<bool, AllocError>
+    ensures { IfOk result (λ b. b ≡ list_any (λ t. applies_closure (environment_of environment.now) 0 (term_of t)) args.now) }
+{
     for arg in args {
         if is_unmade(arg, environment)? {
             return Ok(true);
