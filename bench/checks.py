@@ -1,5 +1,5 @@
 #!/usr/bin/env python3
-"""Prints how fast the clauses of groups are checked for modes and for orders, and how fast subordination is found.
+"""Prints how fast the clauses of groups are checked for modes, for orders and for worlds of 1, 10 and 100 blocks, and how fast subordination is found.
 
 Usage: bench/checks.py [PROGRAM]      (PROGRAM: crates/bench_checks/out/bench_checks by default, which `rt run` in its folder makes)
 
@@ -16,9 +16,13 @@ DEFAULT = os.path.join(HERE, "..", "crates", "bench_checks", "out", "bench_check
 PROGRAM = os.path.abspath(sys.argv[1]) if len(sys.argv) > 1 else DEFAULT
 
 WORKS = [("modes", "the check of modes"), ("order", "the check of orders"), ("subord", "subordination")]
+WORLDS = [(f"worlds{count}", f"the check of worlds with {count} block{'s' if count > 1 else ''}") for count in (1, 10, 100)]
 KINDS = [
-    ("families", "a group of N families with one clause each", "families", (1000, 4000, 16000)),
-    ("clauses", "one family of N clauses", "clauses", (2500, 10000)),
+    ("families", "a group of N families with one clause each", "families", (1000, 4000, 16000), WORKS),
+    ("clauses", "one family of N clauses", "clauses", (2500, 10000), WORKS),
+    ("hypotheses", "one family of N clauses with a hypothesis each", "clauses", (2500, 10000), WORLDS),
+    ("context", "one clause with N hypotheses", "hypotheses", (500, 1000, 2000), WORLDS),
+    ("instances", "one clause with N hypotheses, each with two `some` terms", "hypotheses", (500, 1000, 2000), WORLDS),
 ]
 
 
@@ -32,9 +36,9 @@ def seconds(kind, size, work, answer):
     return min(found)
 
 
-for kind, what, head, sizes in KINDS:
+for kind, what, head, sizes, works in KINDS:
     built = {size: seconds(kind, size, "build", "Built") for size in sizes}
-    for work, title in WORKS:
+    for work, title in works:
         print(f"{title}: {what} ({work} {kind})")
         print(f"{'size':>10} {'seconds':>9} {head + ' a second':>20} {'ratio of times':>15} {'of sizes':>9}")
         last = None

@@ -1,18 +1,21 @@
-//! Signatures whose checks are to be timed. With the words KIND SIZE WORK it builds a signature, checks it where WORK is `modes`, `order` or `subord`, and prints a line; without them,
-//! nothing.
+//! Signatures whose checks are to be timed. With the words KIND SIZE WORK it builds a signature, checks it where WORK is `modes`, `order`, `subord`, or `worlds1`, `worlds10` or `worlds100`
+//! for worlds of so many blocks, and prints a line; without them, nothing.
 #![tactic(auto)]
 
+mod blocks;
 mod signatures;
 
+use crate::blocks::many_blocks;
 use crate::signatures::{families_of, signature};
 use std::alloc::{AllocError, Global};
 use std::env;
-use tw_clause::{Mark3, Order, Worlds};
+use tw_clause::{Mark3, Order, WorldRows, Worlds};
 use tw_mode::{ModeFault, ModeTable, check_modes};
 use tw_order::{OrderFault, check_order};
 use tw_signature::Signature;
 use tw_subord::Subord;
 use tw_terms::ConstId;
+use tw_world::{WorldFault, check_worlds};
 
 // what came of the work
 #[derive(Clone, Copy, PartialEq, Eq, Debug)]
@@ -66,6 +69,26 @@ fn subord(alloc: Global, signature: &Signature, group: &[ConstId]) -> Result<Out
     Ok(Outcome::Passed)
 }
 
+// in worlds of so many blocks; each family that is called is one of the group, so nothing is asked of subordination
+fn worlds(
+    alloc: Global,
+    signature: &Signature,
+    group: &[ConstId],
+    kind: &str,
+    count: u64,
+) -> Result<Outcome, AllocError> {
+    let worlds = many_blocks(alloc, signature, kind, count)?;
+    let below = Subord::of(alloc, &Signature::new(alloc), &[])?;
+    let rows = WorldRows {
+        rows: Vec::new(alloc),
+    };
+    match check_worlds(alloc, signature, &below, &rows, group, &worlds) {
+        Ok(()) => Ok(Outcome::Passed),
+        Err(WorldFault::NoMemory) => Err(AllocError),
+        Err(_) => Ok(Outcome::Refused),
+    }
+}
+
 // builds the signature, and does the work
 fn run(alloc: Global, kind: &str, size: u64, work: &str) -> Result<Outcome, AllocError> {
     let signature = signature(alloc, kind, size)?;
@@ -74,6 +97,9 @@ fn run(alloc: Global, kind: &str, size: u64, work: &str) -> Result<Outcome, Allo
         "modes" => modes(alloc, &signature, &group),
         "order" => order(alloc, &signature, &group),
         "subord" => subord(alloc, &signature, &group),
+        "worlds1" => worlds(alloc, &signature, &group, kind, 1),
+        "worlds10" => worlds(alloc, &signature, &group, kind, 10),
+        "worlds100" => worlds(alloc, &signature, &group, kind, 100),
         _ => Ok(Outcome::Built),
     }
 }

@@ -7,3 +7,4 @@ pub mod Served
 pub mod Tables
 pub mod Checked
 pub mod Solving
+pub mod TakenIn

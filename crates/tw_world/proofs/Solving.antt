@@ -11,7 +11,7 @@ use Rattle.lf_checks.proofs.Numbered.{subgoal_inside, subgoal_type, type_both}
 use Rattle.lf_checks.proofs.PartTypes.{counted_number}
 use Rattle.tw_clause.proofs.Numbering.{scoped, scoped_shape}
 use Rattle.tw_clause.proofs.Walks.{shape_length}
-use Rattle.tw_world.specs.Checks.{ClauseFails, ClauseGoesDeep, ClausePasses, PassesUnder, UnderGoesDeep, clause_of}
+use Rattle.tw_world.specs.Checks.{ClauseFails, ClauseGoesDeep, ClausePasses, IsOpenUnder, PassesUnder, clause_of}
 use Rattle.tw_world.specs.declared.check.Check.{Check}
 
 below_or : (i n : ℕ) → i < suc n → (i < n) ⊎ (i ≡ n)
@@ -113,7 +113,7 @@ module _ (x : Check) (C : List LfType) (T : LfType) where
           fails = f A s.1;
         }
 
-    pub deep_here : ((A : LfType) → TypeAt (binders C T) n A → UnderGoesDeep x (binders C T) A) → ClauseGoesDeep x (clause_of C F T) (k + 1)
+    pub deep_here : ((A : LfType) → TypeAt (binders C T) n A → IsOpenUnder x (binders C T) A) → ClauseGoesDeep x (clause_of C F T) (k + 1)
     deep_here f =
         let (A, s) = found in
         record {
@@ -122,7 +122,7 @@ module _ (x : Check) (C : List LfType) (T : LfType) where
           stands = number A s;
           is_subgoal = s;
           before = λ i B m t. h i B m t.0 t.1;
-          deep = f A s.1;
+          is_open = f A s.1;
         }
 
 -- a variable has one type

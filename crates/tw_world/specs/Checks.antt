@@ -1,17 +1,15 @@
 -- What a check asks of clauses and subgoals.
-use Rattle.std.specs.Prelude.{ℕ, List, [], map, Bool, Option, Some, None, Result}
+use Rattle.std.specs.Prelude.{ℕ, List, map, Bool, Option, Some, None, Result}
 use Rattle.lf.specs.Entries.{signature_of}
 use Rattle.lf.specs.Subordination.{AreTypedBlocks}
 use Rattle.lf.specs.Syntax.{LfType}
-use Rattle.lf.specs.Variables.{binders}
 use Rattle.lf_checks.specs.Clause.{Clause}
 use Rattle.lf_checks.specs.Clauses.{NamedClause}
 use Rattle.lf_checks.specs.WorldFaults.{ClauseIsWorlded, WorldFault as PlainFault}
 use Rattle.tw_clause.specs.Tables.{world_rows_of}
 use Rattle.tw_clause.specs.View.{worlds_of}
 use Rattle.tw_world.specs.Outcomes.{ListOutcome, SubgoalGoesDeep}
-use Rattle.tw_world.specs.Sequences.{SequenceGoesDeep}
-use Rattle.tw_world.specs.Serving.{PassesIn, below_in}
+use Rattle.tw_world.specs.Serving.{IsOpenIn, PassesIn, below_in}
 use Rattle.tw_world.specs.declared.check.Check.{Check}
 use Rattle.tw_world.specs.declared.fault.WorldFault.{WorldFault}
 
@@ -28,8 +26,8 @@ abbrev pub PassesUnder : Check → List LfType → LfType → Type 0
 PassesUnder x C A = PassesIn (signature_of x.sig.now) (world_rows_of x.rows.now) (map (λ f. f.0) x.group.now) (below_in x.subord.now) (worlds_of x.worlds.now) C A
 
 -- it is left open
-abbrev pub UnderGoesDeep : Check → List LfType → LfType → Type 0
-UnderGoesDeep x C A = SequenceGoesDeep (signature_of x.sig.now) (worlds_of x.worlds.now) C (binders [] A)
+abbrev pub IsOpenUnder : Check → List LfType → LfType → Type 0
+IsOpenUnder x C A = IsOpenIn (signature_of x.sig.now) (world_rows_of x.rows.now) (map (λ f. f.0) x.group.now) (below_in x.subord.now) (worlds_of x.worlds.now) C A
 
 abbrev pub ClausePasses : Check → Clause → Type 0
 ClausePasses x c = ClauseIsWorlded (signature_of x.sig.now) (world_rows_of x.rows.now) (map (λ f. f.0) x.group.now) (below_in x.subord.now) (worlds_of x.worlds.now) c

@@ -1,7 +1,7 @@
 -- The value of a variable, read off an instance of a type where the variable has a strict occurrence.
 --
 -- In `t (c x) ([y] F y)` with x and F as `some` variables the instance `t (c z) ([y] s y)` gives x the value `z`, and F the value `[y] s y`.
-use Rattle.std.specs.Prelude.{ℕ, zero, suc, ◌-◌, List, [], ◌∷◌, Bool, Option, Some, None, cond}
+use Rattle.std.specs.Prelude.{ℕ, zero, suc, ◌-◌, List, [], ◌∷◌, Option, Some, None, cond}
 use Rattle.lf.specs.Syntax.{constant, variable, metavariable, Term, Spine, lambda, root, nil, app, LfType, pi, atom, rename}
 use Rattle.lf.specs.Variables.{same_number}
 use Rattle.lf_checks.specs.Strict.{pattern_arguments}

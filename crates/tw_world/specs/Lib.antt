@@ -6,3 +6,4 @@ pub mod Sequences
 pub mod Faults
 pub mod Outcomes
 pub mod Checks
+pub mod Joined

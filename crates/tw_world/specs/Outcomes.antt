@@ -1,28 +1,28 @@
 -- What the check of worlds of a group comes to.
-use Rattle.std.specs.Prelude.{◌≡◌, ℕ, ◌<◌, List, [], Bool, Some, Result, Ok, Err}
+use Rattle.std.specs.Prelude.{◌≡◌, ℕ, ◌<◌, List, Bool, Some, Result, Ok, Err}
 use Rattle.lf.specs.Entries.{Entry, signature_of}
 use Rattle.lf.specs.Subordination.{Block}
 use Rattle.lf.specs.Syntax.{LfType}
 use Rattle.lf.specs.Typing.{Signature}
-use Rattle.lf.specs.Variables.{binders}
 use Rattle.lf_checks.specs.Clause.{Clause, IsSubgoal, scope}
 use Rattle.lf_checks.specs.Clauses.{ClauseName, NamedClause, group_clauses}
 use Rattle.lf_checks.specs.Faults.{AllPass, FirstFault}
 use Rattle.lf_checks.specs.Parts.{subgoal_at}
 use Rattle.lf_checks.specs.WorldFaults.{ClauseIsWorlded, GroupIsWorlded, GroupWorldFault, SubgoalIsWorlded, WorldFault as PlainFault, WorldRow}
 use Rattle.tw_clause.specs.View.{name_of}
-use Rattle.tw_world.specs.Sequences.{SequenceGoesDeep}
+use Rattle.tw_world.specs.Serving.{IsOpenIn}
 use Rattle.tw_world.specs.declared.fault.WorldFault.{WorldFault}
 use Rattle.tw_world.specs.declared.fault.WorldFault.TheVariants.{Fault, NoMemory, TooDeep}
 
--- Subgoal k is left open: in its local context the typing of a `some` term goes too deep. Each subgoal that is solved before it passes.
+-- Subgoal k is left open: its family is served, and in its local context, where a sequence of instances ends, the typing of a `some` term of a strict block goes too deep. Each subgoal
+-- that is solved before it passes.
 pub record SubgoalGoesDeep (Σ : Signature) (rows : List WorldRow) (group : List ℕ) (below : ℕ → ℕ → Bool) (W : List Block) (c : Clause) (k : ℕ) : Type 0 where
   pub index : ℕ
   pub subgoal : LfType
   pub stands : subgoal_at c k ≡ Some index
   pub is_subgoal : IsSubgoal c index subgoal
   pub before : (i : ℕ) (A : LfType) → i < index → IsSubgoal c i A → SubgoalIsWorlded Σ rows group below W c A
-  pub deep : SequenceGoesDeep Σ W (scope c) (binders [] subgoal)
+  pub is_open : IsOpenIn Σ rows group below W (scope c) subgoal
 
 -- The same of a list of clauses: those before the clause of this name pass.
 abbrev pub FirstDeep : Signature → List WorldRow → List ℕ → (ℕ → ℕ → Bool) → List Block → List NamedClause → Type 0

@@ -42,10 +42,18 @@ Adds Σ B G D left old new = (W V : List Block) (C : List LfType) → Member B W
 abbrev pub Extends : Signature → List Block → List LfType → List LfType → ℕ → List Bool → List Bool → Type 0
 Extends Σ W G D left old new = (C : List LfType) → G ≡ onto (drop left D) C → TableAt Σ W [] C D left old → TableAt Σ W [] C D (left - 1) new
 
--- the typing of a value goes too deep at this place
-abbrev pub StandsDeep : Signature → List LfType → List LfType → ℕ → Block → Type 0
-StandsDeep Σ G D left B = InstanceGoesDeep Σ B G (take (length B.entries) (drop (left - length B.entries) D))
+-- A strict block is tried where the `left` newest types of D end, in what stands before it, and a value can't be put in for one of its variables.
+pub record StandsDeep (Σ : Signature) (G D : List LfType) (left : ℕ) (B : Block) : Type 0 where
+  pub strict : IsStrictBlock B
+  pub within : length B.entries ≤ left
+  pub deep : InstanceGoesDeep Σ B G (take (length B.entries) (drop (left - length B.entries) D))
 
--- or at some block and some place
-abbrev pub SequenceGoesDeep : Signature → List Block → List LfType → List LfType → Type 0
-SequenceGoesDeep Σ W C D = (B : Block) × Member B W × (left : ℕ) × (left ≤ length D) × StandsDeep Σ (onto (drop left D) C) D left B
+-- It is left open whether a sequence of instances goes on: the types of D before the `left` newest are one, and there a block of W is tried. With `some {n:nat} block {x:t n}` this comes
+-- of `{x:t (s z)} {y:t N}` where the typing of N goes too deep; of `{x:u} {y:t N}` it doesn't, since no sequence ends before y.
+pub record SequenceGoesDeep (Σ : Signature) (W : List Block) (C D : List LfType) : Type 0 where
+  pub left : ℕ
+  pub bounded : left ≤ length D
+  pub ends : IsSequence Σ W C (drop left D)
+  pub tried : Block
+  pub is_one : Member tried W
+  pub deep : StandsDeep Σ (onto (drop left D) C) D left tried

@@ -6,6 +6,7 @@ use Rattle.lf.specs.Typing.{Signature}
 use Rattle.lf.specs.Variables.{binders, target}
 use Rattle.lf_checks.specs.Worlded.{IsSequence}
 use Rattle.lf_checks.specs.WorldFaults.{CalleeIsServed, WorldRow}
+use Rattle.tw_world.specs.Sequences.{SequenceGoesDeep}
 use Rattle.tw_subord.specs.Rows.{is_below}
 
 -- the families below each one
@@ -24,3 +25,8 @@ is_below_target T None = false
 -- A subgoal passes in the context of its clause: `SubgoalIsWorlded` of each clause with this scope.
 abbrev pub PassesIn : Signature → List WorldRow → List ℕ → (ℕ → ℕ → Bool) → List Block → List LfType → LfType → Type 0
 PassesIn Σ rows group below W C A = IsSequence Σ W C (binders [] A) × CalleeIsServed rows group below W (target A)
+
+-- It is left open there: its family is served, but whether its hypotheses are a sequence can't be told.
+pub record IsOpenIn (Σ : Signature) (rows : List WorldRow) (group : List ℕ) (below : ℕ → ℕ → Bool) (W : List Block) (C : List LfType) (A : LfType) : Type 0 where
+  pub served : CalleeIsServed rows group below W (target A)
+  pub deep : SequenceGoesDeep Σ W C (binders [] A)

@@ -7,7 +7,7 @@ ghost use Rattle.lf.specs.Variables.{everything};
 ghost use Rattle.lf_checks.specs.Clause.{is_variable};
 ghost use Rattle.lf_checks.specs.Parts.{shape as shape_of_type};
 ghost use Rattle.tw_terms.specs.View.{type_of};
-ghost use Rattle.tw_world.specs.Checks.{ClauseGoesDeep, ClauseOutcome, HasTypedBlocks, PassesUnder, UnderGoesDeep, clause_of};
+ghost use Rattle.tw_world.specs.Checks.{ClauseGoesDeep, ClauseOutcome, HasTypedBlocks, IsOpenUnder, PassesUnder, clause_of};
 
 use crate::check::Check;
 use crate::subgoal::{subgoal_is_worlded, under_quantifiers};
@@ -67,7 +67,7 @@ fn subgoal_passes(
     requires scope { IsContext (signature_of check.now.sig.now) scope.now }
     requires within { index < length scope.now }
     ensures decided { IfOk result (λ b. (A : LfType) → TypeAt scope.now index A → IsTrue b ↔ PassesUnder check.now scope.now A) }
-    ensures too_deep { IsErrOf result HeredFault.TooDeep → (A : LfType) → TypeAt scope.now index A → UnderGoesDeep check.now scope.now A }
+    ensures too_deep { IsErrOf result HeredFault.TooDeep → (A : LfType) → TypeAt scope.now index A → IsOpenUnder check.now scope.now A }
 {
     let Some(ty) = scope.get(index) else {
         unreachable!()

@@ -8,6 +8,7 @@ mod clause;
 mod fault;
 #[tactic(auto, using(tw_terms::proofs::Args::types))]
 mod finding;
+mod joined;
 #[tactic(auto, using(tw_terms::proofs::Args::types))]
 mod matching;
 #[tactic(auto, using(tw_terms::proofs::Weakened::weakened))]
@@ -20,6 +21,7 @@ mod table;
 pub use blocks::{is_instance, is_strict_block};
 pub use check::check_worlds;
 pub use fault::WorldFault;
+pub use joined::joined_worlds;
 pub use serving::is_served;
 pub use subgoal::subgoal_is_worlded;
 pub use table::is_sequence;

@@ -46,7 +46,7 @@ fn is_among(group: &[ConstId], family: ConstId) -> bool
 }
 
 /// The worlds of a family, if it has a row: the first one counts.
-fn known_worlds(rows: &WorldRows, family: ConstId) -> Option<&Worlds>
+pub fn known_worlds(rows: &WorldRows, family: ConstId) -> Option<&Worlds>
     ensures { option_map (λ w. worlds_of w.now) result ≡ worlds_of_family (world_rows_of rows.now) family.0 }
 {
     for (other, worlds) in &rows.rows {
@@ -77,7 +77,7 @@ fn block_serves(subord: &Subord, block: &Block, known: &Worlds, family: ConstId)
 }
 
 /// Whether the block is one of these worlds: where label, `some` variables and entries are equal.
-fn is_one_of(block: &Block, known: &Worlds) -> bool
+pub fn is_one_of(block: &Block, known: &Worlds) -> bool
     ensures { IsTrue result ↔ Member (block_of block.now) (worlds_of known.now) }
 {
     for other in &known.blocks {

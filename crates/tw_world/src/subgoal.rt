@@ -1,5 +1,5 @@
 //! Whether a subgoal of a clause passes the check of worlds.
-ghost use Rattle.std.specs.Prelude.{◌≡◌, ◌↔◌, [], map, IfOk, IsErrOf, IsTrue};
+ghost use Rattle.std.specs.Prelude.{◌≡◌, ◌↔◌, map, IfOk, IsErrOf, IsTrue};
 ghost use Rattle.lf.specs.Entries.{signature_of};
 ghost use Rattle.lf.specs.Subordination.{AreTypedBlocks};
 ghost use Rattle.lf.specs.Typing.{IsContext, IsType};
@@ -7,8 +7,7 @@ ghost use Rattle.lf.specs.Variables.{binders};
 ghost use Rattle.tw_clause.specs.Tables.{world_rows_of};
 ghost use Rattle.tw_clause.specs.View.{worlds_of};
 ghost use Rattle.tw_terms.specs.View.{type_of};
-ghost use Rattle.tw_world.specs.Sequences.{SequenceGoesDeep};
-ghost use Rattle.tw_world.specs.Serving.{PassesIn, below_in};
+ghost use Rattle.tw_world.specs.Serving.{IsOpenIn, PassesIn, below_in};
 
 use crate::serving::is_served;
 use crate::table::is_sequence;
@@ -20,8 +19,7 @@ use tw_subord::Subord;
 use tw_terms::{ConstId, Context, Ty, target};
 
 /// Whether a subgoal passes, where `scope` is the context of its whole clause: its local context is a sequence of instances of blocks of these worlds, and its family knows them, is one
-/// of the group or has no worlds. Answers `TooDeep` only where the typing of a `some` term goes deeper than 4,096, or a block with it put in is deeper than any
-/// number says.
+/// of the group or has no worlds. Answers `TooDeep` only where the family is no reason to say no, and `is_sequence` goes too deep.
 pub fn subgoal_is_worlded(
     alloc: Global,
     sig: &Signature,
@@ -36,13 +34,13 @@ pub fn subgoal_is_worlded(
     requires scope { IsContext (signature_of sig.now) scope.now }
     requires subgoal { IsType (signature_of sig.now) scope.now (type_of subgoal.now) }
     ensures decided { IfOk result (λ b. IsTrue b ↔ PassesIn (signature_of sig.now) (world_rows_of rows.now) (map (λ f. f.0) group.now) (below_in subord.now) (worlds_of worlds.now) scope.now (type_of subgoal.now)) }
-    ensures too_deep { IsErrOf result HeredFault.TooDeep → SequenceGoesDeep (signature_of sig.now) (worlds_of worlds.now) scope.now (binders [] (type_of subgoal.now)) }
+    ensures too_deep { IsErrOf result HeredFault.TooDeep → IsOpenIn (signature_of sig.now) (world_rows_of rows.now) (map (λ f. f.0) group.now) (below_in subord.now) (worlds_of worlds.now) scope.now (type_of subgoal.now) }
 {
-    let local = under_quantifiers(alloc, &Context::new(alloc), subgoal)?;
-    if !is_sequence(alloc, sig, worlds, scope, &local)? {
+    if !is_served(subord, rows, group, worlds, target(subgoal)) {
         return Ok(false);
     }
-    Ok(is_served(subord, rows, group, worlds, target(subgoal)))
+    let local = under_quantifiers(alloc, &Context::new(alloc), subgoal)?;
+    is_sequence(alloc, sig, worlds, scope, &local)
 }
 
 /// The context under the leading quantifiers of a type.

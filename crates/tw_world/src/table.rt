@@ -17,7 +17,7 @@ use tw_signature::Signature;
 use tw_terms::Context;
 
 /// Whether a local context is a sequence of instances of strict blocks of these worlds, in the context outside it. Takes the length of the local context times the size of the blocks.
-/// Answers `TooDeep` only where the typing of a `some` term goes deeper than 4,096, or a block with it put in is deeper than any number says.
+/// Answers `TooDeep` only where a sequence ends and a strict block is tried, and the typing of a `some` term goes deeper than 4,096, or the block with it put in is deeper than any number says.
 pub fn is_sequence(
     alloc: Global,
     sig: &Signature,
@@ -87,6 +87,7 @@ fn extend(
     requires within { left ≤ length local.now }
     requires size { length table.old.items ≡ suc (length local.now) }
     ensures extended { OnOk result (Extends (signature_of sig.now) (worlds_of worlds.now) whole.now local.now left table.old.items table.new.items) }
+    ensures said { IsErrOf result HeredFault.TooDeep → says table.old.items left ≡ true }
     ensures too_deep { IsErrOf result HeredFault.TooDeep → (B : PlainBlock) × Member B (worlds_of worlds.now) × StandsDeep (signature_of sig.now) whole.now local.now left B }
 {
     if !table[left as usize] {

@@ -5,7 +5,7 @@ use Rattle.lf.specs.Typing.{IsContext, TypeAt}
 use Rattle.lf.specs.Variables.{everything}
 use Rattle.lf_checks.specs.Clause.{is_variable}
 use Rattle.tw_terms.specs.View.{type_of}
-use Rattle.tw_world.specs.Checks.{PassesUnder, UnderGoesDeep}
+use Rattle.tw_world.specs.Checks.{IsOpenUnder, PassesUnder}
 use Rattle.tw_world.proofs.Instances.{same_cause}
 use Rattle.tw_world.proofs.Solving.{all_pass, deep_here, fails_here, index_within, not_passing, scope_is_context}
 use Rattle.tw_world.proofs.clause.clause_fault.Goals as goal
@@ -26,7 +26,7 @@ returns-in_err-subgoal_passes-clause-too_deep c = λ h F.
     let f = c.in_err-subgoal_passes.field-0.0 in
     let q : c.from_residual-in_err-subgoal_passes.result ≡ Err f = search rules in
     let v : is_variable everything T n ≡ false = sym (c.is_variable_at.ensures T (c.deref.ensures.value ∙ c.in_ok-shape.ensures)) ∙ c.if-not-is_variable_at.true in
-    let d = subst (λ G. (A : LfType) → TypeAt G n A → UnderGoesDeep x G A) c.in_ok-scope.ensures (c.in_err-subgoal_passes.ensures.too_deep (ap Err (same_cause c.from_residual-in_err-subgoal_passes.result q h))) in
+    let d = subst (λ G. (A : LfType) → TypeAt G n A → IsOpenUnder x G A) c.in_ok-scope.ensures (c.in_err-subgoal_passes.ensures.too_deep (ap Err (same_cause c.from_residual-in_err-subgoal_passes.result q h))) in
     (c.loop-index.number + 1, deep_here x c.args.outer.now T n c.loop-index.number c.in_ok-shape.shape.items F c.in_ok-shape.ensures (omega arith) v c.loop-index.invariant.number c.loop-index.invariant.before d)
 
 pub returns-then-not-branch-clause-decided : goal.returns-then-not-branch-clause-decided

@@ -7,7 +7,7 @@ use Rattle.lf.specs.Typing.{TypeAt}
 use Rattle.lf.proofs.Weakening.{declared_is_type}
 use Rattle.tw_kernel.proofs.Variables.{variable_found}
 use Rattle.tw_terms.specs.View.{type_of}
-use Rattle.tw_world.specs.Checks.{PassesUnder, UnderGoesDeep}
+use Rattle.tw_world.specs.Checks.{IsOpenUnder, PassesUnder}
 use Rattle.tw_clause.proofs.Patterns.{on_value}
 use Rattle.tw_world.proofs.Solving.{same_type}
 use Rattle.tw_world.proofs.clause.subgoal_passes.Goals as goal
@@ -31,4 +31,4 @@ returns-clause-too_deep c = λ h A t.
     let G = c.args.scope.now in
     let moved : type_of c.in_ok-subgoal.subgoal ≡ rename_type (shift_by (suc c.args.index)) (type_of c.in-Some.ty.now) = c.in_ok-subgoal.ensures ∙ ap (λ n. rename_type (shift_by n) (type_of c.in-Some.ty.now)) c.in_ok-one_more.ensures in
     let at : TypeAt G c.args.index (type_of c.in_ok-subgoal.subgoal) = subst (TypeAt G c.args.index) (sym moved) (variable_found G c.args.index (type_of c.in-Some.ty.now) (sym c.in-Some.ensures)) in
-    subst (UnderGoesDeep c.args.check.now G) (same_type G c.args.index (type_of c.in_ok-subgoal.subgoal) A at t) (c.subgoal_is_worlded.ensures.too_deep h)
+    subst (IsOpenUnder c.args.check.now G) (same_type G c.args.index (type_of c.in_ok-subgoal.subgoal) A at t) (c.subgoal_is_worlded.ensures.too_deep h)
