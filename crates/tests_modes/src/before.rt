@@ -1,40 +1,37 @@
 //! What is ground before a subgoal.
-use crate::reading::read_modes;
+use crate::reading::{read_modes, read_worlds};
 use std::alloc::{AllocError, Global};
 use tests_forms::{Case, FormFault, Names, number_of, read_closed_type};
-use tw_mode::{Outside, ground_before};
+use tw_clause::{Block, Clause, clause_of, clause_of_entry};
+use tw_mode::ground_before;
 
 /// For each variable of the clause, the outermost first, `y` or `n`: whether it is ground before the subgoal.
 pub(crate) fn ground(alloc: Global, names: &mut Names, case: &Case) -> Result<String, FormFault> {
     let modes = read_modes(alloc, names, case.text("modes")?)?;
-    let fixed = read_answers(alloc, case.text("fixed")?)?;
-    let ground = read_answers(alloc, case.text("ground")?)?;
-    let form = case.form(alloc, "type")?;
-    let ty = read_closed_type(alloc, names, &form)?;
+    let clause = read_clause(alloc, names, case)?;
     let subgoal = number_of(case.text("subgoal")?)?;
-    if fixed.len() > ground.len() {
-        return Err(FormFault::NoMeaning);
-    }
-    let outside = Outside {
-        depth: ground.len() as u64,
-        fixed: &fixed,
-        ground: &ground,
-    };
-    let marks = ground_before(alloc, &modes, &outside, &ty, subgoal)?;
+    let marks = ground_before(alloc, &modes, &clause, subgoal)?;
     Ok(show_answers(alloc, &marks)?)
 }
 
-/// A `y` or an `n` for each of the variables.
-fn read_answers(alloc: Global, word: &str) -> Result<Vec<bool>, FormFault> {
-    let mut answers = Vec::new(alloc);
-    for letter in word.chars() {
-        match letter {
-            'y' => answers.push(true)?,
-            'n' => answers.push(false)?,
-            _ => return Err(FormFault::NoMeaning),
+/// The clause of the last entry of a block, or of a type where there is no block.
+fn read_clause(alloc: Global, names: &mut Names, case: &Case) -> Result<Clause, FormFault> {
+    let worlds = read_worlds(alloc, names, case)?;
+    match worlds.blocks.first() {
+        Some(block) => last_clause(alloc, block),
+        None => {
+            let ty = read_closed_type(alloc, names, &case.form(alloc, "type")?)?;
+            Ok(clause_of(alloc, &ty)?)
         }
     }
-    Ok(answers)
+}
+
+fn last_clause(alloc: Global, block: &Block) -> Result<Clause, FormFault> {
+    let count = block.entries.len();
+    if count == 0 || count > 1_000 {
+        return Err(FormFault::NoMeaning);
+    }
+    Ok(clause_of_entry(alloc, block, count as u32)?)
 }
 
 fn show_answers(alloc: Global, answers: &[bool]) -> Result<String, AllocError> {

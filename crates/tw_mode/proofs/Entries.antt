@@ -41,7 +41,7 @@ pub constant_fits : (es : List Entry) (k : ℕ) (U : LfType) → IsCanonicalSign
 constant_fits es k U c e = let s : IsSignature (signature_of es) = canonical_is_signature es c in typed_fits (signature_of es) [] U (s.types_ok k U e)
 
 -- Marks one behind the other.
-shown_more : (ms : List Bool) (n : ℕ) → with_shown ms (suc n) ≡ with_shown ms n ++ true ∷ []
+pub shown_more : (ms : List Bool) (n : ℕ) → with_shown ms (suc n) ≡ with_shown ms n ++ true ∷ []
 shown_more ms zero = refl
 shown_more ms (suc n) = shown_more (ms ++ true ∷ []) n
 

@@ -20,4 +20,6 @@ pub mod Completing
 pub mod Placing
 pub mod Stepping
 pub mod Outer
+pub mod Renamed
 pub mod Reaching
+pub mod Read

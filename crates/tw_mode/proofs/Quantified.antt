@@ -19,7 +19,7 @@ use Rattle.tw_mode.specs.Checks.{Fits}
 use Rattle.tw_mode.specs.Solved.{domain_types}
 use Rattle.tw_mode.proofs.Occurring.{OccurIn, domain_uses_variables, occur_past}
 
-below_or : (i n : ℕ) → i < suc n → (i < n) ⊎ (i ≡ n)
+pub below_or : (i n : ℕ) → i < suc n → (i < n) ⊎ (i ≡ n)
 below_or zero zero h = inr refl
 below_or zero (suc n) h = inl (omega arith)
 below_or (suc i) zero h = absurd (omega (arith, h))

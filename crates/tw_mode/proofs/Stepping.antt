@@ -1,6 +1,6 @@
 -- One step of a walk over the quantifiers of a type, from the last one on.
 use Rattle.std.proofs.Common.{◌≡◌, ℕ, suc, ◌+◌, ◌-◌, ◌<◌, ◌≤◌, List, [], ◌∷◌, Bool, true, false, Some, None, Option, length, get_or, map, refl, sym, ap, ap₂, ◌∙◌, subst, arith}
-use Rattle.std.specs.Prelude.{is_some, option_map, Result, Ok, Err, IfOk, OnOk}
+use Rattle.std.specs.Prelude.{is_some, option_map}
 use Rattle.lf.specs.AtOnce.{shift_by}
 use Rattle.lf.specs.Entries.{kind_quantifiers, quantifiers}
 use Rattle.lf.specs.Syntax.{LfType, atom, nil, rename_type}
@@ -18,7 +18,7 @@ use Rattle.tw_mode.specs.Checks.{Fits, Outcome}
 use Rattle.tw_mode.specs.Outcomes.{ClauseOutcome, EndOutcome, QuantifierOutcome, SubgoalOutcome, SubgoalsOutcome, plain_place}
 use Rattle.tw_mode.specs.Rows.{marks_in, moded_in}
 use Rattle.tw_mode.specs.Scopes.{in_marks}
-use Rattle.tw_mode.specs.Solved.{GoesPast, Stands, after, clause_in, domain_types, ground_outside, with_free}
+use Rattle.tw_mode.specs.Solved.{GoesPast, Stands, clause_in, domain_types, ground_outside}
 use Rattle.tw_mode.specs.declared.clause.Place.{Place}
 use Rattle.tw_mode.specs.declared.clause.Walk.{Walk}
 use Rattle.tw_mode.specs.declared.outside.Outside.{Outside}
@@ -48,7 +48,7 @@ module _ (C : List LfType) (o : Outside) (T : LfType) (left : ℕ) (h : left < q
   inside : Here < quantifiers T
   inside = omega (arith, h)
 
-  pub is_variable_here : (b : Bool) → get_or (shape T) left false ≡ b → variables (clause_in C o T) Here ≡ b
+  is_variable_here : (b : Bool) → get_or (shape T) left false ≡ b → variables (clause_in C o T) Here ≡ b
   is_variable_here b e = shape_at T everything Here inside ∙ ap (λ k. get_or (shape T) k false) place ∙ e
 
   type_here : (D A : LfType) → A ≡ rename_type (shift_by (quantifiers T - left)) (get_or (domain_types T) left D) → type_at (scope (clause_in C o T)) Here ≡ Some A
@@ -68,14 +68,14 @@ module _ (Σ : Signature) (t : Table) (o : Outside) (T : LfType) (depth : ℕ) (
   same_fixed = sym (ap (λ n. in_marks false n o.fixed.now) d ∙ outside_fixed T o.depth o.fixed.now f)
 
   module _ (left : ℕ) (h : left < quantifiers T) where
-    pub walked_variable : (w : Walk) → get_or (shape T) left false ≡ true → AllStand w (quantifiers T - suc left) → AllStand w (quantifiers T - left)
+    walked_variable : (w : Walk) → get_or (shape T) left false ≡ true → AllStand w (quantifiers T - suc left) → AllStand w (quantifiers T - left)
     walked_variable w e s C = subst (Stands (marks_in t) (ground_outside o) (clause_in C o T) depth w) (sym (next C o T left h)) (stands_past_variable (marks_in t) (ground_outside o) (clause_in C o T) depth w (quantifiers T - suc left) (is_variable_here C o T left h true e) (s C))
 
-    pub before_variable : get_or (shape T) left false ≡ true → AllBefore (quantifiers T - suc left) → AllBefore (quantifiers T - left)
+    before_variable : get_or (shape T) left false ≡ true → AllBefore (quantifiers T - suc left) → AllBefore (quantifiers T - left)
     before_variable e b C = subst (ModedBefore Σ (marks_in t) (moded_in t) (ground_outside o) (clause_in C o T)) (sym (next C o T left h)) (before_past_variable Σ (marks_in t) (moded_in t) (ground_outside o) (clause_in C o T) (quantifiers T - suc left) (is_variable_here C o T left h true e) (b C))
 
     module _ (D A : LfType) (e : get_or (shape T) left false ≡ false) (a : A ≡ rename_type (shift_by (quantifiers T - left)) (get_or (domain_types T) left D)) where
-      pub walked_goal : (old new : Walk) → AllStand old (quantifiers T - suc left) → GoesPast (marks_in t) (in_marks false depth o.fixed.now) depth A old new → new.subgoals ≡ suc old.subgoals → AllStand new (quantifiers T - left)
+      walked_goal : (old new : Walk) → AllStand old (quantifiers T - suc left) → GoesPast (marks_in t) (in_marks false depth o.fixed.now) depth A old new → new.subgoals ≡ suc old.subgoals → AllStand new (quantifiers T - left)
       walked_goal old new s g q C = subst (Stands (marks_in t) (ground_outside o) (clause_in C o T) depth new) (sym (next C o T left h)) (stands_past_goal (marks_in t) (ground_outside o) (clause_in C o T) depth (in_marks false depth o.fixed.now) A old new (quantifiers T - suc left) (is_variable_here C o T left h false e) (type_here C o T left h D A a) same_fixed (uses_here C o T left h D A a) (s C) g q)
 
       outcome_here : (w : Walk) (r : Option ℕ) → AllStand w (quantifiers T - suc left) → SubgoalOutcome Σ t (in_marks false depth o.fixed.now) (in_marks true depth w.ground.items) A r → (C : List LfType) → Outcome (SubgoalIsModed Σ (marks_in t) (moded_in t) (clause_in C o T) (ground_until (ground_outside o) (marks_in t) (clause_in C o T) (quantifiers T - suc left)) A) (SubgoalFault Σ (marks_in t) (moded_in t) (clause_in C o T) (ground_until (ground_outside o) (marks_in t) (clause_in C o T) (quantifiers T - suc left)) A) r
@@ -180,11 +180,3 @@ module _ (Σ : Signature) (t : Table) (o : Outside) (T : LfType) (depth : ℕ) (
         by : (r : Option ℕ) → Outcome (AllGround (marks_in t) (clause_in C o T) (ground_at_end (ground_outside o) (marks_in t) (clause_in C o T))) (EndFault (marks_in t) (clause_in C o T) (ground_at_end (ground_outside o) (marks_in t) (clause_in C o T))) r → Outcome (WellModedFrom Σ (marks_in t) (moded_in t) (ground_outside o) (clause_in C o T)) (λ j. ModeFaultFrom Σ (marks_in t) (moded_in t) (ground_outside o) (clause_in C o T) (place_of 0 j)) r
         by None h = passes Σ (marks_in t) (moded_in t) (ground_outside o) (clause_in C o T) s (walked C).1 h
         by (Some j) h = of_end s (walked C).1 h
-
--- what a step promises, as what a quantifier comes to
-pub step_told : (Σ : Signature) (t : Table) (F : ℕ → Bool) (depth : ℕ) (G A : LfType) (v : Bool) (old new : Walk) {E : Type 0} (r : Result (Option ℕ) E) → v ≡ false → G ≡ A → length old.ground.items ≡ depth → length old.excused.items ≡ depth → IfOk r (λ f. SubgoalOutcome Σ t F (in_marks true depth old.ground.items) G f) → OnOk r (new.subgoals ≡ suc old.subgoals) → IfOk r (λ f. f ≡ None → in_marks true depth new.ground.items ≡ after (marks_in t) F G (in_marks true depth old.ground.items)) → IfOk r (λ f. f ≡ None → in_marks true depth new.excused.items ≡ with_free (marks_in t) G (in_marks true depth old.excused.items)) → IfOk r (λ f. f ≡ None → length new.ground.items ≡ depth) → IfOk r (λ f. f ≡ None → length new.excused.items ≡ depth) → IfOk r (λ f. QuantifierOutcome Σ t F depth v A old new f)
-step_told Σ t F depth G A v old new (Err e) n g l m a b c d x y = a
-step_told Σ t F depth G A v old new (Ok f) n g l m a b c d x y =
-    subst (λ u. QuantifierOutcome Σ t F depth u A old new f) (sym n)
-    (subst (λ X. QuantifierOutcome Σ t F depth false X old new f) g
-    (a, b, λ q. record { ground = c q; excuses = d q; each_ground = x q ∙ sym l; each_excused = y q ∙ sym m }))

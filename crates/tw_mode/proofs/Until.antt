@@ -3,7 +3,7 @@ use Rattle.std.proofs.Common.{◌≡◌, ℕ, zero, suc, ◌+◌, ◌≤◌, Lis
 use Rattle.std.specs.Prelude.{cond}
 use Rattle.lf.specs.Entries.{quantifiers}
 use Rattle.lf.specs.Syntax.{Spine, LfType, pi, atom}
-use Rattle.lf.specs.Variables.{everything, nothing, target, target_arguments}
+use Rattle.lf.specs.Variables.{everything, hide, nothing, target, target_arguments}
 use Rattle.lf_unification.specs.Search.{occurs_type}
 use Rattle.lf_checks.specs.Clause.{Clause, outside, variables}
 use Rattle.lf_checks.specs.Ground.{ground_from}
@@ -29,17 +29,32 @@ pub one_past : (m : ℕ → List Mark) (c : Clause) (o : Bool) (A : LfType) (X :
 one_past m c true A X h = refl
 one_past m c false A X h = fun_ext (λ i. ap (either (X i)) (implied (strict_goal (output_places (m (target A))) nothing (outside c.type c.fixed) i A) (variables c i) (λ e. h i (goal_occurs (output_places (m (target A))) nothing (outside c.type c.fixed) i A e))))
 
--- What stands outside, under the quantifiers.
+-- A set of what stands outside, under n quantifiers.
+abbrev pub hidden_by : ℕ → (ℕ → Bool) → ℕ → Bool
+hidden_by zero U = U
+hidden_by (suc n) U = hidden_by n (hide U)
+
+pub outside_hidden : (T : LfType) (U : ℕ → Bool) → outside T U ≡ hidden_by (quantifiers T) U
+outside_hidden (pi A B) U = outside_hidden B (hide U)
+outside_hidden (atom a S) U = refl
+
+pub hidden_marks : (n d : ℕ) (fs : List Bool) → length fs ≤ d → in_marks false (d + n) fs ≡ hidden_by n (in_marks false d fs)
+hidden_marks zero d fs h = ap (λ k. in_marks false k fs) (let q : d + zero ≡ d = omega arith in q)
+hidden_marks (suc n) d fs h = ap (λ k. in_marks false k fs) (let q : d + suc n ≡ suc d + n = omega arith in q) ∙ hidden_marks n (suc d) fs (omega (arith, h)) ∙ ap (hidden_by n) (hidden d fs h)
+
+pub hidden_pushed : (n d : ℕ) (gs : List Bool) → length gs ≡ d → in_marks true (d + n) (with_hidden gs n) ≡ hidden_by n (in_marks true d gs)
+hidden_pushed zero d gs h = ap (λ k. in_marks true k gs) (let q : d + zero ≡ d = omega arith in q)
+hidden_pushed (suc n) d gs h =
+    ap (λ k. in_marks true k (with_hidden (gs ++ false ∷ []) n)) (let q : d + suc n ≡ suc d + n = omega arith in q)
+    ∙ hidden_pushed n (suc d) (gs ++ false ∷ []) (let k = length-append gs (false ∷ []) in omega (arith, h, k))
+    ∙ ap (hidden_by n) (pushed_hidden d gs h)
+
+-- and under those of a type
 pub outside_fixed : (T : LfType) (d : ℕ) (fs : List Bool) → length fs ≤ d → in_marks false (d + quantifiers T) fs ≡ outside T (in_marks false d fs)
-outside_fixed (pi A B) d fs h = ap (λ n. in_marks false n fs) (let q : d + suc (quantifiers B) ≡ suc d + quantifiers B = omega arith in q) ∙ outside_fixed B (suc d) fs (omega (arith, h)) ∙ ap (outside B) (hidden d fs h)
-outside_fixed (atom a S) d fs h = ap (λ n. in_marks false n fs) (let q : d + zero ≡ d = omega arith in q)
+outside_fixed T d fs h = hidden_marks (quantifiers T) d fs h ∙ sym (outside_hidden T (in_marks false d fs))
 
 pub outside_ground : (T : LfType) (d : ℕ) (gs : List Bool) → length gs ≡ d → in_marks true (d + quantifiers T) (with_hidden gs (quantifiers T)) ≡ outside T (in_marks true d gs)
-outside_ground (pi A B) d gs h =
-    ap (λ n. in_marks true n (with_hidden (gs ++ false ∷ []) (quantifiers B))) (let q : d + suc (quantifiers B) ≡ suc d + quantifiers B = omega arith in q)
-    ∙ outside_ground B (suc d) (gs ++ false ∷ []) (let k = length-append gs (false ∷ []) in omega (arith, h, k))
-    ∙ ap (outside B) (pushed_hidden d gs h)
-outside_ground (atom a S) d gs h = ap (λ n. in_marks true n gs) (let q : d + zero ≡ d = omega arith in q)
+outside_ground T d gs h = hidden_pushed (quantifiers T) d gs h ∙ sym (outside_hidden T (in_marks true d gs))
 
 pub hidden_length : (gs : List Bool) (k : ℕ) → length (with_hidden gs k) ≡ length gs + k
 hidden_length gs zero = let q : length gs ≡ length gs + zero = omega arith in q

@@ -1,6 +1,6 @@
 -- A walk over the subgoals of a clause.
 use Rattle.std.proofs.Common.{◌≡◌, ℕ, zero, suc, ◌+◌, ◌-◌, ◌<◌, ◌≤◌, List, [], ◌∷◌, ◌++◌, Bool, true, false, length, length-append, map, take, get_or, refl, sym, ap, ap₂, ◌∙◌, subst, arith, inl, inr, true≢false}
-use Rattle.std.specs.Prelude.{not, cond, Option, Some, None, ◌⊎◌, ◌↔◌}
+use Rattle.std.specs.Prelude.{not, cond, Option, Some, None, ◌↔◌}
 use Rattle.std.proofs.lemmas.List.{append_assoc}
 use Rattle.lf.specs.Entries.{quantifiers}
 use Rattle.lf.specs.Syntax.{LfType, pi, atom}
@@ -26,6 +26,7 @@ use Rattle.tw_mode.specs.Scopes.{in_marks}
 use Rattle.tw_mode.specs.Solved.{FirstFaulty, GoesPast, Stands, after, after_all, excused, free_past, with_free, with_hidden}
 use Rattle.tw_mode.specs.declared.clause.Walk.{Walk}
 use Rattle.tw_mode.proofs.Ending.{all_in}
+use Rattle.tw_mode.proofs.Quantified.{below_or}
 use Rattle.tw_mode.proofs.Sets.{marked_set, pushed_set}
 use Rattle.tw_mode.proofs.Strictness.{either_false}
 use Rattle.tw_mode.proofs.Until.{head_ground, one_past, outside_fixed, outside_ground}
@@ -166,15 +167,9 @@ module _ (m : ℕ → List Mark) (V : ℕ → Bool) (c : Clause) (depth : ℕ) w
     each_excused = g.each_excused ∙ s.each_excused;
   }
 
-below_or_last : (i n : ℕ) → i < suc n → (i < n) ⊎ (i ≡ n)
-below_or_last zero zero h = inr refl
-below_or_last zero (suc n) h = inl (omega arith)
-below_or_last (suc i) zero h = absurd (omega (arith, h))
-below_or_last (suc i) (suc n) h = elim (below_or_last i n (omega (arith, h))) [ inl l ↦ inl (omega (arith, l)) | inr e ↦ inr (ap suc e) ]
-
 module _ (Σ : Signature) (m : ℕ → List Mark) (moded V : ℕ → Bool) (c : Clause) where
   pub before_past_variable : (i : ℕ) → variables c i ≡ true → ModedBefore Σ m moded V c i → ModedBefore Σ m moded V c (suc i)
-  before_past_variable i e h j A l s = elim (below_or_last j i l) [ inl k ↦ h j A k s | inr q ↦ absurd (true≢false (sym e ∙ ap (variables c) (sym q) ∙ s.0)) ]
+  before_past_variable i e h j A l s = elim (below_or j i l) [ inl k ↦ h j A k s | inr q ↦ absurd (true≢false (sym e ∙ ap (variables c) (sym q) ∙ s.0)) ]
 
   same_type : (i : ℕ) (A B : LfType) → type_at (scope c) i ≡ Some A → TypeAt (scope c) i B → A ≡ B
   same_type i A B e t = some_type (sym e ∙ (type_both (scope c) i B).0 t)
@@ -183,7 +178,7 @@ module _ (Σ : Signature) (m : ℕ → List Mark) (moded V : ℕ → Bool) (c : 
       some_type q = cc
 
   pub before_past_goal : (i : ℕ) (A : LfType) → type_at (scope c) i ≡ Some A → SubgoalIsModed Σ m moded c (ground_until V m c i) A → ModedBefore Σ m moded V c i → ModedBefore Σ m moded V c (suc i)
-  before_past_goal i A e g h j B l s = elim (below_or_last j i l) [ inl k ↦ h j B k s | inr q ↦ subst (λ n. SubgoalIsModed Σ m moded c (ground_until V m c n) B) (sym q) (subst (SubgoalIsModed Σ m moded c (ground_until V m c i)) (same_type i A B e (subst (λ n. TypeAt (scope c) n B) q s.1)) g) ]
+  before_past_goal i A e g h j B l s = elim (below_or j i l) [ inl k ↦ h j B k s | inr q ↦ subst (λ n. SubgoalIsModed Σ m moded c (ground_until V m c n) B) (sym q) (subst (SubgoalIsModed Σ m moded c (ground_until V m c i)) (same_type i A B e (subst (λ n. TypeAt (scope c) n B) q s.1)) g) ]
 
   pub is_subgoal_at : (i : ℕ) (A : LfType) → variables c i ≡ false → type_at (scope c) i ≡ Some A → IsSubgoal c i A
   is_subgoal_at i A e t = (e, (type_both (scope c) i A).1 t)
@@ -211,7 +206,7 @@ module _ (m : ℕ → List Mark) (c : Clause) (x : ℕ) where
   excused_before (suc n) e =
       let (a, b) = either_no (excused m c n x) (free_past m (variables c n) (type_at (scope c) n) x) e in
       let (f, g) = excused_before n a in
-      (f, λ i l. elim (below_or_last i n l) [ inl k ↦ g i k | inr q ↦ subst (λ j. free_past m (variables c j) (type_at (scope c) j) x ≡ false) (sym q) b ])
+      (f, λ i l. elim (below_or i n l) [ inl k ↦ g i k | inr q ↦ subst (λ j. free_past m (variables c j) (type_at (scope c) j) x ≡ false) (sym q) b ])
 
   not_false : (b : Bool) → not b ≡ false → b ≡ true
   not_false true e = refl

@@ -307,7 +307,7 @@ fn all_ground(alloc: Global, fixed: &Vec<bool>) -> Result<Vec<bool>, AllocError>
 }
 
 /// So many marks that say no, and then so many that say yes.
-fn some_and_entries(alloc: Global, some: u64, entries: u64) -> Result<Vec<bool>, AllocError>
+pub fn some_and_entries(alloc: Global, some: u64, entries: u64) -> Result<Vec<bool>, AllocError>
     ensures { IfOk result (λ v. v.items ≡ with_shown (with_hidden [] some) entries) }
 {
     let mut marks = Vec::new(alloc);

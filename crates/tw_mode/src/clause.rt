@@ -43,10 +43,10 @@ pub struct Place {
 
 /// Where a walk over the subgoals of a clause stands: which variables are ground, which needn't be, and how many subgoals were met.
 #[derive(Drop)]
-pub struct Walk {
-    pub ground: Vec<bool>,
-    pub excused: Vec<bool>,
-    pub subgoals: u64,
+struct Walk {
+    ground: Vec<bool>,
+    excused: Vec<bool>,
+    subgoals: u64,
 }
 
 /// The first fault of a type as a clause, if there is one. Fails only for want of memory. The stack nests as deep as the type does.
@@ -131,7 +131,7 @@ fn clause_end(
 }
 
 /// Before the first subgoal.
-pub fn begin(
+fn begin(
     alloc: Global,
     table: &Table,
     outside: &Outside,
@@ -148,7 +148,14 @@ pub fn begin(
     requires shape { shape.now ≡ shape_of_type (type_of ty.now) }
     ensures { IfOk result (λ w. (C : List LfType) → Stands (marks_in table.now) (ground_outside outside.now) (clause_in C outside.now (type_of ty.now)) scope.now.depth w 0) }
 {
-    let ground = marks_in_head(alloc, table, scope, outside.ground, ty)?;
+    let ground = marks_in_head(
+        alloc,
+        table,
+        scope,
+        outside.ground,
+        target(ty),
+        target_spine(ty),
+    )?;
     let excused = excused_in_head(alloc, table, outside.depth, scope.depth, shape, ty)?;
     Ok(Walk {
         ground,
@@ -206,7 +213,7 @@ fn not_variables(alloc: Global, outside: u64, shape: &[bool]) -> Result<Vec<bool
 }
 
 /// The types of the leading quantifiers, the outermost first.
-pub fn domains_of<'a>(alloc: Global, ty: &'a Ty) -> Result<Vec<&'a Ty>, AllocError>
+fn domains_of<'a>(alloc: Global, ty: &'a Ty) -> Result<Vec<&'a Ty>, AllocError>
     ensures { IfOk result (λ ds. map (λ d. type_of d.now) ds.items ≡ domain_types (type_of ty.now)) }
 {
     let mut domains: Vec<&'a Ty> = Vec::new(alloc);
@@ -260,7 +267,7 @@ fn subgoals_fault(
 }
 
 /// The test at a place.
-pub fn nth_test(tests: &[bool], place: usize) -> bool
+fn nth_test(tests: &[bool], place: usize) -> bool
     requires { place < length tests.now }
     ensures { result ≡ get_or tests.now place false }
 {
@@ -268,7 +275,7 @@ pub fn nth_test(tests: &[bool], place: usize) -> bool
 }
 
 /// The type at a place.
-pub fn nth_domain<'a>(domains: &[&'a Ty], place: usize) -> &'a Ty
+fn nth_domain<'a>(domains: &[&'a Ty], place: usize) -> &'a Ty
     requires { place < length domains.now }
     ensures { type_of result.now ≡ get_or (map (λ d. type_of d.now) domains.now) place (atom 0 nil) }
 {
@@ -333,7 +340,7 @@ fn step(
 }
 
 /// What a subgoal makes ground, and what it excuses.
-pub fn solve_goal(
+fn solve_goal(
     alloc: Global,
     table: &Table,
     scope: &Scope,

@@ -1,7 +1,7 @@
 //! What is ground at first, by the head of a clause.
 ghost use Rattle.std.specs.Prelude.{◌≡◌, ◌≤◌, ◌+◌, ◌-◌, length, IfOk};
 ghost use Rattle.lf.specs.Entries.{quantifiers};
-ghost use Rattle.lf.specs.Variables.{nothing, target as target_of_type, target_arguments};
+ghost use Rattle.lf.specs.Variables.{nothing, target_arguments};
 ghost use Rattle.lf_checks.specs.Marks.{input_places};
 ghost use Rattle.lf_checks.specs.Strict.{strict_at};
 ghost use Rattle.tw_clause.specs.Marks.{marked};
@@ -17,25 +17,26 @@ use crate::table::Table;
 use std::alloc::{AllocError, Global};
 use tw_clause::Mark3;
 use tw_terms::numbers::one_more;
-use tw_terms::{Spine, Ty, target};
+use tw_terms::{ConstId, Spine, Ty};
 
-/// The marks of what stands outside, and of the variables with a strict occurrence in an input place of a type's target.
+/// The marks of what stands outside, and of the variables with a strict occurrence in an input place of a head: a family and its arguments.
 pub fn marks_in_head(
     alloc: Global,
     table: &Table,
     scope: &Scope,
     outer: &[bool],
-    ty: &Ty,
+    family: ConstId,
+    spine: &Spine,
 ) -> Result<Vec<bool>, AllocError>
     requires head { scope.now.bound ≡ 0 }
     requires fixed { length scope.now.fixed.now ≤ scope.now.depth }
     requires outer { length outer.now ≤ scope.now.depth }
-    ensures marks { IfOk result (λ v. v.items ≡ marked scope.now.depth (λ i. strict_at (input_places (marks_in table.now (target_of_type (type_of ty.now)))) nothing (fixed_in scope.now) i (target_arguments (type_of ty.now))) (with_hidden outer.now (scope.now.depth - length outer.now))) }
+    ensures marks { IfOk result (λ v. v.items ≡ marked scope.now.depth (λ i. strict_at (input_places (marks_in table.now family.0)) nothing (fixed_in scope.now) i (spine_of spine.now)) (with_hidden outer.now (scope.now.depth - length outer.now))) }
     ensures len { IfOk result (λ v. length v.items ≡ scope.now.depth) }
 {
     let mut ground = more_marks(alloc, outer, scope.depth)?;
-    let places = places_for(alloc, table, target(ty), Mark3::Plus)?;
-    mark_strict_at(alloc, scope, &places, target_spine(ty), &mut ground)?;
+    let places = places_for(alloc, table, family, Mark3::Plus)?;
+    mark_strict_at(alloc, scope, &places, spine, &mut ground)?;
     Ok(ground)
 }
 

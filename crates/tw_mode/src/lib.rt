@@ -33,12 +33,11 @@ mod table;
 #[tactic(auto, using(tw_terms::proofs::Args::types))]
 mod uses;
 
-pub use before::ground_before;
+pub use before::{clauses_are_read, ground_before};
 pub use check::{check_mode, check_modes};
 pub use fault::ModeFault;
 pub use full::full_marks;
 pub use mode_table::ModeTable;
-pub use outside::Outside;
 pub use places::{mark_strict_at, mark_strict_goal};
 pub use scope::Scope;
 pub use short::short_marks;
