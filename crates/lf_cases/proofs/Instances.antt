@@ -1,7 +1,7 @@
 -- In a context of worlds beside S, a variable whose family is in S is an entry of an instance that is whole.
-use Rattle.lf_cases.specs.Cover.{InstanceIn, InstanceBefore}
+use Rattle.lf_cases.specs.Cover.{InstanceIn, InstanceBefore, place_of}
 use Rattle.lf_checks.specs.Clause.{among}
-use Rattle.std.proofs.Common.{◌≡◌, ℕ, zero, suc, List, ◌∷◌, refl, sym, ap, ◌∙◌, subst, inl, inr, true≢false}
+use Rattle.std.proofs.Common.{◌≡◌, ℕ, zero, suc, List, ◌∷◌, refl, sym, ap, ◌∙◌, subst, inl, inr, true≢false, []}
 use Rattle.std.specs.Prelude.{Bool, true, ◌⊎◌}
 use Rattle.lf.specs.Syntax.{LfType}
 use Rattle.lf.specs.Substitution.{Image, keep, rename_image, lift, substitute_type, reduce}
@@ -94,3 +94,8 @@ module _ (Σ : Signature) (ok : IsSignature Σ) where
         on : OpenAt o i → OpenAt (single_beside o t n) (suc i)
         on (inl (B, l, θ, h, k, a, q)) = inl (B, l, (λ j. rename_image suc (θ j)), (θ, h, refl), k, a, ap (rename_image suc) q)
         on (inr (k, a, q)) = inr (k, a, ap (rename_image suc) q)
+
+-- the entry after which these follow is one
+pub place_among : (later : List LfType) (E : LfType) (es : List LfType) → among (onto later (E ∷ es)) (place_of later) ≡ true
+place_among [] E es = refl
+place_among (D ∷ later) E es = place_among later E es

@@ -17,7 +17,7 @@ use Rattle.lf.proofs.TypeLaws.{skeleton_renamed, skeleton_substituted, substitut
 use Rattle.lf_checks.specs.Clause.{among}
 use Rattle.lf_checks.specs.Worlded.{IsTerm}
 use Rattle.lf_cases.specs.Case.{Item, free_variable, IsGroundInstance, items_context, past_place}
-use Rattle.lf_cases.specs.OutputCase.{FirstInstance}
+use Rattle.lf_cases.specs.Pattern.{FirstInstance}
 use Rattle.lf_cases.specs.OutputGoal.{kept_number, kept_items}
 use Rattle.lf_cases.proofs.OutputItems.{in_front_fits}
 

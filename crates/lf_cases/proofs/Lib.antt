@@ -9,11 +9,12 @@ pub mod Instances
 pub mod Raised
 pub mod LongValues
 pub mod Subordinate
+pub mod GroundTypes
+pub mod StrictUsed
 pub mod InputGoal
 pub mod Heads
 pub mod OutputItems
 pub mod KeptItems
 pub mod Split
-pub mod OutputSplit
 pub mod Subgoals
 pub mod OverMore

@@ -1,27 +1,29 @@
--- Each output of a typed tuple is raised: it uses only the local variables whose families are below its own.
-use Rattle.std.proofs.Common.{◌≡◌, ℕ, zero, suc, List, [], ◌∷◌, ◌+◌, length, refl, sym, ap, ap₂, ◌∙◌, subst, arith, true≢false}
+-- What a type is raised over; and a term that uses these local variables alone is raised over them.
+use Rattle.std.proofs.Common.{◌≡◌, ℕ, zero, suc, List, [], ◌∷◌, ◌+◌, length, refl, sym, ap, ap₂, ◌∙◌, subst, arith}
 use Rattle.std.specs.Prelude.{Bool, true, false, cond}
-use Rattle.lf.specs.Syntax.{variable, Term, Spine, lambda, root, nil, app, LfType, Kind, pi, atom, kind_pi, star, Skeleton, base, arrow, skeleton, rename, rename_spine, rename_type, weaken, lift_renaming}
-use Rattle.lf.specs.Substitution.{Image, keep, single, lift, substitute, substitute_type, substitute_kind, reduce}
+use Rattle.lf.specs.Syntax.{constant, variable, metavariable, Term, Spine, lambda, root, nil, app, LfType, pi, atom, Skeleton, base, arrow, skeleton, rename, rename_spine, rename_type, lift_renaming}
+use Rattle.lf.specs.Substitution.{Image, keep, single, substitute, substitute_type, reduce}
 use Rattle.lf.specs.SkeletonTyping.{HeadSkeletons, TermSkeleton, SpineSkeleton}
 use Rattle.lf.specs.Skeletons.{constant_skeletons, context_skeletons}
-use Rattle.lf.specs.Typing.{Signature, TypeAt, instantiate_kind, HasType, SpineFitsKind, IsType, IsContext, IsSignature}
+use Rattle.lf.specs.Typing.{Signature, TypeAt, HasType, IsType, IsContext, IsSignature}
 use Rattle.lf.specs.Eta.{add_last, eta_long}
 use Rattle.lf.specs.AtOnce.{shift_by}
-use Rattle.lf.specs.Variables.{target, onto, under, Uses, UsesSpine, UsesType, FamiliesIn, KindFamiliesIn, Values, Within, IsTypedRenamingOn, at_variable}
+use Rattle.lf.specs.Variables.{target, onto, under, hide, everything, same_number, Uses, UsesSpine, UsesType, FamiliesIn, Values, Within, IsTypedRenamingOn, at_variable}
 use Rattle.lf.specs.Subordination.{Block, SelfContained}
-use Rattle.lf_cases.specs.Raised.{raise_type, low_locals, IsRaised}
+use Rattle.lf_cases.specs.Raised.{raise_by, locals_by, raised_over, low}
+use Rattle.lf_unification.specs.Search.{occurs, occurs_spine, occurs_type}
+use Rattle.lf_checks.specs.Tests.{either}
 use Rattle.lf.proofs.Renaming.{renamings_compose, substitute_renamed, substitute_identity, reduction_is_natural, reduction_beta}
 use Rattle.lf.proofs.TypeLaws.{renamings_compose_type, substitution_as_renaming, substitute_identity_type, substitution_as_renaming_type, skeleton_renamed}
 use Rattle.lf.proofs.SkeletonTyping.{renaming_keeps_skeletons, renaming_keeps_spine_skeletons, single_by_skeletons, substitution_keeps_skeletons}
 use Rattle.lf.proofs.ToSkeletons.{typed_has_skeleton}
-use Rattle.lf.proofs.Agreement.{agree_on, agree_on_type, uses_within, uses_type_within}
-use Rattle.lf.proofs.Uses.{uses_type_renamed}
+use Rattle.lf.proofs.Agreement.{agree_on, agree_on_type, uses_within}
+use Rattle.lf.proofs.Uses.{uses_renamed, uses_type_renamed}
 use Rattle.lf.proofs.Eta.{EtaLike, Fits, eta_renames, reduce_nil, eta_expand_has_skeleton}
 use Rattle.lf.proofs.Target.{target_renamed}
 use Rattle.lf.proofs.Partial.{partial_substitution_keeps_types, uses_type_all, skeletons_beside}
 use Rattle.lf.proofs.Patch.{patch, patch_same, patched}
-use Rattle.lf.proofs.Strength.{families_renamed, families_substituted, uses_only, Rich, strengthening_keeps_typing}
+use Rattle.lf.proofs.Strength.{uses_only, strengthening_keeps_typing}
 use Rattle.lf.proofs.Strengthening.{TypesIn}
 use mathlib.Core.Path.{fun_ext}
 
@@ -33,8 +35,7 @@ rename_identity_type A = sym (substitution_as_renaming_type reduce (λ i. i) A) 
 
 -- without the newest variable
 abbrev but_newest : ℕ → Bool
-but_newest zero = false
-but_newest (suc i) = true
+but_newest = hide everything
 
 -- what doesn't use the newest variable, moved out from under it and back
 back_image : (i : ℕ) → but_newest i ≡ true → keep (suc (at_variable zero i)) ≡ keep i
@@ -47,16 +48,6 @@ there_and_back M u = renamings_compose suc (at_variable zero) M ∙ sym (substit
 families_back : (S : ℕ → Bool) (ρ : ℕ → ℕ) (A : LfType) → FamiliesIn S (rename_type ρ A) → FamiliesIn S A
 families_back S ρ (pi A B) (a, b) = (families_back S ρ A a, families_back S (lift_renaming ρ) B b)
 families_back S ρ (atom a T) h = h
-
-kind_families_substituted : (S : ℕ → Bool) (r : Skeleton → Term → Spine → Term) (σ : ℕ → Image) (K : Kind) → KindFamiliesIn S K → KindFamiliesIn S (substitute_kind r σ K)
-kind_families_substituted S r σ (kind_pi A K) (a, k) = (families_substituted S r σ A a, kind_families_substituted S r (lift σ) K k)
-kind_families_substituted S r σ star k = k
-
-rich_push : (S U : ℕ → Bool) (G : List LfType) (B : LfType) → FamiliesIn S B → Rich S U G → Rich S (under U) (B ∷ G)
-rich_push S U G B b h zero A e s = (refl, subst (FamiliesIn S) (sym e) (families_renamed S suc B b))
-rich_push S U G B b h (suc i) A (C, g, e) s =
-    let (u, f) = h i C g (sym (ap S (ap target e ∙ target_renamed suc C)) ∙ s) in
-    (u, subst (FamiliesIn S) (sym e) (families_renamed S suc C f))
 
 -- spines by skeletons
 module _ (κ : HeadSkeletons) where
@@ -92,39 +83,98 @@ shift_next n N = ap (λ f. rename f N) (fun_ext (λ i. one_more i n)) ∙ sym (r
     one_more : (i n : ℕ) → i + suc n ≡ suc (i + n)
     one_more i n = omega arith
 
-module _ (Σ : Signature) (ok : IsSignature Σ) (W : List Block) (T : ℕ → Bool) (sc : SelfContained Σ W T) where
+-- M, of type B over the local context D, is a term of the raised type in G applied to the local variables that are chosen.
+abbrev pub IsRaised : Signature → List Bool → List LfType → List LfType → Term → LfType → Type 0
+IsRaised Σ ks G D M B = (N : Term) × HasType Σ G N (raise_by ks D B) × (reduce (skeleton (raise_by ks D B)) (rename (shift_by (length D)) N) (locals_by ks D) ≡ M)
+
+-- The local variables that aren't chosen occur neither in B nor in the types of newer ones that are.
+abbrev pub CanBeRaised : List Bool → List LfType → LfType → Type 0
+CanBeRaised ks [] B = Unit {0}
+CanBeRaised [] (A ∷ D) B = ⊥
+CanBeRaised (true ∷ ks) (A ∷ D) B = CanBeRaised ks D (pi A B)
+CanBeRaised (false ∷ ks) (A ∷ D) B = UsesType (hide everything) B × CanBeRaised ks D (rename_type (at_variable zero) B)
+
+-- the local variables that are chosen, and all that stands outside
+abbrev pub kept_by : List Bool → List LfType → ℕ → Bool
+kept_by ks [] i = true
+kept_by [] (A ∷ D) i = false
+kept_by (k ∷ ks) (A ∷ D) zero = k
+kept_by (k ∷ ks) (A ∷ D) (suc i) = kept_by ks D i
+
+-- A variable that doesn't occur isn't used.
+either_no : {a b : Bool} → either a b ≡ false → (a ≡ false) × (b ≡ false)
+either_no {a = true} e = absurd cc
+either_no {a = false} e = (refl, e)
+
+abbrev All_but : ℕ → (ℕ → Bool) → Type 0
+All_but x U = (i : ℕ) → same_number x i ≡ false → U i ≡ true
+
+all_under : (x : ℕ) (U : ℕ → Bool) → All_but x U → All_but (suc x) (under U)
+all_under x U h zero e = refl
+all_under x U h (suc i) e = h i e
+
+mutual
+  term_without : (x : ℕ) (U : ℕ → Bool) (M : Term) → All_but x U → occurs x M ≡ false → Uses U M
+  term_without x U (lambda M) h e = term_without (suc x) (under U) M (all_under x U h) e
+  term_without x U (root (constant c) S) h e = spine_without x U S h e
+  term_without x U (root (metavariable m) S) h e = spine_without x U S h e
+  term_without x U (root (variable i) S) h e = let (p, q) = either_no e in (h i p, spine_without x U S h q)
+
+  spine_without : (x : ℕ) (U : ℕ → Bool) (S : Spine) → All_but x U → occurs_spine x S ≡ false → UsesSpine U S
+  spine_without x U nil h e = tt
+  spine_without x U (app M S) h e = let (p, q) = either_no e in (term_without x U M h p, spine_without x U S h q)
+
+type_without : (x : ℕ) (U : ℕ → Bool) (A : LfType) → All_but x U → occurs_type x A ≡ false → UsesType U A
+type_without x U (pi A B) h e = let (p, q) = either_no e in (type_without x U A h p, type_without (suc x) (under U) B (all_under x U h) q)
+type_without x U (atom a S) h e = spine_without x U S h e
+
+newest_without : All_but zero but_newest
+newest_without zero e = absurd cc
+newest_without (suc i) e = refl
+
+-- What a type is raised over can be chosen, and has the variables of lower families.
+pub can_raise : (T : ℕ → Bool) (D : List LfType) (B : LfType) → CanBeRaised (raised_over T D B) D B
+can_raise T [] B = tt
+can_raise T (A ∷ D) B = by (can_raise T D) (either (T (target A)) (occurs_type zero B)) refl
+  where
+    no : either (T (target A)) (occurs_type zero B) ≡ false → occurs_type zero B ≡ false
+    no e = (either_no {a = T (target A)} {b = occurs_type zero B} e).1
+
+    by : ((C : LfType) → CanBeRaised (raised_over T D C) D C) → (b : Bool) → either (T (target A)) (occurs_type zero B) ≡ b → CanBeRaised (b ∷ raised_over T D (cond b (pi A B) (rename_type (at_variable zero) B))) (A ∷ D) B
+    by ih true e = ih (pi A B)
+    by ih false e = (type_without zero but_newest B newest_without (no e), ih (rename_type (at_variable zero) B))
+
+pub low_kept_by : (T : ℕ → Bool) (D : List LfType) (B : LfType) → Within (low T D) (kept_by (raised_over T D B) D)
+low_kept_by T [] B i e = refl
+low_kept_by T (A ∷ D) B zero e = ap (λ b. either b (occurs_type zero B)) e
+low_kept_by T (A ∷ D) B (suc i) e = low_kept_by T D (cond (either (T (target A)) (occurs_type zero B)) (pi A B) (rename_type (at_variable zero) B)) i e
+
+kept_under : (ks : List Bool) (A : LfType) (D : List LfType) → Within (kept_by (true ∷ ks) (A ∷ D)) (under (kept_by ks D))
+kept_under ks A D zero e = refl
+kept_under ks A D (suc i) e = e
+
+kept_newest : (ks : List Bool) (A : LfType) (D : List LfType) → Within (kept_by (false ∷ ks) (A ∷ D)) but_newest
+kept_newest ks A D zero e = absurd cc
+kept_newest ks A D (suc i) e = refl
+
+kept_out : (ks : List Bool) (A : LfType) (D : List LfType) (i : ℕ) → kept_by (false ∷ ks) (A ∷ D) i ≡ true → kept_by ks D (at_variable zero i) ≡ true
+kept_out ks A D zero e = absurd cc
+kept_out ks A D (suc i) e = e
+
+module _ (Σ : Signature) where
   abbrev κ : HeadSkeletons
   κ = constant_skeletons Σ
 
-  -- a type with families of T alone uses only variables of these
-  places_use : (U : ℕ → Bool) (G : List LfType) (S : Spine) (K : Kind) → Rich T U G → KindFamiliesIn T K → SpineFitsKind Σ G S K → UsesSpine U S
-  places_use U G nil K h k s = tt
-  places_use U G (app M S) (kind_pi A K) h (a, k) (m, s) = (uses_only Σ T sc.types_in U G M A h a m, places_use U G S (instantiate_kind A M K) h (kind_families_substituted T reduce (single (skeleton A) M) K k) s)
-  places_use U G (app M S) star h k s = absurd s
+  -- the local variables take the raised type to the type
+  pub locals_fit : (ks : List Bool) (D G : List LfType) (B : LfType) → SpineSkeleton κ (context_skeletons (onto D G)) (locals_by ks D) (skeleton (raise_by ks D B)) (skeleton B)
+  locals_fit ks [] G B = refl
+  locals_fit [] (A ∷ D) G B = refl
+  locals_fit (true ∷ ks) (A ∷ D) G B = spine_add_last κ (skeleton A ∷ context_skeletons (onto D G)) (rename_spine suc (locals_by ks D)) (skeleton (raise_by ks D (pi A B))) (skeleton A) (skeleton B) (eta_long (skeleton A) (variable zero)) (renaming_keeps_spine_skeletons κ (context_skeletons (onto D G)) (skeleton A ∷ context_skeletons (onto D G)) suc (locals_by ks D) (skeleton (raise_by ks D (pi A B))) (arrow (skeleton A) (skeleton B)) (λ i t g. g) (locals_fit ks D G (pi A B))) (newest_has_skeleton κ (skeleton A) (context_skeletons (onto D G)))
+  locals_fit (false ∷ ks) (A ∷ D) G B = subst (SpineSkeleton κ (skeleton A ∷ context_skeletons (onto D G)) (rename_spine suc (locals_by ks D)) (skeleton (raise_by ks D (rename_type (at_variable zero) B)))) (skeleton_renamed (at_variable zero) B) (renaming_keeps_spine_skeletons κ (context_skeletons (onto D G)) (skeleton A ∷ context_skeletons (onto D G)) suc (locals_by ks D) (skeleton (raise_by ks D (rename_type (at_variable zero) B))) (skeleton (rename_type (at_variable zero) B)) (λ i t g. g) (locals_fit ks D G (rename_type (at_variable zero) B)))
 
-  type_uses : (U : ℕ → Bool) (G : List LfType) (A : LfType) → Rich T U G → FamiliesIn T A → IsType Σ G A → UsesType U A
-  type_uses U G (pi A B) h (a, b) (t, u) = (type_uses U G A h a t, type_uses (under U) (A ∷ G) B (rich_push T U G A a h) b u)
-  type_uses U G (atom a S) h f (K, e, s) = places_use U G S K h (sc.kinds_in a K e f) s
-
-  -- the local variables whose families are in T, and all that stands outside
-  abbrev low : List LfType → ℕ → Bool
-  low [] i = true
-  low (A ∷ D) zero = T (target A)
-  low (A ∷ D) (suc i) = low D i
-
-  low_at : (D G : List LfType) (i : ℕ) (A : LfType) → TypeAt (onto D G) i A → T (target A) ≡ true → low D i ≡ true
-  low_at [] G i A g t = refl
-  low_at (X ∷ D) G zero A e t = sym (ap T (ap target e ∙ target_renamed suc X)) ∙ t
-  low_at (X ∷ D) G (suc i) A (C, g, e) t = low_at D G i C g (sym (ap T (ap target e ∙ target_renamed suc C)) ∙ t)
-
-  rich : (D G : List LfType) → TypesIn T (onto D G) → Rich T (low D) (onto D G)
-  rich D G h i A g t = (low_at D G i A g t, h i A g t)
-
-  tail_types : (A : LfType) (G : List LfType) → TypesIn T (A ∷ G) → TypesIn T G
-  tail_types A G h i B g t = families_back T suc B (h (suc i) (weaken B) (B, g, refl) (ap T (target_renamed suc B) ∙ t))
-
-  first_families : (A : LfType) (G : List LfType) → TypesIn T (A ∷ G) → T (target A) ≡ true → FamiliesIn T A
-  first_families A G h t = families_back T suc A (h zero (weaken A) refl (ap T (target_renamed suc A) ∙ t))
+module _ (Σ : Signature) (ok : IsSignature Σ) where
+  abbrev κ' : HeadSkeletons
+  κ' = constant_skeletons Σ
 
   -- what doesn't use the newest variable is typed without it
   out_of : (A : LfType) (C : List LfType) → IsTypedRenamingOn but_newest (A ∷ C) C (at_variable zero)
@@ -147,52 +197,42 @@ module _ (Σ : Signature) (ok : IsSignature Σ) (W : List Block) (T : ℕ → Bo
   lowered_type : (A : LfType) (C : List LfType) (B : LfType) → IsContext Σ (A ∷ C) → IsType Σ (A ∷ C) B → UsesType but_newest B → IsType Σ C (rename_type (at_variable zero) B)
   lowered_type A C B c t u = subst (IsType Σ C) (sym (agree_on_type reduce but_newest lowering (patch but_newest C lowering) B (patch_same but_newest C lowering) u) ∙ substitution_as_renaming_type reduce (at_variable zero) B) (partial_substitution_keeps_types Σ ok (skeletons_beside [] (A ∷ C)) [] but_newest (A ∷ C) C (patch but_newest C lowering) B (patched Σ ok but_newest (A ∷ C) C lowering c c.0 (lowered_values A C)) u t)
 
-  -- the local variables take the raised type to the type
-  locals_fit : (D G : List LfType) (B : LfType) → SpineSkeleton κ (context_skeletons (onto D G)) (low_locals T D) (skeleton (raise_type T D B)) (skeleton B)
-  locals_fit [] G B = refl
-  locals_fit (A ∷ D) G B = by (locals_fit D G) (T (target A))
-    where
-      by : ((C : LfType) → SpineSkeleton κ (context_skeletons (onto D G)) (low_locals T D) (skeleton (raise_type T D C)) (skeleton C)) → (b : Bool) → SpineSkeleton κ (skeleton A ∷ context_skeletons (onto D G)) (cond b (add_last (rename_spine suc (low_locals T D)) (eta_long (skeleton A) (variable zero))) (rename_spine suc (low_locals T D))) (skeleton (raise_type T D (cond b (pi A B) (rename_type (at_variable zero) B)))) (skeleton B)
-      by ih true = spine_add_last κ (skeleton A ∷ context_skeletons (onto D G)) (rename_spine suc (low_locals T D)) (skeleton (raise_type T D (pi A B))) (skeleton A) (skeleton B) (eta_long (skeleton A) (variable zero)) (renaming_keeps_spine_skeletons κ (context_skeletons (onto D G)) (skeleton A ∷ context_skeletons (onto D G)) suc (low_locals T D) (skeleton (raise_type T D (pi A B))) (arrow (skeleton A) (skeleton B)) (λ i t g. g) (ih (pi A B))) (newest_has_skeleton κ (skeleton A) (context_skeletons (onto D G)))
-      by ih false = subst (SpineSkeleton κ (skeleton A ∷ context_skeletons (onto D G)) (rename_spine suc (low_locals T D)) (skeleton (raise_type T D (rename_type (at_variable zero) B)))) (skeleton_renamed (at_variable zero) B) (renaming_keeps_spine_skeletons κ (context_skeletons (onto D G)) (skeleton A ∷ context_skeletons (onto D G)) suc (low_locals T D) (skeleton (raise_type T D (rename_type (at_variable zero) B))) (skeleton (rename_type (at_variable zero) B)) (λ i t g. g) (ih (rename_type (at_variable zero) B)))
-
-  shifted_has_skeleton : (D G : List LfType) (N : Term) (t : Skeleton) → TermSkeleton κ (context_skeletons G) N t → TermSkeleton κ (context_skeletons (onto D G)) (rename (shift_by (length D)) N) t
-  shifted_has_skeleton [] G N t n = subst (λ M. TermSkeleton κ (context_skeletons G) M t) (sym (ap (λ f. rename f N) (fun_ext (λ i. no_shift i)) ∙ rename_identity N)) n
+  shifted_has_skeleton : (D G : List LfType) (N : Term) (t : Skeleton) → TermSkeleton κ' (context_skeletons G) N t → TermSkeleton κ' (context_skeletons (onto D G)) (rename (shift_by (length D)) N) t
+  shifted_has_skeleton [] G N t n = subst (λ M. TermSkeleton κ' (context_skeletons G) M t) (sym (ap (λ f. rename f N) (fun_ext (λ i. no_shift i)) ∙ rename_identity N)) n
     where
       no_shift : (i : ℕ) → i + 0 ≡ i
       no_shift i = omega arith
-  shifted_has_skeleton (A ∷ D) G N t n = subst (λ M. TermSkeleton κ (skeleton A ∷ context_skeletons (onto D G)) M t) (sym (shift_next (length D) N)) (renaming_keeps_skeletons κ (context_skeletons (onto D G)) (skeleton A ∷ context_skeletons (onto D G)) suc (rename (shift_by (length D)) N) t (λ i u g. g) (shifted_has_skeleton D G N t n))
+  shifted_has_skeleton (A ∷ D) G N t n = subst (λ M. TermSkeleton κ' (skeleton A ∷ context_skeletons (onto D G)) M t) (sym (shift_next (length D) N)) (renaming_keeps_skeletons κ' (context_skeletons (onto D G)) (skeleton A ∷ context_skeletons (onto D G)) suc (rename (shift_by (length D)) N) t (λ i u g. g) (shifted_has_skeleton D G N t n))
 
-  within_low : (A : LfType) (D : List LfType) → T (target A) ≡ false → Within (low (A ∷ D)) but_newest
-  within_low A D e zero u = absurd (true≢false (sym u ∙ e))
-  within_low A D e (suc i) u = refl
-
-  -- The lemma: a typed term is raised
-  pub raised : (D G : List LfType) → IsContext Σ (onto D G) → TypesIn T (onto D G) → (M : Term) (B : LfType) → FamiliesIn T B → IsType Σ (onto D G) B → HasType Σ (onto D G) M B → IsRaised Σ T G D M B
-  raised [] G c h M B f t m = (M, m, reduce_nil (skeleton B) (rename (shift_by 0) M) ∙ ap (λ g. rename g M) (fun_ext (λ i. no_shift i)) ∙ rename_identity M)
+  -- The lemma: a typed term that uses the chosen local variables alone is raised over these
+  pub raised : (ks : List Bool) (D G : List LfType) → IsContext Σ (onto D G) → (M : Term) (B : LfType) → IsType Σ (onto D G) B → HasType Σ (onto D G) M B → CanBeRaised ks D B → Uses (kept_by ks D) M → IsRaised Σ ks G D M B
+  raised ks [] G c M B t m r u = (M, m, reduce_nil (skeleton B) (rename (shift_by 0) M) ∙ ap (λ g. rename g M) (fun_ext (λ i. no_shift i)) ∙ rename_identity M)
     where
       no_shift : (i : ℕ) → i + 0 ≡ i
       no_shift i = omega arith
-  raised (A ∷ D) G c h M B f t m = by (λ N C a s n. raised D G c.0 (tail_types A (onto D G) h) N C a s n) (T (target A)) refl
-    where
-      uses : Uses (low (A ∷ D)) M
-      uses = uses_only Σ T sc.types_in (low (A ∷ D)) (A ∷ onto D G) M B (rich (A ∷ D) G h) f m
+  raised [] (A ∷ D) G c M B t m r u = absurd r
+  raised (true ∷ ks) (A ∷ D) G c M B t m r u =
+      let (N, n, q) = raised ks D G c.0 (lambda M) (pi A B) (c.1, t) m r (uses_within (kept_by (true ∷ ks) (A ∷ D)) (under (kept_by ks D)) M (kept_under ks A D) u) in
+      let k : Skeleton = skeleton (raise_by ks D (pi A B)) in
+      let N' : Term = rename (shift_by (length D)) N in
+      let X : Term = eta_long (skeleton A) (variable zero) in
+      let Δ : List Skeleton = context_skeletons (onto D G) in
+      let sn : TermSkeleton κ' Δ N' k = shifted_has_skeleton D G N k (typed_has_skeleton Σ G N (raise_by ks D (pi A B)) n) in
+      let step : reduce k (rename suc N') (rename_spine suc (locals_by ks D)) ≡ rename suc (lambda M) = sym (reduction_is_natural k suc N' (locals_by ks D)) ∙ ap (rename suc) q in
+      let last : reduce k (rename suc N') (add_last (rename_spine suc (locals_by ks D)) X) ≡ reduce (arrow (skeleton A) (skeleton B)) (reduce k (rename suc N') (rename_spine suc (locals_by ks D))) (app X nil) = reduce_add_last κ' (skeleton A ∷ Δ) k (rename suc N') (rename_spine suc (locals_by ks D)) (skeleton A) (skeleton B) X (renaming_keeps_skeletons κ' Δ (skeleton A ∷ Δ) suc N' k (λ i u g. g) sn) (renaming_keeps_spine_skeletons κ' Δ (skeleton A ∷ Δ) suc (locals_by ks D) k (arrow (skeleton A) (skeleton B)) (λ i u g. g) (locals_fit Σ ks D G (pi A B))) in
+      (N, n, ap (λ Y. reduce k Y (add_last (rename_spine suc (locals_by ks D)) X)) (shift_next (length D) N) ∙ last ∙ ap (λ Y. reduce (arrow (skeleton A) (skeleton B)) Y (app X nil)) step ∙ applied_to_newest κ' (skeleton A) (skeleton B) Δ M (typed_has_skeleton Σ (A ∷ onto D G) M B m))
+  raised (false ∷ ks) (A ∷ D) G c M B t m (v, r) u =
+      let w : Uses but_newest M = uses_within (kept_by (false ∷ ks) (A ∷ D)) but_newest M (kept_newest ks A D) u in
+      let (N, n, q) = raised ks D G c.0 (rename (at_variable zero) M) (rename_type (at_variable zero) B) (lowered_type A (onto D G) B c t v) (strengthening_keeps_typing Σ ok but_newest (A ∷ onto D G) (onto D G) (at_variable zero) M B (out_of A (onto D G)) w m) r (uses_renamed (kept_by (false ∷ ks) (A ∷ D)) (kept_by ks D) (at_variable zero) M (kept_out ks A D) u) in
+      let k : Skeleton = skeleton (raise_by ks D (rename_type (at_variable zero) B)) in
+      (N, n, ap (λ Y. reduce k Y (rename_spine suc (locals_by ks D))) (shift_next (length D) N) ∙ sym (reduction_is_natural k suc (rename (shift_by (length D)) N) (locals_by ks D)) ∙ ap (rename suc) q ∙ there_and_back M w)
 
-      by : ((N : Term) (C : LfType) → FamiliesIn T C → IsType Σ (onto D G) C → HasType Σ (onto D G) N C → IsRaised Σ T G D N C) → (b : Bool) → T (target A) ≡ b → (N : Term) × HasType Σ G N (raise_type T D (cond b (pi A B) (rename_type (at_variable zero) B))) × (reduce (skeleton (raise_type T D (cond b (pi A B) (rename_type (at_variable zero) B)))) (rename (shift_by (suc (length D))) N) (cond b (add_last (rename_spine suc (low_locals T D)) (eta_long (skeleton A) (variable zero))) (rename_spine suc (low_locals T D))) ≡ M)
-      by ih true e =
-          let (N, n, q) = ih (lambda M) (pi A B) (first_families A (onto D G) h e, f) (c.1, t) m in
-          let k : Skeleton = skeleton (raise_type T D (pi A B)) in
-          let N' : Term = rename (shift_by (length D)) N in
-          let X : Term = eta_long (skeleton A) (variable zero) in
-          let Δ : List Skeleton = context_skeletons (onto D G) in
-          let sn : TermSkeleton κ Δ N' k = shifted_has_skeleton D G N k (typed_has_skeleton Σ G N (raise_type T D (pi A B)) n) in
-          let step : reduce k (rename suc N') (rename_spine suc (low_locals T D)) ≡ rename suc (lambda M) = sym (reduction_is_natural k suc N' (low_locals T D)) ∙ ap (rename suc) q in
-          let last : reduce k (rename suc N') (add_last (rename_spine suc (low_locals T D)) X) ≡ reduce (arrow (skeleton A) (skeleton B)) (reduce k (rename suc N') (rename_spine suc (low_locals T D))) (app X nil) = reduce_add_last κ (skeleton A ∷ Δ) k (rename suc N') (rename_spine suc (low_locals T D)) (skeleton A) (skeleton B) X (renaming_keeps_skeletons κ Δ (skeleton A ∷ Δ) suc N' k (λ i u g. g) sn) (renaming_keeps_spine_skeletons κ Δ (skeleton A ∷ Δ) suc (low_locals T D) k (arrow (skeleton A) (skeleton B)) (λ i u g. g) (locals_fit D G (pi A B))) in
-          (N, n, ap (λ Y. reduce k Y (add_last (rename_spine suc (low_locals T D)) X)) (shift_next (length D) N) ∙ last ∙ ap (λ Y. reduce (arrow (skeleton A) (skeleton B)) Y (app X nil)) step ∙ applied_to_newest κ (skeleton A) (skeleton B) Δ M (typed_has_skeleton Σ (A ∷ onto D G) M B m))
-      by ih false e =
-          let w : Within (low (A ∷ D)) but_newest = within_low A D e in
-          let u : Uses but_newest M = uses_within (low (A ∷ D)) but_newest M w uses in
-          let v : UsesType but_newest B = uses_type_within (low (A ∷ D)) but_newest B w (type_uses (low (A ∷ D)) (A ∷ onto D G) B (rich (A ∷ D) G h) f t) in
-          let (N, n, q) = ih (rename (at_variable zero) M) (rename_type (at_variable zero) B) (families_renamed T (at_variable zero) B f) (lowered_type A (onto D G) B c t v) (strengthening_keeps_typing Σ ok but_newest (A ∷ onto D G) (onto D G) (at_variable zero) M B (out_of A (onto D G)) u m) in
-          let k : Skeleton = skeleton (raise_type T D (rename_type (at_variable zero) B)) in
-          (N, n, ap (λ Y. reduce k Y (rename_spine suc (low_locals T D))) (shift_next (length D) N) ∙ sym (reduction_is_natural k suc (rename (shift_by (length D)) N) (low_locals T D)) ∙ ap (rename suc) q ∙ there_and_back M u)
+module _ (Σ : Signature) (ok : IsSignature Σ) (W : List Block) (T : ℕ → Bool) (sc : SelfContained Σ W T) where
+  low_at : (D G : List LfType) (i : ℕ) (A : LfType) → TypeAt (onto D G) i A → T (target A) ≡ true → low T D i ≡ true
+  low_at [] G i A g t = refl
+  low_at (X ∷ D) G zero A e t = sym (ap T (ap target e ∙ target_renamed suc X)) ∙ t
+  low_at (X ∷ D) G (suc i) A (C, g, e) t = low_at D G i C g (sym (ap T (ap target e ∙ target_renamed suc C)) ∙ t)
+
+  -- A typed term of families of T uses only local variables of these.
+  pub uses_low : (D G : List LfType) → TypesIn T (onto D G) → (M : Term) (B : LfType) → FamiliesIn T B → HasType Σ (onto D G) M B → Uses (low T D) M
+  uses_low D G h M B f m = uses_only Σ T sc.types_in (low T D) (onto D G) M B (λ i A g t. (low_at D G i A g t, h i A g t)) f m

@@ -5,8 +5,10 @@ use Rattle.lf.specs.Substitution.{Image, keep, put, substitute_spine, reduce}
 use Rattle.lf.specs.Variables.{target_arguments, binders, under, hide, nothing}
 use Rattle.lf.specs.Worlds.{lift_over, under_all}
 use Rattle.lf_checks.specs.Clause.{Clause, scope, outside}
+use Rattle.lf_checks.specs.Tests.{is_in}
 use Rattle.lf_checks.specs.Strict.{lower, pattern_arguments}
 use Rattle.lf_cases.specs.Case.{Item, free_variable, block_variable, Case, items_context}
+use Rattle.lf_cases.specs.Pattern.{Pattern}
 
 -- a set of variables under a list of types, none of which is in it
 abbrev pub hide_all : List LfType → (ℕ → Bool) → ℕ → Bool
@@ -82,19 +84,17 @@ candidates_at B F P n (None ∷ Ms) (app N T) = candidates_at B F P n Ms T
 abbrev pub flexible : Clause → ℕ → Bool
 flexible c i = not (outside c.type c.fixed i)
 
--- The candidates of a clause in a case: of the arguments S, which stand in the clause under the local context D, those of its head or of a
--- subgoal.
-abbrev pub case_candidates : Case → Clause → List LfType → (List (Option Term) → Spine → List ℕ)
-case_candidates C c D Ms S = candidates_at (under_all D nothing) (hide_all D (free_among C.items)) (hide_all D (beside_set (length (items_context C.items)) (free_among C.items) (flexible c))) (length D) Ms S
+-- each number once, where it comes first; those seen are left out
+abbrev pub each_once : List ℕ → List ℕ → List ℕ
+each_once seen [] = []
+each_once seen (x ∷ xs) = cond (is_in x seen) (each_once seen xs) (x ∷ each_once (x ∷ seen) xs)
 
--- the arguments with what the case gives put in
+-- the arguments of the pattern, under its local context D, with what the case gives put in
 abbrev pub with_given : Case → Clause → List LfType → Spine → Spine
 with_given C c D S = substitute_spine reduce (lift_over D (given_images (scope c) C.given (length (items_context C.items)))) S
 
--- of the head, in a case of inputs
-abbrev pub head_candidates : Case → Clause → List ℕ
-head_candidates C c = case_candidates C c [] C.arguments (with_given C c [] (target_arguments c.type))
-
--- of the subgoal A, in a case of its outputs
-abbrev pub subgoal_candidates : Case → Clause → LfType → List ℕ
-subgoal_candidates C c A = case_candidates C c (binders [] A) C.arguments (with_given C c (binders [] A) (target_arguments A))
+-- The candidates of a pattern in a case, each once.
+abbrev pub case_candidates : Case → Pattern → List ℕ
+case_candidates C p =
+    let D : List LfType = binders [] p.type in
+    each_once [] (candidates_at (under_all D nothing) (hide_all D (free_among C.items)) (hide_all D (beside_set (length (items_context C.items)) (free_among C.items) (flexible p.clause))) (length D) C.arguments (with_given C p.clause D (target_arguments p.type)))

@@ -8,8 +8,7 @@ use Rattle.lf.specs.Typing.{Signature, TypeAt, HasType}
 use Rattle.lf.specs.Variables.{onto}
 use Rattle.lf.specs.Subordination.{Block}
 use Rattle.lf.specs.Worlds.{World, instance}
-use Rattle.lf.specs.Extension.{Extends}
-use Rattle.lf_cases.specs.Cover.{InstanceIn, CoveredBy}
+use Rattle.lf_cases.specs.Cover.{InstanceIn}
 
 -- A free variable with its type; or a block variable: an instance of a block, with what stands for its `some` variables.
 pub data Item : Type 0 where
@@ -70,11 +69,6 @@ abbrev pub covered_places : List (Option Term) → List Bool
 covered_places [] = []
 covered_places (Some M ∷ Ms) = true ∷ covered_places Ms
 covered_places (None ∷ Ms) = false ∷ covered_places Ms
-
--- Clauses cover a case of inputs beside S: in each legal extension over S and each context of W beside S every ground instance is an
--- instance of a clause.
-abbrev pub IsCoveredCase : Signature → List Block → (ℕ → Bool) → Case → Type 0
-IsCoveredCase Σ W S C = (C.given ≡ []) × (C.local ≡ []) × ((Σ' : Signature) → Extends S Σ Σ' → (G : List LfType) (w : World Σ' W S G) (σ : ℕ → Image) → IsGroundInstance w C.items σ → (T : Spine) → HasArguments σ C.arguments T → CoveredBy w (covered_places C.arguments) C.family T)
 
 -- ρ takes the chosen places before to variables; so it does past a place that isn't chosen. What it gives that place has no meaning:
 -- the types of the chosen places must not mention it.

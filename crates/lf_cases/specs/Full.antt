@@ -1,16 +1,43 @@
--- Full clauses, and linear block entries: with these the strategy finds each missing case.
-use Rattle.std.specs.Prelude.{◌≡◌, ℕ, zero, ◌<◌, ◌⊎◌, List, [], ◌∷◌, length, Bool, true, false, not, Some}
+-- Linear and full clauses: with these the strategy finds each missing case.
+use Rattle.std.specs.Prelude.{◌≡◌, ℕ, zero, suc, ◌+◌, ◌<◌, ◌≤◌, ◌⊎◌, List, [], ◌∷◌, length, Bool, true, false, cond, not, Some}
 use Rattle.lf.specs.Syntax.{constant, variable, metavariable, Term, Spine, lambda, root, nil, app, LfType, Kind, pi, atom, kind_pi, star, skeleton}
 use Rattle.lf.specs.Typing.{Signature, TypeAt, instantiate_type, instantiate_kind}
 use Rattle.lf.specs.Eta.{eta_long}
-use Rattle.lf.specs.Variables.{target, target_arguments, onto, hide, everything}
+use Rattle.lf.specs.Variables.{target, target_arguments, onto, hide, everything, same_number}
 use Rattle.lf.specs.Subordination.{Block}
 use Rattle.lf_checks.specs.Tests.{both, choose}
 use Rattle.lf_checks.specs.Clause.{Clause, scope, variables, outside, among, IsClause, from_constant, from_entry}
 use Rattle.lf_checks.specs.Ground.{Subgoals}
 use Rattle.lf_checks.specs.Marks.{Mark, input_places, output_places}
 use Rattle.lf_checks.specs.Strict.{eta_at}
-use Rattle.lf_cases.specs.Missing.{IsLinear}
+
+-- how often a variable occurs
+abbrev mutual
+  pub occurrences : ℕ → Term → ℕ
+  occurrences x (lambda M) = occurrences (suc x) M
+  occurrences x (root (constant c) S) = occurrences_spine x S
+  occurrences x (root (metavariable m) S) = occurrences_spine x S
+  occurrences x (root (variable i) S) = cond (same_number x i) 1 0 + occurrences_spine x S
+
+  pub occurrences_spine : ℕ → Spine → ℕ
+  occurrences_spine x nil = 0
+  occurrences_spine x (app M S) = occurrences x M + occurrences_spine x S
+
+-- in the chosen places of a tuple, and of a subgoal
+abbrev pub occurrences_at : List Bool → ℕ → Spine → ℕ
+occurrences_at [] x S = 0
+occurrences_at (b ∷ m) x nil = 0
+occurrences_at (true ∷ m) x (app M S) = occurrences x M + occurrences_at m x S
+occurrences_at (false ∷ m) x (app M S) = occurrences_at m x S
+
+abbrev pub occurrences_goal : List Bool → ℕ → LfType → ℕ
+occurrences_goal m x (pi A B) = occurrences_goal m (suc x) B
+occurrences_goal m x (atom a S) = occurrences_at m x S
+
+-- A constant's clause is linear: no variable of it occurs twice in the head's input places; and in each subgoal's output places only
+-- variables occur that are not ground before it, each once. What stands outside a clause is ground, the `some` variables of a block too.
+abbrev pub IsLinear : (ℕ → List Mark) → Clause → Type 0
+IsLinear m c = ((x : ℕ) → variables c x ≡ true → outside c.type everything x ≡ false → occurrences_at (input_places (m (target c.type))) x (target_arguments c.type) ≤ 1) × Subgoals m c (λ U A. (x : ℕ) → variables c x ≡ true → (occurrences_goal (output_places (m (target A))) x A ≤ 1) × (U x ≡ true → occurrences_goal (output_places (m (target A))) x A ≡ 0)) (λ U. Unit {0})
 
 -- the clause's own variables
 abbrev pub own_variables : Clause → ℕ → Bool

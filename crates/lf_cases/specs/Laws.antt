@@ -1,5 +1,5 @@
 -- The laws of cases, splits and goals that the functions of this crate carry.
-use Rattle.std.specs.Prelude.{◌≡◌, ℕ, List, [], Bool, true, Some}
+use Rattle.std.specs.Prelude.{◌≡◌, ℕ, List, Bool, true, Some}
 use Rattle.lf.specs.Syntax.{Head, Spine, root, LfType, Kind, atom}
 use Rattle.lf.specs.Typing.{Signature, TypeAt, HasType, IsSignature}
 use Rattle.lf.specs.Variables.{target, onto, Within, nothing}
@@ -9,10 +9,9 @@ use Rattle.lf.specs.Extension.{Extends}
 use Rattle.lf_checks.specs.Clause.{Clause, IsClause, IsSubgoal}
 use Rattle.lf_checks.specs.Marks.{Mark, input_places, MentionChosenOnly}
 use Rattle.lf_cases.specs.Cover.{CoveredInputs, CoveredOutputs}
-use Rattle.lf_cases.specs.Case.{Case, input_goal, IsCoveredCase}
-use Rattle.lf_cases.specs.Split.{HasNoBlockVariable, EndsCovered}
-use Rattle.lf_cases.specs.OutputCase.{Origin, IsCoveredOutputCase}
-use Rattle.lf_cases.specs.OutputSplit.{OutputsEndCovered, HasOneBlockVariable}
+use Rattle.lf_cases.specs.Case.{Case, input_goal}
+use Rattle.lf_cases.specs.Pattern.{Pattern, AreHeadsOf, IsCoveredCase}
+use Rattle.lf_cases.specs.Split.{HasOneBlockVariable, IsSplit, IsInstanceCase, Ends}
 use Rattle.lf_cases.specs.Raised.{PlacesBelow}
 use Rattle.lf_checks.specs.Below.{IsSubordination}
 use Rattle.lf_cases.specs.Heads.{EntryIn, HeadIsKnown}
@@ -53,19 +52,15 @@ VariableIsEntry = (Σ : Signature) → IsSignature Σ → (W : List Block) (S : 
 abbrev pub HeadsAreKnown : Type 0
 HeadsAreKnown = (Σ Σ' : Signature) (W : List Block) (S : ℕ → Bool) → Extends S Σ Σ' → (G D : List LfType) (w : World Σ' W S G) (h : Head) (T : Spine) (b : ℕ) (V : Spine) → S b ≡ true → HasType Σ' (onto D G) (root h T) (atom b V) → HeadIsKnown Σ D w h b
 
--- where the types of input places mention input places only, and clauses cover the goal of input coverage, the inputs of the family
--- are covered
+-- where the types of input places mention input places only, and the clauses of the family cover the goal of input coverage, the inputs of
+-- the family are covered
 abbrev pub InputGoalCovers : Type 0
-InputGoalCovers = (Σ : Signature) (m : ℕ → List Mark) (W : List Block) (S : ℕ → Bool) (a : ℕ) (K : Kind) → Σ.kinds a ≡ Some K → MentionChosenOnly nothing (input_places (m a)) K → IsCoveredCase Σ W S (input_goal a (input_places (m a)) K) → CoveredInputs Σ m W S a
+InputGoalCovers = (Σ : Signature) → IsSignature Σ → (m : ℕ → List Mark) (W : List Block) → AreTypedBlocks Σ W → (S : ℕ → Bool) (a : ℕ) (K : Kind) → Σ.kinds a ≡ Some K → MentionChosenOnly nothing (input_places (m a)) K → (ps : List Pattern) → AreHeadsOf Σ W a ps → IsCoveredCase Σ W S ps (input_goal a (input_places (m a)) K) → CoveredInputs Σ m W S a
 
 -- A run of splits that ends well covers its goal, though each split looks only at tuples in which other block variables stand for
--- other instances: the goal has no block variables.
+-- other instances: the goal has one block variable at most, that of the entry itself in a goal of outputs.
 abbrev pub SplitsCover : Type 0
-SplitsCover = (Σ : Signature) (W : List Block) (S : ℕ → Bool) (C : Case) → C.given ≡ [] → C.local ≡ [] → HasNoBlockVariable C.items → EndsCovered Σ W S C → IsCoveredCase Σ W S C
-
--- So does a run on outputs: the goal has one block variable at most, that of the entry itself.
-abbrev pub OutputSplitsCover : Type 0
-OutputSplitsCover = (Σ : Signature) (m : ℕ → List Mark) (W : List Block) (S : ℕ → Bool) (c : Clause) (o : Origin W c) (U : ℕ → Bool) (A : LfType) (C : Case) → HasOneBlockVariable C.items → OutputsEndCovered Σ m W S c o U A C → IsCoveredOutputCase Σ m W S c o U A C
+SplitsCover = (Σ : Signature) (W : List Block) (S : ℕ → Bool) (ps : List Pattern) (C : Case) → HasOneBlockVariable C.items → Ends (IsInstanceCase Σ W S ps) (IsSplit Σ W S) C → IsCoveredCase Σ W S ps C
 
 -- Coverage beside a set of families is coverage beside each greater one, which has fewer extensions and fewer contexts: of inputs
 abbrev pub CoveredInputsOverMore : Type 0

@@ -1,15 +1,13 @@
 pub mod Cover
 pub mod Case
 pub mod Raised
-pub mod OutputCase
+pub mod Pattern
+pub mod ClauseOrder
 pub mod OutputGoal
 pub mod Split
 pub mod Missing
 pub mod Candidates
 pub mod Full
 pub mod Reached
-pub mod MissingOutputs
-pub mod ReachedOutputs
-pub mod OutputSplit
 pub mod Heads
 pub mod Laws

@@ -1,17 +1,19 @@
--- Missing cases of inputs: typed instances of the goal that share no typed instance with any clause; and linear clauses.
-use Rattle.std.specs.Prelude.{◌≡◌, ℕ, suc, ◌+◌, ◌≤◌, List, [], ◌∷◌, length, Bool, true, false, cond, ◌⊎◌}
-use Rattle.lf.specs.Syntax.{constant, variable, metavariable, Term, Spine, lambda, root, nil, app, LfType, pi, atom, skeleton}
-use Rattle.lf.specs.Substitution.{Image, keep, put, rename_image, substitute_spine, substitute_type, reduce, after}
+-- Missing cases: typed instances of the goal that share no typed instance with any pattern.
+use Rattle.std.specs.Prelude.{◌≡◌, ℕ, suc, List, [], ◌∷◌, length, Bool, ◌⊎◌, Option, Some, None}
+use Rattle.lf.specs.Syntax.{Term, Spine, LfType, skeleton}
+use Rattle.lf.specs.Substitution.{Image, put, rename_image, substitute, substitute_type, reduce, after}
 use Rattle.lf.specs.AtOnce.{in_front, shift_by}
 use Rattle.lf.specs.Typing.{Signature, TypeAt, HasType, IsType}
-use Rattle.lf.specs.Variables.{target, target_arguments, Values, everything, same_number}
+use Rattle.lf.specs.Variables.{target_arguments, Values, everything}
 use Rattle.lf.specs.Subordination.{Block, Member}
-use Rattle.lf.specs.Worlds.{lift_over}
-use Rattle.lf_checks.specs.Clause.{Clause, scope, variables, outside, IsClause, from_constant, from_entry}
-use Rattle.lf_checks.specs.Marks.{Mark, input_places, output_places, SamePlaces, UsesPlaces}
-use Rattle.lf_checks.specs.Ground.{Subgoals}
+use Rattle.lf.specs.Worlds.{lift_over, instance}
+use Rattle.lf_checks.specs.Tests.{choose}
+use Rattle.lf_checks.specs.Clause.{Clause, scope}
+use Rattle.lf_checks.specs.Marks.{SamePlaces}
+use Rattle.lf_checks.specs.Ground.{UsesGoal}
 use Rattle.lf_cases.specs.Cover.{before, AgreesOutside, AreTerms}
 use Rattle.lf_cases.specs.Case.{Item, free_variable, block_variable, Case, items_context, entries_in_front, behind_entries, as_term, HasArguments, covered_places}
+use Rattle.lf_cases.specs.Pattern.{Origin, of_constant, of_entry, Pattern, has_block_variable, HasGiven}
 
 -- The items are typed: each free variable's type is one over the items before it, and the `some` terms of each block variable, whose
 -- block is one of W, are typed over them.
@@ -33,66 +35,70 @@ IsTypedInstance Σ J [] σ = Unit {0}
 IsTypedInstance Σ J (free_variable A ∷ I) σ = (N : Term) × (τ : ℕ → Image) × IsTypedInstance Σ J I τ × HasType Σ (items_context J) N (substitute_type reduce τ A) × (σ ≡ in_front (put (skeleton A) N) τ)
 IsTypedInstance Σ J (block_variable B υ ∷ I) σ = (θ τ : ℕ → Image) × IsTypedInstance Σ J I τ × BlockAmong J B θ × ((i : ℕ) (A : LfType) → TypeAt B.some i A → as_term (skeleton A) (behind_entries B.entries θ i) ≡ as_term (skeleton A) (after τ υ i)) × (σ ≡ entries_in_front B.entries θ τ)
 
--- What stands outside the clause: nothing outside a constant; an entry is that of a block variable of J.
-abbrev pub StandsAmong : {Σ : Signature} {W : List Block} {c : Clause} → IsClause Σ W c → List Item → (ℕ → Image) → Type 0
-StandsAmong (from_constant k U e) J τ = Unit {0}
-StandsAmong {c = c} (from_entry B later E es i e) J τ = (θ : ℕ → Image) × BlockAmong J B θ × AgreesOutside c τ (before later θ)
+-- in this typed instance over J a block variable stands for the block variable θ of J
+abbrev pub StandsForAmong : (Σ : Signature) (J I : List Item) (σ : ℕ → Image) → IsTypedInstance Σ J I σ → Block → (ℕ → Image) → Type 0
+StandsForAmong Σ J [] σ g B θ = ⊥
+StandsForAmong Σ J (free_variable A ∷ I) σ (N, τ, g, t, e) B θ = StandsForAmong Σ J I τ g B θ
+StandsForAmong Σ J (block_variable C υ ∷ I) σ (φ, τ, g, i, s, e) B θ = ((C ≡ B) × (φ ≡ θ)) ⊎ StandsForAmong Σ J I τ g B θ
 
--- A typed instance that a case and a clause have in common: over typed items, values of the case and typed terms for the variables of the
--- clause that stand in the covered places make these the same.
-pub record CommonInstance (Σ : Signature) (W : List Block) (C : Case) (c : Clause) (i : IsClause Σ W c) : Type 0 where
+-- different block variables stand for different ones of J
+abbrev pub KeepsApart : (Σ : Signature) (J I : List Item) (σ : ℕ → Image) → IsTypedInstance Σ J I σ → Type 0
+KeepsApart Σ J [] σ g = Unit {0}
+KeepsApart Σ J (free_variable A ∷ I) σ (N, τ, g, t, e) = KeepsApart Σ J I τ g
+KeepsApart Σ J (block_variable C υ ∷ I) σ (φ, τ, g, i, s, e) = (StandsForAmong Σ J I τ g C φ → ⊥) × KeepsApart Σ J I τ g
+
+-- In this typed instance over J the first block variable, the last of the list, stands for θ, a block variable of J.
+abbrev pub FirstAmong : (Σ : Signature) (J I : List Item) (σ : ℕ → Image) → IsTypedInstance Σ J I σ → Block → (ℕ → Image) → Type 0
+FirstAmong Σ J [] σ g B θ = ⊥
+FirstAmong Σ J (free_variable A ∷ I) σ (N, τ, g, t, e) B θ = FirstAmong Σ J I τ g B θ
+FirstAmong Σ J (block_variable C υ ∷ I) σ (φ, τ, g, i, s, e) B θ = choose (has_block_variable I) (FirstAmong Σ J I τ g B θ) ((C ≡ B) × (φ ≡ θ))
+
+-- What stands outside the clause: nothing outside a constant; an entry is that of a block variable of J, of the one that the first block
+-- variable of the case stands for where the pattern speaks of this alone.
+abbrev pub StandsAmong : (Σ : Signature) {c : Clause} → Origin c → Bool → (J I : List Item) (σ : ℕ → Image) → IsTypedInstance Σ J I σ → (ℕ → Image) → Type 0
+StandsAmong Σ (of_constant U) b J I σ g τ = Unit {0}
+StandsAmong Σ {c = c} (of_entry B later E es e) b J I σ g τ = (θ : ℕ → Image) × choose b (FirstAmong Σ J I σ g B θ) (BlockAmong J B θ) × AgreesOutside c τ (before later θ)
+
+-- the blocks of worlds, and that of an entry, of which there may be a new block variable
+abbrev pub blocks_with : {c : Clause} → Origin c → List Block → List Block
+blocks_with (of_constant U) W = W
+blocks_with (of_entry B later E es e) W = B ∷ W
+
+-- A typed instance that a case and a pattern have in common: over typed items, values of the case, and typed terms for the variables of the
+-- clause that stand in the pattern, the given ones where they are given, make the arguments at the covered places the same.
+pub record CommonInstance (Σ : Signature) (W : List Block) (C : Case) (p : Pattern) : Type 0 where
   pub items : List Item
-  pub typed_items : AreTypedItems Σ W items
+  pub typed_items : AreTypedItems Σ (blocks_with p.origin W) items
   pub case_values : ℕ → Image
   pub is_instance : IsTypedInstance Σ items C.items case_values
   pub used : ℕ → Bool
   pub clause_values : ℕ → Image
-  pub typed_values : Values Σ used (scope c) (items_context items) clause_values
-  pub uses : UsesPlaces used (covered_places C.arguments) (target_arguments c.type)
-  pub terms : AreTerms c used clause_values
-  pub stands : StandsAmong i items clause_values
+  pub typed_values : Values Σ used (scope p.clause) (items_context items) clause_values
+  pub uses : UsesGoal used (covered_places C.arguments) p.type
+  pub terms : AreTerms p.clause used clause_values
+  pub given : HasGiven case_values C.given clause_values
+  pub stands : StandsAmong Σ p.origin p.at_first items C.items case_values is_instance clause_values
   pub tuple : Spine
-  pub of_case : HasArguments case_values C.arguments tuple
-  pub of_clause : SamePlaces (covered_places C.arguments) tuple (substitute_spine reduce clause_values (target_arguments c.type))
+  pub of_case : HasArguments (lift_over C.local case_values) C.arguments tuple
+  pub of_clause : SamePlaces (covered_places C.arguments) tuple (target_arguments (substitute_type reduce clause_values p.type))
 
--- C is a typed instance of the goal: over its own items, values of the goal give its arguments.
+-- the terms of a list, with values put in
+abbrev pub put_in : (ℕ → Image) → List (Option Term) → List (Option Term)
+put_in σ [] = []
+put_in σ (Some M ∷ Ms) = Some (substitute reduce σ M) ∷ put_in σ Ms
+put_in σ (None ∷ Ms) = None ∷ put_in σ Ms
+
+-- C is a typed instance of the goal: over its own items, values of the goal give its given terms, its local context and its arguments.
 pub record IsInstanceOfGoal (Σ : Signature) (W : List Block) (goal C : Case) : Type 0 where
   pub typed_items : AreTypedItems Σ W C.items
-  pub same_family : C.family ≡ goal.family
-  pub same_places : covered_places C.arguments ≡ covered_places goal.arguments
   pub values : ℕ → Image
   pub is_instance : IsTypedInstance Σ C.items goal.items values
-  pub same_arguments : (T : Spine) → HasArguments keep C.arguments T → HasArguments values goal.arguments T
+  pub same_family : C.family ≡ goal.family
+  pub same_given : C.given ≡ put_in values goal.given
+  pub same_local : C.local ≡ instance goal.local values
+  pub same_arguments : C.arguments ≡ put_in (lift_over goal.local values) goal.arguments
 
--- A missing case: a typed instance of the goal that has no typed instance in common with any clause of its family.
-pub record IsMissing (Σ : Signature) (W : List Block) (goal C : Case) : Type 0 where
+-- A missing case: a typed instance of the goal that has no typed instance in common with any pattern of the list.
+pub record IsMissing (Σ : Signature) (W : List Block) (ps : List Pattern) (goal C : Case) : Type 0 where
   pub of_goal : IsInstanceOfGoal Σ W goal C
-  pub shares_nothing : (c : Clause) (i : IsClause Σ W c) → target c.type ≡ C.family → CommonInstance Σ W C c i → ⊥
-
--- how often a variable occurs
-abbrev mutual
-  pub occurrences : ℕ → Term → ℕ
-  occurrences x (lambda M) = occurrences (suc x) M
-  occurrences x (root (constant c) S) = occurrences_spine x S
-  occurrences x (root (metavariable m) S) = occurrences_spine x S
-  occurrences x (root (variable i) S) = cond (same_number x i) 1 0 + occurrences_spine x S
-
-  pub occurrences_spine : ℕ → Spine → ℕ
-  occurrences_spine x nil = 0
-  occurrences_spine x (app M S) = occurrences x M + occurrences_spine x S
-
--- in the chosen places of a tuple, and of a subgoal
-abbrev pub occurrences_at : List Bool → ℕ → Spine → ℕ
-occurrences_at [] x S = 0
-occurrences_at (b ∷ m) x nil = 0
-occurrences_at (true ∷ m) x (app M S) = occurrences x M + occurrences_at m x S
-occurrences_at (false ∷ m) x (app M S) = occurrences_at m x S
-
-abbrev pub occurrences_goal : List Bool → ℕ → LfType → ℕ
-occurrences_goal m x (pi A B) = occurrences_goal m (suc x) B
-occurrences_goal m x (atom a S) = occurrences_at m x S
-
--- A constant's clause is linear: no variable of it occurs twice in the head's input places; and in each subgoal's output places only
--- variables occur that are not ground before it, each once.
-abbrev pub IsLinear : (ℕ → List Mark) → Clause → Type 0
-IsLinear m c = ((x : ℕ) → variables c x ≡ true → outside c.type everything x ≡ false → occurrences_at (input_places (m (target c.type))) x (target_arguments c.type) ≤ 1) × Subgoals m c (λ U A. (x : ℕ) → variables c x ≡ true → outside c.type everything x ≡ false → (occurrences_goal (output_places (m (target A))) x A ≤ 1) × (U x ≡ true → occurrences_goal (output_places (m (target A))) x A ≡ 0)) (λ U. Unit {0})
+  pub shares_nothing : (p : Pattern) → Member p ps → CommonInstance Σ W C p → ⊥

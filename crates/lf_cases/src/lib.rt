@@ -1,7 +1,7 @@
 //! Cases, covered inputs and outputs, splits and goals. The laws have no code: each function carries one law as its contract.
 #![tactic(auto)]
 
-ghost use Rattle.lf_cases.specs.Laws.{BelowIsSubordination, KindPlacesAreBelow, SubgoalsAreBelow, BelowGrows, UnionIsSelfContained, DownwardIsSelfContained, SelfContainedOverFewer, VariableIsEntry, HeadsAreKnown, InputGoalCovers, SplitsCover, OutputSplitsCover, CoveredInputsOverMore, CoveredOutputsOverMore};
+ghost use Rattle.lf_cases.specs.Laws.{BelowIsSubordination, KindPlacesAreBelow, SubgoalsAreBelow, BelowGrows, UnionIsSelfContained, DownwardIsSelfContained, SelfContainedOverFewer, VariableIsEntry, HeadsAreKnown, InputGoalCovers, SplitsCover, CoveredInputsOverMore, CoveredOutputsOverMore};
 
 /// The subordination of a signature and blocks is a test of subordination.
 pub fn below_is_subordination()
@@ -46,11 +46,6 @@ pub fn variable_is_entry()
 /// A run of splits that ends well covers its goal.
 pub fn splits_cover()
     ensures { SplitsCover }
-{}
-
-/// A run of splits of outputs that ends well covers its goal.
-pub fn output_splits_cover()
-    ensures { OutputSplitsCover }
 {}
 
 /// Splitting: the head of a term of a family is a constant, a local variable or an entry of an instance.

@@ -1,8 +1,8 @@
 -- A split by heads of the inputs of addition.
 use Rattle.std.proofs.Common.{◌≡◌, ℕ, zero, suc, List, [], ◌∷◌, ◌<◌, refl, sym, ap, ◌∙◌, subst, arith, inl, inr, true≢false}
-use Rattle.std.specs.Prelude.{Bool, true, false, Some}
-use Rattle.lf.specs.Syntax.{Head, constant, nil, app, LfType, Kind, pi, base, star, rename_type}
-use Rattle.lf.specs.AtOnce.{in_front, shift_by}
+use Rattle.std.specs.Prelude.{Bool, true, false, Some, None}
+use Rattle.lf.specs.Syntax.{Head, constant, nil, app, LfType, Kind, pi, base, star}
+use Rattle.lf.specs.AtOnce.{in_front}
 use Rattle.lf.specs.Substitution.{Image, keep, put, substitute, reduce, after}
 use Rattle.lf.specs.Typing.{Signature, TypeAt}
 use Rattle.lf.specs.Variables.{target, FamiliesIn, KindFamiliesIn, Within, same_number}
@@ -10,16 +10,16 @@ use Rattle.lf.specs.Subordination.{Member, IsDeclared, SelfContained}
 use Rattle.lf.specs.Worlds.{World, no_variables}
 use Rattle.lf.proofs.Eta.{reduce_nil}
 use Rattle.lf_checks.specs.Below.{IsSubordination}
-use Rattle.lf_cases.specs.Case.{Item, free_variable, Case, as_term, IsGroundInstance}
-use Rattle.lf_cases.specs.Split.{IsSplit, HoldsInputs, OneHolds}
-use Rattle.lf_cases.specs.Reached.{SplitHead, constant_head, bound_head, entry_head, new_entry_head, arguments_count, taken}
-use Rattle.lf_totality.specs.Examples.{Addition, addition_types, addition_kinds, plus_kind, var, nat, z, successor, plus_input_goal, plus_zero_case, plus_successor_case, first_below_second}
+use Rattle.lf_cases.specs.Case.{Item, free_variable, as_term, IsGroundInstance}
+use Rattle.lf_cases.specs.Split.{IsSplit, IsInstanceCase, HoldsDistinctly, OneHolds, Ends, at_leaf, by_split, no_case, next_case}
+use Rattle.lf_cases.specs.Reached.{SplitHead, constant_head, bound_head, entry_head, new_entry_head}
+use Rattle.lf_totality.specs.Examples.{Addition, addition_types, addition_kinds, plus_kind, var, nat, z, successor, plus_heads, plus_input_goal, plus_zero_case, plus_successor_case, first_below_second}
 use Rattle.lf_totality.proofs.Addition.{addition_ok, self_contained}
 use Rattle.lf_totality.proofs.After.{Extends-self}
 use Rattle.lf_totality.proofs.ExampleLemmas.{below_itself}
 use Rattle.lf_totality.proofs.ExamplesCases.{plus_zero_covered, plus_successor_covered}
-use Rattle.lf_coverage.specs.Heads.{Keeps, GivesCase, IsAnswered, gives_case, IsTypedCase, ArgumentsAreBelow, ArgumentsCanBeRaised}
-use Rattle.lf_coverage.specs.HeadRun.{EndsByHeads, is_instance, by_heads, no_more_cases, one_more_case}
+use Rattle.lf_coverage.specs.HeadOrder.{Offer, AreInOrder, constant_rank, one_offered, next_offered}
+use Rattle.lf_coverage.specs.Heads.{Keeps, GivesCase, AreOffers, no_offer, with_case, SplitsByHeads, IsTypedCase, ArgumentsAreBelow}
 use Rattle.lf_coverage.specs.Examples.{PlusIsSplitByHeads, PlusIsCoveredByHeads, HeadsAreAll}
 use Rattle.lf_coverage.proofs.Runs.{head_split_is_split, head_splits_cover}
 
@@ -122,6 +122,25 @@ each_head P a b I n h A (entry_head (suc zero) B g f t) = absurd (true≢false f
 each_head P a b I n h A (entry_head (suc (suc j)) B (C, (D, g, r), r') f t) = absurd g
 each_head P a b I n h A (new_entry_head B j C m l g t) = absurd m
 
+-- these two heads are offered
+abbrev pub plus_offers : List Offer
+plus_offers = record { items = two; moved = 0; head = constant 0; type = nat } ∷ record { items = two; moved = 0; head = constant 1; type = pi nat nat } ∷ []
+
+pub plus_are_offers : AreOffers Addition [] two nat plus_offers
+plus_are_offers = record {
+  each = each;
+  every = each_head (λ I n h A. Member (record { items = I; moved = n; head = h; type = A }) plus_offers) (inl refl) (inr (inl refl));
+}
+  where
+    each : (h : Offer) → Member h plus_offers → SplitHead Addition [] two nat h.items h.moved h.head h.type
+    each h (inl e) = subst (λ k. SplitHead Addition [] two nat k.items k.moved k.head k.type) (sym e) (constant_head 0 nat refl refl)
+    each h (inr (inl e)) = subst (λ k. SplitHead Addition [] two nat k.items k.moved k.head k.type) (sym e) (constant_head 1 (pi nat nat) refl refl)
+    each h (inr (inr e)) = absurd e
+
+-- z comes before s
+pub plus_in_order : AreInOrder [] two nat plus_offers
+plus_in_order = next_offered (0 ∷ 0 ∷ []) (0 ∷ 1 ∷ []) (constant_rank 0 nat) (constant_rank 1 (pi nat nat)) (inr (refl, inl (omega arith))) (one_offered (0 ∷ 1 ∷ []) (constant_rank 1 (pi nat nat)))
+
 pub plus_split : PlusIsSplitByHeads
 plus_split = record {
   type = nat;
@@ -129,8 +148,11 @@ plus_split = record {
   is_free = refl;
   families = refl;
   takes_below = tt;
-  can_be_offered = each_head (λ I n h A. ArgumentsAreBelow first_below_second A × ArgumentsCanBeRaised first_below_second (taken (rename_type (shift_by n) nat)) (arguments_count A) A) (tt, tt) ((refl, tt), (tt, tt));
-  answered = each_head (λ I n h A. IsAnswered Addition [] S first_below_second plus_input_goal 1 nat (plus_zero_case ∷ plus_successor_case ∷ []) I n h A) (gives_case plus_zero_case (inl refl) zero_given) (gives_case plus_successor_case (inr (inl refl)) successor_given);
+  arguments_below = each_head (λ I n h A. ArgumentsAreBelow first_below_second A) tt (refl, tt);
+  offers = plus_offers;
+  are_offers = plus_are_offers;
+  in_order = plus_in_order;
+  listed = with_case zero_given (with_case successor_given no_offer);
 }
 
 -- the premises
@@ -185,31 +207,31 @@ plus_subordination = record { itself = below_itself; through = through; self_con
     contained (suc zero) d = self_contained
     contained (suc (suc n)) (K, e) = absurd cc
 
-plus_ends : EndsByHeads Addition [] (first_below_second 1) first_below_second plus_input_goal
-plus_ends = by_heads 1 (plus_zero_case ∷ plus_successor_case ∷ []) goal_typed refl plus_split (one_more_case refl refl refl refl (is_instance plus_zero_covered) (one_more_case refl refl refl refl (is_instance plus_successor_covered) no_more_cases))
+plus_ends : Ends (IsInstanceCase Addition [] (first_below_second 1) plus_heads) (SplitsByHeads Addition [] (first_below_second 1) first_below_second) plus_input_goal
+plus_ends = by_split (plus_zero_case ∷ plus_successor_case ∷ []) (1, plus_split) (next_case (at_leaf plus_zero_covered) (next_case (at_leaf plus_successor_covered) no_case))
 
 pub plus_by_heads : PlusIsCoveredByHeads
-plus_by_heads = (plus_ends, head_splits_cover Addition addition_ok [] (λ B m. absurd m) first_below_second plus_subordination 1 (plus_kind, refl) plus_input_goal refl refl tt plus_ends)
+plus_by_heads = (plus_ends, head_splits_cover Addition addition_ok [] (λ B m. absurd m) first_below_second plus_subordination (first_below_second 1) (plus_subordination.self_contained 1 (plus_kind, refl)) plus_heads plus_input_goal tt goal_typed plus_ends)
 
 -- s z is no instance of z
 pub heads_are_all : HeadsAreAll
-heads_are_all h = by (split Addition (Extends-self S Addition addition_ok) [] no_variables (app (successor z) (app z (app z nil))) held)
+heads_are_all h = by (split.holds Addition (Extends-self S Addition addition_ok) [] no_variables None keep (app (successor z) (app z (app z nil))) held)
   where
     split : IsSplit Addition [] S plus_input_goal (plus_zero_case ∷ [])
-    split = head_split_is_split Addition addition_ok [] (λ B m. absurd m) first_below_second plus_subordination 1 (plus_kind, refl) plus_input_goal goal_typed refl 1 (plus_zero_case ∷ []) h local
-      where
-        local : (D : Case) → Member D (plus_zero_case ∷ []) → D.local ≡ []
-        local D (inl e) = ap (λ X. X.local) e
-        local D (inr m) = absurd m
+    split = head_split_is_split Addition addition_ok [] (λ B m. absurd m) first_below_second plus_subordination (first_below_second 1) (plus_subordination.self_contained 1 (plus_kind, refl)) plus_input_goal goal_typed 1 (plus_zero_case ∷ []) h
 
-    held : HoldsInputs {Σ = Addition} {W = []} {S = S} no_variables plus_input_goal (app (successor z) (app z (app z nil)))
+    held : HoldsDistinctly {Σ = Addition} {W = []} {S = S} no_variables plus_input_goal None keep (app (successor z) (app z (app z nil)))
     held = record {
-      values = in_front (put (base 0) z) (in_front (put (base 0) (successor z)) keep);
-      is_ground = (z, in_front (put (base 0) (successor z)) keep, (successor z, keep, tt, (pi nat nat, refl, ((nat, refl, refl), refl)), refl), (nat, refl, refl), refl);
+      holds = record {
+        values = in_front (put (base 0) z) (in_front (put (base 0) (successor z)) keep);
+        is_ground = (z, in_front (put (base 0) (successor z)) keep, (successor z, keep, tt, (pi nat nat, refl, ((nat, refl, refl), refl)), refl), (nat, refl, refl), refl);
+        first = tt;
+        given = λ i M e. absurd cc;
+        has_arguments = (refl, (refl, tt));
+      };
       is_distinct = tt;
-      has_arguments = (refl, (refl, tt));
     }
 
-    by : OneHolds {Σ = Addition} {W = []} {S = S} no_variables (plus_zero_case ∷ []) (app (successor z) (app z (app z nil))) → ⊥
-    by (inl o) = let q : successor z ≡ z = o.has_arguments.0 in absurd cc
+    by : OneHolds {Σ = Addition} {W = []} {S = S} no_variables (plus_zero_case ∷ []) None keep (app (successor z) (app z (app z nil))) → ⊥
+    by (inl o) = let q : successor z ≡ z = o.holds.has_arguments.0 in absurd cc
     by (inr o) = o

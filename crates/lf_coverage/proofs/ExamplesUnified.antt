@@ -1,8 +1,7 @@
 -- A split of the inputs of addition on which unification answers, and a head on which it never solves.
 use Rattle.std.proofs.Common.{◌≡◌, ℕ, zero, suc, [], ◌∷◌, refl, sym, ap, subst, arith, inl, inr}
 use Rattle.std.specs.Prelude.{true, false, Some, None, Option}
-use Rattle.lf.specs.Syntax.{constant, metavariable, Term, root, nil, LfType, Kind, pi, base, star, rename_type}
-use Rattle.lf.specs.AtOnce.{shift_by}
+use Rattle.lf.specs.Syntax.{constant, metavariable, Term, root, nil, LfType, Kind, pi, base, star}
 use Rattle.lf.specs.Variables.{FamiliesIn, KindFamiliesIn, same_number}
 use Rattle.lf.specs.Subordination.{IsDeclared, SelfContained}
 use Rattle.lf_unification.specs.Dependency.{IsListed}
@@ -14,20 +13,18 @@ use Rattle.lf_unification.specs.Solving.{IsWellFormed, Never, Solved}
 use Rattle.lf_unification.specs.Steps.{Run, bind, no_step, then_run}
 use Rattle.lf_unification.specs.Unifiers.{Store, on_left}
 use Rattle.lf_unification.proofs.Runs.{run_keeps_unifiers}
-use Rattle.lf_cases.specs.Case.{items_context}
 use Rattle.lf_cases.specs.Missing.{AreTypedItems}
-use Rattle.lf_cases.specs.Reached.{constant_head, arguments_count, taken, split_items}
-use Rattle.lf_totality.specs.Examples.{Addition, nat, z, successor, var, plus_input_goal, plus_zero_case, plus_successor_case, first_below_second}
+use Rattle.lf_cases.specs.Reached.{constant_head}
+use Rattle.lf_totality.specs.Examples.{Addition, nat, z, successor, var, first_below_second}
 use Rattle.lf_totality.specs.ExamplesGroups.{on_one, one_kind, first_three}
 use Rattle.lf_totality.specs.ExamplesBlocks.{Numbered, numbered_types, numbered_kinds, a_z}
 use Rattle.lf_totality.specs.ExamplesSplits.{successor_items}
 use Rattle.lf_totality.proofs.Addition.{addition_ok}
 use Rattle.lf_totality.proofs.ExamplesBlocks.{numbered_ok}
-use Rattle.lf_coverage.specs.Heads.{ArgumentsAreBelow, ArgumentsCanBeRaised}
-use Rattle.lf_coverage.specs.SplitStore.{split_store, context_metavariables, AllFamiliesIn}
-use Rattle.lf_coverage.specs.UnifiedSplit.{UnificationAnswers, answers_solved}
+use Rattle.lf_coverage.specs.Heads.{ArgumentsAreBelow, with_case, no_offer}
+use Rattle.lf_coverage.specs.SplitStore.{split_store, context_metavariables}
 use Rattle.lf_coverage.specs.Examples.{PlusIsSplitByUnification, SuccessorGivesNone}
-use Rattle.lf_coverage.proofs.Examples.{S, two, each_head}
+use Rattle.lf_coverage.proofs.Examples.{plus_offers, plus_are_offers, plus_in_order, two, each_head}
 use Rattle.lf_coverage.proofs.Unified.{never_gives}
 
 some_term : {M N : Term} → Some M ≡ Some N → M ≡ N
@@ -199,10 +196,15 @@ plus_unified = record {
   at = (nat, refl, refl);
   is_free = refl;
   takes_below = tt;
-  can_be_offered = each_head (λ I n h A. ArgumentsAreBelow first_below_second A × ArgumentsCanBeRaised first_below_second (taken (rename_type (shift_by n) nat)) (arguments_count A) A) (tt, tt) ((refl, tt), (tt, tt));
-  offered_typed = each_head (λ I n h A. AreTypedItems Addition [] (split_items first_below_second nat I n A) × AllFamiliesIn S (items_context (split_items first_below_second nat I n A))) (((tt, (star, refl, tt)), (star, refl, tt)), (refl, (refl, tt))) ((((tt, (star, refl, tt)), (star, refl, tt)), (star, refl, tt)), (refl, (refl, (refl, tt))));
+  arguments_below = each_head (λ I n h A. ArgumentsAreBelow first_below_second A) tt (refl, tt);
   families = refl;
-  answers = each_head (λ I n h A. UnificationAnswers Addition [] S first_below_second plus_input_goal 1 nat (plus_zero_case ∷ plus_successor_case ∷ []) I n h A) (answers_solved star refl tt after_zero zero_solved (inl refl)) (answers_solved star refl tt after_successor successor_solved (inr (inl refl)));
+  offers = plus_offers;
+  are_offers = plus_are_offers;
+  in_order = plus_in_order;
+  listed =
+      with_case
+      (record { kind = star; of_family = refl; no_block = tt; typed_items = ((tt, (star, refl, tt)), (star, refl, tt)); families = (refl, (refl, tt)); finds = (after_zero, zero_solved, refl) })
+      (with_case (record { kind = star; of_family = refl; no_block = tt; typed_items = (((tt, (star, refl, tt)), (star, refl, tt)), (star, refl, tt)); families = (refl, (refl, (refl, tt))); finds = (after_successor, successor_solved, refl) }) no_offer);
 }
 
 -- s X = z

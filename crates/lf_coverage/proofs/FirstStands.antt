@@ -1,6 +1,6 @@
 -- What stands outside a clause in a case of its outputs, the first block variable, stands for the first instance of a ground instance.
 use Rattle.std.proofs.Common.{◌≡◌, ℕ, zero, suc, List, [], ◌∷◌, ◌+◌, length, inl, inr, refl, sym, ap, ap₂, ◌∙◌, subst, arith}
-use Rattle.std.specs.Prelude.{Bool, true, false}
+use Rattle.std.specs.Prelude.{Bool, true, false, Some, None}
 use Rattle.lf.specs.Eta.{arity, eta_arguments, eta_long, lambdas}
 use Rattle.lf.specs.Syntax.{LfType, Skeleton, Spine, Term, lambda, root, skeleton, variable, weaken, rename_type}
 use Rattle.lf.proofs.AtOnce.{eta_at_once}
@@ -13,18 +13,17 @@ use Rattle.lf.specs.Worlds.{World, lift_over, instance}
 use Rattle.lf.proofs.TypeLaws.{skeleton_renamed}
 use Rattle.lf_checks.specs.Tests.{choose}
 use Rattle.lf_checks.specs.Clause.{Clause, among, entry_clause}
-use Rattle.lf_cases.specs.Cover.{InstanceIn, place_of}
+use Rattle.lf_cases.specs.Cover.{InstanceIn, place_of, before, AgreesOutside}
 use Rattle.lf_cases.specs.Case.{Item, free_variable, block_variable, items_context, as_term, IsGroundInstance}
-use Rattle.lf_cases.specs.OutputCase.{Origin, of_constant, of_entry, has_block_variable, FirstInstance, StandsOutside}
-use Rattle.lf_cases.specs.Missing.{BlockAmong, IsTypedInstance}
-use Rattle.lf_cases.specs.MissingOutputs.{FirstAmong, StandsFirst}
+use Rattle.lf_cases.specs.Pattern.{Origin, of_constant, of_entry, has_block_variable, Known, FirstInstance, FirstIs, StandsOutside}
+use Rattle.lf_cases.specs.Missing.{BlockAmong, IsTypedInstance, FirstAmong, StandsAmong}
 use Rattle.lf_cases.specs.Reached.{LeavesAll}
 use Rattle.lf_cases.proofs.BlockEntries.{among_type}
-use Rattle.lf_cases.proofs.Instances.{instance_typed}
+use Rattle.lf_cases.proofs.Instances.{instance_typed, place_among}
 use Rattle.lf_cases.proofs.OutputItems.{length_instance}
 use Rattle.lf_coverage.proofs.Forms.{far_type}
 use Rattle.lf_coverage.proofs.SameInstance.{front_entry, front_behind, instance_unique, entry_has_type}
-use Rattle.lf_coverage.proofs.Standing.{stood, Outer, entry_outer, place_among}
+use Rattle.lf_coverage.proofs.Standing.{stood, Outer, entry_outer}
 
 -- the variable at the head, under lambdas
 same_head : (n i j : ℕ) (S T : Spine) → lambdas n (root (variable i) S) ≡ lambdas n (root (variable j) T) → i ≡ j
@@ -114,10 +113,19 @@ module _ {Σ : Signature} {W : List Block} {S : ℕ → Bool} {G : List LfType} 
           let t : as_term (skeleton A) (keep j) ≡ as_term (skeleton A) (keep (k + n)) = ap (as_term (skeleton A)) (sym r ∙ sym (ap (λ f. f k) e ∙ front_entry C.entries ψ ρ' k a')) ∙ leaves k A h in
           ap (λ f. substitute_image σJ (f k)) (sym q) ∙ ap (substitute_image σJ) r ∙ ap σJ (same_variable (skeleton A) j (k + n) t) ∙ link k ∙ ap (λ f. f k) e' ∙ front_entry C.entries χ σ' k a' ∙ ap (λ f. f k) q'
 
--- What stands outside the clause, over a ground instance of the case.
-pub stands_first : (Σ0 Σ : Signature) → IsSignature Σ → {W : List Block} {S : ℕ → Bool} {G : List LfType} (w : World Σ W S G) (I : List Item) (σ : ℕ → Image) (g : IsGroundInstance w I σ) (c : Clause) (o : Origin W c) (ρ : ℕ → Image) (it : IsTypedInstance Σ0 I I ρ) → LeavesAll I ρ → (τ : ℕ → Image) → StandsFirst Σ0 o I I ρ it τ → (θ : ℕ → Image) → StandsOutside o w I σ g θ → Outer Σ G c σ τ θ
-stands_first Σ0 Σ ok w I σ g c (of_constant U) ρ it leaves τ s θ st = record { typed = λ i A h. absurd h; same = λ i X h. absurd h }
-stands_first Σ0 Σ ok {G = G} w I σ g c (of_entry B later E es m q) ρ it leaves τ (θ', fa, agrees) θ (φ, fi, e) =
+-- The block variable that is the first in an instance of the items over themselves is the first in a ground instance.
+first_block : {Σ : Signature} {W : List Block} {S : ℕ → Bool} {G : List LfType} (w : World Σ W S G) (Σ0 : Signature) (J I : List Item) (ρ : ℕ → Image) (it : IsTypedInstance Σ0 J I ρ) (σ : ℕ → Image) (g : IsGroundInstance w I σ) (B C : Block) (θ ψ : ℕ → Image) → FirstAmong Σ0 J I ρ it B θ → FirstInstance w I σ g C ψ → C ≡ B
+first_block w Σ0 J [] ρ it σ g B C θ ψ fa fi = absurd fa
+first_block w Σ0 J (free_variable A ∷ I) ρ (N, ρ', it, t, e) σ (M, σ', g, t', e') B C θ ψ fa fi = first_block w Σ0 J I ρ' it σ' g B C θ ψ fa fi
+first_block w Σ0 J (block_variable D υ ∷ I) ρ (φ, ρ', it, b, s, e) σ (χ, σ', g, i, s', e') B C θ ψ fa fi = by (λ fa fi. first_block w Σ0 J I ρ' it σ' g B C θ ψ fa fi) (has_block_variable I) fa fi
+  where
+    by : (FirstAmong Σ0 J I ρ' it B θ → FirstInstance w I σ' g C ψ → C ≡ B) → (h : Bool) → choose h (FirstAmong Σ0 J I ρ' it B θ) ((D ≡ B) × (φ ≡ θ)) → choose h (FirstInstance w I σ' g C ψ) ((D ≡ C) × (χ ≡ ψ)) → C ≡ B
+    by r true fa fi = r fa fi
+    by r false (p, q) (p', q') = sym p' ∙ p
+
+-- What stands outside an entry, over a ground instance in which the first block variable stands for φ.
+first_outer : (Σ0 Σ : Signature) → IsSignature Σ → {W : List Block} {S : ℕ → Bool} {G : List LfType} (w : World Σ W S G) (I : List Item) (σ : ℕ → Image) (g : IsGroundInstance w I σ) (B : Block) (later : List LfType) (E : LfType) (es : List LfType) → onto later (E ∷ es) ≡ B.entries → (ρ : ℕ → Image) (it : IsTypedInstance Σ0 I I ρ) → LeavesAll I ρ → (τ θ' : ℕ → Image) → FirstAmong Σ0 I I ρ it B θ' → AgreesOutside (entry_clause B es E) τ (before later θ') → (φ : ℕ → Image) → FirstInstance w I σ g B φ → Outer Σ G (entry_clause B es E) σ τ (before later φ)
+first_outer Σ0 Σ ok {G = G} w I σ g B later E es q ρ it leaves τ θ' fa agrees φ fi =
     let (φ', i', h) = stood w I σ g B θ' (first_among Σ0 I I ρ it B θ' fa) in
     let i = first_in w I σ g B φ fi in
     let p : ℕ = place_of later in
@@ -128,7 +136,20 @@ stands_first Σ0 Σ ok {G = G} w I σ g c (of_entry B later E es m q) ρ it leav
     let here : substitute_image σ (θ' p) ≡ φ p = same_first w Σ0 I σ I ρ it σ g zero (λ k A t. leaves k A t ∙ ap (λ l. as_term (skeleton A) (keep l)) (sym (none k))) (λ k. ap σ (none k)) B θ' φ fa fi p a in
     let v : j' ≡ j = same_variable (skeleton Y) j' j (ap (as_term (skeleton Y)) (sym r') ∙ h p Y y ∙ ap (as_term (skeleton Y)) (here ∙ r)) in
     let (_, f) = instance_unique Σ w B B φ φ' i i' p p j a a r (r' ∙ ap keep v) in
-    subst (Outer Σ G (entry_clause B es E) σ τ) (sym e) (entry_outer Σ ok w B later E es q σ τ θ' φ i (λ k X t. ap (λ s. as_term (skeleton X) (s k)) (sym f) ∙ h k X t) agrees)
+    (entry_outer Σ ok w B later E es q σ τ θ' φ i (λ k X t. ap (λ s. as_term (skeleton X) (s k)) (sym f) ∙ h k X t) agrees)
   where
     none : (k : ℕ) → k + 0 ≡ k
     none k = omega arith
+
+-- What stands outside the clause of a pattern, over a ground instance of the case: what is meant does.
+pub stands_for : (Σ0 Σ : Signature) → IsSignature Σ → {W : List Block} {S : ℕ → Bool} {G : List LfType} (w : World Σ W S G) (I : List Item) (σ : ℕ → Image) (g : IsGroundInstance w I σ) (c : Clause) (o : Origin c) (b : Bool) (ρ : ℕ → Image) (it : IsTypedInstance Σ0 I I ρ) → LeavesAll I ρ → (τ : ℕ → Image) → StandsAmong Σ0 o b I I ρ it τ → (F : Known) → FirstIs w I σ g F → (outer : ℕ → Image) × StandsOutside o b w F outer × Outer Σ G c σ τ outer
+stands_for Σ0 Σ ok w I σ g c (of_constant U) b ρ it leaves τ s F f = (keep, tt, record { typed = λ i A h. absurd h; same = λ i X h. absurd h })
+stands_for Σ0 Σ ok w I σ g c (of_entry B later E es q) false ρ it leaves τ (θ, among_items, agrees) F f =
+    let (φ, i, h) = stood w I σ g B θ among_items in
+    (before later φ, (φ, i, refl), entry_outer Σ ok w B later E es q σ τ θ φ i h agrees)
+stands_for Σ0 Σ ok w I σ g c (of_entry B later E es q) true ρ it leaves τ (θ, fa, agrees) None f =
+    let (φ, i, h) = stood w I σ g B θ (first_among Σ0 I I ρ it B θ fa) in
+    (before later φ, (φ, i, refl), entry_outer Σ ok w B later E es q σ τ θ φ i h agrees)
+stands_for Σ0 Σ ok w I σ g c (of_entry B later E es q) true ρ it leaves τ (θ, fa, agrees) (Some (C, ψ)) f =
+    let p = first_block w Σ0 I I ρ it σ g B C θ ψ fa f in
+    (before later ψ, (ψ, (p, refl), refl), first_outer Σ0 Σ ok w I σ g B later E es q ρ it leaves τ θ fa agrees ψ (subst (λ D. FirstInstance w I σ g D ψ) p f))

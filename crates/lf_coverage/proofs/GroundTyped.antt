@@ -1,6 +1,6 @@
 -- A ground instance of typed items is a typed substitution.
 use Rattle.std.proofs.Common.{◌≡◌, ℕ, zero, suc, List, [], ◌∷◌, refl, sym, ap, ◌∙◌, subst}
-use Rattle.std.specs.Prelude.{Bool, true}
+use Rattle.std.specs.Prelude.{Bool}
 use Rattle.lf.specs.Syntax.{LfType, Skeleton, skeleton, weaken}
 use Rattle.lf.specs.Substitution.{Image, keep, put, rename_image, substitute_image, substitute_type, reduce, after}
 use Rattle.lf.specs.SkeletonTyping.{SubstitutionBySkeletons}
@@ -53,7 +53,7 @@ module _ (Σ : Signature) (ok : IsSignature Σ) (W : List Block) (typed : AreTyp
       let κ = constant_skeletons Σ in
       let Γ : List Skeleton = context_skeletons (onto es O) in
       let Δ : List Skeleton = context_skeletons G in
-      let us : SubstitutionBySkeletons κ Γ (context_skeletons (onto (instance es υ) C)) (lift_over es υ) = lifted Σ (λ a b. true) es O C υ (typed_substitution_by_skeletons Σ ok O C υ u) in
+      let us : SubstitutionBySkeletons κ Γ (context_skeletons (onto (instance es υ) C)) (lift_over es υ) = lifted Σ es O C υ (typed_substitution_by_skeletons Σ ok O C υ u) in
       let fs : SubstitutionBySkeletons κ (context_skeletons (onto (instance es υ) C)) Δ φ = typed_substitution_by_skeletons Σ ok (onto (instance es υ) C) G φ f in
       let ts : SubstitutionBySkeletons κ Γ Δ θ = typed_substitution_by_skeletons Σ ok (onto es O) G θ t in
       let be = type_by_skeletons Σ (onto es O) E e in

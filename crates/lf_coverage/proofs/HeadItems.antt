@@ -7,10 +7,9 @@ use Rattle.lf.specs.Typing.{Signature, SpineType, SpineFitsKind, instantiate_typ
 use Rattle.lf.specs.Variables.{target}
 use Rattle.lf_checks.specs.Marks.{Mark, output, output_places, input_places, NoneFree, SamePlaces}
 use Rattle.lf_cases.specs.Case.{Item, free_variable, HasArguments, chosen_count}
-use Rattle.lf_cases.specs.Raised.{raise_type}
-use Rattle.lf_cases.specs.OutputGoal.{renumber, over_item, raised_variable, output_items, output_arguments, OutputsCanBeRaised}
-use Rattle.lf_cases.specs.Reached.{arguments_count, head_items, head_spine}
-use Rattle.lf_coverage.specs.Heads.{ArgumentsCanBeRaised}
+use Rattle.lf_cases.specs.Raised.{raise_by, raised_over, first_mask, other_masks}
+use Rattle.lf_cases.specs.OutputGoal.{renumber, over_item, raised_variable, output_masks, output_items, output_arguments}
+use Rattle.lf_cases.specs.Reached.{arguments_count, head_masks, head_items, head_spine}
 
 -- A type as a kind with the same quantifiers, all of whose places are outputs.
 abbrev pub type_kind : LfType → Kind
@@ -54,36 +53,41 @@ no_zero : {n : ℕ} → zero ≡ suc n → ⊥
 no_zero e = omega arith
 
 -- The items are those of the outputs of such a kind.
-pub same_items : (below : ℕ → ℕ → Bool) (D : List LfType) (n : ℕ) (S : Spine) (A : LfType) (I : List Item) → spine_length S ≡ n → output_items below D (output_places (outputs n)) S (type_kind A) I ≡ head_items below D n A I
-same_items below D zero S A I e = refl
-same_items below D (suc n) nil A I e = absurd (no_zero e)
-same_items below D (suc n) (app M S) (atom a T) I e = refl
-same_items below D (suc n) (app M S) (pi A B) I e =
-    let N : Term = raised_variable (below (target A)) D A zero in
+pub same_items : (ks : List (List Bool)) (D : List LfType) (n : ℕ) (S : Spine) (A : LfType) (I : List Item) → spine_length S ≡ n → output_items ks D (output_places (outputs n)) S (type_kind A) I ≡ head_items ks D n A I
+same_items ks D zero S A I e = refl
+same_items ks D (suc n) nil A I e = absurd (no_zero e)
+same_items ks D (suc n) (app M S) (atom a T) I e = refl
+same_items ks D (suc n) (app M S) (pi A B) I e =
+    let N : Term = raised_variable (first_mask ks) D A zero in
     let ρ : ℕ → ℕ = lift_renaming (over_item D) in
-    let J : List Item = free_variable (raise_type (below (target A)) D A) ∷ I in
-    ap (λ K. output_items below (renumber suc D) (output_places (outputs n)) (rename_spine (over_item D) S) K J) (sym (kind_put_in A N ρ B))
-    ∙ same_items below (renumber suc D) n (rename_spine (over_item D) S) (instantiate_type A N (rename_type ρ B)) J (length_renamed (over_item D) S ∙ suc_inj e)
+    let J : List Item = free_variable (raise_by (first_mask ks) D A) ∷ I in
+    ap (λ K. output_items (other_masks ks) (renumber suc D) (output_places (outputs n)) (rename_spine (over_item D) S) K J) (sym (kind_put_in A N ρ B))
+    ∙ same_items (other_masks ks) (renumber suc D) n (rename_spine (over_item D) S) (instantiate_type A N (rename_type ρ B)) J (length_renamed (over_item D) S ∙ suc_inj e)
 
-pub same_raising : (below : ℕ → ℕ → Bool) (D : List LfType) (n : ℕ) (S : Spine) (A : LfType) → spine_length S ≡ n → ArgumentsCanBeRaised below D n A → OutputsCanBeRaised below D (output_places (outputs n)) S (type_kind A)
-same_raising below D zero S A e r = tt
-same_raising below D (suc n) nil A e r = tt
-same_raising below D (suc n) (app M S) (atom a T) e r = tt
-same_raising below D (suc n) (app M S) (pi A B) e (c, r) =
-    let N : Term = raised_variable (below (target A)) D A zero in
+-- so are the local variables over which they are raised
+pub same_masks : (below : ℕ → ℕ → Bool) (D : List LfType) (n : ℕ) (S : Spine) (A : LfType) → spine_length S ≡ n → output_masks below D (output_places (outputs n)) S (type_kind A) ≡ head_masks below D n A
+same_masks below D zero S A e = refl
+same_masks below D (suc n) nil A e = absurd (no_zero e)
+same_masks below D (suc n) (app M S) (atom a T) e = refl
+same_masks below D (suc n) (app M S) (pi A B) e =
+    let N : Term = raised_variable (raised_over (below (target A)) D A) D A zero in
     let ρ : ℕ → ℕ = lift_renaming (over_item D) in
-    (c, subst (OutputsCanBeRaised below (renumber suc D) (output_places (outputs n)) (rename_spine (over_item D) S)) (kind_put_in A N ρ B) (same_raising below (renumber suc D) n (rename_spine (over_item D) S) (instantiate_type A N (rename_type ρ B)) (length_renamed (over_item D) S ∙ suc_inj e) r))
+    ap (λ ks. raised_over (below (target A)) D A ∷ ks)
+    (
+    ap (λ K. output_masks below (renumber suc D) (output_places (outputs n)) (rename_spine (over_item D) S) K) (sym (kind_put_in A N ρ B))
+    ∙ same_masks below (renumber suc D) n (rename_spine (over_item D) S) (instantiate_type A N (rename_type ρ B)) (length_renamed (over_item D) S ∙ suc_inj e)
+    )
 
 pub count_is : (A : LfType) → chosen_count (output_places (outputs (arguments_count A))) (type_kind A) ≡ arguments_count A
 count_is (pi A B) = ap suc (count_is B)
 count_is (atom a S) = refl
 
 -- the arguments of the goal of such a kind are the head's
-pub arguments_are : (below : ℕ → ℕ → Bool) (D : List LfType) (A : LfType) (σ : ℕ → Image) (T : Spine) → HasArguments σ (output_arguments below D (output_places (outputs (arguments_count A))) (type_kind A)) T → T ≡ substitute_spine reduce σ (head_spine below D A)
-arguments_are below D (pi A B) σ nil h = absurd h
-arguments_are below D (pi A B) σ (app N T) (e, h) = ap₂ app (e ∙ ap (λ k. substitute reduce σ (raised_variable (below (target A)) D A k)) (count_is B)) (arguments_are below D B σ T h)
-arguments_are below D (atom a S) σ nil h = refl
-arguments_are below D (atom a S) σ (app N T) h = absurd h
+pub arguments_are : (ks : List (List Bool)) (D : List LfType) (A : LfType) (σ : ℕ → Image) (T : Spine) → HasArguments σ (output_arguments ks D (output_places (outputs (arguments_count A))) (type_kind A)) T → T ≡ substitute_spine reduce σ (head_spine ks D A)
+arguments_are ks D (pi A B) σ nil h = absurd h
+arguments_are ks D (pi A B) σ (app N T) (e, h) = ap₂ app (e ∙ ap (λ k. substitute reduce σ (raised_variable (first_mask ks) D A k)) (count_is B)) (arguments_are (other_masks ks) D B σ T h)
+arguments_are ks D (atom a S) σ nil h = refl
+arguments_are ks D (atom a S) σ (app N T) h = absurd h
 
 pub none_free : (n : ℕ) → NoneFree (outputs n)
 none_free zero = tt

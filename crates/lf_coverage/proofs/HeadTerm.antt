@@ -14,7 +14,7 @@ use Rattle.lf.proofs.ToSkeletons.{variable_has_skeleton}
 use Rattle.lf.proofs.TypeLaws.{skeleton_renamed}
 use Rattle.lf_unification.specs.Offering.{pi_over}
 use Rattle.lf_cases.specs.Case.{Item, items_context}
-use Rattle.lf_cases.specs.Reached.{arguments_count, head_spine, head_term, with_block, taken, SplitHead, constant_head, bound_head, entry_head, new_entry_head, split_items}
+use Rattle.lf_cases.specs.Reached.{arguments_count, head_masks, head_spine, head_term, with_block, taken, SplitHead, constant_head, bound_head, entry_head, new_entry_head, split_items}
 use Rattle.lf_coverage.proofs.Forms.{renaming_near, renaming_far, as_pis, no_shift_type}
 use Rattle.lf_coverage.proofs.ResultType.{spine_fits}
 use Rattle.lf_coverage.proofs.Transfer.{behind_head, onto_skeleton}
@@ -68,7 +68,7 @@ module _ (Σ : Signature) (W : List Block) (below : ℕ → ℕ → Bool) (I : L
           let D : List LfType = taken (rename_type (shift_by n) X) in
           let c : ℕ = arguments_count A in
           let O : List LfType = items_context (split_items below X J n A) in
-          let g : SkeletonAt (context_skeletons O) (j + c) (skeleton A) = behind_head below D c A J refl j (skeleton A) (subst (SkeletonAt (context_skeletons (items_context J)) j) (sym (skeleton_renamed (shift_by (length (taken X))) B)) (variable_has_skeleton (items_context J) j B k)) in
+          let g : SkeletonAt (context_skeletons O) (j + c) (skeleton A) = behind_head (head_masks below D c A) D c A J refl j (skeleton A) (subst (SkeletonAt (context_skeletons (items_context J)) j) (sym (skeleton_renamed (shift_by (length (taken X))) B)) (variable_has_skeleton (items_context J) j B k)) in
           subst (λ i. SkeletonAt (context_skeletons (onto D O)) i (skeleton A)) (sym (ap (λ m. lift_renaming_by (length D) (shift_by c) (j + m)) (sym e) ∙ renaming_far (length D) (shift_by c) j)) (onto_skeleton D O (j + c) (skeleton A) g)
   head_fits J n h A (new_entry_head B j C m l k t) = far_entry (with_block B I) (length B.some + length B.entries) j C k (taken_length (shift_by (length B.some + length B.entries)) X [] [] refl)
     where
@@ -78,7 +78,7 @@ module _ (Σ : Signature) (W : List Block) (below : ℕ → ℕ → Bool) (I : L
           let D : List LfType = taken (rename_type (shift_by n) X) in
           let c : ℕ = arguments_count A in
           let O : List LfType = items_context (split_items below X J n A) in
-          let g : SkeletonAt (context_skeletons O) (j + c) (skeleton A) = behind_head below D c A J refl j (skeleton A) (subst (SkeletonAt (context_skeletons (items_context J)) j) (sym (skeleton_renamed (shift_by (length (taken X))) B)) (variable_has_skeleton (items_context J) j B k)) in
+          let g : SkeletonAt (context_skeletons O) (j + c) (skeleton A) = behind_head (head_masks below D c A) D c A J refl j (skeleton A) (subst (SkeletonAt (context_skeletons (items_context J)) j) (sym (skeleton_renamed (shift_by (length (taken X))) B)) (variable_has_skeleton (items_context J) j B k)) in
           subst (λ i. SkeletonAt (context_skeletons (onto D O)) i (skeleton A)) (sym (ap (λ m. lift_renaming_by (length D) (shift_by c) (j + m)) (sym e) ∙ renaming_far (length D) (shift_by c) j)) (onto_skeleton D O (j + c) (skeleton A) g)
 
   -- its target is that of the variable
@@ -94,5 +94,5 @@ module _ (Σ : Signature) (W : List Block) (below : ℕ → ℕ → Bool) (I : L
       let D : List LfType = taken X' in
       let C : List LfType = items_context (split_items below X J n A) in
       let t : target A ≡ target X' = head_target J n h A s ∙ sym (target_renamed (shift_by n) X) in
-      let r : TermSkeleton (constant_skeletons Σ) (context_skeletons (onto D C)) (root (rename_head (lift_renaming_by (length D) (shift_by (arguments_count A))) h) (head_spine below D A)) (base (target X')) = (skeleton A, head_fits J n h A s, subst (λ b. SpineSkeleton (constant_skeletons Σ) (context_skeletons (onto D C)) (head_spine below D A) (skeleton A) (base b)) t (spine_fits Σ below (arguments_count A) D A J refl)) in
-      subst (TermSkeleton (constant_skeletons Σ) (context_skeletons C) (head_term below D h A)) (ap skeleton (sym (as_pis X' [])) ∙ skeleton_renamed (shift_by n) X) (lambdas_fit (constant_skeletons Σ) C D (root (rename_head (lift_renaming_by (length D) (shift_by (arguments_count A))) h) (head_spine below D A)) (atom (target X') (target_arguments X')) r)
+      let r : TermSkeleton (constant_skeletons Σ) (context_skeletons (onto D C)) (root (rename_head (lift_renaming_by (length D) (shift_by (arguments_count A))) h) (head_spine (head_masks below D (arguments_count A) A) D A)) (base (target X')) = (skeleton A, head_fits J n h A s, subst (λ b. SpineSkeleton (constant_skeletons Σ) (context_skeletons (onto D C)) (head_spine (head_masks below D (arguments_count A) A) D A) (skeleton A) (base b)) t (spine_fits Σ (head_masks below D (arguments_count A) A) (arguments_count A) D A J refl)) in
+      subst (TermSkeleton (constant_skeletons Σ) (context_skeletons C) (head_term below D h A)) (ap skeleton (sym (as_pis X' [])) ∙ skeleton_renamed (shift_by n) X) (lambdas_fit (constant_skeletons Σ) C D (root (rename_head (lift_renaming_by (length D) (shift_by (arguments_count A))) h) (head_spine (head_masks below D (arguments_count A) A) D A)) (atom (target X') (target_arguments X')) r)

@@ -1,20 +1,19 @@
 -- A case of inputs that is an instance of a clause: the values of the clause in the case, composed with those of a ground instance of the case,
 -- are values of the clause there.
-use Rattle.std.proofs.Common.{◌≡◌, ℕ, zero, suc, ◌+◌, ◌-◌, List, [], ◌∷◌, length, refl, sym, ap, ◌∙◌, subst, arith, inl, inr}
-use Rattle.std.specs.Prelude.{Bool, true, false, Option, Some, None, ◌⊎◌}
-use Rattle.lf.specs.Syntax.{constant, variable, metavariable, Term, Spine, lambda, root, nil, app, LfType, pi, atom, Skeleton, base, arrow, skeleton}
+use Rattle.std.proofs.Common.{◌≡◌, ℕ, zero, suc, ◌+◌, ◌-◌, List, [], ◌∷◌, length, refl, sym, ap, ◌∙◌, subst, arith}
+use Rattle.std.specs.Prelude.{Bool, true, false, Option, Some, None}
+use Rattle.lf.specs.Syntax.{Term, Spine, lambda, nil, app, LfType, pi, atom, Skeleton, base, arrow, skeleton}
 use Rattle.lf.specs.Substitution.{Image, keep, put, substitute, substitute_spine, substitute_image, substitute_type, reduce, after}
 use Rattle.lf.specs.SkeletonTyping.{HeadSkeletons, ImageSkeleton, TermSkeleton, SpineSkeleton, SubstitutionBySkeletons}
 use Rattle.lf.specs.Skeletons.{constant_skeletons, family_skeletons, context_skeletons}
 use Rattle.lf.specs.Typing.{Signature, TypeAt, ImageHasType, IsTypedSubstitution, IsType, IsContext, IsSignature}
 use Rattle.lf.specs.Entries.{quantifiers}
-use Rattle.lf.specs.Variables.{binders, onto, under, hide, Uses, UsesSpine, UsesType, Values, everything, same_number}
+use Rattle.lf.specs.Variables.{binders, onto, Uses, UsesType, Values, everything}
 use Rattle.lf.specs.Subordination.{Block, AreTypedBlocks}
 use Rattle.lf.specs.Eta.{lambdas}
 use Rattle.lf.specs.Worlds.{World, lift_over, under_all}
 use Rattle.lf.specs.Extension.{Extends}
 use Rattle.lf.proofs.Agreement.{agree_on}
-use Rattle.lf.proofs.Checker.{number_is}
 use Rattle.lf.proofs.Composition.{substitutions_compose}
 use Rattle.lf.proofs.ExtensionTyping.{extension_keeps_contexts, extension_keeps_values}
 use Rattle.lf.proofs.Partial.{skeletons_beside, PartialSubstitution, SkeletonTypeBeside, ImageHasType-has_skeleton, type_by_skeletons_beside, partial_substitution_keeps_typing, uses_all}
@@ -25,21 +24,16 @@ use Rattle.lf.proofs.ToSkeletons.{typed_has_skeleton}
 use Rattle.lf.proofs.TypeLaws.{skeleton_renamed, skeleton_substituted, substitute_renamed_type}
 use Rattle.lf.proofs.Weakening.{declared_is_type}
 use Rattle.lf.proofs.Worlds.{world_is_context}
-use Rattle.lf_checks.specs.Tests.{both, either}
-use Rattle.lf_checks.specs.Clause.{Clause, scope, outside, IsClause, from_constant, from_entry}
+use Rattle.lf_checks.specs.Clause.{Clause, scope, outside}
 use Rattle.lf_checks.specs.Marks.{SamePlaces, UsesPlaces}
-use Rattle.lf_checks.specs.Strict.{pattern_arguments, strict, strict_spine, strict_at}
 use Rattle.lf_checks.specs.Worlded.{IsTerm}
 use Rattle.lf_cases.specs.Cover.{AreTerms}
 use Rattle.lf_cases.specs.Case.{Item, items_context, as_term, IsGroundInstance, HasArguments, covered_places}
 use Rattle.lf_cases.specs.Missing.{AreTypedItems}
 use Rattle.lf_cases.specs.Reached.{LeavesAll}
-use Rattle.lf_cases.proofs.BlockEntries.{onto_onto, drop_typed}
 use Rattle.lf_totality.proofs.Core.{out_index, outside_at}
-use Rattle.lf_checks.proofs.EtaTest.{both_l, both_r}
 use Rattle.lf_cases.proofs.LongValues.{long_at}
 use Rattle.lf_totality.proofs.OutputCases.{in_covers}
-use Rattle.lf_checks.proofs.StrictTypes.{either_cases}
 use Rattle.lf_totality.proofs.Theorem.{outside_from}
 use Rattle.lf_coverage.specs.Heads.{HaveSkeletons}
 use Rattle.lf_coverage.proofs.Carried.{carry, carry_same, type_of, beside_nothing, carried, long_term_same, like_type, like_term}
@@ -50,36 +44,6 @@ use Rattle.lf_coverage.proofs.ItemsContext.{items_are_context}
 use Rattle.lf_coverage.proofs.Standing.{Outer}
 use Rattle.lf_coverage.proofs.Transfer.{same_in}
 use mathlib.Core.Path.{fun_ext}
-
--- Strict occurrences are occurrences.
-mutual
-  strict_used : (U B F : ℕ → Bool) (x : ℕ) (M : Term) → Uses U M → strict B F x M ≡ true → U x ≡ true
-  strict_used U B F x (lambda M) u e = strict_used (under U) (under B) (hide F) (suc x) M u e
-  strict_used U B F x (root (constant c) S) u e = spine_used U B F x S u e
-  strict_used U B F x (root (metavariable m) S) u e = absurd cc
-  strict_used U B F x (root (variable j) S) u e = by (either_cases (both (same_number j x) (pattern_arguments B [] S)) (both (either (B j) (F j)) (strict_spine B F x S)) e) (λ q. spine_used U B F x S u.1 q)
-    where
-      by : (both (same_number j x) (pattern_arguments B [] S) ≡ true) ⊎ (both (either (B j) (F j)) (strict_spine B F x S) ≡ true) → (strict_spine B F x S ≡ true → U x ≡ true) → U x ≡ true
-      by (inl q) f = ap U (sym (number_is j x (both_l (same_number j x) (pattern_arguments B [] S) q))) ∙ u.0
-      by (inr q) f = f (both_r (either (B j) (F j)) (strict_spine B F x S) q)
-
-  spine_used : (U B F : ℕ → Bool) (x : ℕ) (S : Spine) → UsesSpine U S → strict_spine B F x S ≡ true → U x ≡ true
-  spine_used U B F x nil u e = absurd cc
-  spine_used U B F x (app M S) u e = by (either_cases (strict B F x M) (strict_spine B F x S) e) (λ q. strict_used U B F x M u.0 q) (λ q. spine_used U B F x S u.1 q)
-    where
-      by : (strict B F x M ≡ true) ⊎ (strict_spine B F x S ≡ true) → (strict B F x M ≡ true → U x ≡ true) → (strict_spine B F x S ≡ true → U x ≡ true) → U x ≡ true
-      by (inl q) f k = f q
-      by (inr q) f k = k q
-
-pub places_used : (U : ℕ → Bool) (m : List Bool) (B F : ℕ → Bool) (x : ℕ) (S : Spine) → UsesPlaces U m S → strict_at m B F x S ≡ true → U x ≡ true
-places_used U [] B F x S u e = absurd cc
-places_used U (b ∷ m) B F x nil u e = absurd cc
-places_used U (true ∷ m) B F x (app M S) u e = by (either_cases (strict B F x M) (strict_at m B F x S) e) (λ q. strict_used U B F x M u.0 q) (λ q. places_used U m B F x S u.1 q)
-  where
-    by : (strict B F x M ≡ true) ⊎ (strict_at m B F x S ≡ true) → (strict B F x M ≡ true → U x ≡ true) → (strict_at m B F x S ≡ true → U x ≡ true) → U x ≡ true
-    by (inl q) f k = f q
-    by (inr q) f k = k q
-places_used U (false ∷ m) B F x (app M S) u e = places_used U m B F x S u e
 
 -- what stands outside a clause, counted from there
 out_sum : (A : LfType) (k : ℕ) → out_index A k ≡ k + quantifiers A
@@ -107,11 +71,6 @@ out_type (atom a S) O k A h = (A, h, refl, λ s. refl)
 term_after : (f : ℕ → Image) (y : Image) → IsTerm y → IsTerm (substitute_image f y)
 term_after f (keep j) t = absurd t
 term_after f (put a N) t = tt
-
--- a clause is typed
-pub clause_typed : (Σ : Signature) → IsSignature Σ → (W : List Block) → AreTypedBlocks Σ W → (c : Clause) → IsClause Σ W c → IsContext Σ c.outer × IsType Σ c.outer c.type
-clause_typed Σ ok W typed c (from_constant k U e) = (tt, ok.types_ok k U e)
-clause_typed Σ ok W typed c (from_entry B later E es i q) = drop_typed Σ later E (onto es B.some) (subst (IsContext Σ) (onto_onto later (E ∷ es) B.some) (subst (λ X. IsContext Σ (onto X B.some)) (sym q) (typed B i)))
 
 -- Under the lambdas of a local context.
 lambdas_inside : (n : ℕ) (M : Term) → lambdas n (lambda M) ≡ lambda (lambdas n M)

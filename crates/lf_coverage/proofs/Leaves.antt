@@ -1,91 +1,148 @@
 -- Leaves by their terms are leaves, and runs with such leaves cover.
-use Rattle.std.proofs.Common.{◌≡◌, ℕ, List, [], inl, inr, refl, sym, ap, ◌∙◌, subst, true≢false}
-use Rattle.std.specs.Prelude.{Bool, true, false, ◌⊎◌}
-use Rattle.lf.specs.Syntax.{LfType, base, kind_skeleton}
-use Rattle.lf.specs.SkeletonTyping.{SpineSkeleton, SubstitutionBySkeletons}
+use Rattle.std.proofs.Common.{◌≡◌, ℕ, zero, suc, List, [], ◌∷◌, inl, inr, refl, sym, ap, ◌∙◌, subst}
+use Rattle.std.specs.Prelude.{Bool, true, false, Option, Some, None, ◌⊎◌}
+use Rattle.lf.specs.Syntax.{Term, LfType, pi, atom, Skeleton, base, kind_skeleton}
+use Rattle.lf.specs.Substitution.{Image, put, substitute, substitute_spine, substitute_type, reduce}
+use Rattle.lf.specs.SkeletonTyping.{HeadSkeletons, TermSkeleton, SpineSkeleton, SubstitutionBySkeletons}
 use Rattle.lf.specs.Skeletons.{constant_skeletons, context_skeletons}
-use Rattle.lf.specs.Typing.{Signature, TypeAt, IsType, IsContext, IsSignature}
-use Rattle.lf.specs.Variables.{target, target_arguments, onto, UsesType, Values, everything, nothing}
-use Rattle.lf.specs.Subordination.{Block, IsDeclared, AreTypedBlocks}
+use Rattle.lf.specs.Typing.{TypeAt, IsType}
+use Rattle.lf.specs.Variables.{target, target_arguments, binders, onto, UsesType, Values, everything}
+use Rattle.lf.specs.Worlds.{lift_over, under_all}
+use Rattle.lf.specs.Subordination.{Member}
+use Rattle.lf_coverage.specs.Heads.{IsHeadSplit, IsTypedCase, SplitsByHeads}
+use Rattle.lf_coverage.specs.UnifiedSplit.{SplitsByUnification}
+use Rattle.lf_coverage.proofs.HeadSplit.{split_cases_typed}
+use Rattle.lf_cases.specs.Case.{Case}
 use Rattle.lf.proofs.ExtensionTyping.{extension_keeps_types}
 use Rattle.lf.proofs.Partial.{kind_spine_has_skeleton_beside}
-use Rattle.lf_checks.specs.Tests.{both}
-use Rattle.lf_checks.specs.Clause.{Clause, scope, variables, outside, IsClause}
-use Rattle.lf_checks.specs.Marks.{Mark, input_places, UsesPlaces}
-use Rattle.lf_checks.specs.Ground.{ground_by}
-use Rattle.lf_checks.specs.Below.{IsSubordination}
-use Rattle.lf_checks.specs.Strict.{strict_at}
-use Rattle.lf_cases.specs.Case.{Item, Case, items_context, covered_places}
+use Rattle.lf_checks.specs.Tests.{either}
+use Rattle.lf_checks.specs.Clause.{Clause, scope, outside}
+use Rattle.lf_checks.specs.Marks.{SamePlaces, UsesPlaces}
+use Rattle.lf_checks.specs.Ground.{UsesGoal}
+use Rattle.lf_cases.specs.Case.{Item, items_context, covered_places}
+use Rattle.lf_cases.specs.Pattern.{Pattern, given_at, is_there, is_given}
 use Rattle.lf_cases.specs.Missing.{IsTypedInstance, StandsAmong}
 use Rattle.lf_cases.proofs.Assemble.{end_typed, binders_typed}
 use Rattle.lf_totality.proofs.Core.{outer_at}
-use Rattle.lf_checks.proofs.EtaTest.{both_r}
-use Rattle.lf_totality.proofs.GroundTypes.{first_closed}
+use Rattle.lf_cases.proofs.GroundTypes.{either_left, outside_types, clause_typed}
+use Rattle.lf_totality.proofs.OutputCases.{either_in, goal_within}
+use Rattle.lf.proofs.Agreement.{uses_type_within}
+use Rattle.lf.proofs.Partial.{uses_type_all}
+use Rattle.lf.proofs.Weakening.{declared_is_type}
+use Rattle.lf_totality.proofs.RaisedOutputs.{binders_over}
 use Rattle.lf_checks.proofs.StrictTypes.{either_cases}
 use Rattle.lf_coverage.specs.Heads.{HaveSkeletons}
-use Rattle.lf_coverage.specs.HeadRun.{EndsByHeads, AllEndByHeads, is_instance, by_heads, no_more_cases, one_more_case}
-use Rattle.lf_coverage.specs.Leaf.{HasClosedInputs, EndsAtLeaves, AllEndAtLeaves, at_leaf, by_unification, no_more_leaves, one_more_leaf}
-use Rattle.lf_coverage.specs.Laws.{LeafIsInstanceCase, LeavesCover}
+use Rattle.lf_coverage.specs.Laws.{LeafIsInstanceCase, LeavesCover, HeadIsTypedPattern, SubgoalIsTypedPattern}
 use Rattle.lf_coverage.proofs.Carried.{beside_nothing}
-use Rattle.lf_coverage.proofs.Leaf.{places_used, clause_typed, v, v_out, v_typed, v_terms, v_places, leaves_terms}
-use Rattle.lf_coverage.proofs.Runs.{head_splits_cover}
-use Rattle.lf_coverage.proofs.Standing.{stands_so}
+use Rattle.lf_coverage.proofs.FirstStands.{stands_for}
+use Rattle.lf_coverage.proofs.Leaf.{v, v_out, v_typed, v_terms, v_given, v_places, leaves_terms, leaves_deep}
+use Rattle.lf_coverage.proofs.Runs.{other_run, head_splits_cover}
 use Rattle.lf_coverage.proofs.Transfer.{instance_fits, fits_more, have_more}
 use Rattle.lf_coverage.proofs.Unified.{unified_split}
 
+-- the arguments of a subgoal, under its local variables
+goal_arguments : (D : List LfType) (A : LfType) (s : ℕ → Image) → target_arguments (substitute_type reduce (lift_over D s) A) ≡ substitute_spine reduce (lift_over (binders D A) s) (target_arguments A)
+goal_arguments D (pi B A) s = goal_arguments (B ∷ D) A s
+goal_arguments D (atom a S) s = refl
+
+goal_places : (D : List LfType) (U : ℕ → Bool) (m : List Bool) (A : LfType) → UsesGoal (under_all D U) m A → UsesPlaces (under_all (binders D A) U) m (target_arguments A)
+goal_places D U m (pi B A) u = goal_places (B ∷ D) U m A u.1
+goal_places D U m (atom a S) u = u
+
+given_skeleton : (κ : HeadSkeletons) (Γ : List Skeleton) (Ms : List (Option Term)) (i : ℕ) (M : Term) → HaveSkeletons κ Γ Ms → given_at Ms i ≡ Some M → (t : Skeleton) × TermSkeleton κ Γ M t
+given_skeleton κ Γ [] i M h e = absurd cc
+given_skeleton κ Γ (Some N ∷ Ms) zero M ((t, n), h) e = (t, subst (λ X. TermSkeleton κ Γ X t) (some_same e) n)
+  where
+    some_same : Some N ≡ Some M → N ≡ M
+    some_same e = cc
+given_skeleton κ Γ (None ∷ Ms) zero M h e = absurd cc
+given_skeleton κ Γ (Some N ∷ Ms) (suc i) M (n, h) e = given_skeleton κ Γ Ms i M h e
+given_skeleton κ Γ (None ∷ Ms) (suc i) M h e = given_skeleton κ Γ Ms i M h e
+
 pub leaf_is_instance : LeafIsInstanceCase
-leaf_is_instance Σ ok m W typed S C marks places leaf Σ' x G w T h =
-    let c : Clause = leaf.clause.clause in
-    let d : IsClause Σ W c = leaf.clause.comes in
-    let (s, e, l) = leaf.is_instance in
+leaf_is_instance Σ ok W typed S ps C leaf Σ' x G w F σ0 T hd =
+    let h = hd.holds in
+    let p : Pattern = leaf.pattern in
+    let c : Clause = p.clause in
+    let A : LfType = p.type in
+    let s = leaf.is_instance.0 in
+    let e = leaf.is_instance.1 in
+    let l = leaf.is_instance.2 in
     let I : List Item = C.items in
     let Γ = context_skeletons (items_context I) in
-    let ms : List Bool = covered_places C.arguments in
+    let D : List LfType = binders [] A in
+    let places : List Bool = covered_places C.arguments in
+    let ct = leaf.pattern_typed.clause_typed in
     let tv : Values Σ s.used (scope c) (items_context I) s.clause_values = subst (λ J. Values Σ s.used (scope c) (items_context J) s.clause_values) e s.typed_values in
-    let sa : StandsAmong d I s.clause_values = subst (λ J. StandsAmong d J s.clause_values) e s.stands in
-    let it : IsTypedInstance Σ I I s.case_values = subst (λ J. IsTypedInstance Σ J I s.case_values) e s.is_instance in
+    let (it, sf) = here p s.items I e s.case_values s.is_instance s.clause_values s.stands in
+    let (outer, stands, out) = stands_for Σ Σ' x.ok w I h.values h.is_ground c p.origin p.at_first s.case_values it l s.clause_values sf F h.first in
     let fr : SubstitutionBySkeletons (constant_skeletons Σ') Γ Γ s.case_values = fits_more S Σ Σ' x Γ Γ s.case_values (instance_fits Σ ok W I leaf.typed.items I s.case_values it) in
-    let hm : HaveSkeletons (constant_skeletons Σ') Γ C.arguments = have_more S Σ Σ' x Γ C.arguments (subst (λ L. HaveSkeletons (constant_skeletons Σ) (context_skeletons (onto L (items_context I))) C.arguments) leaf.no_local leaf.typed.arguments) in
-    let ty = clause_typed Σ ok W typed c d in
-    let pm : ms ≡ input_places (m (target c.type)) = places ∙ ap (λ a. input_places (m a)) (sym leaf.of_family) in
-    let mt : HasClosedInputs Σ m (target c.type) = subst (HasClosedInputs Σ m) (sym leaf.of_family) marks in
-    let (K, ek, ks) = end_typed Σ ok c.type c.outer ty.1 in
-    let V : ℕ → Bool = ground_by everything ms c in
-    let closed : (i : ℕ) (A : LfType) → TypeAt (scope c) i A → V i ≡ true → UsesType V A = subst (λ p. (i : ℕ) (A : LfType) → TypeAt (scope c) i A → ground_by everything p c i ≡ true → UsesType (ground_by everything p c) A) (sym pm) (first_closed Σ ok m c K ty.0 ty.1 ek (mt K ek) leaf.strict_inputs) in
-    let within : (i : ℕ) → outside c.type everything i ≡ false → V i ≡ true → s.used i ≡ true = λ i o q. by (outside c.type everything i) (both (variables c i) (strict_at ms nothing (outside c.type c.fixed) i (target_arguments c.type))) (s.used i ≡ true) o (either_cases (outside c.type everything i) (both (variables c i) (strict_at ms nothing (outside c.type c.fixed) i (target_arguments c.type))) q) (λ z. places_used s.used ms nothing (outside c.type c.fixed) i (target_arguments c.type) s.uses (both_r (variables c i) (strict_at ms nothing (outside c.type c.fixed) i (target_arguments c.type)) z)) in
-    let t' : IsType Σ' c.outer c.type = extension_keeps_types S Σ Σ' x c.outer c.type ty.1 in
-    let (L, el, fit) = end_typed Σ' x.ok c.type c.outer t' in
-    let sp : SpineSkeleton (constant_skeletons Σ') (context_skeletons (scope c)) (target_arguments c.type) (kind_skeleton (target c.type) L) (base (target c.type)) = subst (λ Δ. SpineSkeleton (constant_skeletons Σ') Δ (target_arguments c.type) (kind_skeleton (target c.type) L) (base (target c.type))) (beside_nothing (scope c)) (kind_spine_has_skeleton_beside Σ' [] (target c.type) (scope c) (target_arguments c.type) L fit) in
-    let o = stands_so S Σ Σ' x w I h.values h.is_ground c d s.clause_values sa in
-    let ct : IsContext Σ (scope c) = binders_typed Σ ok c.type c.outer ty.0 ty.1 in
-    record {
-      head = o.head;
-      clause = c;
-      outer = o.outer;
-      values = v S Σ Σ' x ok W typed G w I leaf.typed.items h.values h.is_ground c ct s.used s.clause_values tv o.outer o.stands;
-      offered = o.offered;
-      family = leaf.of_family;
-      typed = v_typed S Σ Σ' x ok W typed G w I leaf.typed.items h.values h.is_ground c ct s.used s.clause_values tv o.outer o.stands V within closed;
-      agrees = λ k X y. outer_at c.type (v S Σ Σ' x ok W typed G w I leaf.typed.items h.values h.is_ground c ct s.used s.clause_values tv o.outer o.stands) k ∙ v_out S Σ Σ' x ok W typed G w I leaf.typed.items h.values h.is_ground c ct s.used s.clause_values tv o.outer o.stands k;
-      terms = v_terms S Σ Σ' x ok W typed G w I leaf.typed.items h.values h.is_ground c ct s.used s.clause_values tv o.outer o.stands V within s.terms;
-      same = v_places S Σ Σ' x ok W typed G w I leaf.typed.items h.values h.is_ground c ct s.used s.clause_values tv o.outer o.stands [] [] refl s.case_values (leaves_terms Σ' I s.case_values fr l) C.arguments T s.tuple (target_arguments c.type) (kind_skeleton (target c.type) L) (base (target c.type)) hm sp h.has_arguments s.of_case s.of_clause s.uses;
-      uses = subst (λ p. UsesPlaces (ground_by everything p c) p (target_arguments c.type)) (sym pm) leaf.strict_inputs;
-    }
+    let hm : HaveSkeletons (constant_skeletons Σ') (context_skeletons (onto C.local (items_context I))) C.arguments = have_more S Σ Σ' x (context_skeletons (onto C.local (items_context I))) C.arguments leaf.typed.arguments in
+    let hg : HaveSkeletons (constant_skeletons Σ') Γ C.given = have_more S Σ Σ' x Γ C.given leaf.typed.given in
+    let V : ℕ → Bool = λ i. either (outside c.type everything i) (s.used i) in
+    let within : (i : ℕ) → outside c.type everything i ≡ false → V i ≡ true → s.used i ≡ true = λ i o q. by (outside c.type everything i) (s.used i) o q in
+    let closed : (i : ℕ) (X : LfType) → TypeAt (scope c) i X → V i ≡ true → UsesType V X = λ i X g q. or (outside c.type everything i) (s.used i) (UsesType V X) (either_cases (outside c.type everything i) (s.used i) q) (λ o. uses_type_within (outside c.type everything) V X (λ j z. either_left (s.used j) z) (outside_types c.type c.outer everything (λ j Y h z. uses_type_all everything Y (λ l. refl)) i X g o)) (λ u. uses_type_within s.used V X (λ j z. either_in (outside c.type everything j) z) (tv.closed i X g u)) in
+    let t' : IsType Σ' (scope c) A = extension_keeps_types S Σ Σ' x (scope c) A leaf.pattern_typed.type_typed in
+    let (L, el, fit) = end_typed Σ' x.ok A (scope c) t' in
+    let sp : SpineSkeleton (constant_skeletons Σ') (context_skeletons (onto D (scope c))) (target_arguments A) (kind_skeleton (target A) L) (base (target A)) = subst (λ O. SpineSkeleton (constant_skeletons Σ') (context_skeletons O) (target_arguments A) (kind_skeleton (target A) L) (base (target A))) (binders_over [] A (scope c)) (subst (λ Δ. SpineSkeleton (constant_skeletons Σ') Δ (target_arguments A) (kind_skeleton (target A) L) (base (target A))) (beside_nothing (binders (scope c) A)) (kind_spine_has_skeleton_beside Σ' [] (target A) (binders (scope c) A) (target_arguments A) L fit)) in
+    let v' : ℕ → Image = v S Σ Σ' x ok W typed G w I leaf.typed.items h.values h.is_ground c ct s.used s.clause_values tv outer out in
+    let clause_same : SamePlaces places s.tuple (substitute_spine reduce (lift_over D s.clause_values) (target_arguments A)) = subst (SamePlaces places s.tuple) (goal_arguments [] A s.clause_values) s.of_clause in
+    let used : UsesPlaces (under_all D s.used) places (target_arguments A) = goal_places [] s.used places A s.uses in
+    let same : SamePlaces places T (substitute_spine reduce (lift_over D v') (target_arguments A)) = v_places S Σ Σ' x ok W typed G w I leaf.typed.items h.values h.is_ground c ct s.used s.clause_values tv outer out D C.local leaf.same_length s.case_values (leaves_deep Σ' I s.case_values fr l C.local) C.arguments T s.tuple (target_arguments A) (kind_skeleton (target A) L) (base (target A)) hm sp h.has_arguments s.of_case clause_same used in (
+      p,
+      leaf.listed,
+      record {
+        outer = outer;
+        stands = stands;
+        used = V;
+        outside_used = λ i o. either_left (s.used i) o;
+        uses = goal_within s.used V places A (λ j z. either_in (outside c.type everything j) z) s.uses;
+        strict = leaf.is_instance.3;
+        values = v';
+        typed = v_typed S Σ Σ' x ok W typed G w I leaf.typed.items h.values h.is_ground c ct s.used s.clause_values tv outer out V within closed;
+        agrees = λ k X y. outer_at c.type v' k ∙ v_out S Σ Σ' x ok W typed G w I leaf.typed.items h.values h.is_ground c ct s.used s.clause_values tv outer out k;
+        given = λ i M k q. let o = leaf.given_own i (given_is C.given i M q) in
+            let (a, r) = s.given i M q in
+            let (b, z) = h.given i M q in
+            let (t, n) = given_skeleton (constant_skeletons Σ') Γ C.given i M hg q in
+            (a, b, substitute reduce h.values M, v_given S Σ Σ' x ok W typed G w I leaf.typed.items h.values h.is_ground c ct s.used s.clause_values tv outer out i a M t o (within i o k) n (r ∙ ap (put a) (leaves_terms Σ' I s.case_values fr l M t n)), z);
+        terms = v_terms S Σ Σ' x ok W typed G w I leaf.typed.items h.values h.is_ground c ct s.used s.clause_values tv outer out V within s.terms;
+        same = subst (SamePlaces places T) (sym (goal_arguments [] A v')) same;
+      },
+    )
   where
-    by : (a b : Bool) (X : Type 0) → a ≡ false → (a ≡ true) ⊎ (b ≡ true) → (b ≡ true → X) → X
-    by a b X o (inl q) f = absurd (true≢false (sym q ∙ o))
-    by a b X o (inr q) f = f q
+    by : (a b : Bool) → a ≡ false → either a b ≡ true → b ≡ true
+    by true b o q = absurd cc
+    by false b o q = q
 
--- The runs
-module _ (Σ : Signature) (ok : IsSignature Σ) (m : ℕ → List Mark) (W : List Block) (typed : AreTypedBlocks Σ W) (below : ℕ → ℕ → Bool) (s : IsSubordination Σ W below) (f : ℕ) (df : IsDeclared Σ f) where
-  mutual
-    ends : {C : Case} → HasClosedInputs Σ m C.family → covered_places C.arguments ≡ input_places (m C.family) → EndsAtLeaves Σ m W (below f) below C → EndsByHeads Σ W (below f) below C
-    ends {C} h p (at_leaf l) = is_instance (leaf_is_instance Σ ok m W typed (below f) C h p l)
-    ends h p (by_unification {C = C} x Cs tc l sp r) = by_heads x Cs tc l (unified_split Σ ok W typed below (below f) (s.self_contained f df) C tc x Cs sp) (all_end h p r)
+    or : (a b : Bool) (X : Type 0) → (a ≡ true) ⊎ (b ≡ true) → (a ≡ true → X) → (b ≡ true → X) → X
+    or a b X (inl q) f g = f q
+    or a b X (inr q) f g = g q
 
-    all_end : {C : Case} {Cs : List Case} → HasClosedInputs Σ m C.family → covered_places C.arguments ≡ input_places (m C.family) → AllEndAtLeaves Σ m W (below f) below C Cs → AllEndByHeads Σ W (below f) below C Cs
-    all_end h p no_more_leaves = no_more_cases
-    all_end h p (one_more_leaf g l a q e r) = one_more_case g l a q (ends (subst (HasClosedInputs Σ m) (sym a) h) (q ∙ p ∙ ap (λ b. input_places (m b)) (sym a)) e) (all_end h p r)
+    given_is : (Ms : List (Option Term)) (i : ℕ) (M : Term) → given_at Ms i ≡ Some M → is_given Ms i ≡ true
+    given_is [] i M e = absurd cc
+    given_is (N ∷ Ms) zero M e = ap is_there e
+    given_is (N ∷ Ms) (suc i) M e = given_is Ms i M e
+
+    here : (p : Pattern) (J K : List Item) (e : J ≡ K) (ρ : ℕ → Image) (it : IsTypedInstance Σ J C.items ρ) (τ : ℕ → Image) → StandsAmong Σ p.origin p.at_first J C.items ρ it τ → (i : IsTypedInstance Σ K C.items ρ) × StandsAmong Σ p.origin p.at_first K C.items ρ i τ
+    here p J K e ρ it τ st = subst (λ K. (i : IsTypedInstance Σ K C.items ρ) × StandsAmong Σ p.origin p.at_first K C.items ρ i τ) e (it, st)
 
 pub leaves_cover : LeavesCover
-leaves_cover Σ ok m W typed below s f df C g l n h p e = head_splits_cover Σ ok W typed below s f df C g l n (ends Σ ok m W typed below s f df h p e)
+leaves_cover Σ ok W typed below s S sc ps C n tc e = head_splits_cover Σ ok W typed below s S sc ps C n tc (other_run {Kept = IsTypedCase Σ W} (λ D k l. leaf_is_instance Σ ok W typed S ps D l) split tc e)
+  where
+    split : (D : Case) (Ds : List Case) → IsTypedCase Σ W D → SplitsByUnification Σ W S below D Ds → SplitsByHeads Σ W S below D Ds × ((E : Case) → Member E Ds → IsTypedCase Σ W E)
+    split D Ds k (x, q) =
+        let sp : IsHeadSplit Σ W S below D x Ds = unified_split Σ ok W typed below S sc D k x Ds q in
+        ((x, sp), split_cases_typed Σ ok W S below D k x Ds sp)
+
+-- Patterns that are typed
+pub head_is_typed : HeadIsTypedPattern
+head_is_typed Σ ok W typed c i =
+    let ty = clause_typed Σ ok W typed c i in
+    record { outer_typed = ty.0; clause_typed = binders_typed Σ ok c.type c.outer ty.0 ty.1; type_typed = end_typed Σ ok c.type c.outer ty.1 }
+
+pub subgoal_is_typed : SubgoalIsTypedPattern
+subgoal_is_typed Σ ok W typed c d i A s =
+    let ty = clause_typed Σ ok W typed c d in
+    let ct = binders_typed Σ ok c.type c.outer ty.0 ty.1 in
+    record { outer_typed = ty.0; clause_typed = ct; type_typed = declared_is_type Σ ok (scope c) i A ct s.1 }

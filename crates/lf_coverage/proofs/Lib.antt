@@ -20,12 +20,13 @@ pub mod StoreSolution
 pub mod SolvedCase
 pub mod Unified
 pub mod Examples
+pub mod ExamplesOrder
 pub mod ExamplesUnified
 pub mod Carried
 pub mod Standing
 pub mod FirstStands
 pub mod Leaf
 pub mod Leaves
-pub mod OutputLeaves
 pub mod ExamplesLeaves
 pub mod ExamplesLeaf
+pub mod SplitInstance

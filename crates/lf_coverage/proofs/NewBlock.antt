@@ -20,7 +20,7 @@ use Rattle.lf.proofs.Worlds.{world_is_context}
 use Rattle.lf_checks.specs.Tests.{choose}
 use Rattle.lf_cases.specs.Cover.{InstanceIn}
 use Rattle.lf_cases.specs.Case.{Item, free_variable, block_variable, items_context, entries_in_front, behind_entries, as_term, IsGroundInstance}
-use Rattle.lf_cases.specs.OutputCase.{FirstInstance, has_block_variable}
+use Rattle.lf_cases.specs.Pattern.{FirstInstance, has_block_variable}
 use Rattle.lf_cases.specs.OutputGoal.{free_variables}
 use Rattle.lf_cases.specs.Split.{StandsFor}
 use Rattle.lf_cases.specs.Missing.{AreTypedItems}

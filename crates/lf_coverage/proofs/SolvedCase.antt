@@ -7,7 +7,7 @@ use Rattle.lf.specs.SkeletonTyping.{ImageSkeleton, TermSkeleton, SubstitutionByS
 use Rattle.lf.specs.Skeletons.{constant_skeletons, family_skeletons, context_skeletons}
 use Rattle.lf.specs.AtOnce.{in_front, shift_by}
 use Rattle.lf.specs.Typing.{Signature, TypeAt, HasType, ImageHasType, IsType, IsContext, IsSignature, instantiate_type}
-use Rattle.lf.specs.Variables.{target, onto}
+use Rattle.lf.specs.Variables.{onto}
 use Rattle.lf.specs.Subordination.{Block, AreTypedBlocks, SelfContained}
 use Rattle.lf.specs.Worlds.{World, instance}
 use Rattle.lf.specs.Extension.{Extends}
@@ -27,13 +27,13 @@ use Rattle.lf_unification.proofs.AnswerIsGeneric.{Part, part, answer_images}
 use Rattle.lf_unification.proofs.Filling.{substituted_option, skeleton_fill}
 use Rattle.lf_unification.proofs.Solving.{well_formed_answer}
 use Rattle.lf_cases.specs.Case.{Item, free_variable, block_variable, Case, items_context, as_term, entries_in_front, IsGroundInstance}
-use Rattle.lf_cases.specs.OutputCase.{FirstInstance}
+use Rattle.lf_cases.specs.Pattern.{FirstInstance}
 use Rattle.lf_cases.specs.OutputGoal.{free_variables, renumber, over_item, raised_variable}
-use Rattle.lf_cases.specs.Raised.{raise_type}
+use Rattle.lf_cases.specs.Raised.{raise_by, first_mask, other_masks}
 use Rattle.lf_cases.specs.Split.{HasNoBlockVariable}
 use Rattle.lf_cases.specs.Missing.{AreTypedItems, IsTypedInstance}
 use Rattle.lf_cases.specs.Candidates.{free_among, hide_all}
-use Rattle.lf_cases.specs.Reached.{arguments_count, head_items, with_block, taken, SplitHead, constant_head, bound_head, entry_head, new_entry_head, split_items}
+use Rattle.lf_cases.specs.Reached.{arguments_count, head_masks, head_items, with_block, taken, SplitHead, constant_head, bound_head, entry_head, new_entry_head, split_items}
 use Rattle.lf_cases.proofs.Assemble.{binders_typed}
 use Rattle.lf_totality.proofs.RaisedOutputs.{binders_over}
 use Rattle.lf_cases.proofs.Split.{distinct_without}
@@ -74,10 +74,10 @@ no_first w [] σ g B θ h f = f
 no_first w (free_variable A ∷ I) σ (N, τ, g, t, e) B θ h f = no_first w I τ g B θ h f
 no_first w (block_variable C υ ∷ I) σ g B θ h f = h
 
-heads_without : (below : ℕ → ℕ → Bool) (n : ℕ) (D : List LfType) (A : LfType) (I : List Item) → HasNoBlockVariable I → HasNoBlockVariable (head_items below D n A I)
-heads_without below zero D A I h = h
-heads_without below (suc n) D (atom a S) I h = h
-heads_without below (suc n) D (pi A B) I h = heads_without below n (renumber suc D) (instantiate_type A (raised_variable (below (target A)) D A zero) (rename_type (lift_renaming (over_item D)) B)) (free_variable (raise_type (below (target A)) D A) ∷ I) h
+heads_without : (ks : List (List Bool)) (n : ℕ) (D : List LfType) (A : LfType) (I : List Item) → HasNoBlockVariable I → HasNoBlockVariable (head_items ks D n A I)
+heads_without ks zero D A I h = h
+heads_without ks (suc n) D (atom a S) I h = h
+heads_without ks (suc n) D (pi A B) I h = heads_without (other_masks ks) n (renumber suc D) (instantiate_type A (raised_variable (first_mask ks) D A zero) (rename_type (lift_renaming (over_item D)) B)) (free_variable (raise_by (first_mask ks) D A) ∷ I) h
 
 in_front_is : (σ : ℕ → Image) (x : Image) → σ zero ≡ x → σ ≡ in_front x (λ i. σ (suc i))
 in_front_is σ x e = fun_ext by
@@ -129,22 +129,22 @@ head_typed Σ ok W typed I ti x X at J n h A s = by s
     by (new_entry_head B j C m l k t) = let tj : AreTypedItems Σ W (with_block B I) = block_typed Σ ok W typed B m I ti in let p : TypeAt (items_context (with_block B I)) (x + (length B.some + length B.entries)) (rename_type (shift_by (length B.some + length B.entries)) X) = moved_at B I x X at in (tj, p, far (with_block B I) (length B.some + length B.entries) j C tj p k)
 
 -- the items stand behind those of a head, with their types
-behind_types : (below : ℕ → ℕ → Bool) (D : List LfType) (n : ℕ) (A : LfType) (I : List Item) → arguments_count A ≡ n → (i : ℕ) (X : LfType) → TypeAt (items_context I) i X → TypeAt (items_context (head_items below D n A I)) (i + n) (rename_type (shift_by n) X)
-behind_types below D zero A I e i X g = subst (λ k. TypeAt (items_context I) k (rename_type (shift_by 0) X)) (none i) (subst (TypeAt (items_context I) i) (sym (no_shift_type X)) g)
+behind_types : (ks : List (List Bool)) (D : List LfType) (n : ℕ) (A : LfType) (I : List Item) → arguments_count A ≡ n → (i : ℕ) (X : LfType) → TypeAt (items_context I) i X → TypeAt (items_context (head_items ks D n A I)) (i + n) (rename_type (shift_by n) X)
+behind_types ks D zero A I e i X g = subst (λ k. TypeAt (items_context I) k (rename_type (shift_by 0) X)) (none i) (subst (TypeAt (items_context I) i) (sym (no_shift_type X)) g)
   where
     none : (i : ℕ) → i ≡ i + 0
     none i = omega arith
-behind_types below D (suc n) (atom a S) I e i X g = absurd (no e)
+behind_types ks D (suc n) (atom a S) I e i X g = absurd (no e)
   where
     no : zero ≡ suc n → ⊥
     no e = omega arith
-behind_types below D (suc n) (pi A B) I e i X g =
-    let Y : LfType = raise_type (below (target A)) D A in
+behind_types ks D (suc n) (pi A B) I e i X g =
+    let Y : LfType = raise_by (first_mask ks) D A in
     let J : List Item = free_variable Y ∷ I in
     let D' : List LfType = renumber suc D in
-    let A' : LfType = instantiate_type A (raised_variable (below (target A)) D A zero) (rename_type (lift_renaming (over_item D)) B) in
-    let C : List LfType = items_context (head_items below D' n A' J) in
-    let h : TypeAt C (suc i + n) (rename_type (shift_by n) (weaken X)) = behind_types below D' n A' J (next_count below D A B ∙ suc_same e) (suc i) (weaken X) (X, g, refl) in
+    let A' : LfType = instantiate_type A (raised_variable (first_mask ks) D A zero) (rename_type (lift_renaming (over_item D)) B) in
+    let C : List LfType = items_context (head_items (other_masks ks) D' n A' J) in
+    let h : TypeAt C (suc i + n) (rename_type (shift_by n) (weaken X)) = behind_types (other_masks ks) D' n A' J (next_count ks D A B ∙ suc_same e) (suc i) (weaken X) (X, g, refl) in
     subst (λ k. TypeAt C k (rename_type (shift_by (suc n)) X)) (next i n) (subst (TypeAt C (suc i + n)) (renamings_compose_type (shift_by n) suc X ∙ ap (λ ρ. rename_type ρ X) (fun_ext (λ j. next j n))) h)
   where
     next : (i n : ℕ) → suc i + n ≡ i + suc n
@@ -177,7 +177,7 @@ module _ (Σ : Signature) (ok : IsSignature Σ) (W : List Block) (typed : AreTyp
   place =
       let c : ℕ = arguments_count A in
       let D : List LfType = taken (rename_type (shift_by n) X) in
-      let g : TypeAt (items_context (split_items below X J n A)) ((x + n) + c) (rename_type (shift_by c) (rename_type (shift_by n) X)) = behind_types below D c A J refl (x + n) (rename_type (shift_by n) X) (head_typed Σ ok W typed I ti x X at J n h A sh).1 in
+      let g : TypeAt (items_context (split_items below X J n A)) ((x + n) + c) (rename_type (shift_by c) (rename_type (shift_by n) X)) = behind_types (head_masks below D c A) D c A J refl (x + n) (rename_type (shift_by n) X) (head_typed Σ ok W typed I ti x X at J n h A sh).1 in
       subst (λ k. TypeAt (items_context (split_items below X J n A)) k (rename_type (shift_by (n + c)) X)) (sums x n c) (subst (TypeAt (items_context (split_items below X J n A)) ((x + n) + c)) (renamings_compose_type (shift_by c) (shift_by n) X ∙ ap (λ ρ. rename_type ρ X) (fun_ext (λ j. sums j n c))) g)
     where
       sums : (i n c : ℕ) → (i + n) + c ≡ i + (n + c)
@@ -207,7 +207,7 @@ module _ (Σ : Signature) (ok : IsSignature Σ) (W : List Block) (typed : AreTyp
     γ = values μ1 order
 
     without : HasNoBlockVariable J → HasNoBlockVariable P
-    without nj = heads_without below (arguments_count A) (taken (rename_type (shift_by n) X)) A J nj
+    without nj = heads_without (head_masks below (taken (rename_type (shift_by n) X)) (arguments_count A) A) (arguments_count A) (taken (rename_type (shift_by n) X)) A J nj
 
     answer : Solution Σ [] after O γ
     answer = well_formed_answer Σ ok after s.well_formed s.none_left
@@ -266,7 +266,7 @@ module _ (Σ : Signature) (ok : IsSignature Σ) (W : List Block) (typed : AreTyp
         record {
           new_values = ν;
           is_ground = g;
-          is_distinct = distinct_without Σ W S w (free_variables O) ν g (free_without O);
+          is_distinct = distinct_without w (free_variables O) ν g (free_without O);
           first_stays = λ B θ z. absurd (no_first w P τ m.is_ground B θ (without nj) z);
           same = λ i B k.
               let (N, q) = free_value w P τ m.is_ground i B k (all_free P (without nj) i B k) in

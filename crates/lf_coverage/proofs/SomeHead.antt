@@ -9,7 +9,7 @@ use Rattle.lf.specs.Typing.{Signature, TypeAt, HeadHasType, HasType, SpineType, 
 use Rattle.lf.specs.Variables.{target, target_arguments, onto, binders, FamiliesIn}
 use Rattle.lf_unification.specs.Offering.{pi_over}
 use Rattle.lf.proofs.ToSkeletons.{type_by_skeletons}
-use Rattle.lf.specs.Subordination.{Block, AreTypedBlocks, IsDeclared}
+use Rattle.lf.specs.Subordination.{Block, AreTypedBlocks, SelfContained}
 use Rattle.lf.specs.Worlds.{World, lift_over, instance}
 use Rattle.lf.specs.Extension.{Extends}
 use Rattle.lf.proofs.Closed.{closed_type_substituted}
@@ -17,6 +17,7 @@ use Rattle.lf.proofs.Decidability.{variable_type_unique}
 use Rattle.lf.proofs.ExtensionTyping.{extension_keeps_contexts}
 use Rattle.lf.proofs.Regular.{head_type}
 use Rattle.lf.proofs.Conservativity.{spine_target}
+use Rattle.lf.proofs.Strength.{families_substituted}
 use Rattle.lf.proofs.Substitution.{typed_substitution_by_skeletons, constant_type, skeleton_context_of, substitution_keeps_types}
 use Rattle.lf.proofs.Target.{target_of, target_renamed}
 use Rattle.lf.proofs.TypeLaws.{skeleton_renamed, substitute_renamed_type}
@@ -27,31 +28,31 @@ use Rattle.lf_cases.specs.Cover.{place_of}
 use Rattle.lf_cases.specs.Heads.{EntryIn, HeadIsKnown}
 use Rattle.lf_checks.specs.Below.{IsSubordination}
 use Rattle.lf_cases.specs.Case.{Item, free_variable, block_variable, items_context, entries_in_front, behind_entries, as_term, IsGroundInstance}
-use Rattle.lf_cases.specs.OutputCase.{FirstInstance}
+use Rattle.lf_cases.specs.Pattern.{FirstInstance}
 use Rattle.lf_cases.specs.Split.{StandsFor, IsDistinct}
 use Rattle.lf_cases.specs.Missing.{AreTypedItems}
 use Rattle.lf_cases.specs.Candidates.{free_among, hide_all}
 use Rattle.lf_checks.specs.Marks.{output_places}
-use Rattle.lf_cases.specs.Raised.{RaisedPlaces}
+use Rattle.lf_cases.specs.Raised.{LowPlaces}
 use Rattle.lf_cases.specs.OutputGoal.{free_variables}
-use Rattle.lf_cases.specs.Reached.{arguments_count, head_items, head_spine, head_term, items_onto, with_block, taken, SplitHead, constant_head, bound_head, entry_head, new_entry_head, split_items}
+use Rattle.lf_cases.specs.Reached.{arguments_count, head_masks, head_items, head_spine, head_term, items_onto, with_block, taken, SplitHead, constant_head, bound_head, entry_head, new_entry_head, split_items}
 use Rattle.lf_cases.proofs.Assemble.{binders_typed}
 use Rattle.lf_cases.proofs.Heads.{head_known}
 use Rattle.lf_cases.proofs.Local.{binders_substituted}
 use Rattle.lf_totality.proofs.RaisedOutputs.{binders_over}
 use Rattle.lf_cases.proofs.OutputItems.{Follows, length_instance, lift_over_far}
-use Rattle.lf_coverage.specs.Heads.{ArgumentsCanBeRaised, ArgumentsAreBelow, MakesHead, result_type, term_type}
+use Rattle.lf_coverage.specs.Heads.{ArgumentsAreBelow, MakesHead, result_type, term_type}
 use Rattle.lf_coverage.proofs.GroundSkeletons.{ground_fits}
 use Rattle.lf_coverage.proofs.ResultType.{result_is}
 use Rattle.lf_coverage.proofs.Forms.{form, lambdas_substituted, lift_over_near, renaming_near, renaming_far, local_type, local_has_type, no_shift_type, far_type, far_substituted, lift_same, as_pis, pis_substituted}
 use Rattle.lf_coverage.proofs.GroundTyped.{ground_typed, items_extended}
 use Rattle.lf_coverage.proofs.HeadItems.{type_kind, outputs, count_substituted}
-use Rattle.lf_coverage.proofs.HeadRaised.{below_substituted, AllTypesIn, context_types, local_types, spine_raised, target_in}
+use Rattle.lf_coverage.proofs.HeadRaised.{below_substituted, AllTypesIn, context_types, families_within, local_types, part, part_itself, part_low, spine_low, target_in}
 use Rattle.lf_coverage.proofs.ItemsContext.{items_are_context}
 use Rattle.lf_coverage.proofs.NewBlock.{block_typed, moved_at, front_long, block_values, block_on, block_keeps}
 use Rattle.lf_coverage.proofs.Offered.{offered}
 use Rattle.lf_coverage.proofs.SameInstance.{entry_or_new, entry_has_type, front_entry}
-use Rattle.lf_coverage.proofs.Standing.{place_among}
+use Rattle.lf_cases.proofs.Instances.{place_among}
 use mathlib.Core.Path.{fun_ext}
 
 -- the value of a free variable
@@ -101,7 +102,7 @@ module _ (X : LfType) (σ : ℕ → Image) (n : ℕ) (τ : ℕ → Image) (keeps
   same_length : length (taken (rename_type (shift_by n) X)) ≡ length (taken X)
   same_length = sym (length_instance (taken (rename_type (shift_by n) X)) τ) ∙ ap length same_local ∙ length_instance (taken X) σ
 
-module _ (Σ : Signature) (ok : IsSignature Σ) (W : List Block) (typed : AreTypedBlocks Σ W) (below : ℕ → ℕ → Bool) (s : IsSubordination Σ W below) (f : ℕ) (df : IsDeclared Σ f) (I : List Item) (ti : AreTypedItems Σ W I) (x : ℕ) (X : LfType) (at : TypeAt (items_context I) x X) (fr : free_among I x ≡ true) (fams : FamiliesIn (below f) X) (args : ArgumentsAreBelow below X) (can : (J : List Item) (n : ℕ) (h : Head) (A : LfType) → SplitHead Σ W I X J n h A → ArgumentsAreBelow below A × ArgumentsCanBeRaised below (taken (rename_type (shift_by n) X)) (arguments_count A) A) (Σ' : Signature) (ext : Extends (below f) Σ Σ') (G : List LfType) (w : World Σ' W (below f) G) (σ : ℕ → Image) (g : IsGroundInstance w I σ) (d : IsDistinct w I σ g) where
+module _ (Σ : Signature) (ok : IsSignature Σ) (W : List Block) (typed : AreTypedBlocks Σ W) (below : ℕ → ℕ → Bool) (s : IsSubordination Σ W below) (Low : ℕ → Bool) (sc : SelfContained Σ W Low) (I : List Item) (ti : AreTypedItems Σ W I) (x : ℕ) (X : LfType) (at : TypeAt (items_context I) x X) (fr : free_among I x ≡ true) (fams : FamiliesIn Low X) (args : ArgumentsAreBelow below X) (can : (J : List Item) (n : ℕ) (h : Head) (A : LfType) → SplitHead Σ W I X J n h A → ArgumentsAreBelow below A) (Σ' : Signature) (ext : Extends Low Σ Σ') (G : List LfType) (w : World Σ' W Low G) (σ : ℕ → Image) (g : IsGroundInstance w I σ) (d : IsDistinct w I σ g) where
   -- one of the heads, with values that make x this head and keep those of the items
   pub record Made : Type 0 where
     pub items : List Item
@@ -115,7 +116,7 @@ module _ (Σ : Signature) (ok : IsSignature Σ) (W : List Block) (typed : AreTyp
     pub keeps : (k : ℕ) → values (k + (number + arguments_count type)) ≡ σ k
 
   typed' : AreTypedBlocks Σ' W
-  typed' B m = extension_keeps_contexts (below f) Σ Σ' ext (onto B.entries B.some) (typed B m)
+  typed' B m = extension_keeps_contexts Low Σ Σ' ext (onto B.entries B.some) (typed B m)
 
   abbrev E : List LfType
   E = instance (taken X) σ
@@ -124,10 +125,10 @@ module _ (Σ : Signature) (ok : IsSignature Σ) (W : List Block) (typed : AreTyp
   Y0 = substitute_type reduce σ X
 
   ground : IsTypedSubstitution Σ' (items_context I) G σ
-  ground = ground_typed Σ' ext.ok W typed' w I σ (items_extended (below f) Σ Σ' ext W I ti) g
+  ground = ground_typed Σ' ext.ok W typed' w I σ (items_extended Low Σ Σ' ext W I ti) g
 
   items_typed : IsContext Σ' (items_context I)
-  items_typed = items_are_context Σ' ext.ok W typed' I (items_extended (below f) Σ Σ' ext W I ti)
+  items_typed = items_are_context Σ' ext.ok W typed' I (items_extended Low Σ Σ' ext W I ti)
 
   local_is : binders G Y0 ≡ onto E G
   local_is = binders_substituted X σ G
@@ -138,16 +139,18 @@ module _ (Σ : Signature) (ok : IsSignature Σ) (W : List Block) (typed : AreTyp
   local_context : IsContext Σ' (onto E G)
   local_context = subst (IsContext Σ') local_is (binders_typed Σ' ext.ok Y0 G (world_is_context w) type_typed)
 
-  types_in : AllTypesIn Σ W below s f df Σ' ext (onto E G)
-  types_in = subst (AllTypesIn Σ W below s f df Σ' ext) local_is (local_types Σ W below s f df Σ' ext Y0 G (below_substituted below σ X args) (context_types Σ W below s f df Σ' ext w))
+  types_in : AllTypesIn Σ W below s Low sc Σ' ext (onto E G)
+  types_in = subst (AllTypesIn Σ W below s Low sc Σ' ext) local_is (local_types Σ W below s Low sc Σ' ext Y0 G (families_substituted Low reduce σ X fams) (below_substituted below σ X args) (context_types Σ W below s Low sc Σ' ext w))
 
-  target_below : below f (target X) ≡ true
-  target_below = target_in (below f) X fams
+  target_below : Low (target X) ≡ true
+  target_below = target_in Low X fams
 
   -- the families of the type of a head
-  head_families : (h : Head) (Y : LfType) → HeadHasType Σ' (onto E G) h Y → target Y ≡ target X → FamiliesIn (below f) Y
-  head_families (constant k) Y e t = (s.self_contained f df).types_in k Y (ext.no_new k Y e (ap (below f) t ∙ target_below)) (ap (below f) t ∙ target_below)
-  head_families (variable i) Y k t = types_in f (s.itself f) i Y k (ap (below f) t ∙ target_below)
+  head_families : (h : Head) (Y : LfType) → HeadHasType Σ' (onto E G) h Y → target Y ≡ target X → FamiliesIn Low Y
+  head_families (constant k) Y e t = sc.types_in k Y (ext.no_new k Y e (ap Low t ∙ target_below)) (ap Low t ∙ target_below)
+  head_families (variable i) Y k t =
+      let g : ℕ = target X in
+      families_within (part Σ W below s Low sc Σ' ext g) Low (part_low Σ W below s Low sc Σ' ext g) Y (types_in g target_below i Y k (ap (part Σ W below s Low sc Σ' ext g) t ∙ part_itself Σ W below s Low sc Σ' ext g target_below))
   head_families (metavariable m) Y e t = absurd e
 
   module _ (N : Term) (T V : Spine) (h0 : Head) (v_is : V ≡ target_arguments Y0) (at_x : σ x ≡ put (skeleton X) N) (form_is : N ≡ lambdas (length (taken X)) (root h0 T)) (root_typed : HasType Σ' (onto E G) (root h0 T) (atom (target X) V)) where
@@ -161,19 +164,20 @@ module _ (Σ : Signature) (ok : IsSignature Σ) (W : List Block) (typed : AreTyp
         let (Z, hz, st) = root_typed in
         let st' : SpineType Σ' (onto E G) T Y (atom (target X) V) = subst (λ B. SpineType Σ' (onto E G) T B (atom (target X) V)) (head_same Σ' (onto E G) h0 Z Y hz hh) st in
         let tg : target Y ≡ target X = spine_target Σ' (onto E G) T Y (atom (target X) V) st' in
-        let (ba, ca) = can J n h A sh in
+        let ba = can J n h A sh in
         let sl : instance D τ ≡ E = same_local X σ n τ keeps in
-        let r : RaisedPlaces Σ' below G E (output_places (outputs c)) T (type_kind Y) = spine_raised Σ W below s f df Σ' ext E G local_context types_in c T Y (target X) V (head_families h0 Y hh tg) (below_substituted below (lift_over D τ) A ba) (head_type Σ' ext.ok (onto E G) h0 Y local_context hh) st' (count_substituted (lift_over D τ) A) in
+        let r : LowPlaces below E (output_places (outputs c)) T (type_kind Y) = spine_low Σ W below s Low sc Σ' ext E G local_context types_in c T Y (target X) V (head_families h0 Y hh tg) (below_substituted below (lift_over D τ) A ba) (head_type Σ' ext.ok (onto E G) h0 Y local_context hh) st' (count_substituted (lift_over D τ) A) in
         let gt : IsTypedSubstitution Σ' (items_context J) G τ = ground_typed Σ' ext.ok W typed' w J τ tj gJ in
-        let (φ, gφ, fo', keeps', args) = offered Σ' ext.ok below w D A J τ gJ (typed_substitution_by_skeletons Σ' ext.ok (items_context J) G τ gt) ta ca T (target X) V (subst (λ L. SpineType Σ' (onto L G) T Y (atom (target X) V)) (sym sl) st') (subst (λ L. RaisedPlaces Σ' below G L (output_places (outputs c)) T (type_kind Y)) (sym sl) r) in
+        let (φ, gφ, fo', keeps', args) = offered Σ' ext.ok below w D A J τ gJ (typed_substitution_by_skeletons Σ' ext.ok (items_context J) G τ gt) ta (subst (λ L. IsContext Σ' (onto L G)) (sym sl) local_context) (subst (λ L. IsType Σ' (onto L G) Y) (sym sl) (head_type Σ' ext.ok (onto E G) h0 Y local_context hh)) T (target X) V (subst (λ L. SpineType Σ' (onto L G) T Y (atom (target X) V)) (sym sl) st') (subst (λ L. LowPlaces below L (output_places (outputs c)) T (type_kind Y)) (sym sl) r) in
         let all : (k : ℕ) → φ (k + (n + c)) ≡ σ k = λ k. ap φ (sums k n c) ∙ keeps' (k + n) ∙ keeps k in
         let ρ : Head = rename_head (lift_renaming_by (length D) (shift_by c)) h in
-        let right : substitute reduce φ (head_term below D h A) ≡ N = lambdas_substituted D φ (root ρ (head_spine below D A)) ∙ ap (lambdas (length D)) (under φ keeps' (head_spine below D A) ∙ ap (root h0) (sym args)) ∙ ap (λ l. lambdas l (root h0 T)) (same_length X σ n τ keeps) ∙ sym form_is in
+        let ks : List (List Bool) = head_masks below D c A in
+        let right : substitute reduce φ (head_term below D h A) ≡ N = lambdas_substituted D φ (root ρ (head_spine ks D A)) ∙ ap (lambdas (length D)) (under φ keeps' (head_spine ks D A) ∙ ap (root h0) (sym args)) ∙ ap (λ l. lambdas l (root h0 T)) (same_length X σ n τ keeps) ∙ sym form_is in
         let X2 : LfType = rename_type (shift_by (n + c)) X in
         let left : substitute_type reduce φ X2 ≡ Y0 = same_type X σ (n + c) φ all in
-        let res : substitute_type reduce (lift_over D φ) (result_type below D c A) ≡ atom (target X) V = result_is Σ' below G c D A J refl φ (ground_fits Σ' ext.ok w (head_items below D c A J) φ gφ) (type_by_skeletons Σ' (onto D (items_context J)) A ta) T (target X) V (subst (λ f. SpineType Σ' (onto (instance D f) G) T (substitute_type reduce (lift_over D f) A) (atom (target X) V)) (sym (fun_ext keeps')) (subst (λ L. SpineType Σ' (onto L G) T Y (atom (target X) V)) (sym sl) st')) args in
+        let res : substitute_type reduce (lift_over D φ) (result_type ks D c A) ≡ atom (target X) V = result_is Σ' ks G c D A J refl φ (ground_fits Σ' ext.ok w (head_items ks D c A J) φ gφ) (type_by_skeletons Σ' (onto D (items_context J)) A ta) T (target X) V (subst (λ f. SpineType Σ' (onto (instance D f) G) T (substitute_type reduce (lift_over D f) A) (atom (target X) V)) (sym (fun_ext keeps')) (subst (λ L. SpineType Σ' (onto L G) T Y (atom (target X) V)) (sym sl) st')) args in
         let ll : length (taken X2) ≡ length D = same_length X σ (n + c) φ all ∙ sym (same_length X σ n τ keeps) in
-        let types : substitute_type reduce φ X2 ≡ substitute_type reduce φ (term_type below X n A) = left ∙ as_pis Y0 [] ∙ ap₂ (λ L Z. pi_over L Z) (ap (binders []) (sym left) ∙ sym (taken_is X σ (n + c) φ all φ X2)) (ap₂ atom (target_of reduce σ X) (sym v_is) ∙ sym res ∙ ap (λ f. substitute_type reduce f (result_type below D c A)) (lift_same D (taken X2) φ (sym ll))) ∙ sym (pis_substituted φ (taken X2) (result_type below D c A)) in
+        let types : substitute_type reduce φ X2 ≡ substitute_type reduce φ (term_type below X n A) = left ∙ as_pis Y0 [] ∙ ap₂ (λ L Z. pi_over L Z) (ap (binders []) (sym left) ∙ sym (taken_is X σ (n + c) φ all φ X2)) (ap₂ atom (target_of reduce σ X) (sym v_is) ∙ sym res ∙ ap (λ f. substitute_type reduce f (result_type ks D c A)) (lift_same D (taken X2) φ (sym ll))) ∙ sym (pis_substituted φ (taken X2) (result_type ks D c A)) in
         record {
           items = J;
           number = n;
@@ -206,7 +210,7 @@ module _ (Σ : Signature) (ok : IsSignature Σ) (W : List Block) (typed : AreTyp
     constant_case k U q e t =
         let D : List LfType = taken (rename_type (shift_by 0) X) in
         let e' : Σ'.types k ≡ Some U = ext.types_stay k U e in
-        finish I 0 σ g follows_itself same_zero (items_extended (below f) Σ Σ' ext W I ti) (constant k) U (constant_head k U e t) (constant_type Σ' ext.ok (onto D (items_context I)) k U e')
+        finish I 0 σ g follows_itself same_zero (items_extended Low Σ Σ' ext W I ti) (constant k) U (constant_head k U e t) (constant_type Σ' ext.ok (onto D (items_context I)) k U e')
         (subst (λ h. HeadHasType Σ' (onto E G) h (substitute_type reduce (lift_over D σ) U)) (sym q) (subst (λ Y. Σ'.types k ≡ Some Y) (sym (closed_type_substituted Σ' reduce (lift_over D σ) U (constant_type Σ' ext.ok [] k U e'))) e'))
         (λ φ z S. ap (λ h. root h (substitute_spine reduce (lift_over D φ) S)) (sym q))
 
@@ -223,7 +227,7 @@ module _ (Σ : Signature) (ok : IsSignature Σ) (W : List Block) (typed : AreTyp
         let t : target A ≡ target X = sym (target_of reduce (lift_over D σ) A) ∙ ap target (sym same) ∙ spine_target Σ' (onto E G) T Z (atom (target X) V) st in
         let kb : TypeAt (binders C X) i A = subst (λ L. TypeAt L i A) (sym (binders_over [] X C)) k in
         let ct : IsContext Σ' (onto D C) = subst (IsContext Σ') (binders_over [] X C) (binders_typed Σ' ext.ok X C items_typed (declared_is_type Σ' ext.ok C x X items_typed at)) in
-        finish I 0 σ g follows_itself same_zero (items_extended (below f) Σ Σ' ext W I ti) (variable i) A (bound_head i A l' kb t)
+        finish I 0 σ g follows_itself same_zero (items_extended Low Σ Σ' ext W I ti) (variable i) A (bound_head i A l' kb t)
         (subst (λ L. IsType Σ' (onto L C) A) (sym taken_zero) (declared_is_type Σ' ext.ok (onto D C) i A ct k))
         (subst (λ h. HeadHasType Σ' (onto E G) h (substitute_type reduce (lift_over (taken (rename_type (shift_by 0) X)) σ) A)) (sym q) (subst (λ L. TypeAt (onto E G) i (substitute_type reduce (lift_over L σ) A)) (sym taken_zero) here))
         (λ φ z S. let L : List LfType = taken (rename_type (shift_by 0) X) in let l2 : i < length L = subst (λ n. i < n) (ap length (sym taken_zero)) l' in
@@ -271,9 +275,9 @@ module _ (Σ : Signature) (ok : IsSignature Σ) (W : List Block) (typed : AreTyp
             none k = omega arith
 
         by : ((j : ℕ) × (A : LfType) × TypeAt (items_context I) j A × (free_among I j ≡ false) × (σ j ≡ keep v)) ⊎ (StandsFor w I σ g B θ → ⊥) → Made
-        by (inl (j, A, k, nf, pj)) = entry_case v q I 0 σ g follows_itself same_zero (items_extended (below f) Σ Σ' ext W I ti) (same_place x X at) j A k pj (λ u. entry_head j A k nf u)
+        by (inl (j, A, k, nf, pj)) = entry_case v q I 0 σ g follows_itself same_zero (items_extended Low Σ Σ' ext W I ti) (same_place x X at) j A k pj (λ u. entry_head j A k nf u)
         by (inr new) =
-            let ti' : AreTypedItems Σ' W I = items_extended (below f) Σ Σ' ext W I ti in
+            let ti' : AreTypedItems Σ' W I = items_extended Low Σ Σ' ext W I ti in
             let (h, fo) = block_on Σ' ext.ok W typed' w B m θ i I σ g new in
             let (A, k) = entry_has_type B.entries keep (items_context (items_onto (free_variables B.some) I)) (place_of later) a in
             entry_case v q (with_block B I) (length B.some + length B.entries) (block_values Σ' ext.ok W typed' w B θ σ) h fo (block_keeps Σ' ext.ok W typed' w B θ σ) (block_typed Σ' ext.ok W typed' B m I ti') (moved_at B I x X at) (place_of later) A k (front_entry B.entries θ (front_long B.some (behind_entries B.entries θ) σ) (place_of later) a ∙ p) (λ u. new_entry_head B (place_of later) A m (among_less B.entries (place_of later) a) k u)
@@ -293,4 +297,4 @@ module _ (Σ : Signature) (ok : IsSignature Σ) (W : List Block) (typed : AreTyp
       let tx : target Y0 ≡ target X = target_of reduce σ X in
       let r' : HasType Σ' (onto E G) (root h0 T) (atom (target X) V) = subst (λ t. HasType Σ' (onto E G) (root h0 T) (atom t V)) tx (subst (λ C. HasType Σ' C (root h0 T) (atom (target Y0) V)) local_is r) in
       let l : length (binders [] Y0) ≡ length (taken X) = ap length (binders_substituted X σ [] ∙ onto_nothing E) ∙ length_instance (taken X) σ in
-      by_head N T V h0 refl p (e ∙ ap (λ n. lambdas n (root h0 T)) l) r' (head_known Σ Σ' W (below f) ext G E w h0 T (target X) V target_below r')
+      by_head N T V h0 refl p (e ∙ ap (λ n. lambdas n (root h0 T)) l) r' (head_known Σ Σ' W Low ext G E w h0 T (target X) V target_below r')

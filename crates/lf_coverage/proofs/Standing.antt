@@ -1,20 +1,19 @@
 -- What stands outside a clause in a case stands so in each ground instance of the case: a block variable stands for an instance.
 use Rattle.std.proofs.Common.{◌≡◌, ℕ, zero, suc, List, [], ◌∷◌, length, inl, inr, refl, sym, ap, ap₂, ◌∙◌, subst}
-use Rattle.std.specs.Prelude.{Bool, true}
-use Rattle.lf.specs.Syntax.{Head, constant, variable, LfType, skeleton, weaken}
+use Rattle.std.specs.Prelude.{Bool}
+use Rattle.lf.specs.Syntax.{LfType, skeleton, weaken}
 use Rattle.lf.specs.Substitution.{Image, keep, put, rename_image, substitute, substitute_image, reduce, after}
 use Rattle.lf.specs.AtOnce.{shift_by}
 use Rattle.lf.specs.Typing.{Signature, TypeAt, ImageHasType, IsTypedSubstitution, IsSignature}
 use Rattle.lf.specs.Variables.{onto}
 use Rattle.lf.specs.Subordination.{Block}
 use Rattle.lf.specs.Worlds.{World, lift_over}
-use Rattle.lf.specs.Extension.{Extends}
 use Rattle.lf.proofs.Renaming.{substitute_renamed}
 use Rattle.lf.proofs.TypeLaws.{skeleton_renamed, substitute_renamed_type}
-use Rattle.lf_checks.specs.Clause.{Clause, among, IsClause, from_constant, from_entry, entry_clause}
-use Rattle.lf_cases.specs.Cover.{InstanceIn, Offered, by_constant, by_entry, before, place_of, AgreesOutside}
+use Rattle.lf_checks.specs.Clause.{Clause, entry_clause}
+use Rattle.lf_cases.specs.Cover.{InstanceIn, before, AgreesOutside}
 use Rattle.lf_cases.specs.Case.{Item, free_variable, block_variable, entries_in_front, behind_entries, as_term, IsGroundInstance}
-use Rattle.lf_cases.specs.Missing.{BlockAmong, StandsAmong}
+use Rattle.lf_cases.specs.Missing.{BlockAmong}
 use Rattle.lf_cases.proofs.BlockEntries.{onto_onto}
 use Rattle.lf_totality.proofs.Core.{out_index, outer_at}
 use Rattle.lf_cases.proofs.Instances.{instance_typed}
@@ -73,10 +72,6 @@ before_typed : (Σ : Signature) (G later : List LfType) (E : LfType) (C : List L
 before_typed Σ G [] E C θ t = behind_one Σ C G E θ t
 before_typed Σ G (D ∷ ds) E C θ t = before_typed Σ G ds E C (λ i. θ (suc i)) (behind_one Σ (onto ds (E ∷ C)) G D θ t)
 
-pub place_among : (later : List LfType) (E : LfType) (es : List LfType) → among (onto later (E ∷ es)) (place_of later) ≡ true
-place_among [] E es = refl
-place_among (D ∷ later) E es = place_among later E es
-
 -- What stands outside a clause in the context of a ground instance: typed, and the same, as terms, as what the values of the clause give.
 pub record Outer (Σ : Signature) (G : List LfType) (c : Clause) (σ τ outer : ℕ → Image) : Type 0 where
   pub typed : IsTypedSubstitution Σ c.outer G outer
@@ -96,17 +91,3 @@ entry_outer Σ ok {G = G} w B later E es q σ τ θ φ i h agrees =
           ∙ ap (λ a. as_term a (φ (entry_index later k))) f
           ∙ ap (as_term (skeleton X)) (sym (before_is later φ k));
     }
-
--- The clause is offered with it.
-pub record IsOffered {Σ : Signature} {W : List Block} {S : ℕ → Bool} {G : List LfType} (w : World Σ W S G) (c : Clause) (σ τ : ℕ → Image) : Type 0 where
-  pub head : Head
-  pub outer : ℕ → Image
-  pub stands : Outer Σ G c σ τ outer
-  pub offered : Offered w head c outer
-
-pub stands_so : (S : ℕ → Bool) (Σ Σ' : Signature) → Extends S Σ Σ' → {W : List Block} {G : List LfType} (w : World Σ' W S G) (I : List Item) (σ : ℕ → Image) → IsGroundInstance w I σ → (c : Clause) (d : IsClause Σ W c) (τ : ℕ → Image) → StandsAmong d I τ → IsOffered w c σ τ
-stands_so S Σ Σ' x w I σ g c (from_constant k U e) τ s = record { head = constant k; outer = keep; stands = record { typed = λ i A h. absurd h; same = λ i X h. absurd h }; offered = by_constant k U (x.types_stay k U e) }
-stands_so S Σ Σ' x w I σ g c (from_entry B later E es m q) τ (θ, b, agrees) =
-    let (φ, i, h) = stood w I σ g B θ b in
-    let (j, e) = (instance_typed Σ' x.ok w B φ i).kept (place_of later) (ap (λ D. among D (place_of later)) (sym q) ∙ place_among later E es) in
-    record { head = variable j; outer = before later φ; stands = entry_outer Σ' x.ok w B later E es q σ τ θ φ i h agrees; offered = by_entry B later E es φ j m q i e }

@@ -32,7 +32,7 @@ use Rattle.lf_unification.proofs.EquationLemmas.{spine_solves}
 use Rattle.lf_unification.proofs.Raise.{fill_pis}
 use Rattle.lf_cases.specs.Case.{Item, items_context, as_term, IsGroundInstance}
 use Rattle.lf_cases.specs.Missing.{AreTypedItems}
-use Rattle.lf_cases.specs.Reached.{arguments_count, head_term, taken, SplitHead, split_items}
+use Rattle.lf_cases.specs.Reached.{arguments_count, head_masks, head_term, taken, SplitHead, split_items}
 use Rattle.lf_cases.proofs.LongValues.{long_at, long_same, term_typed}
 use Rattle.lf_coverage.specs.Heads.{MakesHead, result_type, term_type}
 use Rattle.lf_coverage.specs.SplitStore.{open_term, open_spine, open_type, open_locals, type_in, open_some, weaken_some, context_metavariables, split_store, AllFamiliesIn}
@@ -253,11 +253,12 @@ makes_solution Σ ok W typed below S sc I x X J n h A K at sh ta aj fam Σ' e G 
     let ct : IsContext Σ C = items_are_context Σ ok W typed P aj in
     let mt : TermSkeleton κ (context_skeletons C) M (skeleton X) = more Σ Σ' S e (context_skeletons C) M (skeleton X) (term_fits Σ W below I X J n h A sh) in
     let lt : TermSkeleton κ (context_skeletons C) (eta_long (skeleton X) (variable x')) (skeleton X) = eta_expand_has_skeleton κ (skeleton X) (skeleton X) (context_skeletons C) (variable x') nil (subst (SkeletonAt (context_skeletons C) x') (skeleton_renamed (shift_by (n + c)) X) (variable_has_skeleton C x' X' at)) refl in
-    let R : LfType = result_type below (taken (rename_type (shift_by n) X)) c A in
-    let fa : R ≡ atom (target A) (target_arguments R) = result_atom Σ below c (taken (rename_type (shift_by n) X)) A refl in
+    let ks : List (List Bool) = head_masks below (taken (rename_type (shift_by n) X)) c A in
+    let R : LfType = result_type ks (taken (rename_type (shift_by n) X)) c A in
+    let fa : R ≡ atom (target A) (target_arguments R) = result_atom Σ ks c (taken (rename_type (shift_by n) X)) A refl in
     let ft : R ≡ atom (target X') (target_arguments R) = fa ∙ ap (λ b. atom b (target_arguments R)) (head_target Σ W below I X J n h A sh ∙ sym (target_renamed (shift_by (n + c)) X)) in
     let kx : TypeBySkeletons (family_skeletons Σ') κ (context_skeletons C) X' = type_by_skeletons Σ' C X' (extension_keeps_types S Σ Σ' e C X' (declared_is_type Σ ok C x' X' ct at)) in
-    let kr : TypeBySkeletons (family_skeletons Σ') κ (context_skeletons (onto D C)) R = subst (λ Γ. TypeBySkeletons (family_skeletons Σ') κ Γ R) (taken_skeletons (shift_by n) (shift_by (n + c)) X C) (result_by_skeletons Σ' below c (taken (rename_type (shift_by n) X)) A J (type_by_skeletons Σ' (onto (taken (rename_type (shift_by n) X)) (items_context J)) A (extension_keeps_types S Σ Σ' e (onto (taken (rename_type (shift_by n) X)) (items_context J)) A ta))) in
+    let kr : TypeBySkeletons (family_skeletons Σ') κ (context_skeletons (onto D C)) R = subst (λ Γ. TypeBySkeletons (family_skeletons Σ') κ Γ R) (taken_skeletons (shift_by n) (shift_by (n + c)) X C) (result_by_skeletons Σ' ks c (taken (rename_type (shift_by n) X)) A J (type_by_skeletons Σ' (onto (taken (rename_type (shift_by n) X)) (items_context J)) A (extension_keeps_types S Σ Σ' e (onto (taken (rename_type (shift_by n) X)) (items_context J)) A ta))) in
     let kt : TypeBySkeletons (family_skeletons Σ') κ (context_skeletons C) (term_type below X n A) = pis_by_skeletons (family_skeletons Σ') κ C D (atom (target X') (target_arguments X')) R (subst (TypeBySkeletons (family_skeletons Σ') κ (context_skeletons C)) (as_pis X' []) kx) kr in
     let first : fill ν β (open_term zero (eta_long (skeleton X) (variable x'))) ≡ fill ν β (open_term zero M) =
     term_filled Σ ok W typed S sc P aj fam Σ' e G w τ m.is_ground (eta_long (skeleton X) (variable x')) (skeleton X) lt

@@ -1,13 +1,13 @@
 -- What a case holds, one that comes of it by values holds too.
 use Rattle.std.proofs.Common.{◌≡◌, ℕ, zero, suc, List, [], ◌∷◌, ◌+◌, length, inl, inr, refl, sym, ap, ap₂, ◌∙◌, subst, arith}
-use Rattle.std.specs.Prelude.{Bool, true, Option, Some, None}
+use Rattle.std.specs.Prelude.{Bool, Option, Some, None}
 use Rattle.lf.specs.Syntax.{constant, variable, metavariable, Term, Spine, lambda, root, nil, app, LfType, pi, atom, Skeleton, base, arrow, skeleton, rename_type, lift_renaming}
 use Rattle.lf.specs.Substitution.{Image, keep, put, rename_image, apply_image, lift, substitute, substitute_spine, reduce, after}
 use Rattle.lf.specs.SkeletonTyping.{HeadSkeletons, SkeletonAt, ImageSkeleton, TermSkeleton, SpineSkeleton, SubstitutionBySkeletons}
 use Rattle.lf.specs.Skeletons.{constant_skeletons, context_skeletons, type_skeleton}
 use Rattle.lf.specs.AtOnce.{in_front, shift_by}
 use Rattle.lf.specs.Typing.{Signature, TypeAt, instantiate_type}
-use Rattle.lf.specs.Variables.{target, onto}
+use Rattle.lf.specs.Variables.{onto}
 use Rattle.lf.specs.Subordination.{Block}
 use Rattle.lf.specs.Worlds.{lift_over, instance}
 use Rattle.lf.proofs.Composition.{substitutions_compose, after_lift}
@@ -16,11 +16,12 @@ use Rattle.lf.proofs.Substitution.{typed_substitution_by_skeletons}
 use Rattle.lf.proofs.ToSkeletons.{typed_has_skeleton}
 use Rattle.lf.proofs.TypeLaws.{skeleton_substituted}
 use Rattle.lf_cases.specs.Case.{Item, free_variable, block_variable, items_context, entries_in_front, HasArguments}
-use Rattle.lf_cases.specs.OutputCase.{given_at, HasGiven}
+use Rattle.lf_cases.specs.Pattern.{given_at, HasGiven}
 use Rattle.lf_cases.specs.OutputGoal.{renumber, over_item, raised_variable}
-use Rattle.lf_cases.specs.Raised.{raise_type}
+use Rattle.lf_cases.specs.Raised.{raise_by, first_mask, other_masks}
 use Rattle.lf_cases.specs.Missing.{AreTypedItems, BlockAmong, IsTypedInstance}
-use Rattle.lf_cases.specs.Reached.{arguments_count, head_items, put_in}
+use Rattle.lf_cases.specs.Missing.{put_in}
+use Rattle.lf_cases.specs.Reached.{arguments_count, head_items}
 use Rattle.lf_cases.proofs.OutputItems.{lifted, length_instance}
 use Rattle.lf_coverage.specs.Heads.{HaveSkeletons}
 use Rattle.lf_coverage.proofs.HeadItems.{count_substituted}
@@ -67,7 +68,7 @@ module _ (Σ : Signature) (C J G : List LfType) (σ ρ τ : ℕ → Image) (fσ 
   twice : (L : List LfType) (M : Term) (t : Skeleton) → TermSkeleton (constant_skeletons Σ) (context_skeletons (onto L C)) M t → substitute reduce (lift_over L τ) M ≡ substitute reduce (lift_over L ρ) (substitute reduce (lift_over L σ) M)
   twice L M t m =
       same_in (constant_skeletons Σ) (context_skeletons (onto L C)) (lift_over L τ) (lift_over L (after ρ σ)) (same_over L C τ (after ρ σ) same) M t m
-      ∙ sym (substitutions_compose (constant_skeletons Σ) (context_skeletons (onto L C)) (context_skeletons (onto (instance L σ) J)) (context_skeletons (onto (instance (instance L σ) ρ) G)) (lift_over L σ) (lift_over L ρ) M t (lifted Σ (λ a b. true) L C J σ fσ) (subst (SubstitutionBySkeletons (constant_skeletons Σ) (context_skeletons (onto (instance L σ) J)) (context_skeletons (onto (instance (instance L σ) ρ) G))) (lift_instance L σ ρ) (lifted Σ (λ a b. true) (instance L σ) J G ρ fρ)) m
+      ∙ sym (substitutions_compose (constant_skeletons Σ) (context_skeletons (onto L C)) (context_skeletons (onto (instance L σ) J)) (context_skeletons (onto (instance (instance L σ) ρ) G)) (lift_over L σ) (lift_over L ρ) M t (lifted Σ L C J σ fσ) (subst (SubstitutionBySkeletons (constant_skeletons Σ) (context_skeletons (onto (instance L σ) J)) (context_skeletons (onto (instance (instance L σ) ρ) G))) (lift_instance L σ ρ) (lifted Σ (instance L σ) J G ρ fρ)) m
       ∙ ap (λ f. substitute reduce f M) (after_over L σ ρ))
 
   pub arguments_held : (L : List LfType) (Ms : List (Option Term)) (T : Spine) → HaveSkeletons (constant_skeletons Σ) (context_skeletons (onto L C)) Ms → HasArguments (lift_over L τ) Ms T → HasArguments (lift_over L ρ) (put_in (lift_over L σ) Ms) T
@@ -116,7 +117,7 @@ module _ (Σ : Signature) (ok : Rattle.lf.specs.Typing.IsSignature Σ) (W : List
     where
       one : (i : ℕ) → suc i ≡ i + 1
       one i = omega arith
-  among_fits (block_variable C υ ∷ J) (a, m, v) B θ (inl (e, p)) = subst (λ D. SubstitutionBySkeletons (constant_skeletons Σ) (context_skeletons (onto D.entries D.some)) (context_skeletons (onto (instance C.entries υ) (items_context J))) θ) e (subst (SubstitutionBySkeletons (constant_skeletons Σ) (context_skeletons (onto C.entries C.some)) (context_skeletons (onto (instance C.entries υ) (items_context J)))) (sym p) (lifted Σ (λ x y. true) C.entries C.some (items_context J) υ (typed_substitution_by_skeletons Σ ok C.some (items_context J) υ (λ i A g. v.typed i A g refl))))
+  among_fits (block_variable C υ ∷ J) (a, m, v) B θ (inl (e, p)) = subst (λ D. SubstitutionBySkeletons (constant_skeletons Σ) (context_skeletons (onto D.entries D.some)) (context_skeletons (onto (instance C.entries υ) (items_context J))) θ) e (subst (SubstitutionBySkeletons (constant_skeletons Σ) (context_skeletons (onto C.entries C.some)) (context_skeletons (onto (instance C.entries υ) (items_context J)))) (sym p) (lifted Σ C.entries C.some (items_context J) υ (typed_substitution_by_skeletons Σ ok C.some (items_context J) υ (λ i A g. v.typed i A g refl))))
   among_fits (block_variable C υ ∷ J) (a, m, v) B θ (inr (τ, b, e)) = subst (SubstitutionBySkeletons (constant_skeletons Σ) (context_skeletons (onto B.entries B.some)) (context_skeletons (onto (instance C.entries υ) (items_context J)))) (sym e) (λ i u g. moved_fits (constant_skeletons Σ) (context_skeletons (items_context J)) (context_skeletons (onto (instance C.entries υ) (items_context J))) (length C.entries) (λ k t h. subst (λ n. SkeletonAt (context_skeletons (onto (instance C.entries υ) (items_context J))) (k + n) t) (length_instance C.entries υ) (onto_skeleton (instance C.entries υ) (items_context J) k t h)) (τ i) u (among_fits J a B τ b i u g))
 
   front_fits : (ds O C : List LfType) (Δ : List Skeleton) (υ θ τ : ℕ → Image) → SubstitutionBySkeletons (constant_skeletons Σ) (context_skeletons (onto ds O)) Δ θ → SubstitutionBySkeletons (constant_skeletons Σ) (context_skeletons C) Δ τ → SubstitutionBySkeletons (constant_skeletons Σ) (context_skeletons (onto (instance ds υ) C)) Δ (entries_in_front ds θ τ)
@@ -134,20 +135,20 @@ module _ (Σ : Signature) (ok : Rattle.lf.specs.Typing.IsSignature Σ) (W : List
   instance_fits K a (block_variable B υ ∷ I) σ (θ, τ, i, b, q, e) = subst (SubstitutionBySkeletons (constant_skeletons Σ) (context_skeletons (onto (instance B.entries υ) (items_context I))) (context_skeletons (items_context K))) (sym e) (front_fits B.entries B.some (items_context I) (context_skeletons (items_context K)) υ θ τ (among_fits K a B θ b) (instance_fits K a I τ i))
 
 -- The items of a case stand behind those of a head.
-pub behind_head : (below : ℕ → ℕ → Bool) (D : List LfType) (n : ℕ) (A : LfType) (I : List Item) → arguments_count A ≡ n → (i : ℕ) (t : Skeleton) → SkeletonAt (context_skeletons (items_context I)) i t → SkeletonAt (context_skeletons (items_context (head_items below D n A I))) (i + n) t
-behind_head below D zero A I e i t g = subst (λ k. SkeletonAt (context_skeletons (items_context I)) k t) (none i) g
+pub behind_head : (ks : List (List Bool)) (D : List LfType) (n : ℕ) (A : LfType) (I : List Item) → arguments_count A ≡ n → (i : ℕ) (t : Skeleton) → SkeletonAt (context_skeletons (items_context I)) i t → SkeletonAt (context_skeletons (items_context (head_items ks D n A I))) (i + n) t
+behind_head ks D zero A I e i t g = subst (λ k. SkeletonAt (context_skeletons (items_context I)) k t) (none i) g
   where
     none : (i : ℕ) → i ≡ i + 0
     none i = omega arith
-behind_head below D (suc n) (atom a S) I e i t g = absurd (no e)
+behind_head ks D (suc n) (atom a S) I e i t g = absurd (no e)
   where
     no : zero ≡ suc n → ⊥
     no e = omega arith
-behind_head below D (suc n) (pi A B) I e i t g =
-    let N : Term = raised_variable (below (target A)) D A zero in
+behind_head ks D (suc n) (pi A B) I e i t g =
+    let N : Term = raised_variable (first_mask ks) D A zero in
     let ρ : ℕ → ℕ = lift_renaming (over_item D) in
     let B' : LfType = instantiate_type A N (rename_type ρ B) in
-    subst (λ k. SkeletonAt (context_skeletons (items_context (head_items below (renumber suc D) n B' (free_variable (raise_type (below (target A)) D A) ∷ I)))) k t) (next i n) (behind_head below (renumber suc D) n B' (free_variable (raise_type (below (target A)) D A) ∷ I) (count_substituted (Rattle.lf.specs.Substitution.single (skeleton A) N) (rename_type ρ B) ∙ count_renamed ρ B ∙ suc_same e) (suc i) t g)
+    subst (λ k. SkeletonAt (context_skeletons (items_context (head_items (other_masks ks) (renumber suc D) n B' (free_variable (raise_by (first_mask ks) D A) ∷ I)))) k t) (next i n) (behind_head (other_masks ks) (renumber suc D) n B' (free_variable (raise_by (first_mask ks) D A) ∷ I) (count_substituted (Rattle.lf.specs.Substitution.single (skeleton A) N) (rename_type ρ B) ∙ count_renamed ρ B ∙ suc_same e) (suc i) t g)
   where
     next : (i n : ℕ) → suc i + n ≡ i + suc n
     next i n = omega arith

@@ -1,11 +1,12 @@
 -- A split on which unification answers is a split by heads.
-use Rattle.std.proofs.Common.{ℕ, ◌+◌, List}
-use Rattle.lf.specs.Syntax.{Head, LfType}
-use Rattle.lf_cases.specs.Case.{Item}
-use Rattle.lf_cases.specs.Reached.{arguments_count, SplitHead}
-use Rattle.lf_coverage.specs.Heads.{IsAnswered, gives_case, gives_none}
-use Rattle.lf_coverage.specs.SplitStore.{solved_case}
-use Rattle.lf_coverage.specs.UnifiedSplit.{UnificationAnswers, answers_never, answers_solved}
+use Rattle.std.proofs.Common.{List, inl, inr, refl, sym, subst}
+use Rattle.std.specs.Prelude.{Option, Some, None}
+use Rattle.lf.specs.Subordination.{Member}
+use Rattle.lf_cases.specs.Case.{Case}
+use Rattle.lf_cases.specs.Reached.{SplitHead}
+use Rattle.lf_coverage.specs.HeadOrder.{Offer}
+use Rattle.lf_coverage.specs.Heads.{Listed, no_offer, with_case, without_case, GivesCase, HeadAnswer}
+use Rattle.lf_coverage.specs.UnifiedSplit.{UnifierAnswer}
 use Rattle.lf_coverage.specs.Laws.{UnifiedSplitIsHeadSplit, SolvedGivesCase, NeverGivesNone}
 use Rattle.lf_coverage.proofs.SolvedCase.{never_gives_none, solved_gives_case}
 
@@ -22,10 +23,18 @@ unified_split Σ ok W typed below S sc C tc x Cs u = record {
   is_free = u.is_free;
   families = u.families;
   takes_below = u.takes_below;
-  can_be_offered = u.can_be_offered;
-  answered = λ J n h A sh. by J n h A sh (u.answers J n h A sh);
+  offers = u.offers;
+  are_offers = u.are_offers;
+  in_order = u.in_order;
+  arguments_below = u.arguments_below;
+  listed = by (λ h m. u.are_offers.each h m) u.listed;
 }
   where
-    by : (J : List Item) (n : ℕ) (h : Head) (A : LfType) → SplitHead Σ W C.items u.type J n h A → UnificationAnswers Σ W S below C x u.type Cs J n h A → IsAnswered Σ W S below C x u.type Cs J n h A
-    by J n h A sh (answers_never K e nj never) = let (aj, fam) = u.offered_typed J n h A sh in gives_none (never_gives_none Σ ok W typed below S sc C.items tc.items x u.type u.at J n h A K sh aj fam never)
-    by J n h A sh (answers_solved K e nj after s m) = let (aj, fam) = u.offered_typed J n h A sh in gives_case (solved_case C (n + arguments_count A) after s.well_formed.order) m (solved_gives_case Σ ok W typed below S sc C.items tc.items x u.type u.at J n h A K sh aj fam C after s nj)
+    one : (h : Offer) → SplitHead Σ W C.items u.type h.items h.moved h.head h.type → (found : Option Case) → UnifierAnswer Σ W S below C x u.type h found → HeadAnswer Σ W S below C x u.type h found
+    one h sh None a = never_gives_none Σ ok W typed below S sc C.items tc.items x u.type u.at h.items h.moved h.head h.type a.kind sh a.typed_items a.families a.finds
+    one h sh (Some D) a = let (after, s, e) = a.finds in subst (GivesCase Σ W S below C x u.type h.items h.moved h.head h.type) (sym e) (solved_gives_case Σ ok W typed below S sc C.items tc.items x u.type u.at h.items h.moved h.head h.type a.kind sh a.typed_items a.families C after s a.no_block)
+
+    by : {hs : List Offer} {Ds : List Case} → ((h : Offer) → Member h hs → SplitHead Σ W C.items u.type h.items h.moved h.head h.type) → Listed (UnifierAnswer Σ W S below C x u.type) hs Ds → Listed (HeadAnswer Σ W S below C x u.type) hs Ds
+    by each no_offer = no_offer
+    by each (with_case {h = h} {D = D} a l) = with_case (one h (each h (inl refl)) (Some D) a) (by (λ k m. each k (inr m)) l)
+    by each (without_case {h = h} a l) = without_case (one h (each h (inl refl)) None a) (by (λ k m. each k (inr m)) l)

@@ -1,4 +1,4 @@
--- A split by heads: each head that a variable of a case may have is offered to it, and unification answers with a case or with none.
+-- A split by heads: each head that a variable of a case may have is offered to it, and gives a case or none.
 use Rattle.std.specs.Prelude.{◌≡◌, ℕ, zero, suc, ◌+◌, List, [], ◌∷◌, Bool, true, Option, Some, None}
 use Rattle.lf.specs.Syntax.{Head, Term, LfType, pi, atom, Skeleton, skeleton, rename_type, lift_renaming}
 use Rattle.lf.specs.Substitution.{Image, substitute, substitute_type, reduce, after}
@@ -12,19 +12,14 @@ use Rattle.lf.specs.Worlds.{World, lift_over, instance}
 use Rattle.lf.specs.Extension.{Extends}
 use Rattle.lf_unification.specs.Offering.{pi_over}
 use Rattle.lf_cases.specs.Case.{Item, Case, items_context, as_term, IsGroundInstance}
-use Rattle.lf_cases.specs.OutputCase.{FirstInstance}
-use Rattle.lf_cases.specs.OutputGoal.{renumber, over_item, raised_variable, CanBeRaised}
+use Rattle.lf_cases.specs.Pattern.{FirstInstance}
+use Rattle.lf_cases.specs.OutputGoal.{renumber, over_item, raised_variable}
+use Rattle.lf_cases.specs.Raised.{first_mask, other_masks}
 use Rattle.lf_cases.specs.Split.{IsDistinct}
-use Rattle.lf_cases.specs.Missing.{AreTypedItems, IsTypedInstance}
+use Rattle.lf_cases.specs.Missing.{AreTypedItems, IsTypedInstance, put_in}
 use Rattle.lf_cases.specs.Candidates.{free_among}
-use Rattle.lf_cases.specs.Reached.{arguments_count, head_term, taken, SplitHead, split_items, put_in}
-
--- In the type of each of the first n arguments of a head, whose type under the local context D is given, the local variables over which
--- the argument isn't raised don't occur.
-abbrev pub ArgumentsCanBeRaised : (ℕ → ℕ → Bool) → List LfType → ℕ → LfType → Type 0
-ArgumentsCanBeRaised below D zero A = Unit {0}
-ArgumentsCanBeRaised below D (suc n) (atom a S) = Unit {0}
-ArgumentsCanBeRaised below D (suc n) (pi A B) = CanBeRaised (below (target A)) D A × ArgumentsCanBeRaised below (renumber suc D) n (instantiate_type A (raised_variable (below (target A)) D A zero) (rename_type (lift_renaming (over_item D)) B))
+use Rattle.lf_coverage.specs.HeadOrder.{Offer, AreInOrder}
+use Rattle.lf_cases.specs.Reached.{arguments_count, head_masks, head_term, taken, SplitHead, split_items}
 
 -- the families in the type of each argument are below its own
 abbrev pub ArgumentsAreBelow : (ℕ → ℕ → Bool) → LfType → Type 0
@@ -32,14 +27,14 @@ ArgumentsAreBelow below (pi A B) = FamiliesIn (below (target A)) A × ArgumentsA
 ArgumentsAreBelow below (atom a S) = Unit {0}
 
 -- The type that is left of a head's type under the local context D when the head is applied to n new variables.
-abbrev pub result_type : (ℕ → ℕ → Bool) → List LfType → ℕ → LfType → LfType
-result_type below D zero A = A
-result_type below D (suc n) (atom a S) = atom a S
-result_type below D (suc n) (pi A B) = result_type below (renumber suc D) n (instantiate_type A (raised_variable (below (target A)) D A zero) (rename_type (lift_renaming (over_item D)) B))
+abbrev pub result_type : List (List Bool) → List LfType → ℕ → LfType → LfType
+result_type ks D zero A = A
+result_type ks D (suc n) (atom a S) = atom a S
+result_type ks D (suc n) (pi A B) = result_type (other_masks ks) (renumber suc D) n (instantiate_type A (raised_variable (first_mask ks) D A zero) (rename_type (lift_renaming (over_item D)) B))
 
 -- The type of a head applied to its new variables, under the variables that x takes.
 abbrev pub term_type : (ℕ → ℕ → Bool) → LfType → ℕ → LfType → LfType
-term_type below X n A = pi_over (taken (rename_type (shift_by (n + arguments_count A)) X)) (result_type below (taken (rename_type (shift_by n) X)) (arguments_count A) A)
+term_type below X n A = pi_over (taken (rename_type (shift_by (n + arguments_count A)) X)) (result_type (head_masks below (taken (rename_type (shift_by n) X)) (arguments_count A) A) (taken (rename_type (shift_by n) X)) (arguments_count A) A)
 
 -- In the context of w the values τ of the items after a split make the variable x, of the type X, this head, and the types of both the same;
 -- different block variables stand for different instances.
@@ -73,20 +68,38 @@ pub record GivesCase (Σ : Signature) (W : List Block) (S : ℕ → Bool) (below
 abbrev pub GivesNone : Signature → List Block → (ℕ → Bool) → (ℕ → ℕ → Bool) → ℕ → LfType → List Item → ℕ → Head → LfType → Type 0
 GivesNone Σ W S below x X I n h A = (Σ' : Signature) → Extends S Σ Σ' → (G : List LfType) (w : World Σ' W S G) (τ : ℕ → Image) → MakesHead w below x X I n h A τ → ⊥
 
--- what the head gives is listed, or it gives none
-pub data IsAnswered (Σ : Signature) (W : List Block) (S : ℕ → Bool) (below : ℕ → ℕ → Bool) (C : Case) (x : ℕ) (X : LfType) (Cs : List Case) (I : List Item) (n : ℕ) (h : Head) (A : LfType) : Type 0 where
-  gives_case : (D : Case) → Member D Cs → GivesCase Σ W S below C x X I n h A D → IsAnswered Σ W S below C x X Cs I n h A
-  gives_none : GivesNone Σ W S below x X I n h A → IsAnswered Σ W S below C x X Cs I n h A
+-- The list has each head for a variable of the type X over the items I, and no others.
+pub record AreOffers (Σ : Signature) (W : List Block) (I : List Item) (X : LfType) (hs : List Offer) : Type 0 where
+  pub each : (h : Offer) → Member h hs → SplitHead Σ W I X h.items h.moved h.head h.type
+  pub every : (J : List Item) (n : ℕ) (h : Head) (A : LfType) → SplitHead Σ W I X J n h A → Member (record { items = J; moved = n; head = h; type = A }) hs
 
--- A split of the free variable x of C by heads: each head of its family can be offered, and what it gives is listed.
-pub record IsHeadSplit (Σ : Signature) (W : List Block) (S : ℕ → Bool) (below : ℕ → ℕ → Bool) (C : Case) (x : ℕ) (Cs : List Case) : Type 0 where
+-- The answers to heads, each a case or none, make this list of cases, in the same order.
+pub data Listed (Answer : Offer → Option Case → Type 0) : List Offer → List Case → Type 0 where
+  no_offer : Listed Answer [] []
+  with_case : {h : Offer} {D : Case} {hs : List Offer} {Cs : List Case} → Answer h (Some D) → Listed Answer hs Cs → Listed Answer (h ∷ hs) (D ∷ Cs)
+  without_case : {h : Offer} {hs : List Offer} {Cs : List Case} → Answer h None → Listed Answer hs Cs → Listed Answer (h ∷ hs) Cs
+
+-- A split of the free variable x of C: each head of its family is offered, in order, and the answers make the list of cases.
+pub record IsSplitAt (Σ : Signature) (W : List Block) (S : ℕ → Bool) (below : ℕ → ℕ → Bool) (Answer : LfType → Offer → Option Case → Type 0) (C : Case) (x : ℕ) (Cs : List Case) : Type 0 where
   pub type : LfType
   pub at : TypeAt (items_context C.items) x type
   pub is_free : free_among C.items x ≡ true
   pub families : FamiliesIn S type
   pub takes_below : ArgumentsAreBelow below type
-  pub can_be_offered : (I : List Item) (n : ℕ) (h : Head) (A : LfType) → SplitHead Σ W C.items type I n h A → ArgumentsAreBelow below A × ArgumentsCanBeRaised below (taken (rename_type (shift_by n) type)) (arguments_count A) A
-  pub answered : (I : List Item) (n : ℕ) (h : Head) (A : LfType) → SplitHead Σ W C.items type I n h A → IsAnswered Σ W S below C x type Cs I n h A
+  pub offers : List Offer
+  pub are_offers : AreOffers Σ W C.items type offers
+  pub in_order : AreInOrder W C.items type offers
+  pub arguments_below : (J : List Item) (n : ℕ) (h : Head) (A : LfType) → SplitHead Σ W C.items type J n h A → ArgumentsAreBelow below A
+  pub listed : Listed (Answer type) offers Cs
+
+-- a head gives a case, or none
+abbrev pub HeadAnswer : Signature → List Block → (ℕ → Bool) → (ℕ → ℕ → Bool) → Case → ℕ → LfType → Offer → Option Case → Type 0
+HeadAnswer Σ W S below C x X h (Some D) = GivesCase Σ W S below C x X h.items h.moved h.head h.type D
+HeadAnswer Σ W S below C x X h None = GivesNone Σ W S below x X h.items h.moved h.head h.type
+
+-- a split by heads
+abbrev pub IsHeadSplit : Signature → List Block → (ℕ → Bool) → (ℕ → ℕ → Bool) → Case → ℕ → List Case → Type 0
+IsHeadSplit Σ W S below C x Cs = IsSplitAt Σ W S below (HeadAnswer Σ W S below C x) C x Cs
 
 -- each of the terms has a skeleton
 abbrev pub HaveSkeletons : HeadSkeletons → List Skeleton → List (Option Term) → Type 0
@@ -99,3 +112,7 @@ pub record IsTypedCase (Σ : Signature) (W : List Block) (C : Case) : Type 0 whe
   pub items : AreTypedItems Σ W C.items
   pub given : HaveSkeletons (constant_skeletons Σ) (context_skeletons (items_context C.items)) C.given
   pub arguments : HaveSkeletons (constant_skeletons Σ) (context_skeletons (onto C.local (items_context C.items))) C.arguments
+
+-- a case is split by heads at one of its variables
+abbrev pub SplitsByHeads : Signature → List Block → (ℕ → Bool) → (ℕ → ℕ → Bool) → Case → List Case → Type 0
+SplitsByHeads Σ W S below C Cs = (x : ℕ) × IsHeadSplit Σ W S below C x Cs

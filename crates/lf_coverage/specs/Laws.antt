@@ -1,41 +1,38 @@
 -- The laws of splits by heads that the functions of this crate carry.
-use Rattle.std.specs.Prelude.{◌≡◌, ℕ, ◌+◌, List, [], Bool}
+use Rattle.std.specs.Prelude.{ℕ, ◌+◌, List, [], Bool}
 use Rattle.lf.specs.Syntax.{Head, LfType, Kind}
 use Rattle.lf.specs.Typing.{Signature, TypeAt, IsSignature}
-use Rattle.lf.specs.Subordination.{Block, Member, IsDeclared, AreTypedBlocks, SelfContained}
+use Rattle.lf.specs.Subordination.{Block, Member, AreTypedBlocks, SelfContained}
 use Rattle.lf_unification.specs.Solving.{Never, Solved}
 use Rattle.lf_unification.specs.Unifiers.{Store}
-use Rattle.lf_checks.specs.Clause.{Clause}
-use Rattle.lf_checks.specs.Marks.{Mark, input_places}
+use Rattle.lf_checks.specs.Clause.{Clause, IsClause, IsSubgoal}
 use Rattle.lf_checks.specs.Below.{IsSubordination}
-use Rattle.lf_cases.specs.Case.{Item, Case, items_context, covered_places, IsCoveredCase}
-use Rattle.lf_cases.specs.Missing.{AreTypedItems}
-use Rattle.lf_cases.specs.Reached.{arguments_count, SplitHead, split_items}
-use Rattle.lf_cases.specs.Split.{IsSplit, IsInstanceCase, HasNoBlockVariable}
-use Rattle.lf_cases.specs.OutputCase.{Origin, IsCoveredOutputCase}
-use Rattle.lf_cases.specs.OutputSplit.{IsOutputSplit, IsOutputInstanceCase, HasOneBlockVariable}
-use Rattle.lf_coverage.specs.Heads.{IsTypedCase, GivesCase, GivesNone, IsHeadSplit}
+use Rattle.lf_cases.specs.Case.{Item, Case, items_context}
+use Rattle.lf_cases.specs.Pattern.{Pattern, origin, head_pattern, subgoal_pattern, IsCoveredCase}
+use Rattle.lf_cases.specs.Missing.{AreTypedItems, IsInstanceOfGoal}
+use Rattle.lf_cases.specs.Reached.{arguments_count, SplitHead, IsSplitCase, split_items}
+use Rattle.lf_cases.specs.Split.{IsSplit, IsInstanceCase, Ends, HasNoBlockVariable, HasOneBlockVariable}
+use Rattle.lf_coverage.specs.Heads.{IsTypedCase, GivesCase, GivesNone, IsHeadSplit, SplitsByHeads}
 use Rattle.lf_coverage.specs.SplitStore.{split_store, solved_case, AllFamiliesIn}
-use Rattle.lf_coverage.specs.UnifiedSplit.{IsUnifiedSplit}
-use Rattle.lf_coverage.specs.HeadRun.{EndsByHeads, OutputsEndByHeads}
-use Rattle.lf_coverage.specs.Leaf.{HasClosedInputs, IsInstanceLeaf, EndsAtLeaves, IsOutputLeaf, OutputsEndAtLeaves, IsGroundSubgoal}
+use Rattle.lf_coverage.specs.UnifiedSplit.{IsUnifiedSplit, SplitsByUnification}
+use Rattle.lf_coverage.specs.Leaf.{IsTypedPattern, IsInstanceLeaf}
 
--- The heads of a split give all its cases: what a case of inputs holds, in each legal extension over the families below f and in each context
--- of W beside them, one of the cases of a split by heads holds.
+-- The heads of a split give all its cases, beside each self-contained set S that holds the families of the type that is split: what a case holds,
+-- in each legal extension over S and each context of W beside S, one of the cases of a split by heads holds, and these are like it.
 abbrev pub HeadSplitIsSplit : Type 0
-HeadSplitIsSplit = (Σ : Signature) → IsSignature Σ → (W : List Block) → AreTypedBlocks Σ W → (below : ℕ → ℕ → Bool) → IsSubordination Σ W below → (f : ℕ) → IsDeclared Σ f → (C : Case) → IsTypedCase Σ W C → C.local ≡ [] → (x : ℕ) (Cs : List Case) → IsHeadSplit Σ W (below f) below C x Cs → ((D : Case) → Member D Cs → D.local ≡ []) → IsSplit Σ W (below f) C Cs
+HeadSplitIsSplit = (Σ : Signature) → IsSignature Σ → (W : List Block) → AreTypedBlocks Σ W → (below : ℕ → ℕ → Bool) → IsSubordination Σ W below → (S : ℕ → Bool) → SelfContained Σ W S → (C : Case) → IsTypedCase Σ W C → (x : ℕ) (Cs : List Case) → IsHeadSplit Σ W S below C x Cs → IsSplit Σ W S C Cs
 
--- the same of a case of a subgoal's outputs
-abbrev pub HeadSplitIsOutputSplit : Type 0
-HeadSplitIsOutputSplit = (Σ : Signature) → IsSignature Σ → (W : List Block) → AreTypedBlocks Σ W → (below : ℕ → ℕ → Bool) → IsSubordination Σ W below → (f : ℕ) → IsDeclared Σ f → (C : Case) → IsTypedCase Σ W C → (x : ℕ) (Cs : List Case) → IsHeadSplit Σ W (below f) below C x Cs → (c : Clause) (o : Origin W c) → IsOutputSplit Σ (below f) o C Cs
+-- Each case that a split by heads of a typed case gives is typed.
+abbrev pub SplitCasesAreTyped : Type 0
+SplitCasesAreTyped = (Σ : Signature) → IsSignature Σ → (W : List Block) (below : ℕ → ℕ → Bool) (S : ℕ → Bool) (C : Case) → IsTypedCase Σ W C → (x : ℕ) (Cs : List Case) → IsHeadSplit Σ W S below C x Cs → (D : Case) → Member D Cs → IsTypedCase Σ W D
 
--- A run of splits by heads that ends well covers its goal.
+-- A case that the strategy reaches by a split is a typed instance of the case that is split.
+abbrev pub SplitCaseIsInstance : Type 0
+SplitCaseIsInstance = (Σ : Signature) (W : List Block) (below : ℕ → ℕ → Bool) (C : Case) (x : ℕ) (D : Case) → IsSplitCase Σ W below C x D → IsInstanceOfGoal Σ W C D
+
+-- A run of splits by heads that ends well covers its goal, where this is typed.
 abbrev pub HeadSplitsCover : Type 0
-HeadSplitsCover = (Σ : Signature) → IsSignature Σ → (W : List Block) → AreTypedBlocks Σ W → (below : ℕ → ℕ → Bool) → IsSubordination Σ W below → (f : ℕ) → IsDeclared Σ f → (C : Case) → C.given ≡ [] → C.local ≡ [] → HasNoBlockVariable C.items → EndsByHeads Σ W (below f) below C → IsCoveredCase Σ W (below f) C
-
--- so does a run on a subgoal's outputs
-abbrev pub HeadSplitsCoverOutputs : Type 0
-HeadSplitsCoverOutputs = (Σ : Signature) → IsSignature Σ → (m : ℕ → List Mark) (W : List Block) → AreTypedBlocks Σ W → (below : ℕ → ℕ → Bool) → IsSubordination Σ W below → (f : ℕ) → IsDeclared Σ f → (c : Clause) (o : Origin W c) (U : ℕ → Bool) (A : LfType) (C : Case) → HasOneBlockVariable C.items → OutputsEndByHeads Σ m W (below f) below c o U A C → IsCoveredOutputCase Σ m W (below f) c o U A C
+HeadSplitsCover = (Σ : Signature) → IsSignature Σ → (W : List Block) → AreTypedBlocks Σ W → (below : ℕ → ℕ → Bool) → IsSubordination Σ W below → (S : ℕ → Bool) → SelfContained Σ W S → (ps : List Pattern) (C : Case) → HasOneBlockVariable C.items → IsTypedCase Σ W C → Ends (IsInstanceCase Σ W S ps) (SplitsByHeads Σ W S below) C → IsCoveredCase Σ W S ps C
 
 -- Unification in a split where the items are free variables, over a self-contained set S that holds every family of them. What is never solved
 -- gives no case: in each legal extension over S and each context of W beside S nothing makes the variable that head.
@@ -50,19 +47,18 @@ SolvedGivesCase = (Σ : Signature) → IsSignature Σ → (W : List Block) → A
 abbrev pub UnifiedSplitIsHeadSplit : Type 0
 UnifiedSplitIsHeadSplit = (Σ : Signature) → IsSignature Σ → (W : List Block) → AreTypedBlocks Σ W → (below : ℕ → ℕ → Bool) (S : ℕ → Bool) → SelfContained Σ W S → (C : Case) → IsTypedCase Σ W C → (x : ℕ) (Cs : List Case) → IsUnifiedSplit Σ W S below C x Cs → IsHeadSplit Σ W S below C x Cs
 
--- A leaf of a run by its terms: what a typed case of inputs holds that is an instance of a clause, a constant or a block entry, with strict
--- inputs, is covered, in each legal extension over S and each context of W beside S.
+-- A leaf of a run by its terms: what a typed case holds that is an instance of a typed pattern, this covers, in each legal extension over S and
+-- each context of W beside S.
 abbrev pub LeafIsInstanceCase : Type 0
-LeafIsInstanceCase = (Σ : Signature) → IsSignature Σ → (m : ℕ → List Mark) (W : List Block) → AreTypedBlocks Σ W → (S : ℕ → Bool) (C : Case) → HasClosedInputs Σ m C.family → covered_places C.arguments ≡ input_places (m C.family) → IsInstanceLeaf Σ m W C → IsInstanceCase Σ W S C
+LeafIsInstanceCase = (Σ : Signature) → IsSignature Σ → (W : List Block) → AreTypedBlocks Σ W → (S : ℕ → Bool) (ps : List Pattern) (C : Case) → IsInstanceLeaf Σ W ps C → IsInstanceCase Σ W S ps C
 
--- So a run of splits by unification with such leaves covers its goal.
+-- So a run of splits by unification with such leaves covers its goal, where this is typed.
 abbrev pub LeavesCover : Type 0
-LeavesCover = (Σ : Signature) → IsSignature Σ → (m : ℕ → List Mark) (W : List Block) → AreTypedBlocks Σ W → (below : ℕ → ℕ → Bool) → IsSubordination Σ W below → (f : ℕ) → IsDeclared Σ f → (C : Case) → C.given ≡ [] → C.local ≡ [] → HasNoBlockVariable C.items → HasClosedInputs Σ m C.family → covered_places C.arguments ≡ input_places (m C.family) → EndsAtLeaves Σ m W (below f) below C → IsCoveredCase Σ W (below f) C
+LeavesCover = (Σ : Signature) → IsSignature Σ → (W : List Block) → AreTypedBlocks Σ W → (below : ℕ → ℕ → Bool) → IsSubordination Σ W below → (S : ℕ → Bool) → SelfContained Σ W S → (ps : List Pattern) (C : Case) → HasOneBlockVariable C.items → IsTypedCase Σ W C → Ends (IsInstanceLeaf Σ W ps) (SplitsByUnification Σ W S below) C → IsCoveredCase Σ W S ps C
 
--- The same of outputs: what such a leaf holds, for the same given terms and for the same of what stands outside, is an instance of the outputs.
-abbrev pub OutputLeafIsInstanceCase : Type 0
-OutputLeafIsInstanceCase = (Σ : Signature) → IsSignature Σ → (m : ℕ → List Mark) (W : List Block) → AreTypedBlocks Σ W → (S : ℕ → Bool) (c : Clause) (o : Origin W c) (U : ℕ → Bool) (A : LfType) → IsGroundSubgoal Σ m c U A → (C : Case) → IsOutputLeaf Σ m W c o U A C → IsOutputInstanceCase Σ m W S c o U A C
+-- The head of a clause is a typed pattern, and so is each subgoal.
+abbrev pub HeadIsTypedPattern : Type 0
+HeadIsTypedPattern = (Σ : Signature) → IsSignature Σ → (W : List Block) → AreTypedBlocks Σ W → (c : Clause) (i : IsClause Σ W c) → IsTypedPattern Σ (head_pattern c (origin i))
 
--- and a run with such leaves covers its goal
-abbrev pub OutputLeavesCover : Type 0
-OutputLeavesCover = (Σ : Signature) → IsSignature Σ → (m : ℕ → List Mark) (W : List Block) → AreTypedBlocks Σ W → (below : ℕ → ℕ → Bool) → IsSubordination Σ W below → (f : ℕ) → IsDeclared Σ f → (c : Clause) (o : Origin W c) (U : ℕ → Bool) (A : LfType) → IsGroundSubgoal Σ m c U A → (C : Case) → HasOneBlockVariable C.items → OutputsEndAtLeaves Σ m W (below f) below c o U A C → IsCoveredOutputCase Σ m W (below f) c o U A C
+abbrev pub SubgoalIsTypedPattern : Type 0
+SubgoalIsTypedPattern = (Σ : Signature) → IsSignature Σ → (W : List Block) → AreTypedBlocks Σ W → (c : Clause) (d : IsClause Σ W c) (i : ℕ) (A : LfType) → IsSubgoal c i A → IsTypedPattern Σ (subgoal_pattern c (origin d) A)

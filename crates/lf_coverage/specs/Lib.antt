@@ -1,6 +1,9 @@
+pub mod HeadOrder
 pub mod Heads
-pub mod HeadRun
 pub mod SplitStore
+pub mod MeetStore
+pub mod TooDeep
+pub mod Outside
 pub mod UnifiedSplit
 pub mod Examples
 pub mod Leaf

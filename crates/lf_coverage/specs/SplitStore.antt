@@ -12,7 +12,8 @@ use Rattle.lf_unification.specs.OpenTyping.{skeletons_of}
 use Rattle.lf_unification.specs.Unifiers.{Store}
 use Rattle.lf_cases.specs.Case.{Item, Case, items_context}
 use Rattle.lf_cases.specs.OutputGoal.{free_variables}
-use Rattle.lf_cases.specs.Reached.{arguments_count, head_term, taken, split_items, put_in}
+use Rattle.lf_cases.specs.Missing.{put_in}
+use Rattle.lf_cases.specs.Reached.{arguments_count, head_masks, head_term, taken, split_items}
 use Rattle.lf_coverage.specs.Heads.{result_type}
 
 -- A variable under k binders: what stands outside them is a metavariable of the same number.
@@ -73,7 +74,7 @@ split_store below x X I n h A K = record {
     left = open_term zero (eta_long (skeleton X) (variable (x + (n + arguments_count A))));
     right = open_term zero (head_term below (taken (rename_type (shift_by n) X)) h A);
     of_type = open_type zero (rename_type (shift_by (n + arguments_count A)) X);
-  } ∷ spine_equations (open_locals (taken (rename_type (shift_by (n + arguments_count A)) X))) K (open_spine (length (taken X)) (target_arguments (rename_type (shift_by (n + arguments_count A)) X))) (open_spine (length (taken X)) (target_arguments (result_type below (taken (rename_type (shift_by n) X)) (arguments_count A) A)));
+  } ∷ spine_equations (open_locals (taken (rename_type (shift_by (n + arguments_count A)) X))) K (open_spine (length (taken X)) (target_arguments (rename_type (shift_by (n + arguments_count A)) X))) (open_spine (length (taken X)) (target_arguments (result_type (head_masks below (taken (rename_type (shift_by n) X)) (arguments_count A) A) (taken (rename_type (shift_by n) X)) (arguments_count A) A)));
 }
 
 -- every type of the context has families of S alone

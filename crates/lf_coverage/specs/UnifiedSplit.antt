@@ -1,33 +1,38 @@
 -- A split on which unification answers at each head.
-use Rattle.std.specs.Prelude.{◌≡◌, ℕ, ◌+◌, List, [], Bool, true, Some}
-use Rattle.lf.specs.Syntax.{Head, LfType, Kind, rename_type}
-use Rattle.lf.specs.AtOnce.{shift_by}
-use Rattle.lf.specs.Typing.{Signature, TypeAt}
-use Rattle.lf.specs.Variables.{target, FamiliesIn}
-use Rattle.lf.specs.Subordination.{Block, Member}
+use Rattle.std.specs.Prelude.{◌≡◌, ℕ, ◌+◌, List, [], Bool, Option, Some, None}
+use Rattle.lf.specs.Syntax.{LfType, Kind}
+use Rattle.lf.specs.Typing.{Signature}
+use Rattle.lf.specs.Variables.{target}
+use Rattle.lf.specs.Subordination.{Block}
 use Rattle.lf_unification.specs.Solving.{Never, Solved}
 use Rattle.lf_unification.specs.Unifiers.{Store}
-use Rattle.lf_cases.specs.Case.{Item, Case, items_context}
+use Rattle.lf_cases.specs.Case.{Case, items_context}
 use Rattle.lf_cases.specs.Split.{HasNoBlockVariable}
 use Rattle.lf_cases.specs.Missing.{AreTypedItems}
-use Rattle.lf_cases.specs.Candidates.{free_among}
-use Rattle.lf_cases.specs.Reached.{arguments_count, taken, SplitHead, split_items}
-use Rattle.lf_coverage.specs.Heads.{ArgumentsCanBeRaised, ArgumentsAreBelow}
+use Rattle.lf_cases.specs.Reached.{arguments_count, split_items}
+use Rattle.lf_coverage.specs.HeadOrder.{Offer}
+use Rattle.lf_coverage.specs.Heads.{IsSplitAt}
 use Rattle.lf_coverage.specs.SplitStore.{split_store, solved_case, AllFamiliesIn}
 
--- What unification answers for a head, where the items are free variables. It never solves; or it solves, and the case of the metavariables
--- that stay free is listed.
-pub data UnificationAnswers (Σ : Signature) (W : List Block) (S : ℕ → Bool) (below : ℕ → ℕ → Bool) (C : Case) (x : ℕ) (X : LfType) (Cs : List Case) (J : List Item) (n : ℕ) (h : Head) (A : LfType) : Type 0 where
-  answers_never : (K : Kind) → Σ.kinds (target X) ≡ Some K → HasNoBlockVariable J → Never Σ [] (split_store below x X J n h A K) → UnificationAnswers Σ W S below C x X Cs J n h A
-  answers_solved : (K : Kind) → Σ.kinds (target X) ≡ Some K → HasNoBlockVariable J → (after : Store) (s : Solved Σ (split_store below x X J n h A K) after) → Member (solved_case C (n + arguments_count A) after s.well_formed.order) Cs → UnificationAnswers Σ W S below C x X Cs J n h A
+-- What unification finds for a head: it solves, and the case is that of the metavariables that stay free; or it never solves, and there is
+-- no case.
+abbrev pub UnifierFinds : Signature → (ℕ → ℕ → Bool) → Case → ℕ → LfType → Offer → Kind → Option Case → Type 0
+UnifierFinds Σ below C x X h K (Some D) = (after : Store) × (s : Solved Σ (split_store below x X h.items h.moved h.head h.type K) after) × (D ≡ solved_case C (h.moved + arguments_count h.type) after s.well_formed.order)
+UnifierFinds Σ below C x X h K None = Never Σ [] (split_store below x X h.items h.moved h.head h.type K)
 
--- A split of the free variable x of C: each head of its family can be offered, to typed new variables, and unification answers.
-pub record IsUnifiedSplit (Σ : Signature) (W : List Block) (S : ℕ → Bool) (below : ℕ → ℕ → Bool) (C : Case) (x : ℕ) (Cs : List Case) : Type 0 where
-  pub type : LfType
-  pub at : TypeAt (items_context C.items) x type
-  pub is_free : free_among C.items x ≡ true
-  pub takes_below : ArgumentsAreBelow below type
-  pub can_be_offered : (J : List Item) (n : ℕ) (h : Head) (A : LfType) → SplitHead Σ W C.items type J n h A → ArgumentsAreBelow below A × ArgumentsCanBeRaised below (taken (rename_type (shift_by n) type)) (arguments_count A) A
-  pub offered_typed : (J : List Item) (n : ℕ) (h : Head) (A : LfType) → SplitHead Σ W C.items type J n h A → AreTypedItems Σ W (split_items below type J n A) × AllFamiliesIn S (items_context (split_items below type J n A))
-  pub families : FamiliesIn S type
-  pub answers : (J : List Item) (n : ℕ) (h : Head) (A : LfType) → SplitHead Σ W C.items type J n h A → UnificationAnswers Σ W S below C x type Cs J n h A
+-- So unification answers, where the items are free variables, and those for the head are typed and of families of S.
+pub record UnifierAnswer (Σ : Signature) (W : List Block) (S : ℕ → Bool) (below : ℕ → ℕ → Bool) (C : Case) (x : ℕ) (X : LfType) (h : Offer) (found : Option Case) : Type 0 where
+  pub kind : Kind
+  pub of_family : Σ.kinds (target X) ≡ Some kind
+  pub no_block : HasNoBlockVariable h.items
+  pub typed_items : AreTypedItems Σ W (split_items below X h.items h.moved h.type)
+  pub families : AllFamiliesIn S (items_context (split_items below X h.items h.moved h.type))
+  pub finds : UnifierFinds Σ below C x X h kind found
+
+-- a split by unification
+abbrev pub IsUnifiedSplit : Signature → List Block → (ℕ → Bool) → (ℕ → ℕ → Bool) → Case → ℕ → List Case → Type 0
+IsUnifiedSplit Σ W S below C x Cs = IsSplitAt Σ W S below (UnifierAnswer Σ W S below C x) C x Cs
+
+-- a case is split so at one of its variables
+abbrev pub SplitsByUnification : Signature → List Block → (ℕ → Bool) → (ℕ → ℕ → Bool) → Case → List Case → Type 0
+SplitsByUnification Σ W S below C Cs = (x : ℕ) × IsUnifiedSplit Σ W S below C x Cs

@@ -1,8 +1,8 @@
 //! The laws of splits of coverage. They have no code: each function carries one law as its contract.
 #![tactic(auto)]
 
-ghost use Rattle.lf_coverage.specs.Laws.{HeadSplitIsSplit, HeadSplitIsOutputSplit, HeadSplitsCover, HeadSplitsCoverOutputs, NeverGivesNone, SolvedGivesCase, UnifiedSplitIsHeadSplit, LeafIsInstanceCase, LeavesCover, OutputLeafIsInstanceCase, OutputLeavesCover};
-ghost use Rattle.lf_coverage.specs.Examples.{PlusIsSplitByHeads, PlusIsSplitByUnification, PlusIsCoveredByHeads, SuccessorGivesNone, HeadsAreAll};
+ghost use Rattle.lf_coverage.specs.Laws.{HeadSplitIsSplit, SplitCasesAreTyped, SplitCaseIsInstance, HeadSplitsCover, NeverGivesNone, SolvedGivesCase, UnifiedSplitIsHeadSplit, LeafIsInstanceCase, LeavesCover, HeadIsTypedPattern, SubgoalIsTypedPattern};
+ghost use Rattle.lf_coverage.specs.Examples.{PlusIsSplitByHeads, PlusIsSplitByUnification, PlusIsCoveredByHeads, SuccessorGivesNone, HeadsAreAll, CopyHeadsAreInOrder, NumbersGetDeep, StoresOfMeeting};
 ghost use Rattle.lf_coverage.specs.ExamplesLeaves.{PlusEndsAtLeaves, EntryIsLeaf, GoalIsOutputLeaf};
 
 /// The heads of a split give all its cases.
@@ -10,19 +10,19 @@ pub fn head_split_is_split()
     ensures { HeadSplitIsSplit }
 {}
 
-/// The same of a case of a subgoal's outputs.
-pub fn head_split_is_output_split()
-    ensures { HeadSplitIsOutputSplit }
+/// And these cases are typed.
+pub fn split_cases_are_typed()
+    ensures { SplitCasesAreTyped }
+{}
+
+/// What the strategy reaches by a split is an instance of the case that is split.
+pub fn split_case_is_instance()
+    ensures { SplitCaseIsInstance }
 {}
 
 /// A run of splits by heads that ends well covers its goal.
 pub fn head_splits_cover()
     ensures { HeadSplitsCover }
-{}
-
-/// So does a run on a subgoal's outputs.
-pub fn head_splits_cover_outputs()
-    ensures { HeadSplitsCoverOutputs }
 {}
 
 /// What unification never solves gives no case.
@@ -50,14 +50,14 @@ pub fn leaves_cover()
     ensures { LeavesCover }
 {}
 
-/// What a typed case of outputs holds that is an instance of these outputs is such an instance.
-pub fn output_leaf_is_instance_case()
-    ensures { OutputLeafIsInstanceCase }
+/// The head of a clause is a typed pattern at its inputs, where these are strict.
+pub fn head_is_typed_pattern()
+    ensures { HeadIsTypedPattern }
 {}
 
-/// A run on outputs with such leaves covers its goal.
-pub fn output_leaves_cover()
-    ensures { OutputLeavesCover }
+/// A subgoal that is checked is a typed pattern at its outputs.
+pub fn subgoal_is_typed_pattern()
+    ensures { SubgoalIsTypedPattern }
 {}
 
 /// The inputs of addition are split by the heads zero and successor.
@@ -73,6 +73,21 @@ pub fn plus_is_split_by_unification()
 /// A head on which unification never solves, and which gives no case.
 pub fn successor_gives_none()
     ensures { SuccessorGivesNone }
+{}
+
+/// The heads of a variable in the worlds of a block, in order.
+pub fn copy_heads_are_in_order()
+    ensures { CopyHeadsAreInOrder }
+{}
+
+/// The stores of two cases and what is to cover them.
+pub fn stores_of_meeting()
+    ensures { StoresOfMeeting }
+{}
+
+/// A case that is too deep, and one that isn't.
+pub fn numbers_get_deep()
+    ensures { NumbersGetDeep }
 {}
 
 /// The inputs of addition are covered by a run of splits by heads.

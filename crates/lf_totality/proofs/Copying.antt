@@ -5,10 +5,11 @@ use Rattle.lf_checks.specs.Order.{IsAtPlaces, equal, first_argument, later_argum
 use Rattle.lf_totality.specs.Total.{HasTotalMarks, Total}
 use Rattle.lf_checks.specs.Marks.{HasSoundMarks, SamePlaces, TypedPlaces, free_places, input_places}
 use Rattle.lf_totality.specs.Group.{GroupChecked, IsCallee}
-use Rattle.lf_totality.specs.Examples.{Copying, CopyingLasts, application, applied_to, copy_block, copying_kinds, copying_marks, copying_record, copying_types, cp, cp_app, cp_kind, cp_lam, exp, first_below_second, first_place, function, lam, var, TermsHaveCopies, z, block_case, BlockCaseIsCovered}
+use Rattle.lf_totality.specs.Examples.{Copying, CopyingLasts, application, applied_to, copy_block, copying_kinds, copying_marks, copying_record, copying_types, cp, cp_app, cp_kind, cp_lam, exp, first_below_second, first_place, function, lam, var, TermsHaveCopies, z, block_case, copy_entry, copy_heads, BlockCaseIsCovered}
 use Rattle.lf_cases.specs.Case.{HasArguments, IsGroundInstance, covered_places}
 use Rattle.lf_checks.specs.Clause.{Clause, IsClause, IsSubgoal, among, constant_clause, entry_clause, from_constant, from_entry, outside, scope, variables}
 use Rattle.lf_checks.specs.Descent.{CallDescends}
+use Rattle.lf_cases.specs.Pattern.{of_entry, head_pattern, OneCovers}
 use Rattle.lf_cases.specs.Cover.{AreTerms, CoveredBy, CoveredInputs, CoveredOutputs, InstanceIn, OutputsCovered, by_constant, by_entry}
 use Rattle.lf_checks.specs.Modes.{AllGround, EachHypothesis, InFreePlace, WellModed, WellModedTo, occurs_at}
 use Rattle.std.proofs.Common.{◌≡◌, ℕ, zero, suc, List, [], ◌∷◌, ◌<◌, refl, sym, ap, ap₂, ◌∙◌, subst, arith, inl, inr, true≢false}
@@ -28,7 +29,7 @@ use Rattle.lf.proofs.Target.{target_of, target_renamed}
 use Rattle.lf.proofs.Patch.{pick}
 use Rattle.lf.proofs.Strength.{uses_only, strengthening_keeps_typing, Rich}
 use Rattle.lf_totality.proofs.After.{record_made, lasting_total}
-use Rattle.lf_totality.proofs.Core.{grows}
+use Rattle.lf_cases.proofs.GroundTypes.{grows, outside_ground}
 use Rattle.lf_totality.proofs.ExampleLemmas.{step, below_itself, same_below, in_group}
 use Rattle.lf_cases.proofs.Instances.{entry_of, EntryAt, Begun, instance_typed}
 use mathlib.Core.Path.{fun_ext}
@@ -785,11 +786,13 @@ covered_by_block Σ x G w θ b M P e =
     let (j, k) = t.kept 0 refl in
     record { head = variable j; clause = u_clause; outer = λ n. θ (suc n); values = λ n. θ (suc n); offered = by_entry copy_block [] (cp (var 0) (var 0)) (exp ∷ []) θ j (inl refl) refl b k; family = refl; typed = u_values Σ G θ t.typed; agrees = λ n X g. refl; terms = λ n o u. absurd cc; same = (e, tt); uses = ((refl, tt), tt) }
 
-block_instances : (Σ : Signature) → Extends (first_below_second 1) Copying Σ → (G : List LfType) (w : World Σ (copy_block ∷ []) (first_below_second 1) G) (σ : ℕ → Image) → IsGroundInstance w block_case.items σ → (T : Spine) → HasArguments σ block_case.arguments T → CoveredBy w (covered_places block_case.arguments) 1 T
-block_instances Σ x G w σ i nil h = absurd h
-block_instances Σ x G w σ i (app M nil) h = absurd h.1
-block_instances Σ x G w σ (θ, τ, g, b, s, e) (app M (app P nil)) (h, k) = covered_by_block Σ x G w θ b M P (h ∙ ap (λ f. apply_image reduce (f 1) nil) e)
-block_instances Σ x G w σ i (app M (app P (app Q T))) h = absurd h.1
-
 pub block_case_covered : BlockCaseIsCovered
-block_case_covered = (refl, refl, block_instances)
+block_case_covered Σ x G w F σ T h = by T h.values h.is_ground h.has_arguments
+  where
+    by : (T : Spine) (τ : ℕ → Image) → IsGroundInstance w block_case.items τ → HasArguments τ block_case.arguments T → OneCovers w copy_heads (covered_places block_case.arguments) F [] σ T
+    by nil τ i h = absurd h
+    by (app M nil) τ i h = absurd h.1
+    by (app M (app P (app Q T))) τ i h = absurd h.1
+    by (app M (app P nil)) τ (θ, υ, g, b, s, e) (h, k) =
+        let t : Begun Σ x.ok G copy_block copy_block.entries θ = instance_typed Σ x.ok w copy_block θ b in
+        (head_pattern copy_entry (of_entry copy_block [] (cp (var 0) (var 0)) (exp ∷ []) refl), inr (inr (inl refl)), record { outer = λ n. θ (suc n); stands = (θ, b, refl); used = ground_first copying_marks u_clause; outside_used = outside_ground (input_places (copying_marks 1)) u_clause; uses = ((refl, tt), tt); strict = ((refl, tt), tt); values = λ n. θ (suc n); typed = u_values Σ G θ t.typed; agrees = λ n X g. refl; given = λ n N u g. absurd cc; terms = λ n o u. absurd cc; same = (h ∙ ap (λ f. apply_image reduce (f 1) nil) e, tt) })

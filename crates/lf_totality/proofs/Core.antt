@@ -23,6 +23,7 @@ use Rattle.lf.proofs.Agreement.{agree_on, agree_on_spine, agree_on_type, uses_wi
 use Rattle.lf.proofs.Partial.{skeletons_beside, PartialSubstitution, partial_lift, skeleton_context_of_beside, type_by_skeletons_beside, kind_by_skeletons_beside, partial_substitution_keeps_kind_spines, uses_spine_all}
 use Rattle.lf.proofs.Substitution.{family_kind}
 use Rattle.lf.proofs.Patch.{pick, patch, patch_same, patched, patch_values}
+use Rattle.lf_cases.proofs.GroundTypes.{either_left, grows}
 use Rattle.lf_cases.proofs.Assemble.{value_spine, AllPut, AllTyped, AllTyped-has_skeleton, assemble, end_typed, binders_typed, lams, lams_typed}
 use Rattle.lf_cases.proofs.Calls.{inputs_part}
 use Rattle.lf_checks.proofs.Measure.{LexLt, Acc, acc, well_founded}
@@ -74,12 +75,6 @@ same_number_equal (suc i) (suc j) e = ap suc (same_number_equal i j e)
 same_number_self : (i : ℕ) → same_number i i ≡ true
 same_number_self zero = refl
 same_number_self (suc i) = same_number_self i
-
-pub either_left : {a : Bool} (b : Bool) → a ≡ true → either a b ≡ true
-either_left b e = ap (λ x. either x b) e
-
-pub grows : (m : ℕ → List Mark) (c : Clause) (A : LfType) (U : ℕ → Bool) → Within U (ground_after m c A U)
-grows m c A U i e = either_left (both (variables c i) _) e
 
 pub SamePlaces-agree : (r : Skeleton → Term → Spine → Term) (U : ℕ → Bool) (σ τ : ℕ → Image) (m : List Bool) (S H : Spine) → SameOn U σ τ → UsesPlaces U m H → SamePlaces m S (substitute_spine r σ H) → SamePlaces m S (substitute_spine r τ H)
 SamePlaces-agree r U σ τ [] nil nil h u p = p

@@ -1,7 +1,7 @@
 -- Where the goals of output coverage of a clause, one for each constant and each block entry that it comes from, are covered, so are
 -- its outputs.
 use Rattle.std.proofs.Common.{◌≡◌, ℕ, zero, suc, List, [], ◌∷◌, ◌+◌, length, refl, sym, ap, ◌∙◌, subst, arith, true≢false}
-use Rattle.std.specs.Prelude.{Bool, true, false, Some}
+use Rattle.std.specs.Prelude.{Bool, true, false, Some, None}
 use Rattle.lf.specs.Syntax.{Head, Spine, Term, LfType, Kind, pi, atom, Skeleton, skeleton, weaken}
 use Rattle.lf.specs.Substitution.{Image, keep, put, substitute_type, reduce, after}
 use Rattle.lf.specs.SkeletonTyping.{SkeletonAt, SubstitutionBySkeletons}
@@ -9,7 +9,7 @@ use Rattle.lf.specs.Skeletons.{constant_skeletons, family_skeletons, context_ske
 use Rattle.lf.specs.Typing.{Signature, TypeAt, HasType, ImageHasType, IsType, IsContext, IsSignature, SpineFitsKind}
 use Rattle.lf.specs.AtOnce.{in_front}
 use Rattle.lf.specs.Entries.{quantifiers}
-use Rattle.lf.specs.Variables.{target, target_arguments, binders, onto, everything, SameOn, Values}
+use Rattle.lf.specs.Variables.{target, target_arguments, binders, onto, everything, SameOn, Values, Within}
 use Rattle.lf.specs.Subordination.{Block, Member, AreTypedBlocks}
 use Rattle.lf.specs.Worlds.{World, lift_over, instance}
 use Rattle.lf.specs.Extension.{Extends}
@@ -29,19 +29,20 @@ use Rattle.lf_checks.specs.Worlded.{IsSequence, IsTerm}
 use Rattle.lf_checks.specs.Below.{IsSubordination}
 use Rattle.lf_cases.specs.Cover.{InstanceIn, Offered, by_constant, by_entry, before, outer_images, AgreesOutside, AreTerms, CoveredOutputs, OutputsCovered}
 use Rattle.lf_cases.specs.Case.{Case, items_context, entries_in_front, behind_entries, as_term, IsGroundInstance, chosen_count}
-use Rattle.lf_cases.specs.Raised.{PlacesBelow, CoveredRaisedOutputs, RaisedPlaces}
-use Rattle.lf_cases.specs.OutputCase.{Origin, of_constant, of_entry, origin, given_at, has_block_variable, FirstInstance, HoldsOutputs, IsCoveredOutputCase}
-use Rattle.lf_cases.specs.OutputGoal.{free_variables, kept_terms, goal_number, output_goal, HasOutputGoal}
+use Rattle.lf_cases.specs.Raised.{PlacesBelow, CoveredLowOutputs, LowPlaces}
+use Rattle.lf_cases.specs.Pattern.{Origin, of_constant, of_entry, origin, subgoal_pattern, given_at, has_block_variable, FirstInstance, Holds, IsCoveredCase}
+use Rattle.lf_cases.specs.OutputGoal.{free_variables, kept_terms, goal_number, goal_masks, closed_over, output_goal}
 use Rattle.lf_cases.proofs.Assemble.{binders_typed}
+use Rattle.lf_cases.proofs.GroundTypes.{clause_typed}
 use Rattle.lf_cases.proofs.BlockEntries.{onto_onto, drop_typed}
 use Rattle.lf_totality.proofs.Core.{out_index, outer_at}
-use Rattle.lf_totality.proofs.GoalHolds.{goal_gives, goal_holds, HoldsOutside, same_inputs, own_among}
+use Rattle.lf_totality.proofs.GoalHolds.{goal_gives, goal_holds, places_of_goal, HoldsOutside, same_inputs, own_among}
 use Rattle.lf_cases.proofs.Instances.{instance_typed}
 use Rattle.lf_cases.proofs.KeptItems.{behind}
 use Rattle.lf_cases.proofs.LongValues.{long_at, long_past, long_fits, long_same, term_typed, long_values, whole, whole_same, whole_long_same, whole_type}
 use Rattle.lf_totality.proofs.OutputCases.{held_is_covered, in_context, in_covers, in_type}
 use Rattle.lf_totality.proofs.OutputGoals.{nothing_outside}
-use Rattle.lf_totality.proofs.RaisedOutputs.{raised_cover, binders_over, hypotheses_agree}
+use Rattle.lf_totality.proofs.RaisedOutputs.{low_cover, binders_over, hypotheses_agree}
 use mathlib.Core.Path.{fun_ext}
 
 some_same : {K L : Kind} → Some K ≡ Some L → K ≡ L
@@ -168,8 +169,8 @@ module _ (Σ : Signature) (ok : IsSignature Σ) where
   front_fits (D ∷ ds) O G θ τ k s (suc i) t g = front_fits ds O G (λ j. θ (suc j)) τ (λ j. k (suc j)) s i t g
 
   -- What is outside an entry is held: the block variable stands for the instance, and free variables for its `some` terms.
-  entry_outside : {W : List Block} {S : ℕ → Bool} {G : List LfType} (w : World Σ W S G) (B : Block) (later : List LfType) (E : LfType) (es : List LfType) (m : Member B W) (e : onto later (E ∷ es) ≡ B.entries) (U : ℕ → Bool) (θ σ : ℕ → Image) → IsContext Σ (onto B.entries B.some) → InstanceIn w B θ → AgreesOutside (entry_clause B es E) σ (before later θ) → HoldsOutside {W = W} (of_entry B later E es m e) U w (before later θ) (long_past (onto (binders [] E) es) B.some σ)
-  entry_outside {W = W} {G = G} w B later E es m e U θ σ c i out =
+  entry_outside : {W : List Block} {S : ℕ → Bool} {G : List LfType} (w : World Σ W S G) (B : Block) (later : List LfType) (E : LfType) (es : List LfType) (e : onto later (E ∷ es) ≡ B.entries) (U : ℕ → Bool) (θ σ : ℕ → Image) → IsContext Σ (onto B.entries B.some) → InstanceIn w B θ → AgreesOutside (entry_clause B es E) σ (before later θ) → HoldsOutside (of_entry B later E es e) U w (Some (B, θ)) (long_past (onto (binders [] E) es) B.some σ)
+  entry_outside {G = G} w B later E es e U θ σ c i out =
       let O : List LfType = B.some in
       let D : List LfType = binders [] E in
       let o : ℕ → Image = behind D σ in
@@ -192,7 +193,7 @@ module _ (Σ : Signature) (ok : IsSignature Σ) where
       record {
         values = ψ;
         is_ground = (θ, τ, some_ground w O s co st, i, some, refl);
-        stands = (θ, subst (λ b. choose b (FirstInstance w (free_variables O) τ (some_ground w O s co st) B θ) ((B ≡ B) × (θ ≡ θ))) (sym (none_block O)) (refl, refl), refl);
+        first = subst (λ b. choose b (FirstInstance w (free_variables O) τ (some_ground w O s co st) B θ) ((B ≡ B) × (θ ≡ θ))) (sym (none_block O)) (refl, refl);
         gives = record {
           fits = subst (λ Γ. SubstitutionBySkeletons (constant_skeletons Σ) Γ (context_skeletons G) ψ) (sym shape) (front_fits B.entries O G θ τ (typed_substitution_by_skeletons Σ ok (onto B.entries O) G θ whole_typed) τfits);
           same = λ k u. number k ∙ sym (behind_long D es O σ k);
@@ -200,22 +201,17 @@ module _ (Σ : Signature) (ok : IsSignature Σ) where
         };
       }
 
--- a clause is typed
-clause_typed : (Σ : Signature) → IsSignature Σ → (W : List Block) → AreTypedBlocks Σ W → (c : Clause) → IsClause Σ W c → IsContext Σ c.outer × IsType Σ c.outer c.type
-clause_typed Σ ok W typed c (from_constant k U e) = (tt, ok.types_ok k U e)
-clause_typed Σ ok W typed c (from_entry B later E es i q) = drop_typed Σ later E (onto es B.some) (subst (IsContext Σ) (onto_onto later (E ∷ es) B.some) (subst (λ X. IsContext Σ (onto X B.some)) (sym q) (typed B i)))
-
 module _ (Σ : Signature) (ok : IsSignature Σ) (W : List Block) (typed : AreTypedBlocks Σ W) (below : ℕ → ℕ → Bool) (m : ℕ → List Mark) (f : ℕ) where
   -- what is asked of a goal
   abbrev Goal : (c : Clause) → (ℕ → Bool) → LfType → Kind → IsClause Σ W c → Type 0
-  Goal c U A K d = HasOutputGoal below m (origin d) U A K × IsCoveredOutputCase Σ m W (below f) c (origin d) U A (output_goal below m (origin d) U A K)
+  Goal c U A K d = IsCoveredCase Σ W (below f) (subgoal_pattern c (origin d) A ∷ []) (output_goal below m (origin d) U A K)
 
   module _ (Σ' : Signature) (x : Extends (below f) Σ Σ') (G : List LfType) (w : World Σ' W (below f) G) where
     -- the goal of an entry holds each raised tuple, where the entry is offered
-    entry_covers : (B : Block) (later : List LfType) (E : LfType) (es : List LfType) (mb : Member B W) (q : onto later (E ∷ es) ≡ B.entries) (U : ℕ → Bool) (i : ℕ) (A : LfType) → IsSubgoal (entry_clause B es E) i A → NoneFree (m (target A)) → UsesGoal U (input_places (m (target A))) A → (K : Kind) → Σ.kinds (target A) ≡ Some K → Goal (entry_clause B es E) U A K (from_entry B later E es mb q) → (θ σ : ℕ → Image) → InstanceIn w B θ → Values Σ' U (scope (entry_clause B es E)) G σ → AgreesOutside (entry_clause B es E) σ (before later θ) → AreTerms (entry_clause B es E) U σ → (T : Spine) → SamePlaces (input_places (m (target A))) (target_arguments (substitute_type reduce σ A)) T → SpineFitsKind Σ' (binders G (substitute_type reduce σ A)) T K → RaisedPlaces Σ' below G (binders [] (substitute_type reduce σ A)) (output_places (m (target A))) T K → OutputsCovered Σ' m (entry_clause B es E) U A G σ T
-    entry_covers B later E es mb q U i A sub none needs K ek (can, cover) θ σ ins v out ts T p fit r =
+    entry_covers : (B : Block) (later : List LfType) (E : LfType) (es : List LfType) (mb : Member B W) (q : onto later (E ∷ es) ≡ B.entries) (U : ℕ → Bool) → Within (outside E everything) U → (i : ℕ) (A : LfType) → IsSubgoal (entry_clause B es E) i A → NoneFree (m (target A)) → UsesGoal U (input_places (m (target A))) A → (K : Kind) → Σ.kinds (target A) ≡ Some K → Goal (entry_clause B es E) U A K (from_entry B later E es mb q) → (θ σ : ℕ → Image) → InstanceIn w B θ → Values Σ' U (scope (entry_clause B es E)) G σ → AgreesOutside (entry_clause B es E) σ (before later θ) → AreTerms (entry_clause B es E) U σ → (T : Spine) → SamePlaces (input_places (m (target A))) (target_arguments (substitute_type reduce σ A)) T → SpineFitsKind Σ' (binders G (substitute_type reduce σ A)) T K → IsContext Σ' (binders G (substitute_type reduce σ A)) → LowPlaces below (binders [] (substitute_type reduce σ A)) (output_places (m (target A))) T K → OutputsCovered Σ' m (entry_clause B es E) U A G σ T
+    entry_covers B later E es mb q U all_out i A sub none needs K ek cover θ σ ins v out ts T p fit lc r =
         let c : Clause = entry_clause B es E in
-        let o : Origin W c = of_entry B later E es mb q in
+        let o : Origin c = of_entry B later E es q in
         let O : List LfType = B.some in
         let D : List LfType = binders [] E in
         let X : List LfType = onto D es in
@@ -239,39 +235,38 @@ module _ (Σ : Signature) (ok : IsSignature Σ) (W : List Block) (typed : AreTyp
         let own : (j : ℕ) → outside c.type everything j ≡ false → l j ≡ σ j = λ j z. own_long D es O σ j (own_among E [] everything (λ k y. absurd (true≢false y)) j z) in
         let lt : AreTerms c U l = λ j z u. subst IsTerm (sym (own j z)) (ts j z u) in
         let goal : Case = output_goal below m o U A K in
-        let held : HoldsOutputs o w goal (before later θ) l T = goal_holds Σ ok W below m (below f) c o U i A ct sub none needs K ek can Σ' x G w (before later θ) l lv lt (entry_outside Σ' x.ok w B later E es mb q U θ σ (extension_keeps_contexts (below f) Σ Σ' x (onto B.entries B.some) (typed B mb)) ins out) T p' (subst (λ Y. SpineFitsKind Σ' Y T K) (local G) fit) (subst (λ Y. RaisedPlaces Σ' below G Y (output_places ms) T K) (local []) r) in
-        let r' : ℕ → ℕ = λ j. goal_number o U j + chosen_count (output_places ms) K in
-        let held' : HoldsOutputs o w goal (before later θ) σ T = record {
+        let held : Holds w goal (Some (B, θ)) l T = goal_holds Σ ok W below m (below f) c o U i A ct sub none needs K ek Σ' x G w (Some (B, θ)) l lv lt (entry_outside Σ' x.ok w B later E es q U θ σ (extension_keeps_contexts (below f) Σ Σ' x (onto B.entries B.some) (typed B mb)) ins out) T p' (subst (λ Y. SpineFitsKind Σ' Y T K) (local G) fit) (subst (IsContext Σ') (local G) lc) (subst (λ Y. LowPlaces below Y (output_places ms) T K) (local []) r) in
+        let r' : ℕ → ℕ = λ j. goal_number o (closed_over (binders [] c.type) U) j + chosen_count (output_places ms) K in
+        let held' : Holds w goal (Some (B, θ)) σ T = record {
           values = held.values;
           is_ground = held.is_ground;
-          stands = held.stands;
+          first = held.first;
           given = λ j M z. let (a, y) = held.given j M z in (a, sym (own_long D es O σ j (given_among D U r' j M z)) ∙ y);
           has_arguments = held.has_arguments;
         } in
-        held_is_covered Σ ok W m (below f) c o U i A ct sub none needs goal (goal_gives below m o U A K) cover Σ' x G w (before later θ) σ v out ts T p held'
+        held_is_covered Σ ok W m (below f) c o U i A all_out ct sub none needs goal (goal_gives below m o U A K) cover Σ' x G w (Some (B, θ)) (before later θ) σ (θ, refl, refl) v out ts T (places_of_goal Σ' _ (goal_masks below m o (closed_over (binders [] c.type) U) A K) (binders [] A) ms _ T K p fit) p held'
 
-    constant_covers : (V : LfType) (d : IsClause Σ W (constant_clause V)) (U : ℕ → Bool) (i : ℕ) (A : LfType) → IsSubgoal (constant_clause V) i A → NoneFree (m (target A)) → UsesGoal U (input_places (m (target A))) A → (K : Kind) → Σ.kinds (target A) ≡ Some K → HasOutputGoal below m {W = W} (of_constant V) U A K → IsCoveredOutputCase Σ m W (below f) (constant_clause V) (of_constant V) U A (output_goal below m {W = W} (of_constant V) U A K) → (θ σ : ℕ → Image) → Values Σ' U (scope (constant_clause V)) G σ → AgreesOutside (constant_clause V) σ θ → AreTerms (constant_clause V) U σ → (T : Spine) → SamePlaces (input_places (m (target A))) (target_arguments (substitute_type reduce σ A)) T → SpineFitsKind Σ' (binders G (substitute_type reduce σ A)) T K → RaisedPlaces Σ' below G (binders [] (substitute_type reduce σ A)) (output_places (m (target A))) T K → OutputsCovered Σ' m (constant_clause V) U A G σ T
-    constant_covers V d U i A sub none needs K ek can cover θ σ v out ts T p fit r =
+    constant_covers : (V : LfType) (d : IsClause Σ W (constant_clause V)) (U : ℕ → Bool) → Within (outside V everything) U → (i : ℕ) (A : LfType) → IsSubgoal (constant_clause V) i A → NoneFree (m (target A)) → UsesGoal U (input_places (m (target A))) A → (K : Kind) → Σ.kinds (target A) ≡ Some K → IsCoveredCase Σ W (below f) (subgoal_pattern (constant_clause V) (of_constant V) A ∷ []) (output_goal below m (of_constant V) U A K) → (θ σ : ℕ → Image) → Values Σ' U (scope (constant_clause V)) G σ → AgreesOutside (constant_clause V) σ θ → AreTerms (constant_clause V) U σ → (T : Spine) → SamePlaces (input_places (m (target A))) (target_arguments (substitute_type reduce σ A)) T → SpineFitsKind Σ' (binders G (substitute_type reduce σ A)) T K → IsContext Σ' (binders G (substitute_type reduce σ A)) → LowPlaces below (binders [] (substitute_type reduce σ A)) (output_places (m (target A))) T K → OutputsCovered Σ' m (constant_clause V) U A G σ T
+    constant_covers V d U all_out i A sub none needs K ek cover θ σ v out ts T p fit cg r =
         let c : Clause = constant_clause V in
         let ty = clause_typed Σ ok W typed c d in
         let ct : IsContext Σ (scope c) = binders_typed Σ ok V [] ty.0 ty.1 in
-        let o : Origin W c = of_constant V in
-        held_is_covered Σ ok W m (below f) c o U i A ct sub none needs (output_goal below m o U A K) (goal_gives below m o U A K) cover Σ' x G w θ σ v out ts T p (goal_holds Σ ok W below m (below f) c o U i A ct sub none needs K ek can Σ' x G w θ σ v ts (nothing_outside W V U w θ σ) T p fit r)
+        let o : Origin c = of_constant V in
+        held_is_covered Σ ok W m (below f) c o U i A all_out ct sub none needs (output_goal below m o U A K) (goal_gives below m o U A K) cover Σ' x G w None θ σ tt v out ts T (places_of_goal Σ' _ (goal_masks below m o (closed_over (binders [] c.type) U) A K) (binders [] A) (m (target A)) _ T K p fit) p (goal_holds Σ ok W below m (below f) c o U i A ct sub none needs K ek Σ' x G w None σ v ts (nothing_outside V U w σ) T p fit cg r)
 
     -- by the way in which the clause is offered
-    offered_covers : (h : Head) (c : Clause) (θ : ℕ → Image) → Offered w h c θ → below f (target c.type) ≡ true → (U : ℕ → Bool) (i : ℕ) (A : LfType) → IsSubgoal c i A → NoneFree (m (target A)) → UsesGoal U (input_places (m (target A))) A → (K : Kind) → Σ.kinds (target A) ≡ Some K → ((d : IsClause Σ W c) → Goal c U A K d) → (σ : ℕ → Image) → Values Σ' U (scope c) G σ → AgreesOutside c σ θ → AreTerms c U σ → (T : Spine) → SamePlaces (input_places (m (target A))) (target_arguments (substitute_type reduce σ A)) T → SpineFitsKind Σ' (binders G (substitute_type reduce σ A)) T K → RaisedPlaces Σ' below G (binders [] (substitute_type reduce σ A)) (output_places (m (target A))) T K → OutputsCovered Σ' m c U A G σ T
-    offered_covers h c θ (by_constant k V e) b U i A sub none needs K ek goals σ v out ts T p fit r =
+    offered_covers : (h : Head) (c : Clause) (θ : ℕ → Image) → Offered w h c θ → below f (target c.type) ≡ true → (U : ℕ → Bool) → Within (outside c.type everything) U → (i : ℕ) (A : LfType) → IsSubgoal c i A → NoneFree (m (target A)) → UsesGoal U (input_places (m (target A))) A → (K : Kind) → Σ.kinds (target A) ≡ Some K → ((d : IsClause Σ W c) → Goal c U A K d) → (σ : ℕ → Image) → Values Σ' U (scope c) G σ → AgreesOutside c σ θ → AreTerms c U σ → (T : Spine) → SamePlaces (input_places (m (target A))) (target_arguments (substitute_type reduce σ A)) T → SpineFitsKind Σ' (binders G (substitute_type reduce σ A)) T K → IsContext Σ' (binders G (substitute_type reduce σ A)) → LowPlaces below (binders [] (substitute_type reduce σ A)) (output_places (m (target A))) T K → OutputsCovered Σ' m c U A G σ T
+    offered_covers h c θ (by_constant k V e) b U all_out i A sub none needs K ek goals σ v out ts T p fit cg r =
         let d : IsClause Σ W (constant_clause V) = from_constant k V (x.no_new k V e b) in
-        let (can, cover) = goals d in
-        constant_covers V d U i A sub none needs K ek can cover keep σ v out ts T p fit r
-    offered_covers h c θ (by_entry B later E es φ j mb q ins e) b U i A sub none needs K ek goals σ v out ts T p fit r = entry_covers B later E es mb q U i A sub none needs K ek (goals (from_entry B later E es mb q)) φ σ ins v out ts T p fit r
+        constant_covers V d U all_out i A sub none needs K ek (goals d) keep σ v out ts T p fit cg r
+    offered_covers h c θ (by_entry B later E es φ j mb q ins e) b U all_out i A sub none needs K ek goals σ v out ts T p fit cg r = entry_covers B later E es mb q U all_out i A sub none needs K ek (goals (from_entry B later E es mb q)) φ σ ins v out ts T p fit cg r
 
 -- The theorem
-pub goals_cover : (Σ : Signature) → IsSignature Σ → (W : List Block) → AreTypedBlocks Σ W → (below : ℕ → ℕ → Bool) → IsSubordination Σ W below → (m : ℕ → List Mark) (f : ℕ) (c : Clause) → IsClause Σ W c → below f (target c.type) ≡ true → (U : ℕ → Bool) (i : ℕ) (A : LfType) → IsSubgoal c i A → IsSequence Σ W (scope c) (binders [] A) → NoneFree (m (target A)) → UsesGoal U (input_places (m (target A))) A → (K : Kind) → Σ.kinds (target A) ≡ Some K → PlacesBelow Σ below f K → ((d : IsClause Σ W c) → HasOutputGoal below m (origin d) U A K × IsCoveredOutputCase Σ m W (below f) c (origin d) U A (output_goal below m (origin d) U A K)) → CoveredOutputs Σ m W (below f) c U A
-goals_cover Σ ok W typed below s m f c d b U i A sub seq none needs K ek low goals =
+pub goals_cover : (Σ : Signature) → IsSignature Σ → (W : List Block) → AreTypedBlocks Σ W → (below : ℕ → ℕ → Bool) → IsSubordination Σ W below → (m : ℕ → List Mark) (f : ℕ) (c : Clause) → IsClause Σ W c → below f (target c.type) ≡ true → (U : ℕ → Bool) → Within (outside c.type everything) U → (i : ℕ) (A : LfType) → IsSubgoal c i A → IsSequence Σ W (scope c) (binders [] A) → NoneFree (m (target A)) → UsesGoal U (input_places (m (target A))) A → (K : Kind) → Σ.kinds (target A) ≡ Some K → PlacesBelow Σ below f K → ((d : IsClause Σ W c) → IsCoveredCase Σ W (below f) (subgoal_pattern c (origin d) A ∷ []) (output_goal below m (origin d) U A K)) → CoveredOutputs Σ m W (below f) c U A
+goals_cover Σ ok W typed below s m f c d b U all_out i A sub seq none needs K ek low goals =
     let ty = clause_typed Σ ok W typed c d in
     let ct : IsContext Σ (scope c) = binders_typed Σ ok c.type c.outer ty.0 ty.1 in
-    let raised : CoveredRaisedOutputs Σ below m W (below f) c U A = λ Σ' x G w h θ off σ v out ts T K' e' p fit r.
+    let raised : CoveredLowOutputs Σ below m W (below f) c U A = λ Σ' x G w h θ off σ v out ts T K' e' p fit cg r.
     let q : K' ≡ K = some_same (sym e' ∙ x.kinds_stay (target A) K ek) in
-    offered_covers Σ ok W typed below m f Σ' x G w h c θ off b U i A sub none needs K ek goals σ v out ts T p (subst (SpineFitsKind Σ' (binders G (substitute_type reduce σ A)) T) q fit) (subst (RaisedPlaces Σ' below G (binders [] (substitute_type reduce σ A)) (output_places (m (target A))) T) q r) in
-    raised_cover Σ ok W below s m f typed c U i A ct sub seq needs (λ L l. subst (PlacesBelow Σ below f) (some_same (sym ek ∙ l)) low) raised
+    offered_covers Σ ok W typed below m f Σ' x G w h c θ off b U all_out i A sub none needs K ek goals σ v out ts T p (subst (SpineFitsKind Σ' (binders G (substitute_type reduce σ A)) T) q fit) cg (subst (LowPlaces below (binders [] (substitute_type reduce σ A)) (output_places (m (target A))) T) q r) in
+    low_cover Σ ok W below s m f typed c U i A ct sub seq needs (λ L l. subst (PlacesBelow Σ below f) (some_same (sym ek ∙ l)) low) raised

@@ -1,5 +1,5 @@
 -- The strategy reaches the output that a subgoal doesn't ask for.
-use Rattle.std.proofs.Common.{◌≡◌, ℕ, zero, suc, List, [], ◌∷◌, refl, sym, ap, ◌∙◌, subst, inl}
+use Rattle.std.proofs.Common.{◌≡◌, ℕ, zero, suc, List, [], ◌∷◌, refl, sym, ap, ◌∙◌, subst, inl, inr}
 use Rattle.std.specs.Prelude.{Bool, true, false, Some}
 use Rattle.lf.specs.Syntax.{Spine, nil, app, LfType, Term, pi, base, skeleton, weaken}
 use Rattle.lf.specs.Substitution.{Image, keep, put, apply_image, substitute, substitute_type, reduce, after}
@@ -11,14 +11,13 @@ use Rattle.lf_checks.specs.Clause.{scope}
 use Rattle.lf_checks.specs.Marks.{SamePlaces, output_places}
 use Rattle.lf_cases.specs.Case.{Item, free_variable, HasArguments, as_term}
 use Rattle.lf_cases.specs.Cover.{AreTerms}
-use Rattle.lf_cases.specs.OutputCase.{of_constant, HasGiven}
+use Rattle.lf.specs.Subordination.{Member}
+use Rattle.lf_cases.specs.Pattern.{Pattern, HasGiven}
 use Rattle.lf_totality.specs.Examples.{addition_marks, nat, z, successor, var, plus_output_case}
 use Rattle.lf_totality.specs.ExamplesMissing.{Unfinished}
-use Rattle.lf_totality.specs.ExamplesReached.{plus_narrow, narrow_goal, NarrowZeroIsReached}
-use Rattle.lf_cases.specs.Missing.{AreTypedItems, IsTypedInstance}
-use Rattle.lf_cases.specs.MissingOutputs.{CommonOutputs}
-use Rattle.lf_cases.specs.Reached.{split_by, constant_head, Unifies, LeavesAll}
-use Rattle.lf_cases.specs.ReachedOutputs.{output_goal_is_reached, output_split_is_reached}
+use Rattle.lf_totality.specs.ExamplesReached.{plus_narrow, narrow_goal, narrow, NarrowZeroIsReached}
+use Rattle.lf_cases.specs.Missing.{AreTypedItems, IsTypedInstance, CommonInstance}
+use Rattle.lf_cases.specs.Reached.{IsInstanceOf, goal_is_reached, split_is_reached, of_first, split_by, constant_head, Unifies, LeavesAll}
 
 some_term : {M N : Term} → Some M ≡ Some N → M ≡ N
 some_term e = cc
@@ -61,7 +60,7 @@ narrow_given (suc (suc zero)) M e = (base 0, ap (λ N. put (base 0) (substitute 
 narrow_given (suc (suc (suc zero))) M e = (base 0, ap (λ N. put (base 0) (substitute reduce of_case N)) (some_term e))
 narrow_given (suc (suc (suc (suc i)))) M e = absurd cc
 
-narrow_shared : CommonOutputs Unfinished [] addition_marks plus_narrow (of_constant plus_narrow.type) narrow_goal plus_output_case
+pub narrow_shared : CommonInstance Unfinished [] plus_output_case narrow
 narrow_shared = record {
   items = free_variable nat ∷ free_variable nat ∷ free_variable nat ∷ [];
   typed_items = (((tt, (_, refl, tt)), (_, refl, tt)), (_, refl, tt));
@@ -93,12 +92,17 @@ newest_still J I σ (N, τ, g, n, e) v = let q : σ 0 ≡ put (base 0) N = ap (�
 abbrev split_values : ℕ → Image
 split_values = in_front (put (base 0) z) (in_front (put (base 0) (var 0)) (in_front (put (base 0) (var 1)) keep))
 
+-- so the goal is no instance of the subgoal
+narrow_none : (p : Pattern) → Member p (narrow ∷ []) → IsInstanceOf Unfinished [] plus_output_case p → ⊥
+narrow_none p (inl e) (s, i, v, st) = narrow_not_instance s.tuple s.case_values s.clause_values (newest_still s.items (free_variable nat ∷ free_variable nat ∷ []) s.case_values s.is_instance v) s.of_case (subst (λ q. SamePlaces (output_places (addition_marks 1)) s.tuple (target_arguments (substitute_type reduce s.clause_values q.type))) e s.of_clause)
+narrow_none p (inr e) h = absurd e
+
 pub narrow_reached : NarrowZeroIsReached
-narrow_reached = output_split_is_reached 0 [] output_goal_is_reached (λ h. let (s, i, v) = h in narrow_not_instance s.tuple s.case_values s.clause_values (newest_still s.items (free_variable nat ∷ free_variable nat ∷ []) s.case_values s.is_instance v) s.of_case s.of_clause) (inl narrow_shared) refl (split_by nat refl (constant_head 0 nat refl refl) (record {
+narrow_reached = split_is_reached 0 goal_is_reached narrow_none (of_first [] (inl narrow_shared) refl) (split_by nat refl (constant_head 0 nat refl refl) (record {
   values = in_front (put (base 0) z) (in_front (put (base 0) (var 0)) (in_front (put (base 0) (var 1)) keep));
   unifier = record {
     typed_items = ((tt, (_, refl, tt)), (_, refl, tt));
-    unifies = record { is_instance = (z, in_front (put (base 0) (var 0)) (in_front (put (base 0) (var 1)) keep), (var 0, in_front (put (base 0) (var 1)) keep, (var 1, keep, tt, (nat, (nat, refl, refl), refl), refl), (nat, refl, refl), refl), (nat, refl, refl), refl); same = refl };
+    unifies = record { keeps_apart = tt; is_instance = (z, in_front (put (base 0) (var 0)) (in_front (put (base 0) (var 1)) keep), (var 0, in_front (put (base 0) (var 1)) keep, (var 1, keep, tt, (nat, (nat, refl, refl), refl), refl), (nat, refl, refl), refl), (nat, refl, refl), refl); same = refl };
     most_general = general;
   };
   given = refl;

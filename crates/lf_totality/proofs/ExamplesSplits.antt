@@ -1,7 +1,7 @@
 -- Heads that give no case, lists of clauses, instances of clauses and of outputs, linear clauses.
 use Rattle.std.proofs.Common.{◌≡◌, ℕ, zero, suc, List, [], ◌∷◌, refl, sym, ap, ◌∙◌, subst, arith, inl, inr, true≢false}
-use Rattle.std.specs.Prelude.{Bool, true, false, Some, None, Option}
-use Rattle.lf.specs.Syntax.{constant, Spine, root, nil, app, LfType, LfType-discrete, Spine-discrete, Head-discrete, Term, base, skeleton, weaken}
+use Rattle.std.specs.Prelude.{Bool, true, false, Some, ◌⊎◌}
+use Rattle.lf.specs.Syntax.{constant, Spine, root, nil, app, LfType, Term, base, skeleton, weaken}
 use Rattle.lf.specs.Substitution.{Image, keep, put, substitute, substitute_type, reduce}
 use Rattle.lf.specs.AtOnce.{in_front}
 use Rattle.lf.specs.Typing.{TypeAt, HasType, ImageHasType}
@@ -12,23 +12,21 @@ use Rattle.lf_checks.specs.Clause.{Clause, IsClause, from_constant, from_entry, 
 use Rattle.lf_checks.specs.Marks.{SamePlaces, output_places}
 use Rattle.lf_checks.specs.Ground.{ground_first}
 use Rattle.lf_cases.specs.Cover.{AreTerms}
-use Rattle.lf_cases.specs.Case.{Item, free_variable, HasArguments, as_term, items_context, entries_in_front}
-use Rattle.lf_cases.specs.OutputCase.{of_constant, HasGiven}
-use Rattle.lf_cases.specs.Missing.{IsTypedInstance}
-use Rattle.lf_cases.specs.MissingOutputs.{CommonOutputs}
-use Rattle.lf_cases.specs.Reached.{ListedClause, AreClausesOf, IsInstanceOf, GivesNoCase, LeavesAll}
-use Rattle.lf_totality.specs.Examples.{Addition, addition_marks, nat, z, var, successor, on_two, plus_z, plus_s, plus_input_goal, plus_zero_case, first_below_second, Copying, copy_block, exp, block_case}
+use Rattle.lf_cases.specs.Case.{Item, free_variable, block_variable, HasArguments, as_term, items_context, entries_in_front}
+use Rattle.lf_cases.specs.Pattern.{Pattern, of_constant, origin, head_pattern, subgoal_pattern, HasGiven, AreAllHeadsOf}
+use Rattle.lf_cases.specs.Candidates.{case_candidates}
+use Rattle.lf_cases.specs.Missing.{BlockAmong, IsTypedInstance, KeepsApart, CommonInstance}
+use Rattle.lf_cases.specs.Reached.{IsInstanceOf, GivesNoCase, IsUnsplit, LeavesAll}
+use Rattle.lf_totality.specs.Examples.{Addition, addition_marks, nat, z, var, successor, on_two, plus_z, plus_s, plus_input_goal, plus_zero_case, plus_output_case, first_below_second, Copying, copy_block, exp, block_case}
 use Rattle.lf_totality.specs.ExamplesGroups.{on_one}
-use Rattle.lf_totality.specs.ExamplesMissing.{eq_r}
+use Rattle.lf_totality.specs.ExamplesMissing.{Unfinished, unfinished_heads, eq_r}
 use Rattle.lf_totality.specs.ExamplesBlocks.{Numbered, a_z}
-use Rattle.lf_totality.specs.ExamplesReached.{Equality, equal_types, equality_clauses}
-use Rattle.lf_totality.specs.ExamplesSplits.{successor_items, NoCaseStands, sum_clauses, ClausesStand, InstancesStand, asks_same, two_outputs, any_two, OutputsStand, LinearClausesStand, EntryInstanceStands}
+use Rattle.lf_totality.specs.ExamplesReached.{Equality, equal_types, equality_heads, head_of, narrow}
+use Rattle.lf_totality.specs.ExamplesSplits.{successor_items, NoCaseStands, ClausesStand, InstancesStand, asks_same, two_outputs, any_two, OutputsStand, LinearClausesStand, EntryInstanceStands, BlocksStayApart}
 use Rattle.lf_totality.proofs.Addition.{z_images, z_values, z_terms}
 use Rattle.lf_totality.proofs.ExamplesMissing.{linear_clauses}
 use Rattle.lf_totality.proofs.ExamplesReached.{both_still, not_instance, entry_linear}
-use mathlib.Core.HLevel.{hedberg, Discrete}
-use native.Mathlib.Decide.{ℕ_discrete}
-use mathlib.Core.Path.{path_j}
+use Rattle.lf_totality.proofs.ExamplesOutputs.{narrow_shared}
 
 some_type : {A B : LfType} → Some A ≡ Some B → A ≡ B
 some_type e = cc
@@ -51,55 +49,34 @@ no_case_stands = (refused, given)
             apart A _ k f
 
     given : GivesNoCase Addition [] first_below_second 1 nat plus_input_goal.items 0 (constant 0) nat → ⊥
-    given h = h (free_variable nat ∷ []) (in_front (put (base 0) (var 0)) (in_front (put (base 0) z) keep)) (tt, (_, refl, tt)) (record { is_instance = (var 0, in_front (put (base 0) z) keep, (z, keep, tt, (nat, refl, refl), refl), (nat, refl, refl), refl); same = refl })
-
--- types are decided, and so these equations have one proof
-decided : Discrete (Option LfType)
-decided None None = yes refl
-decided None (Some B) = no (λ e. absurd cc)
-decided (Some A) None = no (λ e. absurd cc)
-decided (Some A) (Some B) = by (LfType-discrete ℕ_discrete (Spine-discrete (Head-discrete ℕ_discrete)) A B)
-  where
-    by : Dec (A ≡ B) → Dec (◌≡◌ {A = Option LfType} (Some A) (Some B))
-    by (yes p) = yes (ap Some p)
-    by (no n) = no (λ e. n (some_type e))
-
--- the one clause of eq
-abbrev Listed : (U : LfType) → Some eq_r.type ≡ Some U → Type 0
-Listed U e = ◌≡◌ {A = ListedClause Equality []} (record { clause = constant_clause U; comes = from_constant 2 U e }) (record { clause = eq_r; comes = from_constant 2 eq_r.type refl })
-
-one_listed : (U : LfType) (p : eq_r.type ≡ U) (e : Some eq_r.type ≡ Some U) → Listed U e
-one_listed U p = path_j (λ V q. (e : Some eq_r.type ≡ Some V) → Listed V e) here p
-  where
-    here : (e : Some eq_r.type ≡ Some eq_r.type) → Listed eq_r.type e
-    here e = ap (λ q. record { clause = eq_r; comes = from_constant 2 eq_r.type q }) (hedberg decided (Some eq_r.type) (Some eq_r.type) e refl)
+    given h = h (free_variable nat ∷ []) (in_front (put (base 0) (var 0)) (in_front (put (base 0) z) keep)) (tt, (_, refl, tt)) (record { is_instance = (var 0, in_front (put (base 0) z) keep, (z, keep, tt, (nat, refl, refl), refl), (nat, refl, refl), refl); keeps_apart = tt; same = refl })
 
 pub clauses_stand : ClausesStand
-clauses_stand = (record { of_family = of_family; every = λ k t. every k.clause k.comes t }, missing)
+clauses_stand = ((of_family, every), missing)
   where
-    of_family : (k : ListedClause Equality []) → Member k equality_clauses → target k.clause.type ≡ 2
-    of_family k (inl e) = ap (λ l. target l.clause.type) e
-    of_family k (inr e) = absurd e
+    of_family : (p : Pattern) → Member p equality_heads → (c : Clause) × (i : IsClause Equality [] c) × (target c.type ≡ 2) × (p ≡ head_pattern c (origin i))
+    of_family p (inl e) = (eq_r, from_constant 2 eq_r.type refl, refl, e)
+    of_family p (inr e) = absurd e
 
-    every : (c : Clause) (i : IsClause Equality [] c) → target c.type ≡ 2 → Member (record { clause = c; comes = i }) equality_clauses
+    every : (c : Clause) (i : IsClause Equality [] c) → target c.type ≡ 2 → Member (head_pattern c (origin i)) equality_heads
     every c (from_entry B later E es i e) t = absurd i
     every c (from_constant k U e) t = by k U e t
       where
-        by : (k : ℕ) (U : LfType) (e : equal_types k ≡ Some U) → target U ≡ 2 → Member (record { clause = constant_clause U; comes = from_constant k U e }) equality_clauses
+        by : (k : ℕ) (U : LfType) → equal_types k ≡ Some U → target U ≡ 2 → Member (head_pattern (constant_clause U) (of_constant U)) equality_heads
         by zero U e t = let q : ◌≡◌ {A = ℕ} 0 2 = ap target (some_type e) ∙ t in absurd (omega arith)
         by (suc zero) U e t = let q : ◌≡◌ {A = ℕ} 0 2 = ap target (some_type e) ∙ t in absurd (omega arith)
-        by (suc (suc zero)) U e t = inl (one_listed U (some_type e) e)
+        by (suc (suc zero)) U e t = inl (ap (λ V. head_pattern (constant_clause V) (of_constant V)) (sym (some_type e)))
         by (suc (suc (suc n))) U e t = absurd cc
 
-    missing : AreClausesOf Addition [] 1 sum_clauses → ⊥
-    missing h = by (h.every (record { clause = plus_z; comes = from_constant 2 plus_z.type refl }) refl)
+    missing : AreAllHeadsOf Addition [] 1 unfinished_heads → ⊥
+    missing h = by (h.1 plus_z (from_constant 2 plus_z.type refl) refl)
       where
-        by : Member (record { clause = plus_z; comes = from_constant 2 plus_z.type refl }) sum_clauses → ⊥
-        by (inl e) = let q : plus_z.type ≡ plus_s.type = ap (λ k. k.clause.type) e in absurd cc
+        by : Member (head_pattern plus_z (of_constant plus_z.type)) unfinished_heads → ⊥
+        by (inl e) = let q : plus_z.type ≡ plus_s.type = ap (λ p. p.clause.type) e in absurd cc
         by (inr e) = e
 
 -- plus z Y _ is what it shares with plus-z
-zero_instance : IsInstanceOf {Σ = Addition} {W = []} plus_zero_case (record { clause = plus_z; comes = from_constant 2 plus_z.type refl })
+zero_instance : IsInstanceOf Addition [] plus_zero_case (head_of plus_z.type)
 zero_instance = (
   record {
     items = free_variable nat ∷ [];
@@ -111,6 +88,7 @@ zero_instance = (
     typed_values = z_values Addition (nat ∷ []) (var 0) (nat, refl, refl);
     uses = (tt, ((refl, tt), tt));
     terms = z_terms (var 0);
+    given = λ i M e. absurd cc;
     stands = tt;
     tuple = app z (app (var 0) (app z nil));
     of_case = (refl, (refl, tt));
@@ -118,6 +96,7 @@ zero_instance = (
   },
   refl,
   all,
+  (tt, ((refl, tt), tt)),
 )
   where
     all : LeavesAll (free_variable nat ∷ []) (in_front (put (base 0) (var 0)) keep)
@@ -125,10 +104,10 @@ zero_instance = (
     all (suc i) A (B, g, r) = absurd g
 
 pub instances_stand : InstancesStand
-instances_stand = (zero_instance, (λ h. h.no_instance (record { clause = plus_z; comes = from_constant 2 plus_z.type refl }) (inl refl) zero_instance), goal)
+instances_stand = (zero_instance, (λ h. h.no_instance (head_of plus_z.type) (inl refl) zero_instance), goal)
   where
-    goal : IsInstanceOf {Σ = Addition} {W = []} plus_input_goal (record { clause = plus_s; comes = from_constant 3 plus_s.type refl }) → ⊥
-    goal (s, i, v) = not_instance s.tuple s.case_values s.clause_values (both_still s.items s.case_values s.is_instance v).1 s.of_case s.of_clause
+    goal : IsInstanceOf Addition [] plus_input_goal (head_of plus_s.type) → ⊥
+    goal (s, i, v, st) = not_instance s.tuple s.case_values s.clause_values (both_still s.items s.case_values s.is_instance v).1 s.of_case s.of_clause
 
 -- x is the entry before u
 abbrev entry_values : ℕ → Image
@@ -145,7 +124,7 @@ pub entry_instance : EntryInstanceStands
 entry_instance m = (
   record {
     items = block_case.items;
-    typed_items = (tt, m, record { typed = λ i A g u. absurd g; closed = λ i A g u. absurd g });
+    typed_items = (tt, inr m, record { typed = λ i A g u. absurd g; closed = λ i A g u. absurd g });
     case_values = entries_in_front copy_block.entries (lift_over copy_block.entries keep) keep;
     is_instance = (lift_over copy_block.entries keep, keep, tt, inl (refl, refl), (λ i A g. absurd g), refl);
     used = everything;
@@ -153,6 +132,7 @@ entry_instance m = (
     typed_values = entry_typed;
     uses = ((refl, tt), tt);
     terms = λ i o u. absurd (true≢false o);
+    given = λ i M e. absurd cc;
     stands = (lift_over copy_block.entries keep, inl (refl, refl), λ k X g. refl);
     tuple = app (var 1) (app (var 1) nil);
     of_case = (refl, tt);
@@ -160,6 +140,7 @@ entry_instance m = (
   },
   refl,
   all,
+  ((refl, tt), tt),
 )
   where
     all : LeavesAll block_case.items (entries_in_front copy_block.entries (lift_over copy_block.entries keep) keep)
@@ -199,7 +180,11 @@ none_given zero M e = absurd cc
 none_given (suc zero) M e = absurd cc
 none_given (suc (suc i)) M e = absurd cc
 
-two_shared : CommonOutputs Equality [] two_outputs asks_same (of_constant asks_same.type) (on_two 2 (var 1) (var 1)) any_two
+-- the subgoal as a pattern
+abbrev asked : Pattern
+asked = subgoal_pattern asks_same (of_constant asks_same.type) (on_two 2 (var 1) (var 1))
+
+two_shared : CommonInstance Equality [] any_two asked
 two_shared = record {
   items = free_variable nat ∷ [];
   typed_items = (tt, (_, refl, tt));
@@ -223,13 +208,33 @@ differ (app M nil) σ τ k l (e, a) b = a
 differ (app M (app N T)) σ τ k l (e, (e', a)) (f, (f', b)) = let q : var 1 ≡ var 0 = sym (e ∙ l) ∙ f ∙ sym f' ∙ e' ∙ k in absurd cc
 
 pub outputs_stand : OutputsStand
-outputs_stand = (record { no_instance = none; meets = inl two_shared; no_candidate = refl }, λ h. by h.no_candidate)
+outputs_stand = (record { no_instance = none; meeting = asked; listed = inl refl; meets = inl two_shared; no_candidate = nowhere }, refused)
   where
-    none : (s : CommonOutputs Equality [] two_outputs asks_same (of_constant asks_same.type) (on_two 2 (var 1) (var 1)) any_two) × (s.items ≡ any_two.items) × LeavesAll any_two.items s.case_values → ⊥
-    none (s, i, v) = let (p, q) = both_still s.items s.case_values s.is_instance v in differ s.tuple s.case_values s.clause_values p q s.of_case s.of_clause
+    none : (p : Pattern) → Member p (asked ∷ []) → IsInstanceOf Equality [] any_two p → ⊥
+    none p (inl e) (s, i, v, st) = let (x, y) = both_still s.items s.case_values s.is_instance v in differ s.tuple s.case_values s.clause_values x y s.of_case (subst (λ q. SamePlaces (output_places (two_outputs 2)) s.tuple (target_arguments (substitute_type reduce s.clause_values q.type))) e s.of_clause)
+    none p (inr e) h = absurd e
 
-    by : ◌≡◌ {A = List ℕ} (0 ∷ []) [] → ⊥
-    by e = absurd cc
+    nowhere : (p : Pattern) → Member p (asked ∷ []) → (case_candidates any_two p ≡ []) ⊎ (CommonInstance Equality [] any_two p → ⊥)
+    nowhere p (inl e) = inl (ap (case_candidates any_two) e)
+    nowhere p (inr e) = absurd e
+
+    refused : IsUnsplit Unfinished [] (λ C p. ⊥) (narrow ∷ []) plus_output_case → ⊥
+    refused h = by (h.no_candidate narrow (inl refl))
+      where
+        by : (◌≡◌ {A = List ℕ} (0 ∷ []) []) ⊎ (CommonInstance Unfinished [] plus_output_case narrow → ⊥) → ⊥
+        by (inl e) = absurd cc
+        by (inr f) = f narrow_shared
 
 pub linear_stand : LinearClausesStand
 linear_stand = (linear_clauses.0, (λ i. (entry_linear.0, entry_linear.1)), linear_clauses.1, λ i h. let (y, e, r, n) = h.1 in n)
+
+-- there is one block variable for two
+pub blocks_stay_apart : BlocksStayApart
+blocks_stay_apart σ g h = by g h
+  where
+    alike : (θ : ℕ → Image) → BlockAmong (block_variable copy_block keep ∷ []) copy_block θ → θ ≡ lift_over copy_block.entries keep
+    alike θ (inl (p, q)) = q
+    alike θ (inr (τ, b, q)) = absurd b
+
+    by : (g : IsTypedInstance Copying (block_variable copy_block keep ∷ []) (block_variable copy_block keep ∷ block_variable copy_block keep ∷ []) σ) → KeepsApart Copying (block_variable copy_block keep ∷ []) (block_variable copy_block keep ∷ block_variable copy_block keep ∷ []) σ g → ⊥
+    by (θ, τ, (φ, υ, t, c, s, e), b, s', e') (apart, rest) = apart (inl (refl, alike φ c ∙ sym (alike θ b)))

@@ -8,7 +8,6 @@ pub mod Appended
 pub mod Drops
 pub mod Records
 pub mod Checks
-pub mod GroundTypes
 pub mod Low
 pub mod Refusals
 pub mod ExampleLemmas
@@ -26,6 +25,7 @@ pub mod ExamplesBlocks
 pub mod ExamplesMissing
 pub mod ExamplesReached
 pub mod ExamplesSplits
+pub mod ExamplesOrder
 pub mod ExamplesFull
 pub mod ExamplesOutputs
 pub mod ExamplesFacts

@@ -17,7 +17,7 @@ use Rattle.lf.specs.Subordination.{Block, IsDeclared}
 use Rattle.lf.specs.Worlds.{World}
 use Rattle.lf.specs.Extension.{Extends}
 use Rattle.lf.proofs.Agreement.{uses_type_within}
-use Rattle.lf_totality.proofs.Core.{grows}
+use Rattle.lf_cases.proofs.GroundTypes.{grows}
 use Rattle.lf.proofs.Target.{target_of}
 use Rattle.lf.proofs.Strength.{families_substituted}
 use Rattle.lf.proofs.Strengthening.{strengthening}

@@ -1,9 +1,9 @@
--- Covered outputs need to be shown of raised tuples only.
+-- Covered outputs need to be shown only of tuples that use local variables of lower families.
 use Rattle.lf_checks.specs.Ground.{UsesGoal}
 use Rattle.lf_checks.specs.Marks.{Mark, input_places, output_places}
 use Rattle.lf_checks.specs.Below.{IsSubordination}
 use Rattle.lf_checks.specs.Worlded.{IsSequence}
-use Rattle.lf_cases.specs.Raised.{CoveredRaisedOutputs, PlacesBelow, RaisedPlaces}
+use Rattle.lf_cases.specs.Raised.{CoveredLowOutputs, PlacesBelow, LowPlaces}
 use Rattle.lf_cases.specs.Cover.{CoveredOutputs}
 use Rattle.lf_checks.specs.Clause.{Clause, IsSubgoal, scope}
 use Rattle.std.proofs.Common.{◌≡◌, ℕ, List, [], ◌∷◌, refl, sym, ap, ◌∙◌, subst}
@@ -29,7 +29,7 @@ use Rattle.lf.proofs.Worlds.{world_is_context}
 use Rattle.lf_cases.proofs.Assemble.{end_typed}
 use Rattle.lf_cases.proofs.Local.{local_world, ground_sequence_grows, binders_substituted}
 use Rattle.lf_totality.proofs.Low.{places_substituted}
-use Rattle.lf_cases.proofs.Raised.{raised}
+use Rattle.lf_cases.proofs.Raised.{uses_low}
 use Rattle.lf_cases.proofs.WellWorlded.{worlded}
 
 some_inj : {K L : Kind} → Some K ≡ Some L → K ≡ L
@@ -56,29 +56,28 @@ module _ (Σ : Signature) (ok : IsSignature Σ) (W : List Block) where
       subst (World Σ' W S) (sym (hypotheses_agree U m σ τ A G (patch_same U G σ) needs ∙ binders_substituted A τ G)) wl
 
 module _ (Σ : Signature) (ok : IsSignature Σ) (W : List Block) (below : ℕ → ℕ → Bool) (s : IsSubordination Σ W below) where
-  -- every typed tuple is raised at the chosen places
-  pub places_raised : (f : ℕ) (Σ' : Signature) → Extends (below f) Σ Σ' → (G D : List LfType) → World Σ' W (below f) (onto D G) → (m : List Bool) (S : Spine) (K : Kind) → PlacesBelow Σ below f K → IsKind Σ' (onto D G) K → SpineFitsKind Σ' (onto D G) S K → RaisedPlaces Σ' below G D m S K
-  places_raised f Σ' x G D w [] nil K p k t = tt
-  places_raised f Σ' x G D w [] (app M S) K p k t = tt
-  places_raised f Σ' x G D w (b ∷ m) nil K p k t = tt
-  places_raised f Σ' x G D w (b ∷ m) (app M S) star p k t = absurd t
-  places_raised f Σ' x G D w (true ∷ m) (app M S) (kind_pi A K) (d, b, fam, p) (a, k) (t, r) =
+  -- every typed tuple uses local variables of lower families at the chosen places
+  pub places_low : (f : ℕ) (Σ' : Signature) → Extends (below f) Σ Σ' → (G D : List LfType) → World Σ' W (below f) (onto D G) → (m : List Bool) (S : Spine) (K : Kind) → PlacesBelow Σ below f K → IsKind Σ' (onto D G) K → SpineFitsKind Σ' (onto D G) S K → LowPlaces below D m S K
+  places_low f Σ' x G D w [] S K p k t = tt
+  places_low f Σ' x G D w (b ∷ m) nil K p k t = tt
+  places_low f Σ' x G D w (b ∷ m) (app M S) star p k t = absurd t
+  places_low f Σ' x G D w (true ∷ m) (app M S) (kind_pi A K) (d, b, fam, p) (a, k) (t, r) =
       let less : Within (below (target A)) (below f) = s.through f (target A) b in
       let c : IsContext Σ' (onto D G) = world_is_context w in (
-        raised Σ' x.ok W (below (target A)) (SelfContained-extends Σ Σ' W (below (target A)) (extension_over_less (below f) (below (target A)) Σ Σ' less x) (s.self_contained (target A) d)) D G c (world_types Σ' W (below f) (below (target A)) less ((s.self_contained (target A) d).entries_in) w) M A fam a t,
-        places_raised f Σ' x G D w m S (instantiate_kind A M K) (places_substituted Σ W below s f reduce (single (skeleton A) M) K p) (substitution_keeps_kinds Σ' x.ok (A ∷ onto D G) (onto D G) (single (skeleton A) M) K (single_substitution_typed Σ' x.ok (onto D G) A M (skeleton_context_of Σ' x.ok (onto D G) c) (type_by_skeletons Σ' (onto D G) A a) t) k) r,
+        uses_low Σ' x.ok W (below (target A)) (SelfContained-extends Σ Σ' W (below (target A)) (extension_over_less (below f) (below (target A)) Σ Σ' less x) (s.self_contained (target A) d)) D G (world_types Σ' W (below f) (below (target A)) less ((s.self_contained (target A) d).entries_in) w) M A fam t,
+        places_low f Σ' x G D w m S (instantiate_kind A M K) (places_substituted Σ W below s f reduce (single (skeleton A) M) K p) (substitution_keeps_kinds Σ' x.ok (A ∷ onto D G) (onto D G) (single (skeleton A) M) K (single_substitution_typed Σ' x.ok (onto D G) A M (skeleton_context_of Σ' x.ok (onto D G) c) (type_by_skeletons Σ' (onto D G) A a) t) k) r,
       )
-  places_raised f Σ' x G D w (false ∷ m) (app M S) (kind_pi A K) (d, b, fam, p) (a, k) (t, r) =
+  places_low f Σ' x G D w (false ∷ m) (app M S) (kind_pi A K) (d, b, fam, p) (a, k) (t, r) =
       let c : IsContext Σ' (onto D G) = world_is_context w in
-      places_raised f Σ' x G D w m S (instantiate_kind A M K) (places_substituted Σ W below s f reduce (single (skeleton A) M) K p) (substitution_keeps_kinds Σ' x.ok (A ∷ onto D G) (onto D G) (single (skeleton A) M) K (single_substitution_typed Σ' x.ok (onto D G) A M (skeleton_context_of Σ' x.ok (onto D G) c) (type_by_skeletons Σ' (onto D G) A a) t) k) r
+      places_low f Σ' x G D w m S (instantiate_kind A M K) (places_substituted Σ W below s f reduce (single (skeleton A) M) K p) (substitution_keeps_kinds Σ' x.ok (A ∷ onto D G) (onto D G) (single (skeleton A) M) K (single_substitution_typed Σ' x.ok (onto D G) A M (skeleton_context_of Σ' x.ok (onto D G) c) (type_by_skeletons Σ' (onto D G) A a) t) k) r
 
-  -- The theorem: where the raised tuples of a subgoal are covered, its outputs are
-  pub raised_cover : (m : ℕ → List Mark) (f : ℕ) → ((B : Block) → Member B W → IsContext Σ (onto B.entries B.some)) → (c : Clause) (U : ℕ → Bool) (i : ℕ) (A : LfType) → IsContext Σ (scope c) → IsSubgoal c i A → IsSequence Σ W (scope c) (binders [] A) → UsesGoal U (input_places (m (target A))) A → ((K : Kind) → Σ.kinds (target A) ≡ Some K → PlacesBelow Σ below f K) → CoveredRaisedOutputs Σ below m W (below f) c U A → CoveredOutputs Σ m W (below f) c U A
-  raised_cover m f bt c U i A ct (var, at) seq needs low cover Σ' x G w h θ off σ v o ts T K e p fit =
+  -- The theorem: where such tuples of a subgoal are covered, its outputs are
+  pub low_cover : (m : ℕ → List Mark) (f : ℕ) → ((B : Block) → Member B W → IsContext Σ (onto B.entries B.some)) → (c : Clause) (U : ℕ → Bool) (i : ℕ) (A : LfType) → IsContext Σ (scope c) → IsSubgoal c i A → IsSequence Σ W (scope c) (binders [] A) → UsesGoal U (input_places (m (target A))) A → ((K : Kind) → Σ.kinds (target A) ≡ Some K → PlacesBelow Σ below f K) → CoveredLowOutputs Σ below m W (below f) c U A → CoveredOutputs Σ m W (below f) c U A
+  low_cover m f bt c U i A ct (var, at) seq needs low cover Σ' x G w h θ off σ v o ts T K e p fit =
       let P : LfType = substitute_type reduce σ A in
       let r : binders G P ≡ onto (binders [] P) G = binders_over [] P G in
       let w' : World Σ' W (below f) (onto (binders [] P) G) = subst (World Σ' W (below f)) r (subgoal_world Σ ok W (input_places (m (target A))) (below f) bt c U A ct seq needs Σ' x G w σ v) in
       let (K0, e0, s0) = end_typed Σ ok A (scope c) (declared_is_type Σ ok (scope c) i A ct at) in
       let k : K0 ≡ K = some_inj (sym (x.kinds_stay (target A) K0 e0) ∙ e) in
       let pb : PlacesBelow Σ below f K = subst (PlacesBelow Σ below f) k (low K0 e0) in
-      cover Σ' x G w h θ off σ v o ts T K e p fit (places_raised f Σ' x G (binders [] P) w' (output_places (m (target A))) T K pb (family_kind Σ' x.ok (onto (binders [] P) G) (target A) K e) (subst (λ X. SpineFitsKind Σ' X T K) r fit))
+      cover Σ' x G w h θ off σ v o ts T K e p fit (subst (IsContext Σ') (sym r) (world_is_context w')) (places_low f Σ' x G (binders [] P) w' (output_places (m (target A))) T K pb (family_kind Σ' x.ok (onto (binders [] P) G) (target A) K e) (subst (λ X. SpineFitsKind Σ' X T K) r fit))

@@ -28,7 +28,8 @@ use Rattle.lf.proofs.Worlds.{world_is_context, world_for_callee}
 use Rattle.lf.proofs.ExtensionTyping.{extension_keeps_types, extension_keeps_contexts, extension_over_less}
 use Rattle.lf_cases.proofs.Assemble.{end_typed}
 use Rattle.lf_cases.proofs.BlockEntries.{at_place, onto_onto, index_of, before_at, among_at, among_type, drop_typed}
-use Rattle.lf_totality.proofs.Core.{out_index, outer_at, ClauseOk, SubgoalOk, Covered, total, either_left, grows}
+use Rattle.lf_totality.proofs.Core.{out_index, outer_at, ClauseOk, SubgoalOk, Covered, total}
+use Rattle.lf_cases.proofs.GroundTypes.{either_left, grows}
 use Rattle.lf_checks.proofs.GroundLocal.{IsGroundLocal}
 use Rattle.lf_cases.proofs.Instances.{instance_typed}
 use Rattle.lf_cases.proofs.Local.{local_world, ground_sequence_grows, binders_substituted}

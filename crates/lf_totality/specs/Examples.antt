@@ -1,18 +1,18 @@
 -- Worked declarations: addition of natural numbers, and copying of lambda terms under a binder.
-use Rattle.std.specs.Prelude.{◌≡◌, ℕ, zero, suc, List, [], ◌∷◌, Bool, true, Option, Some, None}
+use Rattle.std.specs.Prelude.{◌≡◌, refl, ℕ, zero, suc, List, [], ◌∷◌, Bool, true, Option, Some, None}
 use Rattle.lf.specs.Syntax.{constant, variable, Term, lambda, root, nil, app, LfType, Kind, pi, atom, kind_pi, star}
 use Rattle.lf.specs.Typing.{Signature, HasType}
 use Rattle.lf.specs.Variables.{same_number, everything}
 use Rattle.lf.specs.Worlds.{World}
 use Rattle.lf.specs.Subordination.{Block}
-use Rattle.lf_checks.specs.Clause.{Clause, constant_clause}
+use Rattle.lf_checks.specs.Clause.{Clause, constant_clause, entry_clause}
 use Rattle.lf_checks.specs.Marks.{Mark, input, output, input_places}
 use Rattle.lf_checks.specs.Order.{Order, place}
-use Rattle.lf_cases.specs.Case.{Case, free_variable, block_variable, IsCoveredCase, input_goal}
+use Rattle.lf_cases.specs.Case.{Case, free_variable, block_variable, input_goal}
 use Rattle.lf_checks.specs.Ground.{ground_first}
-use Rattle.lf_cases.specs.OutputCase.{of_constant}
-use Rattle.lf_cases.specs.OutputGoal.{output_goal, HasOutputGoal}
-use Rattle.lf_cases.specs.Split.{IsSplit, EndsCovered}
+use Rattle.lf_cases.specs.Pattern.{Pattern, of_constant, of_entry, head_pattern, IsCoveredCase}
+use Rattle.lf_cases.specs.OutputGoal.{output_goal}
+use Rattle.lf_cases.specs.Split.{IsSplit, IsInstanceCase, Ends}
 use Rattle.lf.specs.Substitution.{keep}
 use Rattle.lf_totality.specs.Group.{Checked, IsRight, GroupChecked}
 
@@ -113,16 +113,20 @@ plus_zero_case = record { items = free_variable nat ∷ []; given = []; local = 
 abbrev pub plus_successor_case : Case
 plus_successor_case = record { items = free_variable nat ∷ free_variable nat ∷ []; given = []; local = []; family = 1; arguments = Some (successor (var 1)) ∷ Some (var 0) ∷ None ∷ [] }
 
+-- the heads of plus-z and plus-s
+abbrev pub plus_heads : List Pattern
+plus_heads = head_pattern plus_z (of_constant plus_z.type) ∷ head_pattern plus_s (of_constant plus_s.type) ∷ []
+
 -- and so the goal is covered
 abbrev pub PlusIsCoveredBySplits : Type 0
-PlusIsCoveredBySplits = IsSplit Addition [] (first_below_second 1) plus_input_goal (plus_zero_case ∷ plus_successor_case ∷ []) × EndsCovered Addition [] (first_below_second 1) plus_input_goal × IsCoveredCase Addition [] (first_below_second 1) plus_input_goal
+PlusIsCoveredBySplits = IsSplit Addition [] (first_below_second 1) plus_input_goal (plus_zero_case ∷ plus_successor_case ∷ []) × Ends (IsInstanceCase Addition [] (first_below_second 1) plus_heads) (IsSplit Addition [] (first_below_second 1)) plus_input_goal × IsCoveredCase Addition [] (first_below_second 1) plus_heads plus_input_goal
 
 -- The goal of output coverage of the subgoal of plus-s, where X and Y are ground: the case of a new variable for Z.
 abbrev pub plus_output_case : Case
 plus_output_case = record { items = free_variable nat ∷ free_variable nat ∷ free_variable nat ∷ []; given = None ∷ None ∷ Some (var 1) ∷ Some (var 2) ∷ []; local = []; family = 1; arguments = None ∷ None ∷ Some (var 0) ∷ [] }
 
 abbrev pub PlusOutputGoal : Type 0
-PlusOutputGoal = output_goal first_below_second addition_marks {W = []} (of_constant plus_s.type) (ground_first addition_marks plus_s) (on_three 1 (var 3) (var 2) (var 1)) plus_kind ≡ plus_output_case
+PlusOutputGoal = output_goal first_below_second addition_marks (of_constant plus_s.type) (ground_first addition_marks plus_s) (on_three 1 (var 3) (var 2) (var 1)) plus_kind ≡ plus_output_case
 
 -- More declarations after these: b : type and mk : nat -> b, the family 2 and the constant 4.
 abbrev pub later_types : ℕ → Option LfType
@@ -230,13 +234,21 @@ copy_output_case = record { items = free_variable function ∷ free_variable fun
 abbrev pub copy_subgoal : LfType
 copy_subgoal = pi exp (pi (cp (var 0) (var 0)) (cp (applied_to 4 1) (applied_to 3 1)))
 
--- this is its goal, and the output's type can be raised so
+-- this is its goal
 abbrev pub CopyOutputGoal : Type 0
-CopyOutputGoal = (output_goal first_below_second copying_marks {W = copy_block ∷ []} (of_constant cp_lam.type) (ground_first copying_marks cp_lam) copy_subgoal cp_kind ≡ copy_output_case) × HasOutputGoal first_below_second copying_marks {W = copy_block ∷ []} (of_constant cp_lam.type) (ground_first copying_marks cp_lam) copy_subgoal cp_kind
+CopyOutputGoal = output_goal first_below_second copying_marks (of_constant cp_lam.type) (ground_first copying_marks cp_lam) copy_subgoal cp_kind ≡ copy_output_case
 
 -- The case cp x _ for a block variable {x:exp} {u:cp x x}, and that the block's entry covers it.
 abbrev pub block_case : Case
 block_case = record { items = block_variable copy_block keep ∷ []; given = []; local = []; family = 1; arguments = Some (var 1) ∷ None ∷ [] }
 
+-- the entry u : cp x x of the block
+abbrev pub copy_entry : Clause
+copy_entry = entry_clause copy_block (exp ∷ []) (cp (var 0) (var 0))
+
+-- the heads of cp-lam, cp-app and the entry
+abbrev pub copy_heads : List Pattern
+copy_heads = head_pattern cp_lam (of_constant cp_lam.type) ∷ head_pattern cp_app (of_constant cp_app.type) ∷ head_pattern copy_entry (of_entry copy_block [] (cp (var 0) (var 0)) (exp ∷ []) refl) ∷ []
+
 abbrev pub BlockCaseIsCovered : Type 0
-BlockCaseIsCovered = IsCoveredCase Copying (copy_block ∷ []) (first_below_second 1) block_case
+BlockCaseIsCovered = IsCoveredCase Copying (copy_block ∷ []) (first_below_second 1) copy_heads block_case

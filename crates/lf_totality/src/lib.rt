@@ -1,16 +1,16 @@
 //! The laws of total families of LF. They have no code: each function carries one law as its contract.
 #![tactic(auto)]
 
-ghost use Rattle.lf_totality.specs.Laws.{CheckedGroupIsRight, GroupBySizesIsRight, GroupWithFactsIsRight, LastingIsTotal, LastingGoesOn, LastingOverMore, RecordStaysRight, CheckedStaysChecked, GroundFirstIsClosed, GroundAfterIsClosed, TypedTuplesAreRaised, RaisedOutputsCover, NoOutputsAreCovered, HeldOutputsAreCovered, OutputGoalCovers, ClauseGoalsCover, SubgoalContextIsWorld};
+ghost use Rattle.lf_totality.specs.Laws.{CheckedGroupIsRight, GroupBySizesIsRight, GroupWithFactsIsRight, LastingIsTotal, LastingGoesOn, LastingOverMore, RecordStaysRight, CheckedStaysChecked, GroundFirstIsClosed, GroundAfterIsClosed, TypedTuplesAreLow, LowOutputsCover, NoOutputsAreCovered, HeldOutputsAreCovered, OutputGoalCovers, ClauseGoalsCover, SubgoalContextIsWorld};
 ghost use Rattle.lf_totality.specs.Conclude.{RecordFreezes, CalleesAreHeld, RecordIsOne, FewerModed, BlocksServeFewer, AppendedEntryExtends, CheckedBesideFewer, DescendingCallsDrop, ChecksConclude};
 ghost use Rattle.lf_totality.specs.Examples.{AdditionLasts, AdditionStaysChecked, NumbersHaveSums, CopyingLasts, TermsHaveCopies, BlockCaseIsCovered, PlusIsCoveredBySplits, PlusOutputGoal, CopyOutputGoal};
 ghost use Rattle.lf_totality.specs.ExamplesRecords.{AdditionHasRecord, OtherRecordsAreRefused};
 ghost use Rattle.lf_totality.specs.ExamplesFacts.{FactMakesCallsDrop};
 ghost use Rattle.lf_totality.specs.ExamplesGroups.{MutualGroupLasts, CallerOfRecordLasts, StrictBlockServes};
 ghost use Rattle.lf_totality.specs.ExamplesBlocks.{StrictBlockLasts, NumbersHaveDerivations};
-ghost use Rattle.lf_totality.specs.ExamplesSplits.{NoCaseStands, ClausesStand, InstancesStand, EntryInstanceStands, OutputsStand, LinearClausesStand};
+ghost use Rattle.lf_totality.specs.ExamplesSplits.{NoCaseStands, ClausesStand, InstancesStand, EntryInstanceStands, BlocksStayApart, HeadsAreOrdered, OutputsStand, LinearClausesStand};
 ghost use Rattle.lf_totality.specs.ExamplesMissing.{ZeroIsMissing, GoalIsNotMissing, LinearClauses};
-ghost use Rattle.lf_totality.specs.ExamplesReached.{CandidatesStand, ZeroIsReached, EqualityIsUnsplit, NarrowZeroIsMissing, NarrowZeroIsReached, EntryIsLinear, FullClauses, NoOutputGoal, SomeVariableHasNoGoal, EntryOutputGoal, MoreCandidatesStand};
+ghost use Rattle.lf_totality.specs.ExamplesReached.{CandidatesStand, ZeroIsReached, EqualityIsUnsplit, AppliedIsUnsplit, AppliedHasValue, UngivenIsNotGround, SomeOutputIsNotLinear, NarrowZeroIsMissing, NarrowZeroIsReached, EntryIsLinear, FullClauses, MentionedIsRaised, GoalIsClosed, SomeVariableIsRaised, EntryOutputGoal, MoreCandidatesStand};
 ghost use Rattle.lf_totality.specs.Refusals.{FreePlaceIsExempt, UnsoundMarksAreRefused, MarksMustFit, EmptyIsNotTotal, LoopIsRefused, UngroundIsRefused, MissingWorldIsRefused, CycleIsRefused, SomeVariableCoversNothing, SomeVariableIsNoParameter};
 
 /// The totality theorem: the record of a checked group is right, each of its families lasts.
@@ -114,13 +114,13 @@ pub fn ground_after_is_closed()
 {}
 
 /// In a context of worlds an output uses only local variables whose families are below its own.
-pub fn typed_tuples_are_raised()
-    ensures { TypedTuplesAreRaised }
+pub fn typed_tuples_are_low()
+    ensures { TypedTuplesAreLow }
 {}
 
-/// The outputs of a subgoal are covered where the raised tuples are.
-pub fn raised_outputs_cover()
-    ensures { RaisedOutputsCover }
+/// The outputs of a subgoal are covered where such tuples are.
+pub fn low_outputs_cover()
+    ensures { LowOutputsCover }
 {}
 
 /// A case of a subgoal's outputs that the clause covers gives values for each tuple that it holds.
@@ -313,14 +313,49 @@ pub fn full_clauses()
     ensures { FullClauses }
 {}
 
-/// A subgoal has no output goal by a relation that its output's type goes against.
-pub fn no_output_goal()
-    ensures { NoOutputGoal }
+/// An output is raised over a local variable that its type mentions, though its family isn't below.
+pub fn mentioned_is_raised()
+    ensures { MentionedIsRaised }
 {}
 
-/// A `some` variable may keep a subgoal from having one.
-pub fn some_variable_has_no_goal()
-    ensures { SomeVariableHasNoGoal }
+/// k X is no instance of {F:nat -> nat} k (F z), which meets it without a candidate.
+pub fn applied_is_unsplit()
+    ensures { AppliedIsUnsplit }
+{}
+
+/// But values of F make it one, which nothing determines.
+pub fn applied_has_value()
+    ensures { AppliedHasValue }
+{}
+
+/// A variable for which no term is given isn't ground before a subgoal.
+pub fn ungiven_is_not_ground()
+    ensures { UngivenIsNotGround }
+{}
+
+/// The heads of a family, in order.
+pub fn heads_are_ordered()
+    ensures { HeadsAreOrdered }
+{}
+
+/// A split keeps block variables apart.
+pub fn blocks_stay_apart()
+    ensures { BlocksStayApart }
+{}
+
+/// An entry that asks for a `some` variable as an output is not linear.
+pub fn some_output_is_not_linear()
+    ensures { SomeOutputIsNotLinear }
+{}
+
+/// A goal of outputs keeps what the types of the ground variables mention.
+pub fn goal_is_closed()
+    ensures { GoalIsClosed }
+{}
+
+/// So it is where a `some` variable brings the local variable into the type.
+pub fn some_variable_is_raised()
+    ensures { SomeVariableIsRaised }
 {}
 
 /// The goal of output coverage of a block's entry.

@@ -1,4 +1,4 @@
-use Rattle.lf_totality.proofs.GroundTypes.{first_closed}
+use Rattle.lf_cases.proofs.GroundTypes.{first_closed}
 use Rattle.lf.specs.Variables.{target, nothing}
 use Rattle.lf_checks.proofs.Marks.{sound_inputs}
 use Rattle.lf_totality.proofs.ground_first_is_closed.Goals as goal
