@@ -33,7 +33,7 @@ use Rattle.law_explicit_agrees.proofs.Only.{no_other_cause}
 use Rattle.law_explicit_agrees.proofs.OnlyDefinitions.{definition_no_other}
 use Rattle.law_explicit_agrees.proofs.Definitions.{explicit_definition_reconstructed}
 use Rattle.law_explicit_agrees.proofs.Reconstructed.{explicit_reconstructed}
-use Rattle.tw_decl.specs.View.{View, IsSound, scene_of, with_entry}
+use Rattle.tw_decl.specs.View.{View, scene_of, with_entry}
 use Rattle.tw_decl.specs.Declaration.{IsWrittenAlone, entry_report, Makes}
 use Rattle.tw_decl.specs.Obstacles.{HasObstacle}
 use Rattle.tw_decl.specs.Reading as reading
@@ -124,7 +124,7 @@ pub record IsMadeAgain (v : View) (e : Entry) (text : List ℕ) (from upto : ℕ
   pub body : entry.body ≡ e.body
   pub implicit : entry.implicit ≡ zero
 
-declared_made : (v : View) (e : Entry) (text : List ℕ) (from upto : ℕ) → IsSound v → ReadsAs v.signature v.fixities text from upto e.name e.body → IsCanonicalEntry (signature_of v.signature) e → AreShallow text from upto → IsMadeAgain v e text from upto
+declared_made : (v : View) (e : Entry) (text : List ℕ) (from upto : ℕ) → IsCanonicalSignature v.signature → ReadsAs v.signature v.fixities text from upto e.name e.body → IsCanonicalEntry (signature_of v.signature) e → AreShallow text from upto → IsMadeAgain v e text from upto
 declared_made v e text from upto sound r k shallow =
     let words = lexemes text r.tokens in
     let h : IsCompletion v.signature e.name r.written r.entry = r.completes in
@@ -168,7 +168,7 @@ module _ (v : View) (e : Entry) (text : List ℕ) (from upto : ℕ) (M : LfTerm)
   abbrev again : Entry
   again = record { name = e.name; implicit = zero; hints = fitted (body_quantifiers (declare_definition M A b)) (written_hints definition); body = declare_definition M A b }
 
-  definition_made : e.body ≡ declare_definition M A b → IsSound v → IsCanonicalEntry (signature_of v.signature) e → AreShallow text from upto → IsMadeAgain v e text from upto
+  definition_made : e.body ≡ declare_definition M A b → IsCanonicalSignature v.signature → IsCanonicalEntry (signature_of v.signature) e → AreShallow text from upto → IsMadeAgain v e text from upto
   definition_made is sound k shallow =
       let words = lexemes text r.tokens in
       let stands : IsCanonicalEntry (signature_of v.signature) again = record {
@@ -203,7 +203,7 @@ module _ (v : View) (e : Entry) (text : List ℕ) (from upto : ℕ) (M : LfTerm)
         implicit = refl;
       }
 
-pub read_made : (v : View) (e : Entry) (text : List ℕ) (from upto : ℕ) → IsSound v → ReadsBody v.signature v.fixities text from upto e.name e.body → IsCanonicalEntry (signature_of v.signature) e → AreShallow text from upto → IsMadeAgain v e text from upto
+pub read_made : (v : View) (e : Entry) (text : List ℕ) (from upto : ℕ) → IsCanonicalSignature v.signature → ReadsBody v.signature v.fixities text from upto e.name e.body → IsCanonicalEntry (signature_of v.signature) e → AreShallow text from upto → IsMadeAgain v e text from upto
 read_made v e text from upto sound r k shallow = by_body e.body refl r
   where
     declared_body : (d : Body) → e.body ≡ d → ReadsAs v.signature v.fixities text from upto e.name d → IsMadeAgain v e text from upto
@@ -214,7 +214,7 @@ read_made v e text from upto sound r k shallow = by_body e.body refl r
     by_body (declare_constant A) q s = declared_body (declare_constant A) q s
     by_body (declare_definition M A b) q s = definition_made v e text from upto M A b s q sound k shallow
 
-read_accepted : (v : View) (e : Entry) (text : List ℕ) (upto : ℕ) → upto ≡ length text → IsSound v → ReadsBody v.signature v.fixities text 0 upto e.name e.body → IsCanonicalEntry (signature_of v.signature) e → IsWithinLimits text → AcceptsAgain v text e
+read_accepted : (v : View) (e : Entry) (text : List ℕ) (upto : ℕ) → upto ≡ length text → IsCanonicalSignature v.signature → ReadsBody v.signature v.fixities text 0 upto e.name e.body → IsCanonicalEntry (signature_of v.signature) e → IsWithinLimits text → AcceptsAgain v text e
 read_accepted v e text upto all sound r k limits =
     let m = read_made v e text 0 upto sound r k (λ tokens h. limits.shallow tokens upto h) in
     let few : IsFew m.tokens = let c = counted text 0 upto m.tokens (omega arith) m.through in let l = limits.few in omega (arith, c, l) in
@@ -245,7 +245,7 @@ read_back_accepted s v e sound back k limits =
 older_accepted : (v u : View) (newer older : List Entry) (e : Entry) → IsViewInOrder v → v.signature ≡ newer ++ e ∷ older → u.signature ≡ older → u.fixities ≡ v.fixities → IsWithinLimits (declaration_line (scene_of v) e)
     → LineReadsBack (scene_of v) older v.fixities e → AcceptsAgain u (declaration_line (scene_of v) e) e
 older_accepted v u newer older e o split same rows limits back =
-    let canonical : IsCanonicalSignature (e ∷ older) = canonical_rest newer (e ∷ older) (subst IsCanonicalSignature split o.sound) in
+    let canonical : IsCanonicalSignature (e ∷ older) = canonical_rest newer (e ∷ older) (subst IsCanonicalSignature split o.canonical) in
     read_back_accepted (scene_of v) u e (subst IsCanonicalSignature (sym same) canonical.0)
     (subst (λ es. LineReadsBack (scene_of v) es u.fixities e) (sym same) (subst (λ t. LineReadsBack (scene_of v) older t e) (sym rows) back))
     (subst (λ es. IsCanonicalEntry (signature_of es) e) (sym same) canonical.1) limits
@@ -257,4 +257,4 @@ pub open_accepted : OpenIsAccepted
 open_accepted v u newer older e o i room split open_line same rows limits = older_accepted v u newer older e o split same rows limits (open_back v newer older e o i room split open_line)
 
 pub new_accepted : NewIsAccepted
-new_accepted v e o i room none plain limits = read_back_accepted _ v e o.sound.0 (new_line_back v e o i room none plain) o.sound.1 limits
+new_accepted v e o i room none plain limits = read_back_accepted _ v e o.canonical.0 (new_line_back v e o i room none plain) o.canonical.1 limits

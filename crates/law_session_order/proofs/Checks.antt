@@ -109,7 +109,7 @@ line_unnamed v e n = ap (λ s. told v (declaration_line s e ++ codes "\n")) (con
 module _ (v : View) (e : Entry) (o : IsViewInOrder v) (i : v.parameters.implicit ≡ false) (room : HasRoom (scene_of v)) (d : IsDefined false e.body) (typed : IsTypedDefinition v.signature e None d.term d.type false) where
   order : IsInOrder (scene_of v) v.signature v.fixities
   order = record {
-    over = record { newer = []; entries = refl; canonical = o.sound; preferences = o.preferences; room = room };
+    over = record { newer = []; entries = refl; canonical = o.canonical; preferences = o.preferences; room = room };
     hides = i;
     names = o.names;
     rows = o.rows;

@@ -122,7 +122,7 @@ rows_kept v e h x fix c f r n q =
 
 one_more : (v : View) (e : Entry) → IsCanonicalEntry (signature_of v.signature) e → IsName e.name → AreGoodHints e.hints → IsViewInOrder v → IsViewInOrder (with_entry v e)
 one_more v e stands n g o = record {
-  sound = (o.sound, stands);
+  canonical = (o.canonical, stands);
   names = each_entry (λ f. IsName f.name) e v.signature n o.names;
   hints = each_entry (λ f. AreGoodHints f.hints) e v.signature g o.hints;
   preferences = o.preferences;
@@ -241,7 +241,7 @@ rows_right es t fix (x ∷ xs) h right =
 given_keeps : (v w : View) (fix : Fix) (names : List ExtName) (report : Reported) → GivesRows v fix names report w → IsViewInOrder v → IsViewInOrder w
 given_keeps v w fix names report h o =
     subst IsViewInOrder (sym h.keeps) (record {
-      sound = o.sound;
+      canonical = o.canonical;
       names = o.names;
       hints = o.hints;
       preferences = o.preferences;
@@ -260,7 +260,7 @@ preference_kept m family new n h a row e = by_test (eq_by_cmp nat_cmp a family) 
 preferred_keeps : (v w : View) (a : ExtName) (x : List ℕ) (y : Option (List ℕ)) (report : Reported) → PreferNames (x, y) → Prefers v a x y report w → IsViewInOrder v → IsViewInOrder w
 preferred_keeps v w a x y report n h o =
     subst IsViewInOrder (sym h.keeps) (record {
-      sound = o.sound;
+      canonical = o.canonical;
       names = o.names;
       hints = o.hints;
       preferences = preference_kept v.names h.family (x, y) n o.preferences;
@@ -269,7 +269,7 @@ preferred_keeps v w a x y report n h o =
 
 pub same_parts : (v u : View) → u.signature ≡ v.signature → u.fixities ≡ v.fixities → u.names ≡ v.names → IsViewInOrder v → IsViewInOrder u
 same_parts v u p q r o = record {
-  sound = subst IsCanonicalSignature (sym p) o.sound;
+  canonical = subst IsCanonicalSignature (sym p) o.canonical;
   names = subst (λ es. (c : ℕ) (e : Entry) → entry es c ≡ Some e → IsName e.name) (sym p) o.names;
   hints = subst (λ es. (c : ℕ) (e : Entry) → entry es c ≡ Some e → AreGoodHints e.hints) (sym p) o.hints;
   preferences = subst (λ m. (a : ℕ) (row : Preferences) → get m a ≡ Some row → PreferNames row) (sym r) o.preferences;
@@ -281,8 +281,8 @@ pub checked_parts : (v w : View) (c : Check) (report : Reported) → Checks v c 
 checked_parts v w (mode_short a ms) report h = (ap (λ (u : View). u.signature) h.keeps, ap (λ (u : View). u.fixities) h.keeps, ap (λ (u : View). u.names) h.keeps)
 checked_parts v w (mode_full ms a n d) report h = (ap (λ (u : View). u.signature) h.keeps, ap (λ (u : View). u.fixities) h.keeps, ap (λ (u : View). u.names) h.keeps)
 checked_parts v w (terminates O ps) report h = (ap (λ (u : View). u.signature) h.keeps, ap (λ (u : View). u.fixities) h.keeps, ap (λ (u : View). u.names) h.keeps)
-checked_parts v w (block l n d) report h = absurd h
-checked_parts v w (worlds ls ps) report h = absurd h
+checked_parts v w (block l n d) report h = (ap (λ (u : View). u.signature) h.keeps, ap (λ (u : View). u.fixities) h.keeps, ap (λ (u : View). u.names) h.keeps)
+checked_parts v w (worlds ls ps) report h = (ap (λ (u : View). u.signature) h.keeps, ap (λ (u : View). u.fixities) h.keeps, ap (λ (u : View). u.names) h.keeps)
 
 pub making_keeps : MakingKeepsOrder
 making_keeps v w words report all m o = by_read m.read m.reads m.does
@@ -313,8 +313,8 @@ accepting_from_keeps v w text report from upto a o = making_keeps v w a.words re
 
 pub new_in_order : NewIsInOrder
 new_in_order = (
-  record { sound = tt; names = λ c e q. cc; hints = λ c e q. cc; preferences = λ a row q. none_there a row q; rows = λ x fix c e r n q. cc },
-  λ v. record { sound = tt; names = λ c e q. cc; hints = λ c e q. cc; preferences = λ a row q. none_there a row q; rows = λ x fix c e r n q. cc },
+  record { canonical = tt; names = λ c e q. cc; hints = λ c e q. cc; preferences = λ a row q. none_there a row q; rows = λ x fix c e r n q. cc },
+  λ v. record { canonical = tt; names = λ c e q. cc; hints = λ c e q. cc; preferences = λ a row q. none_there a row q; rows = λ x fix c e r n q. cc },
 )
   where
     none_there : (a : ℕ) (row : Preferences) → get {R = nat_cmp} empty a ≡ Some row → PreferNames row

@@ -59,7 +59,7 @@ canonical_rest (f ∷ newer) es h = canonical_rest newer es h.0
 module _ (v : View) (newer older : List Entry) (e : Entry) (table : Table) (o : IsViewInOrder v) (i : v.parameters.implicit ≡ false) (room : HasRoom (scene_of v)) (split : v.signature ≡ newer ++ e ∷ older)
     (agrees : AgreeOn (scene_of v) older table) where
   canonical : IsCanonicalSignature (e ∷ older)
-  canonical = canonical_rest newer (e ∷ older) (subst IsCanonicalSignature split o.sound)
+  canonical = canonical_rest newer (e ∷ older) (subst IsCanonicalSignature split o.canonical)
 
   found : entry v.signature (length older) ≡ Some e
   found = ap (λ es. entry es (length older)) split ∙ (among newer older e).is

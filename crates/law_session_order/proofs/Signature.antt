@@ -123,7 +123,7 @@ module _ (v u : View) (o : IsViewInOrder v) (i : v.parameters.implicit ≡ false
     mixed = record v { signature = newer ++ e ∷ fs }
 
     canonical : IsCanonicalSignature (e ∷ older)
-    canonical = canonical_rest newer (e ∷ older) (subst IsCanonicalSignature split o.sound)
+    canonical = canonical_rest newer (e ∷ older) (subst IsCanonicalSignature split o.canonical)
 
     stands : IsCanonicalEntry (signature_of fs) e
     stands = subst (λ Σ. IsCanonicalEntry Σ e) (same_signature older fs p.alike) canonical.1
@@ -139,7 +139,7 @@ module _ (v u : View) (o : IsViewInOrder v) (i : v.parameters.implicit ≡ false
 
     mixed_order : IsViewInOrder mixed
     mixed_order = record {
-      sound = canonical_replaced newer (e ∷ older) (e ∷ fs) both_alike (subst IsCanonicalSignature split o.sound) (p.order.sound, stands);
+      canonical = canonical_replaced newer (e ∷ older) (e ∷ fs) both_alike (subst IsCanonicalSignature split o.canonical) (p.order.canonical, stands);
       names = all_at (λ f. IsName f.name) (newer ++ e ∷ fs) (all_mixed (λ f. IsName f.name) (all_of (λ f. IsName f.name) v.signature o.names) (all_of (λ f. IsName f.name) fs p.order.names));
       hints = all_at (λ f. AreGoodHints f.hints) (newer ++ e ∷ fs) (all_mixed (λ f. AreGoodHints f.hints) (all_of (λ f. AreGoodHints f.hints) v.signature o.hints) (all_of (λ f. AreGoodHints f.hints) fs p.order.hints));
       preferences = o.preferences;
@@ -171,7 +171,7 @@ module _ (v u : View) (o : IsViewInOrder v) (i : v.parameters.implicit ≡ false
     back = line_back mixed newer fs e p.after.fixities mixed_order i mixed_room refl (λ x q. p.rows x ∙ sym (no_rows x)) mixed_none mixed_plain
 
     again : IsMadeAgain p.after e text from upto
-    again = read_made p.after e text from upto p.order.sound (back text (10 ∷ all_lines (scene_of v) newer) from (at ∙ ap (λ x. x ++ (10 ∷ all_lines (scene_of v) newer)) line)) stands (λ tokens h. (limits tokens from upto h).1)
+    again = read_made p.after e text from upto p.order.canonical (back text (10 ∷ all_lines (scene_of v) newer) from (at ∙ ap (λ x. x ++ (10 ∷ all_lines (scene_of v) newer)) line)) stands (λ tokens h. (limits tokens from upto h).1)
 
     accepts : AcceptsFrom p.after text p.upto (entry_report p.after again.entry) upto (with_entry p.after again.entry)
     accepts = record {

@@ -1,7 +1,7 @@
 -- Laws of sessions in order.
 use Rattle.std.specs.Prelude.{◌≡◌, ℕ, List, [], ◌∷◌, ◌++◌, length, codes, Bool, false, Option, Some, None}
 use Rattle.std.specs.List.{AllByRecursion}
-use Rattle.lf.specs.Entries.{Entry, signature_of, IsCanonicalEntry}
+use Rattle.lf.specs.Entries.{Entry, signature_of, IsCanonicalEntry, IsCanonicalSignature}
 use Rattle.tw_names.specs.Texts.{hints}
 use Rattle.tw_lexer.specs.Tokens.{ThroughDot}
 use Rattle.tw_lexer.specs.declared.place.Place.{Place}
@@ -16,7 +16,7 @@ use Rattle.tw_print.specs.Shown.{declaration_line, scene_after}
 use Rattle.tw_approx.specs.Names.{IsFreeVariable}
 use Rattle.tw_recon.specs.Hints.{written_hints}
 use Rattle.law_reading_back.specs.Names.{IsName, AreGoodHints, PreferNames, HasRoom, HasNoImplicit}
-use Rattle.tw_decl.specs.View.{View, empty_view, reset_view, with_chatter, with_implicit, with_steps, with_entry, scene_of, told, IsSound}
+use Rattle.tw_decl.specs.View.{View, empty_view, reset_view, with_chatter, with_implicit, with_steps, with_entry, scene_of, told}
 use Rattle.tw_decl.specs.Declaration.{Makes, Accepts, AcceptsFrom}
 use Rattle.tw_decl.specs.Reading.{plain}
 use Rattle.tw_decl.specs.Reports.{Reported, lines_alone}
@@ -115,7 +115,7 @@ ReportFromReadsBack = (v w : View) (text : List ℕ) (report : Reported) (from u
 
 -- a line that reads back over a session whose signature is canonical, within the limits, is accepted by that session
 abbrev pub ReadBackIsAccepted : Type 0
-ReadBackIsAccepted = (s : Scene) (v : View) (e : Entry) → IsSound v → LineReadsBack s v.signature v.fixities e → IsCanonicalEntry (signature_of v.signature) e → IsWithinLimits (declaration_line s e) → AcceptsAgain v (declaration_line s e) e
+ReadBackIsAccepted = (s : Scene) (v : View) (e : Entry) → IsCanonicalSignature v.signature → LineReadsBack s v.signature v.fixities e → IsCanonicalEntry (signature_of v.signature) e → IsWithinLimits (declaration_line s e) → AcceptsAgain v (declaration_line s e) e
 
 -- so the line of an entry of a session is accepted by one that has the entries before it and the same operators, and declares the entry again
 abbrev pub KeptIsAccepted : Type 0

@@ -1,7 +1,7 @@
 -- A session whose printed lines read back.
 use Rattle.std.specs.Prelude.{◌≡◌, ℕ, ◌+◌, ◌<◌, List, [], ◌∷◌, ◌++◌, length, drop, true, false, None, Some}
 use Rattle.std.specs.FinMap.{get}
-use Rattle.lf.specs.Entries.{Body, Entry, declare_constant, declare_definition, declare_family, entry}
+use Rattle.lf.specs.Entries.{Body, Entry, declare_constant, declare_definition, declare_family, entry, IsCanonicalSignature}
 use Rattle.tw_lexer.specs.Tokens.{ThroughDot, IsFew}
 use Rattle.tw_lexer.specs.declared.token.Token.{Token}
 use Rattle.tw_parse.specs.Nesting.{first_too_deep}
@@ -11,7 +11,7 @@ use Rattle.tw_print.specs.Names.{Scene}
 use Rattle.tw_print.specs.Shown.{declaration_line}
 use Rattle.law_reading_back.specs.Laws.{IsOpenDefinition, IsOpenEntry, ReadsAs, ReadsAsDefinition, bare_line}
 use Rattle.law_reading_back.specs.Names.{EachIs, IsPlainByte, HasRoom, HasGoodNames, AreGoodHints, HasGoodPreferences, HasGoodRows, HasNoImplicit}
-use Rattle.tw_decl.specs.View.{View, scene_of, with_entry, IsSound}
+use Rattle.tw_decl.specs.View.{View, scene_of, with_entry}
 use Rattle.tw_decl.specs.Declaration.{Accepts, HasCause}
 use Rattle.tw_decl.specs.Reports.{Reported}
 use Rattle.tw_decl.specs.declared.refusal.Refusal.{Refusal}
@@ -21,7 +21,7 @@ use Rattle.tw_server.specs.Loading.{Opens}
 -- The signature is canonical; the names of entries, their hints and the preferred names are identifiers without a fixed meaning; the newest entry
 -- of an operator takes as many arguments as it has operands.
 pub record IsViewInOrder (v : View) : Type 0 where
-  pub sound : IsSound v
+  pub canonical : IsCanonicalSignature v.signature
   pub names : HasGoodNames (scene_of v)
   pub hints : (c : ℕ) (e : Entry) → entry v.signature c ≡ Some e → AreGoodHints e.hints
   pub preferences : HasGoodPreferences (scene_of v)

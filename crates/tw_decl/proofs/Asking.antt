@@ -1,7 +1,7 @@
 -- By which grammar words are read.
-use Rattle.std.proofs.Common.{◌≡◌, ℕ, List, Bool, true, false, refl, sym, subst}
+use Rattle.std.proofs.Common.{◌≡◌, List, Bool, true, false, refl, sym, subst}
 use Rattle.std.specs.Bool.{MatchBool}
-use Rattle.std.specs.Prelude.{◌&&◌, not}
+use Rattle.std.specs.Prelude.{◌&&◌}
 use Rattle.tw_lexer.specs.declared.place.Place.{Place}
 use Rattle.tw_parse.specs.Faults.{FaultStands}
 use Rattle.tw_parse.specs.Words.{Lexeme, first_word, first_bytes}
@@ -12,7 +12,7 @@ use Rattle.tw_parse_checks.specs.Faults.{CheckFaultStands}
 use Rattle.tw_parse_checks.specs.Marks.{is_check}
 use Rattle.tw_parse_queries.specs.Faults.{SearchFaultStands}
 use Rattle.tw_parse_queries.specs.Keywords.{is_search}
-use Rattle.tw_decl.specs.Reading.{ReadFault, asks_check, asks_search, is_keyword, is_left_out, is_made}
+use Rattle.tw_decl.specs.Reading.{ReadFault, asks_check, asks_search, is_keyword}
 use Rattle.tw_decl.specs.View.{View}
 
 word_by : (w : Word) (b : Bool) → is_keyword w && b ≡ true → w ≡ Keyword
@@ -23,19 +23,11 @@ bytes_by : (a b : Bool) → a && b ≡ true → b ≡ true
 bytes_by true b e = e
 bytes_by false b e = let clash : false ≡ true = e in absurd cc
 
-front_by : (a b : Bool) → a && b ≡ true → a ≡ true
-front_by true b e = refl
-front_by false b e = e
-
--- a check that is built is one
-pub made_is_check : (bytes : List ℕ) → is_made bytes ≡ true → is_check bytes ≡ true
-made_is_check bytes e = front_by (is_check bytes) (not (is_left_out bytes)) e
-
 pub asked_word : (words : List Lexeme) → asks_check words ≡ true → first_word words ≡ Keyword
-asked_word words e = word_by (first_word words) (is_made (first_bytes words)) e
+asked_word words e = word_by (first_word words) (is_check (first_bytes words)) e
 
 pub asked_bytes : (words : List Lexeme) → asks_check words ≡ true → is_check (first_bytes words) ≡ true
-asked_bytes words e = made_is_check (first_bytes words) (bytes_by (is_keyword (first_word words)) (is_made (first_bytes words)) e)
+asked_bytes words e = bytes_by (is_keyword (first_word words)) (is_check (first_bytes words)) e
 
 pub searched_word : (words : List Lexeme) → asks_search words ≡ true → first_word words ≡ Keyword
 searched_word words e = word_by (first_word words) (is_search (first_bytes words)) e

@@ -23,8 +23,8 @@ use Rattle.tw_parse_queries.specs.Keywords.{has_form, is_search}
 use Rattle.tw_parse_queries.specs.Searches.{Header, Heads, Search, of_query, of_solve}
 use Rattle.tw_parse_queries.specs.declared.keywords.Form.{Form}
 use Rattle.tw_parse_queries.specs.declared.keywords.Form.TheVariants.{Query, Solve}
-use Rattle.tw_decl.specs.Reading.{IsReadAs, IsReadAsSearch, Read, plain, check, searching, Reads, ReadFault, asks_check, asks_search, is_keyword, is_made}
-use Rattle.tw_decl.proofs.Asking.{made_is_check, of_plain}
+use Rattle.tw_decl.specs.Reading.{IsReadAs, IsReadAsSearch, Read, plain, check, searching, Reads, ReadFault, asks_check, asks_search, is_keyword}
+use Rattle.tw_decl.proofs.Asking.{of_plain}
 use Rattle.tw_decl.specs.View.{View}
 
 pub read_faultless : (table : Table) (end : Place) (words : List Lexeme) (d : Declaration) → IsRead words → Declares table words d → (fault : SyntaxFault) → FaultStands table end words fault → fault ≡ faults.NoMemory
@@ -49,13 +49,13 @@ check_by false false false false bytes e f g k h = let clash : false ≡ true = 
 not_built : (bytes : List ℕ) → is_check bytes ≡ true → is_built (form_of bytes) ≡ false
 not_built bytes h = check_by (bytes_eq bytes (codes "%mode")) (bytes_eq bytes (codes "%block")) (bytes_eq bytes (codes "%worlds")) (bytes_eq bytes (codes "%terminates")) bytes refl refl refl refl h
 
-plain_by : (w : Word) (bytes : List ℕ) (b : Bool) → is_made bytes ≡ b → (w ≡ Keyword → is_built (form_of bytes) ≡ true) → is_keyword w && is_made bytes ≡ false
-plain_by Keyword bytes true e known = let clash : false ≡ true = sym (not_built bytes (made_is_check bytes e)) ∙ known refl in absurd cc
+plain_by : (w : Word) (bytes : List ℕ) (b : Bool) → is_check bytes ≡ b → (w ≡ Keyword → is_built (form_of bytes) ≡ true) → is_keyword w && is_check bytes ≡ false
+plain_by Keyword bytes true e known = let clash : false ≡ true = sym (not_built bytes e) ∙ known refl in absurd cc
 plain_by Keyword bytes false e known = e
 plain_by w bytes b e known = refl
 
 pub asks_none : (words : List Lexeme) → IsKnown words → asks_check words ≡ false
-asks_none words known = plain_by (first_word words) (first_bytes words) (is_made (first_bytes words)) refl known
+asks_none words known = plain_by (first_word words) (first_bytes words) (is_check (first_bytes words)) refl known
 
 -- nor for a search
 search_by : (a b : Bool) (bytes : List ℕ) → bytes_eq bytes (codes "%query") ≡ a → bytes_eq bytes (codes "%solve") ≡ b → has_form (if a then Some Query else if b then Some Solve else None) ≡ true → is_built (form_of bytes) ≡ false

@@ -19,7 +19,8 @@ use Rattle.law_explicit_agrees.specs.Reconstructed.{MayBeRefused}
 use Rattle.law_explicit_agrees.proofs.Deep.{explicit_deep_only_so}
 use Rattle.law_explicit_agrees.proofs.Full.{no_lambda, no_name, no_type}
 use Rattle.law_explicit_agrees.proofs.Only.{no_other_cause}
-use Rattle.tw_decl.specs.View.{View, IsSound}
+use Rattle.lf.specs.Entries.{IsCanonicalSignature}
+use Rattle.tw_decl.specs.View.{View}
 use Rattle.tw_decl.specs.Declaration.{IsWritten, IsWrittenAlone, IsFaultBehind, IsNotMade, IsFirstCause, IsFollowed, IsLastCause, IsCause, IsCauseAlone, HasNoMore}
 use Rattle.tw_decl.specs.Obstacles.{IsNotEntered, HasObstacle, ReadHasObstacle}
 use Rattle.tw_decl.specs.Laws.{IsWellTyped, IsCompletable, IsGoodDeclaration, IsGood, IsGoodFrom, GoodIsAccepted, GoodFromIsAccepted}
@@ -65,7 +66,7 @@ not_first v words end d (Syntax place) r h = let e : faults.Syntax place ≡ fau
 not_first v words end d refusal r h = absurd h
 
 -- its reconstruction has no fault, and nothing is too deep
-module _ (v : View) (c : List ℕ) (at : Place) (U : Term) (first : Place) (s : IsSound v) (t : IsWellTyped v (declare c at U)) where
+module _ (v : View) (c : List ℕ) (at : Place) (U : Term) (first : Place) (s : IsCanonicalSignature v.signature) (t : IsWellTyped v (declare c at U)) where
   refused : (fault : ReconFault) → reconstruction.HasCause v.signature (declare c at U) fault → MayBeRefused v.signature (declare c at U) fault
   refused fault h = no_other_cause v.signature s (declare c at U) t.form fault h
 
@@ -84,7 +85,7 @@ module _ (v : View) (c : List ℕ) (at : Place) (U : Term) (first : Place) (s : 
 abbrev NoObstacle : View → Declaration → Type 0
 NoObstacle v d = (first : Place) (refusal : Refusal) → HasObstacle v d first refusal → refusal ≡ Memory
 
-well_typed : (v : View) (d : Declaration) → IsSound v → IsWellTyped v d → NoObstacle v d
+well_typed : (v : View) (d : Declaration) → IsCanonicalSignature v.signature → IsWellTyped v d → NoObstacle v d
 well_typed v (declare c at U) s t first refusal h = plain_obstacle v c at U first s t refusal h
 well_typed v (define c A M b) s t first refusal h = absurd t.completes
 well_typed v (prefer a x y) s t first refusal h = absurd t.completes
@@ -119,7 +120,7 @@ completable v (define c A M b) k first refusal h = nothing_stops v (define c A M
 completable v (prefer a x y) k first refusal h = let clash : None ≡ Some k.completed.written = k.completed.resolved in absurd cc
 completable v (give fix names) k first refusal h = let clash : None ≡ Some k.completed.written = k.completed.resolved in absurd cc
 
-no_obstacle : (v : View) (d : Declaration) → IsSound v → IsGoodDeclaration v d → NoObstacle v d
+no_obstacle : (v : View) (d : Declaration) → IsCanonicalSignature v.signature → IsGoodDeclaration v d → NoObstacle v d
 no_obstacle v d s (inl t) = well_typed v d s t
 no_obstacle v d s (inr k) = completable v d k
 
@@ -151,7 +152,7 @@ no_cause_alone v words end next d refusal alone r free (inr (inr h)) = not_last 
 abbrev HasCauseIn : View → List ℕ → Refusal → Type 0
 HasCauseIn v text refusal = (words : List Lexeme) × (end : Place) × (next : Token) × IsWrittenAlone text words end next × IsCauseAlone v end words next refusal
 
-no_cause_in : (v : View) (text : List ℕ) (refusal : Refusal) → IsSound v → IsGood v text → HasCauseIn v text refusal → refusal ≡ Memory
+no_cause_in : (v : View) (text : List ℕ) (refusal : Refusal) → IsCanonicalSignature v.signature → IsGood v text → HasCauseIn v text refusal → refusal ≡ Memory
 no_cause_in v text refusal s g (us, last, other, written, h) =
     let same = same_text text 0 g.written.upto written.upto g.words us g.end last g.written.written written.written in
     let next = same_next text g.words us g.end last g.next other g.written written in
@@ -172,7 +173,7 @@ good_accepted v text refusal s g h = no_cause_in v text refusal s g h
 abbrev HasCauseAmong : View → List ℕ → ℕ → Refusal → Type 0
 HasCauseAmong v text from refusal = (HasNoMore text from → ⊥) × ((upto : ℕ) × (words : List Lexeme) × (end : Place) × IsWritten text from upto words end × IsCause v end words refusal)
 
-no_cause_among : (v : View) (text : List ℕ) (from : ℕ) (refusal : Refusal) → IsSound v → IsGoodFrom v text from → HasCauseAmong v text from refusal → refusal ≡ Memory
+no_cause_among : (v : View) (text : List ℕ) (from : ℕ) (refusal : Refusal) → IsCanonicalSignature v.signature → IsGoodFrom v text from → HasCauseAmong v text from refusal → refusal ≡ Memory
 no_cause_among v text from refusal s g (more, (upto, us, last, written, h)) =
     let same = same_text text from g.upto upto g.words us g.end last g.written written in
     let moved : IsCause v g.end g.words refusal = subst (λ (ws : List Lexeme). IsCause v g.end ws refusal) same.words_same (subst (λ (p : Place). IsCause v p us refusal) same.end_same h) in

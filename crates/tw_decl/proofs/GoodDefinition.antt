@@ -292,8 +292,11 @@ definition_good =
 
 sound : IsSound with_constant
 sound = (
-  (tt, record { typed = tt; within = lit≤ tt; implicit_lead = lit≤ tt; hint_each = refl }),
-  record { typed = (lf_star, refl, tt); within = lit≤ tt; implicit_lead = lit≤ tt; hint_each = refl },
+  (
+    (tt, record { typed = tt; within = lit≤ tt; implicit_lead = lit≤ tt; hint_each = refl }),
+    record { typed = (lf_star, refl, tt); within = lit≤ tt; implicit_lead = lit≤ tt; hint_each = refl },
+  ),
+  record { typed = λ B m. absurd m; listed = λ r m. absurd m },
 )
 
 pub good : DefinitionIsGood

@@ -1,6 +1,10 @@
 pub mod Reports
 pub mod Causes
 pub mod Questions
+pub mod Standing
+pub mod Labelled
+pub mod TakenOut
+pub mod Alone
 pub mod Sound
 pub mod Asking
 pub mod Faultless

@@ -2,6 +2,7 @@
 use Rattle.std.specs.Prelude.{◌≡◌, ◌≢◌, ◌⊎◌, ℕ, List, [], ◌∷◌, ◌++◌, map as each, Bool, true, false, codes, Option, None, Some, Ok, Err, if◌then◌else◌}
 use Rattle.std.specs.FinMap as map
 use Rattle.lf.specs.Entries.{Entry, entry, signature_of, IsCanonicalEntry}
+use Rattle.lf.specs.Subordination.{Block}
 use Rattle.lf_checks.specs.Marks.{Mark}
 use Rattle.tw_clause.specs.declared.order.Order.{Order as PlainOrder}
 use Rattle.tw_terms.specs.declared.canonical.ConstId.{ConstId}
@@ -24,10 +25,11 @@ use Rattle.tw_query.specs.Runs.{answers_in}
 use Rattle.tw_query.specs.declared.run.Leaf.{Leaf}
 use Rattle.tw_query.specs.declared.run.QueryEnd.{QueryEnd}
 use Rattle.tw_recon.specs.Reconstruction.{IsReconstructed}
-use Rattle.tw_decl.specs.View.{View, scene_of, told, with_entry, with_mode}
+use Rattle.tw_decl.specs.View.{View, scene_of, told, with_block, with_entry, with_mode, with_worlds}
 use Rattle.tw_signature.specs.Goal.{Goal}
 use Rattle.tw_signature.specs.Names.{number_of}
 use Rattle.tw_decl.specs.Applications.{IsApplied, application_of, applications}
+use Rattle.tw_decl.specs.Blocks.{GivesBlock, block_line}
 use Rattle.tw_decl.specs.Modes.{GivesMarks, IsModed, mode_line}
 use Rattle.tw_decl.specs.Termination.{Descend, GivesOrders, termination_line}
 use Rattle.tw_decl.specs.Obstacles.{ReadHasObstacle}
@@ -38,6 +40,7 @@ use Rattle.tw_decl.specs.Refusals.{refusal_line}
 use Rattle.tw_decl.specs.Reports.{Reported, lines_alone, reported, with_answers}
 use Rattle.tw_decl.specs.Searching.{IsAsExpected, Runs, bound_of, query_lines}
 use Rattle.tw_decl.specs.Solutions.{IsFound}
+use Rattle.tw_decl.specs.Worlds.{AreWorlded, GivesWorlds, worlds_line}
 use Rattle.tw_decl.specs.declared.declaration.Next.{Next}
 use Rattle.tw_decl.specs.declared.declaration.Next.TheVariants as nexts
 use Rattle.tw_decl.specs.declared.refusal.Refusal.{Refusal}
@@ -79,7 +82,7 @@ pub record Enters (v : View) (d : Declaration) (report : Reported) (w : View) : 
 
 -- operators: each name is declared, and takes as many arguments as the operator has operands; it gets the row
 pub record GivesRows (v : View) (fix : Fix) (names : List ExtName) (report : Reported) (w : View) : Type 0 where
-  pub declared : first_undeclared v.signature names ≡ None
+  pub declared : first_undeclared v names ≡ None
   pub all_fit : all_take v.signature (operand_count fix) names ≡ true
   pub says : report ≡ lines_alone (told v (fixity_line fix names))
   pub keeps : w ≡ record v { fixities = with_rows v.fixities fix names }
@@ -103,13 +106,13 @@ Does v (give fix names) report w = GivesRows v fix names report w
 pub record SetsMode (v : View) (c : Check) (report : Reported) (w : View) : Type 0 where
   pub family : ℕ
   pub marks : List Mark
-  pub applied : IsApplied v.signature c (family ∷ [])
+  pub applied : IsApplied v c (family ∷ [])
   pub gives : GivesMarks v.signature c family marks
   pub moded : IsModed v family marks
   pub says : report ≡ lines_alone (told v (mode_line (applications c) marks))
   pub keeps : w ≡ with_mode v family marks
 
--- `%terminates`: the declaration gives families orders over inputs, by which their calls descend in the empty worlds; nothing changes
+-- `%terminates`: the declaration gives families orders over inputs, by which their calls descend in the blocks of their worlds; nothing changes
 pub record TestsOrders (v : View) (O : Order) (ps : List Call) (report : Reported) (w : View) : Type 0 where
   pub rows : List (ConstId × PlainOrder)
   pub gives : GivesOrders v O ps rows
@@ -117,13 +120,29 @@ pub record TestsOrders (v : View) (O : Order) (ps : List Call) (report : Reporte
   pub says : report ≡ lines_alone (told v (termination_line (each application_of ps)))
   pub keeps : w ≡ v
 
+-- `%block`: what is written gives a block, which is added
+pub record AddsBlock (v : View) (l : ExtName) (n : ℕ) (d : Declaration) (report : Reported) (w : View) : Type 0 where
+  pub added : Block
+  pub gives : GivesBlock v l n d added
+  pub says : report ≡ lines_alone (told v (block_line l))
+  pub keeps : w ≡ with_block v added
+
+-- `%worlds`: the labels name blocks, in which the clauses of the families are well-worlded; each family gets these worlds
+pub record SetsWorlds (v : View) (ls : List ExtName) (ps : List Call) (report : Reported) (w : View) : Type 0 where
+  pub families : List ℕ
+  pub blocks : List Block
+  pub gives : GivesWorlds v ls ps families blocks
+  pub worlded : AreWorlded v families blocks
+  pub says : report ≡ lines_alone (told v (worlds_line ls (each application_of ps)))
+  pub keeps : w ≡ with_worlds v families blocks
+
 -- what a check does
 abbrev pub Checks : View → Check → Reported → View → Type 0
 Checks v (mode_short a ms) report w = SetsMode v (mode_short a ms) report w
 Checks v (mode_full ms a n d) report w = SetsMode v (mode_full ms a n d) report w
 Checks v (terminates O ps) report w = TestsOrders v O ps report w
-Checks v (block l n d) report w = ⊥
-Checks v (worlds ls ps) report w = ⊥
+Checks v (block l n d) report w = AddsBlock v l n d report w
+Checks v (worlds ls ps) report w = SetsWorlds v ls ps report w
 
 -- A query: its search ends within the budget, with answers as expected. Its lines are told, with the number of answers, and nothing changes.
 pub record AnswersQuery (v : View) (e t : ExtBound) (q : Query) (report : Reported) (w : View) : Type 0 where

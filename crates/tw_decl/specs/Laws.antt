@@ -1,6 +1,6 @@
 -- Laws of declarations.
 use Rattle.std.specs.Prelude.{◌≡◌, ◌⊎◌, ℕ, List}
-use Rattle.lf.specs.Entries.{Entry, signature_of}
+use Rattle.lf.specs.Entries.{Entry, IsCanonicalSignature, signature_of}
 use Rattle.tw_lexer.specs.declared.place.Place.{Place}
 use Rattle.tw_lexer.specs.declared.token.Token.{Token}
 use Rattle.tw_lexer.specs.declared.token.TokenKind.TheVariants.{End}
@@ -21,7 +21,7 @@ use Rattle.tw_decl.specs.Reports.{Reported}
 use Rattle.tw_decl.specs.declared.refusal.Refusal.{Refusal}
 use Rattle.tw_decl.specs.declared.refusal.Refusal.TheVariants.{Memory}
 
--- a declaration that is accepted keeps the signature canonical
+-- a declaration that is accepted keeps the view sound: its signature canonical, its blocks typed, and the blocks of its worlds among them
 abbrev pub AcceptingKeepsSound : Type 0
 AcceptingKeepsSound = (v w : View) (text : List ℕ) (report : Reported) → Accepts v text report w → IsSound v → IsSound w
 
@@ -64,7 +64,7 @@ pub record IsGood (v : View) (text : List ℕ) : Type 0 where
 
 -- such a text is refused over a canonical signature for want of memory alone
 abbrev pub GoodIsAccepted : Type 0
-GoodIsAccepted = (v : View) (text : List ℕ) (refusal : Refusal) → IsSound v → IsGood v text → HasCause v text refusal → refusal ≡ Memory
+GoodIsAccepted = (v : View) (text : List ℕ) (refusal : Refusal) → IsCanonicalSignature v.signature → IsGood v text → HasCause v text refusal → refusal ≡ Memory
 
 -- a text in which such a declaration begins at this byte
 pub record IsGoodFrom (v : View) (text : List ℕ) (from : ℕ) : Type 0 where
@@ -78,4 +78,4 @@ pub record IsGoodFrom (v : View) (text : List ℕ) (from : ℕ) : Type 0 where
 
 -- it is refused so too
 abbrev pub GoodFromIsAccepted : Type 0
-GoodFromIsAccepted = (v : View) (text : List ℕ) (from : ℕ) (refusal : Refusal) → IsSound v → IsGoodFrom v text from → HasCauseFrom v text from refusal → refusal ≡ Memory
+GoodFromIsAccepted = (v : View) (text : List ℕ) (from : ℕ) (refusal : Refusal) → IsCanonicalSignature v.signature → IsGoodFrom v text from → HasCauseFrom v text from refusal → refusal ≡ Memory

@@ -1,5 +1,6 @@
 pub mod View
 pub mod ViewCode
+pub mod Labels
 pub mod Refusals
 pub mod Reports
 pub mod Operators
@@ -7,6 +8,8 @@ pub mod Preferences
 pub mod Reading
 pub mod Applications
 pub mod Modes
+pub mod Blocks
+pub mod Worlds
 pub mod Termination
 pub mod Equations
 pub mod Searching

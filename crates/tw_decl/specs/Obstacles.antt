@@ -1,5 +1,6 @@
 -- Why a declaration that is read isn't made: by its form, and then by its refusals.
-use Rattle.std.specs.Prelude.{◌≡◌, ◌⊎◌, List, [], ◌∷◌, ◌++◌, ℕ, false, codes, None, Some, IsSome}
+use Rattle.std.specs.Prelude.{◌≡◌, ◌⊎◌, List, [], ◌∷◌, ◌++◌, ℕ, true, false, codes, None, Some}
+use Rattle.lf.specs.Subordination.{Block}
 use Rattle.lf_checks.specs.Clauses.{ClauseName}
 use Rattle.lf_checks.specs.Marks.{Mark}
 use Rattle.lf_checks.specs.ModeRows.{first_unmoded, is_moded}
@@ -9,7 +10,7 @@ use Rattle.tw_terms.specs.declared.canonical.ConstId.{ConstId}
 use Rattle.tw_fixity.specs.declared.table.Fix.{Fix}
 use Rattle.tw_lexer.specs.declared.place.Place.{Place}
 use Rattle.tw_metas.specs.declared.left.LeftEquation.{LeftEquation}
-use Rattle.tw_names.specs.Unknown.{IsFirst}
+use Rattle.tw_approx.specs.Names.{IsFreeVariable}
 use Rattle.tw_parse.specs.Syntax.{Declaration, declare, define, prefer, give}
 use Rattle.tw_parse.specs.declared.decl.ExtName.{ExtName}
 use Rattle.tw_parse_checks.specs.Checks.{Call, Check, Order, mode_short, mode_full, block, worlds, terminates}
@@ -18,9 +19,10 @@ use Rattle.tw_print.specs.Names.{constant_word}
 use Rattle.tw_recon.specs.Causes as reconstruction
 use Rattle.tw_recon.specs.declared.fault.ReconFault.{ReconFault}
 use Rattle.tw_recon.specs.declared.fault.ReconFault.TheVariants as reconstructions
-use Rattle.tw_signature.specs.Names.{number_of}
 use Rattle.tw_decl.specs.Equations.{left_text}
-use Rattle.tw_decl.specs.Applications.{IsApplied, IsMisapplied, unknown_in_check}
+use Rattle.tw_decl.specs.Applications.{IsApplied, IsFirstUnknown, IsMisapplied}
+use Rattle.tw_decl.specs.Blocks.{HasNoFree, LeavesOpen}
+use Rattle.tw_decl.specs.Labels.{is_known}
 use Rattle.tw_decl.specs.Modes.{GivesMarks, IsIllModed, IsNoFullForm, LacksMode, clause_word}
 use Rattle.tw_decl.specs.Termination.{AreAtInputs, GivesOrders, IsFirstCall, NamesModed}
 use Rattle.tw_decl.specs.Operators.{newest, operand_count, all_take, first_undeclared}
@@ -28,6 +30,7 @@ use Rattle.tw_decl.specs.Preferences.{is_family}
 use Rattle.tw_decl.specs.Reading.{Read, plain, check, searching}
 use Rattle.tw_decl.specs.Unanswered.{IsNotAnswered, IsNotSolved}
 use Rattle.tw_decl.specs.View.{View, scene_of}
+use Rattle.tw_decl.specs.Worlds.{GivesNoWorlds, GivesWorlds, GoesDeep, IsIllWorlded}
 use Rattle.tw_decl.specs.declared.refusal.Refusal.{Refusal}
 use Rattle.tw_decl.specs.declared.refusal.Refusal.TheVariants as refusals
 
@@ -54,19 +57,19 @@ IsNotEntered v d first (refusals.Leftover place text) = IsLeft v d text.items ×
 IsNotEntered v d first (refusals.TooDeep place) = ReconstructionFails v d reconstructions.TooDeep × (place ≡ first)
 IsNotEntered v d first _ = ⊥
 
--- Why names don't get the row of an operator: this is the first that isn't declared; or all are, and one of them takes
--- fewer arguments than the operator has operands.
+-- Why names don't get the row of an operator: this is the first that is neither an entry's nor a block's; or none is such, and one of them is no entry's, or
+-- takes fewer arguments than the operator has operands.
 abbrev pub IsNotGiven : View → Fix → List ExtName → Place → Refusal → Type 0
 IsNotGiven v fix names first refusals.Memory = Unit {0}
-IsNotGiven v fix names first (refusals.Unknown place name) = first_undeclared v.signature names ≡ Some (record { name = name; at = place })
-IsNotGiven v fix names first (refusals.BadDecl place) = (first_undeclared v.signature names ≡ None) × (all_take v.signature (operand_count fix) names ≡ false) × (place ≡ first)
+IsNotGiven v fix names first (refusals.Unknown place name) = first_undeclared v names ≡ Some (record { name = name; at = place })
+IsNotGiven v fix names first (refusals.BadDecl place) = (first_undeclared v names ≡ None) × (all_take v.signature (operand_count fix) names ≡ false) × (place ≡ first)
 IsNotGiven v fix names first _ = ⊥
 
--- why a family doesn't get preferred names: its name isn't declared; or it is, and isn't that of a family
+-- why a family doesn't get preferred names: no entry and no block has its name; or one has, and it isn't that of a family
 abbrev pub IsNotPreferred : View → ExtName → Place → Refusal → Type 0
 IsNotPreferred v a first refusals.Memory = Unit {0}
-IsNotPreferred v a first (refusals.Unknown place name) = (number_of v.signature a.name ≡ None) × (name ≡ a.name) × (place ≡ a.at)
-IsNotPreferred v a first (refusals.BadDecl place) = IsSome (number_of v.signature a.name) × (is_family (newest v.signature a.name) ≡ false) × (place ≡ first)
+IsNotPreferred v a first (refusals.Unknown place name) = (is_known v a.name ≡ false) × (name ≡ a.name) × (place ≡ a.at)
+IsNotPreferred v a first (refusals.BadDecl place) = (is_known v a.name ≡ true) × (is_family (newest v.signature a.name) ≡ false) × (place ≡ first)
 IsNotPreferred v a first _ = ⊥
 
 -- why a declaration that is read isn't made, where its first token stands at this place
@@ -79,8 +82,8 @@ HasObstacle v (give fix names) first refusal = IsNotGiven v fix names first refu
 -- Why a check doesn't come to its families, where its first token stands at this place: this is the first name of it that isn't known; or what one names is no family with just its arguments.
 abbrev pub IsNotApplied : View → Check → Place → Refusal → Type 0
 IsNotApplied v c first refusals.Memory = Unit {0}
-IsNotApplied v c first (refusals.Unknown place name) = IsFirst (record { name = name; at = place }) (unknown_in_check v.signature c)
-IsNotApplied v c first (refusals.BadDecl place) = IsMisapplied v.signature c × (place ≡ first)
+IsNotApplied v c first (refusals.Unknown place name) = IsFirstUnknown v c (record { name = name; at = place })
+IsNotApplied v c first (refusals.BadDecl place) = IsMisapplied v c × (place ≡ first)
 IsNotApplied v c first _ = ⊥
 
 -- why a full form gives no marks: it isn't reconstructed, or what comes of it has not the form
@@ -95,7 +98,7 @@ GivesNoMarks v (mode_full ms a n d) first refusal = IsNotFull v d first refusal
 GivesNoMarks v _ first refusal = ⊥
 
 abbrev pub MarksFail : View → Check → Place → Refusal → Type 0
-MarksFail v c first refusal = ((family : ℕ) × IsApplied v.signature c (family ∷ [])) × GivesNoMarks v c first refusal
+MarksFail v c first refusal = ((family : ℕ) × IsApplied v c (family ∷ [])) × GivesNoMarks v c first refusal
 
 -- Why a family isn't checked by these marks: it meets this family, which has no mode and is shown behind `mode`; or this clause isn't well-moded.
 abbrev pub IsNotModed : View → ℕ → List Mark → Place → Refusal → Type 0
@@ -108,7 +111,7 @@ IsNotModed v family marks first _ = ⊥
 pub record RowFails (v : View) (c : Check) (first : Place) (refusal : Refusal) : Type 0 where
   pub family : ℕ
   pub marks : List Mark
-  pub applied : IsApplied v.signature c (family ∷ [])
+  pub applied : IsApplied v c (family ∷ [])
   pub gives : GivesMarks v.signature c family marks
   pub fails : IsNotModed v family marks first refusal
 
@@ -125,7 +128,7 @@ IsNotSet v c first refusal = MarksFail v c first refusal
 -- the families of a `%terminates` and the first of them without a mode
 pub record LacksModes (v : View) (O : Order) (ps : List Call) (g : ℕ) : Type 0 where
   pub families : List ℕ
-  pub applied : IsApplied v.signature (terminates O ps) families
+  pub applied : IsApplied v (terminates O ps) families
   pub unmoded : first_unmoded (is_moded (mode_rows v.checked.modes)) families ≡ Some g
 
 -- its families have modes, and a place that it gives one of them isn't an input
@@ -134,7 +137,7 @@ pub record MissesInputs (v : View) (O : Order) (ps : List Call) : Type 0 where
   pub named : NamesModed v O ps families
   pub off : AreAtInputs v 0 O ps → ⊥
 
--- it gives them orders over inputs, and this is the first call that doesn't descend, in the empty worlds
+-- it gives them orders over inputs, and this is the first call that doesn't descend, in the blocks of their worlds
 pub record Ascends (v : View) (O : Order) (ps : List Call) (name : ClauseName) (k : ℕ) : Type 0 where
   pub rows : List (ConstId × PlainOrder)
   pub gives : GivesOrders v O ps rows
@@ -148,19 +151,43 @@ IsNotDescending v O ps first (refusals.NotDeclared place text) = ((g : ℕ) × L
 IsNotDescending v O ps first (refusals.OrderFault place clause k) = ((name : ClauseName) × Ascends v O ps name k × (clause.items ≡ clause_word (scene_of v) name)) × (place ≡ first)
 IsNotDescending v O ps first refusal = IsNotApplied v (terminates O ps) first refusal
 
--- a declaration of a form that isn't built is refused where its first token stands, and its keyword is shown
-abbrev pub IsNotBuilt : List ℕ → Place → Refusal → Type 0
-IsNotBuilt keyword first refusals.Memory = Unit {0}
-IsNotBuilt keyword first (refusals.Unsupported place shown) = (place ≡ first) × (shown ≡ keyword)
-IsNotBuilt keyword first _ = ⊥
+-- Why a block isn't added, where the first token stands at this place: a free variable stands in it; it isn't reconstructed; or a term in it stays open.
+abbrev pub IsNotAdded : View → Declaration → Place → Refusal → Type 0
+IsNotAdded v d first refusals.Memory = Unit {0}
+IsNotAdded v d first (refusals.BadDecl place) = (((x : List ℕ) × IsFreeVariable v.signature x d) ⊎ LeavesOpen v d) × (place ≡ first)
+IsNotAdded v d first refusal = HasNoFree v d × IsNotEntered v d first refusal
+
+-- the declaration gives these families these worlds, and this clause isn't well-worlded in them
+pub record BreaksWorlds (v : View) (ls : List ExtName) (ps : List Call) (name : ClauseName) (k : ℕ) : Type 0 where
+  pub families : List ℕ
+  pub blocks : List Block
+  pub gives : GivesWorlds v ls ps families blocks
+  pub first : IsIllWorlded v families blocks name k
+
+-- the same where a subgoal is left open
+pub record WorldsGoDeep (v : View) (ls : List ExtName) (ps : List Call) : Type 0 where
+  pub families : List ℕ
+  pub blocks : List Block
+  pub gives : GivesWorlds v ls ps families blocks
+  pub deep : GoesDeep v families blocks
+
+-- Why families don't get worlds, where the first token stands at this place: this is the first name that isn't known; a label is no block's, or a family is none with just its arguments; this clause isn't
+-- well-worlded; or a subgoal is left open.
+abbrev pub IsNotWorlded : View → List ExtName → List Call → Place → Refusal → Type 0
+IsNotWorlded v ls ps first refusals.Memory = Unit {0}
+IsNotWorlded v ls ps first (refusals.Unknown place name) = IsFirstUnknown v (worlds ls ps) (record { name = name; at = place })
+IsNotWorlded v ls ps first (refusals.BadDecl place) = GivesNoWorlds v ls ps × (place ≡ first)
+IsNotWorlded v ls ps first (refusals.WorldFault place clause k) = ((name : ClauseName) × BreaksWorlds v ls ps name k × (clause.items ≡ clause_word (scene_of v) name)) × (place ≡ first)
+IsNotWorlded v ls ps first (refusals.TooDeep place) = WorldsGoDeep v ls ps × (place ≡ first)
+IsNotWorlded v ls ps first _ = ⊥
 
 -- why a check isn't made
 abbrev pub IsNotChecked : View → Check → Place → Refusal → Type 0
 IsNotChecked v (mode_short a ms) first refusal = IsNotSet v (mode_short a ms) first refusal
 IsNotChecked v (mode_full ms a n d) first refusal = IsNotSet v (mode_full ms a n d) first refusal
 IsNotChecked v (terminates O ps) first refusal = IsNotDescending v O ps first refusal
-IsNotChecked v (block l n d) first refusal = IsNotBuilt (codes "%block") first refusal
-IsNotChecked v (worlds ls ps) first refusal = IsNotBuilt (codes "%worlds") first refusal
+IsNotChecked v (block l n d) first refusal = IsNotAdded v d first refusal
+IsNotChecked v (worlds ls ps) first refusal = IsNotWorlded v ls ps first refusal
 
 -- why what is read isn't made
 abbrev pub ReadHasObstacle : View → Read → Place → Refusal → Type 0

@@ -1,5 +1,5 @@
 -- What `%infix`, `%prefix` and `%postfix` ask of names, what they change, and their line.
-use Rattle.std.specs.Prelude.{ℕ, ◌-◌, List, [], ◌∷◌, ◌++◌, Bool, true, false, ◌&&◌, Option, None, Some, is_some, nat_le, codes, decimal, if◌then◌else◌}
+use Rattle.std.specs.Prelude.{ℕ, ◌-◌, List, [], ◌∷◌, ◌++◌, Bool, true, false, ◌&&◌, Option, None, Some, nat_le, codes, decimal, if◌then◌else◌}
 use Rattle.std.specs.FinMap.{insert}
 use Rattle.lf.specs.Entries.{Entry, entry, body_quantifiers}
 use Rattle.tw_fixity.specs.declared.table.Assoc.{Assoc}
@@ -9,6 +9,8 @@ use Rattle.tw_fixity.specs.declared.table.Fix.TheVariants.{Infix, Prefix, Postfi
 use Rattle.tw_parse.specs.Outlines.{Table}
 use Rattle.tw_parse.specs.declared.decl.ExtName.{ExtName}
 use Rattle.tw_signature.specs.Names.{number_of}
+use Rattle.tw_decl.specs.Labels.{is_known}
+use Rattle.tw_decl.specs.View.{View}
 
 abbrev pub entry_by : List Entry → Option ℕ → Option Entry
 entry_by es (Some c) = entry es c
@@ -37,10 +39,10 @@ abbrev pub all_take : List Entry → ℕ → List ExtName → Bool
 all_take es n [] = true
 all_take es n (x ∷ xs) = takes n (newest es x.name) && all_take es n xs
 
--- the first of the names that isn't declared
-abbrev pub first_undeclared : List Entry → List ExtName → Option ExtName
-first_undeclared es [] = None
-first_undeclared es (x ∷ xs) = if is_some (number_of es x.name) then first_undeclared es xs else Some x
+-- the first of the names that is neither an entry's nor a block's
+abbrev pub first_undeclared : View → List ExtName → Option ExtName
+first_undeclared v [] = None
+first_undeclared v (x ∷ xs) = if is_known v x.name then first_undeclared v xs else Some x
 
 -- the table in which each of the names has the row
 abbrev pub with_rows : Table → Fix → List ExtName → Table

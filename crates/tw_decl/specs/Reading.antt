@@ -1,7 +1,6 @@
 -- What is read of a text: a declaration, a check of what is declared, or a search over it.
-use Rattle.std.specs.Prelude.{◌≡◌, ℕ, List, Bool, true, false, ◌&&◌, ◌||◌, not, codes}
+use Rattle.std.specs.Prelude.{◌≡◌, List, Bool, true, false, ◌&&◌}
 use Rattle.std.specs.Bool.{MatchBool}
-use Rattle.std.specs.Str.{bytes_eq}
 use Rattle.tw_lexer.specs.declared.place.Place.{Place}
 use Rattle.tw_parse.specs.Faults.{IsRead, FaultStands}
 use Rattle.tw_parse.specs.Queries.{IsShallow}
@@ -33,17 +32,9 @@ abbrev pub is_keyword : Word → Bool
 is_keyword Keyword = true
 is_keyword _ = false
 
--- the checks that aren't built
-abbrev pub is_left_out : List ℕ → Bool
-is_left_out bytes = bytes_eq bytes (codes "%block") || bytes_eq bytes (codes "%worlds")
-
--- a keyword of a check that is built
-abbrev pub is_made : List ℕ → Bool
-is_made bytes = is_check bytes && not (is_left_out bytes)
-
--- such a keyword stands first
+-- a keyword of a check stands first
 abbrev pub asks_check : List Lexeme → Bool
-asks_check words = is_keyword (first_word words) && is_made (first_bytes words)
+asks_check words = is_keyword (first_word words) && is_check (first_bytes words)
 
 -- or for a search
 abbrev pub asks_search : List Lexeme → Bool

@@ -2,7 +2,7 @@
 use Rattle.std.specs.Prelude.{ℕ, List, ◌++◌, codes, decimal}
 use Rattle.tw_lexer.specs.declared.place.Place.{Place}
 use Rattle.tw_decl.specs.declared.refusal.Refusal.{Refusal}
-use Rattle.tw_decl.specs.declared.refusal.Refusal.TheVariants.{Memory, Lex, TooMany, Unsupported, Nesting, Syntax, Fixity, BadDecl, Unknown, Loose, Mismatch, Leftover, TooDeep, NotDeclared, ModeFault, OrderFault, Count, Budget, NoAnswer}
+use Rattle.tw_decl.specs.declared.refusal.Refusal.TheVariants.{Memory, Lex, TooMany, Unsupported, Nesting, Syntax, Fixity, BadDecl, Unknown, Loose, Mismatch, Leftover, TooDeep, NotDeclared, ModeFault, WorldFault, OrderFault, Count, Budget, NoAnswer}
 
 -- where a text came from, and a place in it
 abbrev pub show_place : List ℕ → Place → List ℕ
@@ -37,6 +37,7 @@ refusal_line origin (Leftover place text) = show_place origin place ++ codes " E
 refusal_line origin (TooDeep place) = show_place origin place ++ codes " E10 TooDeep\n"
 refusal_line origin (NotDeclared place text) = show_place origin place ++ codes " E12 NotDeclared " ++ text.items ++ codes "\n"
 refusal_line origin (ModeFault place clause subgoal argument) = show_place origin place ++ codes " E13 ModeFault " ++ fault_words clause.items subgoal argument ++ codes "\n"
+refusal_line origin (WorldFault place clause subgoal) = show_place origin place ++ codes " E14 WorldFault " ++ subgoal_words clause.items subgoal ++ codes "\n"
 refusal_line origin (OrderFault place clause subgoal) = show_place origin place ++ codes " E15 OrderFault " ++ subgoal_words clause.items subgoal ++ codes "\n"
 refusal_line origin (Count place found expected) = show_place origin place ++ codes " E19 Count " ++ count_words found expected ++ codes "\n"
 refusal_line origin (Budget place tries) = show_place origin place ++ codes " E20 Budget " ++ decimal tries ++ codes "\n"

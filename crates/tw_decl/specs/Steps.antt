@@ -20,11 +20,14 @@ use Rattle.tw_recon.specs.declared.fault.ReconFault.{ReconFault}
 use Rattle.tw_recon.specs.declared.fault.ReconFault.TheVariants as reconstructions
 use Rattle.tw_metas.specs.declared.left.LeftEquation.{LeftEquation}
 use Rattle.lf.specs.Entries.{Entry}
-use Rattle.lf.specs.Syntax.{LfType}
+use Rattle.lf.specs.Subordination.{Block as PlainBlock}
+use Rattle.lf.specs.Syntax.{Kind, LfType}
 use Rattle.lf_checks.specs.Clauses.{ClauseName}
 use Rattle.lf_checks.specs.Marks.{Mark}
 use Rattle.lf_checks.specs.ModeForms.{full_marks}
-use Rattle.tw_clause.specs.View.{mark_of as plain_mark}
+use Rattle.tw_clause.specs.View.{block_of, mark_of as plain_mark, worlds_of}
+use Rattle.tw_clause.specs.declared.block.Block.{Block}
+use Rattle.tw_clause.specs.declared.block.Worlds.{Worlds}
 use Rattle.tw_clause.specs.declared.name.Mark3.{Mark3}
 use Rattle.tw_print.specs.Names.{constant_word}
 use Rattle.tw_decl.specs.View.{View, scene_of}
@@ -37,7 +40,10 @@ use Rattle.tw_parse_checks.specs.Checks as written
 use Rattle.tw_decl.specs.Termination.{AreAtInputs, IsAtInputs, IsFirstCall, order_by, orders_given}
 use Rattle.tw_decl.specs.Applications as plain
 use Rattle.tw_decl.specs.Applications.{NameFamilies, all_take_just, takes_just}
+use Rattle.tw_decl.specs.Blocks.{HasBlockForm, block_by}
+use Rattle.tw_decl.specs.Labels.{block_named}
 use Rattle.tw_decl.specs.Operators.{newest}
+use Rattle.tw_decl.specs.Worlds.{GoesDeep, IsIllWorlded, are_labels}
 use Rattle.tw_decl.specs.declared.applications.Application.{Application}
 use Rattle.tw_signature.specs.Names.{number_of}
 use Rattle.tw_terms.specs.declared.canonical.ConstId.{ConstId}
@@ -186,3 +192,30 @@ abbrev pub CallFails : View → List (ConstId × Order) → Place → Refusal �
 CallFails v rows first refusals.Memory = Unit {0}
 CallFails v rows first (refusals.OrderFault place clause k) = ((name : ClauseName) × IsFirstCall v rows name k × (clause.items ≡ clause_word (scene_of v) name)) × (place ≡ first)
 CallFails v rows first _ = ⊥
+
+-- want of memory, or a clause that isn't well-worlded at this place
+abbrev pub ShowsWorldFault : View → Place → ClauseName → ℕ → Refusal → Type 0
+ShowsWorldFault v first name k refusals.Memory = Unit {0}
+ShowsWorldFault v first name k (refusals.WorldFault place clause l) = (clause.items ≡ clause_word (scene_of v) name) × (l ≡ k) × (place ≡ first)
+ShowsWorldFault v first name k _ = ⊥
+
+-- want of memory, the first clause that isn't well-worlded in these worlds, or a subgoal that is left open
+abbrev pub WorldsFail : View → List ℕ → List PlainBlock → Place → Refusal → Type 0
+WorldsFail v families W first refusals.Memory = Unit {0}
+WorldsFail v families W first (refusals.WorldFault place clause k) = ((name : ClauseName) × IsIllWorlded v families W name k × (clause.items ≡ clause_word (scene_of v) name)) × (place ≡ first)
+WorldsFail v families W first (refusals.TooDeep place) = GoesDeep v families W × (place ≡ first)
+WorldsFail v families W first _ = ⊥
+
+-- the blocks that labels name, or that one of them is no block's label
+abbrev pub AreBlocksNamed : View → List ExtName → Option Worlds → Type 0
+AreBlocksNamed v ls (Some worlds) = each (λ l. block_named v l.name) ls ≡ each Some (worlds_of worlds)
+AreBlocksNamed v ls None = are_labels v ls ≡ false
+
+-- what the entry of a block comes to: the block of its kind, or that it has not the form
+abbrev pub BlockOutcome : List ℕ → ℕ → Entry → Option Block → Type 0
+BlockOutcome label n e (Some b) = (K : Kind) × HasBlockForm e K × (block_of b ≡ block_by label n K)
+BlockOutcome label n e None = (K : Kind) → HasBlockForm e K → ⊥
+
+-- blocks with the same entries, without labels and `some` variables
+abbrev pub entries_alone : List PlainBlock → List PlainBlock
+entries_alone Bs = each (λ B. record { label = []; some = []; entries = B.entries }) Bs

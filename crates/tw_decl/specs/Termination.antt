@@ -2,12 +2,13 @@
 use Rattle.std.specs.Prelude.{◌≡◌, ℕ, suc, List, [], ◌∷◌, ◌++◌, map as each, Bool, Option, None, Some, codes, slice_get, if◌then◌else◌}
 use Rattle.std.specs.Str.{bytes_eq}
 use Rattle.lf.specs.Entries.{Entry, signature_of}
+use Rattle.lf.specs.Subordination.{Block}
 use Rattle.lf_checks.specs.Clauses.{ClauseName}
 use Rattle.lf_checks.specs.Descent.{GroupDescends}
 use Rattle.lf_checks.specs.Marks.{input_places}
 use Rattle.lf_checks.specs.ModeRows.{first_unmoded, is_moded, marks_of}
 use Rattle.lf_checks.specs.Order as plain
-use Rattle.lf_checks.specs.OrderFaults.{GroupOrderFault}
+use Rattle.lf_checks.specs.OrderFaults.{AreJoined, GroupOrderFault}
 use Rattle.tw_clause.specs.Orders.{order_of}
 use Rattle.tw_clause.specs.declared.order.Order.{Order}
 use Rattle.tw_mode.specs.ModeTables.{mode_rows}
@@ -72,7 +73,7 @@ AreAtInputs v k O (p ∷ ps) = IsAtInputs v (number_of v.signature p.family.name
 
 -- The declaration names these families, with all their arguments, and each has a mode.
 pub record NamesModed (v : View) (O : written.Order) (ps : List Call) (families : List ℕ) : Type 0 where
-  pub applied : IsApplied v.signature (terminates O ps) families
+  pub applied : IsApplied v (terminates O ps) families
   pub moded : first_unmoded (is_moded (mode_rows v.checked.modes)) families ≡ None
 
 -- these are the orders that it gives them, and each place of them is an input
@@ -81,13 +82,13 @@ pub record GivesOrders (v : View) (O : written.Order) (ps : List Call) (rows : L
   pub orders : each (λ r. order_of r.1) rows ≡ orders_given v.signature 0 O ps
   pub at_inputs : AreAtInputs v 0 O ps
 
--- their calls descend, in the empty worlds
+-- their calls descend, in the blocks of the worlds of all of them, each once
 abbrev pub Descend : View → List (ConstId × Order) → Type 0
-Descend v rows = GroupDescends (signature_of v.signature) [] (orders_by rows) (families_of rows)
+Descend v rows = (W : List Block) × AreJoined v.checked.worlds (families_of rows) W × GroupDescends (signature_of v.signature) W (orders_by rows) (families_of rows)
 
 -- this is the first call that doesn't
 abbrev pub IsFirstCall : View → List (ConstId × Order) → ClauseName → ℕ → Type 0
-IsFirstCall v rows name k = GroupOrderFault v.signature [] (orders_by rows) (families_of rows) name k
+IsFirstCall v rows name k = (W : List Block) × AreJoined v.checked.worlds (families_of rows) W × GroupOrderFault v.signature W (orders_by rows) (families_of rows) name k
 
 -- the keyword and the families
 abbrev pub termination_line : List Application → List ℕ

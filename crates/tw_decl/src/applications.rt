@@ -1,13 +1,15 @@
 //! The families that a check names, each on so many arguments.
-ghost use Rattle.std.specs.Prelude.{◌≡◌, ◌∷◌, ◌++◌, [], None, map, IfErr, IfOk};
+ghost use Rattle.std.specs.Prelude.{◌≡◌, ◌∷◌, ◌++◌, [], None, Some, map, IfErr, IfOk, OnOk};
 ghost use Rattle.lf.specs.Entries.{entry as entry_numbered};
 ghost use Rattle.tw_names.specs.Earliest.{earlier, earliest};
 ghost use Rattle.tw_parse_checks.specs.Checks.{Check, call_of, check_of};
-ghost use Rattle.tw_decl.specs.Applications.{IsApplied, application_of as application_of_call, applications as applications_in, families_named, on, takes_just, undeclared, undeclared_among, unknown_in_terms};
+ghost use Rattle.tw_names.specs.declared.unknown.Mention.{Mention as PlainMention};
+ghost use Rattle.tw_decl.specs.Applications.{IsApplied, IsItsLabel, application_of as application_of_call, applications as applications_in, families_named, on, takes_just, unknown, unknown_besides, unknown_names};
 ghost use Rattle.tw_decl.specs.Obstacles.{IsNotApplied};
 ghost use Rattle.tw_decl.specs.Operators.{spaced};
 ghost use Rattle.tw_decl.specs.Steps.{AreTaken, IsTaken, application_of};
 
+use crate::labels::is_known;
 use crate::preferences::is_family;
 use crate::refusal::Refusal;
 use crate::session::Session;
@@ -80,33 +82,48 @@ fn earlier(alloc: Global, before: Option<Mention>, name: &ExtName) -> Result<Men
     })
 }
 
-// The earlier of what was found before and this name, if it isn't declared.
-fn unless_declared(
+// The earlier of what was found before and this name, if nothing has it.
+fn unless_known(
     alloc: Global,
-    signature: &Signature,
+    session: &Session,
     before: Option<Mention>,
     name: &ExtName,
 ) -> Result<Option<Mention>, AllocError>
-    ensures { IfOk result (λ m. m ≡ earliest before (undeclared signature.now name.now)) }
+    ensures { IfOk result (λ m. m ≡ earliest before (unknown session.now name.now)) }
 {
-    if signature.lookup(&name.name).is_some() {
+    if is_known(session, &name.name) {
         return Ok(before);
     }
     Ok(Some(earlier(alloc, before, name)?))
 }
 
-// The earliest of what was found before and the families that aren't declared.
-fn first_undeclared(
+/// The first of these names that nothing has. Fails only for want of memory.
+pub fn first_unknown(
     alloc: Global,
-    signature: &Signature,
+    session: &Session,
+    names: &[ExtName],
+) -> Result<Option<Mention>, AllocError>
+    ensures { IfOk result (λ m. m ≡ earliest None (unknown_names session.now names.now)) }
+{
+    let mut found = None;
+    for name in names {
+        found = unless_known(alloc, session, found, name)?;
+    }
+    Ok(found)
+}
+
+// The earliest of what was found before and the families whose names nothing has.
+fn first_unknown_family(
+    alloc: Global,
+    session: &Session,
     before: Option<Mention>,
     applications: &[Application],
 ) -> Result<Option<Mention>, AllocError>
-    ensures { IfOk result (λ m. m ≡ earliest before (undeclared_among signature.now (families_named (map application_of applications.now)))) }
+    ensures { IfOk result (λ m. m ≡ earliest before (unknown_names session.now (families_named (map application_of applications.now)))) }
 {
     let mut found = before;
     for application in applications {
-        found = unless_declared(alloc, signature, found, application.family)?;
+        found = unless_known(alloc, session, found, application.family)?;
     }
     Ok(found)
 }
@@ -150,7 +167,7 @@ fn all_taken(
     Ok(Some(families))
 }
 
-/// The families that a check names, each with just its arguments, where each name is known; this was found before of what isn't.
+/// The families that a check names, each with just its arguments, where each name is known; this was found before of what isn't, and it is no label in place of a family.
 pub fn applied(
     alloc: Global,
     session: &Session,
@@ -158,20 +175,30 @@ pub fn applied(
     before: Option<Mention>,
     applications: &[Application],
 ) -> Result<Vec<ConstId>, Refusal>
-    ensures applied { (c : Check) → before ≡ earliest None (unknown_in_terms session.now.signature c) → map application_of applications.now ≡ applications_in c → IfOk result (λ ids. IsApplied session.now.signature c (map (λ id. id.0) ids.items)) }
-    ensures cause { (c : Check) → before ≡ earliest None (unknown_in_terms session.now.signature c) → map application_of applications.now ≡ applications_in c → IfErr result (IsNotApplied session.now c first) }
+    ensures applied { (c : Check) → before ≡ earliest None (unknown_besides session.now c) → map application_of applications.now ≡ applications_in c → IfOk result (λ ids. IsApplied session.now c (map (λ id. id.0) ids.items)) }
+    ensures cause { (c : Check) → before ≡ earliest None (unknown_besides session.now c) → ((m : PlainMention) → before ≡ Some m → IsItsLabel session.now c m → ⊥) → map application_of applications.now ≡ applications_in c → IfErr result (IsNotApplied session.now c first) }
 {
-    let signature = session.signature();
-    match first_undeclared(alloc, signature, before, applications) {
+    match first_unknown_family(alloc, session, before, applications) {
         Ok(None) => {}
         Ok(Some(mention)) => return Err(Refusal::Unknown(mention.at, mention.name)),
         Err(_) => return Err(Refusal::Memory),
     }
-    match all_taken(alloc, signature, applications) {
+    match all_taken(alloc, session.signature(), applications) {
         Ok(Some(families)) => Ok(families),
         Ok(None) => Err(Refusal::BadDecl(first)),
         Err(_) => Err(Refusal::Memory),
     }
+}
+
+/// Puts families behind a line, each behind one space.
+pub fn push_families(line: &mut Vec<u8>, applications: &[Application]) -> Result<(), AllocError>
+    ensures { OnOk result (line.new.items ≡ line.old.items ++ spaced (families_named (map application_of applications.now))) }
+{
+    for application in applications {
+        line.push(b' ')?;
+        line.extend_from_slice(application.family.name.as_bytes())?;
+    }
+    Ok(())
 }
 
 /// A keyword, and the families behind it. Fails only for want of memory.
@@ -183,9 +210,6 @@ pub fn family_words(
     ensures { IfOk result (λ words. words.items ≡ keyword.now ++ spaced (families_named (map application_of applications.now))) }
 {
     let mut words = keyword.to_vec(alloc)?;
-    for application in applications {
-        words.push(b' ')?;
-        words.extend_from_slice(application.family.name.as_bytes())?;
-    }
+    push_families(&mut words, applications)?;
     Ok(words)
 }

@@ -1,20 +1,23 @@
 //! One declaration.
-ghost use Rattle.std.specs.Prelude.{◌≡◌, ◌≤◌, ◌<◌, ◌-◌, ◌^◌, List, ℕ, length, Ok, All, IfOk, IfErr, OnErr};
+ghost use Rattle.std.specs.Prelude.{◌≡◌, ◌≤◌, ◌<◌, ◌-◌, ◌^◌, List, ℕ, length, None, Ok, All, IfOk, IfErr, OnErr};
 ghost use Rattle.tw_lexer.specs.Places.{place_of};
 ghost use Rattle.tw_lexer.specs.Tokens.{IsWithin, Lexes};
 ghost use Rattle.tw_parse.specs.View.{declaration_of};
 ghost use Rattle.tw_parse.specs.Words.{first_place, lexemes};
 ghost use Rattle.tw_parse_checks.specs.Checks.{check_of};
 ghost use Rattle.tw_parse_queries.specs.Searches.{search_of};
+ghost use Rattle.tw_signature.specs.Names.{number_of};
 ghost use Rattle.tw_decl.specs.Declaration.{Accepts, Checks, HasCause, HasCauseFrom, Comes, Does, GivesRows, Prefers, ReadDoes};
-ghost use Rattle.tw_decl.specs.Obstacles.{HasObstacle, IsNotBuilt, IsNotChecked, IsNotGiven, IsNotPreferred, ReadHasObstacle};
+ghost use Rattle.tw_decl.specs.Obstacles.{HasObstacle, IsNotChecked, IsNotGiven, IsNotPreferred, ReadHasObstacle};
 ghost use Rattle.tw_decl.specs.Reading.{read_of, searching};
 ghost use Rattle.tw_decl.specs.Reports.{reported};
 ghost use Rattle.tw_decl.specs.Steps.{NamesUnknown, IsTokenCause, is_over};
 
+use crate::blocks::add_block;
 use crate::entering::enter;
+use crate::labels::{first_undeclared, is_label};
 use crate::moding::set_mode;
-use crate::operators::{all_take, first_undeclared, fixity_line, operand_count};
+use crate::operators::{all_take, fixity_line, operand_count};
 use crate::preferences::{is_family, preference, preference_line};
 use crate::querying::answer;
 use crate::reading::{Written, alone, parsed, refusal_of};
@@ -23,6 +26,7 @@ use crate::report::{Report, told};
 use crate::session::Session;
 use crate::solving::solve;
 use crate::terminating::terminate;
+use crate::worlding::set_worlds;
 use std::alloc::Global;
 use tw_fixity::{Fix, Name};
 use tw_lexer::{LexFault, Place, Token, TokenKind, Tokens, lex, next_token};
@@ -92,7 +96,7 @@ fn give(
     ensures err { OnErr result (session.new ≡ session.old) }
     ensures cause { IfErr result (IsNotGiven session.old fix names.now first) }
 {
-    if let Some(name) = first_undeclared(session.signature(), names) {
+    if let Some(name) = first_undeclared(session, names) {
         return Err(unknown(alloc, name));
     }
     if !all_take(session.signature(), operand_count(fix), names) {
@@ -106,6 +110,17 @@ fn give(
         Ok(()) => Ok(report),
         Err(_) => Err(Refusal::Memory),
     }
+}
+
+// A name that is no entry's in place of a family.
+fn no_family(alloc: Global, session: &Session, family: &ExtName, first: Place) -> Refusal
+    requires { number_of session.now.signature family.now.name ≡ None }
+    ensures { IsNotPreferred session.now family.now first result }
+{
+    if is_label(session.blocks(), &family.name) {
+        return Refusal::BadDecl(first);
+    }
+    unknown(alloc, family)
 }
 
 // Gives a family its preferred names. After a refusal nothing has changed.
@@ -122,7 +137,7 @@ fn prefer(
     ensures cause { IfErr result (IsNotPreferred session.old family.now first) }
 {
     let Some(id) = session.signature().lookup(&family.name) else {
-        return Err(unknown(alloc, family));
+        return Err(no_family(alloc, session, family, first));
     };
     if !is_family(session.signature(), id) {
         return Err(Refusal::BadDecl(first));
@@ -181,16 +196,6 @@ fn make_search(
     }
 }
 
-// The refusal of a form that isn't built.
-fn not_built(alloc: Global, first: Place, keyword: &str) -> Refusal
-    ensures { IsNotBuilt keyword.now first result }
-{
-    match Name::from_text(alloc, keyword) {
-        Ok(shown) => Refusal::Unsupported(first, shown),
-        Err(_) => Refusal::Memory,
-    }
-}
-
 // Makes a check. After a refusal nothing has changed.
 fn make_check(
     alloc: Global,
@@ -208,8 +213,12 @@ fn make_check(
         ExtCheck::Terminates(order, patterns) => {
             terminate(alloc, session, first, order, patterns)
         }
-        ExtCheck::Block(_, _, _) => Err(not_built(alloc, first, "%block")),
-        ExtCheck::Worlds(_, _) => Err(not_built(alloc, first, "%worlds")),
+        ExtCheck::Block(label, count, declaration) => {
+            add_block(alloc, session, first, label, *count, declaration)
+        }
+        ExtCheck::Worlds(labels, patterns) => {
+            set_worlds(alloc, session, first, labels, patterns)
+        }
     }
 }
 

@@ -2,8 +2,12 @@
 #![tactic(auto)]
 
 mod applications;
+mod below;
+#[tactic(auto, using(tw_terms::proofs::Args::types))]
+mod blocks;
 mod declaration;
 mod entering;
+mod labels;
 mod laws;
 mod modes;
 mod moding;
@@ -22,7 +26,11 @@ mod session;
 mod solution;
 mod solving;
 mod terminating;
+mod world_rows;
+mod worlding;
+mod worlds;
 
+pub use below::subordination;
 pub use declaration::{Next, declare, declare_one};
 pub use laws::{
     accepting_from_keeps_sound, accepting_keeps_sound, definition_is_good, family_is_good,

@@ -1,5 +1,5 @@
 //! Modes: what a declaration of them asks of its family, and its line.
-ghost use Rattle.std.specs.Prelude.{◌≡◌, ◌++◌, codes, decimal, map, IfOk, None};
+ghost use Rattle.std.specs.Prelude.{◌≡◌, ◌↔◌, ◌++◌, codes, decimal, false, map, true, IfOk, IsTrue, None, Some};
 ghost use Rattle.lf.specs.Entries.{entry as entry_numbered};
 ghost use Rattle.tw_clause.specs.View.{mark_of as plain_mark, name_of};
 ghost use Rattle.tw_names.specs.Earliest.{earliest};
@@ -7,18 +7,22 @@ ghost use Rattle.tw_names.specs.Unknown.{unknown_in};
 ghost use Rattle.tw_parse.specs.View.{declaration_of};
 ghost use Rattle.tw_parse_checks.specs.Checks.{check_of};
 ghost use Rattle.tw_print.specs.Names.{constant_word, is_plain, name_in};
-ghost use Rattle.tw_decl.specs.Applications.{unknown_in_terms};
+ghost use Rattle.tw_names.specs.declared.unknown.Mention.{Mention as PlainMention};
+ghost use Rattle.tw_signature.specs.Names.{number_of};
+ghost use Rattle.tw_decl.specs.Applications.{IsItsLabel, unknown_besides};
+ghost use Rattle.tw_decl.specs.Labels.{is_label};
 ghost use Rattle.tw_decl.specs.Modes.{clause_word, mark_of, mark_word, mode_line};
 ghost use Rattle.tw_decl.specs.Steps.{application_of};
 ghost use Rattle.tw_decl.specs.View.{scene_of};
 
-use crate::applications::{Application, family_words};
+use crate::applications::{Application, family_words, first_unknown};
+use crate::labels::is_label;
 use crate::session::Session;
 use std::alloc::{AllocError, Global};
 use tw_clause::{ClauseName, Mark3};
 use tw_fixity::Name;
 use tw_names::{Mention, first_mention};
-use tw_parse::ExtDecl;
+use tw_parse::{ExtDecl, ExtName};
 use tw_parse_checks::{ExtCheck, ExtMark};
 use tw_signature::Signature;
 use tw_terms::ConstId;
@@ -60,20 +64,44 @@ fn unknown_in(
     }
 }
 
-/// The first such name in the terms of a check.
-pub fn unknown_in_terms(
+/// The first name of a check, beside its families, that names nothing. Fails only for want of memory.
+pub fn unknown_besides(
     alloc: Global,
-    signature: &Signature,
+    session: &Session,
     check: &ExtCheck,
 ) -> Result<Option<Mention>, AllocError>
-    ensures { IfOk result (λ m. m ≡ earliest None (unknown_in_terms signature.now (check_of check.now))) }
+    ensures { IfOk result (λ m. m ≡ earliest None (unknown_besides session.now (check_of check.now))) }
 {
     match check {
-        ExtCheck::ModeFull(_, _, _, declaration) => unknown_in(alloc, signature, declaration),
-        ExtCheck::ModeShort(_, _)
-        | ExtCheck::Terminates(_, _)
-        | ExtCheck::Worlds(_, _)
-        | ExtCheck::Block(_, _, _) => Ok(None),
+        ExtCheck::ModeFull(_, _, _, declaration) => {
+            unknown_in(alloc, session.signature(), declaration)
+        }
+        ExtCheck::Worlds(labels, _) => first_unknown(alloc, session, labels),
+        ExtCheck::ModeShort(_, _) | ExtCheck::Terminates(_, _) | ExtCheck::Block(_, _, _) => {
+            Ok(None)
+        }
+    }
+}
+
+// Whether a name stands where this family does, and a block alone has it.
+fn is_label_at(session: &Session, family: &ExtName, mention: &Mention) -> bool
+    ensures { IsTrue result ↔ ((mention.now.at ≡ family.now.at) × (is_label session.now.checked.blocks family.now.name ≡ true) × (number_of session.now.signature family.now.name ≡ None)) }
+{
+    mention.at == family.at
+        && is_label(session.blocks(), &family.name)
+        && session.signature().lookup(&family.name).is_none()
+}
+
+/// Whether it is the name of a full form's family, which a block alone has.
+pub fn is_its_label(session: &Session, check: &ExtCheck, mention: &Option<Mention>) -> bool
+    ensures yes { result ≡ true → (m : PlainMention) × (mention.now ≡ Some m) × IsItsLabel session.now (check_of check.now) m }
+    ensures no { result ≡ false → (m : PlainMention) → mention.now ≡ Some m → IsItsLabel session.now (check_of check.now) m → ⊥ }
+{
+    match (check, mention) {
+        (ExtCheck::ModeFull(_, family, _, _), Some(mention)) => {
+            is_label_at(session, family, mention)
+        }
+        _ => false,
     }
 }
 

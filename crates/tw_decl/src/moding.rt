@@ -16,7 +16,7 @@ ghost use Rattle.tw_decl.specs.View.{told, with_mode};
 
 use crate::applications::{Application, applications, applied};
 use crate::entering::given;
-use crate::modes::{clause_word, marks_of, mode_line, mode_words, unknown_in_terms};
+use crate::modes::{clause_word, is_its_label, marks_of, mode_line, mode_words, unknown_besides};
 use crate::refusal::Refusal;
 use crate::report::{Report, told};
 use crate::session::Session;
@@ -39,13 +39,16 @@ fn family_of(
 ) -> Result<ConstId, Refusal>
     requires mode { IsMode (check_of check.now) }
     requires named { map application_of applications.now ≡ applications_in (check_of check.now) }
-    ensures applied { IfOk result (λ id. IsApplied session.now.signature (check_of check.now) (id.0 ∷ [])) }
+    ensures applied { IfOk result (λ id. IsApplied session.now (check_of check.now) (id.0 ∷ [])) }
     ensures cause { IfErr result (IsNotSet session.now (check_of check.now) first) }
 {
-    let found = match unknown_in_terms(alloc, session.signature(), check) {
+    let found = match unknown_besides(alloc, session, check) {
         Ok(found) => found,
         Err(_) => return Err(Refusal::Memory),
     };
+    if is_its_label(session, check, &found) {
+        return Err(Refusal::BadDecl(first));
+    }
     let families = match applied(alloc, session, first, found, applications) {
         Ok(families) => families,
         Err(refusal) => return Err(refusal),
@@ -121,7 +124,7 @@ fn marks(
     family: ConstId,
 ) -> Result<Vec<Mark3>, Refusal>
     requires mode { IsMode (check_of check.now) }
-    requires applied { IsApplied session.now.signature (check_of check.now) (family.0 ∷ []) }
+    requires applied { IsApplied session.now (check_of check.now) (family.0 ∷ []) }
     ensures gives { IfOk result (λ marks. GivesMarks session.now.signature (check_of check.now) family.0 (map plain_mark marks.items)) }
     ensures cause { IfErr result (IsNotSet session.now (check_of check.now) first) }
 {

@@ -1,8 +1,8 @@
 //! Operators: what a declaration of them asks of names, the rows that it gives, and its line.
-ghost use Rattle.std.specs.Prelude.{◌≡◌, ◌++◌, reverse, option_map, IfOk, OnOk, OnErr};
+ghost use Rattle.std.specs.Prelude.{◌≡◌, ◌++◌, reverse, IfOk, OnOk, OnErr};
 ghost use Rattle.std.specs.FinMap as map;
 ghost use Rattle.tw_parse.specs.Outlines.{Table};
-ghost use Rattle.tw_decl.specs.Operators.{all_take, first_undeclared, fix_words, fixity_line, newest, operand_count, side_word, takes, with_rows};
+ghost use Rattle.tw_decl.specs.Operators.{all_take, fix_words, fixity_line, newest, operand_count, side_word, takes, with_rows};
 ghost use Rattle.tw_decl.specs.Undoing.{back_to, IsThere, LeadsBack};
 
 use std::alloc::{AllocError, Global};
@@ -51,18 +51,6 @@ pub fn all_take(signature: &Signature, operands: usize, names: &[ExtName]) -> bo
         }
     }
     true
-}
-
-/// The first of the names that isn't declared.
-pub fn first_undeclared<'a>(signature: &Signature, names: &'a [ExtName]) -> Option<&'a ExtName>
-    ensures { option_map (λ x. x.now) result ≡ first_undeclared signature.now names.now }
-{
-    for x in names {
-        if signature.lookup(&x.name).is_none() {
-            return Some(x);
-        }
-    }
-    None
 }
 
 // Gives a name the row, and keeps the one that it had behind the others. What is kept leads back, also where memory is wanting.

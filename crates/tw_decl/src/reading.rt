@@ -4,7 +4,7 @@ ghost use Rattle.tw_lexer.specs.Tokens.{IsWithin, ThroughDot};
 ghost use Rattle.tw_lexer.specs.declared.place.Place.{Place};
 ghost use Rattle.tw_parse.specs.Words.{Lexeme, lexemes};
 ghost use Rattle.tw_decl.specs.Declaration.{IsCauseAlone};
-ghost use Rattle.tw_decl.specs.Reading.{asks_check, asks_search, is_made, Reads, read_of};
+ghost use Rattle.tw_decl.specs.Reading.{asks_check, asks_search, Reads, read_of};
 ghost use Rattle.tw_decl.specs.Steps.{IsParsed, is_first, refusal_of, refused_alone};
 ghost use Rattle.tw_decl.specs.View.{View};
 
@@ -27,14 +27,7 @@ pub enum Written {
     Search(ExtSearch),
 }
 
-// Whether this is a keyword of a check that is built.
-fn is_made(bytes: &[u8]) -> bool
-    ensures { result ≡ is_made bytes.now }
-{
-    is_check(bytes) && !(bytes == b"%block".as_slice() || bytes == b"%worlds".as_slice())
-}
-
-// Whether such a keyword stands first.
+// Whether a keyword of a check stands first.
 fn asks_check(session: &Session, text: &[u8], tokens: &Tokens) -> bool
     requires within { All (IsWithin (length text.now)) tokens.now.list.items }
     ensures { result ≡ asks_check (lexemes text.now tokens.now.list.items) }
@@ -45,7 +38,7 @@ fn asks_check(session: &Session, text: &[u8], tokens: &Tokens) -> bool
         end: tokens.at,
         fixities: session.fixities(),
     };
-    source.word(0) == Word::Keyword && is_made(source.bytes(0))
+    source.word(0) == Word::Keyword && is_check(source.bytes(0))
 }
 
 // Whether one stands first that asks for a search.

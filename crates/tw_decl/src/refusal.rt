@@ -43,6 +43,9 @@ pub enum Refusal {
     /// This clause isn't well-moded: the subgoal in solving order from 1, 0 being the head; the argument from 1, implicit ones
     /// counted, 0 being none of them.
     ModeFault(Place, Vec<u8>, u64, u64),
+    /// This clause isn't well-worlded: the local context of this subgoal, in solving order from 1, is no sequence of instances of blocks, or its family doesn't know
+    /// the blocks.
+    WorldFault(Place, Vec<u8>, u64),
     /// This clause doesn't descend: the call is this subgoal, in solving order from 1.
     OrderFault(Place, Vec<u8>, u64),
     /// So many answers of a query were found, and so many there have to be.
@@ -99,8 +102,11 @@ pub fn show_refusal(alloc: Global, refusal: &Refusal, origin: &str) -> Result<Ve
         Refusal::ModeFault(place, clause, subgoal, argument) => {
             clause_line(alloc, origin, place, clause, *subgoal, *argument)
         }
+        Refusal::WorldFault(place, clause, subgoal) => {
+            world_line(alloc, origin, place, clause, *subgoal)
+        }
         Refusal::OrderFault(place, clause, subgoal) => {
-            subgoal_line(alloc, origin, place, clause, *subgoal)
+            order_line(alloc, origin, place, clause, *subgoal)
         }
         Refusal::Count(place, found, expected) => {
             count_line(alloc, origin, place, *found, *expected)
@@ -181,8 +187,22 @@ fn subgoal_words(alloc: Global, clause: &[u8], subgoal: u64) -> Result<Vec<u8>, 
     Ok(words)
 }
 
-// A line that ends with these.
-fn subgoal_line(
+// The line of a clause that isn't well-worlded.
+fn world_line(
+    alloc: Global,
+    origin: &str,
+    place: &Place,
+    clause: &[u8],
+    subgoal: u64,
+) -> Result<Vec<u8>, AllocError>
+    ensures { IfOk result (λ line. line.items ≡ show_place origin.now place.now ++ codes " E14 WorldFault " ++ subgoal_words clause.now subgoal ++ codes "\n") }
+{
+    let words = subgoal_words(alloc, clause, subgoal)?;
+    line_with(alloc, origin, place, b" E14 WorldFault ", &words)
+}
+
+// The line of a clause that doesn't descend.
+fn order_line(
     alloc: Global,
     origin: &str,
     place: &Place,

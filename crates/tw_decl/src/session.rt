@@ -3,9 +3,10 @@ ghost use Rattle.std.specs.Prelude.{◌≡◌};
 
 use crate::operators::set_rows;
 use crate::parameters::Parameters;
+use crate::world_rows::{rows_of, take_out};
 use std::alloc::{AllocError, Global};
 use std::marker::Model;
-use tw_clause::Mark3;
+use tw_clause::{Block, Mark3, WorldRows, Worlds};
 use tw_fixity::{Fix, FixTable};
 use tw_mode::ModeTable;
 use tw_parse::ExtName;
@@ -21,11 +22,15 @@ pub struct Session {
     fixities: FixTable,
     names: Names,
     modes: ModeTable,
+    blocks: Vec<Block>,
+    worlds: WorldRows,
     parameters: Parameters,
 }
 
 impl Model for Session {
-    ghost use Rattle.std.specs.Prelude.{[]};
+    ghost use Rattle.std.specs.Prelude.{[], map};
+    ghost use Rattle.tw_clause.specs.Tables.{world_rows_of};
+    ghost use Rattle.tw_clause.specs.View.{block_of};
     ghost use Rattle.tw_decl.specs.View.{View, IsSound};
     ghost use Rattle.tw_decl.specs.ViewCode.{view_code};
 
@@ -33,9 +38,9 @@ impl Model for Session {
 
     ghost coded = { view_code };
 
-    ghost view = { λ s. record { signature = s.signature; fixities = s.fixities; names = s.names; checked = record { modes = s.modes }; parameters = s.parameters; config = [] } };
+    ghost view = { λ s. record { signature = s.signature; fixities = s.fixities; names = s.names; checked = record { modes = s.modes; blocks = map block_of s.blocks.items; worlds = world_rows_of s.worlds }; parameters = s.parameters; config = [] } };
 
-    ghost invariant = { λ s. IsSound (record { signature = s.signature; fixities = s.fixities; names = s.names; checked = record { modes = s.modes }; parameters = s.parameters; config = [] }) };
+    ghost invariant = { λ s. IsSound (record { signature = s.signature; fixities = s.fixities; names = s.names; checked = record { modes = s.modes; blocks = map block_of s.blocks.items; worlds = world_rows_of s.worlds }; parameters = s.parameters; config = [] }) };
 }
 
 impl Session {
@@ -46,8 +51,10 @@ impl Session {
     ghost use Rattle.tw_print.specs.View.{preferences_of};
     ghost use Rattle.tw_decl.specs.Operators.{with_rows};
     ghost use Rattle.std.specs.Prelude.{map as each};
-    ghost use Rattle.tw_clause.specs.View.{mark_of};
-    ghost use Rattle.tw_decl.specs.View.{empty_view, reset_view, with_chatter, with_implicit, with_steps, with_entry, with_mode, IsSound};
+    ghost use Rattle.lf.specs.Subordination.{IsTypedBlock};
+    ghost use Rattle.tw_clause.specs.Tables.{world_rows_of};
+    ghost use Rattle.tw_clause.specs.View.{block_of, mark_of, worlds_of};
+    ghost use Rattle.tw_decl.specs.View.{empty_view, reset_view, with_chatter, with_implicit, with_steps, with_entry, with_mode, with_block, with_worlds, AreAmong, IsSound};
 
     /// A session that knows nothing. Fails only for want of memory.
     pub fn new(alloc: Global) -> Result<Session, AllocError>
@@ -58,6 +65,10 @@ impl Session {
             fixities: FixTable::new(alloc),
             names: Names::new(alloc),
             modes: ModeTable::new(alloc),
+            blocks: Vec::new(alloc),
+            worlds: WorldRows {
+                rows: Vec::new(alloc),
+            },
             parameters: Parameters {
                 chatter: 3,
                 implicit: false,
@@ -94,6 +105,20 @@ impl Session {
         &self.modes
     }
 
+    /// The blocks, the oldest first. A label names its newest.
+    pub fn blocks(&self) -> &[Block]
+        ensures { each block_of result.now ≡ self.now.checked.blocks }
+    {
+        &self.blocks
+    }
+
+    /// The worlds of families. The first row of a family counts.
+    pub fn worlds(&self) -> &WorldRows
+        ensures { world_rows_of result.now ≡ self.now.checked.worlds }
+    {
+        &self.worlds
+    }
+
     /// What the user has set.
     pub fn parameters(&self) -> Parameters
         ensures { result ≡ self.now.parameters }
@@ -125,7 +150,7 @@ impl Session {
         self.parameters.steps = steps;
     }
 
-    /// Forgets all declarations, operators, preferences and modes. What the user has set stays, and so does the configuration.
+    /// Forgets all declarations, operators, preferences, modes, blocks and worlds. What the user has set stays, and so does the configuration.
     pub fn reset(&mut self, alloc: Global)
         ensures { self.new ≡ reset_view self.old }
     {
@@ -133,9 +158,13 @@ impl Session {
         self.fixities = FixTable::new(alloc);
         self.names = Names::new(alloc);
         self.modes = ModeTable::new(alloc);
+        self.blocks = Vec::new(alloc);
+        self.worlds = WorldRows {
+            rows: Vec::new(alloc),
+        };
     }
 
-    /// The signature is canonical LF. A law: it has no code.
+    /// The signature is canonical LF, blocks are typed, and those of each row of worlds are among those declared. A law: it has no code.
     pub fn is_sound(&self)
         ensures { IsSound self.now }
     {
@@ -186,5 +215,34 @@ impl Session {
         ensures unchanged { OnErr result (self.new ≡ self.old) }
     {
         self.modes.set(family, marks)
+    }
+
+    // Adds a block. Without memory nothing has changed.
+    pub(crate) fn add_block(&mut self, block: Block) -> Result<(), AllocError>
+        requires { IsTypedBlock (signature_of self.old.signature) (block_of block) }
+        ensures added { OnOk result (self.new ≡ with_block self.old (block_of block)) }
+        ensures unchanged { OnErr result (self.new ≡ self.old) }
+    {
+        self.blocks.push(block)?;
+        Ok(())
+    }
+
+    // Gives each of the families these worlds, in place of those that it had. Without memory nothing has changed.
+    pub(crate) fn set_worlds(
+        &mut self,
+        alloc: Global,
+        families: &[ConstId],
+        worlds: &Worlds,
+    ) -> Result<(), AllocError>
+        requires { AreAmong self.old.checked.blocks (worlds_of worlds.now) }
+        ensures set { OnOk result (self.new ≡ with_worlds self.old (each (λ f. f.0) families.now) (worlds_of worlds.now)) }
+        ensures unchanged { OnErr result (self.new ≡ self.old) }
+    {
+        let mut rows = rows_of(alloc, families, worlds)?;
+        let count = rows.len();
+        rows.append(&mut self.worlds.rows)?;
+        take_out(&mut rows, count, families);
+        self.worlds = WorldRows { rows };
+        Ok(())
     }
 }

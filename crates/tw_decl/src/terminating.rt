@@ -1,7 +1,9 @@
 //! Declarations of termination: the calls of families are checked to descend by their orders, and the declaration is reported.
 ghost use Rattle.std.specs.Prelude.{◌≡◌, true, length, map, option_map, IfErr, IfOk, OnOk};
 ghost use Rattle.lf_checks.specs.ModeRows.{first_unmoded, is_moded, marks_of};
-ghost use Rattle.tw_clause.specs.View.{mark_of, name_of};
+ghost use Rattle.lf_checks.specs.OrderFaults.{AreJoined};
+ghost use Rattle.tw_clause.specs.View.{mark_of, name_of, worlds_of};
+ghost use Rattle.tw_order.specs.Rows.{families_of};
 ghost use Rattle.tw_mode.specs.ModeTables.{mode_rows};
 ghost use Rattle.tw_parse_checks.specs.Checks.{call_of, order_of as written_of};
 ghost use Rattle.tw_decl.specs.Applications.{all_take_just, application_of as application_of_call, takes_just};
@@ -26,6 +28,7 @@ use tw_lexer::Place;
 use tw_order::{OrderFault, check_order};
 use tw_parse_checks::{ExtOrder, ExtPattern};
 use tw_terms::ConstId;
+use tw_world::joined_worlds;
 
 // The marks of a family; one without a mode has none.
 fn marks_of(session: &Session, family: ConstId) -> &[Mark3]
@@ -123,6 +126,29 @@ fn call_fault(
     }
 }
 
+// The families of these rows. Fails only for want of memory.
+fn families_in(alloc: Global, rows: &[(ConstId, Order)]) -> Result<Vec<ConstId>, AllocError>
+    ensures { IfOk result (λ ids. map (λ f. f.0) ids.items ≡ families_of rows.now) }
+{
+    let mut families = Vec::with_capacity(alloc, rows.len())?;
+    for (family, _) in rows {
+        families.push(*family)?;
+    }
+    Ok(families)
+}
+
+// The blocks of the worlds of these families, each once. Fails only for want of memory.
+fn worlds_in(
+    alloc: Global,
+    session: &Session,
+    rows: &[(ConstId, Order)],
+) -> Result<Worlds, AllocError>
+    ensures { IfOk result (λ w. AreJoined session.now.checked.worlds (families_of rows.now) (worlds_of w)) }
+{
+    let families = families_in(alloc, rows)?;
+    joined_worlds(alloc, session.worlds(), &families)
+}
+
 // Tests that the calls of these families descend by their orders.
 fn descending(
     alloc: Global,
@@ -133,8 +159,10 @@ fn descending(
     ensures descend { OnOk result (Descend session.now rows.now) }
     ensures cause { IfErr result (CallFails session.now rows.now first) }
 {
-    let worlds = Worlds {
-        blocks: Vec::new(alloc),
+    session.is_sound();
+    let worlds = match worlds_in(alloc, session, rows) {
+        Ok(worlds) => worlds,
+        Err(_) => return Err(Refusal::Memory),
     };
     match check_order(alloc, session.signature(), rows, &worlds) {
         Ok(()) => Ok(()),

@@ -1,4 +1,4 @@
--- Each step keeps the signature canonical.
+-- Each step keeps the view sound.
 use Rattle.std.proofs.Common.{Bool, List, ℕ}
 use Rattle.std.specs.declared.option.Option.{Option}
 use Rattle.tw_command.specs.declared.command.Setting.{Setting}
@@ -19,7 +19,7 @@ setting_sound v (settings.Implicit b) s = s
 setting_sound v (settings.Steps n) s = s
 
 sound_kept : IsKept IsSound
-sound_kept = record { accepting = accepted_sound; accepting_from = accepted_from_sound; setting = setting_sound; starting = λ v s. tt }
+sound_kept = record { accepting = accepted_sound; accepting_from = accepted_from_sound; setting = setting_sound; starting = λ v s. (tt, record { typed = λ B m. absurd m; listed = λ r m. absurd m }) }
 
 pub loads_sound : (held : Option Held) (name : List ℕ) (v w : State) (reply : List ℕ) → Loads held name v reply w → IsSound v.view → IsSound w.view
 loads_sound = loads_keeps IsSound sound_kept

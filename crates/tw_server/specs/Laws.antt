@@ -28,6 +28,6 @@ abbrev pub OneReading : Type 0
 OneReading = (held held' : Option Held) (phase next next' : Phase) (v v' w w' : State) (took took' more more' reply reply' : List ℕ)
     → Step held true phase v took reply next w → Step held' true phase v' took' reply' next' w' → took ++ more ≡ took' ++ more' → took ≡ took'
 
--- a step keeps the signature canonical
+-- a step keeps the view sound
 abbrev pub StepKeepsSound : Type 0
 StepKeepsSound = (held : Option Held) (whole : Bool) (phase next : Phase) (v w : State) (took reply : List ℕ) → Step held whole phase v took reply next w → IsSound v.view → IsSound w.view

@@ -15,7 +15,7 @@ use Rattle.tw_server.specs.Loading.{Declares, Opens, IsNotOpened, LoadsFile, Loa
 use Rattle.tw_server.specs.Machine.{Answers}
 use Rattle.tw_server.specs.Replies.{no_memory, opening}
 use Rattle.tw_server.specs.State.{State}
-use Rattle.tw_server.specs.Subordination.{LinesBelow, ShowsSubordination, declared_blocks}
+use Rattle.tw_server.specs.Subordination.{LinesBelow, ShowsSubordination}
 use Rattle.tw_subord.specs.Rows.{row}
 use Rattle.tw_server.specs.Words as words
 use Rattle.tw_server.specs.Written.{GainsLines, GainsReply}
@@ -45,7 +45,7 @@ AreShown v old new result = (reply : List ℕ) × ShowsSignature v reply v × Ga
 
 -- the rows have for each entry the families below it
 abbrev pub Lists : View → List (List ℕ) → Type 0
-Lists v rows = (a b : ℕ) → b < length v.signature → (Contains (row rows b) a) ↔ Below (signature_of v.signature) (declared_blocks v) a b
+Lists v rows = (a b : ℕ) → b < length v.signature → (Contains (row rows b) a) ↔ Below (signature_of v.signature) v.checked.blocks a b
 
 -- for each family those below it were shown
 abbrev pub IsSubordinationShown : {E : Type 0} → View → Option (List ℕ) → Option (List ℕ) → Result (Unit {0}) E → Type 0

@@ -97,7 +97,7 @@ pub record Ran (held : Option Held) (files : List (List ℕ)) (left : Option (Li
   pub read : taken ≡ (flat_map (λ t. t.took) turns ++ tail) ++ ahead
   pub wrote : gained ≡ ((banner ++ flat_map (λ t. t.reply) opened) ++ flat_map (λ t. t.reply) turns) ++ last
   pub within : length (flat_map (λ t. t.took) turns ++ tail) ≤ input_limit
-  -- the signature is canonical LF after each file and each command
+  -- after each file and each command the signature is canonical LF, its blocks are typed, and those of the worlds are among them
   pub sound_opened : AllByRecursion (λ t. IsSound t.after.view) opened
   pub sound : AllByRecursion (λ t. IsSound t.after.view) turns
 

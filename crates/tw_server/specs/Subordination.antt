@@ -2,20 +2,16 @@
 use Rattle.std.specs.Prelude.{◌≡◌, ◌⊎◌, ◌↔◌, ℕ, zero, suc, ◌≤◌, List, [], ◌∷◌, ◌++◌, length, codes, Contains, Option, None, Some}
 use Rattle.std.specs.List.Sorted.{IsStrictlyIncreasing}
 use Rattle.lf.specs.Entries.{signature_of}
-use Rattle.lf.specs.Subordination.{Below, Block}
+use Rattle.lf.specs.Subordination.{Below}
 use Rattle.lf.specs.Syntax.{Kind}
 use Rattle.tw_decl.specs.View.{View, scene_of}
 use Rattle.tw_print.specs.Names.{Scene, constant_word}
 use Rattle.tw_server.specs.Replies.{accepted, refused, no_memory}
 
--- The blocks that are declared. No declaration of one is made yet, so there is none.
-abbrev pub declared_blocks : View → List Block
-declared_blocks v = []
-
--- These are the families below a family, in order of declaration, each once.
+-- These are the families below a family, over all blocks that are declared, in order of declaration, each once.
 pub record AreBelow (v : View) (family : ℕ) (families : List ℕ) : Type 0 where
   pub in_order : IsStrictlyIncreasing families
-  pub below : (a : ℕ) → (Contains families a) ↔ Below (signature_of v.signature) (declared_blocks v) a family
+  pub below : (a : ℕ) → (Contains families a) ↔ Below (signature_of v.signature) v.checked.blocks a family
 
 -- each behind one space, as it is shown
 abbrev pub spaced_words : Scene → List ℕ → List ℕ

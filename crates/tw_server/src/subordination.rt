@@ -2,34 +2,18 @@
 ghost use Rattle.std.specs.Prelude.{◌≡◌, ◌<◌, IfOk, length};
 ghost use Rattle.lf.specs.Entries.{signature_of};
 ghost use Rattle.tw_decl.specs.View.{scene_of};
-ghost use Rattle.tw_subord.specs.View.{worlds_of_types};
 ghost use Rattle.tw_server.specs.Counts.{CountsWrites};
 ghost use Rattle.tw_server.specs.Loaded.{IsSubordinationShown, Lists};
-ghost use Rattle.tw_server.specs.Subordination.{ShowsBelow, below_line, declared_blocks};
+ghost use Rattle.tw_server.specs.Subordination.{ShowsBelow, below_line};
 
 use crate::reply::{OK, Reply, write_reply};
 use crate::word::add_word;
 use crate::write::{Unwritten, write_all};
 use std::alloc::{AllocError, Global};
-use tw_decl::Session;
+use tw_decl::{Session, subordination};
 use tw_ports::Sink;
-use tw_subord::{BlockTypes, Subord};
+use tw_subord::Subord;
 use tw_terms::ConstId;
-
-// The types of the blocks that are declared. No declaration of one is made yet, so there is none.
-fn block_types(session: &Session) -> &[BlockTypes]
-    ensures { worlds_of_types result.now ≡ declared_blocks session.now }
-{
-    let _ = session;
-    &[]
-}
-
-// Which families are below which.
-fn subordination(alloc: Global, session: &Session) -> Result<Subord, AllocError>
-    ensures { IfOk result (λ s. Lists session.now s) }
-{
-    Subord::of(alloc, session.signature(), block_types(session))
-}
 
 // The line of a family: `below b:`, and behind it these families.
 fn below_line(

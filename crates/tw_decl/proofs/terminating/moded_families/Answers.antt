@@ -10,7 +10,7 @@ pub returns-in-Err-clause-cause : goal.returns-in-Err-clause-cause
 returns-in-Err-clause-cause c =
     let O = written_of c.args.order.now in
     let ps = map call_of c.args.patterns.now in
-    not_come c.args.session.now O ps c.args.first c.in-Err.refusal (c.in-Err.ensures.cause (terminates O ps) refl c.requires)
+    not_come c.args.session.now O ps c.args.first c.in-Err.refusal (c.in-Err.ensures.cause (terminates O ps) refl (λ m e l. l) c.requires)
 
 pub returns-in-Some-clause-cause : goal.returns-in-Some-clause-cause
 returns-in-Some-clause-cause c =

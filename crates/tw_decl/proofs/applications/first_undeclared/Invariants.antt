@@ -1,9 +1,0 @@
-use Rattle.std.proofs.Common.{◌≡◌}
-use Rattle.std.specs.Prelude.{drop, map}
-use Rattle.tw_names.specs.Earliest.{earliest}
-use Rattle.tw_decl.specs.Applications.{families_named, undeclared_among}
-use Rattle.tw_decl.specs.Steps.{application_of}
-use Rattle.tw_decl.proofs.applications.first_undeclared.Given as goal
-
-abbrev pub invariant-loop-application : goal.invariant-loop-application
-invariant-loop-application l = earliest l.found (undeclared_among l.signature (families_named (map application_of (drop l.application-index l.applications)))) ≡ earliest l.fn.before (undeclared_among l.signature (families_named (map application_of l.applications)))
