@@ -40,6 +40,8 @@ SESSION = [
     b"readDecl\nplus-s : plus (s X) Y (s Z) <- plus X Y Z.\n",
     b"readDecl\n%mode plus +X +Y -Z.\n",
     b"readDecl\n%terminates X (plus X _ _).\n",
+    b"readDecl\n%block b : some {N:nat} block {v:vec N} {w:vec N}.\n",
+    b"readDecl\n%worlds (b) (plus _ _ _).\n",
     b"readDecl\n%query 2 * plus X Y (s z).\n",
     b"readDecl\n%solve one : plus (s z) z X.\n",
     b"top\nplus (s (s z)) X (s z).\n",

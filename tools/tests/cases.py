@@ -19,6 +19,7 @@ CALLS = "nat : type.\ng : nat -> type.\nh : nat -> type.\nh-c : h X <- g X.\n"
 UNDETERMINED = "nat : type.\nf : nat -> nat -> type.\nf-a : f X Y.\n"
 LOOP = "a : type.\nl : a <- a.\n"
 OPEN = "a : type.\nc : a.\nk : a -> type.\nh : {x:a} k x -> type.\n"
+COPYING = "exp : type.\nlam : (exp -> exp) -> exp.\ncp : exp -> exp -> type.\ncp-lam : cp (lam E) (lam F) <- ({x:exp} cp x x -> cp (E x) (F x)).\n"
 LOOPING = "nat : type.\ns : nat -> nat.\nloop : nat -> nat -> type.\nloop-s : loop (s X) Y <- loop (s X) Y.\n%mode loop +X -Y.\n"
 
 # Of the program itself: what stands before, the declaration, and its refusal with line and column.
@@ -40,6 +41,7 @@ REFUSED = [
     ("b : type.\n", "c : " + "b -> " * 4100 + "b.", "2:1 E10 TooDeep"),
     (CALLS, "%mode h +X.", "5:1 E12 NotDeclared"),
     (UNDETERMINED, "%mode f +X -Y.", "4:1 E13 ModeFault"),
+    (COPYING, "%worlds () (cp _ _).", "5:1 E14 WorldFault"),
     (LOOPING, "%terminates X (loop X _).", "6:1 E15 OrderFault"),
     (RULES, "%query 1 * plus X Y (s z).", "7:1 E19 Count"),
     (LOOP, "%query 0 * a.", "3:1 E20 Budget"),

@@ -33,6 +33,7 @@ BEFORE = {
     "E7": cases.OPEN,
     "E12": cases.CALLS,
     "E13": cases.UNDETERMINED,
+    "E14": cases.COPYING,
     "E15": cases.LOOPING,
     "E20": cases.LOOP,
     "E22": cases.RULES + "vec : nat -> type.\nlen : vec N -> nat -> type.\n",
