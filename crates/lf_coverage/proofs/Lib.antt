@@ -30,3 +30,5 @@ pub mod Leaves
 pub mod ExamplesLeaves
 pub mod ExamplesLeaf
 pub mod SplitInstance
+pub mod InstancesCompose
+pub mod ExamplesLocal

@@ -87,7 +87,7 @@ in_front_is σ x e = fun_ext by
     by (suc i) = refl
 
 -- Typed values of free variables are a typed instance; and a ground instance.
-typed_instance : (Σ : Signature) (J I : List Item) → HasNoBlockVariable I → (σ : ℕ → Image) → ((i : ℕ) (A : LfType) → TypeAt (items_context I) i A → (N : Term) × (σ i ≡ put (skeleton A) N) × HasType Σ (items_context J) N (substitute_type reduce σ A)) → IsTypedInstance Σ J I σ
+pub typed_instance : (Σ : Signature) (J I : List Item) → HasNoBlockVariable I → (σ : ℕ → Image) → ((i : ℕ) (A : LfType) → TypeAt (items_context I) i A → (N : Term) × (σ i ≡ put (skeleton A) N) × HasType Σ (items_context J) N (substitute_type reduce σ A)) → IsTypedInstance Σ J I σ
 typed_instance Σ J [] h σ f = tt
 typed_instance Σ J (free_variable A ∷ I) h σ f =
     let (N, e, n) = f zero (weaken A) refl in

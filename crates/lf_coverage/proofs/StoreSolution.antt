@@ -108,7 +108,7 @@ long_same_term κ O Δ σ M t s m = argument (long_same κ (λ a. Some (arrow t 
     argument : atom 0 (app (substitute reduce (long_at O σ) M) nil) ≡ atom 0 (app (substitute reduce σ M) nil) → substitute reduce (long_at O σ) M ≡ substitute reduce σ M
     argument e = cc
 
-long_at_is : (O : List LfType) (σ : ℕ → Image) (i : ℕ) (A : LfType) → TypeAt O i A → long_at O σ i ≡ put (skeleton A) (as_term (skeleton A) (σ i))
+pub long_at_is : (O : List LfType) (σ : ℕ → Image) (i : ℕ) (A : LfType) → TypeAt O i A → long_at O σ i ≡ put (skeleton A) (as_term (skeleton A) (σ i))
 long_at_is [] σ i A g = absurd g
 long_at_is (B ∷ O) σ zero A e = ap (λ a. put a (as_term a (σ zero))) (sym (ap skeleton e ∙ skeleton_renamed suc B))
 long_at_is (B ∷ O) σ (suc i) A (C, g, e) = long_at_is O (λ j. σ (suc j)) i C g ∙ ap (λ a. put a (as_term a (σ (suc i)))) (sym (ap skeleton e ∙ skeleton_renamed suc C))

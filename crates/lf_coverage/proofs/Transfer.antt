@@ -55,7 +55,7 @@ pub lift_instance : (L : List LfType) (σ ρ : ℕ → Image) → lift_over (ins
 lift_instance [] σ ρ = refl
 lift_instance (A ∷ L) σ ρ = ap lift (lift_instance L σ ρ)
 
-after_over : (L : List LfType) (σ ρ : ℕ → Image) → after (lift_over L ρ) (lift_over L σ) ≡ lift_over L (after ρ σ)
+pub after_over : (L : List LfType) (σ ρ : ℕ → Image) → after (lift_over L ρ) (lift_over L σ) ≡ lift_over L (after ρ σ)
 after_over [] σ ρ = refl
 after_over (A ∷ L) σ ρ = sym (fun_ext (after_lift (lift_over L ρ) (lift_over L σ))) ∙ ap lift (after_over L σ ρ)
 

@@ -10,9 +10,11 @@ use Rattle.lf_checks.specs.Below.{IsSubordination}
 use Rattle.lf_cases.specs.Case.{Item, Case, items_context}
 use Rattle.lf_cases.specs.Pattern.{Pattern, origin, head_pattern, subgoal_pattern, IsCoveredCase}
 use Rattle.lf_cases.specs.Missing.{AreTypedItems, IsInstanceOfGoal}
-use Rattle.lf_cases.specs.Reached.{arguments_count, SplitHead, IsSplitCase, split_items}
+use Rattle.lf_cases.specs.Reached.{arguments_count, SplitHead, IsSplitCase, Reached, split_items}
 use Rattle.lf_cases.specs.Split.{IsSplit, IsInstanceCase, Ends, HasNoBlockVariable, HasOneBlockVariable}
 use Rattle.lf_coverage.specs.Heads.{IsTypedCase, GivesCase, GivesNone, IsHeadSplit, SplitsByHeads}
+use Rattle.lf_coverage.specs.TypedLocal.{HasTypedLocal}
+use Rattle.lf_coverage.specs.MeetStore.{IsOpen}
 use Rattle.lf_coverage.specs.SplitStore.{split_store, solved_case, AllFamiliesIn}
 use Rattle.lf_coverage.specs.UnifiedSplit.{IsUnifiedSplit, SplitsByUnification}
 use Rattle.lf_coverage.specs.Leaf.{IsTypedPattern, IsInstanceLeaf}
@@ -29,6 +31,14 @@ SplitCasesAreTyped = (Σ : Signature) → IsSignature Σ → (W : List Block) (b
 -- A case that the strategy reaches by a split is a typed instance of the case that is split.
 abbrev pub SplitCaseIsInstance : Type 0
 SplitCaseIsInstance = (Σ : Signature) (W : List Block) (below : ℕ → ℕ → Bool) (C : Case) (x : ℕ) (D : Case) → IsSplitCase Σ W below C x D → IsInstanceOfGoal Σ W C D
+
+-- A typed instance of a typed instance of a typed goal is one of the goal, where neither the goal nor the instance between has a block variable.
+abbrev pub InstancesCompose : Type 0
+InstancesCompose = (Σ : Signature) → IsSignature Σ → (W : List Block) → AreTypedBlocks Σ W → (goal C D : Case) → IsTypedCase Σ W goal → HasTypedLocal Σ goal → HasNoBlockVariable goal.items → HasNoBlockVariable C.items → IsInstanceOfGoal Σ W goal C → IsInstanceOfGoal Σ W C D → IsInstanceOfGoal Σ W goal D
+
+-- So each case without block variables that the strategy reaches is a typed instance of the goal, where this is typed.
+abbrev pub ReachedIsInstance : Type 0
+ReachedIsInstance = (Σ : Signature) → IsSignature Σ → (W : List Block) → AreTypedBlocks Σ W → (below : ℕ → ℕ → Bool) (ps : List Pattern) (goal : Case) → IsTypedCase Σ W goal → HasTypedLocal Σ goal → (D : Case) → Reached Σ W (IsOpen Σ) below ps goal D → HasNoBlockVariable D.items → IsInstanceOfGoal Σ W goal D
 
 -- A run of splits by heads that ends well covers its goal, where this is typed.
 abbrev pub HeadSplitsCover : Type 0

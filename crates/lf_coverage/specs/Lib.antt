@@ -1,5 +1,6 @@
 pub mod HeadOrder
 pub mod Heads
+pub mod TypedLocal
 pub mod SplitStore
 pub mod MeetStore
 pub mod TooDeep
@@ -8,4 +9,5 @@ pub mod UnifiedSplit
 pub mod Examples
 pub mod Leaf
 pub mod ExamplesLeaves
+pub mod ExamplesLocal
 pub mod Laws

@@ -1,8 +1,9 @@
 //! The laws of splits of coverage. They have no code: each function carries one law as its contract.
 #![tactic(auto)]
 
-ghost use Rattle.lf_coverage.specs.Laws.{HeadSplitIsSplit, SplitCasesAreTyped, SplitCaseIsInstance, HeadSplitsCover, NeverGivesNone, SolvedGivesCase, UnifiedSplitIsHeadSplit, LeafIsInstanceCase, LeavesCover, HeadIsTypedPattern, SubgoalIsTypedPattern};
+ghost use Rattle.lf_coverage.specs.Laws.{HeadSplitIsSplit, SplitCasesAreTyped, SplitCaseIsInstance, InstancesCompose, ReachedIsInstance, HeadSplitsCover, NeverGivesNone, SolvedGivesCase, UnifiedSplitIsHeadSplit, LeafIsInstanceCase, LeavesCover, HeadIsTypedPattern, SubgoalIsTypedPattern};
 ghost use Rattle.lf_coverage.specs.Examples.{PlusIsSplitByHeads, PlusIsSplitByUnification, PlusIsCoveredByHeads, SuccessorGivesNone, HeadsAreAll, CopyHeadsAreInOrder, NumbersGetDeep, StoresOfMeeting};
+ghost use Rattle.lf_coverage.specs.ExamplesLocal.{CopyLocalIsTyped};
 ghost use Rattle.lf_coverage.specs.ExamplesLeaves.{PlusEndsAtLeaves, EntryIsLeaf, GoalIsOutputLeaf};
 
 /// The heads of a split give all its cases.
@@ -18,6 +19,16 @@ pub fn split_cases_are_typed()
 /// What the strategy reaches by a split is an instance of the case that is split.
 pub fn split_case_is_instance()
     ensures { SplitCaseIsInstance }
+{}
+
+/// A typed instance of a typed instance of a goal is one of the goal.
+pub fn instances_compose()
+    ensures { InstancesCompose }
+{}
+
+/// So each case that the strategy reaches is one.
+pub fn reached_is_instance()
+    ensures { ReachedIsInstance }
 {}
 
 /// A run of splits by heads that ends well covers its goal.
@@ -113,4 +124,9 @@ pub fn entry_is_leaf()
 /// The goal of a subgoal's outputs that are all new is a leaf, and covered.
 pub fn goal_is_output_leaf()
     ensures { GoalIsOutputLeaf }
+{}
+
+/// A local context that is typed, and one that isn't.
+pub fn copy_local_is_typed()
+    ensures { CopyLocalIsTyped }
 {}
