@@ -21,10 +21,12 @@ use Rattle.lf_totality.specs.ExamplesBlocks.{Numbered, numbered_types, numbered_
 use Rattle.lf_totality.specs.ExamplesSplits.{successor_items}
 use Rattle.lf_totality.proofs.Addition.{addition_ok}
 use Rattle.lf_totality.proofs.ExamplesBlocks.{numbered_ok}
-use Rattle.lf_coverage.specs.Heads.{ArgumentsAreBelow, with_case, no_offer}
+use Rattle.lf_cases.specs.Case.{Case}
+use Rattle.lf_coverage.specs.Heads.{ArgumentsAreBelow, IsTypedCase, with_case, no_offer}
 use Rattle.lf_coverage.specs.SplitStore.{split_store, context_metavariables}
 use Rattle.lf_coverage.specs.Examples.{PlusIsSplitByUnification, SuccessorGivesNone}
 use Rattle.lf_coverage.proofs.Examples.{plus_offers, plus_are_offers, plus_in_order, two, each_head}
+use Rattle.lf_coverage.proofs.NoCase.{never_gives_no_case}
 use Rattle.lf_coverage.proofs.Unified.{never_gives}
 
 some_term : {M N : Term} → Some M ≡ Some N → M ≡ N
@@ -239,5 +241,15 @@ three_contained = record { declared = declared; kinds_in = kinds_in; types_in = 
 successor_typed_items : AreTypedItems Numbered [] successor_items
 successor_typed_items = ((tt, (star, refl, tt)), (one_kind, refl, ((pi nat nat, refl, ((nat, refl, refl), refl)), tt)))
 
+abbrev split_case : Case
+split_case = record { items = successor_items; given = []; local = []; family = 2; arguments = [] }
+
+case_typed : IsTypedCase Numbered [] split_case
+case_typed = record { items = successor_typed_items; given = tt; arguments = tt }
+
 pub successor_none : SuccessorGivesNone
-successor_none = (never_successor, never_gives Numbered numbered_ok [] (λ B m. absurd m) first_below_second first_three three_contained (record { items = successor_items; given = []; local = []; family = 2; arguments = [] }) (record { items = successor_typed_items; given = tt; arguments = tt }) 0 (on_one 2 (successor (var 1))) refl successor_items 0 (constant 2) a_z.type (constant_head 2 a_z.type refl refl) tt successor_typed_items (refl, (refl, tt)) one_kind never_successor)
+successor_none = (
+  never_successor,
+  never_gives Numbered numbered_ok [] (λ B m. absurd m) first_below_second first_three three_contained split_case case_typed 0 (on_one 2 (successor (var 1))) refl successor_items 0 (constant 2) a_z.type (constant_head 2 a_z.type refl refl) tt successor_typed_items (refl, (refl, tt)) one_kind never_successor,
+  never_gives_no_case Numbered numbered_ok [] (λ B m. absurd m) first_below_second split_case case_typed 0 (on_one 2 (successor (var 1))) refl successor_items 0 (constant 2) a_z.type (constant_head 2 a_z.type refl refl) tt successor_typed_items one_kind never_successor,
+)

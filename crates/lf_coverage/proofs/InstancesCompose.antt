@@ -73,12 +73,12 @@ module _ (Σ : Signature) (C J G : List LfType) (σ ρ : ℕ → Image) (fσ : S
 
 module _ (Σ : Signature) (ok : IsSignature Σ) (W : List Block) (typed : AreTypedBlocks Σ W) where
   -- a typed instance of free variables is a typed substitution
-  instance_is_typed : (J I : List Item) (σ : ℕ → Image) → HasNoBlockVariable I → IsTypedInstance Σ J I σ → IsTypedSubstitution Σ (items_context I) (items_context J) σ
+  pub instance_is_typed : (J I : List Item) (σ : ℕ → Image) → HasNoBlockVariable I → IsTypedInstance Σ J I σ → IsTypedSubstitution Σ (items_context I) (items_context J) σ
   instance_is_typed J [] σ n g = λ i A x. absurd x
   instance_is_typed J (free_variable A ∷ I) σ n (N, τ, g, t, e) = subst (IsTypedSubstitution Σ (A ∷ items_context I) (items_context J)) (sym e) (front_typed Σ ok W typed (items_context I) (items_context J) A (put (skeleton A) N) τ (instance_is_typed J I τ n g) (skeleton_substituted reduce τ A, t))
   instance_is_typed J (block_variable B υ ∷ I) σ n g = absurd n
 
-  instance_by_skeletons : (J I : List Item) (σ : ℕ → Image) → HasNoBlockVariable I → IsTypedInstance Σ J I σ → SubstitutionBySkeletons (constant_skeletons Σ) (context_skeletons (items_context I)) (context_skeletons (items_context J)) σ
+  pub instance_by_skeletons : (J I : List Item) (σ : ℕ → Image) → HasNoBlockVariable I → IsTypedInstance Σ J I σ → SubstitutionBySkeletons (constant_skeletons Σ) (context_skeletons (items_context I)) (context_skeletons (items_context J)) σ
   instance_by_skeletons J I σ n g = typed_substitution_by_skeletons Σ ok (items_context I) (items_context J) σ (instance_is_typed J I σ n g)
 
   -- two of them compose

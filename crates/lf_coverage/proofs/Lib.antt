@@ -32,3 +32,4 @@ pub mod ExamplesLeaf
 pub mod SplitInstance
 pub mod InstancesCompose
 pub mod ExamplesLocal
+pub mod NoCase

@@ -63,7 +63,7 @@ free_without : (O : List LfType) → HasNoBlockVariable (free_variables O)
 free_without [] = tt
 free_without (A ∷ O) = free_without O
 
-all_free : (I : List Item) → HasNoBlockVariable I → (i : ℕ) (A : LfType) → TypeAt (items_context I) i A → free_among I i ≡ true
+pub all_free : (I : List Item) → HasNoBlockVariable I → (i : ℕ) (A : LfType) → TypeAt (items_context I) i A → free_among I i ≡ true
 all_free [] h i A g = absurd g
 all_free (free_variable X ∷ I) h zero A g = refl
 all_free (free_variable X ∷ I) h (suc i) A (B, g, e) = all_free I h i B g
@@ -74,7 +74,7 @@ no_first w [] σ g B θ h f = f
 no_first w (free_variable A ∷ I) σ (N, τ, g, t, e) B θ h f = no_first w I τ g B θ h f
 no_first w (block_variable C υ ∷ I) σ g B θ h f = h
 
-heads_without : (ks : List (List Bool)) (n : ℕ) (D : List LfType) (A : LfType) (I : List Item) → HasNoBlockVariable I → HasNoBlockVariable (head_items ks D n A I)
+pub heads_without : (ks : List (List Bool)) (n : ℕ) (D : List LfType) (A : LfType) (I : List Item) → HasNoBlockVariable I → HasNoBlockVariable (head_items ks D n A I)
 heads_without ks zero D A I h = h
 heads_without ks (suc n) D (atom a S) I h = h
 heads_without ks (suc n) D (pi A B) I h = heads_without (other_masks ks) n (renumber suc D) (instantiate_type A (raised_variable (first_mask ks) D A zero) (rename_type (lift_renaming (over_item D)) B)) (free_variable (raise_by (first_mask ks) D A) ∷ I) h

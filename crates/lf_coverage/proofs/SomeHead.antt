@@ -67,12 +67,12 @@ free_value w (block_variable B υ ∷ I) σ (θ, τ, g, i, s, e) x X t f = let (
     by h (D ∷ ds) φ zero Y t f = absurd (true≢false (sym f))
     by h (D ∷ ds) φ (suc y) Y (Z, t, q) f = let (N, p) = by h ds (λ j. φ (suc j)) y Z t f in (N, p ∙ ap (λ a. put a N) (sym (ap skeleton q ∙ skeleton_renamed suc Z)))
 
-onto_nothing : (D : List LfType) → onto D [] ≡ D
+pub onto_nothing : (D : List LfType) → onto D [] ≡ D
 onto_nothing [] = refl
 onto_nothing (A ∷ D) = ap (λ X. A ∷ X) (onto_nothing D)
 
 -- a head has one type
-head_same : (Σ : Signature) (G : List LfType) (h : Head) (A B : LfType) → HeadHasType Σ G h A → HeadHasType Σ G h B → A ≡ B
+pub head_same : (Σ : Signature) (G : List LfType) (h : Head) (A B : LfType) → HeadHasType Σ G h A → HeadHasType Σ G h B → A ≡ B
 head_same Σ G (constant c) A B e f = some_same (sym e ∙ f)
   where
     some_same : Some A ≡ Some B → A ≡ B
@@ -90,16 +90,16 @@ among_less (D ∷ ds) (suc k) e = more (among_less ds k e)
 
 -- The type of a variable, under values that keep those of the items.
 module _ (X : LfType) (σ : ℕ → Image) (n : ℕ) (τ : ℕ → Image) (keeps : (k : ℕ) → τ (k + n) ≡ σ k) where
-  same_type : substitute_type reduce τ (rename_type (shift_by n) X) ≡ substitute_type reduce σ X
+  pub same_type : substitute_type reduce τ (rename_type (shift_by n) X) ≡ substitute_type reduce σ X
   same_type = substitute_renamed_type reduce τ (shift_by n) X ∙ ap (λ f. substitute_type reduce f X) (fun_ext keeps)
 
-  taken_is : (τ : ℕ → Image) (Y : LfType) → instance (taken Y) τ ≡ binders [] (substitute_type reduce τ Y)
+  pub taken_is : (τ : ℕ → Image) (Y : LfType) → instance (taken Y) τ ≡ binders [] (substitute_type reduce τ Y)
   taken_is τ Y = sym (binders_substituted Y τ [] ∙ onto_nothing (instance (taken Y) τ))
 
-  same_local : instance (taken (rename_type (shift_by n) X)) τ ≡ instance (taken X) σ
+  pub same_local : instance (taken (rename_type (shift_by n) X)) τ ≡ instance (taken X) σ
   same_local = taken_is τ (rename_type (shift_by n) X) ∙ ap (binders []) same_type ∙ sym (taken_is σ X)
 
-  same_length : length (taken (rename_type (shift_by n) X)) ≡ length (taken X)
+  pub same_length : length (taken (rename_type (shift_by n) X)) ≡ length (taken X)
   same_length = sym (length_instance (taken (rename_type (shift_by n) X)) τ) ∙ ap length same_local ∙ length_instance (taken X) σ
 
 module _ (Σ : Signature) (ok : IsSignature Σ) (W : List Block) (typed : AreTypedBlocks Σ W) (below : ℕ → ℕ → Bool) (s : IsSubordination Σ W below) (Low : ℕ → Bool) (sc : SelfContained Σ W Low) (I : List Item) (ti : AreTypedItems Σ W I) (x : ℕ) (X : LfType) (at : TypeAt (items_context I) x X) (fr : free_among I x ≡ true) (fams : FamiliesIn Low X) (args : ArgumentsAreBelow below X) (can : (J : List Item) (n : ℕ) (h : Head) (A : LfType) → SplitHead Σ W I X J n h A → ArgumentsAreBelow below A) (Σ' : Signature) (ext : Extends Low Σ Σ') (G : List LfType) (w : World Σ' W Low G) (σ : ℕ → Image) (g : IsGroundInstance w I σ) (d : IsDistinct w I σ g) where

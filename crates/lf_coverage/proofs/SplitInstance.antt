@@ -71,7 +71,7 @@ module _ (Σ : Signature) (J : List Item) where
   behind_moved W I X _ _ h A (entry_head j B k f t) σ g = moved I σ (λ i. σ (i + 0)) (λ i. ap σ (none i)) g
   behind_moved W I X K n h A (new_entry_head B j C m l k t) σ g = behind_block B I σ g
 
-  behind_all : (W : List Block) (below : ℕ → ℕ → Bool) (I : List Item) (X : LfType) (K : List Item) (n : ℕ) (h : Head) (A : LfType) → SplitHead Σ W I X K n h A → (σ : ℕ → Image) → IsTypedInstance Σ J (split_items below X K n A) σ → IsTypedInstance Σ J I (λ i. σ (i + (n + arguments_count A)))
+  pub behind_all : (W : List Block) (below : ℕ → ℕ → Bool) (I : List Item) (X : LfType) (K : List Item) (n : ℕ) (h : Head) (A : LfType) → SplitHead Σ W I X K n h A → (σ : ℕ → Image) → IsTypedInstance Σ J (split_items below X K n A) σ → IsTypedInstance Σ J I (λ i. σ (i + (n + arguments_count A)))
   behind_all W below I X K n h A sh σ g = moved I (λ i. σ ((i + n) + arguments_count A)) (λ i. σ (i + (n + arguments_count A))) (λ i. ap σ (sums i n (arguments_count A))) (behind_moved W I X K n h A sh (λ i. σ (i + arguments_count A)) (behind_new (head_masks below (taken (rename_type (shift_by n) X)) (arguments_count A) A) (taken (rename_type (shift_by n) X)) (arguments_count A) A K σ refl g))
     where
       sums : (i n c : ℕ) → (i + n) + c ≡ i + (n + c)

@@ -16,7 +16,7 @@ use Rattle.lf_unification.specs.Unifiers.{Equation}
 use Rattle.lf_totality.specs.ExamplesMissing.{eq_r}
 use Rattle.lf_totality.specs.ExamplesReached.{eq_goal, head_of}
 use Rattle.lf_cases.specs.Case.{free_variable}
-use Rattle.lf_cases.specs.Reached.{with_block}
+use Rattle.lf_cases.specs.Reached.{with_block, GivesNoCase}
 use Rattle.lf_coverage.specs.SplitStore.{split_store}
 use Rattle.lf_coverage.specs.UnifiedSplit.{IsUnifiedSplit}
 
@@ -36,9 +36,9 @@ PlusIsCoveredByHeads = Ends (IsInstanceCase Addition [] (first_below_second 1) p
 abbrev pub HeadsAreAll : Type 0
 HeadsAreAll = IsHeadSplit Addition [] (first_below_second 1) first_below_second plus_input_goal 1 (plus_zero_case ∷ []) → ⊥
 
--- A variable of the type a (s X) and the constant a-z : a z. The store has s X = z, which is never solved; so the head gives no case.
+-- A variable of the type a (s X) and the constant a-z : a z. The store has s X = z, which is never solved; so the head gives no case, and nothing makes the variable a-z.
 abbrev pub SuccessorGivesNone : Type 0
-SuccessorGivesNone = Never Numbered [] (split_store first_below_second 0 (on_one 2 (successor (var 1))) successor_items 0 (constant 2) a_z.type one_kind) × GivesNone Numbered [] first_three first_below_second 0 (on_one 2 (successor (var 1))) successor_items 0 (constant 2) a_z.type
+SuccessorGivesNone = Never Numbered [] (split_store first_below_second 0 (on_one 2 (successor (var 1))) successor_items 0 (constant 2) a_z.type one_kind) × GivesNone Numbered [] first_three first_below_second 0 (on_one 2 (successor (var 1))) successor_items 0 (constant 2) a_z.type × GivesNoCase Numbered [] first_below_second 0 (on_one 2 (successor (var 1))) successor_items 0 (constant 2) a_z.type
 
 -- The heads of a variable of exp in the worlds of the block {x:exp} {u:cp x x}, in order: lam, app, and the entry x of a new block variable.
 abbrev pub copy_offers : List Offer

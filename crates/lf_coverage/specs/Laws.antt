@@ -10,7 +10,7 @@ use Rattle.lf_checks.specs.Below.{IsSubordination}
 use Rattle.lf_cases.specs.Case.{Item, Case, items_context}
 use Rattle.lf_cases.specs.Pattern.{Pattern, origin, head_pattern, subgoal_pattern, IsCoveredCase}
 use Rattle.lf_cases.specs.Missing.{AreTypedItems, IsInstanceOfGoal}
-use Rattle.lf_cases.specs.Reached.{arguments_count, SplitHead, IsSplitCase, Reached, split_items}
+use Rattle.lf_cases.specs.Reached.{arguments_count, SplitHead, IsSplitCase, GivesNoCase, Reached, split_items}
 use Rattle.lf_cases.specs.Split.{IsSplit, IsInstanceCase, Ends, HasNoBlockVariable, HasOneBlockVariable}
 use Rattle.lf_coverage.specs.Heads.{IsTypedCase, GivesCase, GivesNone, IsHeadSplit, SplitsByHeads}
 use Rattle.lf_coverage.specs.TypedLocal.{HasTypedLocal}
@@ -48,6 +48,10 @@ HeadSplitsCover = (Σ : Signature) → IsSignature Σ → (W : List Block) → A
 -- gives no case: in each legal extension over S and each context of W beside S nothing makes the variable that head.
 abbrev pub NeverGivesNone : Type 0
 NeverGivesNone = (Σ : Signature) → IsSignature Σ → (W : List Block) → AreTypedBlocks Σ W → (below : ℕ → ℕ → Bool) (S : ℕ → Bool) → SelfContained Σ W S → (C : Case) → IsTypedCase Σ W C → (x : ℕ) (X : LfType) → TypeAt (items_context C.items) x X → (J : List Item) (n : ℕ) (h : Head) (A : LfType) → SplitHead Σ W C.items X J n h A → HasNoBlockVariable J → AreTypedItems Σ W (split_items below X J n A) → AllFamiliesIn S (items_context (split_items below X J n A)) → (K : Kind) → Never Σ [] (split_store below x X J n h A K) → GivesNone Σ W S below x X J n h A
+
+-- And no typed instance over any typed items makes the variable that head. No set of families is asked for.
+abbrev pub NeverGivesNoCase : Type 0
+NeverGivesNoCase = (Σ : Signature) → IsSignature Σ → (W : List Block) → AreTypedBlocks Σ W → (below : ℕ → ℕ → Bool) (C : Case) → IsTypedCase Σ W C → (x : ℕ) (X : LfType) → TypeAt (items_context C.items) x X → (J : List Item) (n : ℕ) (h : Head) (A : LfType) → SplitHead Σ W C.items X J n h A → HasNoBlockVariable J → AreTypedItems Σ W (split_items below X J n A) → (K : Kind) → Never Σ [] (split_store below x X J n h A K) → GivesNoCase Σ W below x X J n h A
 
 -- What is solved gives a case that has each such instance: the one whose items are the metavariables that stay free.
 abbrev pub SolvedGivesCase : Type 0

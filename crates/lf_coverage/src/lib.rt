@@ -1,7 +1,7 @@
 //! The laws of splits of coverage. They have no code: each function carries one law as its contract.
 #![tactic(auto)]
 
-ghost use Rattle.lf_coverage.specs.Laws.{HeadSplitIsSplit, SplitCasesAreTyped, SplitCaseIsInstance, InstancesCompose, ReachedIsInstance, HeadSplitsCover, NeverGivesNone, SolvedGivesCase, UnifiedSplitIsHeadSplit, LeafIsInstanceCase, LeavesCover, HeadIsTypedPattern, SubgoalIsTypedPattern};
+ghost use Rattle.lf_coverage.specs.Laws.{HeadSplitIsSplit, SplitCasesAreTyped, SplitCaseIsInstance, InstancesCompose, ReachedIsInstance, HeadSplitsCover, NeverGivesNone, NeverGivesNoCase, SolvedGivesCase, UnifiedSplitIsHeadSplit, LeafIsInstanceCase, LeavesCover, HeadIsTypedPattern, SubgoalIsTypedPattern};
 ghost use Rattle.lf_coverage.specs.Examples.{PlusIsSplitByHeads, PlusIsSplitByUnification, PlusIsCoveredByHeads, SuccessorGivesNone, HeadsAreAll, CopyHeadsAreInOrder, NumbersGetDeep, StoresOfMeeting};
 ghost use Rattle.lf_coverage.specs.ExamplesLocal.{CopyLocalIsTyped};
 ghost use Rattle.lf_coverage.specs.ExamplesLeaves.{PlusEndsAtLeaves, EntryIsLeaf, GoalIsOutputLeaf};
@@ -39,6 +39,11 @@ pub fn head_splits_cover()
 /// What unification never solves gives no case.
 pub fn never_gives_none()
     ensures { NeverGivesNone }
+{}
+
+/// And no typed instance makes the variable that head.
+pub fn never_gives_no_case()
+    ensures { NeverGivesNoCase }
 {}
 
 /// What it solves gives the case that is read off the solved store.
