@@ -33,3 +33,5 @@ pub mod SplitInstance
 pub mod InstancesCompose
 pub mod ExamplesLocal
 pub mod NoCase
+pub mod FreshValues
+pub mod Meeting

@@ -57,7 +57,7 @@ module _ (Σ : Signature) (μ : ℕ → Skeleton) where
   abbrev pub AllStand : ℕ → List Skeleton → (ℕ → Image) → (ℕ → Option Term) → Type 0
   AllStand k Γ σ β = (i : ℕ) (t : Skeleton) → SkeletonAt Γ i t → Stands μ β t (open_variable k i) (σ i)
 
-  all_lifted : (k : ℕ) (Γ : List Skeleton) (a : Skeleton) (σ : ℕ → Image) (β : ℕ → Option Term) → AllStand k Γ σ β → AllStand (suc k) (a ∷ Γ) (lift σ) (moved suc β)
+  pub all_lifted : (k : ℕ) (Γ : List Skeleton) (a : Skeleton) (σ : ℕ → Image) (β : ℕ → Option Term) → AllStand k Γ σ β → AllStand (suc k) (a ∷ Γ) (lift σ) (moved suc β)
   all_lifted k Γ a σ β h zero t g = inr (zero, refl, refl)
   all_lifted k Γ a σ β h (suc i) t g = stands_moved μ β t (open_variable k i) (σ i) (h i t g)
 

@@ -229,7 +229,7 @@ taken_skeletons ρ ν X C = by ρ ν X [] [] refl
     by ρ ν (atom a S) Y Z e = e
 
 -- the value of an eta-long variable
-value_at : (κ : HeadSkeletons) (Δ : List Skeleton) (a : Skeleton) (σ : ℕ → Image) (i : ℕ) → ImageSkeleton κ Δ (σ i) a → substitute reduce σ (eta_long a (variable i)) ≡ as_term a (σ i)
+pub value_at : (κ : HeadSkeletons) (Δ : List Skeleton) (a : Skeleton) (σ : ℕ → Image) (i : ℕ) → ImageSkeleton κ Δ (σ i) a → substitute reduce σ (eta_long a (variable i)) ≡ as_term a (σ i)
 value_at κ Δ a σ i h = by (σ i) refl h
   where
     by : (y : Image) → σ i ≡ y → ImageSkeleton κ Δ y a → substitute reduce σ (eta_long a (variable i)) ≡ as_term a (σ i)

@@ -1,20 +1,21 @@
 -- The laws of splits by heads that the functions of this crate carry.
-use Rattle.std.specs.Prelude.{ℕ, ◌+◌, List, [], Bool}
+use Rattle.std.specs.Prelude.{◌≡◌, ℕ, ◌+◌, List, [], length, Bool, true}
 use Rattle.lf.specs.Syntax.{Head, LfType, Kind}
 use Rattle.lf.specs.Typing.{Signature, TypeAt, IsSignature}
 use Rattle.lf.specs.Subordination.{Block, Member, AreTypedBlocks, SelfContained}
+use Rattle.lf.specs.Variables.{binders}
 use Rattle.lf_unification.specs.Solving.{Never, Solved}
 use Rattle.lf_unification.specs.Unifiers.{Store}
-use Rattle.lf_checks.specs.Clause.{Clause, IsClause, IsSubgoal}
+use Rattle.lf_checks.specs.Clause.{Clause, IsClause, IsSubgoal, scope}
 use Rattle.lf_checks.specs.Below.{IsSubordination}
 use Rattle.lf_cases.specs.Case.{Item, Case, items_context}
 use Rattle.lf_cases.specs.Pattern.{Pattern, origin, head_pattern, subgoal_pattern, IsCoveredCase}
-use Rattle.lf_cases.specs.Missing.{AreTypedItems, IsInstanceOfGoal}
-use Rattle.lf_cases.specs.Reached.{arguments_count, SplitHead, IsSplitCase, GivesNoCase, Reached, split_items}
+use Rattle.lf_cases.specs.Missing.{AreTypedItems, CommonInstance, IsInstanceOfGoal}
+use Rattle.lf_cases.specs.Reached.{arguments_count, SplitHead, IsSplitCase, GivesNoCase, IsApart, Reached, split_items}
 use Rattle.lf_cases.specs.Split.{IsSplit, IsInstanceCase, Ends, HasNoBlockVariable, HasOneBlockVariable}
 use Rattle.lf_coverage.specs.Heads.{IsTypedCase, GivesCase, GivesNone, IsHeadSplit, SplitsByHeads}
 use Rattle.lf_coverage.specs.TypedLocal.{HasTypedLocal}
-use Rattle.lf_coverage.specs.MeetStore.{IsOpen}
+use Rattle.lf_coverage.specs.MeetStore.{IsConstants, IsOpen, meet_store}
 use Rattle.lf_coverage.specs.SplitStore.{split_store, solved_case, AllFamiliesIn}
 use Rattle.lf_coverage.specs.UnifiedSplit.{IsUnifiedSplit, SplitsByUnification}
 use Rattle.lf_coverage.specs.Leaf.{IsTypedPattern, IsInstanceLeaf}
@@ -52,6 +53,15 @@ NeverGivesNone = (Σ : Signature) → IsSignature Σ → (W : List Block) → Ar
 -- And no typed instance over any typed items makes the variable that head. No set of families is asked for.
 abbrev pub NeverGivesNoCase : Type 0
 NeverGivesNoCase = (Σ : Signature) → IsSignature Σ → (W : List Block) → AreTypedBlocks Σ W → (below : ℕ → ℕ → Bool) (C : Case) → IsTypedCase Σ W C → (x : ℕ) (X : LfType) → TypeAt (items_context C.items) x X → (J : List Item) (n : ℕ) (h : Head) (A : LfType) → SplitHead Σ W C.items X J n h A → HasNoBlockVariable J → AreTypedItems Σ W (split_items below X J n A) → (K : Kind) → Never Σ [] (split_store below x X J n h A K) → GivesNoCase Σ W below x X J n h A
+
+-- Unification of a case with a pattern of a constant's clause, where the items of the case are free variables and it has as many local variables as
+-- the pattern. What is never solved, they don't share: they have no typed instance in common in which each variable of the clause has a value.
+abbrev pub NeverSharesAll : Type 0
+NeverSharesAll = (Σ : Signature) → IsSignature Σ → (W : List Block) → AreTypedBlocks Σ W → (C : Case) → IsTypedCase Σ W C → HasNoBlockVariable C.items → (p : Pattern) → IsTypedPattern Σ p → IsConstants p.origin → length C.local ≡ length (binders [] p.type) → (K : Kind) → Never Σ [] (meet_store C p K) → (s : CommonInstance Σ W C p) → ((i : ℕ) (A : LfType) → TypeAt (scope p.clause) i A → s.used i ≡ true) → ⊥
+
+-- Where nothing is given, as in each goal of inputs, they share no typed instance at all, whatever it gives values: the pattern is passed over.
+abbrev pub NeverIsApart : Type 0
+NeverIsApart = (Σ : Signature) → IsSignature Σ → (W : List Block) → AreTypedBlocks Σ W → (C : Case) → IsTypedCase Σ W C → HasNoBlockVariable C.items → (p : Pattern) → IsTypedPattern Σ p → IsConstants p.origin → length C.local ≡ length (binders [] p.type) → C.given ≡ [] → (K : Kind) → Never Σ [] (meet_store C p K) → IsApart Σ W (IsOpen Σ) C p
 
 -- What is solved gives a case that has each such instance: the one whose items are the metavariables that stay free.
 abbrev pub SolvedGivesCase : Type 0

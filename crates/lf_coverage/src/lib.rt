@@ -1,7 +1,7 @@
 //! The laws of splits of coverage. They have no code: each function carries one law as its contract.
 #![tactic(auto)]
 
-ghost use Rattle.lf_coverage.specs.Laws.{HeadSplitIsSplit, SplitCasesAreTyped, SplitCaseIsInstance, InstancesCompose, ReachedIsInstance, HeadSplitsCover, NeverGivesNone, NeverGivesNoCase, SolvedGivesCase, UnifiedSplitIsHeadSplit, LeafIsInstanceCase, LeavesCover, HeadIsTypedPattern, SubgoalIsTypedPattern};
+ghost use Rattle.lf_coverage.specs.Laws.{HeadSplitIsSplit, SplitCasesAreTyped, SplitCaseIsInstance, InstancesCompose, ReachedIsInstance, HeadSplitsCover, NeverGivesNone, NeverGivesNoCase, NeverSharesAll, NeverIsApart, SolvedGivesCase, UnifiedSplitIsHeadSplit, LeafIsInstanceCase, LeavesCover, HeadIsTypedPattern, SubgoalIsTypedPattern};
 ghost use Rattle.lf_coverage.specs.Examples.{PlusIsSplitByHeads, PlusIsSplitByUnification, PlusIsCoveredByHeads, SuccessorGivesNone, HeadsAreAll, CopyHeadsAreInOrder, NumbersGetDeep, StoresOfMeeting};
 ghost use Rattle.lf_coverage.specs.ExamplesLocal.{CopyLocalIsTyped};
 ghost use Rattle.lf_coverage.specs.ExamplesLeaves.{PlusEndsAtLeaves, EntryIsLeaf, GoalIsOutputLeaf};
@@ -44,6 +44,16 @@ pub fn never_gives_none()
 /// And no typed instance makes the variable that head.
 pub fn never_gives_no_case()
     ensures { NeverGivesNoCase }
+{}
+
+/// A case and a constant's clause that unification never solves share no typed instance with a value for each variable of the clause.
+pub fn never_shares_all()
+    ensures { NeverSharesAll }
+{}
+
+/// And where nothing is given they are apart.
+pub fn never_is_apart()
+    ensures { NeverIsApart }
 {}
 
 /// What it solves gives the case that is read off the solved store.
