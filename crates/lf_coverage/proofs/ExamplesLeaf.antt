@@ -64,13 +64,13 @@ three = nat ∷ nat ∷ nat ∷ []
 abbrev same_values : ℕ → Image
 same_values = in_front (put (base 0) (var 0)) (in_front (put (base 0) (var 1)) (in_front (put (base 0) (var 2)) keep))
 
-at_one : (A : LfType) → TypeAt (scope plus_s) 1 A → nat ≡ A
+pub at_one : (A : LfType) → TypeAt (scope plus_s) 1 A → nat ≡ A
 at_one A g = sym (variable_type_unique (scope plus_s) 1 A nat g (nat, refl, refl))
 
-at_two : (A : LfType) → TypeAt (scope plus_s) 2 A → nat ≡ A
+pub at_two : (A : LfType) → TypeAt (scope plus_s) 2 A → nat ≡ A
 at_two A g = sym (variable_type_unique (scope plus_s) 2 A nat g (nat, (nat, refl, refl), refl))
 
-at_three : (A : LfType) → TypeAt (scope plus_s) 3 A → nat ≡ A
+pub at_three : (A : LfType) → TypeAt (scope plus_s) 3 A → nat ≡ A
 at_three A g = sym (variable_type_unique (scope plus_s) 3 A nat g (nat, (nat, (nat, refl, refl), refl), refl))
 
 asked_typed : Values Addition used (scope plus_s) three asked_images
@@ -128,7 +128,7 @@ asked = record {
   of_clause = (refl, tt);
 }
 
-output_leaf : IsInstanceLeaf Addition [] (plus_asked ∷ []) plus_output_case
+pub output_leaf : IsInstanceLeaf Addition [] (plus_asked ∷ []) plus_output_case
 output_leaf = record {
   typed = record { items = (((tt, (_, refl, tt)), (_, refl, tt)), (_, refl, tt)); given = ((base 0, (base 0, refl, refl)), ((base 0, (base 0, refl, refl)), tt)); arguments = ((base 0, (base 0, refl, refl)), tt) };
   pattern = plus_asked;

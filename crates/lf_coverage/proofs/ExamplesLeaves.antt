@@ -20,7 +20,7 @@ use Rattle.lf_coverage.proofs.Examples.{goal_typed, plus_subordination}
 use Rattle.lf_coverage.proofs.ExamplesUnified.{plus_unified}
 use Rattle.lf_coverage.proofs.Leaves.{leaves_cover, head_is_typed}
 
-zero_leaf : IsInstanceLeaf Addition [] plus_heads plus_zero_case
+pub zero_leaf : IsInstanceLeaf Addition [] plus_heads plus_zero_case
 zero_leaf = record {
   typed = record { items = (tt, (_, refl, tt)); given = tt; arguments = ((base 0, (base 0, refl, refl)), ((base 0, (base 0, refl, refl)), tt)) };
   pattern = head_pattern plus_z (of_constant plus_z.type);
@@ -60,7 +60,7 @@ successor_instance = (
     all (suc zero) A (B, q, r) = subst (λ X. var 1 ≡ as_term (skeleton X) (keep 1)) (sym r) (subst (λ X. var 1 ≡ as_term (skeleton (weaken X)) (keep 1)) (sym q) refl)
     all (suc (suc i)) A (B, (C, g, r), r') = absurd g
 
-successor_leaf : IsInstanceLeaf Addition [] plus_heads plus_successor_case
+pub successor_leaf : IsInstanceLeaf Addition [] plus_heads plus_successor_case
 successor_leaf = record {
   typed = record { items = ((tt, (_, refl, tt)), (_, refl, tt)); given = tt; arguments = ((base 0, (arrow (base 0) (base 0), refl, ((base 0, refl, refl), refl))), ((base 0, (base 0, refl, refl)), tt)) };
   pattern = head_pattern plus_s (of_constant plus_s.type);

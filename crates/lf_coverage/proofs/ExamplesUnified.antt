@@ -15,7 +15,7 @@ use Rattle.lf_unification.specs.Unifiers.{Store, on_left}
 use Rattle.lf_unification.proofs.Runs.{run_keeps_unifiers}
 use Rattle.lf_cases.specs.Missing.{AreTypedItems}
 use Rattle.lf_cases.specs.Reached.{constant_head}
-use Rattle.lf_totality.specs.Examples.{Addition, nat, z, successor, var, first_below_second}
+use Rattle.lf_totality.specs.Examples.{Addition, nat, z, successor, var, first_below_second, plus_zero_case, plus_successor_case, plus_input_goal}
 use Rattle.lf_totality.specs.ExamplesGroups.{on_one, one_kind, first_three}
 use Rattle.lf_totality.specs.ExamplesBlocks.{Numbered, numbered_types, numbered_kinds, a_z}
 use Rattle.lf_totality.specs.ExamplesSplits.{successor_items}
@@ -25,8 +25,12 @@ use Rattle.lf_cases.specs.Case.{Case}
 use Rattle.lf_coverage.specs.Heads.{ArgumentsAreBelow, IsTypedCase, with_case, no_offer}
 use Rattle.lf_coverage.specs.SplitStore.{split_store, context_metavariables}
 use Rattle.lf_coverage.specs.Examples.{PlusIsSplitByUnification, SuccessorGivesNone}
-use Rattle.lf_coverage.proofs.Examples.{plus_offers, plus_are_offers, plus_in_order, two, each_head}
+use Rattle.lf_coverage.specs.UnifiedSplit.{IsSolvedSplit}
+use Rattle.lf_coverage.proofs.Examples.{plus_offers, plus_are_offers, plus_in_order, two, each_head, goal_typed}
 use Rattle.lf_coverage.proofs.NoCase.{never_gives_no_case}
+use Rattle.lf_coverage.specs.ExamplesTyped.{SuccessorIsSplit}
+use Rattle.lf_totality.specs.Examples.{plus_input_goal}
+use Rattle.lf_coverage.proofs.SolvedSplit.{solved_splits}
 use Rattle.lf_coverage.proofs.Unified.{never_gives}
 
 some_term : {M N : Term} → Some M ≡ Some N → M ≡ N
@@ -205,9 +209,25 @@ plus_unified = record {
   in_order = plus_in_order;
   listed =
       with_case
-      (record { kind = star; of_family = refl; no_block = tt; typed_items = ((tt, (star, refl, tt)), (star, refl, tt)); families = (refl, (refl, tt)); finds = (after_zero, zero_solved, refl) })
-      (with_case (record { kind = star; of_family = refl; no_block = tt; typed_items = (((tt, (star, refl, tt)), (star, refl, tt)), (star, refl, tt)); families = (refl, (refl, (refl, tt))); finds = (after_successor, successor_solved, refl) }) no_offer);
+      (record { kind = star; of_family = refl; no_block = tt; families = (refl, (refl, tt)); finds = (after_zero, zero_solved, refl) })
+      (with_case (record { kind = star; of_family = refl; no_block = tt; families = (refl, (refl, (refl, tt))); finds = (after_successor, successor_solved, refl) }) no_offer);
 }
+
+pub plus_solved : IsSolvedSplit Addition [] first_below_second plus_input_goal 1 (plus_zero_case ∷ plus_successor_case ∷ [])
+plus_solved = record {
+  type = nat;
+  at = (nat, refl, refl);
+  is_free = refl;
+  takes_below = tt;
+  offers = plus_offers;
+  are_offers = plus_are_offers;
+  in_order = plus_in_order;
+  arguments_below = each_head (λ I n h A. ArgumentsAreBelow first_below_second A) tt (refl, tt);
+  listed = with_case (record { kind = star; of_family = refl; no_block = tt; finds = (after_zero, zero_solved, refl) }) (with_case (record { kind = star; of_family = refl; no_block = tt; finds = (after_successor, successor_solved, refl) }) no_offer);
+}
+
+pub successor_is_split : SuccessorIsSplit
+successor_is_split = solved_splits Addition addition_ok [] (λ B m. absurd m) first_below_second plus_input_goal goal_typed 1 nat (nat, refl, refl) two 0 (constant 1) (pi nat nat) (constant_head 1 (pi nat nat) refl refl) tt star after_successor successor_solved
 
 -- s X = z
 never_successor : Never Numbered [] (split_store first_below_second 0 (on_one 2 (successor (var 1))) successor_items 0 (constant 2) a_z.type one_kind)
@@ -250,6 +270,6 @@ case_typed = record { items = successor_typed_items; given = tt; arguments = tt 
 pub successor_none : SuccessorGivesNone
 successor_none = (
   never_successor,
-  never_gives Numbered numbered_ok [] (λ B m. absurd m) first_below_second first_three three_contained split_case case_typed 0 (on_one 2 (successor (var 1))) refl successor_items 0 (constant 2) a_z.type (constant_head 2 a_z.type refl refl) tt successor_typed_items (refl, (refl, tt)) one_kind never_successor,
-  never_gives_no_case Numbered numbered_ok [] (λ B m. absurd m) first_below_second split_case case_typed 0 (on_one 2 (successor (var 1))) refl successor_items 0 (constant 2) a_z.type (constant_head 2 a_z.type refl refl) tt successor_typed_items one_kind never_successor,
+  never_gives Numbered numbered_ok [] (λ B m. absurd m) first_below_second first_three three_contained split_case case_typed 0 (on_one 2 (successor (var 1))) refl successor_items 0 (constant 2) a_z.type (constant_head 2 a_z.type refl refl) tt (refl, (refl, tt)) one_kind never_successor,
+  never_gives_no_case Numbered numbered_ok [] (λ B m. absurd m) first_below_second split_case case_typed 0 (on_one 2 (successor (var 1))) refl successor_items 0 (constant 2) a_z.type (constant_head 2 a_z.type refl refl) tt one_kind never_successor,
 )

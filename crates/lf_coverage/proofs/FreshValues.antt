@@ -1,11 +1,11 @@
 -- Values of some variables of a context, with fresh variables of their types for the others, in a context that is longer by these.
 use Rattle.std.proofs.Common.{◌≡◌, ℕ, zero, suc, List, [], ◌∷◌, length, refl, sym, ap, ◌∙◌, subst, true≢false}
 use Rattle.std.specs.Prelude.{Bool, true, false, Option, Some, None}
-use Rattle.lf.specs.Syntax.{Term, Spine, nil, app, LfType, pi, atom, rename, rename_spine, rename_type, lift_renaming, skeleton}
+use Rattle.lf.specs.Syntax.{Term, Spine, nil, app, LfType, pi, atom, rename, rename_spine, rename_type}
 use Rattle.lf.specs.Substitution.{Image, keep, put, lift, rename_image, substitute, substitute_spine, substitute_type, reduce}
 use Rattle.lf.specs.AtOnce.{in_front, lift_renaming_by}
-use Rattle.lf.specs.Typing.{Signature, TypeAt, HasType, ImageHasType, IsTypedRenaming, IsTypedSubstitution, IsType, IsContext, IsSignature}
-use Rattle.lf.specs.Variables.{target_arguments, binders, Values, SameOn, UsesType, under}
+use Rattle.lf.specs.Typing.{Signature, TypeAt, ImageHasType, IsTypedRenaming, IsTypedSubstitution, IsContext, IsSignature}
+use Rattle.lf.specs.Variables.{target_arguments, binders, Values, SameOn, under}
 use Rattle.lf.specs.Subordination.{Block, AreTypedBlocks}
 use Rattle.lf.specs.Worlds.{lift_over}
 use Rattle.lf.proofs.Agreement.{SameOn-under, agree_on, agree_on_type}

@@ -77,7 +77,7 @@ places_put_in σ (Some M ∷ Ms) = ap (λ b. true ∷ b) (places_put_in σ Ms)
 places_put_in σ (None ∷ Ms) = ap (λ b. false ∷ b) (places_put_in σ Ms)
 
 -- putting values in keeps skeletons
-put_in_fits : (κ : HeadSkeletons) (Γ Δ : List Skeleton) (σ : ℕ → Image) (Ms : List (Option Term)) → SubstitutionBySkeletons κ Γ Δ σ → HaveSkeletons κ Γ Ms → HaveSkeletons κ Δ (put_in σ Ms)
+pub put_in_fits : (κ : HeadSkeletons) (Γ Δ : List Skeleton) (σ : ℕ → Image) (Ms : List (Option Term)) → SubstitutionBySkeletons κ Γ Δ σ → HaveSkeletons κ Γ Ms → HaveSkeletons κ Δ (put_in σ Ms)
 put_in_fits κ Γ Δ σ [] f h = tt
 put_in_fits κ Γ Δ σ (Some M ∷ Ms) f ((a, m), h) = ((a, substitution_keeps_skeletons κ Γ Δ σ M a f m), put_in_fits κ Γ Δ σ Ms f h)
 put_in_fits κ Γ Δ σ (None ∷ Ms) f h = put_in_fits κ Γ Δ σ Ms f h

@@ -180,7 +180,7 @@ none_among [] B θ n b = b
 none_among (free_variable A ∷ J) B θ n (τ, b, e) = none_among J B τ n b
 none_among (block_variable C υ ∷ J) B θ n b = n
 
-none_before : (Σ : Signature) (J I : List Item) (σ : ℕ → Image) → HasNoBlockVariable J → IsTypedInstance Σ J I σ → HasNoBlockVariable I
+pub none_before : (Σ : Signature) (J I : List Item) (σ : ℕ → Image) → HasNoBlockVariable J → IsTypedInstance Σ J I σ → HasNoBlockVariable I
 none_before Σ J [] σ n g = tt
 none_before Σ J (free_variable A ∷ I) σ n (N, τ, g, t, e) = none_before Σ J I τ n g
 none_before Σ J (block_variable B υ ∷ I) σ n (θ, τ, g, b, s, e) = none_among J B θ n b

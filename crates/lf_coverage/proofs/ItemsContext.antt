@@ -16,7 +16,7 @@ outer_context Σ [] O c = c
 outer_context Σ (E ∷ es) O c = outer_context Σ es O c.0
 
 module _ (Σ : Signature) (ok : IsSignature Σ) where
-  instance_context : (es O C : List LfType) (υ : ℕ → Image) → IsContext Σ C → TypedSubstitution Σ ok O C υ → IsContext Σ (onto es O) → IsContext Σ (onto (instance es υ) C) × TypedSubstitution Σ ok (onto es O) (onto (instance es υ) C) (lift_over es υ)
+  pub instance_context : (es O C : List LfType) (υ : ℕ → Image) → IsContext Σ C → TypedSubstitution Σ ok O C υ → IsContext Σ (onto es O) → IsContext Σ (onto (instance es υ) C) × TypedSubstitution Σ ok (onto es O) (onto (instance es υ) C) (lift_over es υ)
   instance_context [] O C υ c t o = (c, t)
   instance_context (E ∷ es) O C υ c t (o, e) =
       let (d, s) = instance_context es O C υ c t o in

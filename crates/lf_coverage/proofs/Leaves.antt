@@ -41,7 +41,7 @@ use Rattle.lf_coverage.proofs.Transfer.{instance_fits, fits_more, have_more}
 use Rattle.lf_coverage.proofs.Unified.{unified_split}
 
 -- the arguments of a subgoal, under its local variables
-goal_arguments : (D : List LfType) (A : LfType) (s : ℕ → Image) → target_arguments (substitute_type reduce (lift_over D s) A) ≡ substitute_spine reduce (lift_over (binders D A) s) (target_arguments A)
+pub goal_arguments : (D : List LfType) (A : LfType) (s : ℕ → Image) → target_arguments (substitute_type reduce (lift_over D s) A) ≡ substitute_spine reduce (lift_over (binders D A) s) (target_arguments A)
 goal_arguments D (pi B A) s = goal_arguments (B ∷ D) A s
 goal_arguments D (atom a S) s = refl
 

@@ -1,6 +1,6 @@
 -- A typed instance that a case and a pattern share, with a value for each variable of the clause, is a typed unifier of their store.
 use Rattle.std.proofs.Common.{◌≡◌, ℕ, zero, suc, List, [], ◌∷◌, ◌+◌, length, inl, inr, refl, sym, ap, ap₂, ◌∙◌, subst, arith}
-use Rattle.std.specs.Prelude.{Bool, true, Option, Some, None, ◌⊎◌}
+use Rattle.std.specs.Prelude.{Option, Some, None, ◌⊎◌}
 use Rattle.lf.specs.Syntax.{variable, Term, Spine, nil, app, LfType, pi, atom, Kind, kind_pi, star, Skeleton, skeleton, weaken, rename_spine, rename_type}
 use Rattle.lf.specs.Substitution.{Image, keep, put, rename_image, substitute, substitute_type, reduce}
 use Rattle.lf.specs.SkeletonTyping.{HeadSkeletons, ImageSkeleton, TermSkeleton, TypeBySkeletons, RenamingBySkeletons, SubstitutionBySkeletons}
@@ -9,7 +9,7 @@ use Rattle.lf.specs.AtOnce.{shift_by, lift_renaming_by}
 use Rattle.lf.specs.Eta.{eta_long}
 use Rattle.lf.specs.Typing.{Signature, TypeAt, HasType, IsTypedSubstitution, IsType, IsContext, IsSignature, instantiate_kind}
 use Rattle.lf.specs.Variables.{target, target_arguments, onto, binders}
-use Rattle.lf.specs.Subordination.{Block, AreTypedBlocks}
+use Rattle.lf.specs.Subordination.{Block}
 use Rattle.lf.specs.Worlds.{lift_over, instance}
 use Rattle.lf.proofs.Eta.{eta_expand_has_skeleton}
 use Rattle.lf.proofs.SkeletonTypes.{renaming_keeps_types_by_skeletons}
@@ -22,14 +22,14 @@ use Rattle.lf_unification.specs.Offering.{pi_over}
 use Rattle.lf_unification.specs.OpenTyping.{IsInstance, ValueHasType, skeletons_of, under_locals, fill_locals}
 use Rattle.lf_unification.specs.Skeletons.{skeleton_or_default}
 use Rattle.lf_unification.specs.Solving.{Never}
-use Rattle.lf_unification.specs.Unifiers.{Equation, Solution, SolvesAll}
+use Rattle.lf_unification.specs.Unifiers.{Equation, SolvesAll}
 use Rattle.lf_unification.proofs.Raise.{fill_pis}
 use Rattle.lf_checks.specs.Clause.{Clause, scope}
 use Rattle.lf_checks.specs.Marks.{SamePlaces}
 use Rattle.lf_cases.specs.Case.{Item, Case, items_context, as_term, HasArguments, covered_places}
-use Rattle.lf_cases.specs.Pattern.{Origin, of_constant, of_entry, Pattern, given_at, HasGiven}
+use Rattle.lf_cases.specs.Pattern.{Origin, of_constant, of_entry, Pattern, given_at}
 use Rattle.lf_cases.specs.OutputGoal.{renumber}
-use Rattle.lf_cases.specs.Missing.{AreTypedItems, CommonInstance, blocks_with}
+use Rattle.lf_cases.specs.Missing.{AreTypedItems, blocks_with}
 use Rattle.lf_cases.proofs.LongValues.{term_typed}
 use Rattle.lf_cases.proofs.OutputItems.{lifted}
 use Rattle.lf_coverage.specs.Heads.{HaveSkeletons, IsTypedCase}
@@ -46,17 +46,17 @@ use Rattle.lf_coverage.proofs.StoreSolution.{looked_up, found_type, skeleton_ope
 use mathlib.Core.Path.{fun_ext}
 
 -- the values of two contexts, the first in front of the second
-abbrev joined : List LfType → (ℕ → Image) → (ℕ → Image) → ℕ → Image
+abbrev pub joined : List LfType → (ℕ → Image) → (ℕ → Image) → ℕ → Image
 joined [] σ τ i = τ i
 joined (A ∷ O) σ τ zero = σ zero
 joined (A ∷ O) σ τ (suc i) = joined O (λ j. σ (suc j)) τ i
 
-joined_near : (O : List LfType) (σ τ : ℕ → Image) (i : ℕ) (A : LfType) → TypeAt O i A → joined O σ τ i ≡ σ i
+pub joined_near : (O : List LfType) (σ τ : ℕ → Image) (i : ℕ) (A : LfType) → TypeAt O i A → joined O σ τ i ≡ σ i
 joined_near [] σ τ i A g = absurd g
 joined_near (B ∷ O) σ τ zero A e = refl
 joined_near (B ∷ O) σ τ (suc i) A (C, g, e) = joined_near O (λ j. σ (suc j)) τ i C g
 
-joined_far : (O : List LfType) (σ τ : ℕ → Image) (i : ℕ) → joined O σ τ (i + length O) ≡ τ i
+pub joined_far : (O : List LfType) (σ τ : ℕ → Image) (i : ℕ) → joined O σ τ (i + length O) ≡ τ i
 joined_far [] σ τ i = ap τ (none i)
   where
     none : (i : ℕ) → i + 0 ≡ i
@@ -67,12 +67,12 @@ joined_far (B ∷ O) σ τ i = ap (joined (B ∷ O) σ τ) (next i (length O)) �
     next i n = omega arith
 
 -- a variable of both is one of the first, or one of the second, moved
-near_type : (O Q : List LfType) (i : ℕ) (A : LfType) → TypeAt O i A → TypeAt (onto O Q) i A
+pub near_type : (O Q : List LfType) (i : ℕ) (A : LfType) → TypeAt O i A → TypeAt (onto O Q) i A
 near_type [] Q i A g = absurd g
 near_type (B ∷ O) Q zero A e = e
 near_type (B ∷ O) Q (suc i) A (C, g, e) = (C, near_type O Q i C g, e)
 
-which_type : (O Q : List LfType) (i : ℕ) (A : LfType) → TypeAt (onto O Q) i A → TypeAt O i A ⊎ ((k : ℕ) × (B : LfType) × TypeAt Q k B × (i ≡ k + length O) × (A ≡ rename_type (shift_by (length O)) B))
+pub which_type : (O Q : List LfType) (i : ℕ) (A : LfType) → TypeAt (onto O Q) i A → TypeAt O i A ⊎ ((k : ℕ) × (B : LfType) × TypeAt Q k B × (i ≡ k + length O) × (A ≡ rename_type (shift_by (length O)) B))
 which_type [] Q i A g = inr (i, A, g, none i, sym (no_shift_type A))
   where
     none : (i : ℕ) → i ≡ i + 0
@@ -99,7 +99,7 @@ module _ (Σ : Signature) (μ : ℕ → Skeleton) (β : ℕ → Option Term) (Y 
       let (s, b) = stands i A h in
       inl (i, refl, s ∙ e, b ∙ ap (λ a. Some (as_term a (σ i))) e, fits_image (constant_skeletons Σ) (context_skeletons G) (σ i) t (fits i t k))
 
-  stand_under : (L : List LfType) → AllStand Σ μ (length L) (context_skeletons (onto L Y)) (lift_over L σ) (under_locals L β)
+  pub stand_under : (L : List LfType) → AllStand Σ μ (length L) (context_skeletons (onto L Y)) (lift_over L σ) (under_locals L β)
   stand_under [] = all_stand
   stand_under (A ∷ L) = all_lifted Σ μ (length L) (context_skeletons (onto L Y)) (skeleton A) (lift_over L σ) (under_locals L β) (stand_under L)
 
@@ -110,7 +110,7 @@ module _ (Σ : Signature) (μ : ℕ → Skeleton) (β : ℕ → Option Term) (Y 
   type_filled A k = fill_open_type Σ μ (family_skeletons Σ) zero (context_skeletons Y) (context_skeletons G) σ β all_stand fits A k
 
 -- the filling under a local context depends on how long this is
-under_same : (β : ℕ → Option Term) (D E : List LfType) → length D ≡ length E → under_locals D β ≡ under_locals E β
+pub under_same : (β : ℕ → Option Term) (D E : List LfType) → length D ≡ length E → under_locals D β ≡ under_locals E β
 under_same β [] [] e = refl
 under_same β [] (B ∷ E) e = absurd cc
 under_same β (A ∷ D) [] e = absurd cc
@@ -119,20 +119,20 @@ under_same β (A ∷ D) (B ∷ E) e = ap (Rattle.lf_unification.specs.Filling.mo
     inside : suc (length D) ≡ suc (length E) → length D ≡ length E
     inside e = cc
 
-open_length : (D : List LfType) → length (open_locals D) ≡ length D
+pub open_length : (D : List LfType) → length (open_locals D) ≡ length D
 open_length [] = refl
 open_length (A ∷ D) = ap suc (open_length D)
 
-renumber_length : (ρ : ℕ → ℕ) (D : List LfType) → length (renumber ρ D) ≡ length D
+pub renumber_length : (ρ : ℕ → ℕ) (D : List LfType) → length (renumber ρ D) ≡ length D
 renumber_length ρ [] = refl
 renumber_length ρ (A ∷ D) = ap suc (renumber_length ρ D)
 
 -- the quantifiers and the arguments of a type that is renamed
-binders_renumbered : (ρ : ℕ → ℕ) (D : List LfType) (A : LfType) → binders (renumber ρ D) (rename_type (lift_renaming_by (length D) ρ) A) ≡ renumber ρ (binders D A)
+pub binders_renumbered : (ρ : ℕ → ℕ) (D : List LfType) (A : LfType) → binders (renumber ρ D) (rename_type (lift_renaming_by (length D) ρ) A) ≡ renumber ρ (binders D A)
 binders_renumbered ρ D (pi A B) = binders_renumbered ρ (A ∷ D) B
 binders_renumbered ρ D (atom a S) = refl
 
-arguments_renamed : (ρ : ℕ → ℕ) (D : List LfType) (A : LfType) → target_arguments (rename_type (lift_renaming_by (length D) ρ) A) ≡ rename_spine (lift_renaming_by (length (binders D A)) ρ) (target_arguments A)
+pub arguments_renamed : (ρ : ℕ → ℕ) (D : List LfType) (A : LfType) → target_arguments (rename_type (lift_renaming_by (length D) ρ) A) ≡ rename_spine (lift_renaming_by (length (binders D A)) ρ) (target_arguments A)
 arguments_renamed ρ D (pi A B) = arguments_renamed ρ (A ∷ D) B
 arguments_renamed ρ D (atom a S) = refl
 
@@ -172,7 +172,7 @@ module _ (Σ : Signature) (ok : IsSignature Σ) (O Q G : List LfType) (co : IsCo
   second_fits : SubstitutionBySkeletons (constant_skeletons Σ) (context_skeletons Q) (context_skeletons G) τ
   second_fits = typed_substitution_by_skeletons Σ ok Q G τ tt'
 
-  both_fit : SubstitutionBySkeletons (constant_skeletons Σ) (context_skeletons (onto O Q)) (context_skeletons G) (joined O σ τ)
+  pub both_fit : SubstitutionBySkeletons (constant_skeletons Σ) (context_skeletons (onto O Q)) (context_skeletons G) (joined O σ τ)
   both_fit i t k = let (A, h, e) = skeleton_has_variable (onto O Q) i t k in by A e (which_type O Q i A h)
     where
       by : (A : LfType) → skeleton A ≡ t → TypeAt O i A ⊎ ((k : ℕ) × (B : LfType) × TypeAt Q k B × (i ≡ k + length O) × (A ≡ rename_type (shift_by (length O)) B)) → ImageSkeleton (constant_skeletons Σ) (context_skeletons G) (joined O σ τ i) t
@@ -219,9 +219,9 @@ module _ (Σ : Signature) (ok : IsSignature Σ) (O Q G : List LfType) (co : IsCo
               subst (λ x. HasType Σ G (as_term (skeleton A) x) (fill_type μ β (open_type zero A))) (sym (ap (joined O σ τ) q ∙ joined_far O σ τ k)) (subst (λ a. HasType Σ G (as_term a (τ k)) (fill_type μ β (open_type zero A))) (sym (ap skeleton r ∙ skeleton_renamed (shift_by (length O)) B)) w)
 
   -- what is given is solved
-  given_solved : (Ms : List (Option Term)) (m : ℕ) → HaveSkeletons (constant_skeletons Σ) (context_skeletons O) Ms → ((i : ℕ) (M : Term) → given_at Ms i ≡ Some M → (a : Skeleton) × (joined O σ τ (i + m) ≡ put a (substitute reduce σ M))) → SolvesAll μ β (given_equations (onto O Q) m Ms)
+  given_solved : (Ms : List (Option Term)) (m : ℕ) → HaveSkeletons (constant_skeletons Σ) (context_skeletons O) Ms → ((i : ℕ) (M : Term) (A : LfType) → given_at Ms i ≡ Some M → TypeAt (onto O Q) (i + m) A → (a : Skeleton) × (joined O σ τ (i + m) ≡ put a (substitute reduce σ M))) → SolvesAll μ β (given_equations (onto O Q) m Ms)
   given_solved [] m h g = tt
-  given_solved (None ∷ Ms) m h g = by (type_in (onto O Q) m) (given_solved Ms (suc m) h (λ i M e. let (a, q) = g (suc i) M e in (a, ap (joined O σ τ) (next i m) ∙ q)))
+  given_solved (None ∷ Ms) m h g = by (type_in (onto O Q) m) (given_solved Ms (suc m) h (λ i M A e k. let (a, q) = g (suc i) M A e (subst (λ j. TypeAt (onto O Q) j A) (next i m) k) in (a, ap (joined O σ τ) (next i m) ∙ q)))
     where
       next : (i m : ℕ) → i + suc m ≡ suc i + m
       next i m = omega arith
@@ -229,7 +229,7 @@ module _ (Σ : Signature) (ok : IsSignature Σ) (O Q G : List LfType) (co : IsCo
       by : (y : Option LfType) → SolvesAll μ β (given_equations (onto O Q) (suc m) Ms) → SolvesAll μ β (one_given m y None (given_equations (onto O Q) (suc m) Ms))
       by None rest = rest
       by (Some A) rest = rest
-  given_solved (Some M ∷ Ms) m ((t, n), h) g = by (type_in (onto O Q) m) refl (given_solved Ms (suc m) h (λ i M e. let (a, q) = g (suc i) M e in (a, ap (joined O σ τ) (next i m) ∙ q)))
+  given_solved (Some M ∷ Ms) m ((t, n), h) g = by (type_in (onto O Q) m) refl (given_solved Ms (suc m) h (λ i M A e k. let (a, q) = g (suc i) M A e (subst (λ j. TypeAt (onto O Q) j A) (next i m) k) in (a, ap (joined O σ τ) (next i m) ∙ q)))
     where
       next : (i m : ℕ) → i + suc m ≡ suc i + m
       next i m = omega arith
@@ -241,7 +241,7 @@ module _ (Σ : Signature) (ok : IsSignature Σ) (O Q G : List LfType) (co : IsCo
       by None e rest = rest
       by (Some A) e rest =
           let k = variable_has_skeleton (onto O Q) m A (found_type (onto O Q) m A e) in
-          let (a, q) = g zero M refl in (
+          let (a, q) = g zero M A refl (subst (λ j. TypeAt (onto O Q) j A) (first m) (found_type (onto O Q) m A e)) in (
             term_filled Σ μ β (onto O Q) G (joined O σ τ) both_fit both_stand [] (eta_long (skeleton A) (variable m)) (skeleton A) (eta_expand_has_skeleton (constant_skeletons Σ) (skeleton A) (skeleton A) (context_skeletons (onto O Q)) (variable m) nil k refl)
                 ∙ value_at (constant_skeletons Σ) (context_skeletons G) (skeleton A) (joined O σ τ) m (both_fit m (skeleton A) k)
                 ∙ ap (as_term (skeleton A)) (ap (joined O σ τ) (first m) ∙ q)
@@ -274,12 +274,12 @@ module _ (Σ : Signature) (ok : IsSignature Σ) (O Q G : List LfType) (co : IsCo
       ∙ sym (ap target_arguments filled ∙ arguments_over (fill_locals μ β (open_locals D)) (atom (target b) (fill_spine μ (under_locals (open_locals D) β) (open_spine (length D) S))))
 
 -- the blocks of a constant's clause are those of the worlds
-no_block_with : (Σ : Signature) (W : List Block) {c : Clause} (o : Origin c) (I : List Item) → IsConstants o → AreTypedItems Σ (blocks_with o W) I → AreTypedItems Σ W I
+pub no_block_with : (Σ : Signature) (W : List Block) {c : Clause} (o : Origin c) (I : List Item) → IsConstants o → AreTypedItems Σ (blocks_with o W) I → AreTypedItems Σ W I
 no_block_with Σ W (of_constant U) I i a = a
 no_block_with Σ W (of_entry B later E es e) I i a = absurd i
 
 -- Typed values of the case and of the clause that make the arguments at the covered places the same solve the store.
-never_with : (Σ : Signature) (ok : IsSignature Σ) (W : List Block) (C : Case) → IsTypedCase Σ W C → (p : Pattern) → IsTypedPattern Σ p → length C.local ≡ length (binders [] p.type) → (K : Kind) → Never Σ [] (meet_store C p K) → IsContext Σ (items_context C.items) → (G : List LfType) → IsContext Σ G → (σ : ℕ → Image) → IsTypedSubstitution Σ (items_context C.items) G σ → (τ : ℕ → Image) → IsTypedSubstitution Σ (scope p.clause) G τ → (T : Spine) → HasArguments (lift_over C.local σ) C.arguments T → SamePlaces (covered_places C.arguments) T (target_arguments (substitute_type reduce τ p.type)) → HasGiven σ C.given τ → ⊥
+pub never_with : (Σ : Signature) (ok : IsSignature Σ) (W : List Block) (C : Case) → IsTypedCase Σ W C → (p : Pattern) → IsTypedPattern Σ p → length C.local ≡ length (binders [] p.type) → (K : Kind) → Never Σ [] (meet_store C p K) → IsContext Σ (items_context C.items) → (G : List LfType) → IsContext Σ G → (σ : ℕ → Image) → IsTypedSubstitution Σ (items_context C.items) G σ → (τ : ℕ → Image) → IsTypedSubstitution Σ (scope p.clause) G τ → (T : Spine) → HasArguments (lift_over C.local σ) C.arguments T → SamePlaces (covered_places C.arguments) T (target_arguments (substitute_type reduce τ p.type)) → ((i : ℕ) (M : Term) (A : LfType) → given_at C.given i ≡ Some M → TypeAt (onto (items_context C.items) (scope p.clause)) (i + length (items_context C.items)) A → (a : Skeleton) × (τ i ≡ put a (substitute reduce σ M))) → ⊥
 never_with Σ ok W C tc p tp l K never co G cg σ ts τ tv T h e g =
     let O : List LfType = items_context C.items in
     let Q : List LfType = scope p.clause in
@@ -291,12 +291,12 @@ never_with Σ ok W C tc p tp l K never co G cg σ ts τ tv T h e g =
     let le : length E ≡ length C.local = open_length (renumber (shift_by (length O)) D) ∙ renumber_length (shift_by (length O)) D ∙ sym l in
     let same : SamePlaces (covered_places C.arguments) T (fill_spine ms (under_locals E bs) S) = subst (SamePlaces (covered_places C.arguments) T) (sym (pattern_filled Σ ok O Q G co tp.clause_typed cg σ τ ts tv p.type tp.type_typed)) e in
     let places : SolvesAll ms bs (place_equations E (open_arguments (length C.local) C.arguments) S K) = places_solved Σ ok O Q G co tp.clause_typed cg σ τ ts tv C.local E le C.arguments S T K tc.arguments h same in
-    let given : SolvesAll ms bs (given_equations (onto O Q) (length O) C.given) = given_solved Σ ok O Q G co tp.clause_typed cg σ τ ts tv C.given (length O) tc.given (λ k M q. let (a, r) = g k M q in (a, joined_far O σ τ k ∙ r)) in
+    let given : SolvesAll ms bs (given_equations (onto O Q) (length O) C.given) = given_solved Σ ok O Q G co tp.clause_typed cg σ τ ts tv C.given (length O) tc.given (λ k M A q z. let (a, r) = g k M A q z in (a, joined_far O σ τ k ∙ r)) in
     never G bs (are_instance Σ ok O Q G co tp.clause_typed cg σ τ ts tv, (tt, solves_both ms bs (given_equations (onto O Q) (length O) C.given) (place_equations E (open_arguments (length D) C.arguments) S K) given (subst (λ n. SolvesAll ms bs (place_equations E (open_arguments n C.arguments) S K)) l places)))
 
 pub never_shares_all : NeverSharesAll
 never_shares_all Σ ok W typed C tc nc p tp i l K never s all =
-    never_with Σ ok W C tc p tp l K never (items_are_context Σ ok W typed C.items tc.items) (items_context s.items) (items_are_context Σ ok W typed s.items (no_block_with Σ W p.origin s.items i s.typed_items)) s.case_values (instance_is_typed Σ ok W typed s.items C.items s.case_values nc s.is_instance) s.clause_values (λ k A g. s.typed_values.typed k A g (all k A g)) s.tuple s.of_case s.of_clause s.given
+    never_with Σ ok W C tc p tp l K never (items_are_context Σ ok W typed C.items tc.items) (items_context s.items) (items_are_context Σ ok W typed s.items (no_block_with Σ W p.origin s.items i s.typed_items)) s.case_values (instance_is_typed Σ ok W typed s.items C.items s.case_values nc s.is_instance) s.clause_values (λ k A g. s.typed_values.typed k A g (all k A g)) s.tuple s.of_case s.of_clause (λ k M A q z. s.given k M q)
 
 -- Where nothing is given, fresh variables stand for those that an instance gives no value.
 pub never_is_apart : NeverIsApart
@@ -311,7 +311,7 @@ never_is_apart Σ ok W typed C tc nc p tp i l none K never s =
     (rename_spine (lift_renaming_by (length C.local) f.moves) s.tuple)
     (arguments_moved C.local f.moves s.case_values C.arguments s.tuple s.of_case)
     (subst (λ n. SamePlaces (covered_places C.arguments) (rename_spine (lift_renaming_by n f.moves) s.tuple) (target_arguments (substitute_type reduce f.values p.type))) (sym l) same)
-    (subst (λ Ms. HasGiven (λ k. rename_image f.moves (s.case_values k)) Ms f.values) (sym none) (λ k M e. absurd (none_is e)))
+    (λ k M A e z. absurd (none_is (sym (ap (λ Ms. given_at Ms k) none) ∙ e)))
   where
     none_is : {M : Term} → None ≡ Some M → ⊥
     none_is e = cc

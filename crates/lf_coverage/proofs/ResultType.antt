@@ -48,10 +48,10 @@ spine_renumber ks ρ D (pi A B) = ap₂ app (ap₂ (λ k S. eta_expand (skeleton
 spine_renumber ks ρ D (atom a S) = refl
 
 -- what is left for the next argument
-abbrev next_type : List (List Bool) → List LfType → LfType → LfType → LfType
+abbrev pub next_type : List (List Bool) → List LfType → LfType → LfType → LfType
 next_type ks D A B = instantiate_type A (raised_variable (first_mask ks) D A zero) (rename_type (lift_renaming (over_item D)) B)
 
-next_spine : (ks : List (List Bool)) (D : List LfType) (A B : LfType) → head_spine (other_masks ks) (renumber suc D) (next_type ks D A B) ≡ head_spine (other_masks ks) D B
+pub next_spine : (ks : List (List Bool)) (D : List LfType) (A B : LfType) → head_spine (other_masks ks) (renumber suc D) (next_type ks D A B) ≡ head_spine (other_masks ks) D B
 next_spine ks D A B = spine_renumber (other_masks ks) suc D (next_type ks D A B) ∙ spine_substituted (other_masks ks) D (single (skeleton A) (raised_variable (first_mask ks) D A zero)) (rename_type (lift_renaming (over_item D)) B) ∙ spine_renamed (other_masks ks) D (lift_renaming (over_item D)) B
 
 pub next_count : (ks : List (List Bool)) (D : List LfType) (A B : LfType) → arguments_count (next_type ks D A B) ≡ arguments_count B
@@ -61,7 +61,7 @@ pub next_skeleton : (ks : List (List Bool)) (D : List LfType) (A B : LfType) →
 next_skeleton ks D A B = skeleton_substituted reduce (single (skeleton A) (raised_variable (first_mask ks) D A zero)) (rename_type (lift_renaming (over_item D)) B) ∙ skeleton_renamed (lift_renaming (over_item D)) B
 
 -- a raised variable further out is the same, moved
-low_moved : (k : List Bool) (D : List LfType) (ρ : ℕ → ℕ) → rename_spine (lift_renaming_by (length D) ρ) (locals_by k D) ≡ locals_by k D
+pub low_moved : (k : List Bool) (D : List LfType) (ρ : ℕ → ℕ) → rename_spine (lift_renaming_by (length D) ρ) (locals_by k D) ≡ locals_by k D
 low_moved k D ρ = sym (substitution_as_renaming_spine reduce (lift_renaming_by (length D) ρ) (locals_by k D)) ∙ ap (λ f. substitute_spine reduce f (locals_by k D)) (as_lift D) ∙ low_kept k D (λ i. keep (ρ i))
   where
     one : (f : ℕ → ℕ) (i : ℕ) → keep (lift_renaming f i) ≡ lift (λ j. keep (f j)) i
@@ -72,7 +72,7 @@ low_moved k D ρ = sym (substitution_as_renaming_spine reduce (lift_renaming_by 
     as_lift [] = refl
     as_lift (A ∷ D) = fun_ext (one (lift_renaming_by (length D) ρ)) ∙ ap lift (as_lift D)
 
-variable_moved : (k : List Bool) (D : List LfType) (B : LfType) (n j : ℕ) → rename (lift_renaming_by (length D) (shift_by j)) (raised_variable k D B n) ≡ raised_variable k D B (n + j)
+pub variable_moved : (k : List Bool) (D : List LfType) (B : LfType) (n j : ℕ) → rename (lift_renaming_by (length D) (shift_by j)) (raised_variable k D B n) ≡ raised_variable k D B (n + j)
 variable_moved k D B n j = rename_eta_expand (lift_renaming_by (length D) (shift_by j)) (skeleton B) (variable (n + length D)) (locals_by k D) ∙ ap₂ (λ i S. eta_expand (skeleton B) (variable i) S) (renaming_far (length D) (shift_by j) n) (low_moved k D (shift_by j))
 
 variable_under : (k : List Bool) (D : List LfType) (B : LfType) (φ : ℕ → Image) (m : ℕ) → substitute reduce (lift_over D (λ i. φ (i + m))) (raised_variable k D B zero) ≡ substitute reduce (lift_over D φ) (raised_variable k D B m)

@@ -51,7 +51,7 @@ use Rattle.lf_coverage.proofs.Strip.{strip, out_of, into, term_back}
 use mathlib.Core.Path.{fun_ext}
 
 -- Items that are free variables.
-free_context_is : (O : List LfType) → items_context (free_variables O) ≡ O
+pub free_context_is : (O : List LfType) → items_context (free_variables O) ≡ O
 free_context_is [] = refl
 free_context_is (A ∷ O) = ap (λ X. A ∷ X) (free_context_is O)
 
@@ -129,7 +129,7 @@ head_typed Σ ok W typed I ti x X at J n h A s = by s
     by (new_entry_head B j C m l k t) = let tj : AreTypedItems Σ W (with_block B I) = block_typed Σ ok W typed B m I ti in let p : TypeAt (items_context (with_block B I)) (x + (length B.some + length B.entries)) (rename_type (shift_by (length B.some + length B.entries)) X) = moved_at B I x X at in (tj, p, far (with_block B I) (length B.some + length B.entries) j C tj p k)
 
 -- the items stand behind those of a head, with their types
-behind_types : (ks : List (List Bool)) (D : List LfType) (n : ℕ) (A : LfType) (I : List Item) → arguments_count A ≡ n → (i : ℕ) (X : LfType) → TypeAt (items_context I) i X → TypeAt (items_context (head_items ks D n A I)) (i + n) (rename_type (shift_by n) X)
+pub behind_types : (ks : List (List Bool)) (D : List LfType) (n : ℕ) (A : LfType) (I : List Item) → arguments_count A ≡ n → (i : ℕ) (X : LfType) → TypeAt (items_context I) i X → TypeAt (items_context (head_items ks D n A I)) (i + n) (rename_type (shift_by n) X)
 behind_types ks D zero A I e i X g = subst (λ k. TypeAt (items_context I) k (rename_type (shift_by 0) X)) (none i) (subst (TypeAt (items_context I) i) (sym (no_shift_type X)) g)
   where
     none : (i : ℕ) → i ≡ i + 0
@@ -206,13 +206,13 @@ module _ (Σ : Signature) (ok : IsSignature Σ) (W : List Block) (typed : AreTyp
     abbrev γ : ℕ → Option Term
     γ = values μ1 order
 
-    without : HasNoBlockVariable J → HasNoBlockVariable P
+    pub without : HasNoBlockVariable J → HasNoBlockVariable P
     without nj = heads_without (head_masks below (taken (rename_type (shift_by n) X)) (arguments_count A) A) (arguments_count A) (taken (rename_type (shift_by n) X)) A J nj
 
-    answer : Solution Σ [] after O γ
+    pub answer : Solution Σ [] after O γ
     answer = well_formed_answer Σ ok after s.well_formed s.none_left
 
-    given : (β : ℕ → Option Term) × ExtendsFilling (context_metavariables (items_context P)) β γ × Solution Σ [] (split_store below x X J n h A K) O β
+    pub given : (β : ℕ → Option Term) × ExtendsFilling (context_metavariables (items_context P)) β γ × Solution Σ [] (split_store below x X J n h A K) O β
     given = s.keeps.sound O γ answer
 
     declared : (i : ℕ) (B : LfType) → TypeAt (items_context P) i B → context_metavariables (items_context P) i ≡ Some (open_type zero B)
@@ -233,13 +233,13 @@ module _ (Σ : Signature) (ok : IsSignature Σ) (W : List Block) (typed : AreTyp
     value_is : (i : ℕ) (B : LfType) (k : TypeAt (items_context P) i B) → answer_values after order i ≡ put (skeleton B) (value i B k).0
     value_is i B k = ap (answer_image (μ1 i)) ((value i B k).1) ∙ ap (λ a. put a (value i B k).0) (ap skeleton_or_default (declared_after i B k) ∙ skeleton_open zero B)
 
-    stand : AllStand Σ μ0 zero (context_skeletons (items_context P)) (answer_values after order) given.0
+    pub stand : AllStand Σ μ0 zero (context_skeletons (items_context P)) (answer_values after order) given.0
     stand i t k =
         let (B, b, e) = skeleton_has_variable (items_context P) i t k in
         let q : answer_values after order i ≡ put (skeleton B) (value i B b).0 = value_is i B b in
         inl (i, refl, ap skeleton_or_default (declared i B b) ∙ skeleton_open zero B ∙ e, (value i B b).2 ∙ ap Some (ap (as_term t) (sym q)), subst (FitsImage t) (sym q) e)
 
-    fits : SubstitutionBySkeletons (constant_skeletons Σ) (context_skeletons (items_context P)) (context_skeletons O) (answer_values after order)
+    pub fits : SubstitutionBySkeletons (constant_skeletons Σ) (context_skeletons (items_context P)) (context_skeletons O) (answer_values after order)
     fits i t k =
         let (B, b, e) = skeleton_has_variable (items_context P) i t k in
         let m : TermSkeleton (constant_skeletons Σ) (context_skeletons O) (value i B b).0 (skeleton B) = subst (TermSkeleton (constant_skeletons Σ) (context_skeletons O) (value i B b).0) (skeleton_fill μ0 given.0 (open_type zero B) ∙ skeleton_open zero B) (typed_has_skeleton Σ O (value i B b).0 (fill_type μ0 given.0 (open_type zero B)) ((value i B b).3)) in
@@ -248,11 +248,11 @@ module _ (Σ : Signature) (ok : IsSignature Σ) (W : List Block) (typed : AreTyp
     items_typed : IsContext Σ (items_context P)
     items_typed = items_are_context Σ ok W typed P aj
 
-    value_typed : (i : ℕ) (B : LfType) → TypeAt (items_context P) i B → (N : Term) × (answer_values after order i ≡ put (skeleton B) N) × HasType Σ (items_context (free_variables O)) N (substitute_type reduce (answer_values after order) B)
+    pub value_typed : (i : ℕ) (B : LfType) → TypeAt (items_context P) i B → (N : Term) × (answer_values after order i ≡ put (skeleton B) N) × HasType Σ (items_context (free_variables O)) N (substitute_type reduce (answer_values after order) B)
     value_typed i B k = ((value i B k).0, value_is i B k, subst (λ L. HasType Σ L (value i B k).0 (substitute_type reduce (answer_values after order) B)) (sym (free_context_is O)) (subst (HasType Σ O (value i B k).0) (fill_open_type Σ μ0 (family_skeletons Σ) zero (context_skeletons (items_context P)) (context_skeletons O) (answer_values after order) given.0 stand fits B (type_by_skeletons Σ (items_context P) B (declared_is_type Σ ok (items_context P) i B items_typed k))) ((value i B k).3)))
 
     -- each instance comes from the answer
-    kept : HasNoBlockVariable J → (Σ' : Signature) (e : Extends S Σ Σ') (G : List LfType) (w : World Σ' W S G) (τ : ℕ → Image) (m : MakesHead w below x X J n h A τ) → Keeps w P τ m.is_ground (free_variables O) (answer_values after order)
+    pub kept : HasNoBlockVariable J → (Σ' : Signature) (e : Extends S Σ Σ') (G : List LfType) (w : World Σ' W S G) (τ : ℕ → Image) (m : MakesHead w below x X J n h A τ) → Keeps w P τ m.is_ground (free_variables O) (answer_values after order)
     kept nj Σ' e G w τ m =
         let F : List LfType = strip S G in
         let β0 : ℕ → Option Term = filling Σ ok W typed S sc P aj fam Σ' e G w τ m.is_ground in

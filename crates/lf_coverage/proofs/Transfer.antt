@@ -59,7 +59,7 @@ pub after_over : (L : List LfType) (σ ρ : ℕ → Image) → after (lift_over 
 after_over [] σ ρ = refl
 after_over (A ∷ L) σ ρ = sym (fun_ext (after_lift (lift_over L ρ) (lift_over L σ))) ∙ ap lift (after_over L σ ρ)
 
-same_over : (L C : List LfType) (σ τ : ℕ → Image) → SameIn (context_skeletons C) σ τ → SameIn (context_skeletons (onto L C)) (lift_over L σ) (lift_over L τ)
+pub same_over : (L C : List LfType) (σ τ : ℕ → Image) → SameIn (context_skeletons C) σ τ → SameIn (context_skeletons (onto L C)) (lift_over L σ) (lift_over L τ)
 same_over [] C σ τ h i t g = h i t g
 same_over (A ∷ L) C σ τ h i t g = same_lifted (context_skeletons (onto L C)) (skeleton A) (lift_over L σ) (lift_over L τ) (same_over L C σ τ h) i t g
 

@@ -9,12 +9,13 @@ use Rattle.lf_coverage.specs.Heads.{Listed, no_offer, with_case, without_case, G
 use Rattle.lf_coverage.specs.UnifiedSplit.{UnifierAnswer}
 use Rattle.lf_coverage.specs.Laws.{UnifiedSplitIsHeadSplit, SolvedGivesCase, NeverGivesNone}
 use Rattle.lf_coverage.proofs.SolvedCase.{never_gives_none, solved_gives_case}
+use Rattle.lf_coverage.proofs.SplitReady.{split_items_typed}
 
 pub never_gives : NeverGivesNone
-never_gives Σ ok W typed below S sc C tc x X at J n h A sh nj aj fam K never = never_gives_none Σ ok W typed below S sc C.items tc.items x X at J n h A K sh aj fam never
+never_gives Σ ok W typed below S sc C tc x X at J n h A sh nj fam K never = never_gives_none Σ ok W typed below S sc C.items tc.items x X at J n h A K sh (split_items_typed Σ ok W typed below C.items tc.items x X at J n h A sh) fam never
 
 pub solved_gives : SolvedGivesCase
-solved_gives Σ ok W typed below S sc C tc x X at J n h A sh nj aj fam K after s = solved_gives_case Σ ok W typed below S sc C.items tc.items x X at J n h A K sh aj fam C after s nj
+solved_gives Σ ok W typed below S sc C tc x X at J n h A sh nj fam K after s = solved_gives_case Σ ok W typed below S sc C.items tc.items x X at J n h A K sh (split_items_typed Σ ok W typed below C.items tc.items x X at J n h A sh) fam C after s nj
 
 pub unified_split : UnifiedSplitIsHeadSplit
 unified_split Σ ok W typed below S sc C tc x Cs u = record {
@@ -31,8 +32,8 @@ unified_split Σ ok W typed below S sc C tc x Cs u = record {
 }
   where
     one : (h : Offer) → SplitHead Σ W C.items u.type h.items h.moved h.head h.type → (found : Option Case) → UnifierAnswer Σ W S below C x u.type h found → HeadAnswer Σ W S below C x u.type h found
-    one h sh None a = never_gives_none Σ ok W typed below S sc C.items tc.items x u.type u.at h.items h.moved h.head h.type a.kind sh a.typed_items a.families a.finds
-    one h sh (Some D) a = let (after, s, e) = a.finds in subst (GivesCase Σ W S below C x u.type h.items h.moved h.head h.type) (sym e) (solved_gives_case Σ ok W typed below S sc C.items tc.items x u.type u.at h.items h.moved h.head h.type a.kind sh a.typed_items a.families C after s a.no_block)
+    one h sh None a = never_gives_none Σ ok W typed below S sc C.items tc.items x u.type u.at h.items h.moved h.head h.type a.kind sh (split_items_typed Σ ok W typed below C.items tc.items x u.type u.at h.items h.moved h.head h.type sh) a.families a.finds
+    one h sh (Some D) a = let (after, s, e) = a.finds in subst (GivesCase Σ W S below C x u.type h.items h.moved h.head h.type) (sym e) (solved_gives_case Σ ok W typed below S sc C.items tc.items x u.type u.at h.items h.moved h.head h.type a.kind sh (split_items_typed Σ ok W typed below C.items tc.items x u.type u.at h.items h.moved h.head h.type sh) a.families C after s a.no_block)
 
     by : {hs : List Offer} {Ds : List Case} → ((h : Offer) → Member h hs → SplitHead Σ W C.items u.type h.items h.moved h.head h.type) → Listed (UnifierAnswer Σ W S below C x u.type) hs Ds → Listed (HeadAnswer Σ W S below C x u.type) hs Ds
     by each no_offer = no_offer

@@ -1,17 +1,17 @@
 -- A split on which unification answers at each head.
-use Rattle.std.specs.Prelude.{◌≡◌, ℕ, ◌+◌, List, [], Bool, Option, Some, None}
-use Rattle.lf.specs.Syntax.{LfType, Kind}
-use Rattle.lf.specs.Typing.{Signature}
+use Rattle.std.specs.Prelude.{◌≡◌, ℕ, ◌+◌, List, [], Bool, true, Option, Some, None}
+use Rattle.lf.specs.Syntax.{Head, LfType, Kind}
+use Rattle.lf.specs.Typing.{Signature, TypeAt}
 use Rattle.lf.specs.Variables.{target}
 use Rattle.lf.specs.Subordination.{Block}
 use Rattle.lf_unification.specs.Solving.{Never, Solved}
 use Rattle.lf_unification.specs.Unifiers.{Store}
-use Rattle.lf_cases.specs.Case.{Case, items_context}
+use Rattle.lf_cases.specs.Candidates.{free_among}
+use Rattle.lf_cases.specs.Case.{Item, Case, items_context}
 use Rattle.lf_cases.specs.Split.{HasNoBlockVariable}
-use Rattle.lf_cases.specs.Missing.{AreTypedItems}
-use Rattle.lf_cases.specs.Reached.{arguments_count, split_items}
-use Rattle.lf_coverage.specs.HeadOrder.{Offer}
-use Rattle.lf_coverage.specs.Heads.{IsSplitAt}
+use Rattle.lf_cases.specs.Reached.{arguments_count, SplitHead, split_items}
+use Rattle.lf_coverage.specs.HeadOrder.{Offer, AreInOrder}
+use Rattle.lf_coverage.specs.Heads.{AreOffers, ArgumentsAreBelow, IsSplitAt, Listed}
 use Rattle.lf_coverage.specs.SplitStore.{split_store, solved_case, AllFamiliesIn}
 
 -- What unification finds for a head: it solves, and the case is that of the metavariables that stay free; or it never solves, and there is
@@ -20,12 +20,11 @@ abbrev pub UnifierFinds : Signature → (ℕ → ℕ → Bool) → Case → ℕ 
 UnifierFinds Σ below C x X h K (Some D) = (after : Store) × (s : Solved Σ (split_store below x X h.items h.moved h.head h.type K) after) × (D ≡ solved_case C (h.moved + arguments_count h.type) after s.well_formed.order)
 UnifierFinds Σ below C x X h K None = Never Σ [] (split_store below x X h.items h.moved h.head h.type K)
 
--- So unification answers, where the items are free variables, and those for the head are typed and of families of S.
+-- So unification answers, where the items are free variables, and those for the head are of families of S.
 pub record UnifierAnswer (Σ : Signature) (W : List Block) (S : ℕ → Bool) (below : ℕ → ℕ → Bool) (C : Case) (x : ℕ) (X : LfType) (h : Offer) (found : Option Case) : Type 0 where
   pub kind : Kind
   pub of_family : Σ.kinds (target X) ≡ Some kind
   pub no_block : HasNoBlockVariable h.items
-  pub typed_items : AreTypedItems Σ W (split_items below X h.items h.moved h.type)
   pub families : AllFamiliesIn S (items_context (split_items below X h.items h.moved h.type))
   pub finds : UnifierFinds Σ below C x X h kind found
 
@@ -36,3 +35,27 @@ IsUnifiedSplit Σ W S below C x Cs = IsSplitAt Σ W S below (UnifierAnswer Σ W 
 -- a case is split so at one of its variables
 abbrev pub SplitsByUnification : Signature → List Block → (ℕ → Bool) → (ℕ → ℕ → Bool) → Case → List Case → Type 0
 SplitsByUnification Σ W S below C Cs = (x : ℕ) × IsUnifiedSplit Σ W S below C x Cs
+
+-- So unification answers at a head, whatever set of families is asked for: the items are free variables.
+pub record HeadIsSolved (Σ : Signature) (below : ℕ → ℕ → Bool) (C : Case) (x : ℕ) (X : LfType) (h : Offer) (found : Option Case) : Type 0 where
+  pub kind : Kind
+  pub of_family : Σ.kinds (target X) ≡ Some kind
+  pub no_block : HasNoBlockVariable h.items
+  pub finds : UnifierFinds Σ below C x X h kind found
+
+-- A split of the free variable x of C at each head of which unification answers: the heads are offered in order, and the answers make the list of
+-- cases. The families in the types of the arguments that x and the heads take are below their own.
+pub record IsSolvedSplit (Σ : Signature) (W : List Block) (below : ℕ → ℕ → Bool) (C : Case) (x : ℕ) (Cs : List Case) : Type 0 where
+  pub type : LfType
+  pub at : TypeAt (items_context C.items) x type
+  pub is_free : free_among C.items x ≡ true
+  pub takes_below : ArgumentsAreBelow below type
+  pub offers : List Offer
+  pub are_offers : AreOffers Σ W C.items type offers
+  pub in_order : AreInOrder W C.items type offers
+  pub arguments_below : (J : List Item) (n : ℕ) (h : Head) (A : LfType) → SplitHead Σ W C.items type J n h A → ArgumentsAreBelow below A
+  pub listed : Listed (HeadIsSolved Σ below C x type) offers Cs
+
+-- a case is split so at one of its variables
+abbrev pub SolvesEachHead : Signature → List Block → (ℕ → ℕ → Bool) → Case → List Case → Type 0
+SolvesEachHead Σ W below C Cs = (x : ℕ) × IsSolvedSplit Σ W below C x Cs

@@ -1,9 +1,19 @@
 //! The laws of splits of coverage. They have no code: each function carries one law as its contract.
 #![tactic(auto)]
 
-ghost use Rattle.lf_coverage.specs.Laws.{HeadSplitIsSplit, SplitCasesAreTyped, SplitCaseIsInstance, InstancesCompose, ReachedIsInstance, HeadSplitsCover, NeverGivesNone, NeverGivesNoCase, NeverSharesAll, NeverIsApart, SolvedGivesCase, UnifiedSplitIsHeadSplit, LeafIsInstanceCase, LeavesCover, HeadIsTypedPattern, SubgoalIsTypedPattern};
+ghost use Rattle.lf_coverage.specs.Laws.{HeadSplitIsSplit, SplitCasesAreTyped, SplitCaseIsInstance, InstancesCompose, ReachedIsInstance, MeetStoreIsReady, SplitStoreIsReady, StoresHaveSkeletons, InputGoalIsTypedCase, InputGoalIsTyped, InstanceStaysTyped, SplitCasesStayTyped, ReachedStaysTyped, HeadSplitsCover, NeverGivesNone, NeverGivesNoCase, NeverSharesAll, NeverIsApart, NeverIsApartBeside, SolvedSharesInstance, SolvedGivesCase, SolvedIsSplit, LeftIsOutside, UnifiedSplitIsHeadSplit, LeafIsInstanceCase, LeavesCover, HeadIsTypedPattern, SubgoalIsTypedPattern};
+ghost use Rattle.lf_coverage.specs.RunLaws.{EmptyWorldHasNoBlock, ReachedHasNoBlock, InstanceIsTypedCase, CandidateIsVariable, NeverIsMatchedApart, NeverIsMissing, SplitItemsKeepFamilies, SolvedKeepsFamilies, SolvedSplitIsUnified, SolvedSplitIsAnswer, SolvedRunCovers, SolvedRunCoversInputs};
+ghost use Rattle.lf_coverage.specs.Subordinate.{BelowOnesTakeBelow, HeadsQuantifyBelow, InputsQuantifyBelow};
 ghost use Rattle.lf_coverage.specs.Examples.{PlusIsSplitByHeads, PlusIsSplitByUnification, PlusIsCoveredByHeads, SuccessorGivesNone, HeadsAreAll, CopyHeadsAreInOrder, NumbersGetDeep, StoresOfMeeting};
+ghost use Rattle.lf_coverage.specs.ExamplesRuns.{PlusRunCovers, PlusCasesAreAnswer, PlusIsMissing};
 ghost use Rattle.lf_coverage.specs.ExamplesLocal.{CopyLocalIsTyped};
+ghost use Rattle.lf_coverage.specs.ExamplesTyped.{PlusGoalsAreTyped, OddCaseIsUntyped, ZeroIsApart, SuccessorIsSplit};
+ghost use Rattle.lf_coverage.specs.EntryLaws.{WithEntriesIsSignature, OldTypingsStay, EarlierEntriesStay, OwnTermsAreKept, OwnTermsStay, ReadingKeepsTyping, NumberedHasSameInstances, NumberedIsTyped};
+ghost use Rattle.lf_coverage.specs.NumberedArguments.{NumberedHoldsSameTuples};
+ghost use Rattle.lf_coverage.specs.TypedNumbered.{NumberedCaseIsTyped};
+ghost use Rattle.lf_coverage.specs.NewBlock.{NewBlockIsTyped};
+ghost use Rattle.lf_coverage.specs.ExamplesNumbered.{TurnedIsTyped, BlocksAreIdentified, CopiesAreNumbered};
+ghost use Rattle.lf_coverage.specs.ExamplesEntries.{CopyEntriesHaveTypes, SomeEntriesHaveTypes, LaterEntryHasType, EntryStandsOnItsTerms, EntryIsRead, EntryCaseIsTyped, NewBlockComesLast};
 ghost use Rattle.lf_coverage.specs.ExamplesLeaves.{PlusEndsAtLeaves, EntryIsLeaf, GoalIsOutputLeaf};
 
 /// The heads of a split give all its cases.
@@ -31,6 +41,109 @@ pub fn reached_is_instance()
     ensures { ReachedIsInstance }
 {}
 
+/// The store of a typed case and a typed pattern is well formed.
+pub fn meet_store_is_ready()
+    ensures { MeetStoreIsReady }
+{}
+
+/// So is that of a typed case and a head for one of its variables.
+pub fn split_store_is_ready()
+    ensures { SplitStoreIsReady }
+{}
+
+/// And skeletons type what the equations of both stand in.
+pub fn stores_have_skeletons()
+    ensures { StoresHaveSkeletons }
+{}
+
+/// The goal of inputs is typed by itself.
+pub fn input_goal_is_typed_case()
+    ensures { InputGoalIsTypedCase }
+{}
+
+/// The goal of inputs is typed beside each head of its family.
+pub fn input_goal_is_typed()
+    ensures { InputGoalIsTyped }
+{}
+
+/// And so is each typed instance of what is typed so.
+pub fn instance_stays_typed()
+    ensures { InstanceStaysTyped }
+{}
+
+/// So is each case of a split by heads.
+pub fn split_cases_stay_typed()
+    ensures { SplitCasesStayTyped }
+{}
+
+/// And each case that the strategy reaches.
+pub fn reached_stays_typed()
+    ensures { ReachedStaysTyped }
+{}
+
+/// In the empty world no typed item is a block variable.
+pub fn empty_world_has_no_block()
+    ensures { EmptyWorldHasNoBlock }
+{}
+
+/// And no case that the strategy reaches there has one.
+pub fn reached_has_no_block()
+    ensures { ReachedHasNoBlock }
+{}
+
+/// A typed instance of a typed case is a typed case, with a typed local context.
+pub fn instance_is_typed_case()
+    ensures { InstanceIsTypedCase }
+{}
+
+/// A candidate is one of the free variables of its case.
+pub fn candidate_is_variable()
+    ensures { CandidateIsVariable }
+{}
+
+/// What is never solved is answered as apart.
+pub fn never_is_matched_apart()
+    ensures { NeverIsMatchedApart }
+{}
+
+/// A case that is reached, and is never solved with any pattern, is missing.
+pub fn never_is_missing()
+    ensures { NeverIsMissing }
+{}
+
+/// The items after a split have families that were there.
+pub fn split_items_keep_families()
+    ensures { SplitItemsKeepFamilies }
+{}
+
+/// And so have those of the case that is read off the solved store.
+pub fn solved_keeps_families()
+    ensures { SolvedKeepsFamilies }
+{}
+
+/// What is quantified in the types of heads and of a goal's items is below; so the families in arguments' types are.
+pub fn heads_quantify_below()
+    ensures arguments { BelowOnesTakeBelow }
+    ensures heads { HeadsQuantifyBelow }
+    ensures inputs { InputsQuantifyBelow }
+{}
+
+/// A split at each head of which unification answers is one by unification.
+pub fn solved_split_is_unified()
+    ensures { SolvedSplitIsUnified }
+{}
+
+/// Its cases are those that the split is to answer.
+pub fn solved_split_is_answer()
+    ensures { SolvedSplitIsAnswer }
+{}
+
+/// A run of such splits that ends at instances of patterns covers its goal.
+pub fn solved_run_covers()
+    ensures goal { SolvedRunCovers }
+    ensures inputs { SolvedRunCoversInputs }
+{}
+
 /// A run of splits by heads that ends well covers its goal.
 pub fn head_splits_cover()
     ensures { HeadSplitsCover }
@@ -56,9 +169,29 @@ pub fn never_is_apart()
     ensures { NeverIsApart }
 {}
 
+/// And so where terms are given, if the case is typed beside the clause.
+pub fn never_is_apart_beside()
+    ensures { NeverIsApartBeside }
+{}
+
+/// What is solved, a case and a constant's clause share.
+pub fn solved_shares_instance()
+    ensures { SolvedSharesInstance }
+{}
+
 /// What it solves gives the case that is read off the solved store.
 pub fn solved_gives_case()
     ensures { SolvedGivesCase }
+{}
+
+/// And this is the case that the strategy's split gives.
+pub fn solved_is_split()
+    ensures { SolvedIsSplit }
+{}
+
+/// What it leaves over is outside the pattern fragment.
+pub fn left_is_outside()
+    ensures { LeftIsOutside }
 {}
 
 /// A split on which unification answers at each head is a split by heads.
@@ -131,6 +264,17 @@ pub fn plus_ends_at_leaves()
     ensures { PlusEndsAtLeaves }
 {}
 
+/// A run that covers the inputs of addition beside each set that the contract names, and the cases of its split.
+pub fn plus_run_covers()
+    ensures covers { PlusRunCovers }
+    ensures answer { PlusCasesAreAnswer }
+{}
+
+/// A goal without clauses is missing, and a case is apart from a clause.
+pub fn plus_is_missing()
+    ensures { PlusIsMissing }
+{}
+
 /// The case of a block variable is an instance of its block's entry.
 pub fn entry_is_leaf()
     ensures { EntryIsLeaf }
@@ -144,4 +288,105 @@ pub fn goal_is_output_leaf()
 /// A local context that is typed, and one that isn't.
 pub fn copy_local_is_typed()
     ensures { CopyLocalIsTyped }
+{}
+
+/// Goals of addition are typed beside a clause and its subgoal, and their stores are ready.
+pub fn plus_goals_are_typed()
+    ensures { PlusGoalsAreTyped }
+{}
+
+/// A case with skeletons that isn't typed.
+pub fn odd_case_is_untyped()
+    ensures { OddCaseIsUntyped }
+{}
+
+/// A case and a clause that are never solved, and apart.
+pub fn zero_is_apart()
+    ensures { ZeroIsApart }
+{}
+
+/// A case that a split gives.
+pub fn successor_is_split()
+    ensures { SuccessorIsSplit }
+{}
+
+/// The entries of block variables as constants.
+pub fn entries_have_types()
+    ensures copy { CopyEntriesHaveTypes }
+    ensures some { SomeEntriesHaveTypes }
+    ensures later { LaterEntryHasType }
+{}
+
+/// An entry stands on the terms of its block variable and on no others.
+pub fn entry_stands_on_its_terms()
+    ensures { EntryStandsOnItsTerms }
+{}
+
+/// An entry is read as the variable of the context that it stands for.
+pub fn entry_is_read()
+    ensures { EntryIsRead }
+{}
+
+/// A case with a block variable by number is typed, and has its ground instance.
+pub fn entry_case_is_typed()
+    ensures { EntryCaseIsTyped }
+{}
+
+/// A new block variable moves no constant.
+pub fn new_block_comes_last()
+    ensures { NewBlockComesLast }
+{}
+
+/// A signature with the entries of typed blocks as constants is a signature.
+pub fn with_entries_is_signature()
+    ensures { WithEntriesIsSignature }
+{}
+
+/// What is typed without these constants stays typed, and what is typed with some of them with more.
+pub fn old_typings_stay()
+    ensures old { OldTypingsStay }
+    ensures earlier { EarlierEntriesStay }
+{}
+
+/// Terms on own terms stay so where values are put in, and where a further block variable comes.
+pub fn own_terms_are_kept()
+    ensures put { OwnTermsAreKept }
+    ensures behind { OwnTermsStay }
+{}
+
+/// A term of a case with block variables by number, read under a ground instance, is typed there.
+pub fn reading_keeps_typing()
+    ensures { ReadingKeepsTyping }
+{}
+
+/// A case with block variables among its items, and the case with these by number, have the same ground instances.
+pub fn numbered_has_same_instances()
+    ensures { NumberedHasSameInstances }
+{}
+
+/// And the variables of the numbered case are typed.
+pub fn numbered_is_typed()
+    ensures { NumberedIsTyped }
+{}
+
+/// An older block variable may stand on the entry of a newer one, and two may be identified.
+pub fn blocks_are_identified()
+    ensures turned { TurnedIsTyped }
+    ensures identified { BlocksAreIdentified }
+    ensures numbered { CopiesAreNumbered }
+{}
+
+/// And they hold the same tuples.
+pub fn numbered_holds_same_tuples()
+    ensures { NumberedHoldsSameTuples }
+{}
+
+/// A typed case is typed with one more block variable.
+pub fn new_block_is_typed()
+    ensures { NewBlockIsTyped }
+{}
+
+/// The numbered form of a typed case is typed.
+pub fn numbered_case_is_typed()
+    ensures { NumberedCaseIsTyped }
 {}

@@ -1,0 +1,106 @@
+-- A candidate is one of the free variables of its case.
+use Rattle.std.proofs.Common.{◌≡◌, ℕ, zero, suc, List, [], ◌∷◌, length, inl, inr, refl, sym, subst}
+use Rattle.std.specs.Prelude.{Bool, true, false, cond, Option, Some, None}
+use Rattle.lf.specs.Syntax.{constant, variable, metavariable, Term, Spine, lambda, root, nil, app, LfType, weaken}
+use Rattle.lf.specs.Substitution.{Image}
+use Rattle.lf.specs.Typing.{TypeAt}
+use Rattle.lf.specs.Variables.{binders, target_arguments, hide, onto, under, nothing}
+use Rattle.lf.specs.Subordination.{Member}
+use Rattle.lf.specs.Worlds.{instance, under_all}
+use Rattle.lf_checks.specs.Strict.{lower, pattern_arguments}
+use Rattle.lf_checks.specs.Tests.{is_in}
+use Rattle.lf_cases.specs.Case.{Item, free_variable, block_variable, items_context}
+use Rattle.lf_cases.specs.Candidates.{candidates, candidates_spine, candidates_at, counted, each_once, flexible, free_among, hide_all, is_rigid, beside_set, then, with_given}
+use Rattle.lf_coverage.specs.RunLaws.{CandidateIsVariable}
+
+-- The variables in F under n binders are those of V outside them.
+abbrev Outside : (ℕ → Bool) → ℕ → (ℕ → Bool) → Type 0
+Outside F n V = (i x : ℕ) → F i ≡ true → lower n i ≡ Some x → V x ≡ true
+
+outside_under : (F : ℕ → Bool) (n : ℕ) (V : ℕ → Bool) → Outside F n V → Outside (hide F) (suc n) V
+outside_under F n V h zero x f e = absurd cc
+outside_under F n V h (suc i) x f e = h i x f e
+
+outside_all : (D : List LfType) (V : ℕ → Bool) → Outside (hide_all D V) (length D) V
+outside_all [] V i x f e = subst (λ j. V j ≡ true) (some_same e) f
+  where
+    some_same : Some i ≡ Some x → i ≡ x
+    some_same e = cc
+outside_all (A ∷ D) V i x f e = outside_under (hide_all D V) (length D) V (outside_all D V) i x f e
+
+-- each of the list is in V
+abbrev AllIn : (ℕ → Bool) → List ℕ → Type 0
+AllIn V xs = (x : ℕ) → Member x xs → V x ≡ true
+
+all_then : (V : ℕ → Bool) (xs ys : List ℕ) → AllIn V xs → AllIn V ys → AllIn V (then xs ys)
+all_then V [] ys h k x m = k x m
+all_then V (z ∷ xs) ys h k x (inl e) = h x (inl e)
+all_then V (z ∷ xs) ys h k x (inr m) = all_then V xs ys (λ y n. h y (inr n)) k x m
+
+all_chosen : (V : ℕ → Bool) (b : Bool) (xs ys : List ℕ) → (b ≡ true → AllIn V xs) → (b ≡ false → AllIn V ys) → AllIn V (cond b xs ys)
+all_chosen V true xs ys h k = h refl
+all_chosen V false xs ys h k = k refl
+
+all_none : (V : ℕ → Bool) → AllIn V []
+all_none V x m = absurd m
+
+all_counted : (V : ℕ → Bool) (b : Bool) (y : Option ℕ) → ((x : ℕ) → y ≡ Some x → V x ≡ true) → AllIn V (counted b y)
+all_counted V true (Some y) h x (inl e) = subst (λ z. V z ≡ true) (sym e) (h y refl)
+all_counted V true (Some y) h x (inr m) = absurd m
+all_counted V true None h x m = absurd m
+all_counted V false y h x m = absurd m
+
+module _ (V : ℕ → Bool) where
+  mutual
+    all_candidates : (B F P : ℕ → Bool) (n : ℕ) → Outside F n V → (M N : Term) → AllIn V (candidates B F P n M N)
+    all_candidates B F P n h (lambda M) (lambda N) = all_candidates (under B) (hide F) (hide P) (suc n) (outside_under F n V h) M N
+    all_candidates B F P n h (lambda M) (root g T) = all_none V
+    all_candidates B F P n h (root g S) (lambda N) = all_none V
+    all_candidates B F P n h (root (constant c) S) (root g T) = all_chosen V (is_rigid P g) (candidates_spine B F P n S T) [] (λ e. all_candidates_spine B F P n h S T) (λ e. all_none V)
+    all_candidates B F P n h (root (metavariable m) S) (root g T) = all_none V
+    all_candidates B F P n h (root (variable i) S) (root g T) = all_chosen V (is_rigid P g) (cond (F i) (counted (pattern_arguments B [] S) (lower n i)) (candidates_spine B F P n S T)) [] (λ e. all_chosen V (F i) (counted (pattern_arguments B [] S) (lower n i)) (candidates_spine B F P n S T) (λ f. all_counted V (pattern_arguments B [] S) (lower n i) (λ x q. h i x f q)) (λ f. all_candidates_spine B F P n h S T)) (λ e. all_none V)
+
+    all_candidates_spine : (B F P : ℕ → Bool) (n : ℕ) → Outside F n V → (S T : Spine) → AllIn V (candidates_spine B F P n S T)
+    all_candidates_spine B F P n h nil T = all_none V
+    all_candidates_spine B F P n h (app M S) nil = all_none V
+    all_candidates_spine B F P n h (app M S) (app N T) = all_then V (candidates B F P n M N) (candidates_spine B F P n S T) (all_candidates B F P n h M N) (all_candidates_spine B F P n h S T)
+
+  all_candidates_at : (B F P : ℕ → Bool) (n : ℕ) → Outside F n V → (Ms : List (Option Term)) (T : Spine) → AllIn V (candidates_at B F P n Ms T)
+  all_candidates_at B F P n h [] T = all_none V
+  all_candidates_at B F P n h (Some M ∷ Ms) nil = all_none V
+  all_candidates_at B F P n h (None ∷ Ms) nil = all_none V
+  all_candidates_at B F P n h (Some M ∷ Ms) (app N T) = all_then V (candidates B F P n M N) (candidates_at B F P n Ms T) (all_candidates B F P n h M N) (all_candidates_at B F P n h Ms T)
+  all_candidates_at B F P n h (None ∷ Ms) (app N T) = all_candidates_at B F P n h Ms T
+
+  all_first : (y : ℕ) (xs : List ℕ) → V y ≡ true → AllIn V xs → AllIn V (y ∷ xs)
+  all_first y xs e h x (inl q) = subst (λ z. V z ≡ true) (sym q) e
+  all_first y xs e h x (inr m) = h x m
+
+  all_once : (seen xs : List ℕ) → AllIn V xs → AllIn V (each_once seen xs)
+  all_once seen [] h = all_none V
+  all_once seen (y ∷ xs) h = all_chosen V (is_in y seen) (each_once seen xs) (y ∷ each_once (y ∷ seen) xs) (λ e. all_once seen xs (λ x m. h x (inr m))) (λ e. all_first y (each_once (y ∷ seen) xs) (h y (inl refl)) (all_once (y ∷ seen) xs (λ z n. h z (inr n))))
+
+-- a free variable has a type
+type_behind : (D G : List LfType) (V : ℕ → Bool) → ((i : ℕ) → V i ≡ true → (X : LfType) × TypeAt G i X) → (i : ℕ) → hide_all D V i ≡ true → (X : LfType) × TypeAt (onto D G) i X
+type_behind [] G V h i e = h i e
+type_behind (A ∷ D) G V h zero e = absurd cc
+type_behind (A ∷ D) G V h (suc i) e = let (X, g) = type_behind D G V h i e in (weaken X, (X, g, refl))
+
+hide_same : (es : List LfType) (θ : ℕ → Image) (V : ℕ → Bool) (i : ℕ) → hide_all es V i ≡ hide_all (instance es θ) V i
+hide_same [] θ V i = refl
+hide_same (E ∷ es) θ V zero = refl
+hide_same (E ∷ es) θ V (suc i) = hide_same es θ V i
+
+free_has_type : (I : List Item) (i : ℕ) → free_among I i ≡ true → (X : LfType) × TypeAt (items_context I) i X
+free_has_type [] i e = absurd cc
+free_has_type (free_variable A ∷ I) zero e = (weaken A, refl)
+free_has_type (free_variable A ∷ I) (suc i) e = let (X, g) = free_has_type I i e in (weaken X, (X, g, refl))
+free_has_type (block_variable B υ ∷ I) i e = type_behind (instance B.entries υ) (items_context I) (free_among I) (free_has_type I) i (subst (λ b. b ≡ true) (hide_same B.entries υ (free_among I) i) e)
+
+pub candidate_is_variable : CandidateIsVariable
+candidate_is_variable C p x m =
+    let D : List LfType = binders [] p.type in
+    let V : ℕ → Bool = free_among C.items in
+    let P : ℕ → Bool = hide_all D (beside_set (length (items_context C.items)) V (flexible p.clause)) in
+    let e : V x ≡ true = all_once V [] (candidates_at (under_all D nothing) (hide_all D V) P (length D) C.arguments (with_given C p.clause D (target_arguments p.type))) (all_candidates_at V (under_all D nothing) (hide_all D V) P (length D) (outside_all D V) C.arguments (with_given C p.clause D (target_arguments p.type))) x m in
+    (e, free_has_type C.items x e)

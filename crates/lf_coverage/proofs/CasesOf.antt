@@ -1,0 +1,158 @@
+-- A split at each head of which unification answers gives the cases that are to be answered; and a run of such splits covers its goal.
+use Rattle.std.proofs.Common.{◌≡◌, ℕ, zero, suc, ◌+◌, List, [], ◌∷◌, inl, inr, refl, sym, ◌∙◌, subst}
+use Rattle.std.specs.Prelude.{Bool, true, false, Option, Some, None}
+use Rattle.lf.specs.Syntax.{LfType, Kind, pi, atom, kind_pi, star, lift_renaming, rename_type}
+use Rattle.lf.specs.Typing.{Signature, IsSignature}
+use Rattle.lf.specs.Variables.{FamiliesIn}
+use Rattle.lf.specs.Subordination.{Block, Member, AreTypedBlocks, SelfContained}
+use Rattle.lf.proofs.Strength.{families_renamed}
+use Rattle.lf_checks.specs.Below.{IsSubordination}
+use Rattle.lf_cases.specs.Case.{Item, free_variable, Case, items_context, covered_places, goal_items, goal_arguments, input_goal, past_place}
+use Rattle.lf_cases.specs.Reached.{SplitHead, arguments_count, split_items}
+use Rattle.lf_cases.specs.Split.{HasNoBlockVariable, HasOneBlockVariable}
+use Rattle.lf_coverage.specs.Calls.{AreCasesBesideAll, HeadGives, PlacesIn}
+use Rattle.lf_coverage.specs.HeadOrder.{Offer}
+use Rattle.lf_coverage.specs.Heads.{Listed, no_offer, with_case, without_case, IsSplitAt, IsHeadSplit, IsTypedCase}
+use Rattle.lf_coverage.specs.RunLaws.{SolvedSplitIsUnified, SolvedSplitIsAnswer, SolvedRunCovers, SolvedRunCoversInputs}
+use Rattle.lf_coverage.specs.SplitStore.{open_type, open_some, type_in, weaken_some, context_metavariables, split_store, AllFamiliesIn}
+use Rattle.lf_coverage.specs.UnifiedSplit.{HeadIsSolved, IsSolvedSplit, IsUnifiedSplit, SolvesEachHead, SplitsByUnification, UnifierAnswer}
+use Rattle.lf_coverage.proofs.Families.{split_items_keep_families, solved_keeps_families}
+use Rattle.lf_coverage.proofs.HeadSplit.{head_of_case, heads_split, split_cases_typed}
+use Rattle.lf_coverage.proofs.Leaves.{leaves_cover}
+use Rattle.lf_coverage.proofs.NoCase.{never_gives_no_case}
+use Rattle.lf_coverage.proofs.Runs.{other_run}
+use Rattle.lf_coverage.proofs.StoreSolution.{families_at}
+use Rattle.lf_coverage.proofs.TypedCases.{input_goal_is_typed_case, solved_is_split}
+use Rattle.lf_coverage.proofs.Unified.{unified_split}
+
+-- other answers to the same heads
+listed_by : {A B : Offer → Option Case → Type 0} {hs : List Offer} {Cs : List Case} → ((h : Offer) (found : Option Case) → Member h hs → A h found → B h found) → Listed A hs Cs → Listed B hs Cs
+listed_by f no_offer = no_offer
+listed_by f (with_case {h = h} {D = D} a l) = with_case (f h (Some D) (inl refl) a) (listed_by (λ k z m. f k z (inr m)) l)
+listed_by f (without_case {h = h} a l) = without_case (f h None (inl refl) a) (listed_by (λ k z m. f k z (inr m)) l)
+
+-- the families of a store of a split
+module _ (S : ℕ → Bool) where
+  opened_families : (k : ℕ) (A : LfType) → FamiliesIn S A → FamiliesIn S (open_type k A)
+  opened_families k (pi A B) (a, b) = (opened_families k A a, opened_families (suc k) B b)
+  opened_families k (atom a T) h = h
+
+  abbrev some_in : Option LfType → Type 0
+  some_in None = Unit {0}
+  some_in (Some A) = FamiliesIn S A
+
+  type_in_families : (G : List LfType) → AllFamiliesIn S G → (i : ℕ) → some_in (type_in G i)
+  type_in_families [] h i = tt
+  type_in_families (A ∷ G) (a, h) zero = families_renamed S suc A a
+  type_in_families (A ∷ G) (a, h) (suc i) = weakened (type_in G i) (type_in_families G h i)
+    where
+      weakened : (y : Option LfType) → some_in y → some_in (weaken_some y)
+      weakened None h = tt
+      weakened (Some B) h = families_renamed S suc B h
+
+  store_families : (G : List LfType) → AllFamiliesIn S G → (m : ℕ) (A : LfType) → context_metavariables G m ≡ Some A → FamiliesIn S A
+  store_families G h m A e = subst some_in e (opened (type_in G m) (type_in_families G h m))
+    where
+      opened : (y : Option LfType) → some_in y → some_in (open_some y)
+      opened None h = tt
+      opened (Some B) h = opened_families zero B h
+
+module _ (Σ : Signature) (ok : IsSignature Σ) (W : List Block) (typed : AreTypedBlocks Σ W) (below : ℕ → ℕ → Bool) (C : Case) (tc : IsTypedCase Σ W C) (x : ℕ) (Cs : List Case) (sp : IsSolvedSplit Σ W below C x Cs) where
+  module _ (S : ℕ → Bool) (sc : SelfContained Σ W S) (fam : AllFamiliesIn S (items_context C.items)) where
+    split_families : (h : Offer) → SplitHead Σ W C.items sp.type h.items h.moved h.head h.type → HasNoBlockVariable h.items → AllFamiliesIn S (items_context (split_items below sp.type h.items h.moved h.type))
+    split_families h sh n = split_items_keep_families Σ W S sc below C.items fam x sp.type sp.at h.items h.moved h.head h.type sh n
+
+    is_unified : IsUnifiedSplit Σ W S below C x Cs
+    is_unified = record {
+      type = sp.type;
+      at = sp.at;
+      is_free = sp.is_free;
+      families = families_at S (items_context C.items) fam x sp.type sp.at;
+      takes_below = sp.takes_below;
+      offers = sp.offers;
+      are_offers = sp.are_offers;
+      in_order = sp.in_order;
+      arguments_below = sp.arguments_below;
+      listed = listed_by (λ h found m a. one h found (sp.are_offers.each h m) a) sp.listed;
+    }
+      where
+        one : (h : Offer) (found : Option Case) → SplitHead Σ W C.items sp.type h.items h.moved h.head h.type → HeadIsSolved Σ below C x sp.type h found → UnifierAnswer Σ W S below C x sp.type h found
+        one h found sh a = record {
+          kind = a.kind;
+          of_family = a.of_family;
+          no_block = a.no_block;
+          families = split_families h sh a.no_block;
+          finds = a.finds;
+        }
+
+    case_families : (D : Case) → Member D Cs → AllFamiliesIn S (items_context D.items)
+    case_families D m = let (h, k, a) = head_of_case sp.listed D m in by h (sp.are_offers.each h k) a
+      where
+        by : (h : Offer) → SplitHead Σ W C.items sp.type h.items h.moved h.head h.type → HeadIsSolved Σ below C x sp.type h (Some D) → AllFamiliesIn S (items_context D.items)
+        by h sh a =
+            let (after, s, e) = a.finds in
+            subst (λ E. AllFamiliesIn S (items_context E.items)) (sym e) (solved_keeps_families Σ S (split_store below x sp.type h.items h.moved h.head h.type a.kind) after (store_families S (items_context (split_items below sp.type h.items h.moved h.type)) (split_families h sh a.no_block)) s C (h.moved + arguments_count h.type))
+
+    split_listed : IsSplitAt Σ W S below (HeadGives Σ W below C x) C x Cs
+    split_listed = record {
+      type = sp.type;
+      at = sp.at;
+      is_free = sp.is_free;
+      families = families_at S (items_context C.items) fam x sp.type sp.at;
+      takes_below = sp.takes_below;
+      offers = sp.offers;
+      are_offers = sp.are_offers;
+      in_order = sp.in_order;
+      arguments_below = sp.arguments_below;
+      listed = listed_by (λ h found m a. one h found (sp.are_offers.each h m) a) sp.listed;
+    }
+      where
+        one : (h : Offer) (found : Option Case) → SplitHead Σ W C.items sp.type h.items h.moved h.head h.type → HeadIsSolved Σ below C x sp.type h found → HeadGives Σ W below C x sp.type h found
+        one h None sh a = never_gives_no_case Σ ok W typed below C tc x sp.type sp.at h.items h.moved h.head h.type sh a.no_block a.kind a.finds
+        one h (Some D) sh a =
+            let (after, s, e) = a.finds in
+            subst (Rattle.lf_cases.specs.Reached.IsSplitBy Σ W below C x sp.type h.items h.moved h.head h.type) (sym e) (solved_is_split Σ ok W typed below C tc x sp.type sp.at h.items h.moved h.head h.type sh a.no_block a.kind after s)
+
+  cases_of : IsSubordination Σ W below → AreCasesBesideAll Σ W below C x Cs
+  cases_of s = record {
+    type = sp.type;
+    at = sp.at;
+    listed = split_listed;
+    holds = λ S sc fam. heads_split Σ ok W typed below s S sc C tc x Cs (unified_split Σ ok W typed below S sc C tc x Cs (is_unified S sc fam));
+  }
+
+pub solved_split_is_unified : SolvedSplitIsUnified
+solved_split_is_unified Σ ok W typed below S sc C tc fam x Cs sp = (is_unified Σ ok W typed below C tc x Cs sp S sc fam, case_families Σ ok W typed below C tc x Cs sp S sc fam)
+
+pub solved_split_is_answer : SolvedSplitIsAnswer
+solved_split_is_answer Σ ok W typed below s C tc x Cs sp = cases_of Σ ok W typed below C tc x Cs sp s
+
+pub solved_run_covers : SolvedRunCovers
+solved_run_covers Σ ok W typed below s ps goal n tg fam e S b =
+    leaves_cover Σ ok W typed below s S b.self_contained ps goal n tg (other_run {Kept = λ D. IsTypedCase Σ W D × AllFamiliesIn S (items_context D.items)} (λ D k l. l) split (tg, fam S b) e)
+  where
+    split : (D : Case) (Ds : List Case) → IsTypedCase Σ W D × AllFamiliesIn S (items_context D.items) → SolvesEachHead Σ W below D Ds → SplitsByUnification Σ W S below D Ds × ((E : Case) → Member E Ds → IsTypedCase Σ W E × AllFamiliesIn S (items_context E.items))
+    split D Ds (k, f) (x, q) =
+        let u : IsUnifiedSplit Σ W S below D x Ds = is_unified Σ ok W typed below D k x Ds q S b.self_contained f in
+        let sp : IsHeadSplit Σ W S below D x Ds = unified_split Σ ok W typed below S b.self_contained D k x Ds u in
+        ((x, u), λ E m. (split_cases_typed Σ ok W S below D k x Ds sp E m, case_families Σ ok W typed below D k x Ds q S b.self_contained f E m))
+
+-- the families of the items of the goal of inputs are those of its places
+goal_families : (S : ℕ → Bool) (m : List Bool) (K : Kind) (ρ : ℕ → ℕ) (I : List Item) → PlacesIn S (covered_places (goal_arguments m K)) K → AllFamiliesIn S (items_context I) → AllFamiliesIn S (items_context (goal_items m K ρ I))
+goal_families S [] K ρ I p i = i
+goal_families S (b ∷ m) star ρ I p i = i
+goal_families S (true ∷ m) (kind_pi A K) ρ I (a, p) i = goal_families S m K (lift_renaming ρ) (free_variable (rename_type ρ A) ∷ I) p (families_renamed S ρ A a, i)
+goal_families S (false ∷ m) (kind_pi A K) ρ I p i = goal_families S m K (past_place ρ) I p i
+
+pub solved_run_covers_inputs : SolvedRunCoversInputs
+solved_run_covers_inputs Σ ok W typed below s ps a m K e c r =
+    let (t, l, n) = input_goal_is_typed_case Σ ok W typed a m K e c in
+    solved_run_covers Σ ok W typed below s ps (input_goal a m K) (one_without (input_goal a m K).items n) t (λ S b. goal_families S m K (λ i. i) [] (subst (PlacesIn S (covered_places (goal_arguments m K))) (some_same (sym b.of_family ∙ e)) b.places) tt) r
+  where
+    some_same : {P Q : Kind} → Some P ≡ Some Q → P ≡ Q
+    some_same q = cc
+
+    one_without : (I : List Item) → HasNoBlockVariable I → HasOneBlockVariable I
+    one_without [] n = tt
+    one_without (free_variable A ∷ I) n = one_without I n
+    one_without (Rattle.lf_cases.specs.Case.block_variable B υ ∷ I) n = absurd n

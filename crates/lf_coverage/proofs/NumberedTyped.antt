@@ -1,0 +1,425 @@
+-- The numbered form of a case with typed items has typed variables, on own terms.
+use Rattle.std.proofs.Common.{◌≡◌, ℕ, zero, suc, List, [], ◌∷◌, ◌++◌, length, ◌+◌, Option, Some, None, ◌⊎◌, inl, inr, refl, sym, ap, ap₂, ◌∙◌, subst, arith}
+use Rattle.lf.specs.Syntax.{constant, variable, metavariable, Term, Spine, lambda, root, nil, app, LfType, Kind, pi, atom, kind_pi, star, Skeleton, base, arrow, skeleton, weaken, rename, rename_spine}
+use Rattle.lf.specs.Substitution.{Image, keep, put, rename_image, lift, substitute, substitute_spine, substitute_image, substitute_type, reduce, after}
+use Rattle.lf.specs.Eta.{add_last, append, eta_expand}
+use Rattle.lf.specs.SkeletonTyping.{SubstitutionBySkeletons}
+use Rattle.lf.specs.Skeletons.{constant_skeletons, family_skeletons, context_skeletons}
+use Rattle.lf.specs.Typing.{Signature, TypeAt, ImageHasType, IsTypedSubstitution, HasType, SpineType, SpineFitsKind, instantiate_type, instantiate_kind, IsType, IsContext, IsSignature}
+use Rattle.lf.specs.Variables.{onto, everything, Values}
+use Rattle.lf.specs.Subordination.{Block, Member, AreTypedBlocks}
+use Rattle.lf.specs.Worlds.{lift_over, instance}
+use Rattle.lf.proofs.Eta.{rename_add_last, rename_eta_expand}
+use Rattle.lf.proofs.EtaTyping.{eta_expand_has_type}
+use Rattle.lf.proofs.Growth.{growth_keeps_types}
+use Rattle.lf.proofs.Regular.{typed_substitutions_compose}
+use Rattle.lf.proofs.Renaming.{OnPut-all, reduction_is_natural}
+use Rattle.lf.proofs.SkeletonTypes.{substitutions_compose_type}
+use Rattle.lf.proofs.Substitution.{TypedSubstitution, skeleton_context_of, lifted_substitution_typed, substitution_keeps_types, typed_substitution_by_skeletons}
+use Rattle.lf.proofs.ToSkeletons.{type_by_skeletons}
+use Rattle.lf.proofs.TypeLaws.{skeleton_renamed, skeleton_substituted, substitute_identity_type, rename_substituted_type}
+use Rattle.lf.proofs.Weakening.{weakening_renames, renaming_keeps_typing, declared_is_type}
+use Rattle.lf_unification.specs.Offering.{pi_over, local_arguments}
+use Rattle.lf_cases.specs.Cover.{place_of}
+use Rattle.lf_cases.specs.Case.{Item, free_variable, block_variable, items_context, as_term}
+use Rattle.lf_cases.specs.Missing.{AreTypedItems}
+use Rattle.lf_cases.proofs.BlockEntries.{drop_typed, onto_onto}
+use Rattle.lf_cases.proofs.LongValues.{term_typed}
+use Rattle.lf_cases.proofs.OutputItems.{lifted}
+use Rattle.lf_coverage.specs.EntryConstants.{EntryConstant, entry_constant, entry_images, entry_constant_type, entry_type, with_entries, IsFreeFrom}
+use Rattle.lf_coverage.specs.EntryLaws.{NumberedIsTyped}
+use Rattle.lf_coverage.specs.NumberedCase.{some_spine, AreTypedBlockVariables}
+use Rattle.lf_coverage.specs.Numbering.{entries_of, own_spine, numbering}
+use Rattle.lf_coverage.specs.OwnTerms.{BlockVariable, blocks_of, terms_at, terms_of_entry, own_terms, weaken_own, BeginsWith, OnOwnTerms, SpineOnOwnTerms, TypeOnOwnTerms, ImageOnOwnTerms, rename_blocks}
+use Rattle.lf_coverage.proofs.EntrySignature.{else_second, locals_typed, grown_contexts, grown_image, with_entries_is_signature, entries_kept, earlier_kept}
+use Rattle.lf_coverage.proofs.EntryValues.{some_own, put_locals, after_entries, some_typed}
+use Rattle.lf_coverage.proofs.GroundTyped.{front_typed, past_one}
+use Rattle.lf_coverage.proofs.ItemsContext.{items_are_context}
+use Rattle.lf_coverage.proofs.Numbering.{entry_behind, blocks_renamed}
+use Rattle.lf_coverage.proofs.OwnTerms.{rename_own, begins_renamed, own_as_renamed, own_renamed, spine_renamed, type_renamed, RedOwn, image_under, plug_own, reduce_own, own_agrees, type_agrees, own_stays, old_is_none, entry_from}
+use Rattle.lf_coverage.proofs.Reading.{IsOld}
+use mathlib.Core.Path.{fun_ext}
+
+-- Eta-long forms on own terms
+own_add : (o : ℕ → Option Spine) (S : Spine) (N : Term) → SpineOnOwnTerms o S → OnOwnTerms o N → SpineOnOwnTerms o (add_last S N)
+own_add o nil N s n = (n, tt)
+own_add o (app M S) N (m, s) n = (m, own_add o S N s n)
+
+pub own_long : (o : ℕ → Option Spine) (a : Skeleton) (j : ℕ) (T : Spine) → SpineOnOwnTerms o T → OnOwnTerms o (eta_expand a (variable j) T)
+own_long o (base c) j T s = s
+own_long o (arrow a b) j T s = own_long (λ c. weaken_own (o c)) b (suc j) (add_last (rename_spine suc T) (eta_expand a (variable zero) nil)) (own_add (λ c. weaken_own (o c)) (rename_spine suc T) (eta_expand a (variable zero) nil) (spine_renamed o (λ c. weaken_own (o c)) suc T (λ c. own_as_renamed (o c)) s) (own_long (λ c. weaken_own (o c)) a zero nil tt))
+
+add_append : (U T : Spine) (N : Term) → add_last (append U T) N ≡ append U (add_last T N)
+add_append nil T N = refl
+add_append (app M U) T N = ap (app M) (add_append U T N)
+
+begins_add : (u : Option Spine) (S : Spine) (N : Term) → BeginsWith u S → BeginsWith u (add_last S N)
+begins_add None S N b = tt
+begins_add (Some U) S N (T, e) = (add_last T N, ap (λ Z. add_last Z N) e ∙ add_append U T N)
+
+begins_under : (u : Option Spine) (S : Spine) → BeginsWith u S → BeginsWith (weaken_own u) (rename_spine suc S)
+begins_under u S b = subst (λ z. BeginsWith z (rename_spine suc S)) (sym (own_as_renamed u)) (begins_renamed suc u S b)
+
+own_long_constant : (o : ℕ → Option Spine) (a : Skeleton) (c : ℕ) (S : Spine) → BeginsWith (o c) S → SpineOnOwnTerms o S → OnOwnTerms o (eta_expand a (constant c) S)
+own_long_constant o (base d) c S b s = (b, s)
+own_long_constant o (arrow a d) c S b s = own_long_constant (λ k. weaken_own (o k)) d c (add_last (rename_spine suc S) (eta_expand a (variable zero) nil)) (begins_add (weaken_own (o c)) (rename_spine suc S) (eta_expand a (variable zero) nil) (begins_under (o c) S b)) (own_add (λ k. weaken_own (o k)) (rename_spine suc S) (eta_expand a (variable zero) nil) (spine_renamed o (λ k. weaken_own (o k)) suc S (λ k. own_as_renamed (o k)) s) (own_long (λ k. weaken_own (o k)) a zero nil tt))
+
+own_as_term : (o : ℕ → Option Spine) (a : Skeleton) (y : Image) → ImageOnOwnTerms o y → OnOwnTerms o (as_term a y)
+own_as_term o a (keep j) h = own_long o a j nil tt
+own_as_term o a (put b N) h = h
+
+pub own_some : (o : ℕ → Option Spine) (O : List LfType) (ω : ℕ → Image) → ((i : ℕ) (A : LfType) → TypeAt O i A → OnOwnTerms o (as_term (skeleton A) (ω i))) → SpineOnOwnTerms o (some_spine O ω)
+own_some o [] ω h = tt
+own_some o (A ∷ O) ω h = own_add o (some_spine O (λ i. ω (suc i))) (as_term (skeleton A) (ω zero)) (own_some o O (λ i. ω (suc i)) (λ i B g. subst (λ a. OnOwnTerms o (as_term a (ω (suc i)))) (skeleton_renamed suc B) (h (suc i) (weaken B) (B, g, refl)))) (subst (λ a. OnOwnTerms o (as_term a (ω zero))) (skeleton_renamed suc A) (h zero (weaken A) refl))
+
+append_nothing : (U : Spine) → U ≡ append U nil
+append_nothing nil = refl
+append_nothing (app M U) = ap (app M) (append_nothing U)
+
+-- A term over the signature without entries, with values on own terms put in
+module _ (Σ : Signature) where
+  values_under : (Γ : List LfType) (A : LfType) (o : ℕ → Option Spine) (σ : ℕ → Image) → ((i : ℕ) (B : LfType) → TypeAt Γ i B → ImageOnOwnTerms o (σ i)) → (i : ℕ) (B : LfType) → TypeAt (A ∷ Γ) i B → ImageOnOwnTerms (λ c. weaken_own (o c)) (lift σ i)
+  values_under Γ A o σ v zero B g = tt
+  values_under Γ A o σ v (suc i) B (D, g, e) = image_under o (σ i) (v i D g)
+
+  mutual
+    put_old : (Γ : List LfType) (o : ℕ → Option Spine) (σ : ℕ → Image) (M : Term) (A : LfType) → ((c : ℕ) → IsOld Σ c → o c ≡ None) → ((i : ℕ) (B : LfType) → TypeAt Γ i B → ImageOnOwnTerms o (σ i)) → HasType Σ Γ M A → OnOwnTerms o (substitute reduce σ M)
+    put_old Γ o σ (lambda M) (pi A B) h v m = put_old (A ∷ Γ) (λ c. weaken_own (o c)) (lift σ) M B (λ c p. ap weaken_own (h c p)) (values_under Γ A o σ v) m
+    put_old Γ o σ (lambda M) (atom a T) h v m = absurd m
+    put_old Γ o σ (root k S) (pi A B) h v m = absurd m
+    put_old Γ o σ (root (constant c) S) (atom a T) h v (A, g, s) = (subst (λ u. BeginsWith u (substitute_spine reduce σ S)) (sym (h c (A, g))) tt, put_old_spine Γ o σ S A (atom a T) h v s)
+    put_old Γ o σ (root (metavariable c) S) (atom a T) h v (A, g, s) = absurd g
+    put_old Γ o σ (root (variable i) S) (atom a T) h v (A, g, s) = plug_own o (σ i) (substitute_spine reduce σ S) (OnPut-all RedOwn reduce_own (σ i)) (v i A g) (put_old_spine Γ o σ S A (atom a T) h v s)
+
+    put_old_spine : (Γ : List LfType) (o : ℕ → Option Spine) (σ : ℕ → Image) (S : Spine) (A C : LfType) → ((c : ℕ) → IsOld Σ c → o c ≡ None) → ((i : ℕ) (B : LfType) → TypeAt Γ i B → ImageOnOwnTerms o (σ i)) → SpineType Σ Γ S A C → SpineOnOwnTerms o (substitute_spine reduce σ S)
+    put_old_spine Γ o σ nil A C h v s = tt
+    put_old_spine Γ o σ (app M S) (pi A B) C h v (m, s) = (put_old Γ o σ M A h v m, put_old_spine Γ o σ S (instantiate_type A M B) C h v s)
+    put_old_spine Γ o σ (app M S) (atom a T) C h v s = absurd s
+
+  put_old_kind : (Γ : List LfType) (o : ℕ → Option Spine) (σ : ℕ → Image) (S : Spine) (K : Kind) → ((c : ℕ) → IsOld Σ c → o c ≡ None) → ((i : ℕ) (B : LfType) → TypeAt Γ i B → ImageOnOwnTerms o (σ i)) → SpineFitsKind Σ Γ S K → SpineOnOwnTerms o (substitute_spine reduce σ S)
+  put_old_kind Γ o σ nil K h v s = tt
+  put_old_kind Γ o σ (app M S) (kind_pi A K) h v (m, s) = (put_old Γ o σ M A h v m, put_old_kind Γ o σ S (instantiate_kind A M K) h v s)
+  put_old_kind Γ o σ (app M S) star h v s = absurd s
+
+  pub put_old_type : (Γ : List LfType) (o : ℕ → Option Spine) (σ : ℕ → Image) (A : LfType) → ((c : ℕ) → IsOld Σ c → o c ≡ None) → ((i : ℕ) (B : LfType) → TypeAt Γ i B → ImageOnOwnTerms o (σ i)) → IsType Σ Γ A → TypeOnOwnTerms o (substitute_type reduce σ A)
+  put_old_type Γ o σ (pi A B) h v (a, b) = (put_old_type Γ o σ A h v a, put_old_type (A ∷ Γ) (λ c. weaken_own (o c)) (lift σ) B (λ c p. ap weaken_own (h c p)) (values_under Γ A o σ v) b)
+  put_old_type Γ o σ (atom a S) h v (K, e, s) = put_old_kind Γ o σ S K h v s
+
+-- Own terms of renamed block variables, and of the last one
+renamed_at : (ρ : ℕ → ℕ) (bs : List BlockVariable) (k : ℕ) → terms_at (rename_blocks ρ bs) k ≡ rename_own ρ (terms_at bs k)
+renamed_at ρ [] k = refl
+renamed_at ρ (b ∷ bs) zero = refl
+renamed_at ρ (b ∷ bs) (suc k) = renamed_at ρ bs k
+
+renamed_entry : (ρ : ℕ → ℕ) (bs : List BlockVariable) (y : Option EntryConstant) → terms_of_entry (rename_blocks ρ bs) y ≡ rename_own ρ (terms_of_entry bs y)
+renamed_entry ρ bs None = refl
+renamed_entry ρ bs (Some e) = renamed_at ρ bs e.number
+
+pub renamed_terms : (first : ℕ) (ρ : ℕ → ℕ) (bs : List BlockVariable) (c : ℕ) → own_terms first (rename_blocks ρ bs) c ≡ rename_own ρ (own_terms first bs c)
+renamed_terms first ρ bs c = ap (λ Bs. terms_of_entry (rename_blocks ρ bs) (entry_constant zero first Bs c)) (blocks_renamed ρ bs) ∙ renamed_entry ρ bs (entry_constant zero first (blocks_of bs) c)
+
+last_terms : (bs : List BlockVariable) (b : BlockVariable) → terms_at (bs ++ b ∷ []) (length (blocks_of bs)) ≡ Some b.terms
+last_terms [] b = refl
+last_terms (d ∷ bs) b = last_terms bs b
+
+pub blocks_end : (bs : List BlockVariable) (b : BlockVariable) → blocks_of (bs ++ b ∷ []) ≡ blocks_of bs ++ b.block ∷ []
+blocks_end [] b = refl
+blocks_end (d ∷ bs) b = ap (λ Bs. d.block ∷ Bs) (blocks_end bs b)
+
+pub member_end : (Bs : List Block) (B D : Block) → Member D (Bs ++ B ∷ []) → Member D Bs ⊎ (D ≡ B)
+member_end [] B D (inl e) = inr e
+member_end [] B D (inr i) = absurd i
+member_end (A ∷ Bs) B D (inl e) = inl (inl e)
+member_end (A ∷ Bs) B D (inr i) = at (member_end Bs B D i)
+  where
+    at : Member D Bs ⊎ (D ≡ B) → Member D (A ∷ Bs) ⊎ (D ≡ B)
+    at (inl j) = inl (inr j)
+    at (inr e) = inr e
+
+-- Spines of values, renamed
+pub rename_as_term : (ρ : ℕ → ℕ) (a : Skeleton) (y : Image) → rename ρ (as_term a y) ≡ as_term a (rename_image ρ y)
+rename_as_term ρ a (keep j) = rename_eta_expand ρ a (variable j) nil
+rename_as_term ρ a (put b N) = refl
+
+pub rename_some : (ρ : ℕ → ℕ) (O : List LfType) (υ : ℕ → Image) → rename_spine ρ (some_spine O υ) ≡ some_spine O (λ i. rename_image ρ (υ i))
+rename_some ρ [] υ = refl
+rename_some ρ (A ∷ O) υ = rename_add_last ρ (some_spine O (λ i. υ (suc i))) (as_term (skeleton A) (υ zero)) ∙ ap₂ add_last (rename_some ρ O (λ i. υ (suc i))) (rename_as_term ρ (skeleton A) (υ zero))
+
+-- the entries on values, and an instance on these
+images_of_instance : (m : ℕ) (U : Spine) (es : List LfType) (υ δ : ℕ → Image) (i : ℕ) → after (entry_images m U es δ) (lift_over es υ) i ≡ entry_images m U es (after δ υ) i
+images_of_instance m U [] υ δ i = refl
+images_of_instance m U (E ∷ es) υ δ zero = refl
+images_of_instance m U (E ∷ es) υ δ (suc i) = past_one (put (skeleton E) (eta_expand (skeleton E) (constant (m + length es)) U)) (entry_images m U es δ) (lift_over es υ i) ∙ images_of_instance m U es υ δ i
+
+module _ (Σ : Signature) (ok : IsSignature Σ) (W : List Block) (typed : AreTypedBlocks Σ W) (first : ℕ) (free : IsFreeFrom Σ first) where
+  abbrev over : List BlockVariable → Signature
+  over bs = with_entries Σ first (blocks_of bs)
+
+  abbrev own : List BlockVariable → ℕ → Option Spine
+  own bs = own_terms first bs
+
+  pub record IsTypedNumbering (I : List Item) : Type 0 where
+    pub context : IsContext (with_entries Σ first (blocks_of (numbering first I).blocks)) (numbering first I).variables
+    pub images : IsTypedSubstitution (with_entries Σ first (blocks_of (numbering first I).blocks)) (items_context I) (numbering first I).variables (numbering first I).images
+    pub own_images : (i : ℕ) (A : LfType) → TypeAt (items_context I) i A → ImageOnOwnTerms (own_terms first (numbering first I).blocks) ((numbering first I).images i)
+    pub own_types : (i : ℕ) (A : LfType) → TypeAt (numbering first I).variables i A → TypeOnOwnTerms (own_terms first (numbering first I).blocks) A
+    pub blocks : AreTypedBlockVariables (with_entries Σ first (blocks_of (numbering first I).blocks)) W (numbering first I).variables (own_terms first (numbering first I).blocks) (numbering first I).blocks
+
+  pub among_worlds : (Σ₁ : Signature) (X : List LfType) (o : ℕ → Option Spine) (bs : List BlockVariable) → AreTypedBlockVariables Σ₁ W X o bs → (B : Block) → Member B (blocks_of bs) → Member B W
+  among_worlds Σ₁ X o [] t B m = absurd m
+  among_worlds Σ₁ X o (b ∷ bs) (m, u, p, t) B (inl e) = subst (λ D. Member D W) (sym e) m
+  among_worlds Σ₁ X o (b ∷ bs) (m, u, p, t) B (inr i) = among_worlds Σ₁ X o bs t B i
+
+  pub old_own : (bs : List BlockVariable) (c : ℕ) → IsOld Σ c → own_terms first bs c ≡ None
+  old_own bs c (A, e) = ap (terms_of_entry bs) (old_is_none Σ first free (blocks_of bs) c A e)
+
+  more : (Bs : List Block) (D : List LfType) → IsContext Σ D → IsContext (with_entries Σ first Bs) D
+  more Bs D c = grown_contexts Σ (with_entries Σ first Bs) (entries_kept Σ first Bs) (λ b K q. q) D c
+
+  more_type : (Bs : List Block) (D : List LfType) (A : LfType) → IsType Σ D A → IsType (with_entries Σ first Bs) D A
+  more_type Bs D A t = growth_keeps_types Σ (with_entries Σ first Bs) (entries_kept Σ first Bs) (λ b K q. q) D A t
+
+  module _ (I : List Item) (a : AreTypedItems Σ W I) (r : IsTypedNumbering I) where
+    abbrev bs : List BlockVariable
+    bs = (numbering first I).blocks
+
+    abbrev X : List LfType
+    X = (numbering first I).variables
+
+    abbrev C : List LfType
+    C = items_context I
+
+    abbrev δ : ℕ → Image
+    δ = (numbering first I).images
+
+    abbrev Σ₁ : Signature
+    Σ₁ = with_entries Σ first (blocks_of (numbering first I).blocks)
+
+    ok₁ : IsSignature Σ₁
+    ok₁ = with_entries_is_signature Σ ok first free (blocks_of bs) (λ B m. typed B (among_worlds Σ₁ X (own bs) bs r.blocks B m))
+
+    -- One more free variable
+    module _ (A : LfType) (t : IsType Σ (items_context I) A) where
+      abbrev A' : LfType
+      A' = substitute_type reduce (numbering first I).images A
+
+      substitution : TypedSubstitution Σ₁ ok₁ (items_context I) X δ
+      substitution = record { typed = r.images; source_skeletons = skeleton_context_of Σ₁ ok₁ (items_context I) (more (blocks_of bs) (items_context I) (items_are_context Σ ok W typed I a)); target_skeletons = skeleton_context_of Σ₁ ok₁ X r.context }
+
+      t₁ : IsType Σ₁ (items_context I) A
+      t₁ = more_type (blocks_of bs) (items_context I) A t
+
+      new_type : IsType Σ₁ X A'
+      new_type = substitution_keeps_types Σ₁ ok₁ (items_context I) X δ A substitution t₁
+
+      lifted_images : IsTypedSubstitution Σ₁ (A ∷ items_context I) (A' ∷ X) (lift δ)
+      lifted_images = (lifted_substitution_typed Σ₁ ok₁ (items_context I) X δ A substitution (type_by_skeletons Σ₁ (items_context I) A t₁)).typed
+
+      own_next : (c : ℕ) → own_terms first (rename_blocks suc bs) c ≡ rename_own suc (own_terms first bs c)
+      own_next c = renamed_terms first suc bs c
+
+      image_next : (y : Image) → ImageOnOwnTerms (own bs) y → ImageOnOwnTerms (own (rename_blocks suc bs)) (rename_image suc y)
+      image_next (keep j) h = tt
+      image_next (put b N) h = own_renamed (own bs) (own (rename_blocks suc bs)) suc N own_next h
+
+      image_weakened : (y : Image) (B : LfType) → ImageHasType Σ₁ X y B → ImageHasType Σ₁ (A' ∷ X) (rename_image suc y) (weaken B)
+      image_weakened (keep j) B g = (B, g, refl)
+      image_weakened (put b N) B (e, n) = (skeleton_renamed suc B ∙ e, renaming_keeps_typing Σ₁ ok₁ X (A' ∷ X) suc N B (weakening_renames X A') n)
+
+      moved_blocks : (ds : List BlockVariable) → AreTypedBlockVariables Σ₁ W X (own bs) ds → AreTypedBlockVariables Σ₁ W (A' ∷ X) (own (rename_blocks suc bs)) (rename_blocks suc ds)
+      moved_blocks [] h = tt
+      moved_blocks (d ∷ ds) (m, (υ, u, e), p, h) = (
+        m,
+        (
+          λ i. rename_image suc (υ i),
+          λ i B g. subst (ImageHasType Σ₁ (A' ∷ X) (rename_image suc (υ i))) (rename_substituted_type reduce reduction_is_natural suc υ B) (image_weakened (υ i) (substitute_type reduce υ B) (u i B g)),
+          ap (rename_spine suc) e ∙ rename_some suc d.block.some υ,
+        ),
+        spine_renamed (own bs) (own (rename_blocks suc bs)) suc d.terms own_next p,
+        moved_blocks ds h,
+      )
+
+      free_typed : IsTypedNumbering (free_variable A ∷ I)
+      free_typed = record {
+        context = subst (λ Bs. IsContext (with_entries Σ first Bs) (A' ∷ X)) (sym (blocks_renamed suc bs)) (r.context, new_type);
+        images = subst (λ Bs. IsTypedSubstitution (with_entries Σ first Bs) (A ∷ items_context I) (A' ∷ X) (lift δ)) (sym (blocks_renamed suc bs)) lifted_images;
+        own_images = own_images;
+        own_types = own_types;
+        blocks = subst (λ Bs. AreTypedBlockVariables (with_entries Σ first Bs) W (A' ∷ X) (own (rename_blocks suc bs)) (rename_blocks suc bs)) (sym (blocks_renamed suc bs)) (moved_blocks bs r.blocks);
+      }
+        where
+          own_images : (i : ℕ) (B : LfType) → TypeAt (A ∷ items_context I) i B → ImageOnOwnTerms (own (rename_blocks suc bs)) (lift δ i)
+          own_images zero B g = tt
+          own_images (suc i) B (D, g, e) = image_next (δ i) (r.own_images i D g)
+
+          own_types : (i : ℕ) (B : LfType) → TypeAt (A' ∷ X) i B → TypeOnOwnTerms (own (rename_blocks suc bs)) B
+          own_types zero B e = subst (TypeOnOwnTerms (own (rename_blocks suc bs))) (sym e) (type_renamed (own bs) (own (rename_blocks suc bs)) suc A' own_next (put_old_type Σ (items_context I) (own bs) δ A (old_own bs) r.own_images t))
+          own_types (suc i) B (D, g, e) = subst (TypeOnOwnTerms (own (rename_blocks suc bs))) (sym e) (type_renamed (own bs) (own (rename_blocks suc bs)) suc D own_next (r.own_types i D g))
+
+    -- One more block variable
+    module _ (B : Block) (υ : ℕ → Image) (member : Member B W) (v : Values Σ everything B.some (items_context I) υ) where
+      abbrev U : Spine
+      U = own_spine B υ (numbering first I)
+
+      abbrev b : BlockVariable
+      b = record { block = B; terms = own_spine B υ (numbering first I) }
+
+      abbrev m : ℕ
+      m = first + entries_of (blocks_of (numbering first I).blocks)
+
+      abbrev Bs₂ : List Block
+      Bs₂ = blocks_of ((numbering first I).blocks ++ record { block = B; terms = own_spine B υ (numbering first I) } ∷ [])
+
+      abbrev Σ₂ : Signature
+      Σ₂ = with_entries Σ first Bs₂
+
+      abbrev o₂ : ℕ → Option Spine
+      o₂ = own_terms first ((numbering first I).blocks ++ record { block = B; terms = own_spine B υ (numbering first I) } ∷ [])
+
+      ok₂ : IsSignature Σ₂
+      ok₂ = with_entries_is_signature Σ ok first free Bs₂ (λ D i. at D (member_end (blocks_of bs) B D (subst (Member D) (blocks_end bs b) i)))
+        where
+          at : (D : Block) → Member D (blocks_of bs) ⊎ (D ≡ B) → IsContext Σ (onto D.entries D.some)
+          at D (inl i) = typed D (among_worlds Σ₁ X (own bs) bs r.blocks D i)
+          at D (inr e) = subst (λ F. IsContext Σ (onto F.entries F.some)) (sym e) (typed B member)
+
+      kept : (c : ℕ) (A : LfType) → Σ₁.types c ≡ Some A → Σ₂.types c ≡ Some A
+      kept c A e = subst (λ Ds. (with_entries Σ first Ds).types c ≡ Some A) (sym (blocks_end bs b)) (earlier_kept Σ first (blocks_of bs) (B ∷ []) c A e)
+
+      context₂ : IsContext Σ₂ X
+      context₂ = grown_contexts Σ₁ Σ₂ kept (λ c K q. q) X r.context
+
+      items₂ : IsContext Σ₂ C
+      items₂ = more Bs₂ C (items_are_context Σ ok W typed I a)
+
+      outer : (es : List LfType) → IsContext Σ (onto es B.some) → IsContext Σ B.some
+      outer [] c = c
+      outer (E ∷ es) c = outer es c.0
+
+      some₂ : IsContext Σ₂ B.some
+      some₂ = more Bs₂ B.some (outer B.entries (typed B member))
+
+      images₂ : IsTypedSubstitution Σ₂ C X δ
+      images₂ i A g = grown_image Σ₁ Σ₂ kept (λ c K q. q) X (δ i) (substitute_type reduce δ A) (r.images i A g)
+
+      values₂ : IsTypedSubstitution Σ₂ B.some C υ
+      values₂ i A g = grown_image Σ Σ₂ (entries_kept Σ first Bs₂) (λ c K q. q) C (υ i) (substitute_type reduce υ A) (v.typed i A g refl)
+
+      from_images : TypedSubstitution Σ₂ ok₂ C X δ
+      from_images = record { typed = images₂; source_skeletons = skeleton_context_of Σ₂ ok₂ C items₂; target_skeletons = skeleton_context_of Σ₂ ok₂ X context₂ }
+
+      terms₂ : TypedSubstitution Σ₂ ok₂ B.some X (after δ υ)
+      terms₂ = typed_substitutions_compose Σ₂ ok₂ B.some C X υ δ some₂ items₂ (record { typed = values₂; source_skeletons = skeleton_context_of Σ₂ ok₂ B.some some₂; target_skeletons = skeleton_context_of Σ₂ ok₂ C items₂ }) from_images
+
+      -- what was on own terms stays so
+      stays : (c : ℕ) (A : LfType) → Σ₁.types c ≡ Some A → o₂ c ≡ own_terms first bs c
+      stays c A e = own_stays Σ first free bs (b ∷ []) c A e
+
+      image_stays : (y : Image) (A : LfType) → ImageHasType Σ₁ X y A → ImageOnOwnTerms (own bs) y → ImageOnOwnTerms o₂ y
+      image_stays (keep j) A g h = tt
+      image_stays (put c N) A (e, n) h = own_agrees Σ₁ (own bs) o₂ stays X N A n h
+
+      own₂ : (i : ℕ) (A : LfType) → TypeAt C i A → ImageOnOwnTerms o₂ (δ i)
+      own₂ i A g = image_stays (δ i) (substitute_type reduce δ A) (r.images i A g) (r.own_images i A g)
+
+      value_own : (y : Image) (A : LfType) → ImageHasType Σ C y A → ImageOnOwnTerms o₂ (substitute_image δ y)
+      value_own (keep j) A g = own₂ j A g
+      value_own (put c N) A (e, n) = put_old Σ C o₂ δ N A (old_own (bs ++ b ∷ [])) own₂ n
+
+      terms_own : SpineOnOwnTerms o₂ U
+      terms_own = own_some o₂ B.some (after δ υ) (λ i A g. own_as_term o₂ (skeleton A) (after δ υ i) (value_own (υ i) (substitute_type reduce υ A) (v.typed i A g refl)))
+
+      -- the constants of the entries
+      found : (later : List LfType) (E : LfType) (es : List LfType) → onto later (E ∷ es) ≡ B.entries → entry_constant zero first Bs₂ (m + length es) ≡ Some (record { number = zero + length (blocks_of bs); block = B; from = m; place = place_of later; entry = E; before = es })
+      found later E es e = ap (λ Ds. entry_constant zero first Ds (m + length es)) (blocks_end bs b) ∙ entry_behind zero first (blocks_of bs) B [] later E es e
+
+      left : (k : ℕ) → zero + k ≡ k
+      left k = omega arith
+
+      own_of : (later : List LfType) (E : LfType) (es : List LfType) → onto later (E ∷ es) ≡ B.entries → o₂ (m + length es) ≡ Some U
+      own_of later E es e = ap (terms_of_entry (bs ++ b ∷ [])) (found later E es e) ∙ ap (terms_at (bs ++ b ∷ [])) (left (length (blocks_of bs))) ∙ last_terms bs b
+
+      constant_in : (later : List LfType) (E : LfType) (es : List LfType) → onto later (E ∷ es) ≡ B.entries → Σ₂.types (m + length es) ≡ Some (entry_constant_type m B.some es E)
+      constant_in later E es e = else_second (Σ.types (m + length es)) (entry_type (entry_constant zero first Bs₂ (m + length es))) (Some (entry_constant_type m B.some es E)) (free.types_free (m + length es) (entry_from zero first Bs₂ (m + length es) (record { number = zero + length (blocks_of bs); block = B; from = m; place = place_of later; entry = E; before = es }) (found later E es e))) (ap entry_type (found later E es e))
+
+      abbrev Rest : List LfType → List LfType → Type 0
+      Rest later es = (D : LfType) (ds : List LfType) → es ≡ D ∷ ds → onto later (D ∷ ds) ≡ B.entries
+
+      rest_next : (later : List LfType) (D : LfType) (ds : List LfType) → Rest later (D ∷ ds) → Rest (onto later (D ∷ [])) ds
+      rest_next later D ds e F fs q = onto_onto later (D ∷ []) (F ∷ fs) ∙ ap (λ l. onto later (D ∷ l)) (sym q) ∙ e D ds refl
+
+      entry_typed : (later : List LfType) (D : LfType) (ds : List LfType) → onto later (D ∷ ds) ≡ B.entries → IsContext Σ (onto ds B.some) × IsType Σ (onto ds B.some) D
+      entry_typed later D ds e = drop_typed Σ later D (onto ds B.some) (subst (IsContext Σ) (ap (λ fs. onto fs B.some) (sym e) ∙ onto_onto later (D ∷ ds) B.some) (typed B member))
+
+      -- the entries on the `some` variables
+      locals_fit : (later es : List LfType) → Rest later es → IsContext Σ (onto es B.some) → IsTypedSubstitution Σ₂ (onto es B.some) B.some (entry_images m (local_arguments B.some) es keep)
+      locals_fit later [] e c = λ i A g. subst (TypeAt B.some i) (sym (substitute_identity_type reduce A)) g
+      locals_fit later (D ∷ ds) e (c, t) =
+          let ι : ℕ → Image = entry_images m (local_arguments B.some) ds keep in
+          let s : IsTypedSubstitution Σ₂ (onto ds B.some) B.some ι = locals_fit (onto later (D ∷ [])) ds (rest_next later D ds e) c in
+          let T : LfType = substitute_type reduce ι D in
+          let t₂ : IsType Σ₂ B.some T = substitution_keeps_types Σ₂ ok₂ (onto ds B.some) B.some ι D (record { typed = s; source_skeletons = skeleton_context_of Σ₂ ok₂ (onto ds B.some) (more Bs₂ (onto ds B.some) c); target_skeletons = skeleton_context_of Σ₂ ok₂ B.some some₂ }) (more_type Bs₂ (onto ds B.some) D t) in
+          let N : Term = eta_expand (skeleton D) (constant (m + length ds)) (local_arguments B.some) in
+          front_typed Σ₂ ok₂ [] (λ F i. absurd i) (onto ds B.some) B.some D (put (skeleton D) N) ι s (skeleton_substituted reduce ι D, eta_expand_has_type Σ₂ ok₂ (skeleton D) B.some (constant (m + length ds)) (local_arguments B.some) (pi_over B.some T) T some₂ (skeleton_substituted reduce ι D) t₂ (constant_in later D ds (e D ds refl)) (locals_typed Σ₂ ok₂ B.some T some₂ t₂))
+
+      -- and on the terms
+      entries_fit : (later es : List LfType) → Rest later es → IsTypedSubstitution Σ₂ (onto (instance es υ) C) X (entry_images m U es δ)
+      entries_fit later [] e = images₂
+      entries_fit later (D ∷ ds) e =
+          let q : onto later (D ∷ ds) ≡ B.entries = e D ds refl in
+          let (c, t) = entry_typed later D ds q in
+          let κ = constant_skeletons Σ₂ in
+          let φ = family_skeletons Σ₂ in
+          let s : IsTypedSubstitution Σ₂ (onto (instance ds υ) C) X (entry_images m U ds δ) = entries_fit (onto later (D ∷ [])) ds (rest_next later D ds e) in
+          let ι : ℕ → Image = entry_images m (local_arguments B.some) ds keep in
+          let l : IsTypedSubstitution Σ₂ (onto ds B.some) B.some ι = locals_fit (onto later (D ∷ [])) ds (rest_next later D ds e) c in
+          let t₂ : IsType Σ₂ (onto ds B.some) D = more_type Bs₂ (onto ds B.some) D t in
+          let k = type_by_skeletons Σ₂ (onto ds B.some) D t₂ in
+          let T : LfType = substitute_type reduce ι D in
+          let tT : IsType Σ₂ B.some T = substitution_keeps_types Σ₂ ok₂ (onto ds B.some) B.some ι D (record { typed = l; source_skeletons = skeleton_context_of Σ₂ ok₂ (onto ds B.some) (more Bs₂ (onto ds B.some) c); target_skeletons = skeleton_context_of Σ₂ ok₂ B.some some₂ }) t₂ in
+          let Z : LfType = substitute_type reduce (entry_images m U ds δ) (substitute_type reduce (lift_over ds υ) D) in
+          let kω : SubstitutionBySkeletons κ (context_skeletons B.some) (context_skeletons X) (after δ υ) = typed_substitution_by_skeletons Σ₂ ok₂ B.some X (after δ υ) terms₂.typed in
+          let one : substitute_type reduce (after δ υ) T ≡ substitute_type reduce (entry_images m U ds (after δ υ)) D =
+          substitutions_compose_type φ κ (context_skeletons (onto ds B.some)) (context_skeletons B.some) (context_skeletons X) ι (after δ υ) D (typed_substitution_by_skeletons Σ₂ ok₂ (onto ds B.some) B.some ι l) kω k
+          ∙ ap (λ ρ. substitute_type reduce ρ D) (fun_ext (after_entries m (local_arguments B.some) U ds keep (after δ υ) (put_locals κ B.some (context_skeletons X) (after δ υ) kω))) in
+          let two : Z ≡ substitute_type reduce (entry_images m U ds (after δ υ)) D =
+          substitutions_compose_type φ κ (context_skeletons (onto ds B.some)) (context_skeletons (onto (instance ds υ) C)) (context_skeletons X) (lift_over ds υ) (entry_images m U ds δ) D (lifted Σ₂ ds B.some C υ (typed_substitution_by_skeletons Σ₂ ok₂ B.some C υ values₂)) (typed_substitution_by_skeletons Σ₂ ok₂ (onto (instance ds υ) C) X (entry_images m U ds δ) s) k
+          ∙ ap (λ ρ. substitute_type reduce ρ D) (fun_ext (images_of_instance m U ds υ δ)) in
+          let tZ : IsType Σ₂ X Z = subst (IsType Σ₂ X) (one ∙ sym two) (substitution_keeps_types Σ₂ ok₂ B.some X (after δ υ) T terms₂ tT) in
+          let sZ : SpineType Σ₂ X U (entry_constant_type m B.some ds D) Z = subst (SpineType Σ₂ X U (entry_constant_type m B.some ds D)) (one ∙ sym two) (some_typed Σ₂ ok₂ X context₂ B.some T (after δ υ) some₂ tT terms₂.typed) in
+          let kZ : skeleton Z ≡ skeleton D = skeleton_substituted reduce (entry_images m U ds δ) (substitute_type reduce (lift_over ds υ) D) ∙ skeleton_substituted reduce (lift_over ds υ) D in
+          let N : Term = eta_expand (skeleton D) (constant (m + length ds)) U in
+          front_typed Σ₂ ok₂ [] (λ F i. absurd i) (onto (instance ds υ) C) X (substitute_type reduce (lift_over ds υ) D) (put (skeleton D) N) (entry_images m U ds δ) s (kZ, eta_expand_has_type Σ₂ ok₂ (skeleton D) X (constant (m + length ds)) U (entry_constant_type m B.some ds D) Z context₂ kZ tZ (constant_in later D ds q) sZ)
+
+      entries_own : (later es : List LfType) → Rest later es → (i : ℕ) (A : LfType) → TypeAt (onto (instance es υ) C) i A → ImageOnOwnTerms o₂ (entry_images m U es δ i)
+      entries_own later [] e i A g = own₂ i A g
+      entries_own later (D ∷ ds) e zero A g = own_long_constant o₂ (skeleton D) (m + length ds) U (subst (λ u. BeginsWith u U) (sym (own_of later D ds (e D ds refl))) (nil, append_nothing U)) terms_own
+      entries_own later (D ∷ ds) e (suc i) A (F, g, q) = entries_own (onto later (D ∷ [])) ds (rest_next later D ds e) i F g
+
+      old_blocks : (ds : List BlockVariable) → AreTypedBlockVariables Σ₁ W X (own bs) ds → AreTypedBlockVariables Σ₂ W X o₂ (ds ++ b ∷ [])
+      old_blocks [] h = (member, (after δ υ, terms₂.typed, refl), terms_own, tt)
+      old_blocks (d ∷ ds) (i, (ω, u, e), p, h) = (
+        i,
+        (ω, λ j A g. grown_image Σ₁ Σ₂ kept (λ c K q. q) X (ω j) (substitute_type reduce ω A) (u j A g), e),
+        subst (SpineOnOwnTerms o₂) (sym e) (own_some o₂ d.block.some ω (λ j A g. own_agrees Σ₁ (own bs) o₂ stays X (as_term (skeleton A) (ω j)) (substitute_type reduce ω A) (term_typed Σ₁ ok₁ X r.context (skeleton A) (ω j) (substitute_type reduce ω A) (skeleton_substituted reduce ω A) (u j A g)) (some_own (own bs) d.block.some ω (subst (SpineOnOwnTerms (own bs)) e p) j A g))),
+        old_blocks ds h,
+      )
+
+      block_typed : IsTypedNumbering (block_variable B υ ∷ I)
+      block_typed = record {
+        context = context₂;
+        images = entries_fit [] B.entries (λ D ds q. sym q);
+        own_images = entries_own [] B.entries (λ D ds q. sym q);
+        own_types = λ i A g. type_agrees Σ₁ (own bs) o₂ stays X A (declared_is_type Σ₁ ok₁ X i A r.context g) (r.own_types i A g);
+        blocks = old_blocks bs r.blocks;
+      }
+
+  pub typed_numbering : (I : List Item) → AreTypedItems Σ W I → IsTypedNumbering I
+  typed_numbering [] a = record { context = tt; images = λ i A g. absurd g; own_images = λ i A g. absurd g; own_types = λ i A g. absurd g; blocks = tt }
+  typed_numbering (free_variable A ∷ I) (a, t) = free_typed I a (typed_numbering I a) A t
+  typed_numbering (block_variable B υ ∷ I) (a, m, v) = block_typed I a (typed_numbering I a) B υ m v
+
+pub numbered_is_typed : NumberedIsTyped
+numbered_is_typed Σ ok W typed first free C a =
+    let r = typed_numbering Σ ok W typed first free C.items a in
+    record { variables = r.context; on_own_terms = r.own_types; blocks = r.blocks }

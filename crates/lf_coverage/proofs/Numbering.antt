@@ -1,0 +1,500 @@
+-- A case and its numbered form have the same ground instances.
+use Rattle.std.proofs.Common.{◌≡◌, ℕ, zero, suc, List, [], ◌∷◌, ◌++◌, length, ◌+◌, ◌≤◌, ◌<◌, Option, Some, None, Bool, true, false, cond, refl, sym, ap, ◌∙◌, subst, arith}
+use Rattle.lf.specs.Syntax.{constant, variable, Term, Spine, nil, app, LfType, atom, Skeleton, base, arrow, skeleton, rename_spine}
+use Rattle.lf.specs.Substitution.{Image, keep, put, rename_image, substitute, substitute_spine, substitute_image, substitute_type, reduce, after}
+use Rattle.lf.specs.AtOnce.{in_front}
+use Rattle.lf.specs.Eta.{eta_expand, eta_long}
+use Rattle.lf.specs.SkeletonTyping.{HeadSkeletons, SkeletonAt, TermSkeleton, ImageSkeleton, TypeBySkeletons, SubstitutionBySkeletons}
+use Rattle.lf.specs.Skeletons.{constant_skeletons, family_skeletons, context_skeletons}
+use Rattle.lf.specs.Typing.{Signature, TypeAt, ImageHasType, HasType, IsType, IsSignature}
+use Rattle.lf.specs.Variables.{onto, same_number, everything, Values}
+use Rattle.lf.specs.Subordination.{Block, AreTypedBlocks}
+use Rattle.lf.specs.Worlds.{World, lift_over, instance}
+use Rattle.lf.specs.Extension.{Extends}
+use Rattle.lf.proofs.Agreement.{agree_on_type}
+use Rattle.lf.proofs.AtOnce.{eta_long_has_skeleton}
+use Rattle.lf.proofs.Checker.{number_itself}
+use Rattle.lf.proofs.Composition.{substitutions_compose}
+use Rattle.lf.proofs.Eta.{substitute_eta_expand}
+use Rattle.lf.proofs.ExtensionTyping.{extension_keeps_typing, extension_keeps_types, extension_keeps_contexts}
+use Rattle.lf.proofs.Kept.{typed_uses_type}
+use Rattle.lf.proofs.Renaming.{substitute_renamed_spine}
+use Rattle.lf.proofs.SkeletonTyping.{renaming_keeps_skeletons, substitution_keeps_skeletons}
+use Rattle.lf.proofs.SkeletonTypes.{substitutions_compose_type}
+use Rattle.lf.proofs.Substitution.{typed_substitution_by_skeletons}
+use Rattle.lf.proofs.ToSkeletons.{variable_has_skeleton, skeleton_has_variable, typed_has_skeleton, type_by_skeletons}
+use Rattle.lf.proofs.TypeLaws.{skeleton_renamed, skeleton_substituted}
+use Rattle.lf_checks.specs.Clause.{among}
+use Rattle.lf_checks.specs.Tests.{choose}
+use Rattle.lf_cases.specs.Pattern.{has_block_variable, FirstInstance}
+use Rattle.lf_cases.specs.Cover.{InstanceIn, place_of, before}
+use Rattle.lf_cases.specs.Case.{Item, free_variable, block_variable, items_context, entries_in_front, behind_entries, as_term, IsGroundInstance}
+use Rattle.lf_cases.specs.Missing.{AreTypedItems}
+use Rattle.lf_cases.proofs.BlockEntries.{at_place, onto_onto}
+use Rattle.lf_cases.proofs.Instances.{Begun, instance_typed, place_among}
+use Rattle.lf_cases.proofs.LongValues.{long_at, long_past, long_same}
+use Rattle.lf_totality.proofs.OutputCases.{in_context, in_covers, in_type}
+use Rattle.lf_coverage.specs.EntryConstants.{entry_among, entry_constant, entry_images, IsFreeFrom}
+use Rattle.lf_coverage.specs.EntryLaws.{NumberedHasSameInstances}
+use Rattle.lf_coverage.specs.NumberedCase.{some_spine, AreGroundValues, AreInstances}
+use Rattle.lf_coverage.specs.Numbering.{entries_of, own_spine, numbering}
+use Rattle.lf_coverage.specs.OwnTerms.{BlockVariable, blocks_of, rename_blocks}
+use Rattle.lf_coverage.specs.Reading.{read, read_spine, read_type, variable_past, read_entry, entry_reading}
+use Rattle.lf_coverage.proofs.Composing.{composed}
+use Rattle.lf_coverage.proofs.EntryFound.{among_at}
+use Rattle.lf_coverage.proofs.EntrySignature.{else_first, else_second, among_none, not_same}
+use Rattle.lf_coverage.proofs.EntryValues.{read_entry_long, read_as_term, count_some, read_some, some_same, some_equal, put_term, put_some}
+use Rattle.lf_coverage.proofs.GroundTyped.{ground_typed, items_extended, long_equal, past_one}
+use Rattle.lf_coverage.proofs.OwnTerms.{old_is_none}
+use Rattle.lf_coverage.proofs.ReadInstance.{values_fit, value_past, reading_next}
+use Rattle.lf_coverage.proofs.Reading.{read_renamed, read_spine_renamed, IsOld, typed_only, type_only, none_read, none_read_type, read_image, FollowsRead, read_substituted, read_type_substituted}
+use Rattle.lf_coverage.proofs.ReadSkeletons.{count}
+use Rattle.lf_coverage.proofs.Transfer.{same_in, onto_skeleton}
+
+-- The entries of a block variable behind others
+pub entry_behind : (k n : ℕ) (Bs : List Block) (B : Block) (Cs : List Block) (later : List LfType) (E : LfType) (es : List LfType) → onto later (E ∷ es) ≡ B.entries → entry_constant k n (Bs ++ B ∷ Cs) ((n + entries_of Bs) + length es) ≡ Some (record { number = k + length Bs; block = B; from = n + entries_of Bs; place = place_of later; entry = E; before = es })
+entry_behind k n [] B Cs later E es e =
+    ap (λ m. entry_constant k n (B ∷ Cs) (m + length es)) (none n)
+    ∙ else_first (entry_among k B n zero B.entries (n + length es)) (entry_constant (suc k) (n + length B.entries) Cs (n + length es)) (record { number = k; block = B; from = n; place = zero + place_of later; entry = E; before = es }) (ap (λ ds. entry_among k B n zero ds (n + length es)) (sym e) ∙ among_at k B n zero later E es)
+    ∙ ap (λ j. Some (record { number = j; block = B; from = n; place = zero + place_of later; entry = E; before = es })) (sym (none k))
+    ∙ ap (λ m. Some (record { number = k + 0; block = B; from = m; place = zero + place_of later; entry = E; before = es })) (sym (none n))
+    ∙ ap (λ p. Some (record { number = k + 0; block = B; from = n + 0; place = p; entry = E; before = es })) (left (place_of later))
+  where
+    none : (m : ℕ) → m + 0 ≡ m
+    none m = omega arith
+
+    left : (m : ℕ) → zero + m ≡ m
+    left m = omega arith
+entry_behind k n (D ∷ Bs) B Cs later E es e =
+    else_second (entry_among k D n zero D.entries (((n + (length D.entries + entries_of Bs)) + length es))) (entry_constant (suc k) (n + length D.entries) (Bs ++ B ∷ Cs) ((n + (length D.entries + entries_of Bs)) + length es)) (entry_constant (suc k) (n + length D.entries) (Bs ++ B ∷ Cs) ((n + (length D.entries + entries_of Bs)) + length es)) (among_none k D n zero D.entries ((n + (length D.entries + entries_of Bs)) + length es) (past n (length D.entries) (entries_of Bs) (length es))) refl
+    ∙ ap (λ m. entry_constant (suc k) (n + length D.entries) (Bs ++ B ∷ Cs) (m + length es)) (sums n (length D.entries) (entries_of Bs))
+    ∙ entry_behind (suc k) (n + length D.entries) Bs B Cs later E es e
+    ∙ ap (λ j. Some (record { number = j; block = B; from = (n + length D.entries) + entries_of Bs; place = place_of later; entry = E; before = es })) (next k (length Bs))
+    ∙ ap (λ m. Some (record { number = k + suc (length Bs); block = B; from = m; place = place_of later; entry = E; before = es })) (sym (sums n (length D.entries) (entries_of Bs)))
+  where
+    past : (n d s l : ℕ) → n + d ≤ (n + (d + s)) + l
+    past n d s l = omega arith
+
+    sums : (n d s : ℕ) → n + (d + s) ≡ (n + d) + s
+    sums n d s = omega arith
+
+    next : (k l : ℕ) → suc k + l ≡ k + suc l
+    next k l = omega arith
+
+-- Images and skeletons under one more variable
+image_moved : (κ : HeadSkeletons) (Θ : List Skeleton) (a t : Skeleton) (y : Image) → ImageSkeleton κ Θ y t → ImageSkeleton κ (a ∷ Θ) (rename_image suc y) t
+image_moved κ Θ a t (keep j) g = g
+image_moved κ Θ a t (put b N) (e, n) = (e, renaming_keeps_skeletons κ Θ (a ∷ Θ) suc N b (λ i u g. g) n)
+
+image_read_next : (first : ℕ) (Bs : List Block) (θ : ℕ → ℕ → Image) (n : ℕ) (y : Image) → read_image (entry_reading first Bs θ (suc n)) (rename_image suc y) ≡ rename_image suc (read_image (entry_reading first Bs θ n) y)
+image_read_next first Bs θ n (keep j) = refl
+image_read_next first Bs θ n (put a N) = ap (put a) (read_renamed (entry_reading first Bs θ n) (entry_reading first Bs θ (suc n)) suc N (reading_next first Bs θ n))
+
+-- what an instance gives from an entry on
+abbrev from_entry : List LfType → (ℕ → Image) → ℕ → Image
+from_entry [] φ = φ
+from_entry (D ∷ ds) φ = from_entry ds (λ i. φ (suc i))
+
+from_next : (later : List LfType) (E : LfType) (φ : ℕ → Image) (i : ℕ) → from_entry (onto later (E ∷ [])) φ i ≡ from_entry later φ (suc i)
+from_next [] E φ i = refl
+from_next (D ∷ ds) E φ i = from_next ds E (λ j. φ (suc j)) i
+
+from_first : (later : List LfType) (φ : ℕ → Image) → from_entry later φ zero ≡ φ (place_of later)
+from_first [] φ = refl
+from_first (D ∷ ds) φ = from_first ds (λ j. φ (suc j))
+
+in_front_same : (ds : List LfType) (θ φ τ : ℕ → Image) (i : ℕ) → ((j : ℕ) → θ j ≡ φ j) → entries_in_front ds θ τ i ≡ entries_in_front ds φ τ i
+in_front_same [] θ φ τ i h = refl
+in_front_same (E ∷ es) θ φ τ zero h = h zero
+in_front_same (E ∷ es) θ φ τ (suc i) h = in_front_same es (λ j. θ (suc j)) (λ j. φ (suc j)) τ i (λ j. h (suc j))
+
+pub blocks_renamed : (ρ : ℕ → ℕ) (bs : List BlockVariable) → blocks_of (rename_blocks ρ bs) ≡ blocks_of bs
+blocks_renamed ρ [] = refl
+blocks_renamed ρ (b ∷ bs) = ap (λ Bs. b.block ∷ Bs) (blocks_renamed ρ bs)
+
+blocks_with : (bs : List BlockVariable) (b : BlockVariable) (Cs : List Block) → blocks_of (bs ++ b ∷ []) ++ Cs ≡ blocks_of bs ++ b.block ∷ Cs
+blocks_with [] b Cs = refl
+blocks_with (d ∷ bs) b Cs = ap (λ Bs. d.block ∷ Bs) (blocks_with bs b Cs)
+
+-- The instances in a ground instance are those of θ, by number.
+abbrev HasInstances : (ℕ → ℕ → Image) → ℕ → {Σ' : Signature} {W : List Block} {S : ℕ → Bool} {G : List LfType} (w : World Σ' W S G) (I : List Item) (σ : ℕ → Image) → IsGroundInstance w I σ → Type 0
+HasInstances θ first w [] σ g = Unit {0}
+HasInstances θ first w (free_variable A ∷ I) σ (N, τ, g, n, e) = HasInstances θ first w I τ g
+HasInstances θ first w (block_variable B υ ∷ I) σ (φ, τ, g, i, s, e) = (φ ≡ θ (zero + length (blocks_of (numbering first I).blocks))) × HasInstances θ first w I τ g
+
+module _ (Σ Σ' : Signature) (ok : IsSignature Σ) (S : ℕ → Bool) (x : Extends S Σ Σ') (W : List Block) (typed : AreTypedBlocks Σ W) (first : ℕ) (free : IsFreeFrom Σ first) {G : List LfType} (w : World Σ' W S G) (Bs : List Block) (θ : ℕ → ℕ → Image) where
+  abbrev f : ℕ → ℕ → Option (ℕ × ℕ)
+  f n = entry_reading first Bs θ n
+
+  abbrev κ' : HeadSkeletons
+  κ' = constant_skeletons Σ'
+
+  -- the block variables of the numbering are the first ones
+  abbrev Leads : List Item → Type 0
+  Leads I = (Cs : List Block) × (Bs ≡ blocks_of (numbering first I).blocks ++ Cs)
+
+  leads_free : (A : LfType) (I : List Item) → Leads (free_variable A ∷ I) → Leads I
+  leads_free A I (Cs, e) = (Cs, e ∙ ap (λ Ds. Ds ++ Cs) (blocks_renamed suc (numbering first I).blocks))
+
+  leads_block : (B : Block) (υ : ℕ → Image) (I : List Item) → Leads (block_variable B υ ∷ I) → (Cs : List Block) × (Bs ≡ blocks_of (numbering first I).blocks ++ B ∷ Cs)
+  leads_block B υ I (Cs, e) = (Cs, e ∙ blocks_with (numbering first I).blocks (record { block = B; terms = own_spine B υ (numbering first I) }) Cs)
+
+  -- what each variable of the items is read as
+  abbrev seen : List Item → ℕ → Image
+  seen I i = read_image (f (length (numbering first I).variables)) ((numbering first I).images i)
+
+  -- The values τ of the items are those of the numbered form under ρ.
+  record Agrees (I : List Item) (τ ρ : ℕ → Image) : Type 0 where
+    pub ground : IsGroundInstance w I τ
+    pub numbers : HasInstances θ first w I τ ground
+    pub values : AreGroundValues Σ' G (entry_reading first Bs θ) (numbering first I).variables ρ
+    pub instances : AreInstances w (f (length (numbering first I).variables)) ρ θ zero (numbering first I).blocks
+    pub fits : SubstitutionBySkeletons κ' (context_skeletons (items_context I)) (context_skeletons (onto (numbering first I).variables G)) (seen I)
+    pub agree : (i : ℕ) (A : LfType) → TypeAt (items_context I) i A → as_term (skeleton A) (τ i) ≡ as_term (skeleton A) (substitute_image ρ (seen I i))
+
+  old_none : (n c : ℕ) → IsOld Σ c → f n c ≡ None
+  old_none n c (A, e) = ap (read_entry θ n) (old_is_none Σ first free Bs c A e)
+
+  old_follows : (n : ℕ) (δ : ℕ → Image) (c : ℕ) → IsOld Σ c → FollowsRead δ None (f n c)
+  old_follows n δ c h = subst (FollowsRead δ None) (sym (old_none n c h)) tt
+
+  typed' : AreTypedBlocks Σ' W
+  typed' B m = extension_keeps_contexts S Σ Σ' x (onto B.entries B.some) (typed B m)
+
+  -- a term over the items, numbered and read
+  seen_term : (I : List Item) (N : Term) (A : LfType) → HasType Σ (items_context I) N A → read (f (length (numbering first I).variables)) (substitute reduce (numbering first I).images N) ≡ substitute reduce (seen I) N
+  seen_term I N A t =
+      read_substituted (IsOld Σ) (λ c. None) (f (length (numbering first I).variables)) (numbering first I).images N (old_follows (length (numbering first I).variables) (numbering first I).images) (typed_only Σ (items_context I) N A t)
+      ∙ ap (substitute reduce (seen I)) (none_read (IsOld Σ) (λ c. None) N (λ c h. refl) (typed_only Σ (items_context I) N A t))
+
+  -- So types are the same, and terms.
+  module _ (I : List Item) (a : AreTypedItems Σ W I) (τ ρ : ℕ → Image) (r : Agrees I τ ρ) where
+    abbrev C : List LfType
+    C = items_context I
+
+    abbrev Δ : List Skeleton
+    Δ = context_skeletons G
+
+    abbrev Θ : List Skeleton
+    Θ = context_skeletons (onto (numbering first I).variables G)
+
+    ρ_fits : SubstitutionBySkeletons κ' (context_skeletons (onto (numbering first I).variables G)) (context_skeletons G) ρ
+    ρ_fits = values_fit Σ' x.ok G first Bs θ (numbering first I).variables ρ r.values
+
+    τ_fits : SubstitutionBySkeletons κ' (context_skeletons (items_context I)) (context_skeletons G) τ
+    τ_fits = typed_substitution_by_skeletons Σ' x.ok (items_context I) G τ (ground_typed Σ' x.ok W typed' w I τ (items_extended S Σ Σ' x W I a) r.ground)
+
+    both_fit : SubstitutionBySkeletons κ' (context_skeletons (items_context I)) (context_skeletons G) (after ρ (seen I))
+    both_fit = composed κ' (context_skeletons (items_context I)) (context_skeletons (onto (numbering first I).variables G)) (context_skeletons G) (seen I) ρ r.fits ρ_fits
+
+    long_agree : (i : ℕ) (A : LfType) → TypeAt (items_context I) i A → long_at (items_context I) τ i ≡ long_at (items_context I) (after ρ (seen I)) i
+    long_agree i A g = long_equal (items_context I) τ (after ρ (seen I)) r.agree i A g
+
+    type_same : (A : LfType) → IsType Σ (items_context I) A → substitute_type reduce τ A ≡ substitute_type reduce ρ (read_type (f (length (numbering first I).variables)) (substitute_type reduce (numbering first I).images A))
+    type_same A t =
+        let φ = family_skeletons Σ' in
+        let Γ : List Skeleton = context_skeletons (items_context I) in
+        let k : TypeBySkeletons φ κ' Γ A = type_by_skeletons Σ' (items_context I) A (extension_keeps_types S Σ Σ' x (items_context I) A t) in
+        let seen_type : read_type (f (length (numbering first I).variables)) (substitute_type reduce (numbering first I).images A) ≡ substitute_type reduce (seen I) A =
+        read_type_substituted (IsOld Σ) (λ c. None) (f (length (numbering first I).variables)) (numbering first I).images A (old_follows (length (numbering first I).variables) (numbering first I).images) (type_only Σ (items_context I) A t)
+        ∙ ap (substitute_type reduce (seen I)) (none_read_type (IsOld Σ) (λ c. None) A (λ c h. refl) (type_only Σ (items_context I) A t)) in
+        sym (long_same κ' φ [] (items_context I) (context_skeletons G) τ A τ_fits k)
+        ∙ agree_on_type reduce (in_context (items_context I)) (long_past [] (items_context I) τ) (long_past [] (items_context I) (after ρ (seen I))) A (λ i u. let (B, g) = in_type (items_context I) i u in long_agree i B g) (typed_uses_type Σ (items_context I) (in_context (items_context I)) A (in_covers (items_context I)) t)
+        ∙ long_same κ' φ [] (items_context I) (context_skeletons G) (after ρ (seen I)) A both_fit k
+        ∙ sym (substitutions_compose_type φ κ' Γ (context_skeletons (onto (numbering first I).variables G)) (context_skeletons G) (seen I) ρ A r.fits ρ_fits k)
+        ∙ ap (substitute_type reduce ρ) (sym seen_type)
+
+    long_term : (N : Term) (t : Skeleton) (σ : ℕ → Image) → SubstitutionBySkeletons κ' (context_skeletons (items_context I)) (context_skeletons G) σ → TermSkeleton κ' (context_skeletons (items_context I)) N t → substitute reduce (long_at (items_context I) σ) N ≡ substitute reduce σ N
+    long_term N t σ s n = argument (long_same κ' (λ a. Some (arrow t (base 0))) [] (items_context I) (context_skeletons G) σ (atom 0 (app N nil)) s (arrow t (base 0), refl, (n, refl)))
+      where
+        argument : atom 0 (app (substitute reduce (long_at (items_context I) σ) N) nil) ≡ atom 0 (app (substitute reduce σ N) nil) → substitute reduce (long_at (items_context I) σ) N ≡ substitute reduce σ N
+        argument e = cc
+
+    term_same : (N : Term) (A : LfType) → HasType Σ (items_context I) N A → substitute reduce τ N ≡ substitute reduce ρ (read (f (length (numbering first I).variables)) (substitute reduce (numbering first I).images N))
+    term_same N A t =
+        let Γ : List Skeleton = context_skeletons (items_context I) in
+        let k : TermSkeleton κ' Γ N (skeleton A) = typed_has_skeleton Σ' (items_context I) N A (extension_keeps_typing S Σ Σ' x (items_context I) N A t) in
+        sym (long_term N (skeleton A) τ τ_fits k)
+        ∙ same_in κ' Γ (long_at (items_context I) τ) (long_at (items_context I) (after ρ (seen I))) (λ i u g. let (B, h, e) = skeleton_has_variable (items_context I) i u g in long_agree i B h) N (skeleton A) k
+        ∙ long_term N (skeleton A) (after ρ (seen I)) both_fit k
+        ∙ sym (substitutions_compose κ' Γ (context_skeletons (onto (numbering first I).variables G)) (context_skeletons G) (seen I) ρ N (skeleton A) r.fits ρ_fits k)
+        ∙ ap (substitute reduce ρ) (sym (seen_term I N A t))
+
+    -- a value of a `some` variable
+    image_same : (y : Image) (A : LfType) (b : Skeleton) → skeleton A ≡ b → ImageHasType Σ (items_context I) y A → as_term b (substitute_image τ y) ≡ as_term b (substitute_image ρ (read_image (f (length (numbering first I).variables)) (substitute_image (numbering first I).images y)))
+    image_same (keep j) A b e g = subst (λ c. as_term c (τ j) ≡ as_term c (substitute_image ρ (seen I j))) e (r.agree j A g)
+    image_same (put c N) A b e (q, n) = term_same N A n
+
+  -- One more free variable
+  moved_terms : (n : ℕ) (ρ : ℕ → Image) (y : Image) (U : Spine) → substitute_spine reduce (in_front y ρ) (read_spine (f (suc n)) (rename_spine suc U)) ≡ substitute_spine reduce ρ (read_spine (f n) U)
+  moved_terms n ρ y U = ap (substitute_spine reduce (in_front y ρ)) (read_spine_renamed (f n) (f (suc n)) suc U (reading_next first Bs θ n)) ∙ substitute_renamed_spine reduce (in_front y ρ) suc (read_spine (f n) U)
+
+  moved_instances : (n : ℕ) (ρ : ℕ → Image) (y : Image) (k : ℕ) (bs : List BlockVariable) → AreInstances w (f n) ρ θ k bs → AreInstances w (f (suc n)) (in_front y ρ) θ k (rename_blocks suc bs)
+  moved_instances n ρ y k [] h = tt
+  moved_instances n ρ y k (b ∷ bs) (i, e, h) = (i, e ∙ sym (moved_terms n ρ y b.terms), moved_instances n ρ y (suc k) bs h)
+
+  moved_back : (n : ℕ) (ρ : ℕ → Image) (y : Image) (k : ℕ) (bs : List BlockVariable) → AreInstances w (f (suc n)) (in_front y ρ) θ k (rename_blocks suc bs) → AreInstances w (f n) ρ θ k bs
+  moved_back n ρ y k [] h = tt
+  moved_back n ρ y k (b ∷ bs) (i, e, h) = (i, e ∙ moved_terms n ρ y b.terms, moved_back n ρ y (suc k) bs h)
+
+  free_step : (I : List Item) (a : AreTypedItems Σ W I) (A : LfType) → IsType Σ (items_context I) A → (τ ρ : ℕ → Image) → Agrees I τ ρ → (N : Term) → HasType Σ' G N (substitute_type reduce τ A) → Agrees (free_variable A ∷ I) (in_front (put (skeleton A) N) τ) (in_front (put (skeleton (substitute_type reduce (numbering first I).images A)) N) ρ)
+  free_step I a A t τ ρ r N n = record {
+    ground = (N, τ, r.ground, n, refl);
+    numbers = r.numbers;
+    values = (N, ρ, r.values, subst (HasType Σ' G N) (type_same I a τ ρ r A t) n, refl);
+    instances = moved_instances (length (numbering first I).variables) ρ (put (skeleton A') N) zero (numbering first I).blocks r.instances;
+    fits = fits;
+    agree = agree;
+  }
+    where
+      A' : LfType
+      A' = substitute_type reduce (numbering first I).images A
+
+      fits : SubstitutionBySkeletons κ' (skeleton A ∷ context_skeletons (items_context I)) (skeleton A' ∷ context_skeletons (onto (numbering first I).variables G)) (seen (free_variable A ∷ I))
+      fits zero u q = skeleton_substituted reduce (numbering first I).images A ∙ q
+      fits (suc i) u g = subst (λ y. ImageSkeleton κ' (skeleton A' ∷ context_skeletons (onto (numbering first I).variables G)) y u) (sym (image_read_next first Bs θ (length (numbering first I).variables) ((numbering first I).images i))) (image_moved κ' (context_skeletons (onto (numbering first I).variables G)) (skeleton A') u (seen I i) (r.fits i u g))
+
+      agree : (i : ℕ) (B : LfType) → TypeAt (A ∷ items_context I) i B → as_term (skeleton B) (in_front (put (skeleton A) N) τ i) ≡ as_term (skeleton B) (substitute_image (in_front (put (skeleton A') N) ρ) (seen (free_variable A ∷ I) i))
+      agree zero B q = refl
+      agree (suc i) B (D, g, q) =
+          ap (λ c. as_term c (τ i)) (ap skeleton q ∙ skeleton_renamed suc D)
+          ∙ r.agree i D g
+          ∙ ap (λ c. as_term c (substitute_image ρ (seen I i))) (sym (ap skeleton q ∙ skeleton_renamed suc D))
+          ∙ ap (as_term (skeleton B)) (sym (ap (substitute_image (in_front (put (skeleton A') N) ρ)) (image_read_next first Bs θ (length (numbering first I).variables) ((numbering first I).images i)) ∙ past_one (put (skeleton A') N) ρ (seen I i)))
+
+  -- One more block variable
+  number_of : List Item → ℕ
+  number_of I = zero + length (blocks_of (numbering first I).blocks)
+
+  next_number : (k l : ℕ) → suc k + l ≡ k + suc l
+  next_number k l = omega arith
+
+  same_number_of : (k : ℕ) → k + 0 ≡ k
+  same_number_of k = omega arith
+
+  abbrev Stands : (ℕ → Option (ℕ × ℕ)) → (ℕ → Image) → BlockVariable → ℕ → Type 0
+  Stands g ρ b k = InstanceIn w b.block (θ k) × (some_spine b.block.some (behind_entries b.block.entries (θ k)) ≡ substitute_spine reduce ρ (read_spine g b.terms))
+
+  append_instances : (g : ℕ → Option (ℕ × ℕ)) (ρ : ℕ → Image) (b : BlockVariable) (k : ℕ) (bs : List BlockVariable) → AreInstances w g ρ θ k bs → Stands g ρ b (k + length (blocks_of bs)) → AreInstances w g ρ θ k (bs ++ b ∷ [])
+  append_instances g ρ b k [] h s = let (i, e) = subst (Stands g ρ b) (same_number_of k) s in (i, e, tt)
+  append_instances g ρ b k (d ∷ bs) (i, e, h) s = (i, e, append_instances g ρ b (suc k) bs h (subst (Stands g ρ b) (sym (next_number k (length (blocks_of bs)))) s))
+
+  split_instances : (g : ℕ → Option (ℕ × ℕ)) (ρ : ℕ → Image) (b : BlockVariable) (k : ℕ) (bs : List BlockVariable) → AreInstances w g ρ θ k (bs ++ b ∷ []) → AreInstances w g ρ θ k bs × Stands g ρ b (k + length (blocks_of bs))
+  split_instances g ρ b k [] (i, e, h) = (tt, subst (Stands g ρ b) (sym (same_number_of k)) (i, e))
+  split_instances g ρ b k (d ∷ bs) (i, e, h) = let (p, s) = split_instances g ρ b (suc k) bs h in ((i, e, p), subst (Stands g ρ b) (next_number k (length (blocks_of bs))) s)
+
+  module _ (I : List Item) (a : AreTypedItems Σ W I) (B : Block) (υ : ℕ → Image) (v : Values Σ everything B.some (items_context I) υ) (lead : (Cs : List Block) × (Bs ≡ blocks_of (numbering first I).blocks ++ B ∷ Cs)) (τ ρ : ℕ → Image) (r : Agrees I τ ρ) where
+    abbrev X : List LfType
+    X = (numbering first I).variables
+
+    abbrev bs : List BlockVariable
+    bs = (numbering first I).blocks
+
+    abbrev k : ℕ
+    k = zero + length (blocks_of (numbering first I).blocks)
+
+    abbrev m : ℕ
+    m = first + entries_of (blocks_of (numbering first I).blocks)
+
+    abbrev U : Spine
+    U = own_spine B υ (numbering first I)
+
+    abbrev values : ℕ → Image
+    values i = read_image (f (length X)) (after (numbering first I).images υ i)
+
+    values_fit_here : SubstitutionBySkeletons κ' (context_skeletons B.some) (context_skeletons (onto (numbering first I).variables G)) values
+    values_fit_here i t g =
+        let (A, h, e) = skeleton_has_variable B.some i t g in
+        by (υ i) (substitute_type reduce υ A) (skeleton_substituted reduce υ A ∙ e) (v.typed i A h refl)
+      where
+        by : (y : Image) (Z : LfType) → skeleton Z ≡ t → ImageHasType Σ (items_context I) y Z → ImageSkeleton κ' (context_skeletons (onto (numbering first I).variables G)) (read_image (f (length X)) (substitute_image (numbering first I).images y)) t
+        by (keep j) Z e h = r.fits j t (subst (SkeletonAt (context_skeletons (items_context I)) j) e (variable_has_skeleton (items_context I) j Z h))
+        by (put c N) Z e (q, n) = (sym q ∙ e, subst (λ Y. TermSkeleton κ' (context_skeletons (onto (numbering first I).variables G)) Y c) (sym (seen_term I N Z n)) (subst (TermSkeleton κ' (context_skeletons (onto (numbering first I).variables G)) (substitute reduce (seen I) N)) q (substitution_keeps_skeletons κ' (context_skeletons (items_context I)) (context_skeletons (onto (numbering first I).variables G)) (seen I) N (skeleton Z) r.fits (typed_has_skeleton Σ' (items_context I) N Z (extension_keeps_typing S Σ Σ' x (items_context I) N Z n)))))
+
+    values_same : (i : ℕ) (A : LfType) → TypeAt B.some i A → as_term (skeleton A) (after τ υ i) ≡ as_term (skeleton A) (after ρ values i)
+    values_same i A g = image_same I a τ ρ r (υ i) (substitute_type reduce υ A) (skeleton A) (skeleton_substituted reduce υ A) (v.typed i A g refl)
+
+    terms_value : substitute_spine reduce ρ (read_spine (f (length X)) U) ≡ some_spine B.some (after ρ values)
+    terms_value = ap (substitute_spine reduce ρ) (read_some (f (length X)) B.some (after (numbering first I).images υ)) ∙ put_some κ' B.some (context_skeletons (onto (numbering first I).variables G)) (context_skeletons G) values ρ values_fit_here (ρ_fits I a τ ρ r)
+
+    abbrev SameTerms : Type 0
+    SameTerms = (i : ℕ) (A : LfType) → TypeAt B.some i A → as_term (skeleton A) (behind_entries B.entries (θ k) i) ≡ as_term (skeleton A) (after τ υ i)
+
+    terms_from : SameTerms → some_spine B.some (behind_entries B.entries (θ k)) ≡ substitute_spine reduce ρ (read_spine (f (length X)) U)
+    terms_from s = some_equal B.some (behind_entries B.entries (θ k)) (after ρ values) (λ i A g. s i A g ∙ values_same i A g) ∙ sym terms_value
+
+    terms_to : some_spine B.some (behind_entries B.entries (θ k)) ≡ substitute_spine reduce ρ (read_spine (f (length X)) U) → SameTerms
+    terms_to e i A g = some_same B.some (behind_entries B.entries (θ k)) (after ρ values) (e ∙ terms_value) i A g ∙ sym (values_same i A g)
+
+    module _ (at : InstanceIn w B (θ k)) where
+      begun : Begun Σ' x.ok G B B.entries (θ k)
+      begun = instance_typed Σ' x.ok w B (θ k) at
+
+      entry_is : (later : List LfType) (E : LfType) (es : List LfType) → onto later (E ∷ es) ≡ B.entries → (u : ℕ) × (θ k (place_of later) ≡ keep u)
+      entry_is later E es e = begun.kept (place_of later) (subst (λ ds. among ds (place_of later) ≡ true) e (place_among later E es))
+
+      whole : (later : List LfType) (E : LfType) (es : List LfType) → onto later (E ∷ es) ≡ B.entries → onto B.entries B.some ≡ onto later (E ∷ onto es B.some)
+      whole later E es e = ap (λ ds. onto ds B.some) (sym e) ∙ onto_onto later (E ∷ es) B.some
+
+      skeleton_at : (later : List LfType) (E : LfType) (es : List LfType) → onto later (E ∷ es) ≡ B.entries → (u : ℕ) → θ k (place_of later) ≡ keep u → SkeletonAt (context_skeletons (onto X G)) (u + length X) (skeleton E)
+      skeleton_at later E es e u q =
+          let (Z, g, z) = at_place later E (onto es B.some) (θ k) in
+          let t : TypeAt G u (substitute_type reduce (before later (θ k)) E) = subst (TypeAt G u) z (subst (λ y. ImageHasType Σ' G y (substitute_type reduce (θ k) Z)) q (begun.typed.typed (place_of later) Z (subst (λ D. TypeAt D (place_of later) Z) (sym (whole later E es e)) g) refl)) in
+          onto_skeleton X G u (skeleton E) (subst (SkeletonAt (context_skeletons G) u) (skeleton_substituted reduce (before later (θ k)) E) (variable_has_skeleton G u (substitute_type reduce (before later (θ k)) E) t))
+
+      read_at : (later : List LfType) (E : LfType) (es : List LfType) → onto later (E ∷ es) ≡ B.entries → (u : ℕ) → θ k (place_of later) ≡ keep u → f (length X) (m + length es) ≡ Some (count U, u + length X)
+      read_at later E es e u q =
+          ap (read_entry θ (length X)) (ap (λ Ds. entry_constant zero first Ds (m + length es)) lead.1 ∙ entry_behind zero first (blocks_of bs) B lead.0 later E es e)
+          ∙ ap (λ y. Some (length B.some, variable_past (length X) y)) q
+          ∙ ap (λ n. Some (n, u + length X)) (sym (count_some B.some (after (numbering first I).images υ)))
+
+      long_at_entry : (later : List LfType) (E : LfType) (es : List LfType) → onto later (E ∷ es) ≡ B.entries → (u : ℕ) → θ k (place_of later) ≡ keep u → read (f (length X)) (eta_expand (skeleton E) (constant (m + length es)) U) ≡ eta_long (skeleton E) (variable (u + length X))
+      long_at_entry later E es e u q = read_entry_long (f (length X)) (skeleton E) (m + length es) (u + length X) U (read_at later E es e u q)
+
+      abbrev images : List LfType → ℕ → Image
+      images es i = read_image (f (length X)) (entry_images m U es (numbering first I).images i)
+
+      abbrev Rest : List LfType → List LfType → Type 0
+      Rest later es = (D : LfType) (ds : List LfType) → es ≡ D ∷ ds → onto later (D ∷ ds) ≡ B.entries
+
+      rest_next : (later : List LfType) (D : LfType) (ds : List LfType) → Rest later (D ∷ ds) → Rest (onto later (D ∷ [])) ds
+      rest_next later D ds e F fs q = onto_onto later (D ∷ []) (F ∷ fs) ∙ ap (λ l. onto later (D ∷ l)) (sym q) ∙ e D ds refl
+
+      images_fit : (later es : List LfType) → Rest later es → SubstitutionBySkeletons κ' (context_skeletons (onto (instance es υ) (items_context I))) (context_skeletons (onto X G)) (images es)
+      images_fit later [] e = r.fits
+      images_fit later (D ∷ ds) e = front (images_fit (onto later (D ∷ [])) ds (rest_next later D ds e))
+        where
+          front : SubstitutionBySkeletons κ' (context_skeletons (onto (instance ds υ) (items_context I))) (context_skeletons (onto X G)) (images ds) → SubstitutionBySkeletons κ' (skeleton (substitute_type reduce (lift_over ds υ) D) ∷ context_skeletons (onto (instance ds υ) (items_context I))) (context_skeletons (onto X G)) (images (D ∷ ds))
+          front ih zero t q =
+              let (u, p) = entry_is later D ds (e D ds refl) in
+              (sym (skeleton_substituted reduce (lift_over ds υ) D) ∙ q, subst (λ Y. TermSkeleton κ' (context_skeletons (onto X G)) Y (skeleton D)) (sym (long_at_entry later D ds (e D ds refl) u p)) (eta_long_has_skeleton κ' (context_skeletons (onto X G)) (skeleton D) (variable (u + length X)) (skeleton_at later D ds (e D ds refl) u p)))
+          front ih (suc i) t g = ih i t g
+
+      images_agree : (later es : List LfType) → Rest later es → (i : ℕ) (A : LfType) → TypeAt (onto (instance es υ) (items_context I)) i A → as_term (skeleton A) (entries_in_front es (from_entry later (θ k)) τ i) ≡ as_term (skeleton A) (substitute_image ρ (images es i))
+      images_agree later [] e i A g = r.agree i A g
+      images_agree later (D ∷ ds) e zero A g =
+          let (u, p) = entry_is later D ds (e D ds refl) in
+          ap (as_term (skeleton A)) (from_first later (θ k) ∙ p)
+          ∙ ap (λ c. eta_long c (variable u)) (ap skeleton g ∙ skeleton_renamed suc (substitute_type reduce (lift_over ds υ) D) ∙ skeleton_substituted reduce (lift_over ds υ) D)
+          ∙ sym (ap (substitute reduce ρ) (long_at_entry later D ds (e D ds refl) u p) ∙ substitute_eta_expand ρ (skeleton D) (variable (u + length X)) (variable u) nil (value_past Σ' x.ok G first Bs θ X ρ r.values u))
+      images_agree later (D ∷ ds) e (suc i) A (F, g, q) =
+          ap (λ c. as_term c (entries_in_front ds (λ j. from_entry later (θ k) (suc j)) τ i)) (ap skeleton q ∙ skeleton_renamed suc F)
+          ∙ ap (as_term (skeleton F)) (in_front_same ds (λ j. from_entry later (θ k) (suc j)) (from_entry (onto later (D ∷ [])) (θ k)) τ i (λ j. sym (from_next later D (θ k) j)))
+          ∙ images_agree (onto later (D ∷ [])) ds (rest_next later D ds e) i F g
+          ∙ ap (λ c. as_term c (substitute_image ρ (images ds i))) (sym (ap skeleton q ∙ skeleton_renamed suc F))
+
+      block_step : SameTerms → Agrees (block_variable B υ ∷ I) (entries_in_front B.entries (θ k) τ) ρ
+      block_step s = record {
+        ground = (θ k, τ, r.ground, at, s, refl);
+        numbers = (refl, r.numbers);
+        values = r.values;
+        instances = append_instances (f (length X)) ρ (record { block = B; terms = U }) zero bs r.instances (at, terms_from s);
+        fits = images_fit [] B.entries (λ D ds q. sym q);
+        agree = images_agree [] B.entries (λ D ds q. sym q);
+      }
+
+instances_of : ℕ → {Σ' : Signature} {W : List Block} {S : ℕ → Bool} {G : List LfType} (w : World Σ' W S G) (I : List Item) (σ : ℕ → Image) → IsGroundInstance w I σ → ℕ → ℕ → Image
+instances_of first w [] σ g = λ k. keep
+instances_of first w (free_variable A ∷ I) σ (N, τ, g, n, e) = instances_of first w I τ g
+instances_of first w (block_variable B υ ∷ I) σ (φ, τ, g, i, s, e) = λ k. cond (same_number k (zero + length (blocks_of (numbering first I).blocks))) φ (instances_of first w I τ g k)
+
+module _ (first : ℕ) {Σ' : Signature} {W : List Block} {S : ℕ → Bool} {G : List LfType} (w : World Σ' W S G) where
+  length_with : (bs : List BlockVariable) (b : BlockVariable) → length (blocks_of (bs ++ b ∷ [])) ≡ suc (length (blocks_of bs))
+  length_with [] b = refl
+  length_with (d ∷ bs) b = ap suc (length_with bs b)
+
+  instances_stay : (θ φ : ℕ → ℕ → Image) (I : List Item) (σ : ℕ → Image) (g : IsGroundInstance w I σ) → ((k : ℕ) → k < length (blocks_of (numbering first I).blocks) → θ k ≡ φ k) → HasInstances θ first w I σ g → HasInstances φ first w I σ g
+  instances_stay θ φ [] σ g h i = tt
+  instances_stay θ φ (free_variable A ∷ I) σ (N, τ, g, n, e) h i = instances_stay θ φ I τ g (λ k l. h k (subst (λ j. k < j) (sym (ap length (blocks_renamed suc (numbering first I).blocks))) l)) i
+  instances_stay θ φ (block_variable B υ ∷ I) σ (ψ, τ, g, i, s, e) h (q, j) =
+      let b : BlockVariable = record { block = B; terms = own_spine B υ (numbering first I) } in
+      let l : length (blocks_of ((numbering first I).blocks ++ b ∷ [])) ≡ suc (length (blocks_of (numbering first I).blocks)) = length_with (numbering first I).blocks b in
+      (q ∙ h (zero + length (blocks_of (numbering first I).blocks)) (omega arith), instances_stay θ φ I τ g (λ k p. h k (omega (arith, p))) j)
+
+  instances_are : (I : List Item) (σ : ℕ → Image) (g : IsGroundInstance w I σ) → HasInstances (instances_of first w I σ g) first w I σ g
+  unfolding instances_of
+  instances_are [] σ g = tt
+  instances_are (free_variable A ∷ I) σ (N, τ, g, n, e) = instances_are I τ g
+  instances_are (block_variable B υ ∷ I) σ (φ, τ, g, i, s, e) =
+      let k : ℕ = zero + length (blocks_of (numbering first I).blocks) in (
+        sym (ap (λ b. cond b φ (instances_of first w I τ g k)) (number_itself k)),
+        instances_stay (instances_of first w I τ g) (λ j. cond (same_number j k) φ (instances_of first w I τ g j)) I τ g (λ j l. sym (ap (λ b. cond b φ (instances_of first w I τ g j)) (not_same j k (λ q. omega (arith, l, q))))) (instances_are I τ g),
+      )
+
+-- THE law
+module _ (Σ Σ' : Signature) (ok : IsSignature Σ) (S : ℕ → Bool) (x : Extends S Σ Σ') (W : List Block) (typed : AreTypedBlocks Σ W) (first : ℕ) (free : IsFreeFrom Σ first) {G : List LfType} (w : World Σ' W S G) (Bs : List Block) (θ : ℕ → ℕ → Image) where
+  abbrev Same : List Item → (ℕ → Image) → (ℕ → Image) → Type 0
+  Same I τ ρ = Agrees Σ Σ' ok S x W typed first free w Bs θ I τ ρ
+
+  abbrev Front : List Item → Type 0
+  Front I = Leads Σ Σ' ok S x W typed first free w Bs θ I
+
+  start : (σ ρ : ℕ → Image) → ρ ≡ keep → Same [] σ ρ
+  start σ ρ e = record { ground = tt; numbers = tt; values = e; instances = tt; fits = λ i t g. absurd g; agree = λ i A g. absurd g }
+
+  forward : (I : List Item) → AreTypedItems Σ W I → Front I → (σ : ℕ → Image) (g : IsGroundInstance w I σ) → HasInstances θ first w I σ g → (ρ : ℕ → Image) × Same I σ ρ
+  forward [] a l σ g h = (keep, start σ keep refl)
+  forward (free_variable A ∷ I) (a, t) l σ (N, τ, g, n, e) h =
+      let (ρ, r) = forward I a (leads_free Σ Σ' ok S x W typed first free w Bs θ A I l) τ g h in
+      let ρ' : ℕ → Image = in_front (put (skeleton (substitute_type reduce (numbering first I).images A)) N) ρ in
+      (ρ', subst (λ z. Same (free_variable A ∷ I) z ρ') (sym e) (free_step Σ Σ' ok S x W typed first free w Bs θ I a A t τ ρ r N n))
+  forward (block_variable B υ ∷ I) (a, m, v) l σ (φ, τ, g, i, s, e) (q, h) =
+      let (Cs, d) = leads_block Σ Σ' ok S x W typed first free w Bs θ B υ I l in
+      let k : ℕ = zero + length (blocks_of (numbering first I).blocks) in
+      let (ρ, r) = forward I a (B ∷ Cs, d) τ g h in
+      (ρ, subst (λ z. Same (block_variable B υ ∷ I) z ρ) (sym (e ∙ ap (λ ψ. entries_in_front B.entries ψ τ) q)) (block_step Σ Σ' ok S x W typed first free w Bs θ I a B υ v (Cs, d) τ ρ r (subst (InstanceIn w B) q i) (λ j A c. ap (λ ψ. as_term (skeleton A) (behind_entries B.entries ψ j)) (sym q) ∙ s j A c)))
+
+  backward : (I : List Item) → AreTypedItems Σ W I → Front I → (ρ : ℕ → Image) → AreGroundValues Σ' G (entry_reading first Bs θ) (numbering first I).variables ρ → AreInstances w (entry_reading first Bs θ (length (numbering first I).variables)) ρ θ zero (numbering first I).blocks → (σ : ℕ → Image) × Same I σ ρ
+  backward [] a l ρ v h = (keep, start keep ρ v)
+  backward (free_variable A ∷ I) (a, t) l ρ (N, ρ₀, v, n, e) h =
+      let A' : LfType = substitute_type reduce (numbering first I).images A in
+      let h' = moved_back Σ Σ' ok S x W typed first free w Bs θ (length (numbering first I).variables) ρ₀ (put (skeleton A') N) zero (numbering first I).blocks (subst (λ z. AreInstances w (entry_reading first Bs θ (suc (length (numbering first I).variables))) z θ zero (rename_blocks suc (numbering first I).blocks)) e h) in
+      let (τ, r) = backward I a (leads_free Σ Σ' ok S x W typed first free w Bs θ A I l) ρ₀ v h' in
+      (in_front (put (skeleton A) N) τ, subst (Same (free_variable A ∷ I) (in_front (put (skeleton A) N) τ)) (sym e) (free_step Σ Σ' ok S x W typed first free w Bs θ I a A t τ ρ₀ r N (subst (HasType Σ' G N) (sym (type_same Σ Σ' ok S x W typed first free w Bs θ I a τ ρ₀ r A t)) n)))
+  backward (block_variable B υ ∷ I) (a, m, u) l ρ v h =
+      let (Cs, d) = leads_block Σ Σ' ok S x W typed first free w Bs θ B υ I l in
+      let k : ℕ = zero + length (blocks_of (numbering first I).blocks) in
+      let b : BlockVariable = record { block = B; terms = own_spine B υ (numbering first I) } in
+      let (h', (i, s)) = split_instances Σ Σ' ok S x W typed first free w Bs θ (entry_reading first Bs θ (length (numbering first I).variables)) ρ b zero (numbering first I).blocks h in
+      let (τ, r) = backward I a (B ∷ Cs, d) ρ v h' in
+      (entries_in_front B.entries (θ k) τ, block_step Σ Σ' ok S x W typed first free w Bs θ I a B υ u (Cs, d) τ ρ r i (terms_to Σ Σ' ok S x W typed first free w Bs θ I a B υ u (Cs, d) τ ρ r s))
+
+  same_values : (I : List Item) (a : AreTypedItems Σ W I) (σ ρ : ℕ → Image) → Same I σ ρ → (i : ℕ) (A : LfType) → TypeAt (items_context I) i A → as_term (skeleton A) (σ i) ≡ substitute reduce ρ (read (entry_reading first Bs θ (length (numbering first I).variables)) (as_term (skeleton A) ((numbering first I).images i)))
+  same_values I a σ ρ r i A g =
+      let f : ℕ → Option (ℕ × ℕ) = entry_reading first Bs θ (length (numbering first I).variables) in
+      let y : Image = (numbering first I).images i in
+      r.agree i A g ∙ sym (ap (substitute reduce ρ) (read_as_term f (skeleton A) y) ∙ put_term (constant_skeletons Σ') (context_skeletons (onto (numbering first I).variables G)) (context_skeletons G) ρ (values_fit Σ' x.ok G first Bs θ (numbering first I).variables ρ r.values) (skeleton A) (read_image f y) (r.fits i (skeleton A) (variable_has_skeleton (items_context I) i A g)))
+
+-- The first block variable has the number 0.
+no_number : (first : ℕ) (I : List Item) → has_block_variable I ≡ false → length (blocks_of (numbering first I).blocks) ≡ 0
+no_number first [] e = refl
+no_number first (free_variable A ∷ I) e = ap length (blocks_renamed suc (numbering first I).blocks) ∙ no_number first I e
+no_number first (block_variable B υ ∷ I) e = absurd cc
+
+first_is_zero : (θ : ℕ → ℕ → Image) (first : ℕ) {Σ' : Signature} {W : List Block} {S : ℕ → Bool} {G : List LfType} (w : World Σ' W S G) (I : List Item) (σ : ℕ → Image) (g : IsGroundInstance w I σ) → HasInstances θ first w I σ g → (B : Block) (φ : ℕ → Image) → FirstInstance w I σ g B φ → φ ≡ θ zero
+first_is_zero θ first w [] σ g h B φ f = absurd f
+first_is_zero θ first w (free_variable A ∷ I) σ (N, τ, g, n, e) h B φ f = first_is_zero θ first w I τ g h B φ f
+first_is_zero θ first w (block_variable D υ ∷ I) σ (ψ, τ, g, i, s, e) (q, h) B φ f = by (λ k. first_is_zero θ first w I τ g h B φ k) (has_block_variable I) refl f
+  where
+    none : (k : ℕ) → k ≡ 0 → zero + k ≡ zero
+    none k e = omega (arith, e)
+
+    by : (FirstInstance w I τ g B φ → φ ≡ θ zero) → (b : Bool) → has_block_variable I ≡ b → choose b (FirstInstance w I τ g B φ) ((D ≡ B) × (ψ ≡ φ)) → φ ≡ θ zero
+    by ih true c k = ih k
+    by ih false c (d, k) = sym k ∙ q ∙ ap θ (none (length (blocks_of (numbering first I).blocks)) (no_number first I c))
+
+nothing_behind : (Bs : List Block) → Bs ≡ Bs ++ []
+nothing_behind [] = refl
+nothing_behind (B ∷ Bs) = ap (λ Cs. B ∷ Cs) (nothing_behind Bs)
+
+pub numbered_has_same_instances : NumberedHasSameInstances
+numbered_has_same_instances Σ Σ' ok S x W typed first free C a G w =
+    let Bs : List Block = blocks_of (numbering first C.items).blocks in (
+      λ σ g.
+          let θ : ℕ → ℕ → Image = instances_of first w C.items σ g in
+          let (ρ, r) = forward Σ Σ' ok S x W typed first free w Bs θ C.items a ([], nothing_behind Bs) σ g (instances_are first w C.items σ g) in
+          (θ, ρ, record { values = r.values; instances = r.instances }, same_values Σ Σ' ok S x W typed first free w Bs θ C.items a σ ρ r, first_is_zero θ first w C.items σ g (instances_are first w C.items σ g)),
+      λ θ ρ n.
+          let (σ, r) = backward Σ Σ' ok S x W typed first free w Bs θ C.items a ([], nothing_behind Bs) ρ n.values n.instances in
+          (σ, r.ground, same_values Σ Σ' ok S x W typed first free w Bs θ C.items a σ ρ r, first_is_zero θ first w C.items σ r.ground r.numbers),
+    )

@@ -1,0 +1,5 @@
+use Rattle.lf_coverage.proofs.CasesOf.{solved_split_is_unified}
+use Rattle.lf_coverage.proofs.solved_split_is_unified.Goals as goal
+
+pub returns : goal.returns
+returns c = solved_split_is_unified
