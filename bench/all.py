@@ -31,6 +31,7 @@ BENCHES = {
     **{name: (built("twelf"), [sys.executable, os.path.join(HERE, f"{name}.py")]) for name in ("serve", "declare", "files", "reconstruct")},
     "checks": (built("bench_checks"), [sys.executable, os.path.join(HERE, "checks.py")]),
     "unify": (built("bench_unify"), [sys.executable, os.path.join(HERE, "unify.py")]),
+    "search": (built("bench_search"), [sys.executable, os.path.join(HERE, "search.py")]),
     "hered": (built("bench_hered"), [built("bench_hered"), "run"]),
 }
 

@@ -28,7 +28,7 @@ use Rattle.lf_unification.proofs.Runs.{run_solved}
 use Rattle.lf_unification.proofs.Solving.{solved_child}
 use Rattle.lf_search.specs.Bounded.{QueryRuns, RunsOut, ends, exhausted, number, star as unbounded, stopped, stops}
 use Rattle.lf_search.specs.Goals.{IsQueryOf, metavariables_of, root_of}
-use Rattle.lf_search.specs.Heads.{Clash, clash_here, constant_head, head_of_value, variable_head}
+use Rattle.lf_search.specs.Heads.{Clash, clash_here, constant_head, from_outside, head_of_argument, head_of_value, is_first, outer_head, own, own_head, own_under_lambda, own_variable, under_lambda, variable_head}
 use Rattle.lf_unification.specs.ReachedRuns.{RunRenewsReached}
 use Rattle.lf_search.proofs.ChildNode.{child_node, offer_adds}
 use Rattle.lf_search.proofs.QueryForm.{root_form, root_node}
@@ -333,11 +333,19 @@ abbrev s_of : Term → Term
 s_of M = root (constant 2) (app M nil)
 
 pub z_and_s_clash : Clash [] 1 (app z nil) (app (s_of (root (variable 0) nil)) nil)
-z_and_s_clash = clash_here constant_head constant_head (λ e. cc)
+z_and_s_clash = clash_here (outer_head constant_head) (outer_head constant_head) (λ e. cc)
 
 pub value_clashes : Clash (record { of = 7; value = s_of (root (metavariable 8) nil) } ∷ []) 0 (app (root (metavariable 7) nil) nil) (app z nil)
-value_clashes = clash_here (head_of_value (record { of = 7; value = s_of (root (metavariable 8) nil) }) (inl refl) constant_head) constant_head (λ e. cc)
+value_clashes = clash_here (outer_head (head_of_value (record { of = 7; value = s_of (root (metavariable 8) nil) }) (inl refl) constant_head)) (outer_head constant_head) (λ e. cc)
 
 -- two variables that stand outside of the clause, which has one quantifier
 pub variables_clash : Clash [] 1 (app (root (variable 0) nil) nil) (app (root (variable 2) nil) nil)
-variables_clash = clash_here (variable_head 0 refl) (variable_head 1 refl) (λ e. cc)
+variables_clash = clash_here (outer_head (variable_head 0 refl)) (outer_head (variable_head 1 refl)) (λ e. cc)
+
+-- [x] x and [x] s x
+pub own_clashes : Clash [] 0 (app (lambda (root (variable 0) nil)) nil) (app (lambda (s_of (root (variable 0) nil))) nil)
+own_clashes = clash_here {h = own 0} {h' = from_outside (constant 2)} (own_head (own_under_lambda (own_variable (variable_head 0 refl) refl))) (outer_head (under_lambda constant_head)) (λ e. cc)
+
+-- F x and z, where F is [y] y and x a variable
+pub argument_clashes : Clash (record { of = 7; value = lambda (root (variable 0) nil) } ∷ []) 0 (app (root (metavariable 7) (app (root (variable 0) nil) nil)) nil) (app z nil)
+argument_clashes = clash_here (outer_head (head_of_argument (record { of = 7; value = lambda (root (variable 0) nil) }) (inl refl) (own_under_lambda (own_variable (variable_head 0 refl) refl)) is_first (variable_head 0 refl))) (outer_head constant_head) (λ e. cc)

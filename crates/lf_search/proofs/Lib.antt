@@ -13,3 +13,4 @@ pub mod OpenHoles
 pub mod HolesStay
 pub mod ExamplesSubgoals
 pub mod Calls
+pub mod RigidHeads

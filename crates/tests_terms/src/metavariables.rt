@@ -73,8 +73,8 @@ impl Marked {
         right: &Form,
         ty: &Form,
     ) -> Result<String, FormFault> {
-        self.store
-            .postpone(equation(alloc, names, left, right, ty)?)?;
+        let equation = equation(alloc, names, left, right, ty)?;
+        self.store.postpone(alloc, equation)?;
         Ok(String::new(alloc))
     }
 
@@ -204,7 +204,7 @@ fn shown_equation(
 fn shown_equations(
     alloc: Global,
     names: &mut Names,
-    equations: &[Equation],
+    equations: &[Box<Equation>],
 ) -> Result<String, FormFault> {
     let mut line = format!(in alloc; "{} postponed", equations.len())?;
     for equation in equations {

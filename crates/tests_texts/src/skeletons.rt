@@ -56,6 +56,7 @@ fn put_fault(line: &mut Line, fault: &ApproxFault) {
         }
         ApproxFault::Clash => line.put("clash"),
         ApproxFault::Loose => line.put("loose"),
+        ApproxFault::TooDeep => line.put("too deep"),
         ApproxFault::NoMemory => line.put("no memory"),
     }
 }

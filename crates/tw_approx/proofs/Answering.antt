@@ -1,10 +1,10 @@
 -- What the calls of the walk answer, joined.
-use Rattle.std.proofs.Common.{◌≡◌, ℕ, List, [], ◌∷◌, ◌++◌, map, Option, None, Some, Result, Ok, Err, IfOk, Box, Bor, Global, refl, sym, ap, ◌∙◌, subst}
+use Rattle.std.proofs.Common.{◌≡◌, ℕ, List, [], ◌∷◌, ◌++◌, Option, None, Some, Result, Ok, Err, IfOk, Box, Bor, Global, sym, ap, ◌∙◌, subst}
 use Rattle.std.proofs.lemmas.List.{map-append}
 use Rattle.lf.specs.Entries.{Entry}
 use Rattle.tw_parse.specs.Applied.{applied_to, written_terms}
 use Rattle.tw_approx.specs.Names.{IsFreeIn, IsFreeInDomain}
-use Rattle.tw_approx.specs.Reading.{due_of, family_at, ReadsFamily, IsFamilyRead, ReadsDue, IsDueRead, TermIsRead, FamilyIsRead, TypeIsRead, DomainIsRead, KindIsRead, IsApplied, IsAscribed, IsFamilyApplied, IsFamilyAscribed, IsWhole}
+use Rattle.tw_approx.specs.Reading.{family_at, ReadsFamily, ReadsDue, TermIsRead, FamilyIsRead, TypeIsRead, IsAscribed, IsFamilyAscribed, IsWhole}
 use Rattle.tw_approx.specs.Skeletons.{applied, family_applied, term_skeleton, family_skeleton, type_skeleton, domain_skeleton, kind_due}
 use Rattle.tw_approx.specs.Walks.{State, Nothing, filled_all, IsSound, Refuses, ReadsShape, inside, outside}
 use Rattle.tw_approx.specs.declared.family.FamilyShape.{FamilyShape}

@@ -1,9 +1,9 @@
 -- Assignments that give the first variables the same, and what is of these variables.
-use Rattle.std.proofs.Common.{◌≡◌, ◌≢◌, ℕ, ◌+◌, ◌<◌, ◌≤◌, List, [], ◌∷◌, ◌++◌, map, Bool, true, false, ◌==◌, ◌⊎◌, inl, inr, if◌then◌else◌, arith, refl, sym, ap, ◌∙◌, subst}
+use Rattle.std.proofs.Common.{◌≡◌, ◌≢◌, ℕ, ◌≤◌, List, [], ◌∷◌, ◌++◌, map, Bool, true, false, ◌==◌, arith, refl, sym, ap, ◌∙◌}
 use Rattle.std.proofs.lemmas.Bool.Decides.{nat_tests}
-use Rattle.lf.specs.Syntax.{Skeleton, base as base_skeleton, arrow as arrow_skeleton}
+use Rattle.lf.specs.Syntax.{Skeleton}
 use Rattle.tw_approx.specs.Skeletons.{Frees}
-use Rattle.tw_approx.specs.Walks.{Assignment, Variables, HasVariable, Agrees, SameBelow, ShapesWithin, VariablesWithin, NumbersWithin, filled_all}
+use Rattle.tw_approx.specs.Walks.{Assignment, Variables, Agrees, SameBelow, ShapesWithin, VariablesWithin, NumbersWithin, filled_all}
 use Rattle.tw_shapes.specs.Shapes.{Shape, variable, base, arrow, filled, IsWithin}
 
 pub filled_below : (n : ℕ) (θ ρ : Assignment) (S : Shape) → IsWithin n S → SameBelow n θ ρ → filled θ S ≡ filled ρ S

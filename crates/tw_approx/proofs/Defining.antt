@@ -1,21 +1,21 @@
 -- Definitions, with the type that is written for them.
-use Rattle.std.proofs.Common.{◌≡◌, ℕ, List, [], ◌∷◌, Bool, true, false, Option, None, Some, ◌⊎◌, inl, inr, ◌↔◌, refl, sym, ap, ◌∙◌, subst}
+use Rattle.std.proofs.Common.{◌≡◌, ℕ, List, [], Option, None, Some, ◌⊎◌, inl, inr, ◌↔◌, refl, ap, subst}
 use Rattle.lf.specs.Entries.{Entry}
 use Rattle.lf.specs.Syntax.{Skeleton}
-use Rattle.tw_approx.specs.Names.{IsFreeIn, IsFreeInType}
-use Rattle.tw_approx.specs.Reading.{IsRead, TermIsRead, TypeIsRead, IsAscribed}
+use Rattle.tw_approx.specs.Names.{IsFreeIn}
+use Rattle.tw_approx.specs.Reading.{TermIsRead, TypeIsRead, IsAscribed}
 use Rattle.tw_approx.specs.Readings.{Reading, and_then}
-use Rattle.tw_approx.specs.Skeletons.{Frees, ascribed, term_skeleton, type_skeleton, definition_skeleton}
+use Rattle.tw_approx.specs.Skeletons.{Frees, ascribed, term_skeleton, type_skeleton}
 use Rattle.tw_approx.specs.Solving.{DefinitionIsRead}
-use Rattle.tw_approx.specs.Walks.{Assignment, Readings, State, empty_state, HasVariable, Reads, Refuses, ReadsShape, Nothing}
+use Rattle.tw_approx.specs.Walks.{Assignment, Readings, State, empty_state, Reads, Nothing}
 use Rattle.tw_parse.specs.Syntax.{Term}
-use Rattle.tw_shapes.specs.Shapes.{Shape, filled, count_of}
+use Rattle.tw_shapes.specs.Shapes.{filled, count_of}
 use Rattle.tw_shapes.specs.View.{shape_of}
 use Rattle.tw_shapes.specs.declared.shape.Shape as program
 use Rattle.tw_approx.proofs.Assigning.{filled_below}
 use Rattle.tw_approx.proofs.Forms.{both_nothing, both_parts, term_placed}
 use Rattle.tw_approx.proofs.Sequences.{then_reads, first_refuses, second_refuses}
-use Rattle.tw_approx.proofs.Surroundings.{at_state, beside_reads, beside_refuses}
+use Rattle.tw_approx.proofs.Surroundings.{beside_reads, beside_refuses}
 
 none_more : {A B C : Type 0} → A ↔ (B ⊎ C) → A ↔ (B ⊎ (⊥ ⊎ C))
 none_more {A} {B} {C} e = (

@@ -1,13 +1,13 @@
 -- Families, types and kinds, read part by part.
-use Rattle.std.proofs.Common.{◌≡◌, ℕ, ◌<◌, ◌≤◌, List, [], ◌∷◌, Option, None, Some, ◌⊎◌, inl, inr, ◌↔◌, arith, refl, sym, ap, ◌∙◌, subst}
+use Rattle.std.proofs.Common.{◌≡◌, ℕ, ◌≤◌, List, [], ◌∷◌, Option, None, Some, refl, sym, ap, ◌∙◌, subst}
 use Rattle.lf.specs.Entries.{Entry}
 use Rattle.lf.specs.Syntax.{Skeleton, arrow as arrow_skeleton}
 use Rattle.tw_parse.specs.Applied.{applied_to}
-use Rattle.tw_approx.specs.Names.{IsFreeIn, IsFreeInDomain}
+use Rattle.tw_approx.specs.Names.{IsFreeIn}
 use Rattle.tw_approx.specs.Reading.{due_of, family_at, FamilyWithin, ReadsFamily, IsFamilyRead, ReadsDue, IsDueRead, KindIsRead, RangeIsRead, RestIsRead}
 use Rattle.tw_approx.specs.Readings.{Reading, take, and_then}
-use Rattle.tw_approx.specs.Skeletons.{Frees, Family, known, unknown, family_applied, family_ascribed, whole, term_skeleton, family_skeleton, type_skeleton, domain_skeleton, kind_due}
-use Rattle.tw_approx.specs.Walks.{Assignment, Readings, State, SameBelow, ShapesWithin, filled_all, IsSound, Reads, Refuses, ReadsShape, Nothing, inside, outside}
+use Rattle.tw_approx.specs.Skeletons.{Frees, Family, known, unknown, family_applied, family_ascribed, term_skeleton, family_skeleton, type_skeleton, kind_due}
+use Rattle.tw_approx.specs.Walks.{Assignment, Readings, State, SameBelow, ShapesWithin, filled_all, IsSound, Refuses, ReadsShape, Nothing, inside, outside}
 use Rattle.tw_approx.specs.declared.family.FamilyShape.{FamilyShape}
 use Rattle.tw_approx.specs.declared.family.FamilyShape.TheVariants.{Known, Unknown}
 use Rattle.tw_approx.specs.declared.family.Due.{Due}
@@ -23,7 +23,7 @@ use Rattle.tw_approx.proofs.Assigning.{filled_below, all_below, shape_more, shap
 use Rattle.tw_approx.proofs.Forms.{both_nothing, both_parts, term_placed, type_placed, kind_placed}
 use Rattle.tw_approx.proofs.Known.{value_reads}
 use Rattle.tw_approx.proofs.Sequences.{given, IsFixed, Both, then_reads, made_reads, first_refuses, second_refuses}
-use Rattle.tw_approx.proofs.Surroundings.{Placed, at_state, at_inside, beside_reads, beside_refuses, beside_inside_reads, beside_inside_refuses, outside_reads, outside_refuses}
+use Rattle.tw_approx.proofs.Surroundings.{Placed, at_state, at_inside, beside_reads, beside_refuses, outside_reads, outside_refuses}
 
 pub family_at_below : (n : ℕ) (θ ρ : Assignment) (G : FamilyShape) → FamilyWithin n G → SameBelow n θ ρ → family_at G θ ≡ family_at G ρ
 family_at_below n θ ρ (Known d S) w e = ap (λ ks. known ks (filled θ (shape_of S))) (all_below n θ ρ (due_of d) w.0 e) ∙ ap (known (filled_all ρ (due_of d))) (filled_below n θ ρ (shape_of S) w.1 e)

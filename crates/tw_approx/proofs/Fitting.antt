@@ -1,16 +1,16 @@
 -- The answers of the whole.
-use Rattle.std.proofs.Common.{◌≡◌, ◌≢◌, ℕ, ◌<◌, ◌≤◌, List, [], ◌∷◌, ◌++◌, map, reverse, slice_get, Bool, true, false, Option, None, Some, ◌⊎◌, inl, inr, ◌↔◌, if◌then◌else◌, append_assoc, arith, refl, sym, ap, ◌∙◌, subst}
-use Rattle.std.proofs.lemmas.List.{append-nil, reverse-append, reverse-reverse, map-append}
+use Rattle.std.proofs.Common.{◌≡◌, ℕ, List, [], ◌∷◌, ◌++◌, map, reverse, Bool, true, false, Some, ◌⊎◌, inl, inr, ◌↔◌, if◌then◌else◌, refl, sym, ap, ◌∙◌, subst}
+use Rattle.std.proofs.lemmas.List.{append-nil, reverse-append, reverse-reverse}
 use Rattle.std.specs.Str.{bytes_eq}
 use Rattle.lf.specs.Syntax.{Skeleton, base}
-use Rattle.tw_approx.specs.Answer.{Rows, frees_of, HasRow, AreDistinct, AreSame, FitsOnce, FitsTwice, NeverFits}
+use Rattle.tw_approx.specs.Answer.{Rows, frees_of, HasRow, AreDistinct, AreSame, FitsDeeply, FitsOnce, FitsTwice, NeverFits}
 use Rattle.tw_approx.specs.Readings.{Reading}
 use Rattle.tw_approx.specs.Skeletons.{Frees}
-use Rattle.tw_approx.specs.Solving.{IsFound, IsSolved, AreOpen, AreAlways, RowsAreAlways, numbers_of}
-use Rattle.tw_approx.specs.Walks.{Assignment, Readings, State, Variables, empty_state, HasVariable, NamesDiffer, Agrees, IsSound, Reads, Refuses}
-use Rattle.tw_shapes.specs.Shapes.{Shape, Store, Solves, HasSolution, empty_store, value_of}
+use Rattle.tw_approx.specs.Solving.{IsFound, IsLeftOpen, IsSolved, AreOpen, AreAlways, RowsAreAlways, numbers_of}
+use Rattle.tw_approx.specs.Walks.{Assignment, State, Variables, empty_state, HasVariable, NamesDiffer, Agrees, IsSound, Reads, Refuses}
+use Rattle.tw_approx.specs.declared.fault.ApproxFault.TheVariants.{TooDeep}
+use Rattle.tw_shapes.specs.Shapes.{Solves, HasSolution, empty_store}
 use Rattle.tw_approx.proofs.Naming.{name_is, is_name}
-use Rattle.tw_approx.proofs.Sequences.{given}
 
 -- each assignment solves the store without variables
 pub empty_solves : (θ : Assignment) → Solves θ empty_store
@@ -218,3 +218,6 @@ module _ (F : List ℕ → Type 0) (Fit : Frees → List Skeleton → Type 0) (t
         | inl a ↦ omitted_twice F Fit t (reverse t.variables) (reverse-reverse t.variables) found a
         | inr b ↦ free_twice F Fit t (reverse t.variables) (reverse-reverse t.variables) found b
       ]
+
+  pub deep_once : IsLeftOpen t TooDeep → FitsDeeply F Fit
+  deep_once d = record { rows = d.0; omitted = d.1; once = solved_once d.0 d.1 d.2; deep = d.3 }

@@ -1,21 +1,21 @@
 -- The forms of text, read part by part.
-use Rattle.std.proofs.Common.{◌≡◌, ℕ, ◌<◌, ◌≤◌, List, [], ◌∷◌, Option, None, Some, ◌⊎◌, inl, inr, ◌↔◌, arith, refl, sym, ap, ◌∙◌, subst}
+use Rattle.std.proofs.Common.{◌≡◌, ℕ, List, [], ◌∷◌, Option, Some, ◌⊎◌, inl, inr, refl, ap}
 use Rattle.lf.specs.Entries.{Entry}
 use Rattle.lf.specs.Syntax.{Skeleton, arrow as arrow_skeleton}
 use Rattle.tw_parse.specs.Applied.{applied_to}
 use Rattle.tw_approx.specs.Names.{IsFreeIn, IsFreeInDomain}
-use Rattle.tw_approx.specs.Reading.{family_at, FamilyWithin, IsRead, IsFamilyRead, ReadsFamily, ReadsDue, IsDueRead, TermIsRead, FamilyIsRead, TypeIsRead, DomainIsRead, KindIsRead, RangeIsRead, RestIsRead, IsApplied, IsAscribed, IsFamilyApplied, IsFamilyAscribed, IsWhole}
+use Rattle.tw_approx.specs.Reading.{family_at, ReadsFamily}
 use Rattle.tw_approx.specs.Readings.{Reading, and_then}
-use Rattle.tw_approx.specs.Skeletons.{Frees, Family, known, unknown, applied, ascribed, family_applied, family_ascribed, whole, term_skeleton, family_skeleton, type_skeleton, domain_skeleton, kind_due}
-use Rattle.tw_approx.specs.Walks.{Assignment, Readings, State, SameBelow, ShapesWithin, filled_all, IsSound, Reads, Refuses, ReadsShape, Nothing, inside, outside}
+use Rattle.tw_approx.specs.Skeletons.{Frees, applied, ascribed, whole, term_skeleton, family_skeleton, type_skeleton, domain_skeleton, kind_due}
+use Rattle.tw_approx.specs.Walks.{Assignment, State, SameBelow, filled_all, IsSound, Refuses, ReadsShape, Nothing, inside, outside}
 use Rattle.tw_approx.specs.declared.family.FamilyShape.{FamilyShape}
 use Rattle.tw_names.specs.Scope.{binder_name}
 use Rattle.tw_lexer.specs.declared.place.Place.{Place}
-use Rattle.tw_parse.specs.Syntax.{Term, Domain, identifier, hole, star, arrow, pi, lambda, application, ascription, untyped, typed}
+use Rattle.tw_parse.specs.Syntax.{Term, Domain, lambda, application, ascription}
 use Rattle.tw_fixity.specs.Names.{Names}
 use Rattle.tw_shapes.specs.Shapes as plain
 use Rattle.tw_shapes.specs.Shapes.{Shape, filled, IsWithin, count_of}
-use Rattle.tw_approx.proofs.Assigning.{filled_below, all_below, fewer_below, shape_more, shapes_more}
+use Rattle.tw_approx.proofs.Assigning.{filled_below, all_below, shape_more}
 use Rattle.tw_approx.proofs.Sequences.{IsFixed, Both, then_reads, made_reads, first_refuses, second_refuses}
 use Rattle.tw_approx.proofs.Surroundings.{Placed, at_state, at_inside, beside_reads, beside_refuses, beside_inside_reads, beside_inside_refuses, outside_reads, outside_refuses}
 

@@ -1,23 +1,23 @@
 -- What is read of what is declared or in scope, and of families.
-use Rattle.std.proofs.Common.{◌≡◌, ◌≢◌, ℕ, zero, suc, ◌<◌, ◌≤◌, List, [], ◌∷◌, ◌++◌, map, drop, slice_get, option_map, Bool, true, false, Option, None, Some, ◌⊎◌, inl, inr, ◌↔◌, if◌then◌else◌, arith, refl, sym, ap, ◌∙◌, subst}
+use Rattle.std.proofs.Common.{◌≡◌, ◌≢◌, ℕ, zero, suc, List, [], ◌∷◌, ◌++◌, map, slice_get, option_map, Bool, true, false, Option, None, Some, ◌⊎◌, inl, inr, if◌then◌else◌, arith, refl, sym, ap, ◌∙◌, subst}
 use Rattle.std.proofs.lemmas.List.{append-nil}
 use Rattle.std.proofs.lemmas.Option.{slice_get-map}
 use Rattle.lf.specs.Entries.{Entry, entry}
-use Rattle.lf.specs.Syntax.{Skeleton, base as base_skeleton, arrow as arrow_skeleton, Head, constant, variable as bound, metavariable}
-use Rattle.tw_approx.specs.Reading.{shape_from, due_of, is_none_due, family_at, FamilyWithin, IsRead, IsFamilyRead, ReadsFamily, ReadsDue, IsDueRead, NameIsRead, FamilyNameIsRead, IsFamilyApplied, IsFamilyAscribed, IsWhole, EquatesAll, UnifiesAll}
-use Rattle.tw_approx.specs.Readings.{Reading, take, found, and_then}
-use Rattle.tw_approx.specs.Skeletons.{Frees, Family, known, unknown, same_skeleton, same_skeletons, name_skeleton, entry_skeleton, family_named, family_applied, family_ascribed, whole}
+use Rattle.lf.specs.Syntax.{Skeleton, base as base_skeleton, arrow as arrow_skeleton, Head, constant, variable as bound}
+use Rattle.tw_approx.specs.Reading.{shape_from, due_of, is_none_due, family_at, IsRead, ReadsFamily, NameIsRead, FamilyNameIsRead, EquatesAll, UnifiesAll}
+use Rattle.tw_approx.specs.Readings.{take, found, and_then}
+use Rattle.tw_approx.specs.Skeletons.{Frees, known, unknown, same_skeleton, same_skeletons, entry_skeleton, family_named, family_applied, family_ascribed, whole}
 use Rattle.tw_approx.specs.Walks.{Assignment, Readings, State, HasVariable, SameBelow, ShapesWithin, filled_all, IsSound, Reads, ReadsShape, Refuses, Nothing, with_store}
 use Rattle.tw_approx.specs.declared.family.FamilyShape.{FamilyShape}
 use Rattle.tw_approx.specs.declared.family.FamilyShape.TheVariants.{Known, Unknown}
 use Rattle.tw_approx.specs.declared.family.Due.{Due}
 use Rattle.tw_names.specs.Unknown.{is_uppercase}
-use Rattle.tw_shapes.specs.Shapes.{Shape, variable, base, arrow, filled, IsWithin, Store, count_of, Solves, AddsEquation}
+use Rattle.tw_shapes.specs.Shapes.{Shape, base, filled, IsWithin, Store, count_of, Solves, AddsEquation}
 use Rattle.tw_shapes.specs.View.{shape_of}
 use Rattle.tw_shapes.specs.declared.shape.Shape as program
 use Rattle.tw_approx.proofs.Assigning.{filled_below, all_below, shape_more, shapes_more}
 use Rattle.tw_approx.proofs.Sequences.{given, parts_of, made_reads}
-use Rattle.tw_approx.proofs.Unifying.{nothing_more, equal_skeletons, equal_lists, lists_same, equal_solutions, narrowed_reads, narrowed_refuses, store_sound}
+use Rattle.tw_approx.proofs.Unifying.{nothing_more, equal_skeletons, equal_lists, lists_same, equal_solutions, narrowed_reads, narrowed_refuses}
 
 -- A reading that is another one.
 pub reads_as : {A : Type 0} (R Q : Readings A) (F : List ℕ → Type 0) (s t : State) (v : Assignment → A) → ((f : Frees) (θ : Assignment) (o : List Skeleton) → Q f θ o ≡ R f θ o) → Reads R F s t v → Reads Q F s t v

@@ -1,16 +1,16 @@
 -- Free variables by name.
-use Rattle.std.proofs.Common.{◌≡◌, ℕ, zero, suc, ◌<◌, ◌≤◌, List, [], ◌∷◌, ◌++◌, map, reverse, slice_get, option_map, Bool, true, false, Option, None, Some, ◌⊎◌, inl, inr, ◌↔◌, if◌then◌else◌, arith, refl, sym, ap, ◌∙◌, subst}
+use Rattle.std.proofs.Common.{◌≡◌, ℕ, zero, suc, ◌<◌, List, [], ◌∷◌, ◌++◌, map, reverse, slice_get, option_map, Bool, true, false, Option, None, Some, ◌⊎◌, inl, inr, ◌↔◌, if◌then◌else◌, arith, refl, sym, ap, ◌∙◌, subst}
 use Rattle.std.proofs.lemmas.List.{append-nil, reverse-append, map-append}
 use Rattle.std.proofs.lemmas.Slice.Eq.{bytes_eq-Decides}
 use Rattle.std.specs.Str.{bytes_eq}
 use Rattle.lf.specs.Syntax.{Skeleton, Head}
-use Rattle.tw_approx.specs.Readings.{Reading, found}
-use Rattle.tw_approx.specs.Skeletons.{Frees, name_skeleton}
-use Rattle.tw_approx.specs.Walks.{Assignment, Readings, State, Variables, variable_named, HasVariable, NamesDiffer, Agrees, SameBelow, VariablesWithin, filled_all, IsSound, Reads, ReadsShape, Refuses}
+use Rattle.tw_approx.specs.Readings.{found}
+use Rattle.tw_approx.specs.Skeletons.{Frees}
+use Rattle.tw_approx.specs.Walks.{Assignment, State, Variables, variable_named, HasVariable, Agrees, VariablesWithin, IsSound, ReadsShape, Refuses}
 use Rattle.tw_names.specs.Unknown.{is_uppercase}
 use Rattle.tw_fixity.specs.Names.{Names, variable_of}
-use Rattle.tw_shapes.specs.Shapes.{Shape, variable, filled, Store, count_of, Solves}
-use Rattle.tw_approx.proofs.Assigning.{agrees_below, updated, updated_at, updated_below}
+use Rattle.tw_shapes.specs.Shapes.{variable, Store, count_of}
+use Rattle.tw_approx.proofs.Assigning.{agrees_below, updated, updated_at}
 use Rattle.tw_approx.proofs.Sequences.{given, parts_of}
 use Rattle.tw_approx.proofs.Unifying.{IsFresh, fresh_solves, fresh_below, store_sound}
 

@@ -1,10 +1,10 @@
 -- One part of a walk behind another.
-use Rattle.std.proofs.Common.{◌≡◌, ℕ, ◌+◌, ◌<◌, ◌≤◌, List, [], ◌∷◌, ◌++◌, map, Option, None, Some, ◌⊎◌, inl, inr, ◌↔◌, append_assoc, arith, refl, sym, ap, ◌∙◌, subst}
-use Rattle.std.proofs.lemmas.List.{map-append, append-nil}
+use Rattle.std.proofs.Common.{◌≡◌, ℕ, List, ◌++◌, map, None, Some, ◌⊎◌, inl, inr, ◌↔◌, append_assoc, arith, refl, sym, ap, ◌∙◌, subst}
+use Rattle.std.proofs.lemmas.List.{map-append}
 use Rattle.lf.specs.Syntax.{Skeleton}
 use Rattle.tw_approx.specs.Readings.{Reading, and_then}
 use Rattle.tw_approx.specs.Skeletons.{Frees}
-use Rattle.tw_approx.specs.Walks.{Assignment, Readings, State, HasVariable, SameBelow, NumbersWithin, IsSound, Reads, Refuses, Nothing}
+use Rattle.tw_approx.specs.Walks.{Assignment, Readings, State, SameBelow, NumbersWithin, Reads, Refuses}
 use Rattle.tw_shapes.specs.Shapes.{count_of}
 use Rattle.tw_approx.proofs.Assigning.{numbers_below, numbers_behind, fewer_below}
 

@@ -1,5 +1,5 @@
 -- Names and shapes in scope.
-use Rattle.std.proofs.Common.{◌≡◌, ℕ, List, [], ◌∷◌, drop, Option, Some, refl, sym, ap, ◌∙◌, subst}
+use Rattle.std.proofs.Common.{◌≡◌, ℕ, List, ◌∷◌, drop, Option, sym, ap, subst}
 use Rattle.lf.specs.Syntax.{Skeleton}
 use Rattle.tw_approx.specs.Readings.{Reading}
 use Rattle.tw_approx.specs.Skeletons.{Frees}

@@ -1,13 +1,13 @@
 -- Steps of a walk that make a shape variable or unify shapes.
-use Rattle.std.proofs.Common.{◌≡◌, ◌≢◌, ℕ, suc, ◌+◌, ◌<◌, ◌≤◌, List, [], ◌∷◌, ◌++◌, map, Bool, true, false, ◌&&◌, ◌==◌, Option, None, Some, ◌⊎◌, inl, inr, ◌↔◌, if◌then◌else◌, append_assoc, arith, refl, sym, ap, ◌∙◌, subst}
+use Rattle.std.proofs.Common.{◌≡◌, ◌≢◌, ℕ, ◌<◌, ◌≤◌, List, [], ◌∷◌, ◌++◌, Bool, true, false, ◌&&◌, ◌==◌, None, Some, ◌⊎◌, inl, inr, ◌↔◌, if◌then◌else◌, arith, refl, sym, ap, ◌∙◌, subst}
 use Rattle.std.proofs.lemmas.Bool.Decides.{nat_tests}
 use Rattle.std.proofs.lemmas.List.{append-nil}
 use Rattle.lf.specs.Syntax.{Skeleton, base as base_skeleton, arrow as arrow_skeleton}
-use Rattle.tw_approx.specs.Readings.{Reading, take}
-use Rattle.tw_approx.specs.Skeletons.{Frees, same_skeleton, same_skeletons, applied, ascribed}
-use Rattle.tw_approx.specs.Walks.{Assignment, Readings, State, HasVariable, Agrees, SameBelow, ShapesWithin, NumbersWithin, filled_all, IsSound, Reads, Refuses, ReadsShape, Nothing, with_store}
-use Rattle.tw_shapes.specs.Shapes.{Shape, variable, base, arrow, filled, IsWithin, Store, count_of, Solves, SameSolutions, IsUnused, AddsEquation, Unifies}
-use Rattle.tw_approx.proofs.Assigning.{filled_below, all_below, numbers_below, agrees_below, shape_more, shapes_more, variables_more, numbers_more, numbers_both, updated, updated_at, updated_off, updated_below}
+use Rattle.tw_approx.specs.Readings.{take}
+use Rattle.tw_approx.specs.Skeletons.{same_skeleton, same_skeletons, applied, ascribed}
+use Rattle.tw_approx.specs.Walks.{Assignment, State, SameBelow, IsSound, Reads, Refuses, ReadsShape, Nothing, with_store}
+use Rattle.tw_shapes.specs.Shapes.{Shape, variable, arrow, filled, IsWithin, Store, count_of, Solves, SameSolutions, IsUnused, AddsEquation, Unifies}
+use Rattle.tw_approx.proofs.Assigning.{filled_below, agrees_below, shape_more, shapes_more, variables_more, numbers_more, numbers_both, updated, updated_at, updated_off, updated_below}
 use Rattle.tw_approx.proofs.Sequences.{given, parts_of}
 
 pub both_true : (a b : Bool) → (a && b) ≡ true → (a ≡ true) × (b ≡ true)

@@ -1,6 +1,7 @@
 -- What the answers say.
-use Rattle.std.specs.Prelude.{◌≡◌, ◌≢◌, ℕ, List, [], ◌∷◌, map, Bool, true, false, Option, None, Some, if◌then◌else◌, ◌⊎◌, zero}
+use Rattle.std.specs.Prelude.{◌≡◌, ℕ, ◌<◌, List, [], ◌∷◌, map, true, false, None, Some, if◌then◌else◌, ◌⊎◌, zero}
 use Rattle.std.specs.Str.{bytes_eq}
+use Rattle.lf.specs.Depth.{depth_limit}
 use Rattle.lf.specs.Entries.{Entry}
 use Rattle.lf.specs.Syntax.{Skeleton, base}
 use Rattle.tw_approx.specs.Levels.{is_type_definition, type_lambdas, lambdas_in_type, IsEarliest}
@@ -8,9 +9,10 @@ use Rattle.tw_approx.specs.Names.{IsFreeVariable, IsFreeIn}
 use Rattle.tw_approx.specs.Skeletons.{Frees, Fits, FitsQuery}
 use Rattle.tw_approx.specs.declared.approximation.Row.{Row}
 use Rattle.tw_approx.specs.declared.fault.ApproxFault.{ApproxFault}
-use Rattle.tw_approx.specs.declared.fault.ApproxFault.TheVariants.{Unknown, TypeLevel, Clash, Loose, NoMemory}
+use Rattle.tw_approx.specs.declared.fault.ApproxFault.TheVariants.{Unknown, TypeLevel, Clash, Loose, TooDeep, NoMemory}
 use Rattle.tw_names.specs.Unknown.{unknown_in, unknown_names, IsFirst}
 use Rattle.tw_parse.specs.Syntax.{Declaration, Term}
+use Rattle.tw_shapes.specs.Depth.{skeleton_depth}
 use Rattle.tw_terms.specs.View.{skeleton_of}
 
 -- free variables with their skeletons, by name
@@ -56,6 +58,18 @@ pub record FitsTwice (F : List ℕ → Type 0) (Fit : Frees → List Skeleton �
   pub second_fits : Fit second second_omitted
   pub differ : AreSame F first second first_omitted second_omitted → ⊥
 
+-- one of the skeletons is deeper than 4,096
+abbrev pub HasDeep : List Skeleton → Type 0
+HasDeep [] = ⊥
+HasDeep (k ∷ ks) = (depth_limit < skeleton_depth k) ⊎ HasDeep ks
+
+-- It has them in just one way, and one of them is deeper than 4,096.
+pub record FitsDeeply (F : List ℕ → Type 0) (Fit : Frees → List Skeleton → Type 0) : Type 0 where
+  pub rows : Rows
+  pub omitted : List Skeleton
+  pub once : FitsOnce F Fit rows omitted
+  pub deep : HasDeep (map (λ r. r.1) rows) ⊎ HasDeep omitted
+
 -- It has them in no way.
 abbrev pub NeverFits : (Frees → List Skeleton → Type 0) → Type 0
 NeverFits Fit = (f : Frees) (o : List Skeleton) → Fit f o → ⊥
@@ -74,6 +88,9 @@ HasSkeletons es d rows o = FitsOnce (λ x. IsFreeVariable es x d) (λ f p. Fits 
 abbrev pub IsLoose : List Entry → Declaration → Type 0
 IsLoose es d = FitsTwice (λ x. IsFreeVariable es x d) (λ f p. Fits es f p d)
 
+abbrev pub IsDeep : List Entry → Declaration → Type 0
+IsDeep es d = FitsDeeply (λ x. IsFreeVariable es x d) (λ f p. Fits es f p d)
+
 abbrev pub IsClash : List Entry → Declaration → Type 0
 IsClash es d = NeverFits (λ f p. Fits es f p d)
 
@@ -84,6 +101,7 @@ HasCause es d (TypeLevel None) = (unknown_in es d ≡ []) × (is_type_definition
 HasCause es d (TypeLevel (Some p)) = (unknown_in es d ≡ []) × (is_type_definition es d ≡ false) × IsEarliest p (type_lambdas d)
 HasCause es d Clash = IsOfObjects es d × IsClash es d
 HasCause es d Loose = IsOfObjects es d × IsLoose es d
+HasCause es d TooDeep = IsOfObjects es d × IsDeep es d
 HasCause es d NoMemory = Unit {0}
 
 -- Queries, by their goals
@@ -99,6 +117,9 @@ HasQuerySkeletons es A rows o = FitsOnce (λ x. IsFreeIn es x [] A) (λ f p. Fit
 abbrev pub IsLooseQuery : List Entry → Term → Type 0
 IsLooseQuery es A = FitsTwice (λ x. IsFreeIn es x [] A) (λ f p. FitsQuery es f p A)
 
+abbrev pub IsDeepQuery : List Entry → Term → Type 0
+IsDeepQuery es A = FitsDeeply (λ x. IsFreeIn es x [] A) (λ f p. FitsQuery es f p A)
+
 abbrev pub IsQueryClash : List Entry → Term → Type 0
 IsQueryClash es A = NeverFits (λ f p. FitsQuery es f p A)
 
@@ -109,6 +130,7 @@ HasQueryCause es A (TypeLevel None) = ⊥
 HasQueryCause es A (TypeLevel (Some p)) = (unknown_names es [] A ≡ []) × IsEarliest p (lambdas_in_type A)
 HasQueryCause es A Clash = IsQueryOfObjects es A × IsQueryClash es A
 HasQueryCause es A Loose = IsQueryOfObjects es A × IsLooseQuery es A
+HasQueryCause es A TooDeep = IsQueryOfObjects es A × IsDeepQuery es A
 HasQueryCause es A NoMemory = Unit {0}
 
 -- the rows that values of the program stand for

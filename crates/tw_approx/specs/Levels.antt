@@ -1,7 +1,7 @@
 -- What stands at the level of types and can't: a definition, or a lambda.
-use Rattle.std.specs.Prelude.{◌≡◌, ℕ, List, [], ◌∷◌, ◌++◌, Bool, true, false, ◌||◌, Option, None, Some, ◌⊎◌, if◌then◌else◌}
+use Rattle.std.specs.Prelude.{◌≡◌, List, [], ◌∷◌, ◌++◌, Bool, true, false, ◌||◌, Option, None, Some, ◌⊎◌, if◌then◌else◌}
 use Rattle.lf.specs.Entries.{Entry, Body, declare_family, declare_constant, declare_definition, entry}
-use Rattle.lf.specs.Syntax.{Head, constant, variable, metavariable}
+use Rattle.lf.specs.Syntax.{Head, constant}
 use Rattle.tw_names.specs.Texts.{ends_in_type}
 use Rattle.tw_names.specs.Scope.{binder_name, named}
 use Rattle.tw_names.specs.Unknown.{is_no_later}

@@ -1,7 +1,6 @@
 -- The free variables of a text, by name.
-use Rattle.std.specs.Prelude.{◌≡◌, ℕ, List, [], ◌∷◌, Bool, true, Option, None, Some, ◌⊎◌}
+use Rattle.std.specs.Prelude.{◌≡◌, ℕ, List, [], ◌∷◌, true, Option, None, Some, ◌⊎◌}
 use Rattle.lf.specs.Entries.{Entry}
-use Rattle.lf.specs.Syntax.{Head}
 use Rattle.tw_names.specs.Scope.{binder_name, named}
 use Rattle.tw_names.specs.Unknown.{is_uppercase}
 use Rattle.tw_parse.specs.Syntax.{Term, Domain, identifier, hole, star, arrow, pi, lambda, application, ascription, untyped, typed, Declaration, declare, define, prefer, give}

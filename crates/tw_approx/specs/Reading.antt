@@ -1,5 +1,5 @@
 -- What the walk says of each form of text.
-use Rattle.std.specs.Prelude.{◌↔◌, ◌≡◌, ℕ, zero, suc, drop, List, [], ◌∷◌, map, Bool, true, false, reverse, Option, None, Some}
+use Rattle.std.specs.Prelude.{◌↔◌, ◌≡◌, ℕ, List, [], ◌∷◌, map, Bool, true, false, reverse, Option, None, Some}
 use Rattle.lf.specs.Entries.{Entry}
 use Rattle.lf.specs.Syntax.{Head, Skeleton, base as base_skeleton, arrow as arrow_skeleton}
 use Rattle.tw_approx.specs.Names.{IsFreeIn, IsFreeInDomain}

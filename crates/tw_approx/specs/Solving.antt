@@ -1,14 +1,14 @@
 -- What the solved store says of a declaration.
-use Rattle.std.specs.Prelude.{◌≡◌, ◌≢◌, ℕ, List, [], ◌∷◌, map, reverse, Option, None, Some, ◌⊎◌, ◌↔◌}
+use Rattle.std.specs.Prelude.{◌≡◌, ◌≢◌, ℕ, List, [], map, reverse, Option, Some, ◌⊎◌, ◌↔◌}
 use Rattle.lf.specs.Entries.{Entry}
 use Rattle.lf.specs.Syntax.{Skeleton}
-use Rattle.tw_approx.specs.Answer.{Rows}
+use Rattle.tw_approx.specs.Answer.{HasDeep, Rows}
 use Rattle.tw_approx.specs.Names.{IsFreeIn, IsFreeInType}
 use Rattle.tw_approx.specs.Reading.{IsRead}
 use Rattle.tw_approx.specs.Skeletons.{Frees, definition_skeleton}
-use Rattle.tw_approx.specs.Walks.{Assignment, State, Variables, empty_state, HasVariable, Agrees, IsSound}
+use Rattle.tw_approx.specs.Walks.{Assignment, State, Variables, HasVariable, Agrees, IsSound}
 use Rattle.tw_approx.specs.declared.fault.ApproxFault.{ApproxFault}
-use Rattle.tw_approx.specs.declared.fault.ApproxFault.TheVariants.{Loose, NoMemory}
+use Rattle.tw_approx.specs.declared.fault.ApproxFault.TheVariants.{Loose, TooDeep, NoMemory}
 use Rattle.tw_parse.specs.Syntax.{Term}
 use Rattle.tw_shapes.specs.Shapes.{Store, Solves, HasSolution}
 use Rattle.tw_shapes.specs.declared.shape.Shape.{Shape}
@@ -32,6 +32,14 @@ pub record AreOpen (s : Store) (ms : List ℕ) : Type 0 where
 abbrev pub AreAlways : Store → List ℕ → List Skeleton → Type 0
 AreAlways s ms ks = (θ : Assignment) → Solves θ s → map θ ms ≡ ks
 
+-- these are the same in each solution
+abbrev pub AreSettled : Store → List ℕ → Type 0
+AreSettled s ms = (ks : List Skeleton) × AreAlways s ms ks
+
+-- one of them is deeper than 4,096 in each solution
+abbrev pub AreDeeper : Store → List ℕ → Type 0
+AreDeeper s ms = (θ : Assignment) → Solves θ s → HasDeep (map θ ms)
+
 -- and with their names
 abbrev pub RowsAreAlways : Store → Variables → List (List ℕ × Skeleton) → Type 0
 RowsAreAlways s xs rows = (θ : Assignment) → Solves θ s → map (λ p. (p.0, θ p.1)) xs ≡ rows
@@ -45,9 +53,10 @@ pub record IsSolved (t : State) (rows : Rows) (ks : List Skeleton) : Type 0 wher
   pub free : RowsAreAlways t.store (reverse t.variables) rows
   pub omitted : AreAlways t.store t.omitted ks
 
--- two solutions differ, or memory is wanting
+-- two solutions differ; each gives the same, one of which is deeper than 4,096; or memory is wanting
 abbrev pub IsLeftOpen : State → ApproxFault → Type 0
 IsLeftOpen t Loose = AreOpen t.store t.omitted ⊎ AreOpen t.store (numbers_of (reverse t.variables))
+IsLeftOpen t TooDeep = (rows : Rows) × (ks : List Skeleton) × IsSolved t rows ks × (HasDeep (map (λ r. r.1) rows) ⊎ HasDeep ks)
 IsLeftOpen t NoMemory = Unit {0}
 IsLeftOpen t _ = ⊥
 

@@ -18,7 +18,7 @@ use crate::frames::FRAMES;
 use crate::lambdas::{Part, first_lambda};
 use crate::levels::{is_written_kind, is_written_type};
 use crate::skeletons::{ascribed, kind_due, term_shape, type_shape};
-use crate::solving::{solved_all, solved_rows};
+use crate::solving::{are_settled, rows_are_settled, solved_all, solved_rows};
 use crate::walk::Walk;
 use std::alloc::{AllocError, Global};
 use tw_fixity::{Name, Scope};
@@ -71,13 +71,20 @@ pub fn solved(alloc: Global, walk: &Walk) -> Result<Approx, ApproxFault>
     ensures solved { IfOk result (λ a. IsSolved (state_of walk.now) (rows_of a.free.items) (map skeleton_of a.omitted.items)) }
     ensures open { IfErr result (IsLeftOpen (state_of walk.now)) }
 {
-    let Some(omitted) = solved_all(alloc, &walk.shapes, &walk.omitted)? else {
+    if !are_settled(&walk.shapes, &walk.omitted)? {
         return Err(ApproxFault::Loose);
-    };
-    let Some(free) = solved_rows(alloc, &walk.shapes, walk.variables.rows())? else {
+    }
+    let rows = walk.variables.rows();
+    if !rows_are_settled(&walk.shapes, rows)? {
         return Err(ApproxFault::Loose);
-    };
+    }
     walk.shapes.has_solution();
+    let Some(omitted) = solved_all(alloc, &walk.shapes, &walk.omitted)? else {
+        return Err(ApproxFault::TooDeep);
+    };
+    let Some(free) = solved_rows(alloc, &walk.shapes, rows)? else {
+        return Err(ApproxFault::TooDeep);
+    };
     Ok(Approx { free, omitted })
 }
 

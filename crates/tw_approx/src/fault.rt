@@ -22,6 +22,9 @@ pub enum ApproxFault {
     /// More than one choice fits.
     #[error("the skeletons of the declaration are left open")]
     Loose,
+    /// A skeleton of what isn't written is deeper than 4,096, and so are the types that have it.
+    #[error("a skeleton of what isn't written is too deep")]
+    TooDeep,
     /// Memory is wanting, the machine's stack included.
     #[error("memory is wanting")]
     NoMemory,

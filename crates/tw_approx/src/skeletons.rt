@@ -20,7 +20,7 @@ use std::alloc::{AllocError, Global};
 use tw_fixity::{Name, Scope};
 use tw_names::{binder_name, is_uppercase, named, nested};
 use tw_parse::ExtTerm;
-use tw_shapes::{Shape, Shapes};
+use tw_shapes::{Parts, Shape, Shapes};
 use tw_signature::{Body, Entry, Signature};
 use tw_terms::{ConstId, Head};
 
@@ -224,15 +224,18 @@ fn applied(
     requires argument { IsWithin (count_of walk.old.shapes) (shape_of argument) }
     ensures { IfOk result (λ o. IsApplied (state_of walk.old) (state_of walk.new) (shape_of function) (shape_of argument) o) }
 {
-    match function {
-        Shape::Arrow(domain, range) => {
+    match function.parts() {
+        Parts::Arrow(domain, range) => {
             if walk.shapes.unify(&domain, &argument)? {
                 Ok(Some(Box::into_inner(range)))
             } else {
                 Ok(None)
             }
         }
-        Shape::Variable(_) | Shape::Base(_) => applied_unknown(alloc, walk, function, argument),
+        Parts::Variable(variable) => {
+            applied_unknown(alloc, walk, Shape::Variable(variable), argument)
+        }
+        Parts::Base(family) => applied_unknown(alloc, walk, Shape::Base(family), argument),
     }
 }
 
@@ -339,6 +342,7 @@ fn family_shape(
 }
 
 /// What a name is as a family.
+#[inline(never)]
 fn named_family(
     alloc: Global,
     signature: &Signature,
@@ -382,6 +386,7 @@ fn arrow_shape(
 }
 
 /// A quantifier as a type.
+#[inline(never)]
 #[cycle(shapes)]
 fn pi_shape(
     alloc: Global,
@@ -429,6 +434,7 @@ fn range_shape(
 }
 
 /// What a family is on arguments.
+#[inline(never)]
 #[cycle(shapes)]
 fn applied_family(
     alloc: Global,
@@ -502,6 +508,7 @@ fn known_on_argument(
 }
 
 /// What a family is with its kind.
+#[inline(never)]
 #[cycle(shapes)]
 fn ascribed_family(
     alloc: Global,

@@ -103,10 +103,10 @@ pub fn show_refusal(alloc: Global, refusal: &Refusal, origin: &str) -> Result<Ve
             clause_line(alloc, origin, place, clause, *subgoal, *argument)
         }
         Refusal::WorldFault(place, clause, subgoal) => {
-            world_line(alloc, origin, place, clause, *subgoal)
+            subgoal_line(alloc, origin, place, b" E14 WorldFault ", clause, *subgoal)
         }
         Refusal::OrderFault(place, clause, subgoal) => {
-            order_line(alloc, origin, place, clause, *subgoal)
+            subgoal_line(alloc, origin, place, b" E15 OrderFault ", clause, *subgoal)
         }
         Refusal::Count(place, found, expected) => {
             count_line(alloc, origin, place, *found, *expected)
@@ -187,32 +187,19 @@ fn subgoal_words(alloc: Global, clause: &[u8], subgoal: u64) -> Result<Vec<u8>, 
     Ok(words)
 }
 
-// The line of a clause that isn't well-worlded.
-fn world_line(
+// A line that shows a clause and a subgoal behind these words.
+fn subgoal_line(
     alloc: Global,
     origin: &str,
     place: &Place,
+    words: &[u8],
     clause: &[u8],
     subgoal: u64,
 ) -> Result<Vec<u8>, AllocError>
-    ensures { IfOk result (λ line. line.items ≡ show_place origin.now place.now ++ codes " E14 WorldFault " ++ subgoal_words clause.now subgoal ++ codes "\n") }
+    ensures { IfOk result (λ line. line.items ≡ show_place origin.now place.now ++ words.now ++ subgoal_words clause.now subgoal ++ codes "\n") }
 {
-    let words = subgoal_words(alloc, clause, subgoal)?;
-    line_with(alloc, origin, place, b" E14 WorldFault ", &words)
-}
-
-// The line of a clause that doesn't descend.
-fn order_line(
-    alloc: Global,
-    origin: &str,
-    place: &Place,
-    clause: &[u8],
-    subgoal: u64,
-) -> Result<Vec<u8>, AllocError>
-    ensures { IfOk result (λ line. line.items ≡ show_place origin.now place.now ++ codes " E15 OrderFault " ++ subgoal_words clause.now subgoal ++ codes "\n") }
-{
-    let words = subgoal_words(alloc, clause, subgoal)?;
-    line_with(alloc, origin, place, b" E15 OrderFault ", &words)
+    let shown = subgoal_words(alloc, clause, subgoal)?;
+    line_with(alloc, origin, place, words, &shown)
 }
 
 // How many answers were found, and how many there have to be.

@@ -118,6 +118,7 @@ fn compare_next<'a>(
         }
         (OpenTy::Atom(family, args), OpenTy::Atom(other, other_args)) => {
             if family.0 != other.0 {
+                // Behind the skeleton pass both types have one skeleton; no clause says it of the expected one.
                 return Err(AllocError);
             }
             compare_indices(
@@ -130,6 +131,7 @@ fn compare_next<'a>(
                 other_args,
             )
         }
+        // Behind the skeleton pass both types have one skeleton; no clause says it of the expected one.
         _ => Err(AllocError),
     }
 }
@@ -178,6 +180,7 @@ pub fn compare_kinds(
     let mut expected = expected;
     while let OpenKind::Pi(domain, range) = found {
         let OpenKind::Pi(other_domain, other_range) = expected else {
+            // Behind the skeleton pass both kinds take as many arguments; no clause says it of the expected one.
             return Err(AllocError);
         };
         let outside = context.copy(alloc)?;
@@ -188,6 +191,7 @@ pub fn compare_kinds(
     }
     match expected {
         OpenKind::Star => Ok(()),
+        // Behind the skeleton pass both kinds take as many arguments; no clause says it of the expected one.
         OpenKind::Pi(_, _) => Err(AllocError),
     }
 }

@@ -8,7 +8,7 @@ ghost use Rattle.tw_elaborate.specs.Frees.{IsNewFree};
 ghost use Rattle.tw_elaborate.specs.Fresh.{Keeps};
 ghost use Rattle.tw_elaborate.specs.View.{made, numbers_of};
 
-use crate::frames::FRAMES;
+use crate::frames::LEVELS;
 use crate::fresh::new_type;
 use crate::state::Elaboration;
 use std::alloc::{AllocError, Global};
@@ -48,6 +48,6 @@ fn new_free(
     ensures ok { IfOk result (λ m. IsNewFree signature.now (skeleton_of skeleton.now) m.0 state.old state.new) }
     ensures keeps { Keeps state.old state.new }
 {
-    let ty = new_type(alloc, signature, state, skeleton, FRAMES)?;
+    let ty = new_type(alloc, signature, state, skeleton, LEVELS)?;
     state.store.fresh(OpenContext::new(alloc), ty)
 }

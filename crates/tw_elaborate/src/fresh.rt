@@ -44,6 +44,7 @@ fn take_one(
             let rest = instantiated(alloc, &range, &arg, &domain)?;
             Ok((arg, rest))
         }
+        // An entry has as many quantifiers as implicit arguments; no clause says it of the type that is handed in.
         OpenTy::Atom(_, _) => Err(AllocError),
     }
 }
@@ -85,6 +86,7 @@ fn kind_take_one(
             let rest = instantiate_kind(alloc, &range, 0, &arg, &domain)?;
             Ok((arg, rest))
         }
+        // An entry has as many quantifiers as implicit arguments; no clause says it of the kind that is handed in.
         OpenKind::Star => Err(AllocError),
     }
 }
@@ -132,29 +134,31 @@ pub fn take_all_new(
             }
         }
     }
+    // No kind in memory takes so many arguments; no clause of a kind says so.
     Err(AllocError)
 }
 
-/// The most general type of the skeleton: its families on new metavariables. Where one isn't declared, memory counts as used up.
+/// The most general type of the skeleton: its families on new metavariables. Where one isn't declared, or the skeleton is deeper than so many levels, memory counts as used up.
 pub fn new_type(
     alloc: Global,
     signature: &Signature,
     state: &mut Elaboration,
     skeleton: &Skeleton,
-    frames: u32,
+    levels: u32,
 ) -> Result<OpenTy, AllocError>
     requires canonical { IsCanonicalSignature signature.now }
     requires stands { Stands (signature_of signature.now) (made state.old) state.old.locals }
     ensures ok { IfOk result (λ a. NewType signature.now state.old.locals (skeleton_of skeleton.now) (made state.old) (made state.new) (open_type_of a)) }
     ensures keeps { Keeps state.old state.new }
 {
-    let frames = nested(frames)?;
+    // The first pass gives no skeleton that is deeper than 4,096; no clause says it of the one that is handed in.
+    let levels = nested(levels)?;
     match skeleton {
         Skeleton::Base(family) => new_atom(alloc, signature, state, *family),
         Skeleton::Arrow(domain, range) => {
-            let domain = new_type(alloc, signature, state, domain, frames)?;
+            let domain = new_type(alloc, signature, state, domain, levels)?;
             state.locals.push(domain.copy(alloc)?)?;
-            let range = new_type(alloc, signature, state, range, frames);
+            let range = new_type(alloc, signature, state, range, levels);
             state.locals.pop();
             pi(alloc, domain, range?)
         }
@@ -179,6 +183,7 @@ fn new_atom(
             let spine = take_all_new(alloc, state, open_kind(alloc, kind)?)?;
             Ok(OpenTy::Atom(family, spine))
         }
+        // The skeletons that the first pass finds are of declared families; no clause says it of the one that is handed in.
         None => Err(AllocError),
     }
 }

@@ -36,9 +36,11 @@ pub fn free(
     ensures stays { IfOk result (λ p. IsTerm p.0 → ⊥) }
 {
     let Some(meta) = frees.get(variable as usize) else {
+        // Resolution numbers the free variables by the rows for which the metavariables were made, so none is missing; no clause of what is written says so.
         return Err(AllocError);
     };
     let Some((_, ty)) = state.store.about(*meta) else {
+        // The store keeps each metavariable that was made; no clause says that those of the free variables are of this store.
         return Err(AllocError);
     };
     let spine = OpenSpine {
@@ -59,6 +61,7 @@ pub fn bound(
     ensures stays { IfOk result (λ p. IsTerm p.0 → ⊥) }
 {
     let Some(ty) = state.locals.get(variable) else {
+        // Resolution finds each variable in the scope over which elaboration goes; no clause of what is written says so.
         return Err(AllocError);
     };
     let by = variable.checked_add(1).ok_or(AllocError)?;
@@ -85,6 +88,7 @@ pub fn declared(
     ensures keeps { Keeps state.old state.new }
 {
     let Some(entry) = signature.entry(id) else {
+        // Resolution takes each constant from this signature; no clause of what is written says so.
         return Err(HeredFault::NoMemory);
     };
     let implicit = entry.implicit as u64;
@@ -104,6 +108,7 @@ pub fn declared(
             let term = on_arguments(alloc, open_term(alloc, term)?, &spine, &whole)?;
             Ok((Operator::Term(term), rest))
         }
+        // What has a skeleton has no family as a term; no clause says that what is written has one.
         Body::Family(_) => Err(HeredFault::NoMemory),
     }
 }
@@ -147,12 +152,14 @@ pub fn named_family(
     ensures keeps { Keeps state.old state.new }
 {
     let Some(entry) = signature.entry(id) else {
+        // Resolution takes each family from this signature; no clause of what is written says so.
         return Err(AllocError);
     };
     match &entry.body {
         Body::Family(kind) => {
             kind_take_new(alloc, state, entry.implicit as u64, open_kind(alloc, kind)?)
         }
+        // What has a skeleton has no constant as a family; no clause says that what is written has one.
         Body::Constant(_) | Body::Defined { .. } => Err(AllocError),
     }
 }

@@ -10,6 +10,7 @@ ghost use Rattle.tw_elaborate.specs.Fresh.{Keeps};
 ghost use Rattle.tw_elaborate.specs.View.{made};
 
 use crate::equations::has_skeleton;
+use crate::frames::LEVELS;
 use crate::fresh::{new_term, new_type};
 use crate::state::Elaboration;
 use std::alloc::{AllocError, Global};
@@ -23,14 +24,13 @@ pub fn term_hole(
     signature: &Signature,
     state: &mut Elaboration,
     skeleton: &Skeleton,
-    frames: u32,
 ) -> Result<(Open, OpenTy), AllocError>
     requires canonical { IsCanonicalSignature signature.now }
     requires stands { Stands (signature_of signature.now) (made state.old) state.old.locals }
     ensures ok { IfOk result (λ p. (numbers : List ℕ) (at : Place) → Infers signature.now numbers state.old.locals (hole (skeleton_of skeleton.now) at) (made state.old) (made state.new) (open_term_of p.0) (open_type_of p.1)) }
     ensures keeps { Keeps state.old state.new }
 {
-    let ty = new_type(alloc, signature, state, skeleton, frames)?;
+    let ty = new_type(alloc, signature, state, skeleton, LEVELS)?;
     Ok((new_term(alloc, state, &ty)?, ty))
 }
 
@@ -46,6 +46,7 @@ pub fn checked_hole(
     ensures keeps { Keeps state.old state.new }
 {
     if !has_skeleton(expected, skeleton) {
+        // The skeleton pass gave the hole the skeleton of what is expected there; no clause of what is written says so.
         return Err(AllocError);
     }
     new_term(alloc, state, expected)

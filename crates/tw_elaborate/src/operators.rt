@@ -170,6 +170,7 @@ fn product(ty: OpenTy) -> Result<(OpenTy, OpenTy), AllocError>
 {
     match ty {
         OpenTy::Pi(domain, range) => Ok((Box::into_inner(domain), Box::into_inner(range))),
+        // What has a skeleton has arguments only behind a function; no clause says that what is written has one.
         OpenTy::Atom(_, _) => Err(AllocError),
     }
 }
@@ -209,6 +210,7 @@ fn reduced(alloc: Global, function: &Open, domain: &OpenTy, arg: &Open) -> Resul
 {
     match function {
         Open::Lam(body) => Ok(substitute(alloc, body, 0, arg, domain)?),
+        // A canonical term of a function type is a lambda; what is asked here speaks of the body alone.
         Open::Root(_, _) => Err(HeredFault::NoMemory),
     }
 }

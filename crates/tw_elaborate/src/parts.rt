@@ -108,6 +108,7 @@ pub fn compare_ascribed(
 {
     match found {
         OpenKind::Pi(_, _) => compare_kinds(alloc, signature, state, found, expected),
+        // A type with its kind is elaborated as a type, and what has a skeleton has no other kind there; no clause says that what is written has one.
         OpenKind::Star => Err(AllocError),
     }
 }

@@ -17,6 +17,7 @@ ghost use Rattle.tw_elaborate.specs.View.{made, numbers_of};
 ghost use Rattle.tw_written.specs.View.{written_domain_of, written_kind_of, written_of, written_type_of};
 
 use crate::equations::compare_types;
+use crate::frames::LEVELS;
 use crate::fresh::new_type;
 use crate::heads::{bound, declared, free, named_family};
 use crate::holes::{checked_hole, term_hole};
@@ -55,7 +56,7 @@ pub fn infer(
 {
     let frames = nested(frames)?;
     match written {
-        Written::Hole(skeleton, _) => Ok(term_hole(alloc, signature, state, skeleton, frames)?),
+        Written::Hole(skeleton, _) => Ok(term_hole(alloc, signature, state, skeleton)?),
         Written::Function(domain, body) => infer_function(
             alloc, signature, frees, state, domain, body, frames,
         ),
@@ -145,6 +146,7 @@ fn infer_applied(
             }
         }
     }
+    // No text in memory has so many rows and arguments; no clause of a text says so.
     Err(HeredFault::NoMemory)
 }
 
@@ -196,6 +198,7 @@ fn elaborate_operator(
             let (term, ty) = infer(alloc, signature, frees, state, written, frames)?;
             Ok((Operator::Term(term), ty))
         }
+        // What stands before all arguments of a row is no row; the clauses of a row leave it open.
         Written::Applied(_, _) => Err(HeredFault::NoMemory),
     }
 }
@@ -264,6 +267,7 @@ fn check_function(
             state.locals.pop();
             Ok(lambda(alloc, checked?)?)
         }
+        // What has a skeleton has a function only where a function is expected; no clause says that what is written has one.
         OpenTy::Atom(_, _) => Err(HeredFault::NoMemory),
     }
 }
@@ -309,7 +313,7 @@ pub fn elaborate_type(
 {
     let frames = nested(frames)?;
     match written {
-        WrittenType::Hole(skeleton, _) => Ok(new_type(alloc, signature, state, skeleton, frames)?),
+        WrittenType::Hole(skeleton, _) => Ok(new_type(alloc, signature, state, skeleton, LEVELS)?),
         WrittenType::Arrow(_, _) => elaborate_arrows(
             alloc, signature, frees, state, written, frames,
         ),
@@ -318,6 +322,7 @@ pub fn elaborate_type(
         ),
         WrittenType::Ascribed(ty, kind) => match &**kind {
             WrittenKind::Star => elaborate_type(alloc, signature, frees, state, ty, frames),
+            // What has a skeleton has a type only with the kind `type`; no clause says that what is written has one.
             WrittenKind::Arrow(_, _) | WrittenKind::Quantified(_, _) => Err(HeredFault::NoMemory),
         },
         WrittenType::Family(_, _) | WrittenType::Applied(_, _) => {
@@ -326,6 +331,7 @@ pub fn elaborate_type(
             )?;
             match kind {
                 OpenKind::Star => Ok(OpenTy::Atom(family, spine)),
+                // What has a skeleton has a type only where all arguments are there; no clause says that what is written has one.
                 OpenKind::Pi(_, _) => Err(HeredFault::NoMemory),
             }
         }
@@ -405,7 +411,7 @@ fn elaborate_domain(
     let frames = nested(frames)?;
     match written {
         WrittenDomain::OfSkeleton(skeleton, _) => Ok(new_type(
-            alloc, signature, state, skeleton, frames,
+            alloc, signature, state, skeleton, LEVELS,
         )?),
         WrittenDomain::OfType(ty) => elaborate_type(alloc, signature, frees, state, ty, frames),
     }
@@ -443,6 +449,7 @@ fn elaborate_family(
                     let (spine, rest) = family_application(alloc, spine, &domain, &range, arg)?;
                     Ok((family, spine, rest))
                 }
+                // What has a skeleton has no argument behind a type; no clause says that what is written has one.
                 OpenKind::Star => Err(HeredFault::NoMemory),
             }
         }
@@ -454,6 +461,7 @@ fn elaborate_family(
             compare_ascribed(alloc, signature, state, &found, &expected)?;
             Ok((family, spine, found))
         }
+        // What has a skeleton has a name before arguments and kinds; no clause says that what is written has one.
         WrittenType::Hole(_, _) | WrittenType::Arrow(_, _) | WrittenType::Quantified(_, _) => {
             Err(HeredFault::NoMemory)
         }

@@ -30,7 +30,7 @@ struct Sides {
     ty: Ty,
 }
 
-/// The sides of an equation. Where a metavariable isn't laid out, memory counts as used up.
+/// The sides of an equation. Where a metavariable isn't laid out, memory counts as used up: an equation that is shown comes with each that it mentions, but no clause says so.
 fn sides_of(alloc: Global, positions: &Positions, equation: &Equation) -> Result<Sides, AllocError>
     ensures { IfOk result (λ s. AreGeneralized (index positions.now) (equation_of equation.now) s) }
 {
@@ -47,7 +47,7 @@ fn sides_of(alloc: Global, positions: &Positions, equation: &Equation) -> Result
     Ok(Sides { left, right, ty })
 }
 
-/// Tests that skeletons type the sides in a context. Where they don't, memory counts as used up.
+/// Tests that skeletons type the sides in a context. Where they don't, memory counts as used up: they type each equation of a store, but no clause says it of what is shown.
 fn sides_fit(
     alloc: Global,
     signature: &Signature,

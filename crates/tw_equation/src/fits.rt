@@ -23,6 +23,7 @@ pub fn enter(
     ensures showable { OnOk result (IsShowableContext (signature_of signature.now) context.new) }
 {
     if !type_fits(alloc, signature, context, &ty)? {
+        // Skeletons type what a store keeps; no clause says it of what is shown.
         return Err(AllocError);
     }
     context.push(ty)

@@ -66,6 +66,7 @@ pub fn lay_out(
     let mut context = Context::new(alloc);
     for count in 0..metas.len() {
         let Some((meta, ty)) = next_one(alloc, &positions, metas)? else {
+            // The metavariables of a store have an order in which the type of each mentions only earlier ones; no clause says it of the list that is shown.
             return Err(AllocError);
         };
         enter(alloc, signature, &mut context, ty)?;

@@ -35,6 +35,7 @@ pub fn enter_locals(
     for outside in 0..count {
         let ty = local.get((count - 1 - outside) as u64).unwrap();
         let Some(ty) = generalized_type(alloc, positions, outside as u64, ty)? else {
+            // An equation that is shown comes with each metavariable that it mentions; no clause says so.
             return Err(AllocError);
         };
         enter(alloc, signature, context, ty)?;

@@ -56,8 +56,8 @@ pub fn check_kind(
     if kind.depth() > DEPTH_LIMIT {
         return Ok(Verdict::TooDeep);
     }
-    let mut inner = context.copy(alloc)?;
-    answer(is_kind(alloc, signature, &mut inner, kind))
+    let mut inner = Context::new(alloc);
+    answer(is_kind(alloc, signature, context, &mut inner, kind))
 }
 
 /// Whether the type is one in this context. Fails only for want of memory.
@@ -76,8 +76,7 @@ pub fn check_type(
     if ty.depth() > DEPTH_LIMIT {
         return Ok(Verdict::TooDeep);
     }
-    let mut inner = context.copy(alloc)?;
-    answer(is_type(alloc, signature, &mut inner, ty))
+    answer(is_type_in(alloc, signature, context, ty))
 }
 
 /// Whether the term has the type in this context. Fails only for want of memory.
@@ -101,8 +100,8 @@ pub fn check_term(
     if ty.depth() > DEPTH_LIMIT {
         return Ok(Verdict::TooDeep);
     }
-    let mut inner = context.copy(alloc)?;
-    answer(has_type(alloc, signature, &mut inner, term, ty))
+    let mut inner = Context::new(alloc);
+    answer(has_type(alloc, signature, context, &mut inner, term, ty))
 }
 
 fn is_context(alloc: Global, signature: &Signature, context: &Context) -> Result<(), Fault>
@@ -116,10 +115,20 @@ fn is_context(alloc: Global, signature: &Signature, context: &Context) -> Result
         if ty.depth() > DEPTH_LIMIT {
             return Err(Fault::TooDeep);
         }
-        is_type(alloc, signature, &mut outer, ty)?;
+        is_type_in(alloc, signature, &outer, ty)?;
         outer.push(ty.copy(alloc)?)?;
     }
     Ok(())
+}
+
+/// Whether the type is one in this context.
+fn is_type_in(alloc: Global, signature: &Signature, context: &Context, ty: &Ty) -> Result<(), Fault>
+    requires canonical { IsCanonicalSignature signature.now }
+    requires context { IsContext (signature_of signature.now) context.now }
+    ensures { Decides result (IsType (signature_of signature.now) context.now (type_of ty.now)) (TypeReachesDeep depth_limit (signature_of signature.now) context.now (type_of ty.now)) }
+{
+    let mut inner = Context::new(alloc);
+    is_type(alloc, signature, context, &mut inner, ty)
 }
 
 fn answer(outcome: Result<(), Fault>) -> Result<Verdict, AllocError>

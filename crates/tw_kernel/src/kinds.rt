@@ -1,5 +1,5 @@
 //! Spines against the kinds of families.
-ghost use Rattle.std.specs.Prelude.{◌≡◌, MatchResult, IfOk, OnOk, IsErrOf};
+ghost use Rattle.std.specs.Prelude.{◌≡◌, ◌++◌, MatchResult, IfOk, OnOk, IsErrOf};
 ghost use Rattle.lf.specs.AtOnce.{lift_by};
 ghost use Rattle.lf.specs.Deep.{DeepKindSubstitution};
 ghost use Rattle.lf.specs.DeepTyping.{KindSpineReachesDeep};
@@ -20,23 +20,24 @@ use tw_signature::Signature;
 use tw_terms::numbers::one_more;
 use tw_terms::{Context, Kind, Skeleton, Spine, Term, Ty, skeleton};
 
-/// Whether the spine takes the kind to `type`. Where it does, the context is as before.
+/// Whether the spine takes the kind to `type` in the context of `inner` and, outside it, `outer`. Where it does, `inner` is as before.
 pub fn fits_kind(
     alloc: Global,
     signature: &Signature,
-    context: &mut Context,
+    outer: &Context,
+    inner: &mut Context,
     spine: &Spine,
     family: Kind,
 ) -> Result<(), Fault>
     requires canonical { IsCanonicalSignature signature.now }
-    requires context { IsContext (signature_of signature.now) context.old }
-    requires kind { IsKind (signature_of signature.now) context.old (kind_of family) }
-    ensures decided { Decides result (SpineFitsKind (signature_of signature.now) context.old (spine_of spine.now) (kind_of family)) (KindSpineReachesDeep depth_limit (signature_of signature.now) context.old (spine_of spine.now) (kind_of family)) }
-    ensures context { OnOk result (context.new ≡ context.old) }
+    requires context { IsContext (signature_of signature.now) (inner.old ++ outer.now) }
+    requires kind { IsKind (signature_of signature.now) (inner.old ++ outer.now) (kind_of family) }
+    ensures decided { Decides result (SpineFitsKind (signature_of signature.now) (inner.old ++ outer.now) (spine_of spine.now) (kind_of family)) (KindSpineReachesDeep depth_limit (signature_of signature.now) (inner.old ++ outer.now) (spine_of spine.now) (kind_of family)) }
+    ensures context { OnOk result (inner.new ≡ inner.old) }
 {
     let mut kind = family;
     for arg in &spine.args {
-        kind = take_argument(alloc, signature, context, &kind, arg)?;
+        kind = take_argument(alloc, signature, outer, inner, &kind, arg)?;
     }
     match kind {
         Kind::Star => Ok(()),
@@ -48,19 +49,20 @@ pub fn fits_kind(
 fn take_argument(
     alloc: Global,
     signature: &Signature,
-    context: &mut Context,
+    outer: &Context,
+    inner: &mut Context,
     kind: &Kind,
     arg: &Term,
 ) -> Result<Kind, Fault>
     requires canonical { IsCanonicalSignature signature.now }
-    requires context { IsContext (signature_of signature.now) context.old }
-    requires kind { IsKind (signature_of signature.now) context.old (kind_of kind.now) }
-    ensures taken { MatchResult result (λ l. KindTakesArgument (signature_of signature.now) context.old (kind_of kind.now) (term_of arg.now) (kind_of l)) (λ fault. Blames fault ((L : LfKind) × KindTakesArgument (signature_of signature.now) context.old (kind_of kind.now) (term_of arg.now) L) ((S : LfSpine) → KindSpineReachesDeep depth_limit (signature_of signature.now) context.old (app (term_of arg.now) S) (kind_of kind.now))) }
-    ensures context { OnOk result (context.new ≡ context.old) }
+    requires context { IsContext (signature_of signature.now) (inner.old ++ outer.now) }
+    requires kind { IsKind (signature_of signature.now) (inner.old ++ outer.now) (kind_of kind.now) }
+    ensures taken { MatchResult result (λ l. KindTakesArgument (signature_of signature.now) (inner.old ++ outer.now) (kind_of kind.now) (term_of arg.now) (kind_of l)) (λ fault. Blames fault ((L : LfKind) × KindTakesArgument (signature_of signature.now) (inner.old ++ outer.now) (kind_of kind.now) (term_of arg.now) L) ((S : LfSpine) → KindSpineReachesDeep depth_limit (signature_of signature.now) (inner.old ++ outer.now) (app (term_of arg.now) S) (kind_of kind.now))) }
+    ensures context { OnOk result (inner.new ≡ inner.old) }
 {
     match kind {
         Kind::Pi(domain, rest) => {
-            has_type(alloc, signature, context, arg, domain)?;
+            has_type(alloc, signature, outer, inner, arg, domain)?;
             let shape = skeleton(alloc, domain)?;
             Ok(instantiate_kind(alloc, rest, 0, arg, &shape)?)
         }

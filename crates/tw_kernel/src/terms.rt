@@ -1,5 +1,5 @@
 //! Terms against their types, and spines against the types of their heads, from left to right.
-ghost use Rattle.std.specs.Prelude.{◌≡◌, ◌↔◌, MatchResult, OnOk};
+ghost use Rattle.std.specs.Prelude.{◌≡◌, ◌++◌, ◌↔◌, MatchResult, OnOk};
 ghost use Rattle.lf.specs.Depth.{depth_limit};
 ghost use Rattle.lf.specs.DeepTyping.{TypingReachesDeep, SpineReachesDeep};
 ghost use Rattle.lf.specs.Entries.{signature_of, IsCanonicalSignature};
@@ -15,31 +15,32 @@ use tw_hered::substitute_ty;
 use tw_signature::Signature;
 use tw_terms::{Context, Spine, Term, Ty, skeleton};
 
-/// Whether the term has the type. Where it does, the context is as before.
+/// Whether the term has the type in the context of `inner` and, outside it, `outer`. Where it does, `inner` is as before.
 #[cycle(check)]
 pub fn has_type(
     alloc: Global,
     signature: &Signature,
-    context: &mut Context,
+    outer: &Context,
+    inner: &mut Context,
     term: &Term,
     ty: &Ty,
 ) -> Result<(), Fault>
     requires canonical { IsCanonicalSignature signature.now }
-    requires context { IsContext (signature_of signature.now) context.old }
-    requires ty { IsType (signature_of signature.now) context.old (type_of ty.now) }
-    ensures decided { Decides result (HasType (signature_of signature.now) context.old (term_of term.now) (type_of ty.now)) (TypingReachesDeep depth_limit (signature_of signature.now) context.old (term_of term.now) (type_of ty.now)) }
-    ensures context { OnOk result (context.new ≡ context.old) }
+    requires context { IsContext (signature_of signature.now) (inner.old ++ outer.now) }
+    requires ty { IsType (signature_of signature.now) (inner.old ++ outer.now) (type_of ty.now) }
+    ensures decided { Decides result (HasType (signature_of signature.now) (inner.old ++ outer.now) (term_of term.now) (type_of ty.now)) (TypingReachesDeep depth_limit (signature_of signature.now) (inner.old ++ outer.now) (term_of term.now) (type_of ty.now)) }
+    ensures context { OnOk result (inner.new ≡ inner.old) }
 {
     match (term, ty) {
         (Term::Lam(body), Ty::Pi(domain, range)) => {
-            context.push(domain.copy(alloc)?)?;
-            has_type(alloc, signature, context, body, range)?;
-            let _ = context.pop();
+            inner.push(domain.copy(alloc)?)?;
+            has_type(alloc, signature, outer, inner, body, range)?;
+            let _ = inner.pop();
             Ok(())
         }
         (Term::Root(head, spine), Ty::Atom(_, _)) => {
-            let function = head_type(alloc, signature, context, *head)?;
-            let given = spine_type(alloc, signature, context, spine, function)?;
+            let function = head_type(alloc, signature, outer, inner, *head)?;
+            let given = spine_type(alloc, signature, outer, inner, spine, function)?;
             if given.same(ty) {
                 Ok(())
             } else {
@@ -55,19 +56,20 @@ pub fn has_type(
 fn spine_type(
     alloc: Global,
     signature: &Signature,
-    context: &mut Context,
+    outer: &Context,
+    inner: &mut Context,
     spine: &Spine,
     function: Ty,
 ) -> Result<Ty, Fault>
     requires canonical { IsCanonicalSignature signature.now }
-    requires context { IsContext (signature_of signature.now) context.old }
-    requires ty { IsType (signature_of signature.now) context.old (type_of function) }
-    ensures given { MatchResult result (λ b. (C : LfType) → (SpineType (signature_of signature.now) context.old (spine_of spine.now) (type_of function) C ↔ (type_of b ≡ C))) (λ fault. Blames fault ((C : LfType) × SpineType (signature_of signature.now) context.old (spine_of spine.now) (type_of function) C) (SpineReachesDeep depth_limit (signature_of signature.now) context.old (spine_of spine.now) (type_of function))) }
-    ensures context { OnOk result (context.new ≡ context.old) }
+    requires context { IsContext (signature_of signature.now) (inner.old ++ outer.now) }
+    requires ty { IsType (signature_of signature.now) (inner.old ++ outer.now) (type_of function) }
+    ensures given { MatchResult result (λ b. (C : LfType) → (SpineType (signature_of signature.now) (inner.old ++ outer.now) (spine_of spine.now) (type_of function) C ↔ (type_of b ≡ C))) (λ fault. Blames fault ((C : LfType) × SpineType (signature_of signature.now) (inner.old ++ outer.now) (spine_of spine.now) (type_of function) C) (SpineReachesDeep depth_limit (signature_of signature.now) (inner.old ++ outer.now) (spine_of spine.now) (type_of function))) }
+    ensures context { OnOk result (inner.new ≡ inner.old) }
 {
     let mut ty = function;
     for arg in &spine.args {
-        ty = take_argument(alloc, signature, context, &ty, arg)?;
+        ty = take_argument(alloc, signature, outer, inner, &ty, arg)?;
     }
     Ok(ty)
 }
@@ -77,19 +79,20 @@ fn spine_type(
 fn take_argument(
     alloc: Global,
     signature: &Signature,
-    context: &mut Context,
+    outer: &Context,
+    inner: &mut Context,
     ty: &Ty,
     arg: &Term,
 ) -> Result<Ty, Fault>
     requires canonical { IsCanonicalSignature signature.now }
-    requires context { IsContext (signature_of signature.now) context.old }
-    requires ty { IsType (signature_of signature.now) context.old (type_of ty.now) }
-    ensures taken { MatchResult result (λ c. TakesArgument (signature_of signature.now) context.old (type_of ty.now) (term_of arg.now) (type_of c)) (λ fault. Blames fault ((C : LfType) × TakesArgument (signature_of signature.now) context.old (type_of ty.now) (term_of arg.now) C) ((S : LfSpine) → SpineReachesDeep depth_limit (signature_of signature.now) context.old (app (term_of arg.now) S) (type_of ty.now))) }
-    ensures context { OnOk result (context.new ≡ context.old) }
+    requires context { IsContext (signature_of signature.now) (inner.old ++ outer.now) }
+    requires ty { IsType (signature_of signature.now) (inner.old ++ outer.now) (type_of ty.now) }
+    ensures taken { MatchResult result (λ c. TakesArgument (signature_of signature.now) (inner.old ++ outer.now) (type_of ty.now) (term_of arg.now) (type_of c)) (λ fault. Blames fault ((C : LfType) × TakesArgument (signature_of signature.now) (inner.old ++ outer.now) (type_of ty.now) (term_of arg.now) C) ((S : LfSpine) → SpineReachesDeep depth_limit (signature_of signature.now) (inner.old ++ outer.now) (app (term_of arg.now) S) (type_of ty.now))) }
+    ensures context { OnOk result (inner.new ≡ inner.old) }
 {
     match ty {
         Ty::Pi(domain, range) => {
-            has_type(alloc, signature, context, arg, domain)?;
+            has_type(alloc, signature, outer, inner, arg, domain)?;
             let shape = skeleton(alloc, domain)?;
             Ok(substitute_ty(alloc, range, 0, arg, &shape)?)
         }

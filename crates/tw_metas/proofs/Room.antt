@@ -1,5 +1,5 @@
 -- Room to take back changes.
-use Rattle.std.proofs.Common.{◌≡◌, ℕ, suc, List, [], ◌∷◌, ◌++◌, length, reverse, refl, sym, ap, ◌∙◌, subst, ◌<◌, ◌≤◌, ◌+◌, ◌-◌, arith}
+use Rattle.std.proofs.Common.{Box, Global, ◌≡◌, ℕ, suc, List, [], ◌∷◌, ◌++◌, length, reverse, refl, sym, ap, ◌∙◌, subst, ◌<◌, ◌≤◌, ◌+◌, ◌-◌, arith}
 use Rattle.std.proofs.lemmas.List.{reverse-append, length-reverse}
 use Rattle.tw_metas.specs.State.{State}
 use Rattle.tw_metas.specs.Undoing.{HasRoom, states_before, undone}
@@ -22,7 +22,7 @@ room_postponed cap cap' n n' ts us e l le h =
     subst (λ cs. HasRoom cap' cs n') (sym (newest_change ts us Postponed e))
     (subst (λ k. HasRoom cap' (reverse ts) k) (omega arith) (more_room cap cap' (reverse ts) n le h))
 
-pub room_settled : (cap n n' at : ℕ) (e : Equation) (ts us : List Change) → us ≡ ts ++ Settled at e ∷ [] → n' + 1 ≡ n → at < n → n ≤ cap → HasRoom cap (reverse ts) n → HasRoom cap (reverse us) n'
+pub room_settled : (cap n n' at : ℕ) (e : Box Equation Global) (ts us : List Change) → us ≡ ts ++ Settled at e ∷ [] → n' + 1 ≡ n → at < n → n ≤ cap → HasRoom cap (reverse ts) n → HasRoom cap (reverse us) n'
 room_settled cap n n' at e ts us is l lt le h =
     subst (λ cs. HasRoom cap cs n') (sym (newest_change ts us (Settled at e) is))
     (omega arith, omega arith, subst (λ k. HasRoom cap (reverse ts) k) (sym l) h)

@@ -3,7 +3,7 @@ use Rattle.std.specs.Prelude.{ℕ, List, [], ◌∷◌, length, take, drop, ◌-
 use Rattle.std.specs.List.{insert}
 use Rattle.lf.specs.Syntax.{Term}
 use Rattle.tw_metas.specs.State.{State, Story}
-use Rattle.tw_metas.specs.View.{equation_of}
+use Rattle.tw_metas.specs.View.{kept_equation_of}
 use Rattle.tw_metas.specs.declared.store.Change.{Change}
 use Rattle.tw_metas.specs.declared.store.Change.TheVariants.{Declared, Bound, Postponed, Settled}
 
@@ -21,7 +21,7 @@ abbrev pub undone : Change → State → State
 undone Declared s = record { declared = but_last s.declared; values = but_last s.values; bound = s.bound; equations = s.equations }
 undone Bound s = record { declared = s.declared; values = freed s.bound s.values; bound = drop 1 s.bound; equations = s.equations }
 undone Postponed s = record { declared = s.declared; values = s.values; bound = s.bound; equations = but_last s.equations }
-undone (Settled at e) s = record { declared = s.declared; values = s.values; bound = s.bound; equations = insert s.equations at (equation_of e) }
+undone (Settled at e) s = record { declared = s.declared; values = s.values; bound = s.bound; equations = insert s.equations at (kept_equation_of e) }
 
 -- what was held before each of the changes, the newest in front
 abbrev pub states_before : List Change → State → List State

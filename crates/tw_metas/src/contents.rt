@@ -24,7 +24,7 @@ pub struct Contents {
     pub declared: Vec<Declared>,
     pub values: Vec<Option<Open>>,
     pub bound: Vec<usize>,
-    pub equations: Vec<Equation>,
+    pub equations: Vec<Box<Equation>>,
 }
 
 impl Contents {
@@ -94,8 +94,8 @@ impl Contents {
     }
 
     /// One equation more, behind the others.
-    pub fn postpone(&mut self, equation: Equation) -> Result<(), AllocError>
-        ensures ok { OnOk result (state_of self.new ≡ with_equation (state_of self.old) (equation_of equation)) }
+    pub fn postpone(&mut self, equation: Box<Equation>) -> Result<(), AllocError>
+        ensures ok { OnOk result (state_of self.new ≡ with_equation (state_of self.old) (equation_of equation.value)) }
         ensures len { OnOk result (vec_len self.new.equations ≡ vec_len self.old.equations + 1) }
         ensures err { OnErr result (state_of self.new ≡ state_of self.old) }
         ensures same_len { OnErr result (vec_len self.new.equations ≡ vec_len self.old.equations) }
@@ -115,7 +115,7 @@ impl Contents {
     }
 
     /// Takes out the equation at this place.
-    pub fn settle(&mut self, at: usize) -> Equation
+    pub fn settle(&mut self, at: usize) -> Box<Equation>
         requires { at < vec_len self.old.equations }
         ensures state { state_of self.new ≡ without_equation (state_of self.old) at }
         ensures back { undone (changes.Settled at result) (state_of self.new) ≡ state_of self.old }
@@ -126,7 +126,7 @@ impl Contents {
     }
 
     /// Puts an equation back in its place, for which there is room.
-    pub fn put_back(&mut self, at: usize, equation: Equation)
+    pub fn put_back(&mut self, at: usize, equation: Box<Equation>)
         requires place { at ≤ vec_len self.old.equations }
         requires room { vec_len self.old.equations < vec_capacity self.old.equations }
         ensures state { state_of self.new ≡ undone (changes.Settled at equation) (state_of self.old) }

@@ -1,7 +1,7 @@
 //! The store.
 ghost use Rattle.std.specs.Prelude.{◌≡◌, ◌<◌, ◌≤◌, ◌∷◌, length, reverse, OnOk, OnErr, IfOk, option_map, vec_len};
 ghost use Rattle.tw_terms.specs.OpenView.{open_term_of, open_type_of};
-ghost use Rattle.tw_metas.specs.View.{state_of, equation_of};
+ghost use Rattle.tw_metas.specs.View.{state_of, equation_of, kept_equation_of};
 ghost use Rattle.tw_metas.specs.Undoing.{HasRoom, states_before, undone};
 
 use crate::contents::Contents;
@@ -20,7 +20,7 @@ pub enum Change {
     /// An equation was postponed.
     Postponed,
     /// This equation was settled, which stood at this place.
-    Settled(usize, Equation),
+    Settled(usize, Box<Equation>),
 }
 
 /// The metavariables with their types and values, the equations that are postponed, and the way back to each earlier mark.
@@ -66,7 +66,7 @@ impl Store {
     ghost use Rattle.std.specs.Prelude.{◌≡◌, ◌<◌, ◌≤◌, ◌∷◌, ◌-◌, length, drop, map, OnOk, OnErr, IfOk, option_map, slice_get};
     ghost use Rattle.tw_terms.specs.OpenView.{open_term_of, open_type_of};
     ghost use Rattle.tw_metas.specs.State.{empty_story, changed, states, with_declared, with_value, with_equation, without_equation, value_of, IsUnbound};
-    ghost use Rattle.tw_metas.specs.View.{equation_of};
+    ghost use Rattle.tw_metas.specs.View.{equation_of, kept_equation_of};
 
     /// The store that holds nothing. It keeps the allocator.
     pub fn new(alloc: Global) -> Store
@@ -120,8 +120,8 @@ impl Store {
     }
 
     /// The equations that are postponed, in order.
-    pub fn equations(&self) -> &[Equation]
-        ensures { map equation_of result.now ≡ self.now.now.equations }
+    pub fn equations(&self) -> &[Box<Equation>]
+        ensures { map kept_equation_of result.now ≡ self.now.now.equations }
     {
         &self.contents.equations
     }
@@ -139,11 +139,12 @@ impl Store {
     }
 
     /// Keeps an equation for later, behind the others.
-    pub fn postpone(&mut self, equation: Equation) -> Result<(), AllocError>
+    pub fn postpone(&mut self, alloc: Global, equation: Equation) -> Result<(), AllocError>
         ensures ok { OnOk result (self.new ≡ changed self.old (with_equation self.old.now (equation_of equation))) }
         ensures err { OnErr result (self.new ≡ self.old) }
     {
         self.trail.reserve(1)?;
+        let equation = Box::new(alloc, equation)?;
         self.contents.postpone(equation)?;
         self.trail.push(Change::Postponed)?;
         Ok(())

@@ -1,5 +1,5 @@
 -- Layouts, as the code writes them.
-use Rattle.std.proofs.Common.{◌≡◌, ℕ, zero, suc, ◌+◌, ◌<◌, ◌≤◌, List, [], ◌∷◌, ◌++◌, length, map, take, ◌-◌, drop, get_or, Option, Some, None, Bool, true, false, cond, refl, sym, ap, ◌∙◌, subst, arith, drop-cons, add-one}
+use Rattle.std.proofs.Common.{◌≡◌, ℕ, zero, suc, ◌+◌, ◌<◌, ◌≤◌, List, [], ◌∷◌, ◌++◌, length, map, take, ◌-◌, drop, get_or, Some, refl, sym, ap, ◌∙◌, subst, arith, drop-cons, add-one}
 use Rattle.std.proofs.lemmas.Bool.{le-leb, lt-leb, cond-true, cond-false}
 use Rattle.std.proofs.lemmas.List.{length-drop, length-map}
 use Rattle.std.proofs.Math.Seq.{take-length}
@@ -8,13 +8,13 @@ use Rattle.lf.specs.Typing.{Signature}
 use Rattle.tw_fixity.specs.declared.table.Assoc.{Assoc}
 use Rattle.tw_fixity.specs.declared.table.Fix.{Fix}
 use Rattle.tw_fixity.specs.declared.table.Fix.TheVariants.{Infix, Prefix, Postfix}
-use Rattle.tw_print.specs.Pieces.{Piece, token, space, in_parentheses, render}
+use Rattle.tw_print.specs.Pieces.{Piece, token, space, in_parentheses}
 use Rattle.tw_fixity.specs.Names.{Names as Scope}
 use Rattle.tw_print.specs.Names.{Scene}
 use Rattle.tw_print.specs.Arguments as spec
 use Rattle.tw_print.specs.ArgumentView.{argument_of}
 use Rattle.tw_print.specs.Showable.{IsShowable, AreShowable}
-use Rattle.tw_print.specs.Shown.{Parts, operand_count, operand, argument, spaced, followed, operation, application, plain_application}
+use Rattle.tw_print.specs.Shown.{Parts, operand_count, operand, spaced, followed, operation, application, plain_application}
 use Rattle.tw_print.specs.declared.arguments.Argument.{Argument}
 
 module _ (p : Parts) (s : Scene) (G : List LfType) (ns : Scope) (word : List ℕ) where

@@ -1,12 +1,12 @@
 -- Arguments, collected one by one.
-use Rattle.std.proofs.Common.{◌≡◌, ℕ, ◌+◌, ◌<◌, ◌≤◌, List, [], ◌∷◌, ◌++◌, map, drop, length, Option, Some, None, Bool, true, false, ◌||◌, refl, sym, ap, ap₂, ◌∙◌, subst, append_assoc}
-use Rattle.std.proofs.lemmas.List.{append-nil, map-append}
+use Rattle.std.proofs.Common.{◌≡◌, ℕ, ◌≤◌, List, [], ◌∷◌, ◌++◌, map, drop, length, None, true, false, ◌||◌, refl, sym, ap, ap₂, ◌∙◌, subst, reverse, arith}
+use Rattle.std.proofs.lemmas.List.{append-nil, reverse-append, reverse-reverse}
 use Rattle.std.proofs.Math.ListN.{drop_of_length-le}
 use Rattle.lf.specs.Syntax.{Term, Spine, nil, app, LfType, pi, atom, Skeleton, skeleton}
 use Rattle.lf.specs.Substitution.{single, substitute_type, reduce}
-use Rattle.lf.specs.Typing.{Signature, instantiate_type}
+use Rattle.lf.specs.Typing.{Signature}
 use Rattle.tw_hered.specs.Fits.{TypeFits}
-use Rattle.tw_terms.specs.View.{args_of}
+use Rattle.tw_terms.specs.View.{args_of, term_of}
 use Rattle.tw_terms.specs.declared.canonical.Term.{Term as RustTerm}
 use Rattle.tw_print.specs.Arguments as spec
 use Rattle.tw_print.specs.ArgumentView.{argument_of, lambda_test, any_lambda}
@@ -59,3 +59,32 @@ lambda_next T S R M e y h = sym (ap (λ b. b || any_lambda R) y) ∙ sym (ap any
 
 pub lambda_none : (k : ℕ) (ts : List RustTerm) → length ts ≤ k → any_lambda (args_of (drop k ts)) ≡ any_lambda (args_of ts) → false ≡ any_lambda (args_of ts)
 lambda_none k ts l h = ap (λ us. any_lambda (args_of us)) (sym (drop_of_length-le ts l)) ∙ h
+
+-- arguments that stand last first, without the first of them
+pub popped_terms : (old new : List RustTerm) (x : RustTerm) → old ≡ new ++ x ∷ [] → args_of (reverse old) ≡ app (term_of x) (args_of (reverse new))
+popped_terms old new x e = ap (λ ts. args_of (reverse ts)) e ∙ ap args_of (reverse-append new (x ∷ []))
+
+-- no argument is collected yet
+pub typed_begun : (xs : List Argument) (rest args : List RustTerm) (A : LfType) → xs ≡ [] → rest ≡ reverse args → map argument_of xs ++ spec.arguments A (args_of (reverse rest)) ≡ spec.arguments A (args_of args)
+typed_begun xs rest args A e f = ap (λ us. map argument_of us ++ spec.arguments A (args_of (reverse rest))) e ∙ ap (λ ts. spec.arguments A (args_of (reverse ts))) f ∙ ap (λ ts. spec.arguments A (args_of ts)) (reverse-reverse args)
+
+pub bare_begun : (xs : List Argument) (rest args : List RustTerm) → xs ≡ [] → rest ≡ reverse args → map argument_of xs ++ spec.bare_arguments (args_of (reverse rest)) ≡ spec.bare_arguments (args_of args)
+bare_begun xs rest args e f = ap (λ us. map argument_of us ++ spec.bare_arguments (args_of (reverse rest))) e ∙ ap (λ ts. spec.bare_arguments (args_of (reverse ts))) f ∙ ap (λ ts. spec.bare_arguments (args_of ts)) (reverse-reverse args)
+
+-- all are
+none_left : (ts : List RustTerm) → length ts ≡ 0 → args_of (reverse ts) ≡ nil
+none_left [] e = refl
+none_left (t ∷ ts) e = absurd (omega (arith, e))
+
+no_argument : (A : LfType) → spec.arguments A nil ≡ []
+no_argument (pi A B) = refl
+no_argument (atom a S) = refl
+
+pub typed_all : (xs : List Argument) (ts : List RustTerm) (C : LfType) (X : List spec.Argument) → length ts ≡ 0 → map argument_of xs ++ spec.arguments C (args_of (reverse ts)) ≡ X → map argument_of xs ≡ X
+typed_all xs ts C X l h = finished xs X (ap (λ us. map argument_of xs ++ us) (sym (ap (spec.arguments C) (none_left ts l) ∙ no_argument C)) ∙ h)
+
+pub bare_all : (xs : List Argument) (ts : List RustTerm) (X : List spec.Argument) → length ts ≡ 0 → map argument_of xs ++ spec.bare_arguments (args_of (reverse ts)) ≡ X → map argument_of xs ≡ X
+bare_all xs ts X l h = finished xs X (ap (λ us. map argument_of xs ++ us) (sym (ap spec.bare_arguments (none_left ts l))) ∙ h)
+
+pub reversed_takes : (Σ : Signature) (G : List LfType) (A : LfType) (rest args : List RustTerm) → rest ≡ reverse args → Takes Σ G (args_of args) A → Takes Σ G (args_of (reverse rest)) A
+reversed_takes Σ G A rest args e t = subst (λ ts. Takes Σ G (args_of ts) A) (sym (ap reverse e ∙ reverse-reverse args)) t

@@ -1,5 +1,5 @@
 -- The variables of a context, the outermost first.
-use Rattle.std.proofs.Common.{◌≡◌, ℕ, zero, suc, ◌-◌, ◌<◌, List, [], ◌∷◌, length, drop, Some, refl, sym, ap, ap₂, ◌∙◌, arith, ◌++◌, ◌+◌, add-one}
+use Rattle.std.proofs.Common.{◌≡◌, ℕ, zero, suc, ◌-◌, ◌<◌, List, [], ◌∷◌, length, drop, Some, sym, ap, ap₂, ◌∙◌, arith, ◌++◌, ◌+◌, add-one}
 use Rattle.std.specs.List.{slice_get}
 use Rattle.lf.specs.Syntax.{LfType}
 use Rattle.tw_print.specs.Names.{Scene, fresh_name, lower_base}

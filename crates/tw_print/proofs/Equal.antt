@@ -1,8 +1,7 @@
 -- Two terms on one page.
-use Rattle.std.proofs.Common.{◌≡◌, ℕ, List, [], ◌∷◌, ◌++◌, Some, codes, refl, sym, ap, ap₂, ◌∙◌, subst}
+use Rattle.std.proofs.Common.{◌≡◌, ℕ, List, [], ◌∷◌, ◌++◌, Some, codes, sym, ap, ap₂, ◌∙◌, subst}
 use Rattle.lf.specs.Syntax.{Term, LfType, skeleton}
 use Rattle.lf.specs.Entries.{signature_of}
-use Rattle.tw_fixity.specs.Names.{Names as Scope}
 use Rattle.tw_print.specs.Names.{Scene}
 use Rattle.tw_print.specs.Page.{Writes}
 use Rattle.tw_print.specs.Pieces.{Piece, token, space, render}

@@ -1,5 +1,5 @@
 -- The first name that isn't taken.
-use Rattle.std.proofs.Common.{◌≡◌, ℕ, suc, ◌+◌, ◌-◌, ◌<◌, ◌^◌, List, Bool, true, false, cond, refl, sym, ap, ◌∙◌, arith}
+use Rattle.std.proofs.Common.{◌≡◌, ℕ, suc, ◌-◌, ◌<◌, ◌^◌, List, true, false, sym, ap, ◌∙◌, arith}
 use Rattle.std.proofs.lemmas.Bool.{cond-true, cond-false}
 use Rattle.tw_fixity.specs.Names.{Names as Scope}
 use Rattle.tw_print.specs.Names.{Scene, is_taken, candidate, candidates, candidates_is, first_free}

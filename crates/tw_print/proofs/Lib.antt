@@ -12,3 +12,4 @@ pub mod Declared
 pub mod Contexts
 pub mod Equal
 pub mod MoreLevels
+pub mod Dues

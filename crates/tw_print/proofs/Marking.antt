@@ -2,9 +2,8 @@
 use Rattle.std.proofs.Common.{◌≡◌, ℕ, zero, suc, ◌+◌, ◌-◌, ◌<◌, ◌≤◌, List, [], ◌∷◌, ◌++◌, length, Bool, true, false, ◌||◌, ◌==◌, Result, Ok, Err, OnOk, drop, length-append, refl, sym, ap, ap₂, ◌∙◌, subst, arith}
 use Rattle.std.specs.List.{slice_set}
 use Rattle.std.proofs.lemmas.Bool.{eq-eqb, ne_eqb}
-use mathlib.Core.Path.{fun_ext}
 use Rattle.std.proofs.Math.ListN.{drop_of_length-le}
-use Rattle.lf.specs.Syntax.{Head, Term, Spine, lambda, root, nil, app, LfType, pi, atom, Kind, kind_pi, star}
+use Rattle.lf.specs.Syntax.{Head, Term, Spine, lambda, root, app, LfType, pi, Kind, kind_pi, star}
 use Rattle.tw_terms.specs.View.{args_of}
 use Rattle.tw_terms.specs.declared.canonical.Term.{Term as RustTerm}
 use Rattle.tw_print.specs.Marks.{marked, marks_of, kind_marks_of}

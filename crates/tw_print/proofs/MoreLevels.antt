@@ -1,6 +1,6 @@
 -- More levels give the same text.
 use Rattle.std.proofs.Common.{◌≡◌, ℕ, zero, suc, ◌+◌, ◌≤◌, List, [], ◌∷◌, ◌++◌, drop, length, cond, Bool, true, false, Option, Some, None, codes, nat_le, refl, ap, ap₂, ◌∙◌, arith, length-append}
-use Rattle.lf.specs.Syntax.{Head, Term, lambda, root, Spine, LfType, pi, atom, Kind, kind_pi, star}
+use Rattle.lf.specs.Syntax.{Term, lambda, root, Spine, LfType, pi, atom, Kind, kind_pi, star}
 use Rattle.tw_fixity.specs.declared.table.Fix.{Fix}
 use Rattle.tw_fixity.specs.declared.table.Fix.TheVariants.{Infix, Prefix, Postfix}
 use Rattle.tw_fixity.specs.Names.{Names as Scope}
@@ -8,7 +8,7 @@ use Rattle.tw_print.specs.Arguments.{Argument, arguments, head_type, family_type
 use Rattle.tw_print.specs.Levels.{AreEqualTexts, MoreLevelsGiveTheSameText}
 use Rattle.tw_print.specs.Names.{Scene, fresh_name, head_word, constant_word, lower_base}
 use Rattle.tw_print.specs.Pieces.{Piece, token, space, render, in_parentheses}
-use Rattle.tw_print.specs.Shown.{Parts, parts, argument, operand, spaced, followed, operation, application, root_pieces, atom_pieces, quantifier, quantified_test, quantifier_name, in_parentheses_if, is_bare, is_operation, operator, head_operator, operand_count, term_layout, type_layout, leading_name, leading_type, leading_kind}
+use Rattle.tw_print.specs.Shown.{Parts, parts, argument, operand, spaced, followed, operation, application, atom_pieces, quantifier, quantified_test, quantifier_name, in_parentheses_if, is_bare, is_operation, operator, head_operator, operand_count, term_layout, type_layout, leading_name, leading_type, leading_kind}
 use Rattle.tw_print.specs.Variables.{occurs_in_type, occurs_in_kind}
 use Rattle.tw_print.proofs.Writing.{render-append}
 

@@ -1,5 +1,5 @@
 -- What the calls write, one after the other.
-use Rattle.std.proofs.Common.{◌≡◌, ℕ, suc, ◌≤◌, ◌<◌, length, map, get_or, cond, ap₂, append_assoc, List, [], ◌∷◌, ◌++◌, drop, Option, Some, None, Bool, true, false, Result, Ok, Err, OnOk, codes, refl, sym, ap, ◌∙◌, subst}
+use Rattle.std.proofs.Common.{◌≡◌, ℕ, suc, ◌≤◌, ◌<◌, length, map, get_or, cond, ap₂, append_assoc, List, [], ◌∷◌, ◌++◌, drop, Option, Some, None, Bool, true, false, Result, Ok, Err, OnOk, codes, sym, ap, ◌∙◌, subst}
 use Rattle.std.proofs.lemmas.List.{append-nil}
 use Rattle.lf.specs.Syntax.{Head, Term, Spine, lambda, root, LfType, pi, atom, Kind, kind_pi}
 use Rattle.std.specs.Borrow.{Bor}
@@ -8,7 +8,7 @@ use Rattle.tw_terms.specs.View.{type_of}
 use Rattle.tw_terms.specs.declared.canonical.Ty.{Ty}
 use Rattle.tw_fixity.specs.declared.table.Assoc.{Assoc}
 use Rattle.tw_fixity.specs.declared.table.Fix.{Fix}
-use Rattle.tw_fixity.specs.declared.table.Fix.TheVariants.{Infix, Prefix, Postfix}
+use Rattle.tw_fixity.specs.declared.table.Fix.TheVariants.{Infix, Postfix}
 use Rattle.tw_print.specs.Pieces.{Piece, token, space, render, in_parentheses}
 use Rattle.tw_fixity.specs.Names.{Names as Scope}
 use Rattle.tw_print.specs.Names.{Scene, fresh_name, lower_base}

@@ -1,5 +1,5 @@
 -- Look-ups in a scene with an entry that is about to be added.
-use Rattle.std.proofs.Common.{◌≡◌, ℕ, List, ◌∷◌, Bool, true, false, cond, Option, None, Some, Bor, length, refl, sym, ap, ◌∙◌}
+use Rattle.std.proofs.Common.{◌≡◌, ℕ, List, Bool, true, false, cond, Option, None, Some, Bor, length, refl, ap, ◌∙◌}
 use Rattle.std.proofs.lemmas.Bool.{cond-true, cond-false}
 use Rattle.std.specs.FinMap as map
 use Rattle.std.specs.Cmp.Lexicographic.{nat_list_cmp_total}
@@ -8,8 +8,6 @@ use Rattle.std.specs.Str.{bytes_eq}
 use Rattle.lf.specs.Entries.{entry}
 use Rattle.lf.specs.Variables.{same_number}
 use Rattle.lf.proofs.Checker.{number_is, number_itself}
-use Rattle.tw_fixity.specs.Rows.{name_order}
-use Rattle.tw_fixity.specs.declared.table.Fix.{Fix}
 use Rattle.tw_signature.specs.View.{entry_of}
 use Rattle.tw_signature.specs.declared.entry.Entry.{Entry}
 use Rattle.tw_print.specs.Names.{Scene}

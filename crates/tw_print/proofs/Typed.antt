@@ -1,5 +1,5 @@
 -- What is shown has skeletons.
-use Rattle.std.proofs.Common.{◌≡◌, ℕ, zero, suc, ◌≤◌, ◌<◌, List, [], ◌∷◌, length, drop, Bool, true, false, cond, ◌||◌, Option, Some, None, Result, Ok, Err, IfOk, refl, sym, ap, ap₂, ◌∙◌, subst, arith}
+use Rattle.std.proofs.Common.{◌≡◌, ℕ, zero, suc, ◌≤◌, List, [], ◌∷◌, length, drop, Bool, true, false, cond, Option, Some, None, Result, Ok, Err, IfOk, refl, sym, ap, ◌∙◌, subst, arith}
 use Rattle.std.specs.List.{slice_get}
 use Rattle.std.proofs.lemmas.Bool.{cond-true, cond-false}
 use mathlib.Core.Path.{fun_ext}
@@ -21,7 +21,7 @@ use Rattle.lf.proofs.TypeLaws.{renamings_compose_type, skeleton_substituted}
 use Rattle.tw_hered.specs.Fits.{TypeFits}
 use Rattle.tw_print.specs.Names.{Scene}
 use Rattle.tw_print.specs.Arguments.{Argument, with_type, arguments, bare_arguments, kind_as_type, type_or, kind_or, variable_type, head_type, family_type}
-use Rattle.tw_print.specs.ArgumentView.{lambda_test, any_lambda}
+use Rattle.tw_print.specs.ArgumentView.{any_lambda}
 use Rattle.tw_print.specs.Showable.{HasSkeleton, IsShowableType, IsShowableKind, IsShowableContext, IsShowable, AreShowable, Takes}
 
 one_is_suc : shift_by (suc zero) ≡ suc

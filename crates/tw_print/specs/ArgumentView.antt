@@ -1,12 +1,12 @@
 -- The arguments that the program keeps.
-use Rattle.std.specs.Prelude.{Bool, true, false, ◌||◌, Option, Some, None, option_map}
+use Rattle.std.specs.Prelude.{Bool, true, false, ◌||◌, option_map}
 use Rattle.lf.specs.Syntax.{Term, lambda, root, Spine, nil, app}
 use Rattle.tw_terms.specs.View.{term_of, type_of}
 use Rattle.tw_print.specs.Arguments as spec
 use Rattle.tw_print.specs.declared.arguments.Argument.{Argument}
 
 abbrev pub argument_of : Argument → spec.Argument
-argument_of a = (term_of a.term.now, option_map type_of a.ty)
+argument_of a = (term_of a.term, option_map type_of a.ty)
 
 abbrev pub lambda_test : Term → Bool
 lambda_test (lambda M) = true

@@ -1,5 +1,5 @@
 -- The arguments of heads, with the types that lambdas are shown by.
-use Rattle.std.specs.Prelude.{ℕ, suc, zero, ◌+◌, List, [], ◌∷◌, drop, Option, Some, None, Bool, cond, slice_get, length}
+use Rattle.std.specs.Prelude.{ℕ, suc, zero, List, [], ◌∷◌, Option, Some, None, cond, slice_get, length}
 use Rattle.lf.specs.Syntax.{Head, constant, variable, metavariable, Term, lambda, root, Spine, nil, app, LfType, pi, atom, Kind, kind_pi, star, rename_type}
 use Rattle.lf.specs.AtOnce.{shift_by}
 use Rattle.lf.specs.Typing.{instantiate_type}

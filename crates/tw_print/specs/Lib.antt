@@ -11,3 +11,4 @@ pub mod Page
 pub mod Marks
 pub mod ArgumentView
 pub mod Levels
+pub mod Due

@@ -1,6 +1,5 @@
 -- The names by which constants and variables are shown.
-use Rattle.std.specs.Prelude.{◌≡◌, refl, ℕ, suc, zero, ◌==◌, ◌<◌, ◌^◌, List, [], ◌∷◌, ◌++◌, Option, Some, None, Bool, true, false, cond, ◌||◌, is_some, codes, decimal, slice_get, if◌then◌else◌}
-use Rattle.std.specs.Str.{bytes_eq}
+use Rattle.std.specs.Prelude.{◌≡◌, refl, ℕ, suc, zero, ◌==◌, ◌^◌, List, [], ◌++◌, Option, Some, None, Bool, false, cond, ◌||◌, is_some, codes, decimal, slice_get, if◌then◌else◌}
 use Rattle.std.specs.Ordering.{nat_cmp}
 use Rattle.std.specs.FinMap as map
 use Rattle.lf.specs.Syntax.{Head, constant, variable, metavariable, LfType}

@@ -1,5 +1,5 @@
 -- What is shown has skeletons: so substitution is total on it. What is typed has them.
-use Rattle.std.specs.Prelude.{ℕ, List, [], ◌∷◌, Option, Some, None}
+use Rattle.std.specs.Prelude.{List, [], ◌∷◌, Option, Some, None}
 use Rattle.lf.specs.Syntax.{Term, lambda, root, Spine, nil, app, LfType, pi, atom, Kind, Skeleton, skeleton}
 use Rattle.lf.specs.Skeletons.{constant_skeletons, family_skeletons, context_skeletons}
 use Rattle.lf.specs.SkeletonTyping.{TermSkeleton, TypeBySkeletons, KindBySkeletons}

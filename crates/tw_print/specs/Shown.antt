@@ -1,15 +1,15 @@
 -- How terms, types and declarations are laid out.
-use Rattle.std.specs.Prelude.{◌≡◌, refl, ℕ, suc, zero, ◌-◌, ◌^◌, nat_le, nat_lt, List, [], ◌∷◌, ◌++◌, drop, length, slice_get, Option, Some, None, Bool, true, false, cond, ◌||◌, codes, if◌then◌else◌}
+use Rattle.std.specs.Prelude.{◌≡◌, refl, ℕ, suc, zero, ◌-◌, ◌^◌, nat_le, nat_lt, List, [], ◌∷◌, ◌++◌, drop, length, slice_get, Option, Some, None, Bool, true, false, cond, codes, if◌then◌else◌}
 use Rattle.std.specs.FinMap as map
 use Rattle.std.specs.Str.{bytes_eq}
-use Rattle.lf.specs.Syntax.{Head, constant, variable, metavariable, Term, lambda, root, Spine, nil, app, LfType, pi, atom, Kind, kind_pi, star}
+use Rattle.lf.specs.Syntax.{Head, constant, variable, metavariable, Term, lambda, root, Spine, LfType, pi, atom, Kind, kind_pi, star}
 use Rattle.lf.specs.Entries.{Entry, Body, entry, declare_family, declare_constant, declare_definition}
 use Rattle.tw_fixity.specs.declared.table.Fix.{Fix}
 use Rattle.tw_fixity.specs.declared.table.Fix.TheVariants.{Infix, Prefix, Postfix}
 use Rattle.tw_print.specs.Pieces.{Piece, token, space, in_parentheses, render}
 use Rattle.tw_fixity.specs.Names.{Names as Scope}
 use Rattle.tw_print.specs.Names.{Scene, name_in, is_plain, constant_word, head_word, fresh_name, upper_base, lower_base}
-use Rattle.tw_print.specs.Variables.{occurs, occurs_in_type, occurs_in_kind}
+use Rattle.tw_print.specs.Variables.{occurs_in_type, occurs_in_kind}
 use Rattle.tw_print.specs.Arguments.{Argument, arguments, head_type, family_type, hidden, head_hidden, spine_length}
 
 -- How the parts of a term or type are shown: a term at its type (a root needs none), and a type, each in a context of types with

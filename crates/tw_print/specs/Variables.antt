@@ -1,5 +1,5 @@
 -- Which variables occur.
-use Rattle.std.specs.Prelude.{ℕ, suc, zero, ◌==◌, List, [], ◌∷◌, Bool, true, false, ◌||◌}
+use Rattle.std.specs.Prelude.{ℕ, suc, ◌==◌, Bool, false, ◌||◌}
 use Rattle.lf.specs.Syntax.{Head, constant, variable, metavariable, Term, lambda, root, Spine, nil, app, LfType, pi, atom, Kind, kind_pi, star}
 
 abbrev pub is_variable : ℕ → Head → Bool

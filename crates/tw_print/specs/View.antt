@@ -1,9 +1,9 @@
 -- What the values of the program stand for.
-use Rattle.std.specs.Prelude.{ℕ, List, [], ◌∷◌, Option}
+use Rattle.std.specs.Prelude.{ℕ, List, [], ◌∷◌}
 use Rattle.std.specs.Ordering.{nat_cmp}
 use Rattle.std.specs.Coded.{Coded, coded_ℕ, coded×, coded_list, coded_option}
 use Rattle.std.specs.FinMap as map
-use Rattle.tw_print.specs.Names.{Preferences, Scene}
+use Rattle.tw_print.specs.Names.{Preferences}
 use Rattle.tw_print.specs.declared.names.Preference.{Preference}
 
 abbrev pub preference_code : Coded Preferences

@@ -18,30 +18,32 @@ use tw_terms::{ConstId, Context, Head, Kind, Skeleton, Spine, Term, Ty, skeleton
 
 /// An argument, with its type where it is a lambda.
 #[derive(Drop)]
-pub struct Argument<'a> {
-    pub term: &'a Term,
+pub struct Argument {
+    pub term: Term,
     pub ty: Option<Ty>,
 }
 
 /// The arguments of a spine at the type of its head. They have no types unless one of them is a lambda.
-pub fn typed_arguments<'a>(
+pub fn typed_arguments(
     alloc: Global,
     scene: &Scene,
     context: &Context,
-    args: &'a [Term],
+    args: Vec<Term>,
     head: Ty,
-) -> Result<Vec<Argument<'a>>, AllocError>
-    requires { Takes (signature_of (scene_in scene.now).entries) context.now (args_of args.now) (type_of head) }
-    ensures { IfOk result (λ xs. map argument_of xs.items ≡ spec.arguments (type_of head) (args_of args.now)) }
+) -> Result<Vec<Argument>, AllocError>
+    requires { Takes (signature_of (scene_in scene.now).entries) context.now (args_of args.items) (type_of head) }
+    ensures { IfOk result (λ xs. map argument_of xs.items ≡ spec.arguments (type_of head) (args_of args.items)) }
 {
     let mut arguments = Vec::with_capacity(alloc, args.len())?;
+    let mut rest = args;
+    rest.reverse();
     let mut left = head;
-    for term in args {
+    while let Some(term) = rest.pop() {
         match left {
             Ty::Pi(domain, range) => {
-                arguments.push(typed_argument(alloc, term, &domain)?)?;
                 let shape = skeleton(alloc, &domain)?;
-                left = instantiated(alloc, &range, term, &shape)?;
+                left = instantiated(alloc, &range, &term, &shape)?;
+                arguments.push(typed_argument(term, Box::into_inner(domain)))?;
             }
             Ty::Atom(_, _) => unreachable!(),
         }
@@ -49,8 +51,8 @@ pub fn typed_arguments<'a>(
     Ok(arguments)
 }
 
-/// The type with `arg` put in for its newest variable. What nests deeper than the machine's stack holds of a text is not shown, so past that memory counts as used up
-/// here too.
+/// The type with `arg` put in for its newest variable. One that comes out deeper than 8,192 isn't made, since the machine's stack would hold no copy of it, and past that
+/// memory counts as used up.
 pub fn instantiated(alloc: Global, body: &Ty, arg: &Term, skel: &Skeleton) -> Result<Ty, AllocError>
     requires { TypeFits (single (skeleton_of skel.now) (term_of arg.now)) (type_of body.now) }
     ensures { IfOk result (λ a. type_of a ≡ substitute_type reduce (single (skeleton_of skel.now) (term_of arg.now)) (type_of body.now)) }
@@ -62,24 +64,23 @@ pub fn instantiated(alloc: Global, body: &Ty, arg: &Term, skel: &Skeleton) -> Re
 }
 
 /// An argument of this type.
-fn typed_argument<'a>(alloc: Global, term: &'a Term, ty: &Ty) -> Result<Argument<'a>, AllocError>
-    ensures { IfOk result (λ a. argument_of a ≡ spec.with_type (term_of term.now) (type_of ty.now)) }
+fn typed_argument(term: Term, ty: Ty) -> Argument
+    ensures { argument_of result ≡ spec.with_type (term_of term) (type_of ty) }
 {
     match term {
-        Term::Lam(_) => Ok(Argument {
-            term,
-            ty: Some(ty.copy(alloc)?),
-        }),
-        Term::Root(_, _) => Ok(Argument { term, ty: None }),
+        Term::Lam(_) => Argument { term, ty: Some(ty) },
+        Term::Root(_, _) => Argument { term, ty: None },
     }
 }
 
 /// The arguments of a spine without lambdas.
-pub fn bare_arguments<'a>(alloc: Global, args: &'a [Term]) -> Result<Vec<Argument<'a>>, AllocError>
-    ensures { IfOk result (λ xs. map argument_of xs.items ≡ spec.bare_arguments (args_of args.now)) }
+pub fn bare_arguments(alloc: Global, args: Vec<Term>) -> Result<Vec<Argument>, AllocError>
+    ensures { IfOk result (λ xs. map argument_of xs.items ≡ spec.bare_arguments (args_of args.items)) }
 {
     let mut arguments = Vec::with_capacity(alloc, args.len())?;
-    for term in args {
+    let mut rest = args;
+    rest.reverse();
+    while let Some(term) = rest.pop() {
         arguments.push(Argument { term, ty: None })?;
     }
     Ok(arguments)

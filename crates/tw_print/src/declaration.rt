@@ -9,7 +9,7 @@ ghost use Rattle.tw_print.specs.SceneView.{scene_in};
 ghost use Rattle.tw_print.specs.Showable.{IsShowableContext, IsShowableKind, IsShowableType};
 ghost use Rattle.tw_print.specs.Shown as layout;
 
-use crate::levels::{all_levels, level_below};
+use crate::levels::all_levels;
 use crate::marks::{first_mark, kind_marks, other_marks, quantifier_marks};
 use crate::page::Page;
 use crate::print::{bind, print_atom, print_term};
@@ -17,6 +17,7 @@ use crate::scene::Scene;
 use std::alloc::{AllocError, Global};
 use tw_fixity::Name;
 use tw_signature::{Body, Entry};
+use tw_terms::numbers::one_less;
 use tw_terms::{Kind, Term, Ty};
 
 /// The names for the leading quantifiers of a declaration, where they have some, and how many of these are implicit.
@@ -70,7 +71,7 @@ fn print_leading(
     requires marked { marks.now ≡ marks_of (type_of ty.now) }
     ensures { OnOk result (Writes page.old page.new (layout.leading_type (scene_in scene.now) leading.entry.implicit leading.entry.hints.now levels place page.old.context page.old.scope (type_of ty.now))) }
 {
-    let inner = level_below(levels)?;
+    let inner = one_less(levels)?;
     match ty {
         Ty::Pi(domain, range) => {
             let base = leading_base(alloc, scene, leading, place, domain)?;
@@ -111,7 +112,7 @@ fn print_leading_kind(
     requires marked { marks.now ≡ kind_marks_of (kind_of kind.now) }
     ensures { OnOk result (Writes page.old page.new (layout.leading_kind (scene_in scene.now) leading.entry.implicit leading.entry.hints.now levels place page.old.context page.old.scope (kind_of kind.now))) }
 {
-    let inner = level_below(levels)?;
+    let inner = one_less(levels)?;
     match kind {
         Kind::Pi(domain, rest) => {
             let base = leading_base(alloc, scene, leading, place, domain)?;

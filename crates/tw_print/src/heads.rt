@@ -1,5 +1,5 @@
 //! Heads and families, their words, operators and arguments.
-ghost use Rattle.std.specs.Prelude.{◌≡◌, IfOk, map, drop, option_map};
+ghost use Rattle.std.specs.Prelude.{◌≡◌, IfOk, map, option_map};
 ghost use Rattle.lf.specs.Entries.{signature_of, IsCanonicalSignature};
 ghost use Rattle.lf.specs.Syntax.{root, atom};
 ghost use Rattle.tw_terms.specs.View.{head_of, term_of, spine_of, type_of};
@@ -17,48 +17,48 @@ use crate::page::Page;
 use crate::scene::Scene;
 use std::alloc::{AllocError, Global};
 use tw_fixity::{Fix, Name};
-use tw_terms::{ConstId, Head, Spine, Term, Ty};
+use tw_terms::{ConstId, Context, Head, Spine, Term, Ty};
 
 /// The arguments of a root. Types are computed only where one of them is a lambda.
 #[inline(never)]
-pub fn head_arguments<'a>(
+pub fn head_arguments(
     alloc: Global,
     scene: &Scene,
-    page: &Page,
+    context: &Context,
     head: Head,
-    spine: &'a Spine,
-) -> Result<Vec<Argument<'a>>, AllocError>
+    spine: Spine,
+) -> Result<Vec<Argument>, AllocError>
     requires canonical { IsCanonicalSignature (scene_in scene.now).entries }
-    requires context { IsShowableContext (signature_of (scene_in scene.now).entries) page.now.context }
-    requires typed { IsShowable (signature_of (scene_in scene.now).entries) page.now.context (root (head_of head) (spine_of spine.now)) None }
-    ensures { IfOk result (λ xs. map argument_of xs.items ≡ counts.arguments (counts.head_type (scene_in scene.now) page.now.context (head_of head)) (spine_of spine.now)) }
+    requires context { IsShowableContext (signature_of (scene_in scene.now).entries) context.now }
+    requires typed { IsShowable (signature_of (scene_in scene.now).entries) context.now (root (head_of head) (spine_of spine)) None }
+    ensures { IfOk result (λ xs. map argument_of xs.items ≡ counts.arguments (counts.head_type (scene_in scene.now) context.now (head_of head)) (spine_of spine)) }
 {
     if !has_lambda(&spine.args) {
-        return bare_arguments(alloc, &spine.args);
+        return bare_arguments(alloc, spine.args);
     }
-    let ty = head_type(alloc, scene, &page.context, head)?;
-    typed_arguments(alloc, scene, &page.context, &spine.args, ty)
+    let ty = head_type(alloc, scene, context, head)?;
+    typed_arguments(alloc, scene, context, spine.args, ty)
 }
 
 /// The arguments of a family.
 #[inline(never)]
-pub fn family_arguments<'a>(
+pub fn family_arguments(
     alloc: Global,
     scene: &Scene,
-    page: &Page,
+    context: &Context,
     family: ConstId,
-    spine: &'a Spine,
-) -> Result<Vec<Argument<'a>>, AllocError>
+    spine: Spine,
+) -> Result<Vec<Argument>, AllocError>
     requires canonical { IsCanonicalSignature (scene_in scene.now).entries }
-    requires context { IsShowableContext (signature_of (scene_in scene.now).entries) page.now.context }
-    requires typed { IsShowableType (signature_of (scene_in scene.now).entries) page.now.context (atom family.0 (spine_of spine.now)) }
-    ensures { IfOk result (λ xs. map argument_of xs.items ≡ counts.arguments (counts.family_type (scene_in scene.now) family.0) (spine_of spine.now)) }
+    requires context { IsShowableContext (signature_of (scene_in scene.now).entries) context.now }
+    requires typed { IsShowableType (signature_of (scene_in scene.now).entries) context.now (atom family.0 (spine_of spine)) }
+    ensures { IfOk result (λ xs. map argument_of xs.items ≡ counts.arguments (counts.family_type (scene_in scene.now) family.0) (spine_of spine)) }
 {
     if !has_lambda(&spine.args) {
-        return bare_arguments(alloc, &spine.args);
+        return bare_arguments(alloc, spine.args);
     }
     let ty = family_type(alloc, scene, family)?;
-    typed_arguments(alloc, scene, &page.context, &spine.args, ty)
+    typed_arguments(alloc, scene, context, spine.args, ty)
 }
 
 /// The word for a head.
@@ -114,16 +114,6 @@ pub fn operand_count(fix: Fix) -> usize
         Fix::Infix(_, _) => 2,
         Fix::Prefix(_) | Fix::Postfix(_) => 1,
     }
-}
-
-/// The arguments behind the first `count`.
-pub fn skip<'a, 'b>(arguments: &'b [Argument<'a>], count: usize) -> &'b [Argument<'a>]
-    ensures { result.now ≡ drop count arguments.now }
-{
-    if count >= arguments.len() {
-        return &arguments[arguments.len()..];
-    }
-    &arguments[count..]
 }
 
 /// Whether a term is a head without shown arguments.

@@ -6,6 +6,8 @@ mod arguments;
 mod context;
 #[tactic(auto, using(tw_terms::proofs::Args::types))]
 mod declaration;
+#[tactic(auto, using(tw_terms::proofs::Args::types))]
+mod due;
 mod fresh;
 #[tactic(auto, using(crate::proofs::Counts::counts))]
 mod heads;
@@ -20,10 +22,11 @@ mod print;
 #[tactic(auto, using(tw_terms::proofs::Args::types))]
 mod scene;
 mod show;
+mod spines;
 
-pub use arguments::instantiated;
+pub use arguments::{Argument, instantiated};
 pub use laws::more_levels_give_the_same_text;
-pub use levels::{all_levels, level_below};
+pub use levels::all_levels;
 pub use marks::{mark_term, mark_type};
 pub use names::{Names, Preference};
 pub use show::{

@@ -1,34 +1,28 @@
-//! Terms and types, written on a page.
-ghost use Rattle.std.specs.Prelude.{◌≡◌, [], ◌∷◌, ◌++◌, ◌≤◌, OnOk, IfOk, length, map, option_map};
+//! Terms and types, written on a page. What is still to be written waits on the heap, so that no text nests on the machine's stack.
+ghost use Rattle.std.specs.Prelude.{◌≡◌, ◌∷◌, [], IfOk, OnOk, Some, None, drop, option_map, reverse};
 ghost use Rattle.lf.specs.Entries.{signature_of, IsCanonicalSignature};
 ghost use Rattle.lf.specs.Syntax.{lambda, pi, root, atom};
 ghost use Rattle.tw_terms.specs.View.{head_of, term_of, spine_of, type_of};
-ghost use Rattle.tw_print.specs.ArgumentView.{argument_of};
-ghost use Rattle.tw_print.specs.Arguments as counts;
-ghost use Rattle.tw_print.specs.Marks.{marks_of};
-ghost use Rattle.tw_print.specs.Names as names;
+ghost use Rattle.tw_print.specs.Due.{AllFit, Begins, Goes, PutsDomain, stacked};
+ghost use Rattle.tw_print.specs.Marks.{head_mark, marks_of};
 ghost use Rattle.tw_print.specs.Page.{Writes, Binds};
 ghost use Rattle.tw_print.specs.SceneView.{scene_in};
 ghost use Rattle.tw_print.specs.Shown as layout;
-ghost use Rattle.tw_print.specs.Showable.{IsShowableContext, IsShowableType, IsShowable, AreShowable};
+ghost use Rattle.tw_print.specs.Showable.{IsShowableContext, IsShowableType, IsShowable};
 
-use crate::arguments::Argument;
+use crate::due::{Due, pop, push, push_application, push_type};
 use crate::fresh::fresh_name;
 use crate::heads::{
-    family_arguments, head_arguments, head_hidden, head_operator, head_word, is_bare, is_operation,
-    is_quantified, operand_count, skip,
+    family_arguments, head_arguments, head_hidden, head_operator, head_word, is_quantified,
 };
-use crate::levels::level_below;
-use crate::marks::{first_mark, other_marks, quantifier_marks};
 use crate::page::Page;
 use crate::scene::Scene;
 use std::alloc::{AllocError, Global};
-use tw_fixity::{Fix, Name};
+use tw_fixity::Name;
+use tw_terms::numbers::one_less;
 use tw_terms::{ConstId, Head, Spine, Term, Ty};
 
 /// Writes a term; a lambda by its type. `levels` says how deep parts may nest.
-#[cycle(print)]
-#[inline(never)]
 pub fn print_term(
     alloc: Global,
     scene: &Scene,
@@ -42,78 +36,41 @@ pub fn print_term(
     requires typed { IsShowable (signature_of (scene_in scene.now).entries) page.old.context (term_of term.now) (option_map (λ a. type_of a.now) ty) }
     ensures { OnOk result (Writes page.old page.new ((layout.parts (scene_in scene.now) levels).term page.old.context page.old.scope (term_of term.now) (option_map (λ a. type_of a.now) ty.entry))) }
 {
-    let inner = level_below(levels)?;
-    match term {
-        Term::Root(head, spine) => print_root(alloc, scene, page, *head, spine, inner),
-        Term::Lam(body) => match ty {
-            Some(Ty::Pi(domain, range)) => {
-                print_lambda(alloc, scene, page, body, domain, range, inner)
-            }
-            Some(Ty::Atom(_, _)) | None => unreachable!(),
-        },
+    let mut due = Vec::new(alloc);
+    let ty = copied(alloc, ty)?;
+    push(&mut due, Due::Term(term.copy(alloc)?, ty, levels))?;
+    write_due(alloc, scene, page, due)
+}
+
+/// The type of a lambda, if there is one.
+fn copied(alloc: Global, ty: Option<&Ty>) -> Result<Option<Ty>, AllocError>
+    ensures { IfOk result (λ t. option_map type_of t ≡ option_map (λ a. type_of a.now) ty.entry) }
+{
+    match ty {
+        Some(ty) => Ok(Some(ty.copy(alloc)?)),
+        None => Ok(None),
     }
 }
 
-/// Writes a lambda whose variable and body have these types.
-#[cycle(print)]
-#[inline(never)]
-fn print_lambda(
+/// Writes a type.
+pub fn print_type(
     alloc: Global,
     scene: &Scene,
     page: &mut Page,
-    body: &Term,
-    domain: &Ty,
-    range: &Ty,
-    inner: u64,
+    ty: &Ty,
+    levels: u64,
 ) -> Result<(), AllocError>
     requires canonical { IsCanonicalSignature (scene_in scene.now).entries }
     requires context { IsShowableContext (signature_of (scene_in scene.now).entries) page.old.context }
-    requires typed { IsShowable (signature_of (scene_in scene.now).entries) page.old.context (lambda (term_of body.now)) (Some (pi (type_of domain.now) (type_of range.now))) }
-    ensures { OnOk result (Writes page.old page.new (layout.term_layout (layout.parts (scene_in scene.now) inner) (scene_in scene.now) page.old.context page.old.scope (lambda (term_of body.now)) (Some (pi (type_of domain.now) (type_of range.now))))) }
+    requires typed { IsShowableType (signature_of (scene_in scene.now).entries) page.old.context (type_of ty.now) }
+    ensures { OnOk result (Writes page.old page.new ((layout.parts (scene_in scene.now) levels).type page.old.context page.old.scope (type_of ty.now))) }
 {
-    let name = fresh_name(alloc, scene, &page.scope, scene.lower_base(domain))?;
-    page.open(b"[", name.as_bytes())?;
-    print_type(alloc, scene, page, domain, inner)?;
-    page.close(b"]")?;
-    page.enter(alloc, domain, Some(name))?;
-    print_term(alloc, scene, page, body, Some(range), inner)?;
-    page.leave();
-    Ok(())
-}
-
-/// Writes a head with its arguments.
-#[cycle(print)]
-#[inline(never)]
-fn print_root(
-    alloc: Global,
-    scene: &Scene,
-    page: &mut Page,
-    head: Head,
-    spine: &Spine,
-    inner: u64,
-) -> Result<(), AllocError>
-    requires canonical { IsCanonicalSignature (scene_in scene.now).entries }
-    requires context { IsShowableContext (signature_of (scene_in scene.now).entries) page.old.context }
-    requires typed { IsShowable (signature_of (scene_in scene.now).entries) page.old.context (root (head_of head) (spine_of spine.now)) None }
-    ensures { OnOk result (Writes page.old page.new (layout.root_pieces (layout.parts (scene_in scene.now) inner) (scene_in scene.now) page.old.context page.old.scope (head_of head) (spine_of spine.now))) }
-{
-    let arguments = head_arguments(alloc, scene, page, head, spine)?;
-    let word = head_word(alloc, scene, page, head)?;
-    let shown = skip(&arguments, head_hidden(scene, head));
-    print_application(
-        alloc,
-        scene,
-        page,
-        &word,
-        head_operator(scene, head),
-        shown,
-        inner,
-    )
+    let mut due = Vec::new(alloc);
+    push_type(alloc, &mut due, ty.copy(alloc)?, levels)?;
+    write_due(alloc, scene, page, due)
 }
 
 /// Writes a family with its arguments.
-#[cycle(print)]
-#[inline(never)]
 pub fn print_atom(
     alloc: Global,
     scene: &Scene,
@@ -127,241 +84,286 @@ pub fn print_atom(
     requires typed { IsShowableType (signature_of (scene_in scene.now).entries) page.old.context (atom family.0 (spine_of spine.now)) }
     ensures { OnOk result (Writes page.old page.new (layout.atom_pieces (layout.parts (scene_in scene.now) inner) (scene_in scene.now) page.old.context page.old.scope family.0 (spine_of spine.now))) }
 {
-    let arguments = family_arguments(alloc, scene, page, family, spine)?;
-    let word = scene.constant_word(alloc, family)?;
-    let shown = skip(&arguments, scene.hidden(family));
-    print_application(
+    let mut due = Vec::new(alloc);
+    begin_atom(
         alloc,
         scene,
         page,
-        &word,
-        scene.operator(family),
-        shown,
+        family,
+        spine.copy(alloc)?,
+        inner,
+        &mut due,
+    )?;
+    write_due(alloc, scene, page, due)
+}
+
+/// Writes all that is due. Parts are counted, and memory counts as used up after 2 ^ 64 - 1 of them.
+fn write_due(alloc: Global, scene: &Scene, page: &mut Page, due: Vec<Due>) -> Result<(), AllocError>
+    requires canonical { IsCanonicalSignature (scene_in scene.now).entries }
+    requires context { IsShowableContext (signature_of (scene_in scene.now).entries) page.old.context }
+    requires fits { AllFit (signature_of (scene_in scene.now).entries) page.old.context (stacked due.items) }
+    ensures { OnOk result (Goes (scene_in scene.now) page.old page.new (stacked due.items) []) }
+{
+    let mut left = due;
+    for _ in 0..u64::MAX {
+        match pop(&mut left) {
+            Some(next) => write_next(alloc, scene, page, next, &mut left)?,
+            None => return Ok(()),
+        }
+    }
+    Err(AllocError)
+}
+
+/// Writes what is due next, or as much of it as stands before its first part, which is due then.
+#[inline(never)]
+fn write_next(
+    alloc: Global,
+    scene: &Scene,
+    page: &mut Page,
+    next: Due,
+    due: &mut Vec<Due>,
+) -> Result<(), AllocError>
+    requires canonical { IsCanonicalSignature (scene_in scene.now).entries }
+    requires context { IsShowableContext (signature_of (scene_in scene.now).entries) page.old.context }
+    requires fits { AllFit (signature_of (scene_in scene.now).entries) page.old.context (next ∷ stacked due.old.items) }
+    ensures { OnOk result (Goes (scene_in scene.now) page.old page.new (next ∷ stacked due.old.items) (stacked due.new.items)) }
+{
+    match next {
+        Due::Word(word) => page.token(&word),
+        Due::Opening => page.token(b"("),
+        Due::Closing => page.token(b")"),
+        Due::Space => page.space(),
+        Due::Arrow => page.arrow(),
+        Due::Bracket => page.close(b"]"),
+        Due::Brace => page.close(b"}"),
+        Due::Enter(ty, name) => page.enter(alloc, &ty, name),
+        Due::Leave => {
+            page.leave();
+            Ok(())
+        }
+        Due::Term(term, ty, levels) => begin_term(alloc, scene, page, term, ty, levels, due),
+        Due::Type(ty, marks, levels) => begin_type(alloc, scene, page, ty, marks, levels, due),
+    }
+}
+
+/// Begins a term.
+#[inline(never)]
+fn begin_term(
+    alloc: Global,
+    scene: &Scene,
+    page: &mut Page,
+    term: Term,
+    ty: Option<Ty>,
+    levels: u64,
+    due: &mut Vec<Due>,
+) -> Result<(), AllocError>
+    requires canonical { IsCanonicalSignature (scene_in scene.now).entries }
+    requires context { IsShowableContext (signature_of (scene_in scene.now).entries) page.old.context }
+    requires typed { IsShowable (signature_of (scene_in scene.now).entries) page.old.context (term_of term) (option_map type_of ty) }
+    requires fits { AllFit (signature_of (scene_in scene.now).entries) page.old.context (stacked due.old.items) }
+    ensures { OnOk result (Begins (scene_in scene.now) page.old page.new ((layout.parts (scene_in scene.now) levels).term page.old.context page.old.scope (term_of term) (option_map type_of ty)) (stacked due.old.items) (stacked due.new.items)) }
+{
+    let inner = one_less(levels)?;
+    match term {
+        Term::Root(head, spine) => begin_root(alloc, scene, page, head, spine, inner, due),
+        Term::Lam(body) => match ty {
+            Some(Ty::Pi(domain, range)) => begin_lambda(
+                alloc,
+                scene,
+                page,
+                Box::into_inner(body),
+                Box::into_inner(domain),
+                Box::into_inner(range),
+                inner,
+                due,
+            ),
+            Some(Ty::Atom(_, _)) | None => unreachable!(),
+        },
+    }
+}
+
+/// Begins a lambda whose variable and body have these types.
+#[inline(never)]
+fn begin_lambda(
+    alloc: Global,
+    scene: &Scene,
+    page: &mut Page,
+    body: Term,
+    domain: Ty,
+    range: Ty,
+    inner: u64,
+    due: &mut Vec<Due>,
+) -> Result<(), AllocError>
+    requires canonical { IsCanonicalSignature (scene_in scene.now).entries }
+    requires context { IsShowableContext (signature_of (scene_in scene.now).entries) page.old.context }
+    requires typed { IsShowable (signature_of (scene_in scene.now).entries) page.old.context (lambda (term_of body)) (Some (pi (type_of domain) (type_of range))) }
+    requires fits { AllFit (signature_of (scene_in scene.now).entries) page.old.context (stacked due.old.items) }
+    ensures { OnOk result (Begins (scene_in scene.now) page.old page.new (layout.term_layout (layout.parts (scene_in scene.now) inner) (scene_in scene.now) page.old.context page.old.scope (lambda (term_of body)) (Some (pi (type_of domain) (type_of range)))) (stacked due.old.items) (stacked due.new.items)) }
+{
+    let name = fresh_name(alloc, scene, &page.scope, scene.lower_base(&domain))?;
+    page.open(b"[", name.as_bytes())?;
+    let entered = domain.copy(alloc)?;
+    push(due, Due::Leave)?;
+    push(due, Due::Term(body, Some(range), inner))?;
+    push(due, Due::Enter(entered, Some(name)))?;
+    push(due, Due::Bracket)?;
+    push_type(alloc, due, domain, inner)
+}
+
+/// Begins a head with its arguments.
+#[inline(never)]
+fn begin_root(
+    alloc: Global,
+    scene: &Scene,
+    page: &Page,
+    head: Head,
+    spine: Spine,
+    inner: u64,
+    due: &mut Vec<Due>,
+) -> Result<(), AllocError>
+    requires canonical { IsCanonicalSignature (scene_in scene.now).entries }
+    requires context { IsShowableContext (signature_of (scene_in scene.now).entries) page.now.context }
+    requires typed { IsShowable (signature_of (scene_in scene.now).entries) page.now.context (root (head_of head) (spine_of spine)) None }
+    requires fits { AllFit (signature_of (scene_in scene.now).entries) page.now.context (stacked due.old.items) }
+    ensures { OnOk result (Begins (scene_in scene.now) page.now page.now (layout.root_pieces (layout.parts (scene_in scene.now) inner) (scene_in scene.now) page.now.context page.now.scope (head_of head) (spine_of spine)) (stacked due.old.items) (stacked due.new.items)) }
+{
+    let word = head_word(alloc, scene, page, head)?;
+    let arguments = head_arguments(alloc, scene, &page.context, head, spine)?;
+    push_application(
+        scene,
+        due,
+        word,
+        head_operator(scene, head),
+        arguments,
+        head_hidden(scene, head),
         inner,
     )
 }
 
-/// Writes a word with its shown arguments, as an operator where it is one and has enough of them.
-#[cycle(print)]
+/// Begins a family with its arguments.
 #[inline(never)]
-fn print_application(
+fn begin_atom(
     alloc: Global,
     scene: &Scene,
-    page: &mut Page,
-    word: &[u8],
-    operator: Option<Fix>,
-    arguments: &[Argument],
+    page: &Page,
+    family: ConstId,
+    spine: Spine,
     inner: u64,
+    due: &mut Vec<Due>,
 ) -> Result<(), AllocError>
     requires canonical { IsCanonicalSignature (scene_in scene.now).entries }
-    requires context { IsShowableContext (signature_of (scene_in scene.now).entries) page.old.context }
-    requires typed { AreShowable (signature_of (scene_in scene.now).entries) page.old.context (map argument_of arguments.now) }
-    ensures { OnOk result (Writes page.old page.new (layout.application (layout.parts (scene_in scene.now) inner) (scene_in scene.now) page.old.context page.old.scope word.now operator (map argument_of arguments.now))) }
+    requires context { IsShowableContext (signature_of (scene_in scene.now).entries) page.now.context }
+    requires typed { IsShowableType (signature_of (scene_in scene.now).entries) page.now.context (atom family.0 (spine_of spine)) }
+    requires fits { AllFit (signature_of (scene_in scene.now).entries) page.now.context (stacked due.old.items) }
+    ensures { OnOk result (Begins (scene_in scene.now) page.now page.now (layout.atom_pieces (layout.parts (scene_in scene.now) inner) (scene_in scene.now) page.now.context page.now.scope family.0 (spine_of spine)) (stacked due.old.items) (stacked due.new.items)) }
 {
-    let Some(fix) = operator else {
-        page.token(word)?;
-        return print_spaced(alloc, scene, page, arguments, inner);
-    };
-    let count = operand_count(fix);
-    if arguments.len() < count {
-        page.token(word)?;
-        return print_spaced(alloc, scene, page, arguments, inner);
-    }
-    if arguments.len() == count {
-        return print_operation(alloc, scene, page, word, fix, arguments, inner);
-    }
-    page.token(b"(")?;
-    print_operation(alloc, scene, page, word, fix, arguments, inner)?;
-    page.token(b")")?;
-    print_spaced(alloc, scene, page, &arguments[count..], inner)
-}
-
-/// Writes an operator with its operands, which are the first arguments.
-#[cycle(print)]
-#[inline(never)]
-fn print_operation(
-    alloc: Global,
-    scene: &Scene,
-    page: &mut Page,
-    word: &[u8],
-    fix: Fix,
-    arguments: &[Argument],
-    inner: u64,
-) -> Result<(), AllocError>
-    requires canonical { IsCanonicalSignature (scene_in scene.now).entries }
-    requires context { IsShowableContext (signature_of (scene_in scene.now).entries) page.old.context }
-    requires typed { AreShowable (signature_of (scene_in scene.now).entries) page.old.context (map argument_of arguments.now) }
-    requires enough { layout.operand_count fix ≤ length arguments.now }
-    ensures { OnOk result (Writes page.old page.new (layout.operation (layout.parts (scene_in scene.now) inner) (scene_in scene.now) page.old.context page.old.scope word.now fix (map argument_of arguments.now))) }
-{
-    match fix {
-        Fix::Infix(_, _) => {
-            print_operand(alloc, scene, page, &arguments[0], inner)?;
-            page.space()?;
-            page.token(word)?;
-            page.space()?;
-            print_operand(alloc, scene, page, &arguments[1], inner)
-        }
-        Fix::Prefix(_) => {
-            page.token(word)?;
-            page.space()?;
-            print_operand(alloc, scene, page, &arguments[0], inner)
-        }
-        Fix::Postfix(_) => {
-            print_operand(alloc, scene, page, &arguments[0], inner)?;
-            page.space()?;
-            page.token(word)
-        }
-    }
-}
-
-/// Writes an operand, in parentheses where it is a lambda or an application of an operator.
-#[cycle(print)]
-#[inline(never)]
-fn print_operand(
-    alloc: Global,
-    scene: &Scene,
-    page: &mut Page,
-    argument: &Argument,
-    inner: u64,
-) -> Result<(), AllocError>
-    requires canonical { IsCanonicalSignature (scene_in scene.now).entries }
-    requires context { IsShowableContext (signature_of (scene_in scene.now).entries) page.old.context }
-    requires typed { IsShowable (signature_of (scene_in scene.now).entries) page.old.context (argument_of argument.now).0 (argument_of argument.now).1 }
-    ensures { OnOk result (Writes page.old page.new (layout.operand (layout.parts (scene_in scene.now) inner) (scene_in scene.now) page.old.context page.old.scope (argument_of argument.now))) }
-{
-    if !is_operation(scene, argument.term) {
-        return print_term(
-            alloc,
-            scene,
-            page,
-            argument.term,
-            argument.ty.as_ref(),
-            inner,
-        );
-    }
-    page.token(b"(")?;
-    print_term(
-        alloc,
+    let word = scene.constant_word(alloc, family)?;
+    let arguments = family_arguments(alloc, scene, &page.context, family, spine)?;
+    push_application(
         scene,
-        page,
-        argument.term,
-        argument.ty.as_ref(),
+        due,
+        word,
+        scene.operator(family),
+        arguments,
+        scene.hidden(family),
         inner,
-    )?;
-    page.token(b")")
+    )
 }
 
-/// Writes an argument, in parentheses unless it is a head without shown arguments.
-#[cycle(print)]
+/// Begins a type whose quantifiers have these marks, the last one first.
 #[inline(never)]
-fn print_argument(
+fn begin_type(
     alloc: Global,
     scene: &Scene,
     page: &mut Page,
-    argument: &Argument,
-    inner: u64,
-) -> Result<(), AllocError>
-    requires canonical { IsCanonicalSignature (scene_in scene.now).entries }
-    requires context { IsShowableContext (signature_of (scene_in scene.now).entries) page.old.context }
-    requires typed { IsShowable (signature_of (scene_in scene.now).entries) page.old.context (argument_of argument.now).0 (argument_of argument.now).1 }
-    ensures { OnOk result (Writes page.old page.new (layout.argument (layout.parts (scene_in scene.now) inner) (scene_in scene.now) page.old.context page.old.scope (argument_of argument.now))) }
-{
-    if is_bare(scene, argument.term) {
-        return print_term(
-            alloc,
-            scene,
-            page,
-            argument.term,
-            argument.ty.as_ref(),
-            inner,
-        );
-    }
-    page.token(b"(")?;
-    print_term(
-        alloc,
-        scene,
-        page,
-        argument.term,
-        argument.ty.as_ref(),
-        inner,
-    )?;
-    page.token(b")")
-}
-
-/// Writes arguments, each after one space.
-#[cycle(print)]
-#[inline(never)]
-fn print_spaced(
-    alloc: Global,
-    scene: &Scene,
-    page: &mut Page,
-    arguments: &[Argument],
-    inner: u64,
-) -> Result<(), AllocError>
-    requires canonical { IsCanonicalSignature (scene_in scene.now).entries }
-    requires context { IsShowableContext (signature_of (scene_in scene.now).entries) page.old.context }
-    requires typed { AreShowable (signature_of (scene_in scene.now).entries) page.old.context (map argument_of arguments.now) }
-    ensures { OnOk result (Writes page.old page.new (layout.spaced (layout.parts (scene_in scene.now) inner) (scene_in scene.now) page.old.context page.old.scope (map argument_of arguments.now))) }
-{
-    for argument in arguments {
-        page.space()?;
-        print_argument(alloc, scene, page, argument, inner)?;
-    }
-    Ok(())
-}
-
-/// Writes a type.
-#[cycle(print)]
-#[inline(never)]
-pub fn print_type(
-    alloc: Global,
-    scene: &Scene,
-    page: &mut Page,
-    ty: &Ty,
+    ty: Ty,
+    marks: Vec<bool>,
     levels: u64,
+    due: &mut Vec<Due>,
 ) -> Result<(), AllocError>
     requires canonical { IsCanonicalSignature (scene_in scene.now).entries }
     requires context { IsShowableContext (signature_of (scene_in scene.now).entries) page.old.context }
-    requires typed { IsShowableType (signature_of (scene_in scene.now).entries) page.old.context (type_of ty.now) }
-    ensures { OnOk result (Writes page.old page.new ((layout.parts (scene_in scene.now) levels).type page.old.context page.old.scope (type_of ty.now))) }
+    requires typed { IsShowableType (signature_of (scene_in scene.now).entries) page.old.context (type_of ty) }
+    requires marked { reverse marks.items ≡ marks_of (type_of ty) }
+    requires fits { AllFit (signature_of (scene_in scene.now).entries) page.old.context (stacked due.old.items) }
+    ensures { OnOk result (Begins (scene_in scene.now) page.old page.new ((layout.parts (scene_in scene.now) levels).type page.old.context page.old.scope (type_of ty)) (stacked due.old.items) (stacked due.new.items)) }
 {
-    let marks = quantifier_marks(alloc, ty)?;
-    print_quantified(alloc, scene, page, ty, &marks, levels)
-}
-
-/// Writes a type whose quantifiers have these marks.
-#[cycle(print)]
-#[inline(never)]
-fn print_quantified(
-    alloc: Global,
-    scene: &Scene,
-    page: &mut Page,
-    ty: &Ty,
-    marks: &[bool],
-    levels: u64,
-) -> Result<(), AllocError>
-    requires canonical { IsCanonicalSignature (scene_in scene.now).entries }
-    requires context { IsShowableContext (signature_of (scene_in scene.now).entries) page.old.context }
-    requires typed { IsShowableType (signature_of (scene_in scene.now).entries) page.old.context (type_of ty.now) }
-    requires marked { marks.now ≡ marks_of (type_of ty.now) }
-    ensures { OnOk result (Writes page.old page.new ((layout.parts (scene_in scene.now) levels).type page.old.context page.old.scope (type_of ty.now))) }
-{
-    let inner = level_below(levels)?;
+    let inner = one_less(levels)?;
     match ty {
-        Ty::Pi(domain, range) => {
-            let base = scene.lower_base(domain);
-            bind(alloc, scene, page, domain, first_mark(marks), base, inner)?;
-            print_quantified(alloc, scene, page, range, other_marks(marks), inner)?;
-            page.leave();
-            Ok(())
-        }
-        Ty::Atom(family, spine) => print_atom(alloc, scene, page, *family, spine, inner),
+        Ty::Pi(domain, range) => begin_pi(
+            alloc,
+            scene,
+            page,
+            Box::into_inner(domain),
+            Box::into_inner(range),
+            marks,
+            inner,
+            due,
+        ),
+        Ty::Atom(family, spine) => begin_atom(alloc, scene, page, family, spine, inner, due),
     }
+}
+
+/// Begins a quantifier or an arrow.
+#[inline(never)]
+fn begin_pi(
+    alloc: Global,
+    scene: &Scene,
+    page: &mut Page,
+    domain: Ty,
+    range: Ty,
+    marks: Vec<bool>,
+    inner: u64,
+    due: &mut Vec<Due>,
+) -> Result<(), AllocError>
+    requires canonical { IsCanonicalSignature (scene_in scene.now).entries }
+    requires context { IsShowableContext (signature_of (scene_in scene.now).entries) page.old.context }
+    requires typed { IsShowableType (signature_of (scene_in scene.now).entries) page.old.context (pi (type_of domain) (type_of range)) }
+    requires marked { reverse marks.items ≡ marks_of (pi (type_of domain) (type_of range)) }
+    requires fits { AllFit (signature_of (scene_in scene.now).entries) page.old.context (stacked due.old.items) }
+    ensures { OnOk result (Begins (scene_in scene.now) page.old page.new (layout.type_layout (layout.parts (scene_in scene.now) inner) (scene_in scene.now) page.old.context page.old.scope (pi (type_of domain) (type_of range))) (stacked due.old.items) (stacked due.new.items)) }
+{
+    let mut marks = marks;
+    let occurring = last_mark(&mut marks);
+    let entered = domain.copy(alloc)?;
+    push(due, Due::Leave)?;
+    push(due, Due::Type(range, marks, inner))?;
+    if occurring {
+        let name = fresh_name(alloc, scene, &page.scope, scene.lower_base(&domain))?;
+        page.open(b"{", name.as_bytes())?;
+        push(due, Due::Enter(entered, Some(name)))?;
+        push(due, Due::Brace)?;
+        return push_type(alloc, due, domain, inner);
+    }
+    push(due, Due::Enter(entered, None))?;
+    push(due, Due::Arrow)?;
+    push_domain(alloc, due, domain, inner)
+}
+
+/// The mark of the outermost quantifier, which is taken off.
+fn last_mark(marks: &mut Vec<bool>) -> bool
+    ensures first { result ≡ head_mark (reverse marks.old.items) }
+    ensures rest { reverse marks.new.items ≡ drop 1 (reverse marks.old.items) }
+{
+    match marks.pop() {
+        Some(mark) => mark,
+        None => false,
+    }
+}
+
+/// The domain of an arrow is due, in parentheses where it is a quantifier or an arrow.
+fn push_domain(alloc: Global, due: &mut Vec<Due>, domain: Ty, inner: u64) -> Result<(), AllocError>
+    ensures { OnOk result (PutsDomain inner (type_of domain) (stacked due.old.items) (stacked due.new.items)) }
+{
+    if !is_quantified(&domain) {
+        return push_type(alloc, due, domain, inner);
+    }
+    push(due, Due::Closing)?;
+    push_type(alloc, due, domain, inner)?;
+    push(due, Due::Opening)
 }
 
 /// Writes what stands before the rest of a quantified type or kind, and brings the variable in scope.
-#[cycle(print)]
 #[inline(never)]
 pub fn bind(
     alloc: Global,
@@ -390,7 +392,6 @@ pub fn bind(
 }
 
 /// Writes the domain of an arrow, in parentheses where it is a quantifier or an arrow.
-#[cycle(print)]
 #[inline(never)]
 fn print_domain(
     alloc: Global,

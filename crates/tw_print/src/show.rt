@@ -37,7 +37,7 @@ pub struct ShowEnv<'a> {
 
 impl<'a> ShowEnv<'a> {
     /// The scene, where this entry is about to be added.
-    fn scene(self, newest: Option<&'a Entry>) -> Scene<'a>
+    pub(crate) fn scene(self, newest: Option<&'a Entry>) -> Scene<'a>
         ensures { scene_in result ≡ with_newest (scene_of self.entry) newest.entry }
     {
         Scene {
@@ -76,8 +76,8 @@ impl<'a> ShowEnv<'a> {
     }
 }
 
-/// The text `M = N` of two terms of a type, in a context whose variables have these names. Fails only for want of memory: past 8,192 levels it
-/// is the machine's stack that is wanting.
+/// The text `M = N` of two terms of a type, in a context whose variables have these names. Fails only for want of memory, and where the
+/// type of a lambda comes out deeper than 8,192, which the machine's stack would not hold.
 pub fn show_equal(
     alloc: Global,
     env: &ShowEnv,
@@ -108,7 +108,7 @@ pub fn show_equal(
     Ok(page.out)
 }
 
-/// The text of a term at its type. Fails only for want of memory: past 8,192 levels it is the machine's stack that is wanting.
+/// The text of a term at its type. Fails only for want of memory, and where the type of a lambda comes out deeper than 8,192, which the machine's stack would not hold.
 pub fn show_term(
     alloc: Global,
     env: &ShowEnv,
@@ -153,7 +153,7 @@ pub fn show_term_in_scope(
     Ok(page.out)
 }
 
-/// The text of a type. Fails only for want of memory: past 8,192 levels it is the machine's stack that is wanting.
+/// The text of a type. Fails only for want of memory, and where the type of a lambda comes out deeper than 8,192, which the machine's stack would not hold.
 pub fn show_type(
     alloc: Global,
     env: &ShowEnv,

@@ -85,7 +85,7 @@ goal_canonical es rows w G hints names shown A proof c e g a = record {
 
 -- One that isn't within the limit stops there.
 pub goal_deep : (es : List Entry) (A : Term) (rows : Rows) (w : WrittenBody) (G : List LfType) (hints : List (Option (List ℕ))) (shown : List ℕ) (C : LfType) → IsGoalWrittenAs es A rows w → IsCompletedTo es rows w G hints shown (declare_constant C) → depth_limit < type_depth (pi_over G C) → HasGoalCause es A TooDeep
-goal_deep es A rows w G hints shown C i c d = (rows, w, i, in_entry c (inl d))
+goal_deep es A rows w G hints shown C i c d = inr (rows, w, i, in_entry c (inl d))
 
 -- What is resolved to something isn't resolved to nothing.
 pub resolved_to_none : {X Y : Type 0} (f : X → Y) (o : Option X) (r : Option Y) (w : Y) → o ≡ None → option_map f o ≡ r → r ≡ Some w → ⊥

@@ -113,7 +113,7 @@ declaration_stops es d rows w (TypeLevel place) i h = absurd h
 declaration_stops es d rows w Loose i h = absurd h
 declaration_stops es d rows w Mismatch i h = written_mismatch es d rows w i h
 declaration_stops es d rows w (Leftover left) i h = (rows, w, i, h)
-declaration_stops es d rows w TooDeep i h = (rows, w, i, h)
+declaration_stops es d rows w TooDeep i h = inr (rows, w, i, h)
 declaration_stops es d rows w NoMemory i h = tt
 
 pub canonical_entry : (Σ : Signature) (G : List LfType) (b : Body) (d : Declaration) (e : Entry) (hints : List (Option (List ℕ))) → BodyIsTyped Σ e.body → BodyIsWithin depth_limit e.body → length hints ≡ length G → IsEntryOf d G hints b e → IsCanonicalEntry Σ e
@@ -135,5 +135,5 @@ goal_stops es A rows w (TypeLevel place) i h = absurd h
 goal_stops es A rows w Loose i h = absurd h
 goal_stops es A rows w Mismatch i h = inr (rows, w, i, h)
 goal_stops es A rows w (Leftover left) i h = (rows, w, i, h)
-goal_stops es A rows w TooDeep i h = (rows, w, i, h)
+goal_stops es A rows w TooDeep i h = inr (rows, w, i, h)
 goal_stops es A rows w NoMemory i h = tt

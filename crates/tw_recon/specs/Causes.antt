@@ -95,7 +95,7 @@ HasCause es d (TypeLevel place) = skeletons.HasCause es d (approx.TypeLevel plac
 HasCause es d Loose = skeletons.HasCause es d approx.Loose
 HasCause es d Mismatch = IsMismatch es d
 HasCause es d (Leftover left) = DeclarationStops es d (Leftover left)
-HasCause es d TooDeep = DeclarationStops es d TooDeep
+HasCause es d TooDeep = skeletons.HasCause es d approx.TooDeep ⊎ DeclarationStops es d TooDeep
 HasCause es d NoMemory = Unit {0}
 
 -- a fault of reading off

@@ -62,5 +62,5 @@ HasGoalCause es A (TypeLevel place) = skeletons.HasQueryCause es A (approx.TypeL
 HasGoalCause es A Loose = skeletons.HasQueryCause es A approx.Loose
 HasGoalCause es A Mismatch = skeletons.HasQueryCause es A approx.Clash ⊎ GoalStops es A Mismatch
 HasGoalCause es A (Leftover left) = GoalStops es A (Leftover left)
-HasGoalCause es A TooDeep = GoalStops es A TooDeep
+HasGoalCause es A TooDeep = skeletons.HasQueryCause es A approx.TooDeep ⊎ GoalStops es A TooDeep
 HasGoalCause es A NoMemory = Unit {0}

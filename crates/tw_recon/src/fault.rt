@@ -26,7 +26,7 @@ pub enum ReconFault {
     /// This equation between indices is left: under most general bindings it is outside the pattern fragment.
     #[error("an equation of the declaration is left")]
     Leftover(LeftEquation),
-    /// A term of the declaration's typing is deeper than 4,096.
+    /// A skeleton of what isn't written, or a term of the declaration's typing, is deeper than 4,096.
     #[error("a term of the declaration is too deep")]
     TooDeep,
     /// Memory is wanting, the machine's stack included.

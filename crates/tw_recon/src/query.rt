@@ -103,6 +103,7 @@ fn of_skeletons(fault: ApproxFault) -> ReconFault
         ApproxFault::TypeLevel(at) => ReconFault::TypeLevel(at),
         ApproxFault::Clash => ReconFault::Mismatch,
         ApproxFault::Loose => ReconFault::Loose,
+        ApproxFault::TooDeep => ReconFault::TooDeep,
         ApproxFault::NoMemory => ReconFault::NoMemory,
     }
 }

@@ -1,9 +1,10 @@
 -- Heads of terms, as they are walked to.
 use Rattle.std.proofs.Common.{◌≡◌, ℕ, suc, ◌+◌, ◌<◌, List, drop, get_or, length, Some, sym, ap, ◌∙◌, subst, add-one, drop-cons}
+use Rattle.lf.specs.Subordination.{Member}
 use Rattle.lf.specs.Syntax.{LfType, Spine, Term, app, constant, lambda, metavariable, nil, pi, root}
 use Rattle.lf.specs.Variables.{target_arguments}
 use Rattle.lf_unification.specs.Unifiers.{Binding}
-use Rattle.lf_search.specs.Heads.{Clash, HasRigidHead, clash_here, clash_later, constant_head, head_of_value, under_lambda}
+use Rattle.lf_search.specs.Heads.{Clash, HasRigidHead, clash_here, clash_later, constant_head, head_of_argument, head_of_value, under_lambda}
 use Rattle.tw_metas.specs.State.{State, value_of}
 use Rattle.tw_putting.specs.Stores.{ValuesAreBound, bindings_of}
 use Rattle.tw_putting.proofs.Views.{binding_of_value}
@@ -27,6 +28,7 @@ head_by_meta bs (root g S) m c e h k = subst (λ x. HasRigidHead bs k (root x S)
   where
     at : HasRigidHead bs k (root (metavariable m) nil) (constant c) → HasRigidHead bs k (root (metavariable m) S) (constant c)
     at (head_of_value b i w) = head_of_value b i w
+    at (head_of_argument b i o a w) = elim a [ ]
 
 -- a walk from the metavariable m has come to n
 pub record ComesTo (s : State) (m n : ℕ) : Type 0 where
@@ -35,8 +37,11 @@ pub record ComesTo (s : State) (m n : ℕ) : Type 0 where
 pub comes_nowhere : (s : State) (m : ℕ) → ComesTo s m m
 comes_nowhere s m = record { heads = λ c h. h }
 
+pub value_is_binding : (s : State) (n : ℕ) (V : Term) → ValuesAreBound s → Some V ≡ value_of s n → Member (record { of = n; value = V }) (bindings_of s)
+value_is_binding s n V b v = binding_of_value s.bound s.values n V (b n V (sym v)) (sym v)
+
 by_value : (s : State) (n : ℕ) (V : Term) (c : ℕ) → ValuesAreBound s → Some V ≡ value_of s n → HasConstant (bindings_of s) V c → HasConstant (bindings_of s) (root (metavariable n) nil) c
-by_value s n V c b v h k = head_of_value (record { of = n; value = V }) (binding_of_value s.bound s.values n V (b n V (sym v)) (sym v)) (h 0)
+by_value s n V c b v h k = head_of_value (record { of = n; value = V }) (value_is_binding s n V b v) (h 0)
 
 pub comes_further : (s : State) (m n j : ℕ) (V : Term) → ValuesAreBound s → Some V ≡ value_of s n → head_under V ≡ metavariable j → ComesTo s m n → ComesTo s m j
 comes_further s m n j V b v e w = record { heads = λ c h. w.heads c (by_value s n V c b v (head_by_meta (bindings_of s) V j c e h)) }

@@ -3,7 +3,7 @@ use Rattle.std.proofs.Common.{◌≡◌, ℕ, [], ◌∷◌, refl}
 use Rattle.std.specs.Prelude.{true, false}
 use Rattle.lf.specs.Syntax.{constant, lambda, metavariable, variable, Term, LfType, root, nil, app, pi, atom}
 use Rattle.lf_search.specs.Goals.{type_with_heads}
-use Rattle.lf_search.specs.Heads.{clash_here, variable_head}
+use Rattle.lf_search.specs.Heads.{clash_here, outer_head, variable_head}
 use Rattle.tw_search.specs.Choosing.{locals_for}
 use Rattle.tw_search.specs.Clashing.{TypeClashes, head_under}
 use Rattle.tw_search.specs.Offers.{marked, subgoal_marks}
@@ -41,7 +41,7 @@ head_of_lambda = refl
 
 -- of two local variables, a goal of the one clashes with an assumption of the other, which has one quantifier of its own
 locals_clash : TypeClashes [] (app (at 0) nil) (pi nat (atom 3 (app (at 2) nil)))
-locals_clash = clash_here (variable_head 0 refl) (variable_head 1 refl) (λ e. cc)
+locals_clash = clash_here (outer_head (variable_head 0 refl)) (outer_head (variable_head 1 refl)) (λ e. cc)
 
 -- of the local variables x:nat, u:plus x x x and y:nat, the newest first, those for plus are u alone
 local_for_plus : locals_for 3 0 (nat ∷ plus (at 0) (at 0) (at 0) ∷ nat ∷ []) ≡ variable 1 ∷ []

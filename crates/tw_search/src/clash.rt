@@ -3,20 +3,20 @@ ghost use Rattle.std.specs.Prelude.{◌≡◌, ℕ, ◌+◌};
 ghost use Rattle.std.specs.Bool.{OnTrue};
 ghost use Rattle.lf.specs.AtOnce.{lift_renaming_by, shift_by};
 ghost use Rattle.lf.specs.Entries.{quantifiers};
-ghost use Rattle.lf.specs.Syntax.{rename, rename_head, rename_spine, rename_type};
+ghost use Rattle.lf.specs.Syntax.{rename, rename_spine, rename_type};
 ghost use Rattle.lf.specs.Variables.{target_arguments};
 ghost use Rattle.lf_search.specs.Heads.{Clash};
 ghost use Rattle.tw_putting.specs.Stores.{ValuesAreBound, bindings_of};
 ghost use Rattle.tw_terms.specs.OpenView.{open_spine_of, open_term_of, open_type_of};
 ghost use Rattle.tw_terms.specs.View.{head_of, spine_of, term_of, type_of};
-ghost use Rattle.tw_search.specs.Clashing.{AreApart, TypeClashes};
+ghost use Rattle.tw_search.specs.Clashing.{AreApart, TypeClashes, rename_rigid, rigid_of};
 
-use crate::rigid::{clause_constant, goal_head, rigid_head};
+use crate::rigid::{Rigid, clause_head, rigid_head};
 use tw_metas::Store;
 use tw_terms::{Head, Open, OpenSpine, OpenTy, Spine, Term, Ty};
 
-/// Whether at some place the goal's argument, with its values put in, and that of the constant's type have different heads, of which the second is a constant, and the first one a constant
-/// or a local variable. It reads no more than the heads, and takes no memory.
+/// Whether at some place the goal's argument, with its values put in, and that of the constant's type have different heads, each a constant, a local variable, or one that its own lambdas
+/// bind. It reads no more than the heads, and takes no memory.
 pub(crate) fn clashes(store: &Store, indices: &OpenSpine, ty: &Ty) -> bool
     requires { ValuesAreBound store.now.now }
     ensures { OnTrue result (TypeClashes (bindings_of store.now.now) (open_spine_of indices.now) (type_of ty.now)) }
@@ -53,9 +53,9 @@ fn terms_clash(store: &Store, index: &Open, arg: &Term) -> bool
     requires { ValuesAreBound store.now.now }
     ensures { OnTrue result ((k : ℕ) → AreApart (bindings_of store.now.now) k (open_term_of index.now) (term_of arg.now)) }
 {
-    match clause_constant(arg) {
-        Some(wanted) => match goal_head(store, index) {
-            Some(found) => differ(found, Head::Const(wanted)),
+    match clause_head(arg) {
+        Some(wanted) => match rigid_head(store, index, 0) {
+            Some(found) => differ(found, wanted),
             None => false,
         },
         None => false,
@@ -114,8 +114,8 @@ fn local_terms_clash(store: &Store, index: &Open, arg: &Open, binders: u64, by: 
     requires { ValuesAreBound store.now.now }
     ensures { OnTrue result (AreApart (bindings_of store.now.now) binders (open_term_of index.now) (rename (lift_renaming_by binders (shift_by by)) (open_term_of arg.now))) }
 {
-    match rigid_head(arg, binders) {
-        Some(wanted) => match goal_head(store, index) {
+    match rigid_head(store, arg, binders) {
+        Some(wanted) => match rigid_head(store, index, 0) {
             Some(found) => differ_moved(found, wanted, by),
             None => false,
         },
@@ -124,20 +124,37 @@ fn local_terms_clash(store: &Store, index: &Open, arg: &Open, binders: u64, by: 
 }
 
 /// Whether the heads differ, where a variable of the second one is seen from inside of `by` more local variables.
-fn differ_moved(found: Head, wanted: Head, by: u64) -> bool
-    ensures { OnTrue result (head_of found ≡ rename_head (shift_by by) (head_of wanted) → ⊥) }
+fn differ_moved(found: Rigid, wanted: Rigid, by: u64) -> bool
+    ensures { OnTrue result (rigid_of found ≡ rename_rigid (shift_by by) (rigid_of wanted) → ⊥) }
 {
     match wanted {
-        Head::Const(_) => differ(found, wanted),
-        Head::Var(variable) => match variable.checked_add(by) {
-            Some(moved) => differ(found, Head::Var(moved)),
+        Rigid::Outside(Head::Var(variable)) => match variable.checked_add(by) {
+            Some(moved) => differ(found, Rigid::Outside(Head::Var(moved))),
             None => false,
         },
+        Rigid::Outside(Head::Const(_)) => differ(found, wanted),
+        Rigid::Own(_) => differ(found, wanted),
     }
 }
 
 /// Whether the heads differ.
-fn differ(found: Head, wanted: Head) -> bool
+fn differ(found: Rigid, wanted: Rigid) -> bool
+    ensures { OnTrue result (rigid_of found ≡ rigid_of wanted → ⊥) }
+{
+    match found {
+        Rigid::Outside(head) => match wanted {
+            Rigid::Outside(other) => heads_differ(head, other),
+            Rigid::Own(_) => true,
+        },
+        Rigid::Own(number) => match wanted {
+            Rigid::Outside(_) => true,
+            Rigid::Own(other) => number != other,
+        },
+    }
+}
+
+/// The same of constants and variables.
+fn heads_differ(found: Head, wanted: Head) -> bool
     ensures { OnTrue result (head_of found ≡ head_of wanted → ⊥) }
 {
     match found {

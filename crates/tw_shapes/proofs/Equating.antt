@@ -1,5 +1,5 @@
 -- The steps by which equations are solved.
-use Rattle.std.proofs.Common.{◌≡◌, ℕ, ◌+◌, ◌<◌, List, [], ◌∷◌, ◌++◌, length, Some, None, arith, refl, sym, ap, ◌∙◌, subst}
+use Rattle.std.proofs.Common.{◌≡◌, ℕ, ◌+◌, ◌<◌, List, [], ◌∷◌, ◌++◌, length, Some, None, Result, Ok, Err, IfOk, arith, refl, sym, ap, ◌∙◌, subst}
 use Rattle.lf.specs.Syntax.{Skeleton, base as base_skeleton, arrow as arrow_skeleton}
 use Rattle.tw_shapes.specs.Shapes.{Shape, variable, base, arrow, AllVariables, IsWithin, filled, Store, value_of, Solves}
 use Rattle.tw_shapes.specs.Order.{IsOrdered}
@@ -148,3 +148,7 @@ part-binds s old now rest new e m S h q r = record {
 
 pub part-ends : (s : Store) (old now : List Equation) → IsPart s old now → now ≡ [] → IsSolved s old
 part-ends s old now h q = record { all = λ θ w. h.kept θ w (subst (AllHold θ) (sym q) tt) }
+
+pub if_ok : {T E : Type 0} (r : Result T E) (P Q : T → Type 0) → ((x : T) → P x → Q x) → IfOk r P → IfOk r Q
+if_ok (Ok x) P Q f p = f x p
+if_ok (Err e) P Q f p = tt

@@ -9,3 +9,6 @@ pub mod Rounds
 pub mod Arrows
 pub mod Undoing
 pub mod Keeping
+pub mod Closing
+pub mod Weights
+pub mod Left

@@ -61,3 +61,7 @@ pub mentioned-Arrow : (m : ℕ) (x : Shape) (a b : Box Shape Global) → x ≡ A
 mentioned-Arrow m x a b e h =
     let is : shape_of x ≡ arrow (shape_of a.value) (shape_of b.value) = ap shape_of e ∙ shape_of-Arrow a b in
     λ θ. subst (λ z. θ m ≢ filled θ z) (sym is) (arrow-circular θ m (shape_of a.value) (shape_of b.value) (subst (Mentions m) is h))
+
+-- One binding is followed: the same skeleton in each solution, of the store, and on a shorter walk.
+pub one-same : (s : Store) (x v : Shape) (m : ShapeId) → x ≡ Variable m → value_of s m.0 ≡ Some (shape_of v) → (θ : ℕ → Skeleton) → Solves θ s → filled θ (shape_of v) ≡ filled θ (shape_of x)
+one-same s x v m e f θ h = sym (h.holds m.0 (shape_of v) f) ∙ sym (ap (λ y. filled θ (shape_of y)) e ∙ ap (filled θ) (shape_of-Variable m))

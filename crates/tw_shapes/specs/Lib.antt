@@ -5,3 +5,7 @@ pub mod EquationView
 pub mod View
 pub mod Codes
 pub mod Laws
+pub mod Building
+pub mod BuildingView
+pub mod Dropping
+pub mod Depth

@@ -1,6 +1,7 @@
 -- Skeletons with variables, and what solves equations between them.
 use Rattle.std.specs.Prelude.{◌≡◌, ◌≢◌, ℕ, ◌<◌, ◌⊎◌, ◌↔◌, Bool, true, false, List, [], ◌∷◌, ◌++◌, length, Option, Some, None, slice_get, slice_set}
 use Rattle.lf.specs.Syntax.{Skeleton, base as base_skeleton, arrow as arrow_skeleton}
+use Rattle.tw_shapes.specs.Depth.{skeleton_depth}
 
 -- A shape is a skeleton in which a variable may stand for what isn't written.
 pub data Shape : Type 0 where
@@ -110,6 +111,14 @@ pub record IsOpen (s : Store) (S : Shape) : Type 0 where
   pub first_solves : Solves first s
   pub second_solves : Solves second s
   pub differ : filled first S ≢ filled second S
+
+-- Each solution makes the shape the same skeleton.
+abbrev pub IsSettled : Store → Shape → Type 0
+IsSettled s S = (k : Skeleton) × IsAlways s S k
+
+-- Each solution makes the shape a skeleton that is deeper than so many levels.
+abbrev pub IsDeeper : ℕ → Store → Shape → Type 0
+IsDeeper levels s S = (θ : ℕ → Skeleton) → Solves θ s → levels < skeleton_depth (filled θ S)
 
 -- No binding speaks of this variable: what an assignment gives it doesn't matter.
 pub record IsUnused (s : Store) (m : ℕ) : Type 0 where

@@ -1,16 +1,18 @@
 //! What the variables are bound to.
-ghost use Rattle.std.specs.Prelude.{◌≡◌, ◌≢◌, ℕ, suc, ◌<◌, length, reverse, Option, Some, None, IfOk, OnOk, OnErr, MatchOption};
+ghost use Rattle.std.specs.Prelude.{◌≡◌, ◌≢◌, ℕ, suc, ◌<◌, ◌≤◌, length, reverse, Option, Some, None, IfOk, OnOk, OnErr, MatchBool, MatchOption};
 ghost use Rattle.std.specs.Option.{option_map};
 ghost use Rattle.lf.specs.Syntax as lf;
+ghost use Rattle.tw_shapes.specs.Shapes.{Solves, value_of, filled, AllVariables, IsWithin, IsAlways, IsDeeper, IsOpen, IsSettled, with_binding};
+ghost use Rattle.tw_shapes.specs.Order.{IsOrdered, IsFollowed, count_unbound, length_of_walk, without_binding, without_bindings};
+ghost use Rattle.tw_shapes.specs.Building.{IsLeaf};
+ghost use Rattle.tw_shapes.specs.BuildingView.{arrows_of};
 ghost use Rattle.tw_terms.specs.View.{skeleton_of};
-ghost use Rattle.tw_shapes.specs.Shapes.{Solves, value_of, filled, AllVariables, IsWithin, IsAlways, IsOpen, with_binding};
-ghost use Rattle.tw_shapes.specs.Order.{IsOrdered, IsFollowed, count_unbound, without_binding, without_bindings};
 ghost use Rattle.tw_shapes.specs.View.{shape_of, store_of};
 
+use crate::building::{Begun, Built, close};
 use crate::shape::{Shape, ShapeId};
 use std::alloc::{AllocError, Global};
 use tw_terms::Skeleton;
-use tw_terms::numbers::nested;
 
 /// The place of each variable's binding, if it is bound, and the bindings in the order in which they were made.
 #[derive(Drop)]
@@ -36,6 +38,7 @@ impl Bindings {
         ensures same { (θ : ℕ → lf.Skeleton) → Solves θ (store_of self.now) → filled θ (shape_of result.now) ≡ filled θ (shape_of shape.now) }
         ensures end { IsFollowed (store_of self.now) (shape_of result.now) }
         ensures within { IsWithin (length self.now.places.items) (shape_of shape.now) → IsWithin (length self.now.places.items) (shape_of result.now) }
+        ensures shorter { length_of_walk (store_of self.now) (shape_of result.now) ≤ length_of_walk (store_of self.now) (shape_of shape.now) }
     {
         let mut rest = shape;
         loop {
@@ -50,51 +53,93 @@ impl Bindings {
         }
     }
 
-    /// The shape with its bindings followed: what it mentions is free. Fails only for want of memory, and past so many nested arrows the machine's stack is wanting.
-    pub fn resolved(&self, alloc: Global, shape: &Shape, frames: u32) -> Result<Shape, AllocError>
+    /// The shape with its bindings followed: what it mentions is free. Fails only for want of memory.
+    pub fn resolved(&self, alloc: Global, shape: &Shape) -> Result<Shape, AllocError>
         requires ordered { IsOrdered (store_of self.now) }
         requires within { IsWithin (length self.now.places.items) (shape_of shape.now) }
         ensures same { IfOk result (λ r. (θ : ℕ → lf.Skeleton) → Solves θ (store_of self.now) → filled θ (shape_of r) ≡ filled θ (shape_of shape.now)) }
         ensures free { IfOk result (λ r. AllVariables (λ n. value_of (store_of self.now) n ≡ None) (shape_of r)) }
         ensures within { IfOk result (λ r. IsWithin (length self.now.places.items) (shape_of r)) }
     {
-        let frames = nested(frames)?;
-        match self.followed(shape) {
-            Shape::Base(family) => Ok(Shape::Base(*family)),
-            Shape::Variable(variable) => Ok(Shape::Variable(*variable)),
-            Shape::Arrow(domain, range) => {
-                let domain = Box::new(alloc, self.resolved(alloc, domain, frames)?)?;
-                Ok(Shape::Arrow(
-                    domain,
-                    Box::new(alloc, self.resolved(alloc, range, frames)?)?,
-                ))
+        let mut begun = Vec::new(alloc);
+        let mut rest = shape;
+        loop {
+            let leaf = self.first_leaf(&mut begun, rest)?;
+            match close(alloc, &mut begun, leaf)? {
+                Built::Whole(resolved) => return Ok(resolved),
+                Built::Next(range) => rest = range,
             }
         }
     }
 
-    /// The skeleton that the shape is under the bindings; none where a free variable is left. Fails only for want of memory, and past so many nested arrows the
-    /// machine's stack is wanting.
+    /// The leaf at which the shape begins, with its bindings followed. The arrows before it are begun.
+    fn first_leaf<'a>(
+        &'a self,
+        begun: &mut Vec<Begun<'a>>,
+        shape: &'a Shape,
+    ) -> Result<Shape, AllocError>
+        requires ordered { IsOrdered (store_of self.now) }
+        ensures { IfOk result (λ s. IsLeaf (store_of self.now) (arrows_of begun.old.items) (shape_of shape.now) (arrows_of begun.new.items) (shape_of s)) }
+    {
+        let mut rest = shape;
+        loop {
+            match self.followed(rest) {
+                Shape::Base(family) => return Ok(Shape::Base(*family)),
+                Shape::Variable(variable) => return Ok(Shape::Variable(*variable)),
+                Shape::Arrow(domain, range) => {
+                    begun.push(Begun::Domain(range))?;
+                    rest = domain;
+                }
+            }
+        }
+    }
+
+    /// Whether each solution makes the shape the same skeleton. Fails only for want of memory.
+    pub fn is_settled(&self, alloc: Global, shape: &Shape) -> Result<bool, AllocError>
+        requires { IsOrdered (store_of self.now) }
+        ensures { IfOk result (λ b. MatchBool b (IsSettled (store_of self.now) (shape_of shape.now)) (IsOpen (store_of self.now) (shape_of shape.now))) }
+    {
+        let mut left = Vec::new(alloc);
+        left.push(shape)?;
+        while let Some(next) = left.pop() {
+            match self.followed(next) {
+                Shape::Base(_) => (),
+                Shape::Variable(_) => return Ok(false),
+                Shape::Arrow(domain, range) => {
+                    left.push(range)?;
+                    left.push(domain)?;
+                }
+            }
+        }
+        Ok(true)
+    }
+
+    /// The skeleton that the shape is in each solution; none where it is deeper than so many levels. Fails only for want of memory.
     pub fn skeleton(
         &self,
         alloc: Global,
         shape: &Shape,
-        frames: u32,
+        levels: u32,
     ) -> Result<Option<Skeleton>, AllocError>
-        requires { IsOrdered (store_of self.now) }
-        ensures { IfOk result (λ o. MatchOption o (IsOpen (store_of self.now) (shape_of shape.now)) (λ k. IsAlways (store_of self.now) (shape_of shape.now) (skeleton_of k))) }
+        requires ordered { IsOrdered (store_of self.now) }
+        requires settled { IsSettled (store_of self.now) (shape_of shape.now) }
+        ensures { IfOk result (λ o. MatchOption o (IsDeeper levels (store_of self.now) (shape_of shape.now)) (λ k. IsAlways (store_of self.now) (shape_of shape.now) (skeleton_of k))) }
     {
-        let frames = nested(frames)?;
+        if levels == 0 {
+            return Ok(None);
+        }
         match self.followed(shape) {
             Shape::Base(family) => Ok(Some(Skeleton::Base(*family))),
-            Shape::Variable(_) => Ok(None),
+            Shape::Variable(_) => unreachable!(),
             Shape::Arrow(domain, range) => {
-                let Some(domain) = self.skeleton(alloc, domain, frames)? else {
+                let Some(domain) = self.skeleton(alloc, domain, levels - 1)? else {
                     return Ok(None);
                 };
-                let Some(range) = self.skeleton(alloc, range, frames)? else {
+                let Some(range) = self.skeleton(alloc, range, levels - 1)? else {
                     return Ok(None);
                 };
-                Ok(Some(Skeleton::Arrow(Box::new(alloc, domain)?, Box::new(alloc, range)?)))
+                let domain = Box::new(alloc, domain)?;
+                Ok(Some(Skeleton::Arrow(domain, Box::new(alloc, range)?)))
             }
         }
     }

@@ -8,8 +8,7 @@ ghost use Rattle.tw_shapes.specs.View.{shape_of, store_of};
 ghost use Rattle.tw_shapes.specs.EquationView.{equation_of, equations_of, between, ComparedIs, StepIs, FreeStepIs, NextIs, SettledIs, AnswerIs};
 
 use crate::bindings::Bindings;
-use crate::shape::{Shape, ShapeId};
-use crate::store::FRAMES;
+use crate::shape::{Parts, Shape, ShapeId};
 use std::alloc::{AllocError, Global};
 use tw_terms::ConstId;
 
@@ -44,10 +43,10 @@ fn take_apart(
     ensures { IfOk result (λ r. StepIs (store_of bindings.now) (equation_of equation) (equations_of pending.old.items) (equations_of pending.new.items) r) }
 {
     let Equation { left, right } = equation;
-    match left {
-        Shape::Variable(variable) => follow(bindings, alloc, variable, right, pending),
-        Shape::Base(family) => at_base(bindings, alloc, family, right, pending),
-        Shape::Arrow(domain, range) => at_arrow(bindings, alloc, domain, range, right, pending),
+    match left.parts() {
+        Parts::Variable(variable) => follow(bindings, alloc, variable, right, pending),
+        Parts::Base(family) => at_base(bindings, alloc, family, right, pending),
+        Parts::Arrow(domain, range) => at_arrow(bindings, alloc, domain, range, right, pending),
     }
 }
 
@@ -64,16 +63,16 @@ fn at_base(
     requires all_within { plain.AllWithin (length bindings.now.places.items) (equations_of pending.old.items) }
     ensures { IfOk result (λ r. StepIs (store_of bindings.now) (between (base family.0) (shape_of other)) (equations_of pending.old.items) (equations_of pending.new.items) r) }
 {
-    match other {
-        Shape::Variable(variable) => follow(
+    match other.parts() {
+        Parts::Variable(variable) => follow(
             bindings,
             alloc,
             variable,
             Shape::Base(family),
             pending,
         ),
-        Shape::Base(other_family) => Ok(compared(family, other_family)),
-        Shape::Arrow(_, _) => Ok(Step::Fails),
+        Parts::Base(other_family) => Ok(compared(family, other_family)),
+        Parts::Arrow(_, _) => Ok(Step::Fails),
     }
 }
 
@@ -104,16 +103,16 @@ fn at_arrow(
     requires all_within { plain.AllWithin (length bindings.now.places.items) (equations_of pending.old.items) }
     ensures { IfOk result (λ r. StepIs (store_of bindings.now) (between (arrow (shape_of domain.value) (shape_of range.value)) (shape_of other)) (equations_of pending.old.items) (equations_of pending.new.items) r) }
 {
-    match other {
-        Shape::Variable(variable) => follow(
+    match other.parts() {
+        Parts::Variable(variable) => follow(
             bindings,
             alloc,
             variable,
             Shape::Arrow(domain, range),
             pending,
         ),
-        Shape::Base(_) => Ok(Step::Fails),
-        Shape::Arrow(other_domain, other_range) => {
+        Parts::Base(_) => Ok(Step::Fails),
+        Parts::Arrow(other_domain, other_range) => {
             pending.push(Equation {
                 left: Box::into_inner(range),
                 right: Box::into_inner(other_range),
@@ -148,23 +147,23 @@ fn follow(
             Ok(Step::Goes)
         }
         None => {
-            let value = bindings.resolved(alloc, &other, FRAMES)?;
-            Ok(free_step(variable, value))
+            let value = bindings.resolved(alloc, &other)?;
+            free_step(alloc, variable, value)
         }
     }
 }
 
 // The step at a free variable and a shape of free variables.
-fn free_step(variable: ShapeId, value: Shape) -> Step
-    ensures { FreeStepIs variable.0 (shape_of value) result }
+fn free_step(alloc: Global, variable: ShapeId, value: Shape) -> Result<Step, AllocError>
+    ensures { IfOk result (λ r. FreeStepIs variable.0 (shape_of value) r) }
 {
-    if !value.mentions(variable) {
-        return Step::Binds(variable, value);
+    if !value.mentions(alloc, variable)? {
+        return Ok(Step::Binds(variable, value));
     }
-    match value {
-        Shape::Variable(_) => Step::Goes,
-        Shape::Base(_) => Step::Fails,
-        Shape::Arrow(_, _) => Step::Fails,
+    match &value {
+        Shape::Variable(_) => Ok(Step::Goes),
+        Shape::Base(_) => Ok(Step::Fails),
+        Shape::Arrow(_, _) => Ok(Step::Fails),
     }
 }
 

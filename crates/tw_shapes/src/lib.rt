@@ -5,14 +5,16 @@
 
 #[tactic(auto, using(crate::proofs::Views::shapes))]
 mod bindings;
+#[tactic(auto, using(crate::proofs::Closing::building))]
+mod building;
 #[tactic(auto, using(crate::proofs::Views::shapes))]
 mod equations;
 mod laws;
-#[tactic(auto, using(crate::proofs::Views::shapes))]
+#[tactic(auto, using(crate::proofs::Closing::building))]
 mod shape;
 #[tactic(auto, using(crate::proofs::Views::shapes))]
 mod store;
 
 pub use laws::{skeleton_stays, stays_within, unifying_narrows};
-pub use shape::{Shape, ShapeId};
+pub use shape::{Parts, Shape, ShapeId};
 pub use store::Shapes;

@@ -1,6 +1,7 @@
 //! The store of shape variables.
-ghost use Rattle.std.specs.Prelude.{◌≡◌, ℕ, ◌<◌, ◌≤◌, IfOk, OnOk, OnErr, MatchOption};
+ghost use Rattle.std.specs.Prelude.{◌≡◌, ℕ, ◌<◌, ◌≤◌, IfOk, OnOk, OnErr, MatchBool, MatchOption};
 ghost use Rattle.lf.specs.Syntax as lf;
+ghost use Rattle.lf.specs.Depth.{depth_limit};
 ghost use Rattle.tw_terms.specs.View.{skeleton_of};
 ghost use Rattle.tw_shapes.specs.View.{shape_of};
 
@@ -9,7 +10,7 @@ use crate::equations::{Equation, solve};
 use crate::shape::{Shape, ShapeId};
 use std::alloc::{AllocError, Global};
 use std::marker::Model;
-use tw_terms::Skeleton;
+use tw_terms::{DEPTH_LIMIT, Skeleton};
 
 /// Shape variables, and what the equations so far say of them. Contracts see the bindings; what counts of them is which assignments solve the store.
 #[derive(Drop)]
@@ -33,12 +34,8 @@ impl Model for Shapes {
     ghost invariant = { λ s. IsOrdered (store_of s.bindings) };
 }
 
-/// How many arrows nest at most in a shape with its bindings followed; past these the machine's stack, which is memory too, is wanting. A type of so many arrows is
-/// far deeper than one that is kept.
-pub const FRAMES: u32 = 10_500;
-
 impl Shapes {
-    ghost use Rattle.tw_shapes.specs.Shapes.{empty_store, Solves, with_variable, count_of, value_of, IsWithin, IsUnused, HasSolution, Unifies, IsAlways, IsOpen, SameSolutions};
+    ghost use Rattle.tw_shapes.specs.Shapes.{empty_store, Solves, with_variable, count_of, value_of, IsWithin, IsUnused, HasSolution, Unifies, IsAlways, IsDeeper, IsOpen, IsSettled, SameSolutions};
 
     /// The store without variables, which each assignment solves. It keeps the allocator.
     pub fn new(alloc: Global) -> Shapes
@@ -72,7 +69,7 @@ impl Shapes {
     /// Makes both shapes equal, in the most general way: whether that can be done. Where it can't, or memory is wanting, nothing changes.
     /// The shapes are of variables that `fresh` gave.
     /// It takes time, and memory for what it binds, in the size of the shapes with their bindings followed, where each use of a variable counts anew:
-    /// with `X1 = X0 -> X0`, `X2 = X1 -> X1`, .. that doubles each time. It takes stack in the arrows that nest so, as do `solved` and what drops a skeleton: past 10,500 of them memory counts as used up.
+    /// with `X1 = X0 -> X0`, `X2 = X1 -> X1`, .. that doubles each time.
     pub fn unify(&mut self, left: &Shape, right: &Shape) -> Result<bool, AllocError>
         requires left { IsWithin (count_of self.old) (shape_of left.now) }
         requires right { IsWithin (count_of self.old) (shape_of right.now) }
@@ -90,11 +87,19 @@ impl Shapes {
         solve(&mut self.bindings, alloc, pending)
     }
 
-    /// The skeleton that the shape is in each solution; none where two solutions make it different ones. Fails only for want of memory.
-    pub fn solved(&self, shape: &Shape) -> Result<Option<Skeleton>, AllocError>
-        ensures { IfOk result (λ o. MatchOption o (IsOpen self.now (shape_of shape.now)) (λ k. IsAlways self.now (shape_of shape.now) (skeleton_of k))) }
+    /// Whether each solution makes the shape the same skeleton. Fails only for want of memory.
+    pub fn is_settled(&self, shape: &Shape) -> Result<bool, AllocError>
+        ensures { IfOk result (λ b. MatchBool b (IsSettled self.now (shape_of shape.now)) (IsOpen self.now (shape_of shape.now))) }
     {
-        self.bindings.skeleton(self.alloc, shape, FRAMES)
+        self.bindings.is_settled(self.alloc, shape)
+    }
+
+    /// The skeleton that the shape is in each solution; none where it is deeper than 4,096. Fails only for want of memory.
+    pub fn solved(&self, shape: &Shape) -> Result<Option<Skeleton>, AllocError>
+        requires { IsSettled self.now (shape_of shape.now) }
+        ensures { IfOk result (λ o. MatchOption o (IsDeeper depth_limit self.now (shape_of shape.now)) (λ k. IsAlways self.now (shape_of shape.now) (skeleton_of k))) }
+    {
+        self.bindings.skeleton(self.alloc, shape, DEPTH_LIMIT)
     }
 
     /// Each store has a solution. A law: it has no code.

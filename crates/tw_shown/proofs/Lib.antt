@@ -1,3 +1,4 @@
 pub mod Lists
 pub mod OnlyShown
 pub mod Walking
+pub mod Dues

@@ -5,7 +5,7 @@
 #![tactic(auto)]
 
 #[tactic(auto, using(tw_terms::proofs::Args::types))]
-mod heads;
+mod due;
 mod laws;
 #[tactic(auto, using(tw_terms::proofs::Args::types))]
 mod naming;

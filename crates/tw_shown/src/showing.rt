@@ -1,200 +1,43 @@
-//! Terms and types, walked through as they are shown.
-ghost use Rattle.std.specs.Prelude.{◌≡◌, [], None, OnOk, Some, cond, drop, option_map};
+//! Terms and types, walked through as they are shown. What is still to be walked through waits on the heap, so that no text nests on the machine's stack.
+ghost use Rattle.std.specs.Prelude.{◌≡◌, ◌∷◌, [], None, OnOk, Some, option_map};
 ghost use Rattle.lf.specs.Entries.{IsCanonicalSignature, signature_of};
 ghost use Rattle.lf.specs.Syntax.{atom, lambda, pi, root};
-ghost use Rattle.tw_terms.specs.View.{args_of, head_of, spine_of, term_of, type_of};
-ghost use Rattle.tw_print.specs.Arguments.{arguments, bare_arguments};
-ghost use Rattle.tw_print.specs.Showable.{AreShowable, IsShowable, IsShowableContext, IsShowableType, Takes};
+ghost use Rattle.tw_terms.specs.View.{head_of, spine_of, term_of, type_of};
+ghost use Rattle.tw_print.specs.Showable.{IsShowable, IsShowableContext, IsShowableType};
 ghost use Rattle.tw_print.specs.ShowEnv.{scene_of};
-ghost use Rattle.tw_shown.specs.Shown.{of_arguments, of_atom, of_root, of_term, shown_within};
+ghost use Rattle.tw_shown.specs.Due.{AllFit, Begins, Goes, stacked};
+ghost use Rattle.tw_shown.specs.Shown.{of_atom, of_root, of_term, of_type, shown_within};
 ghost use Rattle.tw_shown.specs.Walks.{Adds};
 
-use crate::heads::{family_type, has_lambda, head_hidden, head_type, hidden};
+use crate::due::{Due, pop, push, push_arguments};
 use crate::walk::Walk;
 use std::alloc::{AllocError, Global};
-use tw_print::{ShowEnv, instantiated, level_below};
-use tw_terms::{ConstId, Head, Spine, Term, Ty, skeleton};
+use tw_print::ShowEnv;
+use tw_terms::numbers::one_less;
+use tw_terms::{ConstId, Head, Spine, Term, Ty};
 
-/// Walks through a term; through a lambda by its type. `levels` says how deep parts may nest.
-#[cycle(showing)]
-#[inline(never)]
+/// Walks through a term at its type. `levels` says how deep parts may nest.
 pub fn walk_term(
     alloc: Global,
     env: &ShowEnv,
     walk: &mut Walk,
     term: &Term,
-    ty: Option<&Ty>,
+    ty: &Ty,
     levels: u64,
 ) -> Result<(), AllocError>
     requires canonical { IsCanonicalSignature env.now.sig.now }
     requires context { IsShowableContext (signature_of env.now.sig.now) walk.old.context }
-    requires typed { IsShowable (signature_of env.now.sig.now) walk.old.context (term_of term.now) (option_map (λ a. type_of a.now) ty) }
-    ensures { OnOk result (Adds walk.old walk.new ((shown_within (scene_of env.now) levels).term walk.old.context (term_of term.now) (option_map (λ a. type_of a.now) ty.entry))) }
+    requires typed { IsShowable (signature_of env.now.sig.now) walk.old.context (term_of term.now) (Some (type_of ty.now)) }
+    ensures { OnOk result (Adds walk.old walk.new ((shown_within (scene_of env.now) levels).term walk.old.context (term_of term.now) (Some (type_of ty.now)))) }
 {
-    let inner = level_below(levels)?;
-    match term {
-        Term::Root(head, spine) => walk_root(alloc, env, walk, *head, spine, inner),
-        Term::Lam(body) => match ty {
-            Some(Ty::Pi(domain, range)) => walk_lambda(
-                alloc, env, walk, body, domain, range, inner,
-            ),
-            Some(Ty::Atom(_, _)) | None => unreachable!(),
-        },
-    }
-}
-
-/// Walks through a lambda whose variable and body have these types.
-#[cycle(showing)]
-#[inline(never)]
-fn walk_lambda(
-    alloc: Global,
-    env: &ShowEnv,
-    walk: &mut Walk,
-    body: &Term,
-    domain: &Ty,
-    range: &Ty,
-    inner: u64,
-) -> Result<(), AllocError>
-    requires canonical { IsCanonicalSignature env.now.sig.now }
-    requires context { IsShowableContext (signature_of env.now.sig.now) walk.old.context }
-    requires typed { IsShowable (signature_of env.now.sig.now) walk.old.context (lambda (term_of body.now)) (Some (pi (type_of domain.now) (type_of range.now))) }
-    ensures { OnOk result (Adds walk.old walk.new (of_term (shown_within (scene_of env.now) inner) (scene_of env.now) walk.old.context (lambda (term_of body.now)) (Some (pi (type_of domain.now) (type_of range.now))))) }
-{
-    walk_type(alloc, env, walk, domain, inner)?;
-    walk.enter(domain.copy(alloc)?)?;
-    walk_term(alloc, env, walk, body, Some(range), inner)?;
-    walk.leave();
-    Ok(())
-}
-
-/// Walks through a head with its arguments. Types are computed only where one of these is a lambda.
-#[cycle(showing)]
-#[inline(never)]
-fn walk_root(
-    alloc: Global,
-    env: &ShowEnv,
-    walk: &mut Walk,
-    head: Head,
-    spine: &Spine,
-    inner: u64,
-) -> Result<(), AllocError>
-    requires canonical { IsCanonicalSignature env.now.sig.now }
-    requires context { IsShowableContext (signature_of env.now.sig.now) walk.old.context }
-    requires typed { IsShowable (signature_of env.now.sig.now) walk.old.context (root (head_of head) (spine_of spine.now)) None }
-    ensures { OnOk result (Adds walk.old walk.new (of_root (shown_within (scene_of env.now) inner) (scene_of env.now) walk.old.context (head_of head) (spine_of spine.now))) }
-{
-    walk.show_head(head)?;
-    let count = head_hidden(env, head);
-    if !has_lambda(&spine.args) {
-        return walk_bare(alloc, env, walk, &spine.args, count, inner);
-    }
-    let ty = head_type(alloc, env, &walk.context, head)?;
-    walk_typed(alloc, env, walk, &spine.args, ty, count, inner)
-}
-
-/// Walks through a family with its arguments.
-#[cycle(showing)]
-#[inline(never)]
-fn walk_atom(
-    alloc: Global,
-    env: &ShowEnv,
-    walk: &mut Walk,
-    family: ConstId,
-    spine: &Spine,
-    inner: u64,
-) -> Result<(), AllocError>
-    requires canonical { IsCanonicalSignature env.now.sig.now }
-    requires context { IsShowableContext (signature_of env.now.sig.now) walk.old.context }
-    requires typed { IsShowableType (signature_of env.now.sig.now) walk.old.context (atom family.0 (spine_of spine.now)) }
-    ensures { OnOk result (Adds walk.old walk.new (of_atom (shown_within (scene_of env.now) inner) (scene_of env.now) walk.old.context family.0 (spine_of spine.now))) }
-{
-    let count = hidden(env, family);
-    if !has_lambda(&spine.args) {
-        return walk_bare(alloc, env, walk, &spine.args, count, inner);
-    }
-    let ty = family_type(alloc, env, family)?;
-    walk_typed(alloc, env, walk, &spine.args, ty, count, inner)
-}
-
-/// Walks through arguments that are no lambdas, of which the first `count` are hidden.
-#[cycle(showing)]
-#[inline(never)]
-fn walk_bare(
-    alloc: Global,
-    env: &ShowEnv,
-    walk: &mut Walk,
-    args: &[Term],
-    count: usize,
-    inner: u64,
-) -> Result<(), AllocError>
-    requires canonical { IsCanonicalSignature env.now.sig.now }
-    requires context { IsShowableContext (signature_of env.now.sig.now) walk.old.context }
-    requires typed { AreShowable (signature_of env.now.sig.now) walk.old.context (bare_arguments (args_of args.now)) }
-    ensures { OnOk result (Adds walk.old walk.new (of_arguments (shown_within (scene_of env.now) inner) (scene_of env.now) walk.old.context (drop count (bare_arguments (args_of args.now))))) }
-{
-    for (place, term) in args.iter().enumerate() {
-        walk_argument(alloc, env, walk, term, None, place < count, inner)?;
-    }
-    Ok(())
-}
-
-/// Walks through the arguments of a head of this type, of which the first `count` are hidden.
-#[cycle(showing)]
-#[inline(never)]
-fn walk_typed(
-    alloc: Global,
-    env: &ShowEnv,
-    walk: &mut Walk,
-    args: &[Term],
-    head: Ty,
-    count: usize,
-    inner: u64,
-) -> Result<(), AllocError>
-    requires canonical { IsCanonicalSignature env.now.sig.now }
-    requires context { IsShowableContext (signature_of env.now.sig.now) walk.old.context }
-    requires typed { Takes (signature_of env.now.sig.now) walk.old.context (args_of args.now) (type_of head) }
-    ensures { OnOk result (Adds walk.old walk.new (of_arguments (shown_within (scene_of env.now) inner) (scene_of env.now) walk.old.context (drop count (arguments (type_of head) (args_of args.now))))) }
-{
-    let mut left = head;
-    for (place, term) in args.iter().enumerate() {
-        match left {
-            Ty::Pi(domain, range) => {
-                walk_argument(alloc, env, walk, term, Some(&domain), place < count, inner)?;
-                let shape = skeleton(alloc, &domain)?;
-                left = instantiated(alloc, &range, term, &shape)?;
-            }
-            Ty::Atom(_, _) => unreachable!(),
-        }
-    }
-    Ok(())
-}
-
-/// Walks through an argument, unless it is hidden.
-#[cycle(showing)]
-#[inline(never)]
-fn walk_argument(
-    alloc: Global,
-    env: &ShowEnv,
-    walk: &mut Walk,
-    term: &Term,
-    ty: Option<&Ty>,
-    is_hidden: bool,
-    inner: u64,
-) -> Result<(), AllocError>
-    requires canonical { IsCanonicalSignature env.now.sig.now }
-    requires context { IsShowableContext (signature_of env.now.sig.now) walk.old.context }
-    requires typed { IsShowable (signature_of env.now.sig.now) walk.old.context (term_of term.now) (option_map (λ a. type_of a.now) ty) }
-    ensures { OnOk result (Adds walk.old walk.new (cond is_hidden [] ((shown_within (scene_of env.now) inner).term walk.old.context (term_of term.now) (option_map (λ a. type_of a.now) ty.entry)))) }
-{
-    if is_hidden {
-        return Ok(());
-    }
-    walk_term(alloc, env, walk, term, ty, inner)
+    let mut due = Vec::new(alloc);
+    let ty = ty.copy(alloc)?;
+    let term = term.copy(alloc)?;
+    push(&mut due, Due::Term(term, Some(ty), levels))?;
+    walk_due(alloc, env, walk, due)
 }
 
 /// Walks through a type.
-#[cycle(showing)]
-#[inline(never)]
 pub fn walk_type(
     alloc: Global,
     env: &ShowEnv,
@@ -207,15 +50,209 @@ pub fn walk_type(
     requires typed { IsShowableType (signature_of env.now.sig.now) walk.old.context (type_of ty.now) }
     ensures { OnOk result (Adds walk.old walk.new ((shown_within (scene_of env.now) levels).type walk.old.context (type_of ty.now))) }
 {
-    let inner = level_below(levels)?;
-    match ty {
-        Ty::Pi(domain, range) => {
-            walk_type(alloc, env, walk, domain, inner)?;
-            walk.enter(domain.copy(alloc)?)?;
-            walk_type(alloc, env, walk, range, inner)?;
+    let mut due = Vec::new(alloc);
+    let ty = ty.copy(alloc)?;
+    push(&mut due, Due::Type(ty, levels))?;
+    walk_due(alloc, env, walk, due)
+}
+
+/// Walks through all that is due. Parts are counted, and memory counts as used up after 2 ^ 64 - 1 of them.
+fn walk_due(alloc: Global, env: &ShowEnv, walk: &mut Walk, due: Vec<Due>) -> Result<(), AllocError>
+    requires canonical { IsCanonicalSignature env.now.sig.now }
+    requires context { IsShowableContext (signature_of env.now.sig.now) walk.old.context }
+    requires fits { AllFit (signature_of env.now.sig.now) walk.old.context (stacked due.items) }
+    ensures { OnOk result (Goes (scene_of env.now) walk.old walk.new (stacked due.items) []) }
+{
+    let mut left = due;
+    for _ in 0..u64::MAX {
+        match pop(&mut left) {
+            Some(next) => walk_next(alloc, env, walk, next, &mut left)?,
+            None => return Ok(()),
+        }
+    }
+    Err(AllocError)
+}
+
+/// Walks to the first part of what is due next, which is due then.
+#[inline(never)]
+fn walk_next(
+    alloc: Global,
+    env: &ShowEnv,
+    walk: &mut Walk,
+    next: Due,
+    due: &mut Vec<Due>,
+) -> Result<(), AllocError>
+    requires canonical { IsCanonicalSignature env.now.sig.now }
+    requires context { IsShowableContext (signature_of env.now.sig.now) walk.old.context }
+    requires fits { AllFit (signature_of env.now.sig.now) walk.old.context (next ∷ stacked due.old.items) }
+    ensures { OnOk result (Goes (scene_of env.now) walk.old walk.new (next ∷ stacked due.old.items) (stacked due.new.items)) }
+{
+    match next {
+        Due::Enter(ty) => walk.enter(ty),
+        Due::Leave => {
             walk.leave();
             Ok(())
         }
-        Ty::Atom(family, spine) => walk_atom(alloc, env, walk, *family, spine, inner),
+        Due::Term(term, ty, levels) => begin_term(alloc, env, walk, term, ty, levels, due),
+        Due::Type(ty, levels) => begin_type(alloc, env, walk, ty, levels, due),
     }
+}
+
+/// Begins a term.
+#[inline(never)]
+fn begin_term(
+    alloc: Global,
+    env: &ShowEnv,
+    walk: &mut Walk,
+    term: Term,
+    ty: Option<Ty>,
+    levels: u64,
+    due: &mut Vec<Due>,
+) -> Result<(), AllocError>
+    requires canonical { IsCanonicalSignature env.now.sig.now }
+    requires context { IsShowableContext (signature_of env.now.sig.now) walk.old.context }
+    requires typed { IsShowable (signature_of env.now.sig.now) walk.old.context (term_of term) (option_map type_of ty) }
+    requires fits { AllFit (signature_of env.now.sig.now) walk.old.context (stacked due.old.items) }
+    ensures { OnOk result (Begins (scene_of env.now) walk.old walk.new ((shown_within (scene_of env.now) levels).term walk.old.context (term_of term) (option_map type_of ty)) (stacked due.old.items) (stacked due.new.items)) }
+{
+    let inner = one_less(levels)?;
+    match term {
+        Term::Root(head, spine) => begin_root(alloc, env, walk, head, spine, inner, due),
+        Term::Lam(body) => match ty {
+            Some(Ty::Pi(domain, range)) => begin_lambda(
+                alloc,
+                env,
+                walk,
+                Box::into_inner(body),
+                Box::into_inner(domain),
+                Box::into_inner(range),
+                inner,
+                due,
+            ),
+            Some(Ty::Atom(_, _)) | None => unreachable!(),
+        },
+    }
+}
+
+/// Begins a lambda whose variable and body have these types.
+#[inline(never)]
+fn begin_lambda(
+    alloc: Global,
+    env: &ShowEnv,
+    walk: &Walk,
+    body: Term,
+    domain: Ty,
+    range: Ty,
+    inner: u64,
+    due: &mut Vec<Due>,
+) -> Result<(), AllocError>
+    requires canonical { IsCanonicalSignature env.now.sig.now }
+    requires context { IsShowableContext (signature_of env.now.sig.now) walk.now.context }
+    requires typed { IsShowable (signature_of env.now.sig.now) walk.now.context (lambda (term_of body)) (Some (pi (type_of domain) (type_of range))) }
+    requires fits { AllFit (signature_of env.now.sig.now) walk.now.context (stacked due.old.items) }
+    ensures { OnOk result (Begins (scene_of env.now) walk.now walk.now (of_term (shown_within (scene_of env.now) inner) (scene_of env.now) walk.now.context (lambda (term_of body)) (Some (pi (type_of domain) (type_of range)))) (stacked due.old.items) (stacked due.new.items)) }
+{
+    let entered = domain.copy(alloc)?;
+    push(due, Due::Leave)?;
+    push(due, Due::Term(body, Some(range), inner))?;
+    push(due, Due::Enter(entered))?;
+    push(due, Due::Type(domain, inner))
+}
+
+/// Shows a head, and begins its arguments.
+#[inline(never)]
+fn begin_root(
+    alloc: Global,
+    env: &ShowEnv,
+    walk: &mut Walk,
+    head: Head,
+    spine: Spine,
+    inner: u64,
+    due: &mut Vec<Due>,
+) -> Result<(), AllocError>
+    requires canonical { IsCanonicalSignature env.now.sig.now }
+    requires context { IsShowableContext (signature_of env.now.sig.now) walk.old.context }
+    requires typed { IsShowable (signature_of env.now.sig.now) walk.old.context (root (head_of head) (spine_of spine)) None }
+    requires fits { AllFit (signature_of env.now.sig.now) walk.old.context (stacked due.old.items) }
+    ensures { OnOk result (Begins (scene_of env.now) walk.old walk.new (of_root (shown_within (scene_of env.now) inner) (scene_of env.now) walk.old.context (head_of head) (spine_of spine)) (stacked due.old.items) (stacked due.new.items)) }
+{
+    let arguments = env.head_arguments(alloc, &walk.context, head, spine)?;
+    push_arguments(due, arguments, env.head_hidden(head), inner)?;
+    walk.show_head(head)
+}
+
+/// Begins the arguments of a family.
+#[inline(never)]
+fn begin_atom(
+    alloc: Global,
+    env: &ShowEnv,
+    walk: &Walk,
+    family: ConstId,
+    spine: Spine,
+    inner: u64,
+    due: &mut Vec<Due>,
+) -> Result<(), AllocError>
+    requires canonical { IsCanonicalSignature env.now.sig.now }
+    requires context { IsShowableContext (signature_of env.now.sig.now) walk.now.context }
+    requires typed { IsShowableType (signature_of env.now.sig.now) walk.now.context (atom family.0 (spine_of spine)) }
+    requires fits { AllFit (signature_of env.now.sig.now) walk.now.context (stacked due.old.items) }
+    ensures { OnOk result (Begins (scene_of env.now) walk.now walk.now (of_atom (shown_within (scene_of env.now) inner) (scene_of env.now) walk.now.context family.0 (spine_of spine)) (stacked due.old.items) (stacked due.new.items)) }
+{
+    let arguments = env.family_arguments(alloc, &walk.context, family, spine)?;
+    push_arguments(due, arguments, env.hidden(family), inner)
+}
+
+/// Begins a type.
+#[inline(never)]
+fn begin_type(
+    alloc: Global,
+    env: &ShowEnv,
+    walk: &Walk,
+    ty: Ty,
+    levels: u64,
+    due: &mut Vec<Due>,
+) -> Result<(), AllocError>
+    requires canonical { IsCanonicalSignature env.now.sig.now }
+    requires context { IsShowableContext (signature_of env.now.sig.now) walk.now.context }
+    requires typed { IsShowableType (signature_of env.now.sig.now) walk.now.context (type_of ty) }
+    requires fits { AllFit (signature_of env.now.sig.now) walk.now.context (stacked due.old.items) }
+    ensures { OnOk result (Begins (scene_of env.now) walk.now walk.now ((shown_within (scene_of env.now) levels).type walk.now.context (type_of ty)) (stacked due.old.items) (stacked due.new.items)) }
+{
+    let inner = one_less(levels)?;
+    match ty {
+        Ty::Pi(domain, range) => begin_pi(
+            alloc,
+            env,
+            walk,
+            Box::into_inner(domain),
+            Box::into_inner(range),
+            inner,
+            due,
+        ),
+        Ty::Atom(family, spine) => begin_atom(alloc, env, walk, family, spine, inner, due),
+    }
+}
+
+/// Begins a quantifier or an arrow.
+#[inline(never)]
+fn begin_pi(
+    alloc: Global,
+    env: &ShowEnv,
+    walk: &Walk,
+    domain: Ty,
+    range: Ty,
+    inner: u64,
+    due: &mut Vec<Due>,
+) -> Result<(), AllocError>
+    requires canonical { IsCanonicalSignature env.now.sig.now }
+    requires context { IsShowableContext (signature_of env.now.sig.now) walk.now.context }
+    requires typed { IsShowableType (signature_of env.now.sig.now) walk.now.context (pi (type_of domain) (type_of range)) }
+    requires fits { AllFit (signature_of env.now.sig.now) walk.now.context (stacked due.old.items) }
+    ensures { OnOk result (Begins (scene_of env.now) walk.now walk.now (of_type (shown_within (scene_of env.now) inner) (scene_of env.now) walk.now.context (pi (type_of domain) (type_of range))) (stacked due.old.items) (stacked due.new.items)) }
+{
+    let entered = domain.copy(alloc)?;
+    push(due, Due::Leave)?;
+    push(due, Due::Type(range, inner))?;
+    push(due, Due::Enter(entered))?;
+    push(due, Due::Type(domain, inner))
 }

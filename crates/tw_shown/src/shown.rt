@@ -27,7 +27,7 @@ fn begin(alloc: Global, context: &Context) -> Result<Walk, AllocError>
 }
 
 /// The variables of the context that the text of a term at its type shows, as they come from the left. One that is shown twice comes twice.
-/// Fails only for want of memory: past 8,192 levels it is the machine's stack that is wanting.
+/// Fails only for want of memory, and where the type of a lambda comes out deeper than 8,192, which the machine's stack would not hold.
 pub fn shown_in_term(
     alloc: Global,
     env: &ShowEnv,
@@ -42,7 +42,7 @@ pub fn shown_in_term(
 {
     env.sig.is_canonical();
     let mut walk = begin(alloc, context)?;
-    walk_term(alloc, env, &mut walk, term, Some(ty), all_levels())?;
+    walk_term(alloc, env, &mut walk, term, ty, all_levels())?;
     Ok(walk.shown)
 }
 

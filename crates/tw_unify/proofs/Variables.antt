@@ -1,22 +1,27 @@
 -- The types of variables and constants, and of what a type takes.
-use Rattle.std.proofs.Common.{◌≡◌, ℕ, zero, suc, ◌<◌, List, [], ◌∷◌, ◌++◌, length, Some, None, refl, sym, ap, ◌∙◌, subst, arith}
+use Rattle.std.proofs.Common.{◌≡◌, ℕ, zero, suc, ◌<◌, List, [], ◌∷◌, ◌++◌, length, Some, None, inl, inr, refl, sym, ap, ◌∙◌, subst, arith}
 use Rattle.std.specs.List.{slice_get}
 use mathlib.Core.Path.{fun_ext}
 use Rattle.lf.specs.AtOnce.{shift_by}
+use Rattle.lf.specs.Depth.{type_depth}
 use Rattle.lf.specs.SkeletonTyping.{HeadSkeleton, HeadSkeletons, SkeletonAt, SpineSkeleton, TermSkeleton}
 use Rattle.lf.specs.Skeletons.{family_skeletons, type_skeleton}
+use Rattle.lf.specs.Subordination.{Member}
+use Rattle.lf.specs.Substitution.{reduce, single}
 use Rattle.lf.specs.Syntax.{Head, LfType, Skeleton, Spine, Term, app, atom, base, constant, metavariable, nil, pi, rename_type, root, skeleton, variable, weaken}
 use Rattle.lf.specs.Typing.{IsSignature, Signature, TypeAt, instantiate_type}
 use Rattle.lf.specs.Variables.{onto}
-use Rattle.lf.proofs.TypeLaws.{renamings_compose_type}
+use Rattle.lf.proofs.TypeLaws.{renamings_compose_type, skeleton_substituted}
 use Rattle.lf_unification.specs.Lists.{followed}
 use Rattle.lf_unification.specs.Offering.{argument_equations}
 use Rattle.lf_unification.specs.Unifiers.{Equation}
 use Rattle.lf_unification.specs.Patterns.{local_skeletons}
 use Rattle.lf_unification.specs.Putting.{IsRigidHead}
-use Rattle.tw_putting.specs.Domains.{TakesArguments, domains}
+use Rattle.tw_unify.specs.declared.fault.UnifyFault.{UnifyFault}
+use Rattle.tw_unify.specs.declared.fault.UnifyFault.TheVariants.{NoMemory, TooDeep}
+use Rattle.tw_putting.specs.Domains.{AnyDeep, TakesArguments, domains, most_levels}
 use Rattle.tw_putting.specs.Fits.{declared_skeletons}
-use Rattle.tw_unify.specs.Rigid.{AreAlike, ArgumentsFit, Decomposes, HasArguments, HasFunction, HasHead, HeadFits, IsRoot, LeftFits, RigidHeadHasType, equations_of}
+use Rattle.tw_unify.specs.Rigid.{AreAlike, ArgumentsFit, BlamesArguments, Decomposes, HasArguments, HasFunction, HasHead, HeadFits, IsRoot, LeftFits, RigidHeadHasType, equations_of}
 use Rattle.tw_unify.proofs.Orders.{followed_nothing}
 use Rattle.tw_putting.proofs.Skeletons.{head_once, head_skeleton, rigid_by_skeletons}
 
@@ -171,21 +176,53 @@ variable_below [] i B e = absurd cc
 variable_below (A ∷ D) zero B e = omega arith
 variable_below (A ∷ D) (suc i) B e = let l : i < length D = variable_below D i B e in omega arith
 
+-- the skeleton of the head's type takes the arguments of the left side
+left_arguments : (Σ : Signature) (ok : IsSignature Σ) (e : Equation) (A : LfType) (f : LeftFits Σ e) (g : HasFunction Σ e A) → SpineSkeleton (declared_skeletons Σ f.declared) (local_skeletons e.local []) g.left (skeleton A) (base g.family)
+left_arguments Σ ok e A f g =
+    let κ = declared_skeletons Σ f.declared in
+    let Γ = local_skeletons e.local [] in
+    let typed : TermSkeleton κ Γ (root g.head g.left) (skeleton (atom g.family g.indices)) = subst (λ X. TermSkeleton κ Γ (root g.head g.left) (skeleton X)) g.type_is (subst (λ M. TermSkeleton κ Γ M (skeleton e.of_type)) g.left_is f.left_typed) in
+    let at : typed.0 ≡ skeleton A = head_once Σ f.declared ok Γ g.head typed.0 (skeleton A) typed.1 (head_skeleton Σ f.declared ok (λ β. Unit {0}) e.local g.head A (g.typed.1 f.declared)) in
+    subst (λ t. SpineSkeleton κ Γ g.left t (base g.family)) at typed.2
+
+-- and those of the right side
+pub right_arguments : (Σ : Signature) (ok : IsSignature Σ) (e : Equation) (A : LfType) (f : LeftFits Σ e) (g : HasFunction Σ e A) → TermSkeleton (declared_skeletons Σ f.declared) (local_skeletons e.local []) e.right (skeleton e.of_type) → SpineSkeleton (declared_skeletons Σ f.declared) (local_skeletons e.local []) g.left (skeleton A) (base g.family) × SpineSkeleton (declared_skeletons Σ f.declared) (local_skeletons e.local []) g.right (skeleton A) (base g.family)
+right_arguments Σ ok e A f g r = (
+  left_arguments Σ ok e A f g,
+  left_arguments Σ ok (record { local = e.local; left = e.right; right = e.left; of_type = e.of_type }) A (record { declared = f.declared; locals = f.locals; left_typed = r })
+      (record { head = g.head; left = g.right; right = g.left; family = g.family; indices = g.indices; typed = g.typed; left_is = g.right_is; right_is = g.left_is; type_is = g.type_is }),
+)
+
 -- the arguments of the left side fit the type of its head
 pub arguments_fit : (Σ : Signature) (ok : IsSignature Σ) (e : Equation) (A : LfType) (S : Spine) → LeftFits Σ e → HasFunction Σ e A → HasArguments e.left S → ArgumentsFit e.local A S
 arguments_fit Σ ok e A S f g (k, is) =
     let κ = declared_skeletons Σ f.declared in
     let Γ = local_skeletons e.local [] in
     let same : g.left ≡ S = root_arguments e.left g.head k g.left S g.left_is is in
-    let typed : TermSkeleton κ Γ (root g.head g.left) (skeleton (atom g.family g.indices)) = subst (λ X. TermSkeleton κ Γ (root g.head g.left) (skeleton X)) g.type_is (subst (λ M. TermSkeleton κ Γ M (skeleton e.of_type)) g.left_is f.left_typed) in
-    let at : typed.0 ≡ skeleton A = head_once Σ f.declared ok Γ g.head typed.0 (skeleton A) typed.1 (head_skeleton Σ f.declared ok (λ β. Unit {0}) e.local g.head A (g.typed.1 f.declared)) in
     record {
       signature = Σ;
       declared = f.declared;
       result = base g.family;
       type_typed = rigid_by_skeletons Σ f.declared ok (λ β. Unit {0}) e.local g.head A g.typed.0 f.locals (g.typed.1 f.declared);
-      spine_typed = subst (λ T. SpineSkeleton κ Γ T (skeleton A) (base g.family)) same (subst (λ t. SpineSkeleton κ Γ g.left t (base g.family)) at typed.2);
+      spine_typed = subst (λ T. SpineSkeleton κ Γ T (skeleton A) (base g.family)) same (left_arguments Σ ok e A f g);
     }
+
+-- Where the type of an argument is deep, so is that of its equation: each argument of the left side has one on the right.
+pub deep_argument : (κ : HeadSkeletons) (Γ : List Skeleton) (D : List LfType) (k c : ℕ) (fs : List Equation) (A : LfType) (S T : Spine) → SpineSkeleton κ Γ S (skeleton A) (base c) → SpineSkeleton κ Γ T (skeleton A) (base c) → AnyDeep k (domains A S) →
+    (x : Equation) × Member x (followed (argument_equations D A S T) fs) × (k < type_depth x.of_type)
+deep_argument κ Γ D k c fs (pi A B) (app M S) (app N T) (m, s) (n, t) (inl d) = (record { local = D; left = M; right = N; of_type = A }, inl refl, d)
+deep_argument κ Γ D k c fs (pi A B) (app M S) (app N T) (m, s) (n, t) (inr d) =
+    let e = sym (skeleton_substituted reduce (single (skeleton A) M) B) in
+    let (x, i, h) = deep_argument κ Γ D k c fs (instantiate_type A M B) S T (subst (λ a. SpineSkeleton κ Γ S a (base c)) e s) (subst (λ a. SpineSkeleton κ Γ T a (base c)) e t) d in
+    (x, inr i, h)
+deep_argument κ Γ D k c fs (pi A B) (app M S) nil s t d = absurd cc
+deep_argument κ Γ D k c fs (pi A B) nil T s t d = absurd d
+deep_argument κ Γ D k c fs (atom a I) S T s t d = absurd d
+
+-- a fault of reading the types of the arguments off
+pub blames_arguments : (Σ : Signature) (e : Equation) (A : LfType) (S : Spine) (f : UnifyFault) → HasFunction Σ e A → HasArguments e.left S → (f ≡ TooDeep → AnyDeep most_levels (domains A S)) → BlamesArguments f Σ e
+blames_arguments Σ e A S TooDeep g (k, is) d = (A, g, subst (λ X. AnyDeep most_levels (domains A X)) (sym (root_arguments e.left g.head k g.left S g.left_is is)) (d refl))
+blames_arguments Σ e A S NoMemory g h d = tt
 
 pub decomposed : (Σ : Signature) (e : Equation) (A : LfType) (S T : Spine) (args old new : List Equation) → HasFunction Σ e A → HasArguments e.left S → HasArguments e.right T → args ≡ argument_equations e.local A S T → new ≡ followed args old → Decomposes Σ e old new
 decomposed Σ e A S T args old new g (h, l) (k, r) a n = record {

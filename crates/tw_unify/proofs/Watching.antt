@@ -1,5 +1,5 @@
 -- What is known of the postponed equations, while metavariables are bound and equations come and go.
-use Rattle.std.proofs.Common.{◌≡◌, ℕ, zero, suc, ◌+◌, ◌<◌, ◌≤◌, List, [], ◌∷◌, ◌++◌, length, map, take, get_or, true, false, Option, Some, None, ◌⊎◌, inl, inr, refl, sym, ap, ◌∙◌, subst, arith}
+use Rattle.std.proofs.Common.{Box, Global, ◌≡◌, ℕ, zero, suc, ◌+◌, ◌<◌, ◌≤◌, List, [], ◌∷◌, ◌++◌, length, map, take, get_or, true, false, Option, Some, None, ◌⊎◌, inl, inr, refl, sym, ap, ◌∙◌, subst, arith}
 use Rattle.std.specs.Prelude.{nat_eq, if◌then◌else◌, replicate, slice_get, slice_set}
 use Rattle.std.specs.HashMap.{HashMap, IsEmpty, get}
 use Rattle.std.specs.List.{remove}
@@ -24,7 +24,7 @@ use Rattle.lf_unification.proofs.Putting.{put_some, some_within}
 use Rattle.lf_unification.proofs.Scope.{in_weaker}
 use Rattle.lf_unification.proofs.Waking.{left_over_stays}
 use Rattle.tw_metas.specs.State.{State, with_equation, without_equation}
-use Rattle.tw_metas.specs.View.{equation_of}
+use Rattle.tw_metas.specs.View.{kept_equation_of}
 use Rattle.tw_metas.specs.declared.equation.Equation.{Equation as RustEquation}
 use Rattle.tw_terms.specs.declared.canonical.MetaId.{MetaId}
 use Rattle.tw_putting.specs.Ready.{AllScoped, IsReady}
@@ -307,10 +307,10 @@ scoped_alone s given r = record {
 }
 
 -- a place of a list of equations
-pub length_told : (items : List RustEquation) (es : List Equation) → map equation_of items ≡ es → length items ≡ length es
-length_told items es is = sym (length-map items equation_of) ∙ ap length is
+pub length_told : (items : List (Box RustEquation Global)) (es : List Equation) → map kept_equation_of items ≡ es → length items ≡ length es
+length_told items es is = sym (length-map items kept_equation_of) ∙ ap length is
 
-pub same_count : (o : Option ℕ) (items : List RustEquation) (es : List Equation) (os : List (Option ℕ)) → map equation_of items ≡ es → os ≡ replicate (length items) o → os ≡ replicate (length es) o
+pub same_count : (o : Option ℕ) (items : List (Box RustEquation Global)) (es : List Equation) (os : List (Option ℕ)) → map kept_equation_of items ≡ es → os ≡ replicate (length items) o → os ≡ replicate (length es) o
 same_count o items es os is h = h ∙ ap (λ n. replicate n o) (length_told items es is)
 
 pub nothing_bound : {S : Type 0} (m : HashMap ℕ ℕ S) → IsEmpty m → (k : ℕ) → get nat_eq m k ≡ None
@@ -336,7 +336,7 @@ from_nought None P Q f = f refl
 from_nought (Some x) P Q q = q
 
 -- a place among them
-pub here_in : (items : List RustEquation) (es : List Equation) (i : ℕ) → map equation_of items ≡ es → i < length items → i < length es
+pub here_in : (items : List (Box RustEquation Global)) (es : List Equation) (i : ℕ) → map kept_equation_of items ≡ es → i < length items → i < length es
 here_in items es i is h = subst (λ n. i < n) (length_told items es is) h
 
 pub member_at : (es : List Equation) (i : ℕ) (e : Equation) → slice_get es i ≡ Some e → Member e es
@@ -344,14 +344,14 @@ member_at [] i e h = absurd cc
 member_at (x ∷ es) zero e h = inl (let q : Some x ≡ Some e = h in cc)
 member_at (x ∷ es) (suc i) e h = inr (member_at es i e h)
 
-take_past : (items : List RustEquation) (n : ℕ) → length items ≤ n → take n items ≡ items
+take_past : (items : List (Box RustEquation Global)) (n : ℕ) → length items ≤ n → take n items ≡ items
 take_past [] zero h = refl
 take_past [] (suc n) h = refl
 take_past (x ∷ items) zero h = absurd (omega (arith, h))
 take_past (x ∷ items) (suc n) h = ap (λ xs. x ∷ xs) (take_past items n (omega (arith, h)))
 
-pub all_taken : (s : State) (items : List RustEquation) (es : List Equation) (n : ℕ) → map equation_of items ≡ es → length items ≤ n → AllLeft s (map equation_of (take n items)) → AllLeft s es
-all_taken s items es n is h a = subst (AllLeft s) is (subst (λ xs. AllLeft s (map equation_of xs)) (take_past items n h) a)
+pub all_taken : (s : State) (items : List (Box RustEquation Global)) (es : List Equation) (n : ℕ) → map kept_equation_of items ≡ es → length items ≤ n → AllLeft s (map kept_equation_of (take n items)) → AllLeft s es
+all_taken s items es n is h a = subst (AllLeft s) is (subst (λ xs. AllLeft s (map kept_equation_of xs)) (take_past items n h) a)
 
 -- what comes of an equation that is not refuted
 pub not_refuted : (a : Advance) (Σ : Signature) (s t : Store) → (a ≡ Refuted → ⊥) → Advances a Σ s t → ReachedRun Σ s t

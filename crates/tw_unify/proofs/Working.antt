@@ -1,9 +1,10 @@
 -- The work at one equation, as steps of unification.
-use Rattle.std.proofs.Common.{◌≡◌, ℕ, List, [], ◌∷◌, inl, inr, refl, sym, ap, ◌∙◌, subst}
+use Rattle.std.proofs.Common.{◌≡◌, ℕ, ◌<◌, List, [], ◌∷◌, inl, inr, refl, sym, ap, ◌∙◌, subst, arith}
 use Rattle.lf.specs.SkeletonTyping.{HeadSkeletons, TermSkeleton}
-use Rattle.lf.specs.Depth.{depth_limit}
+use Rattle.lf.specs.Depth.{depth_limit, type_depth}
+use Rattle.lf.specs.Subordination.{Member}
 use Rattle.lf.specs.Syntax.{Head, LfType, Skeleton, Spine, Term, arrow, atom, base, constant, lambda, metavariable, pi, root, skeleton, variable}
-use Rattle.lf.specs.Typing.{Signature}
+use Rattle.lf.specs.Typing.{IsSignature, Signature}
 use Rattle.lf_unification.specs.Lists.{followed}
 use Rattle.lf_unification.specs.Offering.{argument_equations}
 use Rattle.lf_unification.specs.Outside.{IsLambda}
@@ -15,6 +16,7 @@ use Rattle.lf_unification.specs.Steps.{constant_or_variable, constants_differ, e
 use Rattle.lf_unification.specs.Unifiers.{Equation, Store, on_left, on_right}
 use Rattle.lf_unification.proofs.Putting.{put_some, put_unbound}
 use Rattle.tw_metas.specs.State.{State}
+use Rattle.tw_putting.specs.Domains.{most_levels}
 use Rattle.tw_putting.specs.Fits.{declared_skeletons}
 use Rattle.tw_putting.specs.Stores.{PutsDeepType, bindings_of, types_of}
 use Rattle.tw_putting.specs.Unfolding.{HeadStays}
@@ -22,7 +24,7 @@ use Rattle.tw_unify.specs.Flexible.{AllowsMove, BlamesReached, BothHeadsFit, Fle
 use Rattle.tw_unify.specs.Moving.{HeadsFit, SidesFit}
 use Rattle.tw_unify.specs.Outcomes.{Advances, CanRefute, Explains}
 use Rattle.tw_putting.specs.Ready.{IsReady}
-use Rattle.tw_unify.specs.Rigid.{AreLambdas, Decomposes, IsPi, LeftFits, Opens}
+use Rattle.tw_unify.specs.Rigid.{AreLambdas, BlamesArguments, Decomposes, IsPi, LeftFits, Opens}
 use Rattle.tw_unify.specs.Sides.{BecomeApart, BlamesDepth, BlamesSide, BlamesUnfolding, EquationFits, HaveShape, HeadsStay, IsFlexibleEquation, PutsAll, PutsBoth, RootsHaveShape, SidesUnbound, UnfoldsBoth, with_sides}
 use Rattle.tw_putting.specs.Whole.{IsConsistent, whole}
 use Rattle.tw_unify.specs.declared.fault.UnifyFault.{UnifyFault}
@@ -34,6 +36,7 @@ use Rattle.tw_unify.specs.declared.work.Advance.TheVariants.{Bound, Postponed, R
 use Rattle.tw_unify.proofs.Orders.{both_reached, both_runs, one_step}
 use Rattle.tw_putting.proofs.Readiness.{ready_scoped}
 use Rattle.tw_unify.proofs.Fitting.{deep_sides, ready_first}
+use Rattle.tw_unify.proofs.Variables.{decomposed, deep_argument, right_arguments}
 
 module _ (Σ : Signature) (s : State) where
   abbrev first_is : List Equation → Equation → Store
@@ -203,6 +206,24 @@ module _ (Σ : Signature) (s : State) where
   deep_type_of : (es : List Equation) (A : LfType) → PutsDeepType s 0 A → IsDeepType (whole es s) depth_limit 0 A
   deep_type_of es (pi A B) (A', d, h) = inl (inr (A', d, h))
   deep_type_of es (atom a S) (A', d, h) = inl (inr (A', d, h))
+
+  deep_written : (t : Store) (k : ℕ) (A : LfType) → depth_limit < type_depth A → IsDeepType t depth_limit k A
+  deep_written t k (pi A B) h = inl (inl h)
+  deep_written t k (atom a S) h = inl (inl h)
+
+  -- so is the type of an argument, which is that of an equation of the arguments
+  pub explains_arguments : (ok : IsSignature Σ) (f : UnifyFault) (e : Equation) (es : List Equation) → IsReady Σ (e ∷ es) s → BlamesArguments f Σ e → Explains f Σ (whole (e ∷ es) s)
+  explains_arguments ok TooDeep e es r (A, g, d) =
+      let fits = ready_first Σ e es s r in
+      let args = argument_equations e.local A g.left g.right in
+      let (l, t) = right_arguments Σ ok e A (record { declared = types_of s; locals = fits.locals; left_typed = fits.left_typed }) g fits.right_typed in
+      let (x, i, h) = deep_argument (declared_skeletons Σ (types_of s)) (local_skeletons e.local []) e.local most_levels g.family (followed es s.equations) A g.left g.right l t d in
+      record {
+        reached = whole (followed args es) s;
+        run = (decomposes_runs e es (followed args es) (decomposed Σ e A g.left g.right args es (followed args es) g (g.head, g.left_is) (g.head, g.right_is) refl refl)).run;
+        deep = deep_equation x (subst (Member x) (sym (followed_over args es s.equations)) i) (inr (inr (inl (deep_written (whole (followed args es) s) (binders x.local) x.of_type (omega arith)))));
+      }
+  explains_arguments ok NoMemory e es r b = tt
 
   -- so is the type of a metavariable that is reached from its sides
   pub explains_reached : (f : UnifyFault) (e : Equation) (es : List Equation) → BlamesReached f s e.left e.right → Explains f Σ (whole (e ∷ es) s)

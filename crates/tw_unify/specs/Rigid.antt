@@ -11,9 +11,12 @@ use Rattle.lf_unification.specs.Outside.{IsLambda}
 use Rattle.lf_unification.specs.Patterns.{local_skeletons}
 use Rattle.lf_unification.specs.Putting.{IsRigidHead}
 use Rattle.lf_unification.specs.Unifiers.{Equation}
+use Rattle.tw_putting.specs.Domains.{AnyDeep, domains, most_levels}
 use Rattle.tw_putting.specs.Fits.{declared_skeletons}
 use Rattle.tw_putting.specs.Ready.{LocalsBySkeletons}
 use Rattle.tw_unify.specs.Sides.{RootsHaveShape}
+use Rattle.tw_unify.specs.declared.fault.UnifyFault.{UnifyFault}
+use Rattle.tw_unify.specs.declared.fault.UnifyFault.TheVariants.{TooDeep, NoMemory}
 use Rattle.tw_unify.specs.declared.sides.Shape.TheVariants as shape
 
 -- the head is a constant or variable of this type
@@ -96,6 +99,11 @@ pub record HasFunction (Σ : Signature) (e : Equation) (A : LfType) : Type 0 whe
   pub left_is : e.left ≡ root head left
   pub right_is : e.right ≡ root head right
   pub type_is : e.of_type ≡ atom family indices
+
+-- the type of an argument of the left side is too deep
+abbrev pub BlamesArguments : UnifyFault → Signature → Equation → Type 0
+BlamesArguments TooDeep Σ e = (A : LfType) × (f : HasFunction Σ e A) × AnyDeep most_levels (domains A f.left)
+BlamesArguments NoMemory Σ e = Unit {0}
 
 -- the equation e of two roots with one rigid head, in front of `old`, is replaced by those of the arguments
 pub record Decomposes (Σ : Signature) (e : Equation) (old new : List Equation) : Type 0 where

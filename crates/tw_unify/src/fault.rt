@@ -3,7 +3,7 @@ ghost use Rattle.std.specs.Prelude.{◌≡◌};
 ghost use Rattle.tw_unify.specs.Faults.{fault_of};
 ghost use Rattle.tw_unify.specs.declared.fault.UnifyFault.TheVariants.{NoMemory};
 
-use std::alloc::AllocError;
+use std::alloc::{AllocError, AllocFailed};
 use thiserror::Error;
 use tw_putting::HeredFault;
 
@@ -22,6 +22,16 @@ impl From<AllocError> for UnifyFault {
     ghost from_gives = { λ _ e. e ≡ NoMemory };
 
     fn from(_error: AllocError) -> UnifyFault {
+        UnifyFault::NoMemory
+    }
+}
+
+impl<T: Drop> From<AllocFailed<T>> for UnifyFault {
+    ghost use Rattle.tw_unify.specs.declared.fault.UnifyFault.TheVariants.{NoMemory};
+
+    ghost from_gives = { λ _ e. e ≡ NoMemory };
+
+    fn from(_: AllocFailed<T>) -> UnifyFault {
         UnifyFault::NoMemory
     }
 }

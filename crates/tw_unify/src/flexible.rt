@@ -118,7 +118,7 @@ pub fn do_flexible(
             Ok(Advance::Bound(meta))
         }
         Next::Outside => {
-            store.postpone(equation)?;
+            store.postpone(alloc, equation)?;
             Ok(Advance::Postponed)
         }
     }

@@ -1,14 +1,16 @@
 //! Equations between two lambdas, and between two roots with one constant or variable as their heads.
-ghost use Rattle.std.specs.Prelude.{◌≡◌, IfOk, OnOk, map};
+ghost use Rattle.std.specs.Prelude.{◌≡◌, IfOk, IsErrOf, MatchResult, OnOk, map};
 ghost use Rattle.lf.specs.Entries.{signature_of, IsCanonicalSignature};
 ghost use Rattle.lf.specs.Syntax.{lambda as lambda_of, pi as pi_of};
 ghost use Rattle.lf_unification.specs.Offering.{argument_equations as equations_of_arguments};
 ghost use Rattle.lf_unification.specs.Outside.{IsLambda};
 ghost use Rattle.tw_terms.specs.OpenView.{open_head_of, open_term_of, open_spine_of, open_type_of};
 ghost use Rattle.tw_metas.specs.View.{equation_of};
+ghost use Rattle.tw_putting.specs.Domains.{AnyDeep, domains as domains_of, most_levels};
 ghost use Rattle.tw_unify.specs.Outcomes.{stacked};
-ghost use Rattle.tw_unify.specs.Rigid.{AreAlike, AreLambdas, ArgumentsFit, Decomposes, HasArguments, HasHead, IsPi, IsRoot, LeftFits, Opens};
+ghost use Rattle.tw_unify.specs.Rigid.{AreAlike, AreLambdas, ArgumentsFit, BlamesArguments, Decomposes, HasArguments, HasHead, IsPi, IsRoot, LeftFits, Opens};
 
+use crate::fault::UnifyFault;
 use crate::heads::head_type;
 use crate::work::put_on_top;
 use std::alloc::{AllocError, Global};
@@ -61,17 +63,18 @@ fn domain_and_range(ty: OpenTy) -> (OpenTy, OpenTy)
     }
 }
 
-/// Puts the equations of the arguments in the place of an equation between two roots with the same constant or variable as their heads.
+/// Puts the equations of the arguments in the place of an equation between two roots with the same constant or variable as their heads. Answers `TooDeep` only where the type of one of
+/// these equations is deeper than 8,500.
 pub fn decompose(
     alloc: Global,
     signature: &Signature,
     work: &mut Vec<Equation>,
     equation: Equation,
-) -> Result<(), AllocError>
+) -> Result<(), UnifyFault>
     requires canonical { IsCanonicalSignature signature.now }
     requires fits { LeftFits (signature_of signature.now) (equation_of equation) }
     requires alike { AreAlike (equation_of equation) }
-    ensures { OnOk result (Decomposes (signature_of signature.now) (equation_of equation) (stacked work.old.items) (stacked work.new.items)) }
+    ensures { MatchResult result (λ _. Decomposes (signature_of signature.now) (equation_of equation) (stacked work.old.items) (stacked work.new.items)) (λ f. BlamesArguments f (signature_of signature.now) (equation_of equation)) }
 {
     let head = head_of(&equation.left);
     let function = head_type(alloc, signature, &equation.context, head)?;
@@ -84,7 +87,8 @@ pub fn decompose(
     let left = arguments_of(left);
     let right = arguments_of(right);
     let arguments = argument_equations(alloc, &context, &function, left, right)?;
-    put_on_top(work, arguments)
+    put_on_top(work, arguments)?;
+    Ok(())
 }
 
 /// The head of a root.
@@ -109,20 +113,20 @@ fn arguments_of(side: Open) -> OpenSpine
     }
 }
 
-/// The equations of the arguments of two spines that the type takes, in order. They share the context, and the type goes along them in an environment.
+/// The equations of the arguments of two spines that the type takes, in order. They share the context, and the type goes along them in an environment. Answers `TooDeep` only where the type
+/// of an argument is deeper than 8,500.
 fn argument_equations(
     alloc: Global,
     context: &OpenContext,
     ty: &OpenTy,
     left: OpenSpine,
     right: OpenSpine,
-) -> Result<Vec<Equation>, AllocError>
+) -> Result<Vec<Equation>, UnifyFault>
     requires { ArgumentsFit context.now (open_type_of ty.now) (open_spine_of left) }
-    ensures { IfOk result (λ v. map equation_of v.items ≡ equations_of_arguments context.now (open_type_of ty.now) (open_spine_of left) (open_spine_of right)) }
+    ensures ok { IfOk result (λ v. map equation_of v.items ≡ equations_of_arguments context.now (open_type_of ty.now) (open_spine_of left) (open_spine_of right)) }
+    ensures too_deep { IsErrOf result UnifyFault.TooDeep → AnyDeep most_levels (domains_of (open_type_of ty.now) (open_spine_of left)) }
 {
-    let Ok(mut types) = domains(alloc, ty, &left.args) else {
-        return Err(AllocError);
-    };
+    let mut types = domains(alloc, ty, &left.args)?;
     types.reverse();
     let mut lefts = left.args;
     lefts.reverse();

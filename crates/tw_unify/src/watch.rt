@@ -29,7 +29,7 @@ impl Watch {
     /// Nothing was bound yet, and the same is known of each of the equations.
     pub fn new(
         alloc: Global,
-        equations: &[Equation],
+        equations: &[Box<Equation>],
         found: Option<u64>,
     ) -> Result<Watch, AllocError>
         ensures found { IfOk result (λ w. w.found.items ≡ replicate (length equations.now) found) }

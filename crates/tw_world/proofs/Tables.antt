@@ -1,6 +1,6 @@
 -- The table of a local context.
 use Rattle.std.proofs.Common.{◌≡◌, ◌↔◌, ℕ, zero, suc, ◌+◌, ◌-◌, ◌<◌, ◌≤◌, List, [], ◌∷◌, ◌++◌, length, drop, take, set, length-append, refl, sym, ap, ap₂, ◌∙◌, subst, arith, inl, inr}
-use Rattle.std.specs.Prelude.{Bool, true, false, Some, None, ◌⊎◌, cond, slice_get}
+use Rattle.std.specs.Prelude.{Bool, true, false, Some, None, ◌⊎◌, Result, Ok, Err, IfOk, cond, slice_get}
 use Rattle.lf.specs.Subordination.{Block, Member}
 use Rattle.lf.specs.Substitution.{Image}
 use Rattle.lf.specs.Syntax.{LfType, pi, atom}
@@ -8,7 +8,8 @@ use Rattle.lf.specs.Typing.{Signature, TypeAt, IsType, IsContext}
 use Rattle.lf.specs.Variables.{binders, onto, same_number, Values, everything}
 use Rattle.lf.specs.Worlds.{instance}
 use Rattle.lf_checks.specs.Worlded.{IsSequence, no_instance, next_instance, IsStrictBlock, IsTerm}
-use Rattle.tw_world.specs.Sequences.{Adds, Extends, Stands, TableAt, first_said, none_said, says}
+use Rattle.tw_hered.specs.declared.fault.HeredFault.{HeredFault}
+use Rattle.tw_world.specs.Sequences.{Adds, Extends, OpenAt, SequenceGoesDeep, Stands, StandsDeep, TableAt, first_said, none_said, says}
 use Rattle.tw_world.proofs.Joining.{drop_first}
 use Rattle.lf.proofs.Checker.{number_is}
 use Rattle.tw_clause.proofs.Marking.{same_not, same_self}
@@ -80,14 +81,20 @@ first_is n k e = by (said_behind (none_said n) true k e)
     by (inl q) = q ∙ none_length n
     by (inr q) = absurd (none_true n k q)
 
-pub first_table_stands : (Σ : Signature) (W : List Block) (C D : List LfType) (t : List Bool) → t ≡ first_said (length D) → TableAt Σ W [] C D (length D) t
-first_table_stands Σ W C D t e = record {
+pub first_table_stands : (Σ : Signature) (W : List Block) (C D : List LfType) (t o : List Bool) → t ≡ first_said (length D) → o ≡ none_said (suc (length D)) → TableAt Σ W [] C D (length D) t o
+first_table_stands Σ W C D t o e f = record {
   size = ap length e ∙ (let a = length-append (none_said (length D)) (true ∷ []) in let b = none_length (length D) in let q : length (first_said (length D)) ≡ suc (length D) = omega (arith, a, b) in q);
+  deep_size = ap length f ∙ none_length (suc (length D));
   start = ap (λ x. says x (length D)) e ∙ ap (says (first_said (length D))) (sym (none_length (length D))) ∙ said_first (none_said (length D)) true;
   sound = λ k s. subst (IsSequence Σ W C) (sym (drop_all D k (let q = first_is (length D) k (ap (λ x. says x k) (sym e) ∙ s) in omega (arith, q)))) no_instance;
+  deep = λ k s. absurd (none_deep k s);
+  settled = λ k l s. absurd (none_deep k s);
   complete = λ k B m w h s st. absurd (never k B w h);
 }
   where
+    none_deep : (k : ℕ) → says o k ≡ true → ⊥
+    none_deep k s = none_true (suc (length D)) k (ap (λ x. says x k) (sym f) ∙ s)
+
     never : (k : ℕ) (B : Block) → (length D < k) ⊎ ((k ≡ length D) × Member B []) → k ≤ length D → ⊥
     never k B (inl l) h = omega (arith, l, h)
     never k B (inr (q, m)) h = m
@@ -116,45 +123,102 @@ one_more_sequence Σ W C D k B m h st s =
     let (θ, v, e) = st.is_instance in
     subst (IsSequence Σ W C) (ap (λ X. onto X (drop k D)) e ∙ sym (joined D (length B.entries) k st.within h)) (next_instance B θ s m st.strict v.typed v.terms)
 
-pub adds : (Σ : Signature) (B : Block) (G D : List LfType) (left : ℕ) (old new : List Bool) → left ≤ length D → length new ≡ length old → ((k : ℕ) → says new k ≡ cond (same_number k (left - length B.entries)) true (says old k)) → Stands Σ G D left B → Adds Σ B G D left old new
-adds Σ B G D left old new h l q st W V C m g s t = record {
-  size = l ∙ t.size;
-  start = still_said old new place q (length D) t.start;
+-- What is known of a block that has an instance where the k newest types end.
+abbrev IsKnown : Signature → List LfType → List LfType → List Bool → List Bool → ℕ → Block → Type 0
+IsKnown Σ C D t o k F = (says t (k - length F.entries) ≡ true) ⊎ (StandsDeep Σ (onto (drop k D) C) D k F × (says o (k - length F.entries) ≡ true))
+
+more_known : (Σ : Signature) (C D : List LfType) (t o new more : List Bool) → ((k : ℕ) → says t k ≡ true → says new k ≡ true) → ((k : ℕ) → says o k ≡ true → says more k ≡ true) → (k : ℕ) (F : Block) → IsKnown Σ C D t o k F → IsKnown Σ C D new more k F
+more_known Σ C D t o new more f g k F (inl e) = inl (f (k - length F.entries) e)
+more_known Σ C D t o new more f g k F (inr (d, e)) = inr (d, g (k - length F.entries) e)
+
+-- a place that was marked is no other one
+not_marked : (old new : List Bool) (p k : ℕ) → ((k : ℕ) → says new k ≡ cond (same_number k p) true (says old k)) → p < k → says new k ≡ true → says old k ≡ true
+not_marked old new p k q h e = ap (λ b. cond b true (says old k)) (sym (same_not k p (λ r. omega (arith, r, h)))) ∙ sym (q k) ∙ e
+
+pub adds : (Σ : Signature) (B : Block) (G D : List LfType) (left : ℕ) (t o new : List Bool) → left ≤ length D → length new ≡ length t → ((k : ℕ) → says new k ≡ cond (same_number k (left - length B.entries)) true (says t k)) → Stands Σ G D left B → Adds Σ B G D left t o new o
+adds Σ B G D left t o new h l q st W V C m g s a = record {
+  size = l ∙ a.size;
+  deep_size = a.deep_size;
+  start = still_said t new place q (length D) a.start;
   sound = λ k e. sound_at k (same_number k place) refl (sym (q k) ∙ e);
+  deep = a.deep;
+  settled = λ k w e. still_said t new place q k (a.settled k w e);
   complete = λ k F n w b e f. complete_at k F n w b e f;
 }
   where
     place : ℕ
     place = left - length B.entries
 
+    before_left : place < left
+    before_left = let x = st.entries in let y = st.within in let d : place ≡ left - length B.entries = refl in omega (arith, x, y, d)
+
     st' : Stands Σ (onto (drop left D) C) D left B
     st' = subst (λ X. Stands Σ X D left B) g st
 
-    sound_at : (k : ℕ) (b : Bool) → same_number k place ≡ b → cond (same_number k place) true (says old k) ≡ true → IsSequence Σ W C (drop k D)
-    sound_at k true e c = subst (λ n. IsSequence Σ W C (drop n D)) (sym (number_is k place e)) (one_more_sequence Σ W C D left B m h st' (t.sound left s))
-    sound_at k false e c = t.sound k (ap (λ b. cond b true (says old k)) (sym e) ∙ c)
+    sound_at : (k : ℕ) (b : Bool) → same_number k place ≡ b → cond (same_number k place) true (says t k) ≡ true → IsSequence Σ W C (drop k D)
+    sound_at k true e c = subst (λ n. IsSequence Σ W C (drop n D)) (sym (number_is k place e)) (one_more_sequence Σ W C D left B m h st' (a.sound left s))
+    sound_at k false e c = a.sound k (ap (λ b. cond b true (says t k)) (sym e) ∙ c)
 
-    before : (k : ℕ) → left ≤ k → says new k ≡ true → says old k ≡ true
-    before k w e = ap (λ b. cond b true (says old k)) (sym (same_not k place (λ r. let a = st.entries in let b = st.within in let d : place ≡ left - length B.entries = refl in omega (arith, r, a, b, w, d)))) ∙ sym (q k) ∙ e
+    before : (k : ℕ) → left ≤ k → says new k ≡ true → says t k ≡ true
+    before k w e = not_marked t new place k q (let x = before_left in omega (arith, w, x)) e
 
-    complete_at : (k : ℕ) (F : Block) → Member F W → (left < k) ⊎ ((k ≡ left) × Member F (B ∷ V)) → k ≤ length D → says new k ≡ true → Stands Σ (onto (drop k D) C) D k F → says new (k - length F.entries) ≡ true
-    complete_at k F n (inl w) b e f = still_said old new place q (k - length F.entries) (t.complete k F n (inl w) b (before k (omega (arith, w)) e) f)
-    complete_at k F n (inr (r, inr v)) b e f = still_said old new place q (k - length F.entries) (t.complete k F n (inr (r, v)) b (before k (omega (arith, r)) e) f)
+    known : (k : ℕ) (F : Block) → IsKnown Σ C D t o k F → IsKnown Σ C D new o k F
+    known = more_known Σ C D t o new o (still_said t new place q) (λ k e. e)
+
+    complete_at : (k : ℕ) (F : Block) → Member F W → (left < k) ⊎ ((k ≡ left) × Member F (B ∷ V)) → k ≤ length D → says new k ≡ true → Stands Σ (onto (drop k D) C) D k F → IsKnown Σ C D new o k F
+    complete_at k F n (inl w) b e f = known k F (a.complete k F n (inl w) b (before k (omega (arith, w)) e) f)
+    complete_at k F n (inr (r, inr v)) b e f = known k F (a.complete k F n (inr (r, v)) b (before k (omega (arith, r)) e) f)
     complete_at k F n (inr (r, inl v)) b e f =
         let p : k - length F.entries ≡ place = ap₂ (λ i X. i - length X.entries) r v in
-        ap (says new) p ∙ q place ∙ ap (λ x. cond x true (says old place)) (same_self place)
+        inl (ap (says new) p ∙ q place ∙ ap (λ x. cond x true (says t place)) (same_self place))
 
-pub adds_nothing : (Σ : Signature) (B : Block) (G D : List LfType) (left : ℕ) (t : List Bool) → (Stands Σ G D left B → ⊥) → Adds Σ B G D left t t
-adds_nothing Σ B G D left t never W V C m g s a = record { size = a.size; start = a.start; sound = a.sound; complete = λ k F n w b e f. by k F n w b e f }
+-- a block that goes deep
+pub adds_open : (Σ : Signature) (B : Block) (G D : List LfType) (left : ℕ) (t o more : List Bool) → left ≤ length D → length more ≡ length o → ((k : ℕ) → says more k ≡ cond (same_number k (left - length B.entries)) true (says o k)) → StandsDeep Σ G D left B → Adds Σ B G D left t o t more
+adds_open Σ B G D left t o more h l q st W V C m g s a = record {
+  size = a.size;
+  deep_size = l ∙ a.deep_size;
+  start = a.start;
+  sound = a.sound;
+  deep = λ k e. open_at k (same_number k place) refl (sym (q k) ∙ e);
+  settled = λ k w e. a.settled k w (not_marked o more place k q (let x = before_left in omega (arith, w, x)) e);
+  complete = λ k F n w b e f. complete_at k F n w b e f;
+}
   where
-    by : (k : ℕ) (F : Block) → Member F W → (left < k) ⊎ ((k ≡ left) × Member F (B ∷ V)) → k ≤ length D → says t k ≡ true → Stands Σ (onto (drop k D) C) D k F → says t (k - length F.entries) ≡ true
+    place : ℕ
+    place = left - length B.entries
+
+    before_left : place < left
+    before_left = let x = st.entries in let y = st.within in let d : place ≡ left - length B.entries = refl in omega (arith, x, y, d)
+
+    st' : StandsDeep Σ (onto (drop left D) C) D left B
+    st' = subst (λ X. StandsDeep Σ X D left B) g st
+
+    open_at : (k : ℕ) (b : Bool) → same_number k place ≡ b → cond (same_number k place) true (says o k) ≡ true → OpenAt Σ W C D k
+    open_at k true e c = record { left = left; bounded = h; ends = a.sound left s; tried = B; is_one = m; deep = st'; place = number_is k place e }
+    open_at k false e c = a.deep k (ap (λ b. cond b true (says o k)) (sym e) ∙ c)
+
+    known : (k : ℕ) (F : Block) → IsKnown Σ C D t o k F → IsKnown Σ C D t more k F
+    known = more_known Σ C D t o t more (λ k e. e) (still_said o more place q)
+
+    complete_at : (k : ℕ) (F : Block) → Member F W → (left < k) ⊎ ((k ≡ left) × Member F (B ∷ V)) → k ≤ length D → says t k ≡ true → Stands Σ (onto (drop k D) C) D k F → IsKnown Σ C D t more k F
+    complete_at k F n (inl w) b e f = known k F (a.complete k F n (inl w) b e f)
+    complete_at k F n (inr (r, inr v)) b e f = known k F (a.complete k F n (inr (r, v)) b e f)
+    complete_at k F n (inr (r, inl v)) b e f =
+        let p : k - length F.entries ≡ place = ap₂ (λ i X. i - length X.entries) r v in
+        let d : StandsDeep Σ (onto (drop k D) C) D k F = subst (λ X. StandsDeep Σ (onto (drop k D) C) D k X) (sym v) (subst (λ i. StandsDeep Σ (onto (drop i D) C) D i B) (sym r) st') in
+        inr (d, ap (says more) p ∙ q place ∙ ap (λ x. cond x true (says o place)) (same_self place))
+
+pub adds_nothing : (Σ : Signature) (B : Block) (G D : List LfType) (left : ℕ) (t o : List Bool) → (Stands Σ G D left B → ⊥) → Adds Σ B G D left t o t o
+adds_nothing Σ B G D left t o never W V C m g s a = record { size = a.size; deep_size = a.deep_size; start = a.start; sound = a.sound; deep = a.deep; settled = a.settled; complete = λ k F n w b e f. by k F n w b e f }
+  where
+    by : (k : ℕ) (F : Block) → Member F W → (left < k) ⊎ ((k ≡ left) × Member F (B ∷ V)) → k ≤ length D → says t k ≡ true → Stands Σ (onto (drop k D) C) D k F → IsKnown Σ C D t o k F
     by k F n (inl w) b e f = a.complete k F n (inl w) b e f
     by k F n (inr (r, inr v)) b e f = a.complete k F n (inr (r, v)) b e f
     by k F n (inr (r, inl v)) b e f = absurd (never (subst (λ X. Stands Σ G D left X) v (subst (λ X. Stands Σ X D left F) (sym g) (subst (λ i. Stands Σ (onto (drop i D) C) D i F) r f))))
 
 -- fewer blocks of the last place
-pub fewer : (Σ : Signature) (W V U : List Block) (C D : List LfType) (left : ℕ) (t : List Bool) → ((B : Block) → Member B U → Member B V) → TableAt Σ W V C D left t → TableAt Σ W U C D left t
-fewer Σ W V U C D left t h a = record { size = a.size; start = a.start; sound = a.sound; complete = λ k F n w b e f. a.complete k F n (by F k w) b e f }
+pub fewer : (Σ : Signature) (W V U : List Block) (C D : List LfType) (left : ℕ) (t o : List Bool) → ((B : Block) → Member B U → Member B V) → TableAt Σ W V C D left t o → TableAt Σ W U C D left t o
+fewer Σ W V U C D left t o h a = record { size = a.size; deep_size = a.deep_size; start = a.start; sound = a.sound; deep = a.deep; settled = a.settled; complete = λ k F n w b e f. a.complete k F n (by F k w) b e f }
   where
     by : (F : Block) (k : ℕ) → (left < k) ⊎ ((k ≡ left) × Member F U) → (left < k) ⊎ ((k ≡ left) × Member F V)
     by F k (inl w) = inl w
@@ -171,8 +235,13 @@ at_most (suc (suc left)) (suc k) h l = by (at_most (suc left) k (omega arith) (o
     by (inl q) = inl (omega (arith, q))
     by (inr q) = inr (ap suc q)
 
-pub all_added : (Σ : Signature) (W : List Block) (C D : List LfType) (left : ℕ) (t : List Bool) → 0 < left → TableAt Σ W W C D left t → TableAt Σ W [] C D (left - 1) t
-all_added Σ W C D left t z a = record { size = a.size; start = a.start; sound = a.sound; complete = λ k F n w b e f. a.complete k F n (by F k n w) b e f }
+-- the next place is settled, if the last one is
+one_settled : (t o : List Bool) (left k : ℕ) → (left < k → says o k ≡ true → says t k ≡ true) → (says o left ≡ true → says t left ≡ true) → (left < k) ⊎ (k ≡ left) → says o k ≡ true → says t k ≡ true
+one_settled t o left k f g (inl w) e = f w e
+one_settled t o left k f g (inr r) e = ap (says t) r ∙ g (ap (says o) (sym r) ∙ e)
+
+pub all_added : (Σ : Signature) (W : List Block) (C D : List LfType) (left : ℕ) (t o : List Bool) → 0 < left → (says o left ≡ true → says t left ≡ true) → TableAt Σ W W C D left t o → TableAt Σ W [] C D (left - 1) t o
+all_added Σ W C D left t o z there a = record { size = a.size; deep_size = a.deep_size; start = a.start; sound = a.sound; deep = a.deep; settled = λ k w. one_settled t o left k (a.settled k) there (at_most left k z w); complete = λ k F n w b e f. a.complete k F n (by F k n w) b e f }
   where
     by : (F : Block) (k : ℕ) → Member F W → (left - 1 < k) ⊎ ((k ≡ left - 1) × Member F []) → (left < k) ⊎ ((k ≡ left) × Member F W)
     by F k n (inr (r, m)) = absurd m
@@ -182,14 +251,14 @@ all_added Σ W C D left t z a = record { size = a.size; start = a.start; sound =
         to (inl q) = inl q
         to (inr q) = inr (q, n)
 
-pub none_added : (Σ : Signature) (W : List Block) (G D : List LfType) (left : ℕ) (t : List Bool) → 0 < left → says t left ≡ false → Extends Σ W G D left t t
-none_added Σ W G D left t z none C g a = record { size = a.size; start = a.start; sound = a.sound; complete = λ k F n w b e f. by k F n w b e f }
+pub none_added : (Σ : Signature) (W : List Block) (G D : List LfType) (left : ℕ) (t o : List Bool) → 0 < left → says t left ≡ false → (says o left ≡ true → says t left ≡ true) → Extends Σ W G D left t o t o
+none_added Σ W G D left t o z none there C g a = record { size = a.size; deep_size = a.deep_size; start = a.start; sound = a.sound; deep = a.deep; settled = λ k w. one_settled t o left k (a.settled k) there (at_most left k z w); complete = λ k F n w b e f. by k F n w b e f }
   where
-    by : (k : ℕ) (F : Block) → Member F W → (left - 1 < k) ⊎ ((k ≡ left - 1) × Member F []) → k ≤ length D → says t k ≡ true → Stands Σ (onto (drop k D) C) D k F → says t (k - length F.entries) ≡ true
+    by : (k : ℕ) (F : Block) → Member F W → (left - 1 < k) ⊎ ((k ≡ left - 1) × Member F []) → k ≤ length D → says t k ≡ true → Stands Σ (onto (drop k D) C) D k F → IsKnown Σ C D t o k F
     by k F n (inr (r, m)) b e f = absurd m
     by k F n (inl w) b e f = to (at_most left k z w)
       where
-        to : (left < k) ⊎ (k ≡ left) → says t (k - length F.entries) ≡ true
+        to : (left < k) ⊎ (k ≡ left) → IsKnown Σ C D t o k F
         to (inl q) = a.complete k F n (inl q) b e f
         to (inr q) = absurd (clash (sym e ∙ ap (says t) q ∙ none))
 
@@ -213,9 +282,10 @@ dropped_length [] (A ∷ X) Y (suc k) h e = absurd (omega (arith, h))
 dropped_length (F ∷ D) (A ∷ X) Y zero h e = let q : onto X Y ≡ D = cc in let l = dropped_length D X Y 0 (omega arith) q in omega (arith, l)
 dropped_length (F ∷ D) (A ∷ X) Y (suc k) h e = let l = dropped_length D (A ∷ X) Y k (omega (arith, h)) e in omega (arith, l)
 
-module _ (Σ : Signature) (W : List Block) (C D : List LfType) (t : List Bool) (a : TableAt Σ W [] C D 0 t) where
-  says_one : (Y : List LfType) (B : Block) (θ : ℕ → Image) → Member B W → IsStrictBlock B → Values Σ everything B.some (onto Y C) θ → ((i : ℕ) (A : LfType) → TypeAt B.some i A → IsTerm (θ i)) → ((j : ℕ) → j ≤ length D → Y ≡ drop j D → says t j ≡ true) → (k : ℕ) → k ≤ length D → onto (instance B.entries θ) Y ≡ drop k D → says t k ≡ true
-  says_one Y B θ m st v w ih k h e = by B.entries refl
+-- Of the places from one on, past which none is left open.
+module _ (Σ : Signature) (W : List Block) (C D : List LfType) (left from : ℕ) (t o : List Bool) (a : TableAt Σ W [] C D left t o) (past : left ≤ from) (settled : (k : ℕ) → from ≤ k → says o k ≡ true → says t k ≡ true) where
+  says_one : (Y : List LfType) (B : Block) (θ : ℕ → Image) → Member B W → IsStrictBlock B → Values Σ everything B.some (onto Y C) θ → ((i : ℕ) (A : LfType) → TypeAt B.some i A → IsTerm (θ i)) → ((j : ℕ) → from ≤ j → j ≤ length D → Y ≡ drop j D → says t j ≡ true) → (k : ℕ) → from ≤ k → k ≤ length D → onto (instance B.entries θ) Y ≡ drop k D → says t k ≡ true
+  says_one Y B θ m st v w ih k u h e = by B.entries refl
     where
       xs : List LfType
       xs = instance B.entries θ
@@ -233,7 +303,7 @@ module _ (Σ : Signature) (W : List Block) (C D : List LfType) (t : List Bool) (
       rest = sym (onto_drop xs Y) ∙ ap (drop l) e ∙ drop_more D k l
 
       older : says t (k + l) ≡ true
-      older = ih (k + l) room rest
+      older = ih (k + l) (omega (arith, u)) room rest
 
       back : k + l - length B.entries ≡ k
       back = let q = size in omega (arith, q)
@@ -249,14 +319,42 @@ module _ (Σ : Signature) (W : List Block) (C D : List LfType) (t : List Bool) (
       by (E ∷ es) q =
           let z : length (E ∷ es) ≡ length B.entries = ap length q in
           let p : 0 < length B.entries = omega (arith, z) in
-          ap (says t) (sym back) ∙ a.complete (k + l) B m (inl (let y = size in omega (arith, y, p))) room older (stands p)
+          told (a.complete (k + l) B m (inl (let y = size in omega (arith, y, p, u, past))) room older (stands p))
+        where
+          told : IsKnown Σ C D t o (k + l) B → says t k ≡ true
+          told (inl x) = ap (says t) (sym back) ∙ x
+          told (inr (d, x)) = settled k u (ap (says o) (sym back) ∙ x)
 
-  says_all : (X : List LfType) → IsSequence Σ W C X → (k : ℕ) → k ≤ length D → X ≡ drop k D → says t k ≡ true
-  says_all [] no_instance k h e = ap (says t) (all_dropped D k h (sym e)) ∙ a.start
-  says_all X (next_instance {D = Y} B θ s m st v w) k h e = says_one Y B θ m st v w (says_all Y s) k h e
+  pub says_all : (X : List LfType) → IsSequence Σ W C X → (k : ℕ) → from ≤ k → k ≤ length D → X ≡ drop k D → says t k ≡ true
+  says_all [] no_instance k u h e = ap (says t) (all_dropped D k h (sym e)) ∙ a.start
+  says_all X (next_instance {D = Y} B θ s m st v w) k u h e = says_one Y B θ m st v w (says_all Y s) k u h e
 
-  pub table_decides : (b : Bool) → b ≡ says t 0 → (b ≡ true) ↔ IsSequence Σ W C D
-  table_decides b e = (λ q. a.sound 0 (sym e ∙ q), λ s. e ∙ says_all D s 0 (omega arith) refl)
+-- what is known of an answer in two ways
+pub both_told : (r : Result Bool HeredFault) (P Q R : Bool → Type 0) → ((b : Bool) → P b → Q b → R b) → IfOk r P → IfOk r Q → IfOk r R
+both_told (Ok b) P Q R f p q = f b p q
+both_told (Err e) P Q R f p q = tt
+
+-- a place that is settled is decided
+pub table_decides : (Σ : Signature) (W : List Block) (C D : List LfType) (t o : List Bool) → TableAt Σ W [] C D 0 t o → (says o 0 ≡ true → says t 0 ≡ true) → (b : Bool) → b ≡ says t 0 → (b ≡ true) ↔ IsSequence Σ W C D
+table_decides Σ W C D t o a there b e = (λ q. a.sound 0 (sym e ∙ q), λ s. e ∙ says_all Σ W C D 0 0 t o a (omega arith) all D s 0 (omega arith) (omega arith) refl)
+  where
+    all : (k : ℕ) → 0 ≤ k → says o k ≡ true → says t k ≡ true
+    all zero h s = there s
+    all (suc k) h s = a.settled (suc k) (omega arith) s
+
+-- one that is left open isn't
+pub goes_deep : (Σ : Signature) (W : List Block) (C D : List LfType) (left : ℕ) (t o : List Bool) → TableAt Σ W [] C D left t o → (says o left ≡ true) × (says t left ≡ false) → SequenceGoesDeep Σ W C D
+goes_deep Σ W C D left t o a (e, f) = record { place = left; is_open = a.deep left e; alone = λ k B h s m st p. deep_at k B st p (a.complete k B m (inl (later k B st p)) h (before k B h s st p) st) }
+  where
+    later : (k : ℕ) (B : Block) → Stands Σ (onto (drop k D) C) D k B → k - length B.entries ≡ left → left < k
+    later k B st p = let x = st.entries in let y = st.within in omega (arith, x, y, p)
+
+    before : (k : ℕ) (B : Block) → k ≤ length D → IsSequence Σ W C (drop k D) → Stands Σ (onto (drop k D) C) D k B → k - length B.entries ≡ left → says t k ≡ true
+    before k B h s st p = says_all Σ W C D left (suc left) t o a (omega arith) (λ j w. a.settled j (omega (arith, w))) (drop k D) s k (let x = later k B st p in omega (arith, x)) h refl
+
+    deep_at : (k : ℕ) (B : Block) → Stands Σ (onto (drop k D) C) D k B → k - length B.entries ≡ left → IsKnown Σ C D t o k B → StandsDeep Σ (onto (drop k D) C) D k B
+    deep_at k B st p (inl x) = absurd (clash (sym x ∙ ap (says t) p ∙ f))
+    deep_at k B st p (inr (d, x)) = d
 
 -- The context.
 pub part_is_context : (Σ : Signature) (D C : List LfType) (k : ℕ) → IsContext Σ (onto D C) → IsContext Σ (onto (drop k D) C)

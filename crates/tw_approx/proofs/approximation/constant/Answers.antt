@@ -1,4 +1,4 @@
-use Rattle.std.proofs.Common.{[], Some, None, subst, ◌∙◌}
+use Rattle.std.proofs.Common.{[], Some, None, subst}
 use Rattle.tw_approx.specs.Names.{IsFreeIn}
 use Rattle.tw_approx.specs.Reading.{state_of, TypeIsRead}
 use Rattle.tw_approx.specs.Skeletons.{type_skeleton}

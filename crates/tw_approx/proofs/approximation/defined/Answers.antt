@@ -1,4 +1,4 @@
-use Rattle.std.proofs.Common.{Some, None, option_map, subst}
+use Rattle.std.proofs.Common.{option_map, subst}
 use Rattle.tw_approx.specs.Reading.{state_of}
 use Rattle.tw_approx.specs.Skeletons.{definition_skeleton}
 use Rattle.tw_approx.specs.Solving.{DefinitionIsRead, IsFreeInDefinition}

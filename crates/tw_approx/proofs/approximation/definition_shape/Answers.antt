@@ -1,4 +1,4 @@
-use Rattle.std.proofs.Common.{IfOk, option_map, Some, None, sym, ap, subst}
+use Rattle.std.proofs.Common.{IfOk, option_map, sym, subst}
 use Rattle.tw_approx.specs.Reading.{state_of}
 use Rattle.tw_approx.specs.Solving.{DefinitionIsRead}
 use Rattle.tw_approx.specs.Walks.{empty_state}

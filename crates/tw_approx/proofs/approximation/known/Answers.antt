@@ -1,4 +1,4 @@
-use Rattle.std.proofs.Common.{Some, None, sym, ap, ◌∙◌}
+use Rattle.std.proofs.Common.{sym, ◌∙◌}
 use Rattle.tw_parse.specs.View.{declaration_of}
 use Rattle.tw_names.specs.Unknown.{unknown_in}
 use Rattle.tw_names.proofs.Order.{earliest_is_first, none_is_empty}

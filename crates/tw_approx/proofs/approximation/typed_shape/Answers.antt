@@ -1,4 +1,4 @@
-use Rattle.std.proofs.Common.{Some, None, subst}
+use Rattle.std.proofs.Common.{subst}
 use Rattle.tw_approx.specs.Reading.{state_of, TermIsRead, TypeIsRead}
 use Rattle.tw_parse.specs.View.{term_of}
 use Rattle.tw_shapes.specs.Shapes.{count_of}

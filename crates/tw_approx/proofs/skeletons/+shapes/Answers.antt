@@ -1,12 +1,12 @@
-use Rattle.std.proofs.Common.{◌≡◌, ◌++◌, ◌∷◌, [], Option, None, Some, IfOk, refl, sym, ap, ◌∙◌, subst}
+use Rattle.std.proofs.Common.{◌∷◌, None, Some, IfOk, refl, sym, ap, ◌∙◌, subst}
 use Rattle.tw_parse.specs.Applied.{written_terms}
 use Rattle.tw_approx.specs.Names.{IsFreeIn, IsFreeInDomain}
-use Rattle.tw_approx.specs.Reading.{state_of, due_of, family_at, ReadsDue, ReadsFamily, TermIsRead, FamilyIsRead, TypeIsRead, DomainIsRead, KindIsRead, RangeIsRead, RestIsRead, IsApplied, IsAscribed, IsFamilyApplied, IsFamilyAscribed, IsWhole}
+use Rattle.tw_approx.specs.Reading.{state_of, due_of, TermIsRead, FamilyIsRead, TypeIsRead, DomainIsRead, KindIsRead, RangeIsRead, RestIsRead, IsApplied, IsFamilyApplied}
 use Rattle.tw_approx.specs.Skeletons.{type_skeleton, domain_skeleton}
 use Rattle.tw_approx.specs.Walks.{filled_all}
-use Rattle.tw_names.specs.Scope.{binder_name, named}
+use Rattle.tw_names.specs.Scope.{binder_name}
 use Rattle.tw_parse.proofs.Views.{term_of-Ident, term_of-Hole, term_of-Star, term_of-Arrow}
-use Rattle.tw_parse.specs.Syntax.{identifier, hole, star, arrow, pi, lambda, ascription, typed}
+use Rattle.tw_parse.specs.Syntax.{arrow, pi, lambda}
 use Rattle.tw_parse.specs.View.{term_of, boxed_domain}
 use Rattle.tw_shapes.specs.View.{shape_of}
 use Rattle.tw_approx.proofs.Answering.{if_ok, term_of-Pi, term_of-Lam, entered, type_read, lambda_read, lambda_unread, ascription_read, family_ascription_read, applying_next, applying_argument, applying_refuses, head_refuses, family_applying_next, family_applying_argument, family_applying_refuses, family_head_refuses}

@@ -1,7 +1,6 @@
-use Rattle.std.proofs.Common.{◌≡◌, ◌+◌, ◌*◌, vec_len}
-use Rattle.tw_parse.specs.Applied.{applied_to, written_terms}
+use Rattle.std.proofs.Common.{◌+◌, ◌*◌, vec_len}
+use Rattle.tw_parse.specs.Applied.{written_terms}
 use Rattle.tw_approx.specs.Reading.{state_of}
-use Rattle.tw_approx.specs.Walks.{IsSound}
 use Rattle.tw_parse.specs.View.{term_of}
 use Rattle.tw_shapes.specs.View.{shape_of}
 use Rattle.tw_approx.proofs.Applying.{IsApplying, IsFamilyApplying}

@@ -1,9 +1,9 @@
-use Rattle.std.proofs.Common.{refl, sym, ap, ◌∙◌, subst}
+use Rattle.std.proofs.Common.{refl, ap, ◌∙◌}
 use Rattle.tw_approx.specs.Reading.{state_of, due_of}
 use Rattle.tw_shapes.specs.View.{shape_of}
-use Rattle.tw_approx.proofs.Known.{argument_reads, argument_refuses, nothing_due_refuses}
+use Rattle.tw_approx.proofs.Known.{argument_reads, argument_refuses}
 use Rattle.tw_approx.proofs.Unifying.{unified, not_unified}
-use Rattle.tw_approx.proofs.Views.{due_of-Nothing, due_of-Next}
+use Rattle.tw_approx.proofs.Views.{due_of-Next}
 use Rattle.tw_approx.proofs.skeletons.known_on_argument.Goals as goal
 
 pub returns-then-branch : goal.returns-then-branch

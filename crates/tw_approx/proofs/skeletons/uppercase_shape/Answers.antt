@@ -1,6 +1,5 @@
-use Rattle.std.proofs.Common.{◌≡◌, ◌∷◌, sym, subst}
+use Rattle.std.proofs.Common.{sym}
 use Rattle.tw_approx.specs.Reading.{state_of}
-use Rattle.tw_approx.specs.Walks.{State, ReadsShape}
 use Rattle.tw_shapes.proofs.Views.{shape_of-Variable}
 use Rattle.tw_approx.proofs.Naming.{known_reads, new_reads}
 use Rattle.tw_approx.proofs.Unifying.{IsFresh}

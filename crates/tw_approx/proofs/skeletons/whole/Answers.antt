@@ -2,8 +2,6 @@ use Rattle.std.proofs.Common.{Some, sym, subst}
 use Rattle.tw_approx.specs.Reading.{IsWhole, FamilyWithin}
 use Rattle.tw_shapes.specs.Shapes.{count_of}
 use Rattle.tw_approx.proofs.Known.{unknown_whole_reads}
-use Rattle.tw_approx.specs.declared.family.FamilyShape.TheVariants.{Unknown}
-use Rattle.tw_approx.specs.Walks.{IsSound}
 use Rattle.tw_approx.proofs.skeletons.whole.Goals as goal
 
 pub returns-in-Known : goal.returns-in-Known

@@ -9,8 +9,8 @@ use Rattle.tw_open.proofs.Steps.{steps}
 use Rattle.tw_elaborate.proofs.Taking.{keeps_same}
 use Rattle.tw_elaborate.proofs.fresh.+new_type.Goals as goal
 
-pub returns-in_err-frames-clause-keeps : goal.returns-in_err-frames-clause-keeps
-returns-in_err-frames-clause-keeps t c = keeps_same c.args.state.now
+pub returns-in_err-levels-clause-keeps : goal.returns-in_err-levels-clause-keeps
+returns-in_err-levels-clause-keeps t c = keeps_same c.args.state.now
 
 pub new_type-range-requires : goal.new_type-range-requires
 new_type-range-requires t c =

@@ -1,4 +1,4 @@
-use Rattle.std.proofs.Common.{◌≡◌, ◌+◌, ◌*◌, drop}
+use Rattle.std.proofs.Common.{◌≡◌, ◌++◌, ◌+◌, ◌*◌, drop}
 use Rattle.lf.specs.Depth.{depth, spine_depth}
 use Rattle.lf.specs.Entries.{signature_of}
 use Rattle.tw_terms.specs.View.{term_of, spine_of, args_of, type_of}
@@ -16,6 +16,6 @@ decreases-take_argument l = 3 * depth (term_of l.arg.now) + 1
 
 abbrev pub invariant-spine_type-loop-arg : goal.invariant-spine_type-loop-arg
 invariant-spine_type-loop-arg l = record {
-  kept : l.context ≡ l.fn.context;
-  so_far : Progress (signature_of l.signature) l.fn.context (args_of l.arg-items) (type_of l.fn.function) (args_of (drop l.arg-index l.arg-items)) (type_of l.ty);
+  kept : l.inner ≡ l.fn.inner;
+  so_far : Progress (signature_of l.signature) (l.fn.inner ++ l.outer) (args_of l.arg-items) (type_of l.fn.function) (args_of (drop l.arg-index l.arg-items)) (type_of l.ty);
 }

@@ -1,9 +1,8 @@
-use Rattle.std.proofs.Common.{◌≡◌, ◌∙◌, ◌∷◌, ◌++◌, [], ◌-◌, ◌+◌, ap, ap₂, sym, arith, drop, length, Some, add-one, rules}
+use Rattle.std.proofs.Common.{◌≡◌, ◌∙◌, ◌∷◌, ◌-◌, ◌+◌, ap, sym, arith, drop, length, Some, rules}
 use Rattle.std.specs.List.{slice_get}
 use Rattle.std.specs.Option.{option_map}
 use Rattle.tw_terms.specs.View.{type_of}
 use Rattle.tw_print.specs.SceneView.{scene_in}
-use Rattle.tw_print.specs.Shown.{context_names}
 use Rattle.tw_print.specs.Names as names
 use Rattle.tw_print.proofs.Contexts.{outside_at, entered}
 use Rattle.tw_print.proofs.context.page_in.Goals as goal

@@ -4,7 +4,7 @@ use Rattle.tw_terms.specs.View.{type_of, kind_of}
 use Rattle.tw_terms.proofs.Args.{types}
 use Rattle.tw_print.specs.SceneView.{scene_in}
 use Rattle.tw_print.specs.Shown as layout
-use Rattle.tw_print.proofs.Printing.{on_ok, leading_kind_pi, first_of_kind}
+use Rattle.tw_print.proofs.Printing.{leading_kind_pi, first_of_kind}
 use Rattle.tw_print.proofs.declaration.+print_leading_kind.Goals as goal
 
 pub returns-in_ok-print_leading_kind-in-Pi : goal.returns-in_ok-print_leading_kind-in-Pi

@@ -1,5 +1,5 @@
-use Rattle.std.proofs.Common.{◌≡◌, ◌∙◌, ap, sym, subst, [], ◌∷◌}
-use Rattle.tw_signature.specs.View.{body_of, entry_of}
+use Rattle.std.proofs.Common.{subst, [], ◌∷◌}
+use Rattle.tw_signature.specs.View.{body_of}
 use Rattle.tw_print.specs.Page.{Writes}
 use Rattle.tw_print.specs.Pieces.{token}
 use Rattle.tw_print.specs.SceneView.{scene_in}

@@ -1,4 +1,4 @@
-use Rattle.std.proofs.Common.{◌≡◌, ◌∙◌, sym, ap, arith}
+use Rattle.std.proofs.Common.{◌∙◌, sym, ap, arith}
 use Rattle.tw_print.specs.SceneView.{scene_in}
 use Rattle.tw_print.specs.Names as spec
 use Rattle.tw_print.proofs.FirstFree.{next_candidate}

@@ -1,4 +1,4 @@
-use Rattle.std.proofs.Common.{◌≡◌, ◌-◌, ◌≤◌, ◌^◌}
+use Rattle.std.proofs.Common.{◌≡◌, ◌-◌, ◌^◌}
 use Rattle.tw_print.specs.Names as spec
 use Rattle.tw_print.specs.SceneView.{scene_in}
 use Rattle.tw_print.proofs.fresh.fresh_name.Given as goal

@@ -1,8 +1,7 @@
-use Rattle.std.proofs.Common.{◌≡◌, ◌+◌, ◌∙◌, sym, ap, arith, length, drop}
+use Rattle.std.proofs.Common.{◌≡◌, ◌+◌, ◌∙◌, ap, arith, length, drop}
 use Rattle.lf.specs.Syntax.{lambda, root}
 use Rattle.tw_kernel.proofs.Spines.{args_at}
 use Rattle.tw_terms.specs.View.{head_of, term_of, spine_of, args_of}
-use Rattle.tw_terms.proofs.Views.{term_of-Lam, term_of-Root, spine_of-args}
 use Rattle.tw_terms.proofs.Args.{types}
 use Rattle.tw_print.proofs.Marking.{on_ok, spine_step, spine_done, lambda_marked, root_marked, marked_length}
 use Rattle.tw_print.proofs.marks.+mark.Goals as goal

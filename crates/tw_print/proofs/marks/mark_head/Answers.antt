@@ -1,5 +1,4 @@
-use Rattle.std.proofs.Common.{◌≡◌, ◌∙◌, ap, sym, refl, false}
-use Rattle.tw_terms.specs.View.{head_of}
+use Rattle.std.proofs.Common.{sym, refl, false}
 use Rattle.tw_terms.proofs.Views.{head_of-Const, head_of-Var}
 use Rattle.tw_print.proofs.Marking.{marked_nothing}
 use Rattle.tw_print.proofs.marks.mark_head.Goals as goal

@@ -3,7 +3,7 @@ use Rattle.tw_shapes.specs.Shapes.{variable}
 use Rattle.tw_shapes.specs.Equations.{IsReplaced}
 use Rattle.tw_shapes.specs.View.{shape_of, store_of}
 use Rattle.tw_shapes.specs.EquationView.{equations_of, between}
-use Rattle.tw_shapes.proofs.Equating.{seen-push, follow-bound, follow-free}
+use Rattle.tw_shapes.proofs.Equating.{seen-push, follow-bound, follow-free, if_ok}
 use Rattle.tw_shapes.proofs.equations.follow.Goals as goal
 
 pub returns-in_ok-push-in-Some : goal.returns-in_ok-push-in-Some
@@ -17,5 +17,5 @@ returns-in_ok-push-in-Some c =
 
 pub returns-in_ok-value-in-None : goal.returns-in_ok-value-in-None
 returns-in_ok-value-in-None c =
-    follow-free (store_of c.args.bindings.now) c.args.variable.0 (shape_of c.args.other) (shape_of c.in_ok-value-in-None.value) (equations_of c.args.pending.now.items) c.free_step.result
-    c.requires.declared (sym c.in-None.ensures) c.requires.all_within c.in_ok-value-in-None.ensures.same c.in_ok-value-in-None.ensures.free c.in_ok-value-in-None.ensures.within c.free_step.ensures
+    if_ok c.free_step.result _ _ (λ r f. follow-free (store_of c.args.bindings.now) c.args.variable.0 (shape_of c.args.other) (shape_of c.in_ok-value-in-None.value) (equations_of c.args.pending.now.items) r
+    c.requires.declared (sym c.in-None.ensures) c.requires.all_within c.in_ok-value-in-None.ensures.same c.in_ok-value-in-None.ensures.free c.in_ok-value-in-None.ensures.within f) c.free_step.ensures

@@ -1,4 +1,4 @@
-use Rattle.std.proofs.Common.{◌≡◌, [], ◌∷◌, Err, refl, sym, ap, subst, ◌<◌, length, rules}
+use Rattle.std.proofs.Common.{◌≡◌, [], ◌∷◌, Err, refl, sym, ap, ◌∙◌, subst, ◌<◌, length, rules}
 use Rattle.std.specs.Option.{MatchOption}
 use Rattle.lf.specs.Entries.{signature_of}
 use Rattle.lf.proofs.Entries.{canonical_is_signature}
@@ -35,7 +35,7 @@ returns-in_ok-settle-in-Some-clause-woken c =
     let found : c.in-Some.at < length s.equations = subst (λ o. MatchOption o (AllLeft s s.equations) (λ at. at < length s.equations)) c.in-Some.is c.in_ok-find_awake.ensures.found in
     let within : c.in-Some.at < length items = place_within items s.equations c.in-Some.at c.equations.ensures found in
     subst (λ (t : State). ReachedRun (signature_of c.args.signature.now) (whole [] s) (whole (d ∷ []) t)) (sym (ap (λ (x : Story). x.now) c.in_ok-settle-in-Some.ensures.ok))
-    (wake_runs (signature_of c.args.signature.now) s items c.in-Some.at c.index-equations-at.result d c.equations.ensures within c.index-equations-at.is c.in_ok-equation-in-Some.ensures)
+    (wake_runs (signature_of c.args.signature.now) s items c.in-Some.at c.index-equations-at.result d c.equations.ensures within c.index-equations-at.is (c.in_ok-equation-in-Some.ensures ∙ ap equation_of c.deref.ensures))
 
 pub returns-in_ok-settle-in-Some-clause-consistent : goal.returns-in_ok-settle-in-Some-clause-consistent
 returns-in_ok-settle-in-Some-clause-consistent c =

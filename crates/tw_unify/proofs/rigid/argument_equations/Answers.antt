@@ -23,7 +23,7 @@ loop-ty-init c =
     let l : open_args_of c.args.left.args.items ≡ S = grind (arith, open_types) in
     let r : open_args_of c.args.right.args.items ≡ open_spine_of c.args.right = grind (arith, open_types) in
     none_found c.args.context.now X S (open_spine_of c.args.right) (open_args_of (reverse c.reverse-2.new.self.items)) (open_args_of (reverse c.reverse-3.new.self.items)) (map open_type_of (reverse c.reverse.new.self.items)) (map equation_of c.in_ok-found.found.items)
-    (ap (λ ts. map open_type_of (reverse ts)) c.reverse.ensures.items ∙ ap (map open_type_of) (reverse-reverse c.in-Ok.types.items) ∙ c.in-Ok.ensures.ok ∙ ap (domains X) s)
+    (ap (λ ts. map open_type_of (reverse ts)) c.reverse.ensures.items ∙ ap (map open_type_of) (reverse-reverse c.in_ok-types.types.items) ∙ c.in_ok-types.ensures.ok ∙ ap (domains X) s)
     (ap (λ ts. open_args_of (reverse ts)) c.reverse-2.ensures.items ∙ ap open_args_of (reverse-reverse c.args.left.args.items) ∙ l)
     (ap (λ ts. open_args_of (reverse ts)) c.reverse-3.ensures.items ∙ ap open_args_of (reverse-reverse c.args.right.args.items) ∙ r)
     (ap (map equation_of) c.in_ok-found.ensures.items)
@@ -43,7 +43,7 @@ loop-ty-preserved c =
     (popped_arguments c.loop-ty.rights.items c.pop-in-Some-2.new.self.items c.in-Some-Some.right c.in-Some-Some.ensures'.items)
     e (ap (map equation_of) c.in_ok-push-in-Some-Some.ensures.items ∙ map-append equation_of c.loop-ty.found.items (d ∷ []))
 
-pub returns : goal.returns
-returns c =
-    let none = no_type_left c.loop-ty.types.items (omega (arith, c.in_default-pop.ensures.cases)) in
+pub returns-clause-ok : goal.returns-clause-ok
+returns-clause-ok c =
+    let none = no_type_left c.loop-ty.types.items (omega (arith, c.in_default.ensures.cases)) in
     sym (c.loop-ty.invariant ∙ none_due c.args.context.now (map open_type_of (reverse c.loop-ty.types.items)) (open_args_of (reverse c.loop-ty.lefts.items)) (open_args_of (reverse c.loop-ty.rights.items)) (map equation_of c.loop-ty.found.items) none)

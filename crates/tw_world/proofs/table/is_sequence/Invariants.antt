@@ -9,7 +9,7 @@ abbrev pub invariant-loop-left : goal.invariant-loop-left
 invariant-loop-left l = record {
   bounded : l.left ≤ length l.local;
   whole : l.whole ≡ onto (drop l.left l.local) l.outer;
-  table : TableAt (signature_of l.sig) (worlds_of l.worlds) [] l.outer l.local l.left l.table.items;
+  table : TableAt (signature_of l.sig) (worlds_of l.worlds) [] l.outer l.local l.left l.table.items l.deep.items;
 }
 
 abbrev pub decreases-loop-left : goal.decreases-loop-left

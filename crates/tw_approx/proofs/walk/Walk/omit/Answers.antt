@@ -1,4 +1,3 @@
-use Rattle.std.proofs.Common.{map}
 use Rattle.std.proofs.lemmas.List.{map-append}
 use Rattle.tw_approx.specs.Reading.{state_of}
 use Rattle.tw_shapes.proofs.Views.{shape_of-Variable}

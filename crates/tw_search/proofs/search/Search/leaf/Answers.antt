@@ -1,8 +1,9 @@
-use Rattle.std.proofs.Common.{◌≡◌, Err, List, [], ◌∷◌, map, None, Some, refl, sym, subst}
+use Rattle.std.specs.Global.{Global}
+use Rattle.std.proofs.Common.{◌≡◌, Box, Err, List, [], ◌∷◌, map, None, Some, refl, sym, subst}
 use Rattle.std.specs.List.{slice_get}
 use Rattle.lf_unification.specs.Unifiers.{Equation}
 use Rattle.tw_hered.specs.declared.fault.HeredFault.TheVariants.{TooDeep}
-use Rattle.tw_metas.specs.View.{equation_of}
+use Rattle.tw_metas.specs.View.{kept_equation_of}
 use Rattle.tw_metas.specs.declared.equation.Equation.{Equation as Postponed}
 use Rattle.tw_search.specs.Left.{BlamesFirst}
 use Rattle.tw_search.specs.Standing.{asked_of}
@@ -11,13 +12,13 @@ use Rattle.tw_search.proofs.Leaving.{at_list}
 use Rattle.tw_search.proofs.search.Search.leaf.Goals as goal
 
 -- the first equation, if there is one
-none_first : (qs : List Postponed) (fs : List Equation) → map equation_of qs ≡ fs → None ≡ slice_get qs 0 → fs ≡ []
+none_first : (qs : List (Box Postponed Global)) (fs : List Equation) → map kept_equation_of qs ≡ fs → None ≡ slice_get qs 0 → fs ≡ []
 none_first [] fs e n = sym e
 none_first (q ∷ qs) fs e n = absurd cc
 
-some_first : (qs : List Postponed) (fs : List Equation) (q : Postponed) → map equation_of qs ≡ fs → Some q ≡ slice_get qs 0 → (first : Equation) × (rest : List Equation) × (fs ≡ first ∷ rest)
+some_first : (qs : List (Box Postponed Global)) (fs : List Equation) (q : Box Postponed Global) → map kept_equation_of qs ≡ fs → Some q ≡ slice_get qs 0 → (first : Equation) × (rest : List Equation) × (fs ≡ first ∷ rest)
 some_first [] fs q e s = absurd cc
-some_first (p ∷ qs) fs q e s = (equation_of p, map equation_of qs, sym e)
+some_first (p ∷ qs) fs q e s = (kept_equation_of p, map kept_equation_of qs, sym e)
 
 pub first_equation-requires-clause-ready : goal.first_equation-requires-clause-ready
 first_equation-requires-clause-ready c =

@@ -1,4 +1,4 @@
-use Rattle.std.proofs.Common.{◌≡◌, ℕ, length}
+use Rattle.std.proofs.Common.{◌≡◌, ℕ, ◌≤◌, length}
 use Rattle.lf.specs.Syntax.{Skeleton}
 use Rattle.tw_shapes.specs.Shapes.{Solves, filled, IsWithin}
 use Rattle.tw_shapes.specs.Order.{length_of_walk}
@@ -10,6 +10,7 @@ abbrev pub invariant-loop-rest : goal.invariant-loop-rest
 invariant-loop-rest l = record {
   same : (θ : ℕ → Skeleton) → Solves θ (store_of l.self) → filled θ (shape_of l.rest) ≡ filled θ (shape_of l.shape);
   within : IsWithin (length l.self.places.items) (shape_of l.shape) → IsWithin (length l.self.places.items) (shape_of l.rest);
+  shorter : length_of_walk (store_of l.self) (shape_of l.rest) ≤ length_of_walk (store_of l.self) (shape_of l.shape);
 }
 
 abbrev pub decreases-loop-rest : goal.decreases-loop-rest

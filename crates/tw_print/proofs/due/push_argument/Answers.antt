@@ -1,0 +1,16 @@
+use Rattle.std.proofs.Common.{sym}
+use Rattle.tw_print.specs.SceneView.{scene_in}
+use Rattle.tw_print.specs.Due.{stacked}
+use Rattle.tw_print.proofs.Dues.{argument_bare, argument_enclosed}
+use Rattle.tw_print.proofs.Printing.{on_ok}
+use Rattle.tw_print.proofs.due.push_argument.Goals as goal
+
+pub returns-then-is_bare : goal.returns-then-is_bare
+returns-then-is_bare c =
+    on_ok c.push.result _ _ (argument_bare (scene_in c.args.scene.now) c.args.inner c.args.argument (stacked c.args.due.now.items) (stacked c.push.new.due.items) (sym c.if-is_bare.ensures)) c.push.ensures
+
+pub returns : goal.returns
+returns c =
+    on_ok c.push-4.result _ _
+    (argument_enclosed (scene_in c.args.scene.now) c.args.inner c.args.argument (stacked c.args.due.now.items) (stacked c.push-2.new.due.items) (stacked c.push-3.new.due.items) (stacked c.push-4.new.due.items) (sym c.if-is_bare.ensures) c.in_ok-push.ensures c.in_ok-push-2.ensures)
+    c.push-4.ensures

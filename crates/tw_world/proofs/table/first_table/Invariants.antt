@@ -1,6 +1,0 @@
-use Rattle.std.proofs.Common.{◌≡◌}
-use Rattle.tw_world.specs.Sequences.{none_said}
-use Rattle.tw_world.proofs.table.first_table.Given as goal
-
-abbrev pub invariant-loop : goal.invariant-loop
-invariant-loop l = l.table.items ≡ none_said l.counter
