@@ -90,7 +90,7 @@ pub fn generalized_type(
     }
 }
 
-/// The same of a head.
+/// The same of a head. Fails where no context in memory is so long.
 fn generalized_head(
     positions: &Positions,
     binders: u64,

@@ -16,7 +16,7 @@ pub fn sole_metavariable(term: &Open) -> Result<Option<MetaId>, AllocError>
     sole_under(term, 0)
 }
 
-/// The same after so many of the term's lambdas.
+/// The same after so many of the term's lambdas. Fails where no term in memory has so many.
 fn sole_under(term: &Open, count: u64) -> Result<Option<MetaId>, AllocError>
     ensures { IfOk result (λ r. option_map (λ m. m.0) r ≡ sole_under_of count (open_term_of term.now)) }
 {

@@ -109,6 +109,7 @@ pub fn renumber_spine(
     Ok(Spine { args })
 }
 
+/// The head with its variables outside numbered anew. Fails where no context in memory is so long.
 fn renumber_head(numbers: &Numbers, under: u64, head: Head) -> Result<Head, AllocError>
     ensures { IfOk result (λ h. head_of h ≡ rename_head (lift_renaming_by under (numbering numbers.now)) (head_of head)) }
 {

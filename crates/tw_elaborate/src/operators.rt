@@ -94,7 +94,7 @@ fn wait<'a>(begun: Begun<'a>) -> Result<Waiting<'a>, AllocError>
     })
 }
 
-/// One row more waits, for the next one.
+/// One row more waits, for the next one. Past `WAITING` rows memory counts as used up.
 #[inline(never)]
 pub fn push_waiting<'a>(
     waiting: &mut Vec<Waiting<'a>>,

@@ -69,6 +69,7 @@ pub fn normal_term<'a>(
             Err(fault) => return Err(fault),
         }
     }
+    // Each turn makes a step; no measure of the term is proved to fall, so the turns are counted.
     Err(HeredFault::NoMemory)
 }
 
@@ -154,6 +155,7 @@ fn apply_made<'a>(
     ensures too_deep { IsErrOf result HeredFault.TooDeep → levels < depth (applied_in (skeleton_of closure.entry.skeleton.now) (term_of closure.entry.term.now) (move_by closure.entry.binders (environment_of closure.entry.scope.now)) (args_of args.now) (environment_of scope.now)) }
 {
     let Some(fewer) = nested.checked_sub(1) else {
+        // The machine's stack is memory too, and no nested call is left.
         return Err(HeredFault::NoMemory);
     };
     let mut made = Vec::with_capacity(alloc, args.len())?;

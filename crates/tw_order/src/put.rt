@@ -73,6 +73,7 @@ fn put_in_spine(
     Ok(Spine { args })
 }
 
+/// The head with the variable put in. Fails where no context in memory is so long.
 fn put_in_head(head: Head, variable: u64, under: u64) -> Result<Head, AllocError>
     ensures { IfOk result (λ h. head_of h ≡ rename_head (lift_renaming_by under (at_variable variable)) (head_of head)) }
 {

@@ -122,7 +122,7 @@ fn pi(alloc: Global, domain: Ty, rest: Kind) -> Result<Kind, AllocError>
     Ok(Kind::Pi(domain, Box::new(alloc, rest)?))
 }
 
-/// The type with an argument put in for a variable.
+/// The type with an argument put in for a variable. One that comes out deeper than 4,096 isn't made, and memory counts as used up.
 fn put_in(
     alloc: Global,
     ty: &Ty,

@@ -119,10 +119,12 @@ pub fn head_type(
     match head {
         Head::Const(id) => match constant_type(scene, id) {
             Some(ty) => ty.copy(alloc),
+            // What is shown has declared constants only; no clause of this call asks for it.
             None => Err(AllocError),
         },
         Head::Var(variable) => match context.get(variable) {
             Some(ty) => weaken(alloc, ty, variable.checked_add(1).ok_or(AllocError)?),
+            // What is shown has variables of its context only; no clause of this call asks for it.
             None => Err(AllocError),
         },
     }
@@ -154,6 +156,7 @@ pub fn family_type(alloc: Global, scene: &Scene, family: ConstId) -> Result<Ty, 
 {
     match family_kind(scene, family) {
         Some(kind) => kind_as_type(alloc, kind, ConstId(scene.len()?)),
+        // What is shown has declared families only; no clause of this call asks for it.
         None => Err(AllocError),
     }
 }

@@ -206,7 +206,7 @@ pub fn push_application(
     push(due, Due::Opening)
 }
 
-/// How many arguments an operator needs, the hidden ones among them.
+/// How many arguments an operator needs, the hidden ones among them. Fails where no spine in memory has so many.
 fn least_of(fix: Fix, hidden: usize) -> Result<usize, AllocError>
     ensures { IfOk result (λ n. n ≡ layout.operand_count fix + hidden) }
 {

@@ -28,7 +28,7 @@ pub struct Scene<'a> {
 }
 
 impl<'a> Scene<'a> {
-    /// How many entries there are.
+    /// How many entries there are. Fails where no signature in memory has so many.
     pub fn len(self) -> Result<u64, AllocError>
         ensures { IfOk result (λ n. n ≡ length (scene_in self.entry).entries) }
     {

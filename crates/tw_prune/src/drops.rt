@@ -40,7 +40,7 @@ pub fn losses_under(alloc: Global, inverse: &Inverse, term: &Open) -> Result<Vec
     Ok(losses)
 }
 
-/// Adds those of the term. The walk has passed so many binders.
+/// Adds those of the term. The walk has passed so many binders. Fails where no context in memory is so long, too.
 #[cycle(collect)]
 fn collect(
     alloc: Global,

@@ -21,7 +21,7 @@ pub fn lambdas_over(alloc: Global, ty: &OpenTy, body: Open) -> Result<Open, Allo
     Ok(term)
 }
 
-/// How many arguments a term of the type takes.
+/// How many arguments a term of the type takes. Fails where no type in memory takes so many.
 pub fn arity(ty: &OpenTy) -> Result<u64, AllocError>
     ensures { IfOk result (λ n. n ≡ arity_of (skeleton (open_type_of ty.now))) }
 {

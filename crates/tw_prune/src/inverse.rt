@@ -37,6 +37,7 @@ impl Inverse {
     }
 
     /// What the variable is under the lambdas and the binders that the walk has passed since; None where the pattern lacks it.
+    /// Fails where no context in memory is so long.
     pub fn find(&self, binders: u64, variable: u64) -> Result<Option<u64>, AllocError>
         ensures { IfOk result (λ r. r ≡ behind (table_of self.now) binders variable) }
     {

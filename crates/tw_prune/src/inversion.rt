@@ -51,6 +51,7 @@ pub fn invert(
 }
 
 /// Whether a variable that the pattern lacks stands in no argument of a metavariable. The walk has passed so many binders.
+/// Fails where no context in memory is so long.
 #[cycle(escapes)]
 fn escapes(inverse: &Inverse, binders: u64, term: &Open) -> Result<bool, AllocError>
     ensures { IfOk result (λ r. r ≡ escapes_from (table_of inverse.now) binders (open_term_of term.now)) }

@@ -34,7 +34,8 @@ fn stands_inside(alloc: Global, meta: MetaId, bound: u64, term: &Open) -> Result
     }
 }
 
-/// Whether the metavariable stands on a pattern in the term, in no argument of a metavariable.
+/// Whether the metavariable stands on a pattern in the term, in no argument of a metavariable. Fails where no context in memory is so
+/// long, too.
 #[cycle(stands)]
 fn stands_in(alloc: Global, meta: MetaId, bound: u64, term: &Open) -> Result<bool, AllocError>
     ensures { IfOk result (λ r. r ≡ stands_in_of meta.0 bound (open_term_of term.now)) }

@@ -65,7 +65,7 @@ fn are_distinct(alloc: Global, bound: u64, variables: &[u64]) -> Result<bool, Al
     Ok(true)
 }
 
-/// The variable of which the term is the eta-long form, after so many of its lambdas.
+/// The variable of which the term is the eta-long form, after so many of its lambdas. Fails where no term in memory has so many.
 #[cycle(eta)]
 fn eta_variable(term: &Open, count: u64) -> Result<Option<u64>, AllocError>
     ensures { IfOk result (λ r. r ≡ eta_variable_under count (open_term_of term.now)) }

@@ -8,7 +8,8 @@ use crate::inverse::Inverse;
 use std::alloc::{AllocError, Global};
 use tw_terms::{Open, OpenSpine, OpenTy};
 
-/// The term under the lambdas, or None where it has a variable that the pattern lacks. The walk has passed so many binders.
+/// The term under the lambdas, or None where it has a variable that the pattern lacks. The walk has passed so many binders. Fails where
+/// no context in memory is so long, too.
 #[cycle(unrename)]
 pub fn unrename(
     alloc: Global,
@@ -58,7 +59,7 @@ fn unrename_spine(
     Ok(Some(OpenSpine { args }))
 }
 
-/// The same of a type.
+/// The same of a type, with the same failures.
 pub fn unrename_type(
     alloc: Global,
     inverse: &Inverse,

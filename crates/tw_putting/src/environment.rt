@@ -51,6 +51,7 @@ pub fn placed<'a>(
 {
     match arena.try_alloc(environment) {
         Ok(environment) => Ok(environment),
+        // An arena has no other failure.
         Err(_) => Err(AllocError),
     }
 }

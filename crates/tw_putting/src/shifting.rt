@@ -60,7 +60,7 @@ pub fn shift_type(alloc: Global, ty: &OpenTy, by: u64, from: u64) -> Result<Open
     }
 }
 
-/// The head with a variable from `from` on raised by `by`.
+/// The head with a variable from `from` on raised by `by`. Fails where no context in memory is so long.
 fn shift_head(head: OpenHead, by: u64, from: u64) -> Result<OpenHead, AllocError>
     ensures { IfOk result (λ h. open_head_of h ≡ rename_head (lift_renaming_by from (shift_by by)) (open_head_of head)) }
 {

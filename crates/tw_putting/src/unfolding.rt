@@ -37,6 +37,7 @@ pub fn unfold(alloc: Global, store: &Store, binders: u64, term: Open) -> Result<
             Err(fault) => return Err(fault),
         }
     }
+    // Each turn puts one value in; no measure of the values is counted, so the turns are.
     Err(HeredFault::NoMemory)
 }
 

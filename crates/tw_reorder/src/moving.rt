@@ -19,7 +19,7 @@ pub struct Moves<'a> {
 }
 
 impl Moves<'_> {
-    // Where a variable is moved.
+    // Where a variable is moved. Fails where no context in memory is so long.
     fn variable(&self, variable: u64) -> Result<u64, AllocError>
         ensures { IfOk result (λ i. i ≡ moved self.now.order.now self.now.shift self.now.less variable) }
     {
@@ -39,7 +39,7 @@ fn place(order: &Positions, variable: u64) -> u64
     }
 }
 
-// The head under so many binders.
+// The head under so many binders. Fails where no context in memory is so long.
 fn moved_head(moves: &Moves, head: Head, under: u64) -> Result<Head, AllocError>
     ensures { IfOk result (λ h. head_of h ≡ rename_head (lift_renaming_by under (moved moves.now.order.now moves.now.shift moves.now.less)) (head_of head)) }
 {

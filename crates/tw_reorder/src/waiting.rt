@@ -12,7 +12,7 @@ use std::alloc::{AllocError, Global};
 use tw_abstract::{Candidate, Positions, quantifier_order};
 use tw_terms::{Context, MetaId};
 
-// A variable in the type of another one, counted in the whole context.
+// A variable in the type of another one, counted in the whole context. Fails where no context in memory is so long.
 fn further_out(variable: u64, by: u64) -> Result<MetaId, AllocError>
     ensures { IfOk result (λ m. m.0 ≡ variable + suc by) }
 {

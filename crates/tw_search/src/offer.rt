@@ -107,7 +107,7 @@ fn equations(
     }
 }
 
-/// The type of a head that is offered in the local context.
+/// The type of a head that is offered in the local context. Fails where no context in memory is so long, too.
 fn head_type(
     alloc: Global,
     signature: &Signature,

@@ -69,6 +69,7 @@ fn name_variable(
         return Ok(());
     }
     let Some(ty) = context.get(variable) else {
+        // What is shown has variables of its context only; no clause of this call asks for it.
         return Err(AllocError);
     };
     let name = env.fresh_name(alloc, taken, env.upper_base(target(ty)))?;

@@ -58,6 +58,7 @@ fn weaken_spine(alloc: Global, spine: &Spine, by: u64, under: u64) -> Result<Spi
     Ok(Spine { args })
 }
 
+/// The head under so many more variables. Fails where no context in memory is so long.
 fn weaken_head(head: Head, by: u64, under: u64) -> Result<Head, AllocError>
     ensures { IfOk result (λ h. head_of h ≡ rename_head (lift_renaming_by under (shift_by by)) (head_of head)) }
 {

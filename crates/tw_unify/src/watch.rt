@@ -46,7 +46,7 @@ impl Watch {
         })
     }
 
-    /// Notes what came of an equation at work.
+    /// Notes what came of an equation at work. Bindings are counted, and memory counts as used up after 2 ^ 64 - 1 of them.
     pub fn note(&mut self, came: Advance) -> Result<(), AllocError>
         ensures { OnOk result ((s t : State) → Watches s (diary_of self.old) → Changes came s t → Watches t (diary_of self.new)) }
     {

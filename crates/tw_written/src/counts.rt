@@ -47,6 +47,7 @@ fn wait_for_both<'a>(
     Ok(())
 }
 
+/// The sum. Fails past 2 ^ 64 - 1, which no memory holds.
 fn added(count: u64, more: u64) -> Result<u64, AllocError>
     ensures { IfOk result (λ n. n ≡ count + more) }
 {
