@@ -78,8 +78,11 @@ impl Variables {
         shape: &Shape,
         is_shown: bool,
     ) -> Result<String, FormFault> {
-        let Some(skeleton) = self.shapes.solved(shape)? else {
+        if !self.shapes.is_settled(shape)? {
             return said(alloc, "open");
+        }
+        let Some(skeleton) = self.shapes.solved(shape)? else {
+            return said(alloc, "too deep");
         };
         if is_shown {
             let mut line = String::new(alloc);
