@@ -1,9 +1,8 @@
 -- A split at each head of which unification answers gives the cases that are to be answered; and a run of such splits covers its goal.
-use Rattle.std.proofs.Common.{◌≡◌, ℕ, zero, suc, ◌+◌, List, [], ◌∷◌, inl, inr, refl, sym, ◌∙◌, subst}
+use Rattle.std.proofs.Common.{◌≡◌, ℕ, ◌+◌, List, [], ◌∷◌, inl, inr, refl, sym, ◌∙◌, subst}
 use Rattle.std.specs.Prelude.{Bool, true, false, Option, Some, None}
-use Rattle.lf.specs.Syntax.{LfType, Kind, pi, atom, kind_pi, star, lift_renaming, rename_type}
+use Rattle.lf.specs.Syntax.{Kind, kind_pi, star, lift_renaming, rename_type}
 use Rattle.lf.specs.Typing.{Signature, IsSignature}
-use Rattle.lf.specs.Variables.{FamiliesIn}
 use Rattle.lf.specs.Subordination.{Block, Member, AreTypedBlocks, SelfContained}
 use Rattle.lf.proofs.Strength.{families_renamed}
 use Rattle.lf_checks.specs.Below.{IsSubordination}
@@ -14,9 +13,9 @@ use Rattle.lf_coverage.specs.Calls.{AreCasesBesideAll, HeadGives, PlacesIn}
 use Rattle.lf_coverage.specs.HeadOrder.{Offer}
 use Rattle.lf_coverage.specs.Heads.{Listed, no_offer, with_case, without_case, IsSplitAt, IsHeadSplit, IsTypedCase}
 use Rattle.lf_coverage.specs.RunLaws.{SolvedSplitIsUnified, SolvedSplitIsAnswer, SolvedRunCovers, SolvedRunCoversInputs}
-use Rattle.lf_coverage.specs.SplitStore.{open_type, open_some, type_in, weaken_some, context_metavariables, split_store, AllFamiliesIn}
+use Rattle.lf_coverage.specs.SplitStore.{split_store, AllFamiliesIn}
 use Rattle.lf_coverage.specs.UnifiedSplit.{HeadIsSolved, IsSolvedSplit, IsUnifiedSplit, SolvesEachHead, SplitsByUnification, UnifierAnswer}
-use Rattle.lf_coverage.proofs.Families.{split_items_keep_families, solved_keeps_families}
+use Rattle.lf_coverage.proofs.Families.{split_items_keep_families, solved_keeps_families, store_families}
 use Rattle.lf_coverage.proofs.HeadSplit.{head_of_case, heads_split, split_cases_typed}
 use Rattle.lf_coverage.proofs.Leaves.{leaves_cover}
 use Rattle.lf_coverage.proofs.NoCase.{never_gives_no_case}
@@ -31,38 +30,12 @@ listed_by f no_offer = no_offer
 listed_by f (with_case {h = h} {D = D} a l) = with_case (f h (Some D) (inl refl) a) (listed_by (λ k z m. f k z (inr m)) l)
 listed_by f (without_case {h = h} a l) = without_case (f h None (inl refl) a) (listed_by (λ k z m. f k z (inr m)) l)
 
--- the families of a store of a split
-module _ (S : ℕ → Bool) where
-  opened_families : (k : ℕ) (A : LfType) → FamiliesIn S A → FamiliesIn S (open_type k A)
-  opened_families k (pi A B) (a, b) = (opened_families k A a, opened_families (suc k) B b)
-  opened_families k (atom a T) h = h
-
-  abbrev some_in : Option LfType → Type 0
-  some_in None = Unit {0}
-  some_in (Some A) = FamiliesIn S A
-
-  type_in_families : (G : List LfType) → AllFamiliesIn S G → (i : ℕ) → some_in (type_in G i)
-  type_in_families [] h i = tt
-  type_in_families (A ∷ G) (a, h) zero = families_renamed S suc A a
-  type_in_families (A ∷ G) (a, h) (suc i) = weakened (type_in G i) (type_in_families G h i)
-    where
-      weakened : (y : Option LfType) → some_in y → some_in (weaken_some y)
-      weakened None h = tt
-      weakened (Some B) h = families_renamed S suc B h
-
-  store_families : (G : List LfType) → AllFamiliesIn S G → (m : ℕ) (A : LfType) → context_metavariables G m ≡ Some A → FamiliesIn S A
-  store_families G h m A e = subst some_in e (opened (type_in G m) (type_in_families G h m))
-    where
-      opened : (y : Option LfType) → some_in y → some_in (open_some y)
-      opened None h = tt
-      opened (Some B) h = opened_families zero B h
-
 module _ (Σ : Signature) (ok : IsSignature Σ) (W : List Block) (typed : AreTypedBlocks Σ W) (below : ℕ → ℕ → Bool) (C : Case) (tc : IsTypedCase Σ W C) (x : ℕ) (Cs : List Case) (sp : IsSolvedSplit Σ W below C x Cs) where
   module _ (S : ℕ → Bool) (sc : SelfContained Σ W S) (fam : AllFamiliesIn S (items_context C.items)) where
     split_families : (h : Offer) → SplitHead Σ W C.items sp.type h.items h.moved h.head h.type → HasNoBlockVariable h.items → AllFamiliesIn S (items_context (split_items below sp.type h.items h.moved h.type))
     split_families h sh n = split_items_keep_families Σ W S sc below C.items fam x sp.type sp.at h.items h.moved h.head h.type sh n
 
-    is_unified : IsUnifiedSplit Σ W S below C x Cs
+    pub is_unified : IsUnifiedSplit Σ W S below C x Cs
     is_unified = record {
       type = sp.type;
       at = sp.at;
@@ -113,7 +86,7 @@ module _ (Σ : Signature) (ok : IsSignature Σ) (W : List Block) (typed : AreTyp
             let (after, s, e) = a.finds in
             subst (Rattle.lf_cases.specs.Reached.IsSplitBy Σ W below C x sp.type h.items h.moved h.head h.type) (sym e) (solved_is_split Σ ok W typed below C tc x sp.type sp.at h.items h.moved h.head h.type sh a.no_block a.kind after s)
 
-  cases_of : IsSubordination Σ W below → AreCasesBesideAll Σ W below C x Cs
+  pub cases_of : IsSubordination Σ W below → AreCasesBesideAll Σ W below C x Cs
   cases_of s = record {
     type = sp.type;
     at = sp.at;

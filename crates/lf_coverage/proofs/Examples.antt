@@ -159,7 +159,7 @@ plus_split = record {
 pub goal_typed : IsTypedCase Addition [] plus_input_goal
 goal_typed = record { items = ((tt, (_, refl, tt)), (_, refl, tt)); given = tt; arguments = ((base 0, (base 0, refl, refl)), ((base 0, (base 0, refl, refl)), tt)) }
 
-same_is : (m n : ℕ) → same_number m n ≡ true → n ≡ m
+pub same_is : (m n : ℕ) → same_number m n ≡ true → n ≡ m
 same_is zero zero e = refl
 same_is zero (suc n) e = absurd cc
 same_is (suc m) zero e = absurd cc

@@ -1,41 +1,27 @@
 -- What a run keeps of the families in the types of the items.
-use Rattle.std.proofs.Common.{◌≡◌, ℕ, zero, suc, ◌⊎◌, List, [], ◌∷◌, length, inl, inr, refl, sym, ap, ◌∙◌, subst}
-use Rattle.std.specs.Prelude.{Bool, true, false, Option, Some, None}
-use Rattle.lf.specs.Syntax.{Head, Term, Skeleton, LfType, pi, atom, weaken, skeleton, lift_renaming, rename_type}
+use Rattle.std.proofs.Common.{◌≡◌, ℕ, zero, suc, List, [], ◌∷◌, length, sym, subst}
+use Rattle.std.specs.Prelude.{Bool, true, false, Some}
+use Rattle.std.specs.List.{AllByRecursion}
+use Rattle.lf.specs.Syntax.{Head, Term, LfType, pi, atom, skeleton, lift_renaming, rename_type}
 use Rattle.lf.specs.Substitution.{single, reduce}
 use Rattle.lf.specs.AtOnce.{shift_by, lift_renaming_by}
-use Rattle.lf.specs.Typing.{Signature, TypeAt, instantiate_type}
-use Rattle.lf.specs.Variables.{binders, onto, FamiliesIn, at_variable}
+use Rattle.lf.specs.Typing.{Signature, instantiate_type}
+use Rattle.lf.specs.Variables.{binders, FamiliesIn, at_variable}
 use Rattle.lf.specs.Subordination.{Block, SelfContained}
 use Rattle.lf.proofs.Strength.{families_renamed, families_substituted, family_target}
-use Rattle.lf_unification.specs.Dependency.{IsDependencyOrder, ListedMetavariable, add_free, free_context, values}
-use Rattle.lf_unification.specs.Filling.{fill_type, moved}
-use Rattle.lf_unification.specs.Offering.{pi_over}
-use Rattle.lf_unification.specs.OpenTyping.{set_at, skeletons_of}
-use Rattle.lf_unification.specs.Pruning.{PrunedType, pruned_type}
-use Rattle.lf_unification.specs.Putting.{PutsInType, put_in_atom, put_in_pi}
-use Rattle.lf_unification.specs.Steps.{Step, next_equation, put_bindings, drop_equal, open_lambdas, equal_heads, bind, prune_inside, prune_both, renew, Run, no_step, then_run}
-use Rattle.lf_unification.specs.Unifiers.{Binding, Store}
-use Rattle.lf_unification.proofs.Agree.{set_here, set_cases}
+use Rattle.lf_unification.specs.Dependency.{free_context}
+use Rattle.lf_unification.specs.OpenTyping.{skeletons_of}
 use Rattle.lf_cases.specs.Case.{Item, free_variable, items_context}
 use Rattle.lf_cases.specs.OutputGoal.{free_variables, renumber, over_item, raised_variable}
 use Rattle.lf_cases.specs.Raised.{raise_by, first_mask, other_masks}
 use Rattle.lf_cases.specs.Reached.{SplitHead, constant_head, bound_head, entry_head, new_entry_head, arguments_count, head_items, head_masks, taken}
 use Rattle.lf_cases.specs.Split.{HasNoBlockVariable}
-use Rattle.lf_coverage.specs.SplitStore.{AllFamiliesIn}
+use Rattle.lf_coverage.specs.SplitStore.{context_metavariables, AllFamiliesIn}
 use Rattle.lf_coverage.specs.RunLaws.{SplitItemsKeepFamilies, SolvedKeepsFamilies}
-use Rattle.lf_coverage.proofs.HeadRaised.{families_unrenamed}
+use Rattle.lf_coverage.proofs.Everywhere.{Everywhere, of_families, free_has, metavariables_have, run_has}
 use Rattle.lf_coverage.proofs.StoreSolution.{families_at}
 
 module _ (S : ℕ → Bool) where
-  all_at : (G : List LfType) → ((i : ℕ) (A : LfType) → TypeAt G i A → FamiliesIn S A) → AllFamiliesIn S G
-  all_at [] h = tt
-  all_at (A ∷ G) h = (families_unrenamed S suc A (h zero (weaken A) refl), all_at G (λ i B g. families_unrenamed S suc B (h (suc i) (weaken B) (B, g, refl))))
-
-  all_onto : (D G : List LfType) → AllFamiliesIn S D → AllFamiliesIn S G → AllFamiliesIn S (onto D G)
-  all_onto [] G d g = g
-  all_onto (A ∷ D) G (a, d) g = (a, all_onto D G d g)
-
   all_binders : (G : List LfType) (X : LfType) → AllFamiliesIn S G → FamiliesIn S X → AllFamiliesIn S (binders G X)
   all_binders G (pi A B) g (a, b) = all_binders (A ∷ G) B (a, g) b
   all_binders G (atom a T) g x = g
@@ -64,75 +50,29 @@ module _ (S : ℕ → Bool) where
   head_type_in Σ W sc I i X x _ _ _ A (entry_head j B k f t) n = (families_renamed S (shift_by (length (taken X))) B (families_at S (items_context I) i j B k), i)
   head_type_in Σ W sc I i X x _ _ _ A (new_entry_head B j E m l k t) n = absurd n
 
-  -- types closed over a context
-  over_of : (D : List LfType) (P : LfType) → FamiliesIn S (pi_over D P) → AllFamiliesIn S D × FamiliesIn S P
-  over_of [] P h = (tt, h)
-  over_of (A ∷ D) P h = let (d, (a, p)) = over_of D (pi A P) h in ((a, d), p)
+  -- it looks only at families
+  abbrev InEverywhere : LfType → Type 0
+  InEverywhere = Everywhere (λ b a. Unit {0}) (λ a. S a ≡ true)
 
-  over_from : (D : List LfType) (P : LfType) → AllFamiliesIn S D → FamiliesIn S P → FamiliesIn S (pi_over D P)
-  over_from [] P d p = p
-  over_from (A ∷ D) P (a, d) p = over_from D (pi A P) d (a, p)
+  as_everywhere : (A : LfType) → FamiliesIn S A → InEverywhere A
+  as_everywhere (pi A B) (a, b) = (tt, as_everywhere A a, as_everywhere B b)
+  as_everywhere (atom a T) h = h
 
-  onto_none : (D : List LfType) → AllFamiliesIn S D → AllFamiliesIn S (onto D [])
-  onto_none D d = all_onto D [] d tt
+  from_everywhere : (A : LfType) → InEverywhere A → FamiliesIn S A
+  from_everywhere (pi A B) (q, a, b) = (from_everywhere A a, from_everywhere B b)
+  from_everywhere (atom a T) h = h
 
-  from_onto : (D : List LfType) → AllFamiliesIn S (onto D []) → AllFamiliesIn S D
-  from_onto [] d = tt
-  from_onto (A ∷ D) (a, d) = (a, from_onto D d)
+  all_everywhere : (G : List LfType) → AllFamiliesIn S G → AllByRecursion InEverywhere G
+  all_everywhere [] h = tt
+  all_everywhere (A ∷ G) (a, h) = (as_everywhere A a, all_everywhere G h)
 
-  -- of a store
-  abbrev TypesIn : (ℕ → Option LfType) → Type 0
-  TypesIn Ψ = (m : ℕ) (A : LfType) → Ψ m ≡ Some A → FamiliesIn S A
+  -- the variables of a context as metavariables
+  pub store_families : (G : List LfType) → AllFamiliesIn S G → (m : ℕ) (A : LfType) → context_metavariables G m ≡ Some A → FamiliesIn S A
+  store_families G h m A e = from_everywhere A (metavariables_have InEverywhere (of_families (λ b a. Unit {0}) (λ a. S a ≡ true)) G (all_everywhere G h) m A e)
 
-  pruned_families : (Ψ : ℕ → Option LfType) (n dropped : ℕ) (p : PrunedType Ψ n dropped) → TypesIn Ψ → FamiliesIn S (pruned_type p)
-  pruned_families Ψ n dropped p h =
-      let (d, a) = over_of p.local (atom p.family p.indices) (h n (pi_over p.local (atom p.family p.indices)) p.declared) in
-      over_from p.kept_local (atom p.family p.kept_indices) (from_onto p.kept_local (all_at (onto p.kept_local []) (λ i Y g. families_unrenamed S _ Y (families_at S (onto p.local []) (onto_none p.local d) _ _ (p.part.types i Y g))))) a
-
-  put_families : {Ψ : ℕ → Option LfType} {bs : List Binding} {k : ℕ} {A A' : LfType} → PutsInType Ψ bs k A A' → FamiliesIn S A → FamiliesIn S A'
-  put_families (put_in_atom s) h = h
-  put_families (put_in_pi a b) (h, k) = (put_families a h, put_families b k)
-
-  with_new : (n : ℕ) (X : LfType) (Ψ : ℕ → Option LfType) → TypesIn Ψ → FamiliesIn S X → TypesIn (set_at n (Some X) Ψ)
-  with_new n X Ψ h x m A e = by (set_cases n (Some X) Ψ m)
-    where
-      some_same : {P Q : LfType} → Some P ≡ Some Q → P ≡ Q
-      some_same q = cc
-
-      by : (m ≡ n) ⊎ (set_at n (Some X) Ψ m ≡ Ψ m) → FamiliesIn S A
-      by (inl q) = subst (FamiliesIn S) (some_same (sym (set_here n (Some X) Ψ) ∙ ap (set_at n (Some X) Ψ) (sym q) ∙ e)) x
-      by (inr q) = h m A (sym q ∙ e)
-
-  step_families : {Σ : Signature} {s s' : Store} → Step Σ s s' → TypesIn s.metavariables → TypesIn s'.metavariables
-  step_families (next_equation es e fs) h = h
-  step_families (put_bindings p q) h = h
-  step_families drop_equal h = h
-  step_families open_lambdas h = h
-  step_families (equal_heads g A r t) h = h
-  step_families (bind side D m xs N C e u p b) h = h
-  step_families (prune_inside {Ψ = Ψ} side D m xs N C e i p u n sc) h = with_new n (pruned_type p.pruned) Ψ h (pruned_families Ψ p.drop.m p.dropped p.pruned h)
-  step_families (prune_both {Ψ = Ψ} side D m xs N C e i p u n sc) h = with_new n (pruned_type p.pruned) Ψ h (pruned_families Ψ m p.dropped p.pruned h)
-  step_families (renew {Ψ = Ψ} m A A' e u o p n sc) h = with_new n A' Ψ h (put_families p (h m A e))
-
-  pub run_families : {Σ : Signature} {s s' : Store} → Run Σ s s' → TypesIn s.metavariables → TypesIn s'.metavariables
-  run_families no_step h = h
-  run_families (then_run t r) h = run_families r (step_families t h)
-
-  filled_families : (μ : ℕ → Skeleton) (β : ℕ → Option Term) (A : LfType) → FamiliesIn S A → FamiliesIn S (fill_type μ β A)
-  filled_families μ β (pi A B) (a, b) = (filled_families μ β A a, filled_families μ (moved suc β) B b)
-  filled_families μ β (atom a T) h = h
-
-  added : (v : Option Term) (A : LfType) (F : List LfType) → FamiliesIn S A → AllFamiliesIn S F → AllFamiliesIn S (add_free v A F)
-  added None A F a f = (a, f)
-  added (Some N) A F a f = f
-
-  free_families : (Σ : Signature) (μ : ℕ → Skeleton) (Ψ : ℕ → Option LfType) (U : (ℕ → Option Term) → Type 0) → TypesIn Ψ → (is : List ListedMetavariable) → IsDependencyOrder Σ Ψ U is → AllFamiliesIn S (free_context μ is)
-  free_families Σ μ Ψ U h [] o = tt
-  free_families Σ μ Ψ U h (it ∷ is) (o, e, later, inside, typed, closed, ordered) = added it.value (fill_type μ (values μ is) it.of_type) (free_context μ is) (filled_families μ (values μ is) it.of_type (h it.of it.of_type e)) (free_families Σ μ Ψ U h is o)
-
-  as_items : (O : List LfType) → AllFamiliesIn S O → AllFamiliesIn S (items_context (free_variables O))
+  as_items : (O : List LfType) → AllByRecursion InEverywhere O → AllFamiliesIn S (items_context (free_variables O))
   as_items [] h = tt
-  as_items (A ∷ O) (a, h) = (a, as_items O h)
+  as_items (A ∷ O) (a, h) = (from_everywhere A a, as_items O h)
 
 pub split_items_keep_families : SplitItemsKeepFamilies
 split_items_keep_families Σ W S sc below I i x X at J n h A sh nj =
@@ -142,4 +82,7 @@ split_items_keep_families Σ W S sc below I i x X at J n h A sh nj =
     head_families S (head_masks below (taken Y) (arguments_count A) A) (taken Y) (arguments_count A) A J (all_binders S [] Y tt (families_renamed S (shift_by n) X fx)) a j
 
 pub solved_keeps_families : SolvedKeepsFamilies
-solved_keeps_families Σ S before after h s C k = as_items S _ (free_families S Σ (skeletons_of after.metavariables) after.metavariables _ (run_families S s.run h) s.well_formed.order s.well_formed.is_order)
+solved_keeps_families Σ S before after h s C k =
+    let R : ℕ → ℕ → Type 0 = λ b a. Unit {0} in
+    let Q : ℕ → Type 0 = λ a. S a ≡ true in
+    as_items S (free_context (skeletons_of after.metavariables) s.well_formed.order) (free_has R Q Σ (skeletons_of after.metavariables) after.metavariables _ (run_has R Q s.run (λ m A e. as_everywhere S A (h m A e))) s.well_formed.order s.well_formed.is_order)

@@ -72,3 +72,8 @@ pub mod CasesOf
 pub mod StoreSkeletons
 pub mod ExamplesRuns
 pub mod Subordinate
+pub mod Everywhere
+pub mod SubordinateRaised
+pub mod SubordinateItems
+pub mod SubordinateRuns
+pub mod ExamplesSubordinate

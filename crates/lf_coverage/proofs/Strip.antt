@@ -125,7 +125,7 @@ module _ (Σ Σ' : Signature) (W : List Block) (S : ℕ → Bool) (x : Extends S
   places_use U G (app M T) (kind_pi A K) h (a, k) (m, s) = (uses_only Σ' S (c'.types_in) U G M A h a m, places_use U G T (instantiate_kind A M K) h (kind_substituted S A M K k) s)
   places_use U G (app M T) star h k s = absurd s
 
-  type_uses : (U : ℕ → Bool) (G : List LfType) (A : LfType) → Rich S U G → FamiliesIn S A → IsType Σ' G A → UsesType U A
+  pub type_uses : (U : ℕ → Bool) (G : List LfType) (A : LfType) → Rich S U G → FamiliesIn S A → IsType Σ' G A → UsesType U A
   type_uses U G (pi A B) h (a, b) (t, u) = (type_uses U G A h a t, type_uses (under U) (A ∷ G) B (rich_push S U G A a h) b u)
   type_uses U G (atom a T) h f (K, e, s) = places_use U G T K h (c'.kinds_in a K e f) s
 

@@ -30,3 +30,5 @@ pub mod Calls
 pub mod Laws
 pub mod RunLaws
 pub mod ExamplesRuns
+pub mod SubordinateRuns
+pub mod ExamplesSubordinate

@@ -4,7 +4,9 @@
 ghost use Rattle.lf_coverage.specs.Laws.{HeadSplitIsSplit, SplitCasesAreTyped, SplitCaseIsInstance, InstancesCompose, ReachedIsInstance, MeetStoreIsReady, SplitStoreIsReady, StoresHaveSkeletons, InputGoalIsTypedCase, InputGoalIsTyped, InstanceStaysTyped, SplitCasesStayTyped, ReachedStaysTyped, HeadSplitsCover, NeverGivesNone, NeverGivesNoCase, NeverSharesAll, NeverIsApart, NeverIsApartBeside, SolvedSharesInstance, SolvedGivesCase, SolvedIsSplit, LeftIsOutside, UnifiedSplitIsHeadSplit, LeafIsInstanceCase, LeavesCover, HeadIsTypedPattern, SubgoalIsTypedPattern};
 ghost use Rattle.lf_coverage.specs.RunLaws.{EmptyWorldHasNoBlock, ReachedHasNoBlock, InstanceIsTypedCase, CandidateIsVariable, NeverIsMatchedApart, NeverIsMissing, SplitItemsKeepFamilies, SolvedKeepsFamilies, SolvedSplitIsUnified, SolvedSplitIsAnswer, SolvedRunCovers, SolvedRunCoversInputs};
 ghost use Rattle.lf_coverage.specs.Subordinate.{BelowOnesTakeBelow, HeadsQuantifyBelow, InputsQuantifyBelow};
+ghost use Rattle.lf_coverage.specs.SubordinateRuns.{OccurringIsBelow, RaisedQuantifiesBelow, SplitItemsQuantifyBelow, OutputsQuantifyBelow, SolvedQuantifiesBelow, AnsweredSplitIsSolved, AnsweredSplitIsAnswer, RunQuantifiesBelow, InputRunQuantifiesBelow, AnsweredRunCovers, AnsweredRunCoversInputs};
 ghost use Rattle.lf_coverage.specs.Examples.{PlusIsSplitByHeads, PlusIsSplitByUnification, PlusIsCoveredByHeads, SuccessorGivesNone, HeadsAreAll, CopyHeadsAreInOrder, NumbersGetDeep, StoresOfMeeting};
+ghost use Rattle.lf_coverage.specs.ExamplesSubordinate.{ArgumentsAreNotEnough, FunctionsAreSplit, OutputsAreRaisedBelow, AdditionIsTested, PlusRunIsAnswered, OddCaseComesByNone, LooseCaseIsSplit};
 ghost use Rattle.lf_coverage.specs.ExamplesRuns.{PlusRunCovers, PlusCasesAreAnswer, PlusIsMissing};
 ghost use Rattle.lf_coverage.specs.ExamplesLocal.{CopyLocalIsTyped};
 ghost use Rattle.lf_coverage.specs.ExamplesTyped.{PlusGoalsAreTyped, OddCaseIsUntyped, ZeroIsApart, SuccessorIsSplit};
@@ -389,4 +391,42 @@ pub fn new_block_is_typed()
 /// The numbered form of a typed case is typed.
 pub fn numbered_case_is_typed()
     ensures { NumberedCaseIsTyped }
+{}
+
+/// What occurs in a type is below it, and so what is quantified in the types of new variables and of what solving leaves free.
+pub fn splits_quantify_below()
+    ensures occurring { OccurringIsBelow }
+    ensures raised { RaisedQuantifiesBelow }
+    ensures items { SplitItemsQuantifyBelow }
+    ensures outputs { OutputsQuantifyBelow }
+    ensures solved { SolvedQuantifiesBelow }
+{}
+
+/// So the families in arguments' types are below their own in each split at each head of which unification answers.
+pub fn answered_split_is_solved()
+    ensures split { AnsweredSplitIsSolved }
+    ensures answer { AnsweredSplitIsAnswer }
+{}
+
+/// And so it is in each case that comes by such splits.
+pub fn run_quantifies_below()
+    ensures goal { RunQuantifiesBelow }
+    ensures inputs { InputRunQuantifiesBelow }
+{}
+
+/// A run of such splits covers its goal, whatever families are in the types along it.
+pub fn answered_run_covers()
+    ensures goal { AnsweredRunCovers }
+    ensures inputs { AnsweredRunCoversInputs }
+{}
+
+/// What arguments alone don't tell, splits of functions, a test, and a run that nothing more is asked of.
+pub fn plus_run_is_answered()
+    ensures arguments { ArgumentsAreNotEnough }
+    ensures functions { FunctionsAreSplit }
+    ensures outputs { OutputsAreRaisedBelow }
+    ensures test { AdditionIsTested }
+    ensures run { PlusRunIsAnswered }
+    ensures odd { OddCaseComesByNone }
+    ensures loose { LooseCaseIsSplit }
 {}
