@@ -28,6 +28,7 @@ use Rattle.lf_coverage.specs.Examples.{PlusIsSplitByUnification, SuccessorGivesN
 use Rattle.lf_coverage.specs.UnifiedSplit.{IsSolvedSplit}
 use Rattle.lf_coverage.proofs.Examples.{plus_offers, plus_are_offers, plus_in_order, two, each_head, goal_typed}
 use Rattle.lf_coverage.proofs.NoCase.{never_gives_no_case}
+use Rattle.lf_coverage.specs.ExamplesRenumbering.{successor_store, unknown}
 use Rattle.lf_coverage.specs.ExamplesTyped.{SuccessorIsSplit}
 use Rattle.lf_totality.specs.Examples.{plus_input_goal}
 use Rattle.lf_coverage.proofs.SolvedSplit.{solved_splits}
@@ -273,3 +274,7 @@ successor_none = (
   never_gives Numbered numbered_ok [] (λ B m. absurd m) first_below_second first_three three_contained split_case case_typed 0 (on_one 2 (successor (var 1))) refl successor_items 0 (constant 2) a_z.type (constant_head 2 a_z.type refl refl) tt (refl, (refl, tt)) one_kind never_successor,
   never_gives_no_case Numbered numbered_ok [] (λ B m. absurd m) first_below_second split_case case_typed 0 (on_one 2 (successor (var 1))) refl successor_items 0 (constant 2) a_z.type (constant_head 2 a_z.type refl refl) tt one_kind never_successor,
 )
+
+-- the store is ready, and X := s X' solves it
+pub successor_done : IsWellFormed Addition successor_store × (after : Store) × Solved Addition successor_store after × (after.bindings ≡ record { of = 2; value = successor (unknown 0) } ∷ [])
+successor_done = (successor_before, after_successor, successor_solved, refl)

@@ -79,7 +79,7 @@ have_at κ Γ (None ∷ Ms) (suc i) M h e = have_at κ Γ Ms i M h e
 pub value_type : (Σ : Signature) (ok : IsSignature Σ) (V : ℕ → Bool) (G D : List LfType) (σ : ℕ → Image) (B : LfType) → IsContext Σ G → IsContext Σ D → Values Σ V G D σ → IsType Σ G B → UsesType V B → IsType Σ D (substitute_type reduce σ B)
 value_type Σ ok V G D σ B cg cd v t u = subst (IsType Σ D) (sym (agree_on_type reduce V σ (patch V D σ) B (patch_same V D σ) u)) (partial_substitution_keeps_types Σ ok (skeletons_beside [] G) [] V G D (patch V D σ) B (patched Σ ok V G D σ cg cd v) u t)
 
-instance_agree : (Σ : Signature) (L O : List LfType) (σ τ : ℕ → Image) → IsContext Σ (onto L O) → Agree O σ τ → (instance L σ ≡ instance L τ) × Agree (onto L O) (lift_over L σ) (lift_over L τ)
+pub instance_agree : (Σ : Signature) (L O : List LfType) (σ τ : ℕ → Image) → IsContext Σ (onto L O) → Agree O σ τ → (instance L σ ≡ instance L τ) × Agree (onto L O) (lift_over L σ) (lift_over L τ)
 instance_agree Σ [] O σ τ c h = (refl, h)
 instance_agree Σ (A ∷ L) O σ τ (c, t) h = let (e, k) = instance_agree Σ L O σ τ c h in (ap₂ ◌∷◌ (agree_type Σ reduce (onto L O) (lift_over L σ) (lift_over L τ) A k t) e, Agree-lift (onto L O) A (lift_over L σ) (lift_over L τ) k)
 

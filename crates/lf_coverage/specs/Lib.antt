@@ -32,3 +32,6 @@ pub mod RunLaws
 pub mod ExamplesRuns
 pub mod SubordinateRuns
 pub mod ExamplesSubordinate
+pub mod Renumbering
+pub mod RenumberingLaws
+pub mod ExamplesRenumbering

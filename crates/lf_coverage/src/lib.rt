@@ -17,6 +17,8 @@ ghost use Rattle.lf_coverage.specs.NewBlock.{NewBlockIsTyped};
 ghost use Rattle.lf_coverage.specs.ExamplesNumbered.{TurnedIsTyped, BlocksAreIdentified, CopiesAreNumbered};
 ghost use Rattle.lf_coverage.specs.ExamplesEntries.{CopyEntriesHaveTypes, SomeEntriesHaveTypes, LaterEntryHasType, EntryStandsOnItsTerms, EntryIsRead, EntryCaseIsTyped, NewBlockComesLast};
 ghost use Rattle.lf_coverage.specs.ExamplesLeaves.{PlusEndsAtLeaves, EntryIsLeaf, GoalIsOutputLeaf};
+ghost use Rattle.lf_coverage.specs.ExamplesRenumbering.{TurnedIsSolved, NumbersDiffer, NewTakesAnother};
+ghost use Rattle.lf_coverage.specs.RenumberingLaws.{NumbersExtend, NumbersAreRenumbering, UndoingReturns, ReadyUnderNumbers, StepUnderNumbers, NeverUnderNumbers, SolvedUnderNumbers, LeftUnderNumbers, DeepUnderNumbers, FoundUnderNumbers, NeverGivesNoCaseUnderNumbers, SolvedIsSplitUnderNumbers, LeftIsOutsideUnderNumbers, TooDeepUnderNumbers, NeverIsApartUnderNumbers, SolvedSharesInstanceUnderNumbers, OpenUnderNumbers};
 
 /// The heads of a split give all its cases.
 pub fn head_split_is_split()
@@ -429,4 +431,56 @@ pub fn plus_run_is_answered()
     ensures run { PlusRunIsAnswered }
     ensures odd { OddCaseComesByNone }
     ensures loose { LooseCaseIsSplit }
+{}
+
+/// Different numbers for finitely many metavariables are a renumbering's, and a store with them is one under it; what is undone is as it was.
+pub fn numbers_extend()
+    ensures extend { NumbersExtend }
+    ensures store { NumbersAreRenumbering }
+    ensures undone { UndoingReturns }
+{}
+
+/// A store that is ready to be solved is so under other numbers of its metavariables.
+pub fn ready_under_numbers()
+    ensures { ReadyUnderNumbers }
+{}
+
+/// A step of a store is one under other numbers.
+pub fn step_under_numbers()
+    ensures { StepUnderNumbers }
+{}
+
+/// What has no typed unifier has none under other numbers.
+pub fn never_under_numbers()
+    ensures { NeverUnderNumbers }
+{}
+
+/// What is solved is solved under other numbers, what leaves equations leaves them, and what is deep is so.
+pub fn solved_under_numbers()
+    ensures solved { SolvedUnderNumbers }
+    ensures left { LeftUnderNumbers }
+    ensures deep { DeepUnderNumbers }
+{}
+
+/// Unification of a head with a variable may be done under any numbers: it finds none, or the case, or what the split stops at, or is too deep.
+pub fn split_under_numbers()
+    ensures found { FoundUnderNumbers }
+    ensures never { NeverGivesNoCaseUnderNumbers }
+    ensures solved { SolvedIsSplitUnderNumbers }
+    ensures left { LeftIsOutsideUnderNumbers }
+    ensures deep { TooDeepUnderNumbers }
+{}
+
+/// So may that of a case with a constant's clause: they are apart, or share an instance, or it is open whether they do.
+pub fn meeting_under_numbers()
+    ensures never { NeverIsApartUnderNumbers }
+    ensures solved { SolvedSharesInstanceUnderNumbers }
+    ensures open { OpenUnderNumbers }
+{}
+
+/// Addition with X and Y numbered the other way round, two metavariables of one number, and a new one that takes another.
+pub fn numbers_are_turned()
+    ensures solved { TurnedIsSolved }
+    ensures differ { NumbersDiffer }
+    ensures new { NewTakesAnother }
 {}
