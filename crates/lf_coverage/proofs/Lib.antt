@@ -93,3 +93,16 @@ pub mod RenumberedDeep
 pub mod RenumberedSolving
 pub mod RenumberedSplit
 pub mod ExamplesRenumbering
+pub mod Abstracted
+pub mod Choices
+pub mod UnderBound
+pub mod Occurring
+pub mod TermMatching
+pub mod ExamplesStuck
+pub mod LowTerms
+pub mod FullTakes
+pub mod FullPlaces
+pub mod OwnVariables
+pub mod InputsMatching
+pub mod StrictHeads
+pub mod TypedValues

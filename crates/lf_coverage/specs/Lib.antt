@@ -35,3 +35,6 @@ pub mod ExamplesSubordinate
 pub mod Renumbering
 pub mod RenumberingLaws
 pub mod ExamplesRenumbering
+pub mod TermMatching
+pub mod ExamplesStuck
+pub mod FullMatching

@@ -19,6 +19,9 @@ ghost use Rattle.lf_coverage.specs.ExamplesEntries.{CopyEntriesHaveTypes, SomeEn
 ghost use Rattle.lf_coverage.specs.ExamplesLeaves.{PlusEndsAtLeaves, EntryIsLeaf, GoalIsOutputLeaf};
 ghost use Rattle.lf_coverage.specs.ExamplesRenumbering.{TurnedIsSolved, NumbersDiffer, NewTakesAnother};
 ghost use Rattle.lf_coverage.specs.RenumberingLaws.{NumbersExtend, NumbersAreRenumbering, UndoingReturns, ReadyUnderNumbers, StepUnderNumbers, NeverUnderNumbers, SolvedUnderNumbers, LeftUnderNumbers, DeepUnderNumbers, FoundUnderNumbers, NeverGivesNoCaseUnderNumbers, SolvedIsSplitUnderNumbers, LeftIsOutsideUnderNumbers, TooDeepUnderNumbers, NeverIsApartUnderNumbers, SolvedSharesInstanceUnderNumbers, OpenUnderNumbers};
+ghost use Rattle.lf_coverage.specs.TermMatching.{TermsMatch, ArgumentsMatch};
+ghost use Rattle.lf_coverage.specs.ExamplesStuck.{PatternsStand, BoundIsTaken, AppliedIsReached, SolvedHasCandidate, LowerIsUnsplit};
+ghost use Rattle.lf_coverage.specs.FullMatching.{FullPlacesMatch, InputsMatch, HeadsAreStrict, PatternValuesAreTyped};
 
 /// The heads of a split give all its cases.
 pub fn head_split_is_split()
@@ -483,4 +486,43 @@ pub fn numbers_are_turned()
     ensures solved { TurnedIsSolved }
     ensures differ { NumbersDiffer }
     ensures new { NewTakesAnother }
+{}
+
+/// A term of a clause and one of a case that share an instance: without a candidate the one is made the other.
+pub fn terms_match()
+    ensures { TermsMatch }
+{}
+
+/// And so are arguments.
+pub fn arguments_match()
+    ensures { ArgumentsMatch }
+{}
+
+/// A most general unifier that isn't made of patterns gives a case where the strategy is stuck.
+pub fn applied_is_reached()
+    ensures patterns { PatternsStand }
+    ensures bound { BoundIsTaken }
+    ensures stuck { AppliedIsReached }
+    ensures solved { SolvedHasCandidate }
+    ensures lower { LowerIsUnsplit }
+{}
+
+/// And so are the arguments of a case and the tuple of a linear and full clause.
+pub fn full_places_match()
+    ensures { FullPlacesMatch }
+{}
+
+/// So a case of inputs that shares an instance with a linear and full clause has a candidate, or the clause matches it.
+pub fn inputs_match()
+    ensures { InputsMatch }
+{}
+
+/// And each variable in the head of such a clause has a strict occurrence, as an instance asks.
+pub fn heads_are_strict()
+    ensures { HeadsAreStrict }
+{}
+
+/// And a value that makes a variable on distinct bound variables a typed term is typed.
+pub fn pattern_values_are_typed()
+    ensures { PatternValuesAreTyped }
 {}

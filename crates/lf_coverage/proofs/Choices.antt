@@ -1,0 +1,48 @@
+-- Choices by a test, and lists of candidates that are empty.
+use Rattle.std.proofs.Common.{◌≡◌, ℕ, List, [], ◌∷◌, refl}
+use Rattle.std.specs.Prelude.{Bool, true, false, cond, Option, Some, None}
+use Rattle.lf_checks.specs.Tests.{choose}
+use Rattle.lf_cases.specs.Candidates.{counted, then}
+
+-- lists put together that are empty
+pub then_first : (xs ys : List ℕ) → then xs ys ≡ [] → xs ≡ []
+then_first [] ys e = refl
+then_first (x ∷ xs) ys e = absurd cc
+
+pub then_second : (xs ys : List ℕ) → then xs ys ≡ [] → ys ≡ []
+then_second [] ys e = e
+then_second (x ∷ xs) ys e = absurd cc
+
+pub none_counted : (b : Bool) (o : Option ℕ) (y : ℕ) → b ≡ true → o ≡ Some y → counted b o ≡ [] → ⊥
+none_counted true (Some x) y p q e = absurd cc
+none_counted true None y p q e = absurd cc
+none_counted false o y p q e = absurd cc
+
+pub chosen : (b : Bool) (xs ys : List ℕ) → b ≡ true → cond b xs ys ≡ [] → xs ≡ []
+chosen true xs ys p e = e
+chosen false xs ys p e = absurd cc
+
+pub not_chosen : (b : Bool) (xs ys : List ℕ) → b ≡ false → cond b xs ys ≡ [] → ys ≡ []
+not_chosen true xs ys p e = absurd cc
+not_chosen false xs ys p e = e
+
+pub choose_first : (A B : Type 0) (b : Bool) → b ≡ true → choose b A B → A
+choose_first A B true p x = x
+choose_first A B false p x = absurd cc
+
+pub choose_second : (A B : Type 0) (b : Bool) → b ≡ false → choose b A B → B
+choose_second A B true p x = absurd cc
+choose_second A B false p x = x
+
+-- either way
+pub decided : {A : Type 0} (b : Bool) → (b ≡ true → A) → (b ≡ false → A) → A
+decided true f g = f refl
+decided false f g = g refl
+
+pub first_chosen : (A B : Type 0) (b : Bool) → b ≡ true → A → choose b A B
+first_chosen A B true p x = x
+first_chosen A B false p x = absurd cc
+
+pub second_chosen : (A B : Type 0) (b : Bool) → b ≡ false → B → choose b A B
+second_chosen A B true p x = absurd cc
+second_chosen A B false p x = x
