@@ -46,13 +46,13 @@ entry_keep [] υ k a = absurd cc
 entry_keep (E ∷ es) υ zero a = (zero, refl)
 entry_keep (E ∷ es) υ (suc k) a = let (j, e) = entry_keep es υ k a in (suc j, ap (rename_image suc) e)
 
-among_keep : (J : List Item) (B : Block) (θ : ℕ → Image) → BlockAmong J B θ → (k : ℕ) → among B.entries k ≡ true → (j : ℕ) × (θ k ≡ keep j)
+pub among_keep : (J : List Item) (B : Block) (θ : ℕ → Image) → BlockAmong J B θ → (k : ℕ) → among B.entries k ≡ true → (j : ℕ) × (θ k ≡ keep j)
 among_keep [] B θ b k a = absurd b
 among_keep (free_variable A ∷ J) B θ (τ, b, q) k a = let (j, e) = among_keep J B τ b k a in (suc j, ap (λ f. f k) q ∙ ap (rename_image suc) e)
 among_keep (block_variable C υ ∷ J) B θ (inl (p, q)) k a = let (j, e) = entry_keep C.entries υ k (ap (λ D. among D.entries k) p ∙ a) in (j, ap (λ f. f k) q ∙ e)
 among_keep (block_variable C υ ∷ J) B θ (inr (τ, b, q)) k a = let (j, e) = among_keep J B τ b k a in (j + length C.entries, ap (λ f. f k) q ∙ ap (rename_image (shift_by (length C.entries))) e)
 
-first_among : (Σ : Signature) (J I : List Item) (ρ : ℕ → Image) (i : IsTypedInstance Σ J I ρ) (B : Block) (θ : ℕ → Image) → FirstAmong Σ J I ρ i B θ → BlockAmong J B θ
+pub first_among : (Σ : Signature) (J I : List Item) (ρ : ℕ → Image) (i : IsTypedInstance Σ J I ρ) (B : Block) (θ : ℕ → Image) → FirstAmong Σ J I ρ i B θ → BlockAmong J B θ
 first_among Σ J [] ρ i B θ f = absurd f
 first_among Σ J (free_variable A ∷ I) ρ (N, τ, i, t, e) B θ f = first_among Σ J I τ i B θ f
 first_among Σ J (block_variable C υ ∷ I) ρ (φ, τ, i, b, s, e) B θ f = by (λ f. first_among Σ J I τ i B θ f) (has_block_variable I) f

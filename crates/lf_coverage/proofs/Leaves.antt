@@ -49,7 +49,7 @@ goal_places : (D : List LfType) (U : ℕ → Bool) (m : List Bool) (A : LfType) 
 goal_places D U m (pi B A) u = goal_places (B ∷ D) U m A u.1
 goal_places D U m (atom a S) u = u
 
-given_skeleton : (κ : HeadSkeletons) (Γ : List Skeleton) (Ms : List (Option Term)) (i : ℕ) (M : Term) → HaveSkeletons κ Γ Ms → given_at Ms i ≡ Some M → (t : Skeleton) × TermSkeleton κ Γ M t
+pub given_skeleton : (κ : HeadSkeletons) (Γ : List Skeleton) (Ms : List (Option Term)) (i : ℕ) (M : Term) → HaveSkeletons κ Γ Ms → given_at Ms i ≡ Some M → (t : Skeleton) × TermSkeleton κ Γ M t
 given_skeleton κ Γ [] i M h e = absurd cc
 given_skeleton κ Γ (Some N ∷ Ms) zero M ((t, n), h) e = (t, subst (λ X. TermSkeleton κ Γ X t) (some_same e) n)
   where

@@ -106,3 +106,14 @@ pub mod OwnVariables
 pub mod InputsMatching
 pub mod StrictHeads
 pub mod TypedValues
+pub mod ReadOff
+pub mod Matching
+pub mod Matched
+pub mod MatchInstance
+pub mod GroundHolds
+pub mod ExamplesMatching
+pub mod FoundSkeletons
+pub mod FoundTyped
+pub mod HeadMatching
+pub mod GoalTyped
+pub mod OwnInstance

@@ -76,7 +76,7 @@ uses_goal_all U h b (Rattle.lf.specs.Syntax.pi A B) = (uses_type_all U A h, uses
     all_under U h (suc i) = h i
 uses_goal_all U h b (Rattle.lf.specs.Syntax.atom a S) = uses_places_all U h b S
 
-nothing_outside : (Σ : Signature) {c : Clause} (o : Origin c) → IsConstants o → (b : Bool) (J I : List Item) (σ : ℕ → Image) (t : IsTypedInstance Σ J I σ) (τ : ℕ → Image) → StandsAmong Σ o b J I σ t τ
+pub nothing_outside : (Σ : Signature) {c : Clause} (o : Origin c) → IsConstants o → (b : Bool) (J I : List Item) (σ : ℕ → Image) (t : IsTypedInstance Σ J I σ) (τ : ℕ → Image) → StandsAmong Σ o b J I σ t τ
 nothing_outside Σ (of_constant U) i b J I σ t τ = tt
 nothing_outside Σ (of_entry B later E es e) i b J I σ t τ = absurd i
 

@@ -20,6 +20,7 @@ use Rattle.lf_cases.specs.Split.{HasNoBlockVariable}
 use Rattle.lf_cases.specs.Full.{occurrences_at, AreFullPlaces, IsLinear, IsFull}
 use Rattle.lf_coverage.specs.Subordinate.{AllQuantifiersAreBelow}
 use Rattle.lf_coverage.specs.TypedCase.{TypedArguments}
+use Rattle.lf_coverage.specs.Matching.{ArePlaces}
 use Rattle.lf_coverage.specs.TermMatching.{HasPatterns, bound, hidden, over, Stay, TakesBack, GivesSkeletons}
 
 -- patterns in the arguments that there are, and in the chosen places of a tuple
@@ -33,14 +34,6 @@ PlacesHavePatterns B P [] T = Unit {0}
 PlacesHavePatterns B P (b ∷ m) nil = Unit {0}
 PlacesHavePatterns B P (true ∷ m) (app N T) = HasPatterns B P N × PlacesHavePatterns B P m T
 PlacesHavePatterns B P (false ∷ m) (app N T) = PlacesHavePatterns B P m T
-
--- the arguments that there are, are those of the spine
-abbrev pub ArePlaces : List (Option Term) → Spine → Type 0
-ArePlaces [] nil = Unit {0}
-ArePlaces [] (app N T) = ⊥
-ArePlaces (M ∷ Ms) nil = ⊥
-ArePlaces (Some M ∷ Ms) (app N T) = (M ≡ N) × ArePlaces Ms T
-ArePlaces (None ∷ Ms) (app N T) = ArePlaces Ms T
 
 -- Values that are those of θ but for the variables of P in the chosen places, and make the tuple the arguments, under n bound variables.
 pub record PlacesMatch (Σ : Signature) (Δ C : List LfType) (P : ℕ → Bool) (n : ℕ) (θ : ℕ → Image) (Ms : List (Option Term)) (T : Spine) : Type 0 where

@@ -38,3 +38,6 @@ pub mod ExamplesRenumbering
 pub mod TermMatching
 pub mod ExamplesStuck
 pub mod FullMatching
+pub mod Matching
+pub mod MatchingLaws
+pub mod ExamplesMatching

@@ -22,6 +22,8 @@ ghost use Rattle.lf_coverage.specs.RenumberingLaws.{NumbersExtend, NumbersAreRen
 ghost use Rattle.lf_coverage.specs.TermMatching.{TermsMatch, ArgumentsMatch};
 ghost use Rattle.lf_coverage.specs.ExamplesStuck.{PatternsStand, BoundIsTaken, AppliedIsReached, SolvedHasCandidate, LowerIsUnsplit};
 ghost use Rattle.lf_coverage.specs.FullMatching.{FullPlacesMatch, InputsMatch, HeadsAreStrict, PatternValuesAreTyped};
+ghost use Rattle.lf_coverage.specs.ExamplesMatching.{ValuesAreFound, PlusMatches, PlusIsInstance, TwoAreNotOne};
+ghost use Rattle.lf_coverage.specs.MatchingLaws.{InstanceIsFound, ValuesAreDetermined, InstanceMatches, MatchIsInstance, MatchingDecides, InstanceIsDecided, HeadGroundHoldsTypes, GoalGroundHoldsTypes, HeadMatchIsTyped, HeadMatchingDecides, HeadMatchIsLeaf, GoalMatchingDecides};
 
 /// The heads of a split give all its cases.
 pub fn head_split_is_split()
@@ -525,4 +527,84 @@ pub fn heads_are_strict()
 /// And a value that makes a variable on distinct bound variables a typed term is typed.
 pub fn pattern_values_are_typed()
     ensures { PatternValuesAreTyped }
+{}
+
+/// Where a case is an instance of a pattern, matching finds the values.
+pub fn instance_is_found()
+    ensures { InstanceIsFound }
+{}
+
+/// So there is at most one value for each variable that is ground.
+pub fn values_are_determined()
+    ensures { ValuesAreDetermined }
+{}
+
+/// An instance of a pattern matches it.
+pub fn instance_matches()
+    ensures { InstanceMatches }
+{}
+
+/// And what matches a pattern is an instance of it.
+pub fn match_is_instance()
+    ensures { MatchIsInstance }
+{}
+
+/// So matching is a test of instances.
+pub fn matching_decides()
+    ensures { MatchingDecides }
+{}
+
+/// And whether a case is an instance of a pattern is decided.
+pub fn instance_is_decided()
+    ensures { InstanceIsDecided }
+{}
+
+/// What is ground by the covered places of a head holds its types.
+pub fn head_ground_holds_types()
+    ensures { HeadGroundHoldsTypes }
+{}
+
+/// So does what is ground by those of a subgoal, with what is given.
+pub fn goal_ground_holds_types()
+    ensures { GoalGroundHoldsTypes }
+{}
+
+/// Values are read off under binders.
+pub fn values_are_found()
+    ensures { ValuesAreFound }
+{}
+
+/// plus (s X') Y _ matches plus-s.
+pub fn plus_matches()
+    ensures { PlusMatches }
+{}
+
+/// Of a head the terms that are found are typed by themselves.
+pub fn head_match_is_typed()
+    ensures { HeadMatchIsTyped }
+{}
+
+/// So matching by terms alone decides whether a case is an instance of a head.
+pub fn head_matching_decides()
+    ensures { HeadMatchingDecides }
+{}
+
+/// And of a subgoal whose inputs are given.
+pub fn goal_matching_decides()
+    ensures { GoalMatchingDecides }
+{}
+
+/// So plus (s X') Y _ is an instance of plus-s, and plus X Y _ is none of plus-z.
+pub fn plus_is_instance()
+    ensures { PlusIsInstance }
+{}
+
+/// And such a case is a leaf of a run.
+pub fn head_match_is_leaf()
+    ensures { HeadMatchIsLeaf }
+{}
+
+/// eq X Y doesn't match eq-r.
+pub fn two_are_not_one()
+    ensures { TwoAreNotOne }
 {}
