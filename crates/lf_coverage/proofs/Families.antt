@@ -6,7 +6,7 @@ use Rattle.lf.specs.Syntax.{Head, Term, LfType, pi, atom, skeleton, lift_renamin
 use Rattle.lf.specs.Substitution.{single, reduce}
 use Rattle.lf.specs.AtOnce.{shift_by, lift_renaming_by}
 use Rattle.lf.specs.Typing.{Signature, instantiate_type}
-use Rattle.lf.specs.Variables.{binders, FamiliesIn, at_variable}
+use Rattle.lf.specs.Variables.{binders, onto, FamiliesIn, at_variable}
 use Rattle.lf.specs.Subordination.{Block, SelfContained}
 use Rattle.lf.proofs.Strength.{families_renamed, families_substituted, family_target}
 use Rattle.lf_unification.specs.Dependency.{free_context}
@@ -22,15 +22,19 @@ use Rattle.lf_coverage.proofs.Everywhere.{Everywhere, of_families, free_has, met
 use Rattle.lf_coverage.proofs.StoreSolution.{families_at}
 
 module _ (S : ℕ → Bool) where
-  all_binders : (G : List LfType) (X : LfType) → AllFamiliesIn S G → FamiliesIn S X → AllFamiliesIn S (binders G X)
+  pub all_onto : (D G : List LfType) → AllFamiliesIn S D → AllFamiliesIn S G → AllFamiliesIn S (onto D G)
+  all_onto [] G d g = g
+  all_onto (A ∷ D) G (a, d) g = (a, all_onto D G d g)
+
+  pub all_binders : (G : List LfType) (X : LfType) → AllFamiliesIn S G → FamiliesIn S X → AllFamiliesIn S (binders G X)
   all_binders G (pi A B) g (a, b) = all_binders (A ∷ G) B (a, g) b
   all_binders G (atom a T) g x = g
 
-  all_renumbered : (ρ : ℕ → ℕ) (D : List LfType) → AllFamiliesIn S D → AllFamiliesIn S (renumber ρ D)
+  pub all_renumbered : (ρ : ℕ → ℕ) (D : List LfType) → AllFamiliesIn S D → AllFamiliesIn S (renumber ρ D)
   all_renumbered ρ [] d = tt
   all_renumbered ρ (A ∷ D) (a, d) = (families_renamed S (lift_renaming_by (length D) ρ) A a, all_renumbered ρ D d)
 
-  raised_families : (ks : List Bool) (D : List LfType) (B : LfType) → AllFamiliesIn S D → FamiliesIn S B → FamiliesIn S (raise_by ks D B)
+  pub raised_families : (ks : List Bool) (D : List LfType) (B : LfType) → AllFamiliesIn S D → FamiliesIn S B → FamiliesIn S (raise_by ks D B)
   raised_families ks [] B d b = b
   raised_families [] (A ∷ D) B d b = b
   raised_families (true ∷ ks) (A ∷ D) B (a, d) b = raised_families ks D (pi A B) d (a, b)

@@ -38,10 +38,10 @@ use Rattle.lf_coverage.proofs.Meeting.{near_type}
 use mathlib.Core.Path.{fun_ext}
 
 -- Values that are eta-long variables do what a renaming does, to a text that uses only these.
-abbrev Likes : (ℕ → Bool) → List Skeleton → (ℕ → Image) → (ℕ → ℕ) → Type 0
+abbrev pub Likes : (ℕ → Bool) → List Skeleton → (ℕ → Image) → (ℕ → ℕ) → Type 0
 Likes U Γ σ ρ = (i : ℕ) (t : Skeleton) → SkeletonAt Γ i t → U i ≡ true → (σ i ≡ keep (ρ i)) ⊎ (σ i ≡ put t (eta_long t (variable (ρ i))))
 
-likes_under : (U : ℕ → Bool) (Γ : List Skeleton) (a : Skeleton) (σ : ℕ → Image) (ρ : ℕ → ℕ) → Likes U Γ σ ρ → Likes (under U) (a ∷ Γ) (lift σ) (lift_renaming ρ)
+pub likes_under : (U : ℕ → Bool) (Γ : List Skeleton) (a : Skeleton) (σ : ℕ → Image) (ρ : ℕ → ℕ) → Likes U Γ σ ρ → Likes (under U) (a ∷ Γ) (lift σ) (lift_renaming ρ)
 likes_under U Γ a σ ρ h zero t g u = inl refl
 likes_under U Γ a σ ρ h (suc i) t g u = by (h i t g u)
   where
@@ -51,7 +51,7 @@ likes_under U Γ a σ ρ h (suc i) t g u = by (h i t g u)
 
 module _ (κ : HeadSkeletons) where
   mutual
-    eta_on : (U : ℕ → Bool) (Γ Δ : List Skeleton) (σ : ℕ → Image) (ρ : ℕ → ℕ) → SubstitutionBySkeletons κ Γ Δ σ → Likes U Γ σ ρ → (M : Term) (t : Skeleton) → TermSkeleton κ Γ M t → Uses U M → substitute reduce σ M ≡ rename ρ M
+    pub eta_on : (U : ℕ → Bool) (Γ Δ : List Skeleton) (σ : ℕ → Image) (ρ : ℕ → ℕ) → SubstitutionBySkeletons κ Γ Δ σ → Likes U Γ σ ρ → (M : Term) (t : Skeleton) → TermSkeleton κ Γ M t → Uses U M → substitute reduce σ M ≡ rename ρ M
     eta_on U Γ Δ σ ρ s h (lambda M) (arrow a b) m u = ap lambda (eta_on (under U) (a ∷ Γ) (a ∷ Δ) (lift σ) (lift_renaming ρ) (lift_by_skeletons κ a Γ Δ σ s) (likes_under U Γ a σ ρ h) M b m u)
     eta_on U Γ Δ σ ρ s h (lambda M) (base c) m u = absurd m
     eta_on U Γ Δ σ ρ s h (root g S) (arrow a b) m u = absurd m
@@ -68,7 +68,7 @@ module _ (κ : HeadSkeletons) where
     eta_on_spine U Γ Δ σ ρ s h (app M S) (arrow a b) v (m, n) (u, w) = ap₂ app (eta_on U Γ Δ σ ρ s h M a m u) (eta_on_spine U Γ Δ σ ρ s h S b v n w)
     eta_on_spine U Γ Δ σ ρ s h (app M S) (base c) v m u = absurd m
 
-  eta_on_type : (φ : ℕ → Option Skeleton) (U : ℕ → Bool) (Γ Δ : List Skeleton) (σ : ℕ → Image) (ρ : ℕ → ℕ) → SubstitutionBySkeletons κ Γ Δ σ → Likes U Γ σ ρ → (A : LfType) → TypeBySkeletons φ κ Γ A → UsesType U A → substitute_type reduce σ A ≡ rename_type ρ A
+  pub eta_on_type : (φ : ℕ → Option Skeleton) (U : ℕ → Bool) (Γ Δ : List Skeleton) (σ : ℕ → Image) (ρ : ℕ → ℕ) → SubstitutionBySkeletons κ Γ Δ σ → Likes U Γ σ ρ → (A : LfType) → TypeBySkeletons φ κ Γ A → UsesType U A → substitute_type reduce σ A ≡ rename_type ρ A
   eta_on_type φ U Γ Δ σ ρ s h (pi A B) (a, b) (u, v) = ap₂ pi (eta_on_type φ U Γ Δ σ ρ s h A a u) (eta_on_type φ (under U) (skeleton A ∷ Γ) (skeleton A ∷ Δ) (lift σ) (lift_renaming ρ) (lift_by_skeletons κ (skeleton A) Γ Δ σ s) (likes_under U Γ (skeleton A) σ ρ h) B b v)
   eta_on_type φ U Γ Δ σ ρ s h (atom a S) (t, e, m) u = ap (atom a) (eta_on_spine U Γ Δ σ ρ s h S t (base a) m u)
 
@@ -81,13 +81,13 @@ front_pointwise a N σ (suc i) = around (σ i)
     around (keep k) = refl
     around (put b P) = ap (put b) (substitute_weakened reduce a N P)
 
-kind_front : (κ : HeadSkeletons) (φ : ℕ → Option Skeleton) (Γ Δ : List Skeleton) (σ : ℕ → Image) (A : LfType) (M : Term) (K : Kind) → SubstitutionBySkeletons κ Γ Δ σ → TermSkeleton κ Δ M (skeleton A) → KindBySkeletons φ κ (skeleton A ∷ Γ) K → instantiate_kind (substitute_type reduce σ A) M (substitute_kind reduce (lift σ) K) ≡ substitute_kind reduce (in_front (put (skeleton A) M) σ) K
+pub kind_front : (κ : HeadSkeletons) (φ : ℕ → Option Skeleton) (Γ Δ : List Skeleton) (σ : ℕ → Image) (A : LfType) (M : Term) (K : Kind) → SubstitutionBySkeletons κ Γ Δ σ → TermSkeleton κ Δ M (skeleton A) → KindBySkeletons φ κ (skeleton A ∷ Γ) K → instantiate_kind (substitute_type reduce σ A) M (substitute_kind reduce (lift σ) K) ≡ substitute_kind reduce (in_front (put (skeleton A) M) σ) K
 kind_front κ φ Γ Δ σ A M K s m k =
     ap (λ t. substitute_kind reduce (single t M) (substitute_kind reduce (lift σ) K)) (skeleton_substituted reduce σ A)
     ∙ substitutions_compose_kind φ κ (skeleton A ∷ Γ) (skeleton A ∷ Δ) Δ (lift σ) (single (skeleton A) M) K (lift_by_skeletons κ (skeleton A) Γ Δ σ s) (single_by_skeletons κ (skeleton A) Δ M m) k
     ∙ ap (λ f. substitute_kind reduce f K) (fun_ext (front_pointwise (skeleton A) M σ))
 
-front_fits : (κ : HeadSkeletons) (Γ Δ : List Skeleton) (a : Skeleton) (N : Term) (σ : ℕ → Image) → TermSkeleton κ Δ N a → SubstitutionBySkeletons κ Γ Δ σ → SubstitutionBySkeletons κ (a ∷ Γ) Δ (in_front (put a N) σ)
+pub front_fits : (κ : HeadSkeletons) (Γ Δ : List Skeleton) (a : Skeleton) (N : Term) (σ : ℕ → Image) → TermSkeleton κ Δ N a → SubstitutionBySkeletons κ Γ Δ σ → SubstitutionBySkeletons κ (a ∷ Γ) Δ (in_front (put a N) σ)
 front_fits κ Γ Δ a N σ m s zero t g = (g, m)
 front_fits κ Γ Δ a N σ m s (suc i) t g = s i t g
 
@@ -95,19 +95,19 @@ front_fits κ Γ Δ a N σ m s (suc i) t g = s i t g
 abbrev pub IsClosed : (ℕ → Bool) → List LfType → Type 0
 IsClosed V G = (i : ℕ) (A : LfType) → TypeAt G i A → V i ≡ true → UsesType V A
 
-closed_chosen : (V : ℕ → Bool) (G : List LfType) (A : LfType) → UsesType V A → IsClosed V G → IsClosed (under V) (A ∷ G)
+pub closed_chosen : (V : ℕ → Bool) (G : List LfType) (A : LfType) → UsesType V A → IsClosed V G → IsClosed (under V) (A ∷ G)
 closed_chosen V G A u c zero B e v = subst (UsesType (under V)) (sym e) (uses_type_renamed V (under V) suc A (λ i w. w) u)
 closed_chosen V G A u c (suc i) B (C, g, e) v = subst (UsesType (under V)) (sym e) (uses_type_renamed V (under V) suc C (λ j w. w) (c i C g v))
 
-closed_other : (V : ℕ → Bool) (G : List LfType) (A : LfType) → IsClosed V G → IsClosed (hide V) (A ∷ G)
+pub closed_other : (V : ℕ → Bool) (G : List LfType) (A : LfType) → IsClosed V G → IsClosed (hide V) (A ∷ G)
 closed_other V G A c zero B e v = absurd cc
 closed_other V G A c (suc i) B (C, g, e) v = subst (UsesType (hide V)) (sym e) (uses_type_renamed V (hide V) suc C (λ j w. w) (c i C g v))
 
-renames_chosen : (V : ℕ → Bool) (G D : List LfType) (ρ : ℕ → ℕ) (A : LfType) → IsTypedRenamingOn V G D ρ → IsTypedRenamingOn (under V) (A ∷ G) (rename_type ρ A ∷ D) (lift_renaming ρ)
+pub renames_chosen : (V : ℕ → Bool) (G D : List LfType) (ρ : ℕ → ℕ) (A : LfType) → IsTypedRenamingOn V G D ρ → IsTypedRenamingOn (under V) (A ∷ G) (rename_type ρ A ∷ D) (lift_renaming ρ)
 renames_chosen V G D ρ A r zero B e v = ap (rename_type (lift_renaming ρ)) e ∙ rename_weakened ρ A
 renames_chosen V G D ρ A r (suc i) B (C, g, e) v = (rename_type ρ C, r i C g v, ap (rename_type (lift_renaming ρ)) e ∙ rename_weakened ρ C)
 
-renames_other : (V : ℕ → Bool) (G D : List LfType) (ρ : ℕ → ℕ) (A : LfType) → IsTypedRenamingOn V G D ρ → IsTypedRenamingOn (hide V) (A ∷ G) D (past_place ρ)
+pub renames_other : (V : ℕ → Bool) (G D : List LfType) (ρ : ℕ → ℕ) (A : LfType) → IsTypedRenamingOn V G D ρ → IsTypedRenamingOn (hide V) (A ∷ G) D (past_place ρ)
 renames_other V G D ρ A r zero B e v = absurd cc
 renames_other V G D ρ A r (suc i) B (C, g, e) v = subst (TypeAt D (ρ i)) (sym (ap (rename_type (past_place ρ)) e ∙ renamings_compose_type (past_place ρ) suc C)) (r i C g v)
 

@@ -117,3 +117,12 @@ pub mod FoundTyped
 pub mod HeadMatching
 pub mod GoalTyped
 pub mod OwnInstance
+pub mod KeptTyped
+pub mod PlacesTyped
+pub mod GoalItems
+pub mod OutputTyped
+pub mod GivenImages
+pub mod OutputBeside
+pub mod OutputModed
+pub mod OutputRuns
+pub mod ExamplesOutputs

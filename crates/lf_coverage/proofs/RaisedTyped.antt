@@ -78,7 +78,7 @@ spine_last Σ G (app M S) N (atom a T) B C s n = absurd s
 
 module _ (Σ : Signature) (ok : IsSignature Σ) (W : List Block) (typed : AreTypedBlocks Σ W) where
   -- a raised type
-  raised_is_type : (ks : List Bool) (D G : List LfType) (B : LfType) → IsContext Σ (onto D G) → IsType Σ (onto D G) B → CanBeRaised ks D B → IsType Σ G (raise_by ks D B)
+  pub raised_is_type : (ks : List Bool) (D G : List LfType) (B : LfType) → IsContext Σ (onto D G) → IsType Σ (onto D G) B → CanBeRaised ks D B → IsType Σ G (raise_by ks D B)
   raised_is_type ks [] G B c t r = t
   raised_is_type [] (A ∷ D) G B c t r = absurd r
   raised_is_type (true ∷ ks) (A ∷ D) G B c t r = raised_is_type ks D G (pi A B) c.0 (c.1, t) r
@@ -103,7 +103,7 @@ module _ (Σ : Signature) (ok : IsSignature Σ) (W : List Block) (typed : AreTyp
       subst (λ Z. SpineType Σ (A ∷ C) (rename_spine suc (locals_by ks D)) Z B) (sym (shift_type_next (length D) R)) (subst (SpineType Σ (A ∷ C) (rename_spine suc (locals_by ks D)) (weaken (rename_type (shift_by (length D)) R))) (out_and_back B u) s)
 
   -- a raised variable, in a context past that of its type
-  raised_typed : (ks : List Bool) (D G X : List LfType) (ρ : ℕ → ℕ) (B : LfType) (n : ℕ) → IsContext Σ (onto D G) → IsType Σ (onto D G) B → CanBeRaised ks D B → IsTypedRenaming G X ρ → IsContext Σ X → TypeAt X n (rename_type ρ (raise_by ks D B)) → HasType Σ (onto (renumber ρ D) X) (raised_variable ks D B n) (rename_type (lift_renaming_by (length D) ρ) B)
+  pub raised_typed : (ks : List Bool) (D G X : List LfType) (ρ : ℕ → ℕ) (B : LfType) (n : ℕ) → IsContext Σ (onto D G) → IsType Σ (onto D G) B → CanBeRaised ks D B → IsTypedRenaming G X ρ → IsContext Σ X → TypeAt X n (rename_type ρ (raise_by ks D B)) → HasType Σ (onto (renumber ρ D) X) (raised_variable ks D B n) (rename_type (lift_renaming_by (length D) ρ) B)
   raised_typed ks D G X ρ B n c t r q cx at =
       let H : List LfType = onto (renumber ρ D) X in
       let l : ℕ → ℕ = lift_renaming_by (length D) ρ in
@@ -116,7 +116,7 @@ module _ (Σ : Signature) (ok : IsSignature Σ) (W : List Block) (typed : AreTyp
       expand_typed Σ (λ m. Rattle.lf.specs.Syntax.base zero) ok (skeleton B) H (variable (n + length D)) (locals_by ks D) (rename_type (shift_by (length D)) (rename_type ρ R)) (rename_type l B) (sym (skeleton_renamed l B)) (all_by_skeletons Σ (λ m. Rattle.lf.specs.Syntax.base zero) H (rename_type l B) (renaming_keeps_types Σ ok (onto D G) H l B w t)) k s
 
   -- moving a local context twice
-  renumber_twice : (ρ τ : ℕ → ℕ) (D : List LfType) → renumber ρ (renumber τ D) ≡ renumber (λ i. ρ (τ i)) D
+  pub renumber_twice : (ρ τ : ℕ → ℕ) (D : List LfType) → renumber ρ (renumber τ D) ≡ renumber (λ i. ρ (τ i)) D
   renumber_twice ρ τ [] = refl
   renumber_twice ρ τ (A ∷ D) = ap₂ ◌∷◌ (ap (λ n. rename_type (lift_renaming_by n ρ) (rename_type (lift_renaming_by (length D) τ) A)) (length_renumber τ D) ∙ renamings_compose_type (lift_renaming_by (length D) ρ) (lift_renaming_by (length D) τ) A ∙ ap (λ f. rename_type f A) (lift_twice (length D) ρ τ)) (renumber_twice ρ τ D)
     where
@@ -132,7 +132,7 @@ module _ (Σ : Signature) (ok : IsSignature Σ) (W : List Block) (typed : AreTyp
   renumber_none [] = refl
   renumber_none (A ∷ D) = ap₂ ◌∷◌ (ap (λ f. rename_type f A) (lift_none (length D)) ∙ rename_identity_type A) (renumber_none D)
 
-  lift_sum : (n k : ℕ) → (λ i. lift_renaming_by n (shift_by k) (lift_renaming_by n suc i)) ≡ lift_renaming_by n (shift_by (suc k))
+  pub lift_sum : (n k : ℕ) → (λ i. lift_renaming_by n (shift_by k) (lift_renaming_by n suc i)) ≡ lift_renaming_by n (shift_by (suc k))
   lift_sum zero k = fun_ext (λ i. next i k)
     where
       next : (i k : ℕ) → suc i + k ≡ i + suc k

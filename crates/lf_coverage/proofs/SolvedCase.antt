@@ -59,7 +59,7 @@ pub free_typed : (Σ : Signature) (W : List Block) (O : List LfType) → IsConte
 free_typed Σ W [] c = tt
 free_typed Σ W (A ∷ O) (c, t) = (free_typed Σ W O c, subst (λ X. IsType Σ X A) (sym (free_context_is O)) t)
 
-free_without : (O : List LfType) → HasNoBlockVariable (free_variables O)
+pub free_without : (O : List LfType) → HasNoBlockVariable (free_variables O)
 free_without [] = tt
 free_without (A ∷ O) = free_without O
 

@@ -104,7 +104,7 @@ module _ (Σ : Signature) (ok : IsSignature Σ) where
   type_strengthened U G D ρ (pi A B) w (u, v) (a, b) = (type_strengthened U G D ρ A w u a, type_strengthened (under U) (A ∷ G) (rename_type ρ A ∷ D) (lift_renaming ρ) B (under_binder U G D ρ A w) v b)
   type_strengthened U G D ρ (atom a T) w u (K, e, s) = (K, e, subst (SpineFitsKind Σ D (rename_spine ρ T)) (closed_kind_renamed Σ ρ K (ok.kinds_ok a K e)) (kind_strengthened U G D ρ T K w u s))
 
-kind_substituted : (S : ℕ → Bool) (A : LfType) (M : Term) (K : Kind) → KindFamiliesIn S K → KindFamiliesIn S (instantiate_kind A M K)
+pub kind_substituted : (S : ℕ → Bool) (A : LfType) (M : Term) (K : Kind) → KindFamiliesIn S K → KindFamiliesIn S (instantiate_kind A M K)
 kind_substituted S A M K h = by (single (skeleton A) M) K h
   where
     by : (σ : ℕ → Rattle.lf.specs.Substitution.Image) (K : Kind) → KindFamiliesIn S K → KindFamiliesIn S (substitute_kind reduce σ K)

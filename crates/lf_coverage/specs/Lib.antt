@@ -41,3 +41,5 @@ pub mod FullMatching
 pub mod Matching
 pub mod MatchingLaws
 pub mod ExamplesMatching
+pub mod OutputLaws
+pub mod ExamplesOutputs

@@ -24,6 +24,8 @@ ghost use Rattle.lf_coverage.specs.ExamplesStuck.{PatternsStand, BoundIsTaken, A
 ghost use Rattle.lf_coverage.specs.FullMatching.{FullPlacesMatch, InputsMatch, HeadsAreStrict, PatternValuesAreTyped};
 ghost use Rattle.lf_coverage.specs.ExamplesMatching.{ValuesAreFound, PlusMatches, PlusIsInstance, TwoAreNotOne};
 ghost use Rattle.lf_coverage.specs.MatchingLaws.{InstanceIsFound, ValuesAreDetermined, InstanceMatches, MatchIsInstance, MatchingDecides, InstanceIsDecided, HeadGroundHoldsTypes, GoalGroundHoldsTypes, HeadMatchIsTyped, HeadMatchingDecides, HeadMatchIsLeaf, GoalMatchingDecides};
+ghost use Rattle.lf_coverage.specs.OutputLaws.{OutputGoalIsTypedCase, OutputGoalIsTyped, ModedGoalsAreTyped, StrictGoalsAreTyped, NeverIsMissingOutput, OpenOutputsAreCovered, SolvedRunCoversOutputs, SolvedRunAnswersOutputs, SolvedRunGivesOutputs, SolvedRunsGiveOutputs};
+ghost use Rattle.lf_coverage.specs.ExamplesOutputs.{PlusOutputsAreTyped, CopyOutputsAreTyped, OpenGoalIsUntyped, EntryGoalIsUntyped, PlusOutputsAreCovered};
 
 /// The heads of a split give all its cases.
 pub fn head_split_is_split()
@@ -607,4 +609,47 @@ pub fn head_match_is_leaf()
 /// eq X Y doesn't match eq-r.
 pub fn two_are_not_one()
     ensures { TwoAreNotOne }
+{}
+
+/// The goal of the outputs of a subgoal is typed by itself.
+pub fn output_goal_is_typed_case()
+    ensures { OutputGoalIsTypedCase }
+{}
+
+/// And that of a constant's subgoal is typed beside it.
+pub fn output_goal_is_typed()
+    ensures { OutputGoalIsTyped }
+{}
+
+/// So the checks of modes give it, for each subgoal of a clause.
+pub fn moded_goals_are_typed()
+    ensures alone { ModedGoalsAreTyped }
+    ensures beside { StrictGoalsAreTyped }
+{}
+
+/// What is ground and open has no values, so that nothing is to be covered.
+pub fn open_outputs_are_covered()
+    ensures { OpenOutputsAreCovered }
+{}
+
+/// A case reached from it that is never solved with the subgoal is missing.
+pub fn never_is_missing_output()
+    ensures { NeverIsMissingOutput }
+{}
+
+/// A run from the goal of outputs covers it, and so the outputs.
+pub fn solved_run_covers_outputs()
+    ensures goal { SolvedRunCoversOutputs }
+    ensures answer { SolvedRunAnswersOutputs }
+    ensures constant { SolvedRunGivesOutputs }
+    ensures every { SolvedRunsGiveOutputs }
+{}
+
+/// Goals of outputs that are typed beside a subgoal, one with a local context; two that aren't; and a run from one.
+pub fn outputs_are_typed()
+    ensures plus { PlusOutputsAreTyped }
+    ensures copy { CopyOutputsAreTyped }
+    ensures unclosed { OpenGoalIsUntyped }
+    ensures entry { EntryGoalIsUntyped }
+    ensures covered { PlusOutputsAreCovered }
 {}
