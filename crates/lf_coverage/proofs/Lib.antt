@@ -126,3 +126,16 @@ pub mod OutputBeside
 pub mod OutputModed
 pub mod OutputRuns
 pub mod ExamplesOutputs
+pub mod ExamplesCopying
+pub mod ExamplesCopyingSplit
+pub mod ExamplesCopyingRun
+pub mod ExamplesTwins
+pub mod ExamplesTwinsRun
+pub mod NumberedHeads
+pub mod NewInstance
+pub mod StaysApart
+pub mod ExamplesInstances
+pub mod HeadsOverEntries
+pub mod OwnHeads
+pub mod ExamplesTwinsCases
+pub mod ExamplesTwinsReached

@@ -44,7 +44,7 @@ front_is_long [] s τ i e = absurd cc
 front_is_long (A ∷ O) s τ zero e = refl
 front_is_long (A ∷ O) s τ (suc i) e = front_is_long O (λ j. s (suc j)) τ i e
 
-front_past : (O : List LfType) (s τ : ℕ → Image) (i : ℕ) → front_long O s τ (i + length O) ≡ τ i
+pub front_past : (O : List LfType) (s τ : ℕ → Image) (i : ℕ) → front_long O s τ (i + length O) ≡ τ i
 front_past [] s τ i = ap τ (none i)
   where
     none : (i : ℕ) → i + 0 ≡ i
@@ -55,7 +55,7 @@ front_past (A ∷ O) s τ i = ap (front_long (A ∷ O) s τ) (next i (length O))
     next i n = omega arith
 
 -- the value of a `some` variable, as a term
-front_term : (O : List LfType) (s τ : ℕ → Image) (i : ℕ) (A : LfType) → TypeAt O i A → as_term (skeleton A) (s i) ≡ as_term (skeleton A) (front_long O s τ i)
+pub front_term : (O : List LfType) (s τ : ℕ → Image) (i : ℕ) (A : LfType) → TypeAt O i A → as_term (skeleton A) (s i) ≡ as_term (skeleton A) (front_long O s τ i)
 front_term [] s τ i A g = absurd g
 front_term (B ∷ O) s τ zero A g = ap (λ a. as_term a (s zero)) (ap skeleton g ∙ skeleton_renamed suc B)
 front_term (B ∷ O) s τ (suc i) A (C, g, e) = ap (λ a. as_term a (s (suc i))) (ap skeleton e ∙ skeleton_renamed suc C) ∙ front_term O (λ j. s (suc j)) τ i C g ∙ ap (λ a. as_term a (front_long O (λ j. s (suc j)) τ i)) (sym (ap skeleton e ∙ skeleton_renamed suc C))
@@ -78,11 +78,11 @@ at_front [] C i A g = absurd g
 at_front (X ∷ O) C zero A e = e
 at_front (X ∷ O) C (suc i) A (B, g, e) = (B, at_front O C i B g, e)
 
-outer_context : (Σ : Signature) (es O : List LfType) → IsContext Σ (onto es O) → IsContext Σ O
+pub outer_context : (Σ : Signature) (es O : List LfType) → IsContext Σ (onto es O) → IsContext Σ O
 outer_context Σ [] O c = c
 outer_context Σ (E ∷ es) O c = outer_context Σ es O c.0
 
-some_values : (Σ : Signature) (G ds O : List LfType) (θ : ℕ → Image) → IsTypedSubstitution Σ (onto ds O) G θ → IsTypedSubstitution Σ O G (behind_entries ds θ)
+pub some_values : (Σ : Signature) (G ds O : List LfType) (θ : ℕ → Image) → IsTypedSubstitution Σ (onto ds O) G θ → IsTypedSubstitution Σ O G (behind_entries ds θ)
 some_values Σ G [] O θ h i A g = h i A g
 some_values Σ G (D ∷ ds) O θ h i A g = some_values Σ G ds O (λ j. θ (suc j)) (λ j X k. subst (ImageHasType Σ G (θ (suc j))) (substitute_renamed_type reduce θ suc X) (h (suc j) (weaken X) (X, k, refl))) i A g
 
@@ -121,7 +121,7 @@ module _ (Σ : Signature) (ok : IsSignature Σ) (W : List Block) (typed : AreTyp
   abbrev Same : (I : List Item) (τ : ℕ → Image) → IsGroundInstance w I τ → (J : List Item) (φ : ℕ → Image) → IsGroundInstance w J φ → Type 0
   Same I τ g J φ h = Follows w I τ g J φ h × ((B : Block) (θ : ℕ → Image) → StandsFor w J φ h B θ → StandsFor w I τ g B θ)
 
-  some_on : (O : List LfType) (s : ℕ → Image) → IsContext Σ O → IsTypedSubstitution Σ O G s → (I : List Item) (τ : ℕ → Image) (g : IsGroundInstance w I τ) → (h : IsGroundInstance w (items_onto (free_variables O) I) (front_long O s τ)) × Same I τ g (items_onto (free_variables O) I) (front_long O s τ) h
+  pub some_on : (O : List LfType) (s : ℕ → Image) → IsContext Σ O → IsTypedSubstitution Σ O G s → (I : List Item) (τ : ℕ → Image) (g : IsGroundInstance w I τ) → (h : IsGroundInstance w (items_onto (free_variables O) I) (front_long O s τ)) × Same I τ g (items_onto (free_variables O) I) (front_long O s τ) h
   some_on [] s c t I τ g = (g, (((λ B ψ z. z), (λ z. z)), (λ B θ z. z)))
   some_on (A ∷ O) s (c, a) t I τ g =
       let r : ℕ → Image = λ i. s (suc i) in

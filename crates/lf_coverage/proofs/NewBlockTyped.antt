@@ -49,7 +49,7 @@ at_either (B ∷ O) X (suc i) A (D, g, e) = by (at_either O X i D g)
     by (inr (j, F, h, q)) = inr (j, F, h, e ∙ ap weaken q ∙ renamings_compose_type suc (shift_by (length O)) F ∙ ap (λ ρ. rename_type ρ F) (fun_ext (next (length O))))
 
 -- the new variables as values
-locals_are : (O : List LfType) → local_arguments O ≡ some_spine O keep
+pub locals_are : (O : List LfType) → local_arguments O ≡ some_spine O keep
 locals_are O = moved O
   where
     moved : (O : List LfType) → local_arguments O ≡ some_spine O keep

@@ -89,7 +89,7 @@ is_variable (keep i) v = by (decide i v)
 is_variable (put a N) v = inr (λ e. cc)
 
 -- whether one of the entries is this variable
-find_entry : (ds : List LfType) (φ : ℕ → Image) (v : ℕ) → ((l : ℕ) × (among ds l ≡ true) × (φ l ≡ keep v)) ⊎ ((l : ℕ) → among ds l ≡ true → φ l ≡ keep v → ⊥)
+pub find_entry : (ds : List LfType) (φ : ℕ → Image) (v : ℕ) → ((l : ℕ) × (among ds l ≡ true) × (φ l ≡ keep v)) ⊎ ((l : ℕ) → among ds l ≡ true → φ l ≡ keep v → ⊥)
 find_entry [] φ v = inr (λ l a e. absurd cc)
 find_entry (D ∷ ds) φ v = by (is_variable (φ zero) v) (find_entry ds (λ i. φ (suc i)) v)
   where

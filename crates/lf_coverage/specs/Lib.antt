@@ -43,3 +43,8 @@ pub mod MatchingLaws
 pub mod ExamplesMatching
 pub mod OutputLaws
 pub mod ExamplesOutputs
+pub mod ExamplesCopying
+pub mod ExamplesTwins
+pub mod NumberedHeads
+pub mod NewInstance
+pub mod ExamplesInstances

@@ -26,6 +26,11 @@ ghost use Rattle.lf_coverage.specs.ExamplesMatching.{ValuesAreFound, PlusMatches
 ghost use Rattle.lf_coverage.specs.MatchingLaws.{InstanceIsFound, ValuesAreDetermined, InstanceMatches, MatchIsInstance, MatchingDecides, InstanceIsDecided, HeadGroundHoldsTypes, GoalGroundHoldsTypes, HeadMatchIsTyped, HeadMatchingDecides, HeadMatchIsLeaf, GoalMatchingDecides};
 ghost use Rattle.lf_coverage.specs.OutputLaws.{OutputGoalIsTypedCase, OutputGoalIsTyped, ModedGoalsAreTyped, StrictGoalsAreTyped, NeverIsMissingOutput, OpenOutputsAreCovered, SolvedRunCoversOutputs, SolvedRunAnswersOutputs, SolvedRunGivesOutputs, SolvedRunsGiveOutputs};
 ghost use Rattle.lf_coverage.specs.ExamplesOutputs.{PlusOutputsAreTyped, CopyOutputsAreTyped, OpenGoalIsUntyped, EntryGoalIsUntyped, PlusOutputsAreCovered};
+ghost use Rattle.lf_coverage.specs.ExamplesCopying.{CopyIsSplitByHeads, CopyCasesAreAnswer, CopyCasesAreInstances, CopyCasesAreReached, CopyRunCovers, CopyEntryIsMissing};
+ghost use Rattle.lf_coverage.specs.ExamplesTwins.{TwinsAreSplit, TwinCasesAreAnswers, TwinCasesAreReached, TwinRunCovers, TwinsAreOneInstance, TwinsAreMatched};
+ghost use Rattle.lf_coverage.specs.NumberedHeads.{NumberedHeadsAreAll, EntryOnOwnTermsIsRead};
+ghost use Rattle.lf_coverage.specs.NewInstance.{NewInstanceIsOfNewBlock, NewInstanceStaysApart, HeadsAreOverEntries};
+ghost use Rattle.lf_coverage.specs.ExamplesInstances.{EntryIsHead, SecondIsApart, BindingMovesOwnTerms};
 
 /// The heads of a split give all its cases.
 pub fn head_split_is_split()
@@ -652,4 +657,96 @@ pub fn outputs_are_typed()
     ensures unclosed { OpenGoalIsUntyped }
     ensures entry { EntryGoalIsUntyped }
     ensures covered { PlusOutputsAreCovered }
+{}
+
+/// Copying: the split of its goal, head by head.
+pub fn copy_is_split_by_heads()
+    ensures { CopyIsSplitByHeads }
+{}
+
+/// And these cases are its answer, each by a most general typed instance.
+pub fn copy_cases_are_answer()
+    ensures { CopyCasesAreAnswer }
+{}
+
+/// Each is an instance of a clause, the third of the block's entry.
+pub fn copy_cases_are_instances()
+    ensures { CopyCasesAreInstances }
+{}
+
+/// The strategy reaches them.
+pub fn copy_cases_are_reached()
+    ensures { CopyCasesAreReached }
+{}
+
+/// So the clauses cover the goal in the worlds of the block.
+pub fn copy_run_covers()
+    ensures { CopyRunCovers }
+{}
+
+/// Without the entry's clause the case of a block variable is missing.
+pub fn copy_entry_is_missing()
+    ensures { CopyEntryIsMissing }
+{}
+
+/// Two block variables that may be one instance: the splits of the cases with one and with two.
+pub fn twins_are_split()
+    ensures { TwinsAreSplit }
+{}
+
+/// So their run covers the goal.
+pub fn twin_run_covers()
+    ensures { TwinRunCovers }
+{}
+
+/// At one instance they hold what another case holds with different ones.
+pub fn twins_are_one_instance()
+    ensures { TwinsAreOneInstance }
+{}
+
+/// And identified they share an instance with the entry's clause.
+pub fn twins_are_matched()
+    ensures { TwinsAreMatched }
+{}
+
+/// The head of a free variable's value is a constant, an entry constant, a variable that it takes, or an entry of a new instance.
+pub fn numbered_heads_are_all()
+    ensures { NumberedHeadsAreAll }
+{}
+
+/// A new instance is that of a new block variable.
+pub fn new_instance_is_of_new_block()
+    ensures { NewInstanceIsOfNewBlock }
+{}
+
+/// And block variables stay apart, where none stood for it.
+pub fn new_instance_stays_apart()
+    ensures { NewInstanceStaysApart }
+{}
+
+/// An entry's constant is a head, a second block variable is apart from the first, and a binding moves own terms.
+pub fn entry_is_head()
+    ensures head { EntryIsHead }
+    ensures apart { SecondIsApart }
+    ensures moved { BindingMovesOwnTerms }
+{}
+
+/// So each instance makes a free variable a head over the entries of the case, or of the case with one more block variable.
+pub fn heads_are_over_entries()
+    ensures { HeadsAreOverEntries }
+{}
+
+/// An entry's constant on its block variable's terms is read as the head.
+pub fn entry_on_own_terms_is_read()
+    ensures { EntryOnOwnTermsIsRead }
+{}
+
+/// The cases of two block variables are those that are to be answered.
+pub fn twin_cases_are_answers()
+    ensures { TwinCasesAreAnswers }
+{}
+
+/// And the strategy reaches them.
+pub fn twin_cases_are_reached()
+    ensures { TwinCasesAreReached }
 {}
