@@ -53,7 +53,7 @@ zeros_ok = record { types_ok = types; kinds_ok = kinds }
     kinds (suc (suc zero)) K e = subst (IsKind Zeros []) (same_kind e) ((star, refl, tt), ((star, refl, tt), tt))
     kinds (suc (suc (suc n))) K e = absurd cc
 
-no_values : Values Zeros everything [] [] keep
+pub no_values : Values Zeros everything [] [] keep
 no_values = record { typed = λ i A g u. absurd g; closed = λ i A g u. absurd g }
 
 -- both are z

@@ -86,10 +86,10 @@ pub addition_is_tested : AdditionIsTested
 addition_is_tested f b = (tested_is_below f b, λ p. below_is_tested p)
 
 -- A run.
-no_world : (B : Block) → Member B [] → IsTypedBlock Addition B
+pub no_world : (B : Block) → Member B [] → IsTypedBlock Addition B
 no_world B m = absurd m
 
-answered : IsAnsweredSplit Addition [] first_below_second plus_input_goal 1 (plus_zero_case ∷ plus_successor_case ∷ [])
+pub answered : IsAnsweredSplit Addition [] first_below_second plus_input_goal 1 (plus_zero_case ∷ plus_successor_case ∷ [])
 answered = record { type = plus_solved.type; at = plus_solved.at; is_free = plus_solved.is_free; offers = plus_solved.offers; are_offers = plus_solved.are_offers; in_order = plus_solved.in_order; listed = plus_solved.listed }
 
 run : Ends (IsInstanceLeaf Addition [] plus_heads) (AnswersEachHead Addition [] first_below_second) plus_input_goal

@@ -71,7 +71,7 @@ head_of_case (with_case a l) D (inr m) = let (h, k, a') = head_of_case l D m in 
 head_of_case (without_case a l) D m = let (h, k, a') = head_of_case l D m in (h, inr k, a')
 
 -- putting values in keeps the places
-places_put_in : (σ : ℕ → Image) (Ms : List (Option Term)) → covered_places (put_in σ Ms) ≡ covered_places Ms
+pub places_put_in : (σ : ℕ → Image) (Ms : List (Option Term)) → covered_places (put_in σ Ms) ≡ covered_places Ms
 places_put_in σ [] = refl
 places_put_in σ (Some M ∷ Ms) = ap (λ b. true ∷ b) (places_put_in σ Ms)
 places_put_in σ (None ∷ Ms) = ap (λ b. false ∷ b) (places_put_in σ Ms)

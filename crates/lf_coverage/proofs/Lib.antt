@@ -117,6 +117,11 @@ pub mod FoundTyped
 pub mod HeadMatching
 pub mod GoalTyped
 pub mod OwnInstance
+pub mod NoCandidate
+pub mod NeverStuck
+pub mod ExamplesStrategy
+pub mod StrictPatterns
+pub mod StuckRuns
 pub mod KeptTyped
 pub mod PlacesTyped
 pub mod GoalItems

@@ -30,12 +30,12 @@ nothing_more : (b : Bool) (n : ℕ) → b ≡ false → n ≡ 0 → cond b 1 0 +
 nothing_more true n e f = absurd cc
 nothing_more false n e f = omega arith
 
-no_sum : (m n : ℕ) → m ≡ 0 → n ≡ 0 → m + n ≡ 0
+pub no_sum : (m n : ℕ) → m ≡ 0 → n ≡ 0 → m + n ≡ 0
 no_sum m n e f = omega arith
 
 mutual
   -- what doesn't occur occurs no time
-  never_occurs : (x : ℕ) (M : Term) → occurs x M ≡ false → occurrences x M ≡ 0
+  pub never_occurs : (x : ℕ) (M : Term) → occurs x M ≡ false → occurrences x M ≡ 0
   never_occurs x (lambda M) e = never_occurs (suc x) M e
   never_occurs x (root (constant c) S) e = never_occurs_spine x S e
   never_occurs x (root (metavariable c) S) e = never_occurs_spine x S e
@@ -53,7 +53,7 @@ never_occurs_at (false ∷ m) x (app M S) e = never_occurs_at m x S (neither_sec
 
 mutual
   -- a variable that isn't used doesn't occur
-  not_used : (V : ℕ → Bool) (x : ℕ) (M : Term) → V x ≡ false → Uses V M → occurs x M ≡ false
+  pub not_used : (V : ℕ → Bool) (x : ℕ) (M : Term) → V x ≡ false → Uses V M → occurs x M ≡ false
   not_used V x (lambda M) e u = not_used (under V) (suc x) M e u
   not_used V x (root (constant c) S) e u = not_used_spine V x S e u
   not_used V x (root (metavariable c) S) e u = not_used_spine V x S e u
@@ -159,3 +159,7 @@ module _ (Σ : Signature) (U : LfType) (t : IsType Σ [] U) where
   -- what occurs in chosen places of the head is a variable of the clause
   pub own_in_head : (m : List Bool) (x : ℕ) → (occurrences_at m x (target_arguments U) ≡ 0 → ⊥) → variables (constant_clause U) x ≡ true
   own_in_head m x o = decided (variables (constant_clause U) x) (λ v. v) (λ v. absurd (o (never_occurs_at m x (target_arguments U) (subgoal_is_absent x v))))
+
+  -- and it stands in the clause
+  pub inside_in_head : (m : List Bool) (x : ℕ) → (occurrences_at m x (target_arguments U) ≡ 0 → ⊥) → outside U everything x ≡ false
+  inside_in_head m x o = decided (outside U everything x) (λ e. absurd (o (never_occurs_at m x (target_arguments U) (outside_is_absent x e)))) (λ e. e)

@@ -42,7 +42,7 @@ less_differs k z h = decided (same_number z k) (λ e. absurd (smaller (number_sa
     smaller : z ≡ k → suc k ≤ z → ⊥
     smaller e h = omega arith
 
-same_turned : (i j : ℕ) → same_number i j ≡ same_number j i
+pub same_turned : (i j : ℕ) → same_number i j ≡ same_number j i
 same_turned zero zero = refl
 same_turned zero (suc j) = refl
 same_turned (suc i) zero = refl

@@ -41,6 +41,8 @@ pub mod FullMatching
 pub mod Matching
 pub mod MatchingLaws
 pub mod ExamplesMatching
+pub mod Stuck
+pub mod ExamplesStrategy
 pub mod OutputLaws
 pub mod ExamplesOutputs
 pub mod ExamplesCopying

@@ -21,6 +21,8 @@ ghost use Rattle.lf_coverage.specs.ExamplesRenumbering.{TurnedIsSolved, NumbersD
 ghost use Rattle.lf_coverage.specs.RenumberingLaws.{NumbersExtend, NumbersAreRenumbering, UndoingReturns, ReadyUnderNumbers, StepUnderNumbers, NeverUnderNumbers, SolvedUnderNumbers, LeftUnderNumbers, DeepUnderNumbers, FoundUnderNumbers, NeverGivesNoCaseUnderNumbers, SolvedIsSplitUnderNumbers, LeftIsOutsideUnderNumbers, TooDeepUnderNumbers, NeverIsApartUnderNumbers, SolvedSharesInstanceUnderNumbers, OpenUnderNumbers};
 ghost use Rattle.lf_coverage.specs.TermMatching.{TermsMatch, ArgumentsMatch};
 ghost use Rattle.lf_coverage.specs.ExamplesStuck.{PatternsStand, BoundIsTaken, AppliedIsReached, SolvedHasCandidate, LowerIsUnsplit};
+ghost use Rattle.lf_coverage.specs.Stuck.{StrictIsPattern, HeadsAreOfStrategy, NoCandidateMatches, NoCandidateIsInstance, UnsplitSharesNone, NeverUnsplit, CaseProceeds, ComesAsInstance, FirstSplitsReach, InputRunIsStrategys, InputRunIsNeverStuck, InputRunProceeds};
+ghost use Rattle.lf_coverage.specs.ExamplesStrategy.{HeadsAreStrategys, CasesAreStrategys, PlusSplitsAtFirst, SuccessorIsNotStuck, SolvedIsNotStuck};
 ghost use Rattle.lf_coverage.specs.FullMatching.{FullPlacesMatch, InputsMatch, HeadsAreStrict, PatternValuesAreTyped};
 ghost use Rattle.lf_coverage.specs.ExamplesMatching.{ValuesAreFound, PlusMatches, PlusIsInstance, TwoAreNotOne};
 ghost use Rattle.lf_coverage.specs.MatchingLaws.{InstanceIsFound, ValuesAreDetermined, InstanceMatches, MatchIsInstance, MatchingDecides, InstanceIsDecided, HeadGroundHoldsTypes, GoalGroundHoldsTypes, HeadMatchIsTyped, HeadMatchingDecides, HeadMatchIsLeaf, GoalMatchingDecides};
@@ -614,6 +616,91 @@ pub fn head_match_is_leaf()
 /// eq X Y doesn't match eq-r.
 pub fn two_are_not_one()
     ensures { TwoAreNotOne }
+{}
+
+/// A case of inputs that shares an instance with a linear and full head, and has no candidate with it, matches it by terms.
+pub fn no_candidate_matches()
+    ensures { NoCandidateMatches }
+{}
+
+/// So it is an instance of the head.
+pub fn no_candidate_is_instance()
+    ensures { NoCandidateIsInstance }
+{}
+
+/// So a case that is not split shares an instance with none of such heads, and is open with one.
+pub fn unsplit_shares_none()
+    ensures { UnsplitSharesNone }
+{}
+
+/// So the strategy is never stuck where nothing is open.
+pub fn never_unsplit()
+    ensures { NeverUnsplit }
+{}
+
+/// A case is an instance of a head, or is split, or shares an instance with none.
+pub fn case_proceeds()
+    ensures { CaseProceeds }
+{}
+
+/// What comes by answered splits is an instance of the goal.
+pub fn comes_as_instance()
+    ensures { ComesAsInstance }
+{}
+
+/// From the goal of inputs come cases of the strategy, if their variables are applied to distinct bound variables.
+pub fn input_run_is_strategys()
+    ensures { InputRunIsStrategys }
+{}
+
+/// So a run from it is never stuck at them.
+pub fn input_run_is_never_stuck()
+    ensures { InputRunIsNeverStuck }
+{}
+
+/// And where unification comes to an end they are covered, split or missing.
+pub fn input_run_proceeds()
+    ensures { InputRunProceeds }
+{}
+
+/// plus-z and plus-s are heads for the strategy, and k (F z) isn't.
+pub fn heads_are_strategys()
+    ensures { HeadsAreStrategys }
+{}
+
+/// plus (s X) Y _ is a case of it, and eq z (F z) isn't.
+pub fn cases_are_strategys()
+    ensures { CasesAreStrategys }
+{}
+
+/// plus (s X) Y _ has no candidate with plus-s, and is an instance of it.
+pub fn successor_is_not_stuck()
+    ensures { SuccessorIsNotStuck }
+{}
+
+/// eq z Y has a candidate with eq z z.
+pub fn solved_is_not_stuck()
+    ensures { SolvedIsNotStuck }
+{}
+
+/// The heads of linear and full clauses with patterns are those of the strategy.
+pub fn heads_are_of_strategy()
+    ensures { HeadsAreOfStrategy }
+{}
+
+/// A linear head whose variables are all strict has patterns.
+pub fn strict_is_pattern()
+    ensures { StrictIsPattern }
+{}
+
+/// What comes by the strategy's splits is reached.
+pub fn first_splits_reach()
+    ensures { FirstSplitsReach }
+{}
+
+/// The strategy splits plus X Y _ by z and s.
+pub fn plus_splits_at_first()
+    ensures { PlusSplitsAtFirst }
 {}
 
 /// The goal of the outputs of a subgoal is typed by itself.
