@@ -1,6 +1,6 @@
 -- A term with the variables that are arguments of a pattern abstracted: applied to this pattern it is the term again.
 use Rattle.std.proofs.Common.{◌≡◌, ℕ, zero, suc, List, ◌∷◌, refl, sym, ap, ◌∙◌, subst}
-use Rattle.std.specs.Prelude.{Bool, true, false, not, cond, Option, Some, None}
+use Rattle.std.specs.Prelude.{Bool, true, false, cond, Option, Some, None}
 use mathlib.Core.Path.{fun_ext}
 use Rattle.lf.specs.Syntax.{Head, constant, variable, metavariable, Term, Spine, lambda, root, nil, app, Skeleton, base, arrow, lift_renaming, rename_head, rename, rename_spine}
 use Rattle.lf.specs.Substitution.{Image, keep, single, substitute, substitute_spine, reduce}
@@ -12,13 +12,15 @@ use Rattle.lf.proofs.AtOnce.{rename_identity}
 use Rattle.lf.proofs.SkeletonTyping.{renaming_keeps_skeletons}
 use Rattle.lf.proofs.Agreement.{uses_within}
 use Rattle.lf.proofs.Uses.{uses_renamed}
-use Rattle.lf.proofs.Eta.{EtaLike, Fits, eta_renames, reduce_nil, substitute_eta_expand}
-use Rattle.lf.proofs.EtaTypes.{SameForm, eta_form}
-use Rattle.lf_checks.specs.Tests.{both, either, is_in}
-use Rattle.lf_checks.specs.Strict.{head_variable, is_bound, pattern_arguments, with_seen, eta_at}
-use Rattle.lf_checks.proofs.EtaTest.{is_eta, both_l, both_r}
+use Rattle.lf.proofs.Eta.{reduce_nil, substitute_eta_expand}
+use Rattle.lf.proofs.EtaTypes.{SameForm}
+use Rattle.lf_checks.specs.Tests.{either}
+use Rattle.lf_checks.specs.Strict.{head_variable, is_bound, pattern_arguments, with_seen}
+use Rattle.lf_checks.proofs.EtaTest.{both_l, both_r}
 use Rattle.lf_unification.proofs.ToSkeletons.{SkeletonAt-once}
+use Rattle.lf_checks.proofs.Reach.{number_equal}
 use Rattle.lf_coverage.specs.TermMatching.{is_this_variable, heads_argument}
+use Rattle.lf_coverage.proofs.EtaArguments.{argument_renames, bound_argument}
 
 -- the newest variable for y; each other one comes one further
 abbrev pub back : ℕ → ℕ → ℕ
@@ -33,33 +35,16 @@ abbrev pub abstracted : Spine → Term → Term
 abstracted nil M = M
 abstracted (app N S) M = lambda (rename (back_from (head_variable zero N)) (abstracted S M))
 
-pub same_self : (i : ℕ) → same_number i i ≡ true
-same_self zero = refl
-same_self (suc i) = same_self i
-
-pub number_same : (i j : ℕ) → same_number i j ≡ true → i ≡ j
-number_same zero zero e = refl
-number_same zero (suc j) e = absurd cc
-number_same (suc i) zero e = absurd cc
-number_same (suc i) (suc j) e = ap suc (number_same i j e)
-
 -- put in again, it is y
 there : (y i : ℕ) → at_variable y (back y i) ≡ i
 there y i = by (same_number i y) refl
   where
     by : (b : Bool) → same_number i y ≡ b → at_variable y (cond (same_number i y) zero (suc i)) ≡ i
-    by true e = ap (λ b. at_variable y (cond b zero (suc i))) e ∙ sym (number_same i y e)
+    by true e = ap (λ b. at_variable y (cond b zero (suc i))) e ∙ sym (number_equal i y e)
     by false e = ap (λ b. at_variable y (cond b zero (suc i))) e
 
 put_again : (y : ℕ) (M : Term) → rename (at_variable y) (rename (back y) M) ≡ M
 put_again y M = renamings_compose (at_variable y) (back y) M ∙ ap (λ ρ. rename ρ M) (fun_ext (there y)) ∙ rename_identity M
-
--- an argument of a pattern is a bound variable up to eta
-pub bound_of : (B : ℕ → Bool) (seen : List ℕ) (M : Term) (o : Option ℕ) → is_bound B seen M o ≡ true → (y : ℕ) × (a : Skeleton) × (o ≡ Some y) × (B y ≡ true) × (M ≡ eta_long a (variable y))
-bound_of B seen M None e = absurd cc
-bound_of B seen M (Some y) e =
-    let (a, q) = is_eta y M (both_l (eta_at zero y M) (both (B y) (not (is_in y seen))) e) in
-    (y, a, refl, both_l (B y) (not (is_in y seen)) (both_r (eta_at zero y M) (both (B y) (not (is_in y seen))) e), q)
 
 -- what the term mentions besides these arguments it mentions still
 pub abstracted_uses : (B V : ℕ → Bool) (seen : List ℕ) (S : Spine) (M : Term) → pattern_arguments B seen S ≡ true → Uses (λ i. either (V i) (heads_argument i S)) M → Uses V (abstracted S M)
@@ -70,7 +55,7 @@ abstracted_uses B V seen nil M e u = uses_within (λ i. either (V i) false) V M 
     last false q = q
 abstracted_uses B V seen (app N S) M e u =
     let o : Option ℕ = head_variable zero N in
-    let (y, a, oe, by, ne) = bound_of B seen N o (both_l (is_bound B seen N o) (pattern_arguments B (with_seen o seen) S) e) in
+    let (y, a, oe, by, unseen, ne) = bound_argument B seen N o (both_l (is_bound B seen N o) (pattern_arguments B (with_seen o seen) S) e) in
     let V' : ℕ → Bool = λ i. either (V i) (same_number i y) in
     let u' : Uses (λ i. either (either (V i) (same_number i y)) (heads_argument i S)) M = uses_within (λ i. either (V i) (either (is_this_variable i o) (heads_argument i S))) (λ i. either (either (V i) (same_number i y)) (heads_argument i S)) M (λ i q. moved (V i) (same_number i y) (heads_argument i S) (subst (λ z. either (V i) (either (is_this_variable i z) (heads_argument i S)) ≡ true) oe q)) u in
     let w : Uses V' (abstracted S M) = abstracted_uses B V' (with_seen o seen) S M (both_r (is_bound B seen N o) (pattern_arguments B (with_seen o seen) S) e) u' in
@@ -131,29 +116,13 @@ module _ (κ : HeadSkeletons) where
       let e : x ≡ c = sym q ∙ sym k in
       (v, head_back Γ c h v g, spine_back Γ (c ∷ Γ) suc S v (arrow c d) (λ i t z. z) (subst (λ z. SpineSkeleton κ (c ∷ Γ) (rename_spine suc S) v (arrow z d)) e r), (subst (SameForm a) e f', f))
 
-  -- an eta-long variable put in for the newest one only renames
-  pub argument_renames : (Δ : List Skeleton) (s1 s2 b : Skeleton) (k : ℕ) (N : Term) → TermSkeleton κ (s1 ∷ Δ) N s2 → SkeletonAt Δ k s1 → SameForm b s1 → substitute reduce (single s1 (eta_long b (variable k))) N ≡ rename (at_variable k) N
-  argument_renames Δ s1 s2 b k N n g f = eta_renames κ (s1 ∷ Δ) Δ (single s1 (eta_long b (variable k))) (at_variable k) N s2 like fit into n
-    where
-      like : EtaLike (λ c. Unit {0}) (single s1 (eta_long b (variable k))) (at_variable k)
-      like zero = (tt, eta_form b s1 (variable k) nil f)
-      like (suc i) = refl
-
-      fit : Fits (s1 ∷ Δ) (single s1 (eta_long b (variable k)))
-      fit zero t e = e
-      fit (suc i) t e = tt
-
-      into : (i : ℕ) (t : Skeleton) → SkeletonAt (s1 ∷ Δ) i t → SkeletonAt Δ (at_variable k i) t
-      into zero t e = subst (SkeletonAt Δ k) e g
-      into (suc i) t e = e
-
   -- The lemma: Ξ is where the arguments stand, and Γ where the term does.
   pub abstracted_applied : (B : ℕ → Bool) (Γ Ξ : List Skeleton) (σ : ℕ → Image) (seen : List ℕ) (S : Spine) (s u : Skeleton) (M : Term) → ((y : ℕ) (a : Skeleton) → B y ≡ true → SkeletonAt Ξ y a → SkeletonAt Γ y a) → ((y : ℕ) → B y ≡ true → σ y ≡ keep y) → pattern_arguments B seen S ≡ true → SpineSkeleton κ Ξ S s u → TermSkeleton κ Γ M u → TermSkeleton κ Γ (abstracted S M) s × (reduce s (abstracted S M) (substitute_spine reduce σ S) ≡ M)
   abstracted_applied B Γ Ξ σ seen nil s u M h kb e q m = (subst (TermSkeleton κ Γ M) (sym q) m, reduce_nil s M)
   abstracted_applied B Γ Ξ σ seen (app N S) (base c) u M h kb e q m = absurd q
   abstracted_applied B Γ Ξ σ seen (app N S) (arrow s1 s2) u M h kb e (n, q) m =
       let o : Option ℕ = head_variable zero N in
-      let (y, a, oe, by, ne) = bound_of B seen N o (both_l (is_bound B seen N o) (pattern_arguments B (with_seen o seen) S) e) in
+      let (y, a, oe, by, unseen, ne) = bound_argument B seen N o (both_l (is_bound B seen N o) (pattern_arguments B (with_seen o seen) S) e) in
       let (v, g, z, f) = expanded_back a s1 Ξ (variable y) nil (subst (λ X. TermSkeleton κ Ξ X s1) ne n) in
       let sy : SkeletonAt Γ y s1 = h y s1 by (subst (SkeletonAt Ξ y) z g) in
       let W : Term = abstracted S M in
@@ -161,12 +130,12 @@ module _ (κ : HeadSkeletons) where
       let k : TermSkeleton κ (s1 ∷ Γ) (rename (back y) W) s2 = renaming_keeps_skeletons κ Γ (s1 ∷ Γ) (back y) W s2 (into Γ y s1 sy) w in
       let es : substitute reduce σ N ≡ eta_long a (variable y) = ap (substitute reduce σ) ne ∙ substitute_eta_expand σ a (variable y) (variable y) nil (kb y by) in
       let ev : reduce (arrow s1 s2) (lambda (rename (back y) W)) (app (substitute reduce σ N) (substitute_spine reduce σ S)) ≡ M
-      = reduction_beta s1 s2 (rename (back y) W) (substitute reduce σ N) (substitute_spine reduce σ S) ∙ ap (λ X. reduce s2 (substitute reduce (single s1 X) (rename (back y) W)) (substitute_spine reduce σ S)) es ∙ ap (λ X. reduce s2 X (substitute_spine reduce σ S)) (argument_renames Γ s1 s2 a y (rename (back y) W) k sy f ∙ put_again y W) ∙ r in
+      = reduction_beta s1 s2 (rename (back y) W) (substitute reduce σ N) (substitute_spine reduce σ S) ∙ ap (λ X. reduce s2 (substitute reduce (single s1 X) (rename (back y) W)) (substitute_spine reduce σ S)) es ∙ ap (λ X. reduce s2 X (substitute_spine reduce σ S)) (argument_renames Γ s1 a y sy f κ (rename (back y) W) s2 k ∙ put_again y W) ∙ r in
       (subst (λ z. TermSkeleton κ (s1 ∷ Γ) (rename (back_from z) W) s2) (sym oe) k, ap (λ z. reduce (arrow s1 s2) (lambda (rename (back_from z) W)) (app (substitute reduce σ N) (substitute_spine reduce σ S))) oe ∙ ev)
     where
       into : (Γ : List Skeleton) (y : ℕ) (s1 : Skeleton) → SkeletonAt Γ y s1 → (i : ℕ) (t : Skeleton) → SkeletonAt Γ i t → SkeletonAt (s1 ∷ Γ) (back y i) t
       into Γ y s1 sy i t g = at (same_number i y) refl
         where
           at : (b : Bool) → same_number i y ≡ b → SkeletonAt (s1 ∷ Γ) (cond (same_number i y) zero (suc i)) t
-          at true r = subst (λ b. SkeletonAt (s1 ∷ Γ) (cond b zero (suc i)) t) (sym r) (SkeletonAt-once Γ y s1 t sy (subst (λ j. SkeletonAt Γ j t) (number_same i y r) g))
+          at true r = subst (λ b. SkeletonAt (s1 ∷ Γ) (cond b zero (suc i)) t) (sym r) (SkeletonAt-once Γ y s1 t sy (subst (λ j. SkeletonAt Γ j t) (number_equal i y r) g))
           at false r = subst (λ b. SkeletonAt (s1 ∷ Γ) (cond b zero (suc i)) t) (sym r) g

@@ -12,6 +12,7 @@ use Rattle.lf_checks.specs.Tests.{is_in}
 use Rattle.lf_cases.specs.Case.{Item, free_variable, block_variable, items_context}
 use Rattle.lf_cases.specs.Candidates.{candidates, candidates_spine, candidates_at, counted, each_once, flexible, free_among, hide_all, is_rigid, beside_set, then, with_given}
 use Rattle.lf_coverage.specs.RunLaws.{CandidateIsVariable}
+use Rattle.lf_coverage.proofs.Parts.{some_same}
 
 -- The variables in F under n binders are those of V outside them.
 abbrev Outside : (ℕ → Bool) → ℕ → (ℕ → Bool) → Type 0
@@ -23,9 +24,6 @@ outside_under F n V h (suc i) x f e = h i x f e
 
 outside_all : (D : List LfType) (V : ℕ → Bool) → Outside (hide_all D V) (length D) V
 outside_all [] V i x f e = subst (λ j. V j ≡ true) (some_same e) f
-  where
-    some_same : Some i ≡ Some x → i ≡ x
-    some_same e = cc
 outside_all (A ∷ D) V i x f e = outside_under (hide_all D V) (length D) V (outside_all D V) i x f e
 
 -- each of the list is in V

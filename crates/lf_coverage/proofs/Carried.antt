@@ -1,7 +1,7 @@
 -- Values of a context that are carried on past it, and values that are the same as terms where a term uses them.
 use Rattle.std.proofs.Common.{◌≡◌, ℕ, zero, suc, List, [], ◌∷◌, refl, sym, ap, ◌∙◌, subst}
 use Rattle.std.specs.Prelude.{Bool, true, false, Some}
-use Rattle.lf.specs.Syntax.{Term, nil, app, LfType, atom, Skeleton, base, arrow, skeleton, weaken}
+use Rattle.lf.specs.Syntax.{Term, nil, app, LfType, atom, Skeleton, base, arrow, skeleton}
 use Rattle.lf.specs.Substitution.{Image, keep, substitute, substitute_type, reduce}
 use Rattle.lf.specs.SkeletonTyping.{HeadSkeletons, SkeletonAt, ImageSkeleton, TermSkeleton, SubstitutionBySkeletons}
 use Rattle.lf.specs.Skeletons.{constant_skeletons, family_skeletons, context_skeletons}
@@ -11,8 +11,8 @@ use Rattle.lf.proofs.Agreement.{agree_on, agree_on_type}
 use Rattle.lf.proofs.Kept.{typed_uses_type}
 use Rattle.lf.proofs.Partial.{skeletons_beside, PartialSubstitution, ImageHasType-has_skeleton, skeleton_context_of_beside}
 use Rattle.lf.proofs.Patch.{pick, beyond}
-use Rattle.lf.proofs.ToSkeletons.{type_by_skeletons}
-use Rattle.lf.proofs.TypeLaws.{skeleton_renamed, skeleton_substituted}
+use Rattle.lf.proofs.ToSkeletons.{type_by_skeletons, skeleton_has_variable}
+use Rattle.lf.proofs.TypeLaws.{skeleton_substituted}
 use Rattle.lf.proofs.Weakening.{declared_is_type}
 use Rattle.lf_cases.specs.Case.{as_term}
 use Rattle.lf_cases.proofs.LongValues.{long_at, long_past, long_same}
@@ -31,7 +31,7 @@ carry_same [] G σ i e = absurd cc
 carry_same (A ∷ D) G σ zero e = refl
 carry_same (A ∷ D) G σ (suc i) e = carry_same D G (λ j. σ (suc j)) i e
 
-beyond_at : (P : List Skeleton) (D : List LfType) (i : ℕ) (t : Skeleton) → SkeletonAt P i t → SkeletonAt (skeletons_beside P D) (beyond D i) t
+pub beyond_at : (P : List Skeleton) (D : List LfType) (i : ℕ) (t : Skeleton) → SkeletonAt P i t → SkeletonAt (skeletons_beside P D) (beyond D i) t
 beyond_at P [] i t g = g
 beyond_at P (A ∷ D) i t g = beyond_at P D i t g
 
@@ -41,11 +41,6 @@ carry_fits κ P (A ∷ D) G σ h zero t e = h zero t e
 carry_fits κ P (A ∷ D) G σ h (suc i) t g = carry_fits κ P D G (λ j. σ (suc j)) (λ j u k. h (suc j) u k) i t g
 
 -- a skeleton of a context is that of a type
-pub type_of : (G : List LfType) (i : ℕ) (t : Skeleton) → SkeletonAt (context_skeletons G) i t → (A : LfType) × TypeAt G i A × (skeleton A ≡ t)
-type_of [] i t g = absurd g
-type_of (B ∷ G) zero t e = (weaken B, refl, skeleton_renamed suc B ∙ e)
-type_of (B ∷ G) (suc i) t g = let (A, h, e) = type_of G i t g in (weaken A, (A, h, refl), skeleton_renamed suc A ∙ e)
-
 pub beside_nothing : (C : List LfType) → skeletons_beside [] C ≡ context_skeletons C
 beside_nothing [] = refl
 beside_nothing (A ∷ C) = ap (λ Γ. skeleton A ∷ Γ) (beside_nothing C)
@@ -54,7 +49,7 @@ beside_nothing (A ∷ C) = ap (λ Γ. skeleton A ∷ Γ) (beside_nothing C)
 pub carried : (Σ : Signature) (ok : IsSignature Σ) (P : List Skeleton) (C G : List LfType) (σ : ℕ → Image) → IsContext Σ C → IsContext Σ G → IsTypedSubstitution Σ C G σ → PartialSubstitution Σ ok P P everything C G (carry C G σ)
 carried Σ ok P C G σ c d t = record {
   typed = λ i A g u. subst (ImageHasType Σ G (carry C G σ i)) (agree_on_type reduce (in_context C) σ (carry C G σ) A (λ j e. sym (carry_same C G σ j e)) (typed_uses_type Σ C (in_context C) A (in_covers C) (declared_is_type Σ ok C i A c g))) (subst (λ x. ImageHasType Σ G x (substitute_type reduce σ A)) (sym (carry_same C G σ i (in_covers C i A g))) (t i A g));
-  sk = carry_fits (constant_skeletons Σ) P C G σ (λ i u k. let (A, g, e) = type_of C i u k in subst (ImageSkeleton (constant_skeletons Σ) (skeletons_beside P G) (σ i)) (skeleton_substituted reduce σ A ∙ e) (ImageHasType-has_skeleton Σ ok P G (σ i) (substitute_type reduce σ A) (t i A g)));
+  sk = carry_fits (constant_skeletons Σ) P C G σ (λ i u k. let (A, g, e) = skeleton_has_variable C i u k in subst (ImageSkeleton (constant_skeletons Σ) (skeletons_beside P G) (σ i)) (skeleton_substituted reduce σ A ∙ e) (ImageHasType-has_skeleton Σ ok P G (σ i) (substitute_type reduce σ A) (t i A g)));
   source_skeletons = skeleton_context_of_beside Σ ok P C c;
   target_skeletons = skeleton_context_of_beside Σ ok P G d;
 }
@@ -102,5 +97,5 @@ module _ (Σ : Signature) (O : List LfType) (Δ : List Skeleton) (U : ℕ → Bo
   like_term M t m u =
       agree_on reduce U ω mixed M on_used u
       ∙ sym (long_term_same (constant_skeletons Σ) O Δ mixed M t mixed_fits m)
-      ∙ same_in (constant_skeletons Σ) (context_skeletons O) (long_at O mixed) (long_at O v) (λ i s g. let (X, h, e) = type_of O i s g in long_mixed i X h) M t m
+      ∙ same_in (constant_skeletons Σ) (context_skeletons O) (long_at O mixed) (long_at O v) (λ i s g. let (X, h, e) = skeleton_has_variable O i s g in long_mixed i X h) M t m
       ∙ long_term_same (constant_skeletons Σ) O Δ v M t fv m

@@ -1,7 +1,7 @@
 -- A split at each head of which unification answers gives the cases that are to be answered; and a run of such splits covers its goal.
-use Rattle.std.proofs.Common.{◌≡◌, ℕ, ◌+◌, List, [], ◌∷◌, inl, inr, refl, sym, ◌∙◌, subst}
+use Rattle.std.proofs.Common.{ℕ, ◌+◌, List, [], ◌∷◌, inl, inr, refl, sym, ◌∙◌, subst}
 use Rattle.std.specs.Prelude.{Bool, true, false, Option, Some, None}
-use Rattle.lf.specs.Syntax.{Kind, kind_pi, star, lift_renaming, rename_type}
+use Rattle.lf.specs.Syntax.{LfType, Kind, kind_pi, star, lift_renaming, rename_type}
 use Rattle.lf.specs.Typing.{Signature, IsSignature}
 use Rattle.lf.specs.Subordination.{Block, Member, AreTypedBlocks, SelfContained}
 use Rattle.lf.proofs.Strength.{families_renamed}
@@ -14,7 +14,7 @@ use Rattle.lf_coverage.specs.HeadOrder.{Offer}
 use Rattle.lf_coverage.specs.Heads.{Listed, no_offer, with_case, without_case, IsSplitAt, IsHeadSplit, IsTypedCase}
 use Rattle.lf_coverage.specs.RunLaws.{SolvedSplitIsUnified, SolvedSplitIsAnswer, SolvedRunCovers, SolvedRunCoversInputs}
 use Rattle.lf_coverage.specs.SplitStore.{split_store, AllFamiliesIn}
-use Rattle.lf_coverage.specs.UnifiedSplit.{HeadIsSolved, IsSolvedSplit, IsUnifiedSplit, SolvesEachHead, SplitsByUnification, UnifierAnswer}
+use Rattle.lf_coverage.specs.UnifiedSplit.{HeadIsSolved, IsAnsweredSplit, IsSolvedSplit, IsUnifiedSplit, SolvesEachHead, SplitsByUnification, UnifierAnswer}
 use Rattle.lf_coverage.proofs.Families.{split_items_keep_families, solved_keeps_families, store_families}
 use Rattle.lf_coverage.proofs.HeadSplit.{head_of_case, heads_split, split_cases_typed}
 use Rattle.lf_coverage.proofs.Leaves.{leaves_cover}
@@ -23,6 +23,7 @@ use Rattle.lf_coverage.proofs.Runs.{other_run}
 use Rattle.lf_coverage.proofs.StoreSolution.{families_at}
 use Rattle.lf_coverage.proofs.TypedCases.{input_goal_is_typed_case, solved_is_split}
 use Rattle.lf_coverage.proofs.Unified.{unified_split}
+use Rattle.lf_coverage.proofs.Parts.{some_same}
 
 -- other answers to the same heads
 listed_by : {A B : Offer → Option Case → Type 0} {hs : List Offer} {Cs : List Case} → ((h : Offer) (found : Option Case) → Member h hs → A h found → B h found) → Listed A hs Cs → Listed B hs Cs
@@ -31,25 +32,32 @@ listed_by f (with_case {h = h} {D = D} a l) = with_case (f h (Some D) (inl refl)
 listed_by f (without_case {h = h} a l) = without_case (f h None (inl refl) a) (listed_by (λ k z m. f k z (inr m)) l)
 
 module _ (Σ : Signature) (ok : IsSignature Σ) (W : List Block) (typed : AreTypedBlocks Σ W) (below : ℕ → ℕ → Bool) (C : Case) (tc : IsTypedCase Σ W C) (x : ℕ) (Cs : List Case) (sp : IsSolvedSplit Σ W below C x Cs) where
+  abbrev s : IsAnsweredSplit Σ W below C x Cs
+  s = sp.answered
+
   module _ (S : ℕ → Bool) (sc : SelfContained Σ W S) (fam : AllFamiliesIn S (items_context C.items)) where
-    split_families : (h : Offer) → SplitHead Σ W C.items sp.type h.items h.moved h.head h.type → HasNoBlockVariable h.items → AllFamiliesIn S (items_context (split_items below sp.type h.items h.moved h.type))
-    split_families h sh n = split_items_keep_families Σ W S sc below C.items fam x sp.type sp.at h.items h.moved h.head h.type sh n
+    split_families : (h : Offer) → SplitHead Σ W C.items s.type h.items h.moved h.head h.type → HasNoBlockVariable h.items → AllFamiliesIn S (items_context (split_items below s.type h.items h.moved h.type))
+    split_families h sh n = split_items_keep_families Σ W S sc below C.items fam x s.type s.at h.items h.moved h.head h.type sh n
+
+    -- the split, where something else is answered at its heads
+    answered_by : (Answer : LfType → Offer → Option Case → Type 0) → ((h : Offer) (found : Option Case) → SplitHead Σ W C.items s.type h.items h.moved h.head h.type → HeadIsSolved Σ below C x s.type h found → Answer s.type h found) → IsSplitAt Σ W S below Answer C x Cs
+    answered_by Answer one = record {
+      type = s.type;
+      at = s.at;
+      is_free = s.is_free;
+      families = families_at S (items_context C.items) fam x s.type s.at;
+      takes_below = sp.takes_below;
+      offers = s.offers;
+      are_offers = s.are_offers;
+      in_order = s.in_order;
+      arguments_below = sp.arguments_below;
+      listed = listed_by (λ h found m a. one h found (s.are_offers.each h m) a) s.listed;
+    }
 
     pub is_unified : IsUnifiedSplit Σ W S below C x Cs
-    is_unified = record {
-      type = sp.type;
-      at = sp.at;
-      is_free = sp.is_free;
-      families = families_at S (items_context C.items) fam x sp.type sp.at;
-      takes_below = sp.takes_below;
-      offers = sp.offers;
-      are_offers = sp.are_offers;
-      in_order = sp.in_order;
-      arguments_below = sp.arguments_below;
-      listed = listed_by (λ h found m a. one h found (sp.are_offers.each h m) a) sp.listed;
-    }
+    is_unified = answered_by (UnifierAnswer Σ W S below C x) one
       where
-        one : (h : Offer) (found : Option Case) → SplitHead Σ W C.items sp.type h.items h.moved h.head h.type → HeadIsSolved Σ below C x sp.type h found → UnifierAnswer Σ W S below C x sp.type h found
+        one : (h : Offer) (found : Option Case) → SplitHead Σ W C.items s.type h.items h.moved h.head h.type → HeadIsSolved Σ below C x s.type h found → UnifierAnswer Σ W S below C x s.type h found
         one h found sh a = record {
           kind = a.kind;
           of_family = a.of_family;
@@ -59,39 +67,28 @@ module _ (Σ : Signature) (ok : IsSignature Σ) (W : List Block) (typed : AreTyp
         }
 
     case_families : (D : Case) → Member D Cs → AllFamiliesIn S (items_context D.items)
-    case_families D m = let (h, k, a) = head_of_case sp.listed D m in by h (sp.are_offers.each h k) a
+    case_families D m = let (h, k, a) = head_of_case s.listed D m in by h (s.are_offers.each h k) a
       where
-        by : (h : Offer) → SplitHead Σ W C.items sp.type h.items h.moved h.head h.type → HeadIsSolved Σ below C x sp.type h (Some D) → AllFamiliesIn S (items_context D.items)
+        by : (h : Offer) → SplitHead Σ W C.items s.type h.items h.moved h.head h.type → HeadIsSolved Σ below C x s.type h (Some D) → AllFamiliesIn S (items_context D.items)
         by h sh a =
-            let (after, s, e) = a.finds in
-            subst (λ E. AllFamiliesIn S (items_context E.items)) (sym e) (solved_keeps_families Σ S (split_store below x sp.type h.items h.moved h.head h.type a.kind) after (store_families S (items_context (split_items below sp.type h.items h.moved h.type)) (split_families h sh a.no_block)) s C (h.moved + arguments_count h.type))
+            let (after, z, e) = a.finds in
+            subst (λ E. AllFamiliesIn S (items_context E.items)) (sym e) (solved_keeps_families Σ S (split_store below x s.type h.items h.moved h.head h.type a.kind) after (store_families S (items_context (split_items below s.type h.items h.moved h.type)) (split_families h sh a.no_block)) z C (h.moved + arguments_count h.type))
 
     split_listed : IsSplitAt Σ W S below (HeadGives Σ W below C x) C x Cs
-    split_listed = record {
-      type = sp.type;
-      at = sp.at;
-      is_free = sp.is_free;
-      families = families_at S (items_context C.items) fam x sp.type sp.at;
-      takes_below = sp.takes_below;
-      offers = sp.offers;
-      are_offers = sp.are_offers;
-      in_order = sp.in_order;
-      arguments_below = sp.arguments_below;
-      listed = listed_by (λ h found m a. one h found (sp.are_offers.each h m) a) sp.listed;
-    }
+    split_listed = answered_by (HeadGives Σ W below C x) one
       where
-        one : (h : Offer) (found : Option Case) → SplitHead Σ W C.items sp.type h.items h.moved h.head h.type → HeadIsSolved Σ below C x sp.type h found → HeadGives Σ W below C x sp.type h found
-        one h None sh a = never_gives_no_case Σ ok W typed below C tc x sp.type sp.at h.items h.moved h.head h.type sh a.no_block a.kind a.finds
+        one : (h : Offer) (found : Option Case) → SplitHead Σ W C.items s.type h.items h.moved h.head h.type → HeadIsSolved Σ below C x s.type h found → HeadGives Σ W below C x s.type h found
+        one h None sh a = never_gives_no_case Σ ok W typed below C tc x s.type s.at h.items h.moved h.head h.type sh a.no_block a.kind a.finds
         one h (Some D) sh a =
-            let (after, s, e) = a.finds in
-            subst (Rattle.lf_cases.specs.Reached.IsSplitBy Σ W below C x sp.type h.items h.moved h.head h.type) (sym e) (solved_is_split Σ ok W typed below C tc x sp.type sp.at h.items h.moved h.head h.type sh a.no_block a.kind after s)
+            let (after, z, e) = a.finds in
+            subst (Rattle.lf_cases.specs.Reached.IsSplitBy Σ W below C x s.type h.items h.moved h.head h.type) (sym e) (solved_is_split Σ ok W typed below C tc x s.type s.at h.items h.moved h.head h.type sh a.no_block a.kind after z)
 
   pub cases_of : IsSubordination Σ W below → AreCasesBesideAll Σ W below C x Cs
-  cases_of s = record {
-    type = sp.type;
-    at = sp.at;
+  cases_of sub = record {
+    type = s.type;
+    at = s.at;
     listed = split_listed;
-    holds = λ S sc fam. heads_split Σ ok W typed below s S sc C tc x Cs (unified_split Σ ok W typed below S sc C tc x Cs (is_unified S sc fam));
+    holds = λ S sc fam. heads_split Σ ok W typed below sub S sc C tc x Cs (unified_split Σ ok W typed below S sc C tc x Cs (is_unified S sc fam));
   }
 
 pub solved_split_is_unified : SolvedSplitIsUnified
@@ -122,9 +119,6 @@ solved_run_covers_inputs Σ ok W typed below s ps a m K e c r =
     let (t, l, n) = input_goal_is_typed_case Σ ok W typed a m K e c in
     solved_run_covers Σ ok W typed below s ps (input_goal a m K) (one_without (input_goal a m K).items n) t (λ S b. goal_families S m K (λ i. i) [] (subst (PlacesIn S (covered_places (goal_arguments m K))) (some_same (sym b.of_family ∙ e)) b.places) tt) r
   where
-    some_same : {P Q : Kind} → Some P ≡ Some Q → P ≡ Q
-    some_same q = cc
-
     one_without : (I : List Item) → HasNoBlockVariable I → HasOneBlockVariable I
     one_without [] n = tt
     one_without (free_variable A ∷ I) n = one_without I n

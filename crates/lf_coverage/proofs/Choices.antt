@@ -1,7 +1,7 @@
 -- Choices by a test, and lists of candidates that are empty.
 use Rattle.std.proofs.Common.{◌≡◌, ℕ, List, [], ◌∷◌, refl}
-use Rattle.std.specs.Prelude.{Bool, true, false, cond, Option, Some, None}
-use Rattle.lf_checks.specs.Tests.{choose}
+use Rattle.std.specs.Prelude.{Bool, true, false, not, cond, Option, Some, None}
+use Rattle.lf_checks.specs.Tests.{choose, either}
 use Rattle.lf_cases.specs.Candidates.{counted, then}
 
 -- lists put together that are empty
@@ -46,3 +46,20 @@ first_chosen A B false p x = absurd cc
 pub second_chosen : (A B : Type 0) (b : Bool) → b ≡ false → B → choose b A B
 second_chosen A B true p x = absurd cc
 second_chosen A B false p x = x
+
+-- what a test of two is
+pub either_first : (a b : Bool) → a ≡ true → either a b ≡ true
+either_first true b e = refl
+either_first false b e = absurd cc
+
+pub either_second : (a b : Bool) → b ≡ true → either a b ≡ true
+either_second true b e = refl
+either_second false b e = e
+
+pub second_of : (a b : Bool) → either a b ≡ true → a ≡ false → b ≡ true
+second_of true b e f = absurd cc
+second_of false b e f = e
+
+pub not_true : (b : Bool) → not b ≡ true → b ≡ false
+not_true true e = absurd cc
+not_true false e = refl

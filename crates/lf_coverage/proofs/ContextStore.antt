@@ -18,6 +18,7 @@ use Rattle.lf_coverage.specs.SplitStore.{open_variable, open_term, open_spine, o
 use Rattle.lf_coverage.proofs.Forms.{no_shift_type}
 use Rattle.lf_coverage.proofs.OpenTyped.{opened_is_closed, type_opened}
 use Rattle.lf_coverage.proofs.StoreSolution.{looked_up, found_type}
+use Rattle.lf_coverage.proofs.Parts.{none_some}
 use mathlib.Core.Path.{fun_ext}
 
 -- The metavariables of the variables of a context G that stand behind n newer ones, the newest first.
@@ -94,9 +95,6 @@ module _ (Σ : Signature) (ok : IsSignature Σ) (O : List LfType) (c : IsContext
     declared_open : (m : ℕ) (A : LfType) → context_metavariables O m ≡ Some A → OpenIsType Σ [] (context_metavariables O) U [] A
     declared_open m A e = by (type_in O m) refl e
       where
-        none_some : None ≡ Some A → ⊥
-        none_some e = cc
-
         some_same : (X : LfType) → Some (open_type zero X) ≡ Some A → open_type zero X ≡ A
         some_same X e = cc
 
@@ -143,9 +141,6 @@ module _ (Σ : Signature) (ok : IsSignature Σ) (O : List LfType) (c : IsContext
       none : (i : ℕ) → i + 0 ≡ i
       none i = omega arith
 
-      none_some : None ≡ Some A → ⊥
-      none_some e = cc
-
       at : (G : List LfType) (i : ℕ) (X : LfType) → TypeAt G i X → (t : Skeleton) × SkeletonAt (context_skeletons G) i t
       at [] i X g = absurd g
       at (B ∷ G) zero X g = (skeleton B, refl)
@@ -158,9 +153,6 @@ module _ (Σ : Signature) (ok : IsSignature Σ) (O : List LfType) (c : IsContext
   no_values : (n : ℕ) (G : List LfType) → ValuesAreBindings [] (order_of n G)
   no_values n [] = tt
   no_values n (A ∷ G) = ((λ N e. absurd (none_some e)), no_values (suc n) G)
-    where
-      none_some : {N : Term} → None ≡ Some N → ⊥
-      none_some e = cc
 
   -- The lemma
   pub context_store_ready : (es : List Equation) → EquationsAreTyped Σ [] (context_metavariables O) (IsFilling Σ [] (record { metavariables = context_metavariables O; bindings = []; equations = es })) es → IsWellFormed Σ (record { metavariables = context_metavariables O; bindings = []; equations = es })

@@ -9,9 +9,7 @@ use Rattle.lf_coverage.specs.EntryConstants.{EntryConstant, entry_among, entry_c
 use Rattle.lf_coverage.specs.OwnTerms.{BlockVariable, blocks_of, terms_at}
 use Rattle.lf_coverage.proofs.EntrySignature.{else_first, else_second, else_cases, among_none, not_same}
 use Rattle.lf_coverage.proofs.OwnTerms.{entry_from}
-
-some_is : {x y : EntryConstant} → Some x ≡ Some y → x ≡ y
-some_is e = cc
+use Rattle.lf_coverage.proofs.Parts.{some_same}
 
 -- A constant among the entries of a block
 pub record PlacedAmong (k : ℕ) (B : Block) (n p : ℕ) (ds : List LfType) (c : ℕ) (e : EntryConstant) : Type 0 where
@@ -40,7 +38,7 @@ placed_among k B n p (E ∷ es) c e q = by (placed_among k B n (suc p) es c e) (
     one_later m p l e = omega (arith, e)
 
     by : (entry_among k B n (suc p) es c ≡ Some e → PlacedAmong k B n (suc p) es c e) → (b : Bool) → same_number c (n + length es) ≡ b → cond b (Some here) (entry_among k B n (suc p) es c) ≡ Some e → PlacedAmong k B n p (E ∷ es) c e
-    by ih true s r = subst (PlacedAmong k B n p (E ∷ es) c) (some_is r) (first (number_is c (n + length es) s))
+    by ih true s r = subst (PlacedAmong k B n p (E ∷ es) c) (some_same r) (first (number_is c (n + length es) s))
     by ih false s r = let a = ih r in record { number = a.number; block = a.block; from = a.from; later = E ∷ a.later; place = one_later e.place p (place_of a.later) a.place; entries = ap (λ ds. E ∷ ds) a.entries; constant = a.constant }
 
 -- and each entry has its constant

@@ -18,11 +18,10 @@ use Rattle.lf_unification.specs.Offering.{pi_over, local_arguments}
 use Rattle.lf_coverage.specs.EntryConstants.{EntryConstant, or_else, entry_among, entry_constant, entry_images, entry_constant_type, entry_type, with_entries}
 use Rattle.lf_coverage.specs.EntryLaws.{WithEntriesIsSignature, OldTypingsStay, EarlierEntriesStay}
 use Rattle.lf_coverage.proofs.GroundTyped.{front_typed}
+use Rattle.lf_coverage.proofs.ItemsContext.{outer_context}
+use Rattle.lf_coverage.proofs.Parts.{none_some}
 
 -- Options
-no_some : {A : Type 0} {x : A} → None ≡ Some x → ⊥
-no_some e = cc
-
 pub else_kept : {A : Type 0} (x y z : Option A) (v : A) → (y ≡ Some v → z ≡ Some v) → or_else x y ≡ Some v → or_else x z ≡ Some v
 else_kept None y z v h e = h e
 else_kept (Some u) y z v h e = e
@@ -30,6 +29,14 @@ else_kept (Some u) y z v h e = e
 pub else_cases : {A : Type 0} (x y : Option A) (v : A) → or_else x y ≡ Some v → (x ≡ Some v) ⊎ (y ≡ Some v)
 else_cases None y v e = inr e
 else_cases (Some u) y v e = inl e
+
+-- what is declared without entries has its type
+old_types : (Σ : Signature) → IsSignature Σ → (c : ℕ) (A : LfType) → or_else (Σ.types c) None ≡ Some A → IsType Σ [] A
+old_types Σ ok c A e = at (else_cases (Σ.types c) None A e)
+  where
+    at : (Σ.types c ≡ Some A) ⊎ (None ≡ Some A) → IsType Σ [] A
+    at (inl q) = ok.types_ok c A q
+    at (inr q) = absurd (none_some q)
 
 pub else_first : {A : Type 0} (x y : Option A) (v : A) → x ≡ Some v → or_else x y ≡ Some v
 else_first x y v e = ap (λ z. or_else z y) e
@@ -79,7 +86,7 @@ module _ (Σ Σ' : Signature) (ts : (c : ℕ) (A : LfType) → Σ.types c ≡ So
 
 -- The constants of one block's entries have the numbers from its first one on
 pub among_below : (k : ℕ) (B : Block) (n p : ℕ) (es : List LfType) (c : ℕ) (e : EntryConstant) → entry_among k B n p es c ≡ Some e → c < n + length es
-among_below k B n p [] c e q = absurd (no_some q)
+among_below k B n p [] c e q = absurd (none_some q)
 among_below k B n p (E ∷ es) c e q = by (among_below k B n (suc p) es c e) (same_number c (n + length es)) refl q
   where
     by : (entry_among k B n (suc p) es c ≡ Some e → c < n + length es) → (b : Bool) → same_number c (n + length es) ≡ b → cond b (Some (record { number = k; block = B; from = n; place = p; entry = E; before = es })) (entry_among k B n (suc p) es c) ≡ Some e → c < n + suc (length es)
@@ -87,7 +94,7 @@ among_below k B n p (E ∷ es) c e q = by (among_below k B n (suc p) es c e) (sa
     by ih false s q = let i = ih q in omega arith
 
 pub among_from : (k : ℕ) (B : Block) (n p : ℕ) (es : List LfType) (c : ℕ) (e : EntryConstant) → entry_among k B n p es c ≡ Some e → n ≤ c
-among_from k B n p [] c e q = absurd (no_some q)
+among_from k B n p [] c e q = absurd (none_some q)
 among_from k B n p (E ∷ es) c e q = by (among_from k B n (suc p) es c e) (same_number c (n + length es)) refl q
   where
     by : (entry_among k B n (suc p) es c ≡ Some e → n ≤ c) → (b : Bool) → same_number c (n + length es) ≡ b → cond b (Some (record { number = k; block = B; from = n; place = p; entry = E; before = es })) (entry_among k B n (suc p) es c) ≡ Some e → n ≤ c
@@ -117,7 +124,7 @@ module _ (Σ : Signature) (ok : IsSignature Σ) (k : ℕ) (B : Block) (n : ℕ) 
   old_kept p es c A e = else_first (Σ.types c) (entry_type (entry_among k B n p es c)) A e
 
   type_below : (p : ℕ) (es : List LfType) (c : ℕ) (A : LfType) (x : Option EntryConstant) → entry_among k B n p es c ≡ x → entry_type x ≡ Some A → c < n + length es
-  type_below p es c A None e q = absurd (no_some q)
+  type_below p es c A None e q = absurd (none_some q)
   type_below p es c A (Some x) e q = among_below k B n p es c x e
 
   next_kept : (p : ℕ) (E : LfType) (es : List LfType) (c : ℕ) (A : LfType) → (partial Σ k B n (suc p) es).types c ≡ Some A → (partial Σ k B n p (E ∷ es)).types c ≡ Some A
@@ -136,7 +143,7 @@ module _ (Σ : Signature) (ok : IsSignature Σ) (k : ℕ) (B : Block) (n : ℕ) 
 
       older : (b : Bool) (x : Option EntryConstant) → same_number c (n + length es) ≡ b → entry_among k B n (suc p) es c ≡ x → entry_type (cond b (Some f) x) ≡ Some A → ((partial Σ k B n (suc p) es).types c ≡ Some A) ⊎ (A ≡ entry_constant_type n B.some es E)
       older true x s i q = inr (cc)
-      older false None s i q = absurd (no_some q)
+      older false None s i q = absurd (none_some q)
       older false (Some x) s i q = inl (else_second (Σ.types c) (entry_type (entry_among k B n (suc p) es c)) (Some A) (free c (among_from k B n (suc p) es c x i)) (ap entry_type i ∙ q))
 
       at : (Σ.types c ≡ Some A) ⊎ (entry_type (entry_among k B n p (E ∷ es) c) ≡ Some A) → ((partial Σ k B n (suc p) es).types c ≡ Some A) ⊎ (A ≡ entry_constant_type n B.some es E)
@@ -149,16 +156,9 @@ module _ (Σ : Signature) (ok : IsSignature Σ) (k : ℕ) (B : Block) (n : ℕ) 
   -- It is one, and the constants are typed values of the entries
   pub block_signature : (p : ℕ) (es : List LfType) → IsContext Σ (onto es B.some) → IsSignature (partial Σ k B n p es) × IsTypedSubstitution (partial Σ k B n p es) (onto es B.some) B.some (entry_images n (local_arguments B.some) es keep)
   block_signature p [] c = (
-    grown_signature Σ (partial Σ k B n p []) (old_kept p []) (λ a K e. e) ok new (λ a K e. e),
+    grown_signature Σ (partial Σ k B n p []) (old_kept p []) (λ a K e. e) ok (old_types Σ ok) (λ a K e. e),
     λ i A g. subst (TypeAt B.some i) (sym (substitute_identity_type reduce A)) g,
   )
-    where
-      new : (c : ℕ) (A : LfType) → or_else (Σ.types c) None ≡ Some A → IsType Σ [] A
-      new c A e = at (else_cases (Σ.types c) None A e)
-        where
-          at : (Σ.types c ≡ Some A) ⊎ (None ≡ Some A) → IsType Σ [] A
-          at (inl q) = ok.types_ok c A q
-          at (inr q) = absurd (no_some q)
   block_signature p (E ∷ es) (c, t) =
       let O : List LfType = B.some in
       let ι : ℕ → Image = entry_images n (local_arguments O) es keep in
@@ -167,7 +167,7 @@ module _ (Σ : Signature) (ok : IsSignature Σ) (k : ℕ) (B : Block) (n : ℕ) 
       let T : LfType = substitute_type reduce ι E in
       let (ok₁, s) = block_signature (suc p) es c in
       let c₁ : IsContext Σ₁ (onto es O) = grown_contexts Σ Σ₁ (old_kept (suc p) es) (λ a K e. e) (onto es O) c in
-      let o : IsContext Σ O = outer es O c in
+      let o : IsContext Σ O = outer_context Σ es O c in
       let o₁ : IsContext Σ₁ O = grown_contexts Σ Σ₁ (old_kept (suc p) es) (λ a K e. e) O o in
       let o₂ : IsContext Σ₂ O = grown_contexts Σ Σ₂ (old_kept p (E ∷ es)) (λ a K e. e) O o in
       let w : TypedSubstitution Σ₁ ok₁ (onto es O) O ι = record { typed = s; source_skeletons = skeleton_context_of Σ₁ ok₁ (onto es O) c₁; target_skeletons = skeleton_context_of Σ₁ ok₁ O o₁ } in
@@ -178,10 +178,6 @@ module _ (Σ : Signature) (ok : IsSignature Σ) (k : ℕ) (B : Block) (n : ℕ) 
       let m : HasType Σ₂ O N T = eta_expand_has_type Σ₂ ok₂ (skeleton E) O (constant (n + length es)) (local_arguments O) (pi_over O T) T o₂ (skeleton_substituted reduce ι E) t₂ (here p E es) (locals_typed Σ₂ ok₂ O T o₂ t₂) in
       (ok₂, front_typed Σ₂ ok₂ [] (λ C i. absurd i) (onto es O) O E (put (skeleton E) N) ι (λ i A g. grown_image Σ₁ Σ₂ (next_kept p E es) (λ a K e. e) O (ι i) (substitute_type reduce ι A) (s i A g)) (skeleton_substituted reduce ι E, m))
     where
-      outer : (es O : List LfType) → IsContext Σ (onto es O) → IsContext Σ O
-      outer [] O c = c
-      outer (E ∷ es) O c = outer es O c.0
-
       new : IsSignature (partial Σ k B n (suc p) es) → IsContext (partial Σ k B n (suc p) es) B.some → IsType (partial Σ k B n (suc p) es) B.some (substitute_type reduce (entry_images n (local_arguments B.some) es keep) E) → (c : ℕ) (A : LfType) → (partial Σ k B n p (E ∷ es)).types c ≡ Some A → IsType (partial Σ k B n (suc p) es) [] A
       new ok₁ o₁ t₁ c A e = at (next_new p E es c A e)
         where
@@ -199,14 +195,7 @@ else_twice None None b = refl
 else_twice None (Some e) b = refl
 
 pub blocks_signature : (Σ : Signature) → IsSignature Σ → (k n : ℕ) → ((c : ℕ) → n ≤ c → Σ.types c ≡ None) → (Bs : List Block) → AreTypedBlocks Σ Bs → IsSignature (from_number Σ k n Bs)
-blocks_signature Σ ok k n free [] typed = grown_signature Σ (from_number Σ k n []) (λ c A e. else_first (Σ.types c) None A e) (λ a K e. e) ok new (λ a K e. e)
-  where
-    new : (c : ℕ) (A : LfType) → or_else (Σ.types c) None ≡ Some A → IsType Σ [] A
-    new c A e = at (else_cases (Σ.types c) None A e)
-      where
-        at : (Σ.types c ≡ Some A) ⊎ (None ≡ Some A) → IsType Σ [] A
-        at (inl q) = ok.types_ok c A q
-        at (inr q) = absurd (no_some q)
+blocks_signature Σ ok k n free [] typed = grown_signature Σ (from_number Σ k n []) (λ c A e. else_first (Σ.types c) None A e) (λ a K e. e) ok (old_types Σ ok) (λ a K e. e)
 blocks_signature Σ ok k n free (B ∷ Bs) typed =
     let Σ₁ : Signature = partial Σ k B n zero B.entries in
     let kept : (c : ℕ) (A : LfType) → Σ.types c ≡ Some A → Σ₁.types c ≡ Some A = old_kept Σ ok k B n free zero B.entries in
@@ -232,11 +221,11 @@ old_typings_stay Σ first Bs G = (
 
 -- Further blocks behind
 pub behind_kept : (k n : ℕ) (Bs Cs : List Block) (c : ℕ) (e : EntryConstant) → entry_constant k n Bs c ≡ Some e → entry_constant k n (Bs ++ Cs) c ≡ Some e
-behind_kept k n [] Cs c e q = absurd (no_some q)
+behind_kept k n [] Cs c e q = absurd (none_some q)
 behind_kept k n (B ∷ Bs) Cs c e q = else_kept (entry_among k B n zero B.entries c) (entry_constant (suc k) (n + length B.entries) Bs c) (entry_constant (suc k) (n + length B.entries) (Bs ++ Cs) c) e (behind_kept (suc k) (n + length B.entries) Bs Cs c e) q
 
 behind_type : (k n : ℕ) (Bs Cs : List Block) (c : ℕ) (A : LfType) (x : Option EntryConstant) → entry_constant k n Bs c ≡ x → entry_type x ≡ Some A → entry_type (entry_constant k n (Bs ++ Cs) c) ≡ Some A
-behind_type k n Bs Cs c A None e q = absurd (no_some q)
+behind_type k n Bs Cs c A None e q = absurd (none_some q)
 behind_type k n Bs Cs c A (Some x) e q = ap entry_type (behind_kept k n Bs Cs c x e) ∙ q
 
 pub earlier_kept : (Σ : Signature) (first : ℕ) (Bs Cs : List Block) (c : ℕ) (A : LfType) → (with_entries Σ first Bs).types c ≡ Some A → (with_entries Σ first (Bs ++ Cs)).types c ≡ Some A

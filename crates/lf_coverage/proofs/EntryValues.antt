@@ -17,6 +17,7 @@ use Rattle.lf.proofs.Substitution.{typed_substitution_by_skeletons}
 use Rattle.lf.proofs.ToSkeletons.{typed_has_skeleton, type_by_skeletons}
 use Rattle.lf.proofs.TypeLaws.{skeleton_renamed, skeleton_substituted, substitute_renamed_type}
 use Rattle.lf_unification.specs.Offering.{pi_over, local_arguments}
+use Rattle.lf_checks.specs.ModeForms.{argument_count}
 use Rattle.lf_cases.specs.Case.{as_term}
 use Rattle.lf_cases.proofs.LongValues.{long_at, long_same, term_typed, value_of_long}
 use Rattle.lf_coverage.specs.EntryConstants.{entry_images}
@@ -25,20 +26,21 @@ use Rattle.lf_coverage.specs.Reading.{drop_arguments, weaken_read, read_constant
 use Rattle.lf_coverage.specs.NumberedCase.{some_spine}
 use Rattle.lf_coverage.proofs.EntrySignature.{add_typed}
 use Rattle.lf_coverage.proofs.Reading.{under_read, weakened_read, drop_renamed, read_spine_renamed, read_image}
-use Rattle.lf_coverage.proofs.ReadSkeletons.{count, count_renamed, count_read}
+use Rattle.lf_coverage.proofs.ReadSkeletons.{count_renamed, count_read}
+use Rattle.lf_coverage.proofs.GroundTyped.{behind_one}
 use mathlib.Core.Path.{fun_ext}
 
 -- Arguments at the end
-count_add : (S : Spine) (N : Term) → count (add_last S N) ≡ suc (count S)
+count_add : (S : Spine) (N : Term) → argument_count (add_last S N) ≡ suc (argument_count S)
 count_add nil N = refl
 count_add (app M S) N = ap suc (count_add S N)
 
-drop_add : (k : ℕ) (S : Spine) (N : Term) → k ≤ count S → drop_arguments k (add_last S N) ≡ add_last (drop_arguments k S) N
+drop_add : (k : ℕ) (S : Spine) (N : Term) → k ≤ argument_count S → drop_arguments k (add_last S N) ≡ add_last (drop_arguments k S) N
 drop_add zero S N l = refl
 drop_add (suc k) nil N l = absurd (omega (arith, l))
 drop_add (suc k) (app M S) N l = drop_add k S N (omega (arith, l))
 
-drop_all : (S : Spine) → drop_arguments (count S) S ≡ nil
+drop_all : (S : Spine) → drop_arguments (argument_count S) S ≡ nil
 drop_all nil = refl
 drop_all (app M S) = drop_all S
 
@@ -57,27 +59,27 @@ read_long f (arrow a b) j T =
     let X : Term = eta_expand a (variable zero) nil in
     ap lambda (read_long (under_read f) b (suc j) (add_last (rename_spine suc T) X) ∙ ap (eta_expand b (variable (suc j))) (read_add (under_read f) (rename_spine suc T) X ∙ ap₂ add_last (read_spine_renamed f (under_read f) suc T (λ c. weakened_read (f c))) (read_long (under_read f) a zero nil)))
 
-pub read_long_constant : (f : ℕ → Option (ℕ × ℕ)) (a : Skeleton) (c k v : ℕ) (T : Spine) → f c ≡ Some (k, v) → k ≤ count T → read f (eta_expand a (constant c) T) ≡ eta_expand a (variable v) (drop_arguments k (read_spine f T))
+pub read_long_constant : (f : ℕ → Option (ℕ × ℕ)) (a : Skeleton) (c k v : ℕ) (T : Spine) → f c ≡ Some (k, v) → k ≤ argument_count T → read f (eta_expand a (constant c) T) ≡ eta_expand a (variable v) (drop_arguments k (read_spine f T))
 read_long_constant f (base d) c k v T e l = ap (λ x. read_constant x c (read_spine f T)) e
 read_long_constant f (arrow a b) c k v T e l =
     let X : Term = eta_expand a (variable zero) nil in
-    let m : k ≤ count (add_last (rename_spine suc T) X) = let p = count_add (rename_spine suc T) X in let q = count_renamed suc T in omega (arith, l) in
-    let n : k ≤ count (rename_spine suc (read_spine f T)) = let p = count_renamed suc (read_spine f T) in let q = count_read f T in omega (arith, l) in
+    let m : k ≤ argument_count (add_last (rename_spine suc T) X) = let p = count_add (rename_spine suc T) X in let q = count_renamed suc T in omega (arith, l) in
+    let n : k ≤ argument_count (rename_spine suc (read_spine f T)) = let p = count_renamed suc (read_spine f T) in let q = count_read f T in omega (arith, l) in
     ap lambda (read_long_constant (under_read f) b c k (suc v) (add_last (rename_spine suc T) X) (ap weaken_read e) m ∙ ap (eta_expand b (variable (suc v)))
     (ap (drop_arguments k) (read_add (under_read f) (rename_spine suc T) X ∙ ap₂ add_last (read_spine_renamed f (under_read f) suc T (λ d. weakened_read (f d))) (read_long (under_read f) a zero nil))
     ∙ drop_add k (rename_spine suc (read_spine f T)) X n
     ∙ ap (λ Z. add_last Z X) (drop_renamed suc k (read_spine f T))))
 
 -- on just the own terms nothing is left
-pub read_entry_long : (f : ℕ → Option (ℕ × ℕ)) (a : Skeleton) (c v : ℕ) (U : Spine) → f c ≡ Some (count U, v) → read f (eta_expand a (constant c) U) ≡ eta_long a (variable v)
-read_entry_long f a c v U e = read_long_constant f a c (count U) v U e (omega arith) ∙ ap (eta_expand a (variable v)) (ap (λ k. drop_arguments k (read_spine f U)) (sym (count_read f U)) ∙ drop_all (read_spine f U))
+pub read_entry_long : (f : ℕ → Option (ℕ × ℕ)) (a : Skeleton) (c v : ℕ) (U : Spine) → f c ≡ Some (argument_count U, v) → read f (eta_expand a (constant c) U) ≡ eta_long a (variable v)
+read_entry_long f a c v U e = read_long_constant f a c (argument_count U) v U e (omega arith) ∙ ap (eta_expand a (variable v)) (ap (λ k. drop_arguments k (read_spine f U)) (sym (count_read f U)) ∙ drop_all (read_spine f U))
 
 pub read_as_term : (f : ℕ → Option (ℕ × ℕ)) (a : Skeleton) (x : Image) → read f (as_term a x) ≡ as_term a (read_image f x)
 read_as_term f a (keep j) = read_long f a j nil
 read_as_term f a (put b N) = refl
 
 -- Spines of values
-pub count_some : (O : List LfType) (υ : ℕ → Image) → count (some_spine O υ) ≡ length O
+pub count_some : (O : List LfType) (υ : ℕ → Image) → argument_count (some_spine O υ) ≡ length O
 count_some [] υ = refl
 count_some (A ∷ O) υ = count_add (some_spine O (λ i. υ (suc i))) (as_term (skeleton A) (υ zero)) ∙ ap suc (count_some O (λ i. υ (suc i)))
 
@@ -86,22 +88,22 @@ read_some f [] υ = refl
 read_some f (A ∷ O) υ = read_add f (some_spine O (λ i. υ (suc i))) (as_term (skeleton A) (υ zero)) ∙ ap₂ add_last (read_some f O (λ i. υ (suc i))) (read_as_term f (skeleton A) (υ zero))
 
 -- equal ones have equal values
-add_same : (S T : Spine) (M N : Term) → count S ≡ count T → add_last S M ≡ add_last T N → (S ≡ T) × (M ≡ N)
+add_same : (S T : Spine) (M N : Term) → argument_count S ≡ argument_count T → add_last S M ≡ add_last T N → (S ≡ T) × (M ≡ N)
 add_same nil nil M N l e = (refl, cc)
 add_same nil (app P T) M N l e = absurd cc
 add_same (app P S) nil M N l e = absurd cc
 add_same (app P S) (app Q T) M N l e =
     let p : P ≡ Q = cc in
     let q : add_last S M ≡ add_last T N = cc in
-    let r : count S ≡ count T = omega (arith, l) in
+    let r : argument_count S ≡ argument_count T = omega (arith, l) in
     let (i, j) = add_same S T M N r q in
     (ap₂ app p i, j)
 
-pub some_same : (O : List LfType) (υ ω : ℕ → Image) → some_spine O υ ≡ some_spine O ω → (i : ℕ) (A : LfType) → TypeAt O i A → as_term (skeleton A) (υ i) ≡ as_term (skeleton A) (ω i)
-some_same [] υ ω e i A g = absurd g
-some_same (B ∷ O) υ ω e i A g = at i A g
+pub some_terms_same : (O : List LfType) (υ ω : ℕ → Image) → some_spine O υ ≡ some_spine O ω → (i : ℕ) (A : LfType) → TypeAt O i A → as_term (skeleton A) (υ i) ≡ as_term (skeleton A) (ω i)
+some_terms_same [] υ ω e i A g = absurd g
+some_terms_same (B ∷ O) υ ω e i A g = at i A g
     (add_same (some_spine O (λ j. υ (suc j))) (some_spine O (λ j. ω (suc j))) (as_term (skeleton B) (υ zero)) (as_term (skeleton B) (ω zero)) (count_some O (λ j. υ (suc j)) ∙ sym (count_some O (λ j. ω (suc j)))) e)
-    (λ q. some_same O (λ j. υ (suc j)) (λ j. ω (suc j)) q)
+    (λ q. some_terms_same O (λ j. υ (suc j)) (λ j. ω (suc j)) q)
   where
     at : (i : ℕ) (A : LfType) → TypeAt (B ∷ O) i A → (some_spine O (λ j. υ (suc j)) ≡ some_spine O (λ j. ω (suc j))) × (as_term (skeleton B) (υ zero) ≡ as_term (skeleton B) (ω zero)) → (some_spine O (λ j. υ (suc j)) ≡ some_spine O (λ j. ω (suc j)) → (i : ℕ) (A : LfType) → TypeAt O i A → as_term (skeleton A) (υ (suc i)) ≡ as_term (skeleton A) (ω (suc i))) → as_term (skeleton A) (υ i) ≡ as_term (skeleton A) (ω i)
     at zero A e (p, q) ih = ap (λ a. as_term a (υ zero)) (ap skeleton e ∙ skeleton_renamed suc B) ∙ q ∙ ap (λ a. as_term a (ω zero)) (sym (ap skeleton e ∙ skeleton_renamed suc B))
@@ -145,9 +147,6 @@ after_entries n U V (E ∷ es) υ ω e (suc i) = after_entries n U V es υ ω e 
 
 -- A constant whose type is closed over some variables, on typed values of these
 module _ (Σ : Signature) (ok : IsSignature Σ) where
-  behind_one : (C G : List LfType) (X : LfType) (θ : ℕ → Image) → IsTypedSubstitution Σ (X ∷ C) G θ → IsTypedSubstitution Σ C G (λ i. θ (suc i))
-  behind_one C G X θ t i A g = subst (ImageHasType Σ G (θ (suc i))) (substitute_renamed_type reduce θ suc A) (t (suc i) (weaken A) (A, g, refl))
-
   pub some_typed : (X : List LfType) → IsContext Σ X → (O : List LfType) (T : LfType) (υ : ℕ → Image) → IsContext Σ O → IsType Σ O T → IsTypedSubstitution Σ O X υ → SpineType Σ X (some_spine O υ) (pi_over O T) (substitute_type reduce υ T)
   some_typed X cx [] T υ c t s = sym (closed_type_substituted Σ reduce υ T t)
   some_typed X cx (A ∷ O) T υ (c, a) t s =
@@ -156,7 +155,7 @@ module _ (Σ : Signature) (ok : IsSignature Σ) where
       let κ = constant_skeletons Σ in
       let Γ : List Skeleton = context_skeletons O in
       let Δ : List Skeleton = context_skeletons X in
-      let sω : IsTypedSubstitution Σ O X ω = behind_one O X A υ s in
+      let sω : IsTypedSubstitution Σ O X ω = behind_one Σ ok [] (λ B i. absurd i) O X A υ s in
       let kω : SubstitutionBySkeletons κ Γ Δ ω = typed_substitution_by_skeletons Σ ok O X ω sω in
       let kυ : SubstitutionBySkeletons κ (skeleton A ∷ Γ) Δ υ = typed_substitution_by_skeletons Σ ok (A ∷ O) X υ s in
       let A' : LfType = substitute_type reduce ω A in

@@ -17,6 +17,7 @@ use Rattle.lf_unification.specs.Steps.{Step, next_equation, put_bindings, drop_e
 use Rattle.lf_unification.specs.Unifiers.{Binding, Store}
 use Rattle.lf_unification.proofs.Agree.{set_here, set_cases}
 use Rattle.lf_coverage.specs.SplitStore.{open_type, open_some, type_in, weaken_some, context_metavariables}
+use Rattle.lf_coverage.proofs.Parts.{some_same}
 
 -- the same families at the same places
 abbrev pub SameFamilies : LfType → LfType → Type 0
@@ -152,9 +153,6 @@ module _ (R : ℕ → ℕ → Type 0) (Q : ℕ → Type 0) where
   with_new : (n : ℕ) (X : LfType) (Ψ : ℕ → Option LfType) → StoreHas Ψ → Everywhere X → StoreHas (set_at n (Some X) Ψ)
   with_new n X Ψ h x m A e = by (set_cases n (Some X) Ψ m)
     where
-      some_same : {P Q : LfType} → Some P ≡ Some Q → P ≡ Q
-      some_same q = cc
-
       by : (m ≡ n) ⊎ (set_at n (Some X) Ψ m ≡ Ψ m) → Everywhere A
       by (inl q) = subst Everywhere (some_same (sym (set_here n (Some X) Ψ) ∙ ap (set_at n (Some X) Ψ) (sym q) ∙ e)) x
       by (inr q) = h m A (sym q ∙ e)

@@ -22,12 +22,7 @@ use Rattle.lf_coverage.specs.HeadOrder.{Offer, AreInOrder, constant_rank, one_of
 use Rattle.lf_coverage.specs.Heads.{Keeps, GivesCase, AreOffers, no_offer, with_case, SplitsByHeads, IsTypedCase, ArgumentsAreBelow}
 use Rattle.lf_coverage.specs.Examples.{PlusIsSplitByHeads, PlusIsCoveredByHeads, HeadsAreAll}
 use Rattle.lf_coverage.proofs.Runs.{head_split_is_split, head_splits_cover}
-
-some_type : {A B : LfType} → Some A ≡ Some B → A ≡ B
-some_type e = cc
-
-some_kind : {A B : Kind} → Some A ≡ Some B → A ≡ B
-some_kind e = cc
+use Rattle.lf_coverage.proofs.Parts.{some_same}
 
 abbrev pub S : ℕ → Bool
 S b = first_below_second 1 b
@@ -108,10 +103,10 @@ each_head P a b I n h A (constant_head k U e t) = by k U e t
     apart p q = omega arith
 
     by : (k : ℕ) (U : LfType) → addition_types k ≡ Some U → target U ≡ 0 → P two 0 (constant k) U
-    by zero U e t = subst (P two 0 (constant 0)) (some_type e) a
-    by (suc zero) U e t = subst (P two 0 (constant 1)) (some_type e) b
-    by (suc (suc zero)) U e t = absurd (apart (sym (ap target (some_type e))) t)
-    by (suc (suc (suc zero))) U e t = absurd (apart (sym (ap target (some_type e))) t)
+    by zero U e t = subst (P two 0 (constant 0)) (some_same e) a
+    by (suc zero) U e t = subst (P two 0 (constant 1)) (some_same e) b
+    by (suc (suc zero)) U e t = absurd (apart (sym (ap target (some_same e))) t)
+    by (suc (suc (suc zero))) U e t = absurd (apart (sym (ap target (some_same e))) t)
     by (suc (suc (suc (suc k)))) U e t = absurd cc
 each_head P a b I n h A (bound_head j B l g t) = absurd (none l)
   where
@@ -173,15 +168,15 @@ nat_contained = record { declared = declared; kinds_in = kinds_in; types_in = ty
     declared (suc a) e = absurd cc
 
     kinds_in : (a : ℕ) (K : Kind) → addition_kinds a ≡ Some K → first_below_second 0 a ≡ true → KindFamiliesIn (first_below_second 0) K
-    kinds_in zero K e s = subst (KindFamiliesIn (first_below_second 0)) (some_kind e) tt
+    kinds_in zero K e s = subst (KindFamiliesIn (first_below_second 0)) (some_same e) tt
     kinds_in (suc a) K e s = absurd cc
 
     no : {U V : LfType} → Some U ≡ Some V → first_below_second 0 (target U) ≡ false → first_below_second 0 (target V) ≡ true → ⊥
-    no e f t = true≢false (sym t ∙ sym (ap (λ X. first_below_second 0 (target X)) (some_type e)) ∙ f)
+    no e f t = true≢false (sym t ∙ sym (ap (λ X. first_below_second 0 (target X)) (some_same e)) ∙ f)
 
     types_in : (c : ℕ) (A : LfType) → addition_types c ≡ Some A → first_below_second 0 (target A) ≡ true → FamiliesIn (first_below_second 0) A
-    types_in zero A e s = subst (FamiliesIn (first_below_second 0)) (some_type e) refl
-    types_in (suc zero) A e s = subst (FamiliesIn (first_below_second 0)) (some_type e) (refl, refl)
+    types_in zero A e s = subst (FamiliesIn (first_below_second 0)) (some_same e) refl
+    types_in (suc zero) A e s = subst (FamiliesIn (first_below_second 0)) (some_same e) (refl, refl)
     types_in (suc (suc zero)) A e s = absurd (no e refl s)
     types_in (suc (suc (suc zero))) A e s = absurd (no e refl s)
     types_in (suc (suc (suc (suc n)))) A e s = absurd cc

@@ -14,8 +14,9 @@ use Rattle.lf_cases.specs.Case.{Item, free_variable, as_term, entries_in_front, 
 use Rattle.lf_cases.specs.Missing.{AreTypedItems, IsTypedInstance}
 use Rattle.lf_cases.specs.Reached.{SplitHead, with_block}
 use Rattle.lf_totality.specs.Examples.{Copying, applied_to, application, block_case, copy_block, exp, first_below_second, function, lam, var}
+use Rattle.lf_totality.specs.ExamplesReached.{cp_lam_case}
 use Rattle.lf_coverage.specs.Examples.{copy_offers}
-use Rattle.lf_coverage.specs.ExamplesCopying.{copy_worlds, copy_goal, copy_lam_case, copy_app_case, copy_cases}
+use Rattle.lf_coverage.specs.ExamplesCopying.{copy_worlds, copy_goal, copy_app_case, copy_cases}
 use Rattle.lf_coverage.specs.Heads.{ArgumentsAreBelow, GivesCase, IsHeadSplit, Keeps, no_offer, with_case}
 use Rattle.lf_coverage.proofs.ExamplesOrder.{copy_heads_in_order}
 use Rattle.lf_coverage.proofs.StoreSolution.{value_at}
@@ -88,7 +89,7 @@ lam_typed = (pi function exp, refl, ((function, (function, refl, refl), ((exp, r
 pub app_typed : HasType Copying (exp ∷ exp ∷ []) (application (var 1) (var 0)) exp
 app_typed = (pi exp (pi exp exp), refl, ((exp, (exp, refl, refl), refl), ((exp, refl, refl), refl)))
 
-pub lam_items_typed : AreTypedItems Copying copy_worlds copy_lam_case.items
+pub lam_items_typed : AreTypedItems Copying copy_worlds cp_lam_case.items
 lam_items_typed = (tt, ((star, refl, tt), (star, refl, tt)))
 
 pub app_items_typed : AreTypedItems Copying copy_worlds copy_app_case.items
@@ -97,7 +98,7 @@ app_items_typed = ((tt, (star, refl, tt)), (star, refl, tt))
 pub block_items_typed : AreTypedItems Copying copy_worlds block_case.items
 block_items_typed = (tt, inl refl, record { typed = λ i A g u. absurd g; closed = λ i A g u. absurd g })
 
-pub lam_instance : IsTypedInstance Copying copy_lam_case.items lam_items lam_values
+pub lam_instance : IsTypedInstance Copying cp_lam_case.items lam_items lam_values
 lam_instance = (lambda (applied_to 1 0), in_front (put (base 0) (lam (applied_to 1 0))) keep, (lam (applied_to 1 0), keep, tt, lam_typed, refl), (function, (function, refl, refl), ((exp, refl, refl), refl)), refl)
 
 pub app_instance : IsTypedInstance Copying copy_app_case.items app_items app_values
@@ -108,7 +109,7 @@ entry_instance = (whole, in_front (put (base 0) (var 1)) keep, (var 1, keep, tt,
 
 module _ (S : ℕ → Bool) where
   module _ (Σ : Signature) {G : List LfType} (w : World Σ copy_worlds S G) where
-    keeps_lam : (τ : ℕ → Image) (g : IsGroundInstance w lam_items τ) → as_term (base 0) (τ 1) ≡ substitute reduce τ (lam (applied_to 1 0)) → Keeps w lam_items τ g copy_lam_case.items lam_values
+    keeps_lam : (τ : ℕ → Image) (g : IsGroundInstance w lam_items τ) → as_term (base 0) (τ 1) ≡ substitute reduce τ (lam (applied_to 1 0)) → Keeps w lam_items τ g cp_lam_case.items lam_values
     keeps_lam τ (H, υ, (X, ρ, t, hx, d), hh, e) s = record {
       new_values = in_front (put (arrow (base 0) (base 0)) H) keep;
       is_ground = (H, keep, tt, hh, refl);
@@ -135,7 +136,7 @@ module _ (S : ℕ → Bool) where
       same = entry_same X θ τ υ ρ e d s;
     }
 
-  pub lam_given : GivesCase Copying copy_worlds S first_below_second copy_goal 0 exp (free_variable exp ∷ []) 0 (constant 0) (pi function exp) copy_lam_case
+  pub lam_given : GivesCase Copying copy_worlds S first_below_second copy_goal 0 exp (free_variable exp ∷ []) 0 (constant 0) (pi function exp) cp_lam_case
   lam_given = record {
     values = lam_values;
     typed_items = lam_items_typed;

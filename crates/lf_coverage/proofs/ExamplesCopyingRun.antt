@@ -1,7 +1,7 @@
 -- The run of copying: its cases are instances of clauses, the strategy reaches them, and so the goal is covered.
 use Rattle.std.proofs.Common.{◌≡◌, ℕ, zero, suc, List, [], ◌∷◌, length, refl, sym, ap, ◌∙◌, subst, arith, inl, inr}
-use Rattle.std.specs.Prelude.{Bool, true, false, Some}
-use Rattle.lf.specs.Syntax.{Term, Spine, lambda, nil, app, LfType, Kind, pi, base, arrow, skeleton}
+use Rattle.std.specs.Prelude.{Bool, true, false}
+use Rattle.lf.specs.Syntax.{Term, Spine, lambda, nil, app, LfType, pi, base, arrow, skeleton}
 use Rattle.lf.specs.AtOnce.{in_front, shift_by}
 use Rattle.lf.specs.Substitution.{Image, keep, put, rename_image, apply_image, substitute, substitute_type, reduce}
 use Rattle.lf.specs.Typing.{TypeAt, ImageHasType}
@@ -20,10 +20,11 @@ use Rattle.lf_cases.specs.Pattern.{Pattern}
 use Rattle.lf_cases.specs.Reached.{FirstCandidate, IsInstanceOf, IsSplitCase, LeavesAll, constant_head, goal_is_reached, new_entry_head, of_first, split_by, split_is_reached}
 use Rattle.lf_cases.specs.Split.{Ends, IsInstanceCase, at_leaf, by_split, next_case, no_case}
 use Rattle.lf_totality.specs.Examples.{Copying, applied_to, application, block_case, copy_block, copy_entry, copy_heads, cp, cp_app, cp_lam, exp, first_below_second, function, lam, var}
+use Rattle.lf_totality.specs.ExamplesReached.{cp_lam_case}
 use Rattle.lf_totality.proofs.Copying.{copying_ok}
 use Rattle.lf_totality.proofs.ExamplesSplits.{entry_instance as entry_stands}
 use Rattle.lf_coverage.specs.Calls.{IsBeside, PlacesIn}
-use Rattle.lf_coverage.specs.ExamplesCopying.{copy_worlds, copy_goal, copy_lam_case, copy_app_case, copy_cases, copy_lam_head, copy_app_head, copy_entry_head, CopyCasesAreInstances, CopyCasesAreReached, CopyRunCovers, CopyEntryIsMissing}
+use Rattle.lf_coverage.specs.ExamplesCopying.{copy_worlds, copy_goal, copy_app_case, copy_cases, copy_lam_head, copy_app_head, copy_entry_head, CopyCasesAreInstances, CopyCasesAreReached, CopyRunCovers, CopyEntryIsMissing}
 use Rattle.lf_coverage.specs.Heads.{SplitsByHeads}
 use Rattle.lf_coverage.specs.Leaf.{IsInstanceLeaf}
 use Rattle.lf_coverage.specs.MeetStore.{IsOpen}
@@ -31,6 +32,7 @@ use Rattle.lf_coverage.proofs.ExamplesCopying.{lam_typed, app_typed, lam_items_t
 use Rattle.lf_coverage.proofs.ExamplesCopyingSplit.{copy_typed, copy_subordination, goal_typed, lam_split, app_split, entry_split}
 use Rattle.lf_coverage.proofs.Leaves.{head_is_typed, leaf_is_instance}
 use Rattle.lf_coverage.proofs.Runs.{head_splits_cover}
+use Rattle.lf_coverage.proofs.Parts.{some_same}
 
 -- cp (lam E) _ and cp-lam, in which E alone is looked at
 abbrev only_E : ℕ → Bool
@@ -69,7 +71,7 @@ E_terms (suc (suc (suc i))) o u = absurd cc
 -- the goal shares it with cp-lam too
 goal_shares : CommonInstance Copying copy_worlds copy_goal copy_lam_head
 goal_shares = record {
-  items = copy_lam_case.items;
+  items = cp_lam_case.items;
   typed_items = lam_items_typed;
   case_values = in_front (put (base 0) (lam (applied_to 1 0))) keep;
   is_instance = (lam (applied_to 1 0), keep, tt, lam_typed, refl);
@@ -85,10 +87,10 @@ goal_shares = record {
   of_clause = (refl, tt);
 }
 
-lam_is_instance : IsInstanceOf Copying copy_worlds copy_lam_case copy_lam_head
+lam_is_instance : IsInstanceOf Copying copy_worlds cp_lam_case copy_lam_head
 lam_is_instance = (
   record {
-    items = copy_lam_case.items;
+    items = cp_lam_case.items;
     typed_items = lam_items_typed;
     case_values = in_front (put (arrow (base 0) (base 0)) (lambda (applied_to 1 0))) keep;
     is_instance = (lambda (applied_to 1 0), keep, tt, (function, (function, refl, refl), ((exp, refl, refl), refl)), refl);
@@ -108,7 +110,7 @@ lam_is_instance = (
   (((refl, ((refl, tt), tt)), tt), tt),
 )
   where
-    all : LeavesAll copy_lam_case.items (in_front (put (arrow (base 0) (base 0)) (lambda (applied_to 1 0))) keep)
+    all : LeavesAll cp_lam_case.items (in_front (put (arrow (base 0) (base 0)) (lambda (applied_to 1 0))) keep)
     all zero A q = subst (λ X. lambda (applied_to 1 0) ≡ as_term (skeleton X) (keep 0)) (sym q) refl
     all (suc i) A (B, g, r) = absurd g
 
@@ -227,7 +229,7 @@ pub copy_instances : CopyCasesAreInstances
 copy_instances = (lam_is_instance, app_is_instance, entry_stands (inl refl), goal_none)
 
 -- the splits
-by_lam : IsSplitCase Copying copy_worlds first_below_second copy_goal 0 copy_lam_case
+by_lam : IsSplitCase Copying copy_worlds first_below_second copy_goal 0 cp_lam_case
 by_lam = split_by exp refl (constant_head 0 (pi function exp) refl refl) lam_split
 
 by_app : IsSplitCase Copying copy_worlds first_below_second copy_goal 0 copy_app_case
@@ -249,7 +251,7 @@ copy_reached C m = split_is_reached 0 goal_is_reached goal_none first_is (given 
     given (inr (inr (inr e))) = absurd e
 
 -- the leaves
-lam_leaf : IsInstanceLeaf Copying copy_worlds copy_heads copy_lam_case
+lam_leaf : IsInstanceLeaf Copying copy_worlds copy_heads cp_lam_case
 lam_leaf = record {
   typed = record { items = lam_items_typed; given = tt; arguments = ((base 0, typed_has_skeleton Copying (function ∷ []) (lam (applied_to 1 0)) exp lam_typed), tt) };
   pattern = copy_lam_head;
@@ -291,14 +293,11 @@ module _ (S : ℕ → Bool) (sc : SelfContained Copying copy_worlds S) (z : S 0 
   leaf C l = leaf_is_instance Copying copying_ok copy_worlds copy_typed S copy_heads C l
 
   covers : Ends (IsInstanceCase Copying copy_worlds S copy_heads) (SplitsByHeads Copying copy_worlds S first_below_second) copy_goal
-  covers = by_split copy_cases (0, copy_split S z) (next_case (at_leaf (leaf copy_lam_case lam_leaf)) (next_case (at_leaf (leaf copy_app_case app_leaf)) (next_case (at_leaf (leaf block_case entry_leaf)) no_case)))
-
-some_kind : {A B : Kind} → Some A ≡ Some B → A ≡ B
-some_kind e = cc
+  covers = by_split copy_cases (0, copy_split S z) (next_case (at_leaf (leaf cp_lam_case lam_leaf)) (next_case (at_leaf (leaf copy_app_case app_leaf)) (next_case (at_leaf (leaf block_case entry_leaf)) no_case)))
 
 -- the first place is one for exp
 holds_exp : (S : ℕ → Bool) → IsBeside Copying copy_worlds S copy_goal → S 0 ≡ true
-holds_exp S b = (subst (PlacesIn S (true ∷ false ∷ [])) (sym (some_kind b.of_family)) b.places).0
+holds_exp S b = (subst (PlacesIn S (true ∷ false ∷ [])) (sym (some_same b.of_family)) b.places).0
 
 pub copy_covers : CopyRunCovers
 copy_covers = (run, λ S b. head_splits_cover Copying copying_ok copy_worlds copy_typed first_below_second copy_subordination S b.self_contained copy_heads copy_goal tt goal_typed (covers S b.self_contained (holds_exp S b)))

@@ -14,24 +14,20 @@ use Rattle.lf_cases.specs.Missing.{IsTypedInstance}
 use Rattle.lf_cases.specs.Reached.{IsSplitBy}
 use Rattle.lf_cases.specs.Split.{HoldsDistinctly, IsSplit, OneHolds}
 use Rattle.lf_totality.specs.Examples.{Copying, copying_types, copying_kinds, applied_to, application, block_case, copy_block, cp, cp_kind, exp, first_below_second, function, lam, var}
+use Rattle.lf_totality.specs.ExamplesReached.{cp_lam_case}
 use Rattle.lf_totality.proofs.After.{Extends-self}
 use Rattle.lf_totality.proofs.Copying.{copying_ok, copying_lasts}
 use Rattle.lf_totality.proofs.ExampleLemmas.{below_itself}
 use Rattle.lf_coverage.specs.Examples.{copy_offers}
-use Rattle.lf_coverage.specs.ExamplesCopying.{copy_worlds, copy_goal, copy_lam_case, copy_app_case, copy_cases, CopyIsSplitByHeads, CopyCasesAreAnswer}
+use Rattle.lf_coverage.specs.ExamplesCopying.{copy_worlds, copy_goal, copy_app_case, copy_cases, CopyIsSplitByHeads, CopyCasesAreAnswer}
 use Rattle.lf_coverage.specs.Heads.{IsHeadSplit, IsTypedCase, no_offer, with_case}
 use Rattle.lf_coverage.proofs.Examples.{plus_subordination}
 use Rattle.lf_coverage.proofs.ExamplesCopying.{lam_values, lam_items, lam_same, app_values, app_items, app_same, two_terms, entry_values, entry_items, entry_same, lam_items_typed, app_items_typed, block_items_typed, lam_instance, app_instance, entry_instance, copy_below, copy_split}
 use Rattle.lf_coverage.proofs.ExamplesOrder.{copy_heads_in_order}
 use Rattle.lf_coverage.proofs.Runs.{head_split_is_split}
+use Rattle.lf_coverage.proofs.Parts.{some_same}
 
 -- the premises
-some_kind : {A B : Kind} → Some A ≡ Some B → A ≡ B
-some_kind e = cc
-
-some_type : {A B : LfType} → Some A ≡ Some B → A ≡ B
-some_type e = cc
-
 pub copy_typed : AreTypedBlocks Copying copy_worlds
 copy_typed B (inl e) = subst (IsTypedBlock Copying) (sym e) ((tt, (star, refl, tt)), (cp_kind, refl, ((exp, refl, refl), ((exp, refl, refl), tt))))
 copy_typed B (inr m) = absurd m
@@ -44,16 +40,16 @@ exp_contained = record { declared = declared; kinds_in = kinds_in; types_in = ty
     declared (suc a) e = absurd cc
 
     kinds_in : (a : ℕ) (K : Kind) → copying_kinds a ≡ Some K → first_below_second 0 a ≡ true → KindFamiliesIn (first_below_second 0) K
-    kinds_in zero K e s = subst (KindFamiliesIn (first_below_second 0)) (some_kind e) tt
+    kinds_in zero K e s = subst (KindFamiliesIn (first_below_second 0)) (some_same e) tt
     kinds_in (suc a) K e s = absurd cc
 
     no : {U V : LfType} → Some U ≡ Some V → first_below_second 0 (Rattle.lf.specs.Variables.target U) ≡ false → first_below_second 0 (Rattle.lf.specs.Variables.target V) ≡ true → ⊥
-    no e f t = true≢false (sym t ∙ sym (ap (λ X. first_below_second 0 (Rattle.lf.specs.Variables.target X)) (some_type e)) ∙ f)
+    no e f t = true≢false (sym t ∙ sym (ap (λ X. first_below_second 0 (Rattle.lf.specs.Variables.target X)) (some_same e)) ∙ f)
 
     types_in : (c : ℕ) (A : LfType) → copying_types c ≡ Some A → first_below_second 0 (Rattle.lf.specs.Variables.target A) ≡ true → FamiliesIn (first_below_second 0) A
-    types_in zero A e s = subst (FamiliesIn (first_below_second 0)) (some_type e) ((refl, refl), refl)
+    types_in zero A e s = subst (FamiliesIn (first_below_second 0)) (some_same e) ((refl, refl), refl)
     types_in (suc zero) A e s = absurd (no e refl s)
-    types_in (suc (suc zero)) A e s = subst (FamiliesIn (first_below_second 0)) (some_type e) (refl, (refl, refl))
+    types_in (suc (suc zero)) A e s = subst (FamiliesIn (first_below_second 0)) (some_same e) (refl, (refl, refl))
     types_in (suc (suc (suc zero))) A e s = absurd (no e refl s)
     types_in (suc (suc (suc (suc n)))) A e s = absurd cc
 
@@ -78,7 +74,7 @@ pub goal_typed : IsTypedCase Copying copy_worlds copy_goal
 goal_typed = record { items = (tt, (star, refl, tt)); given = tt; arguments = ((base 0, (base 0, refl, refl)), tt) }
 
 -- most general typed instances
-pub lam_split : IsSplitBy Copying copy_worlds first_below_second copy_goal 0 exp (free_variable exp ∷ []) 0 (constant 0) (pi function exp) copy_lam_case
+pub lam_split : IsSplitBy Copying copy_worlds first_below_second copy_goal 0 exp (free_variable exp ∷ []) 0 (constant 0) (pi function exp) cp_lam_case
 lam_split = record {
   values = lam_values;
   unifier = record {
@@ -92,7 +88,7 @@ lam_split = record {
   arguments = refl;
 }
   where
-    general : (F : List Item) (τ : ℕ → Image) → IsTypedInstance Copying F lam_items τ → as_term (base 0) (τ 1) ≡ substitute reduce τ (lam (applied_to 1 0)) → (ρ : ℕ → Image) × IsTypedInstance Copying F copy_lam_case.items ρ × ((i : ℕ) (A : LfType) → TypeAt (items_context lam_items) i A → as_term (skeleton A) (τ i) ≡ as_term (skeleton A) (Rattle.lf.specs.Substitution.after ρ lam_values i))
+    general : (F : List Item) (τ : ℕ → Image) → IsTypedInstance Copying F lam_items τ → as_term (base 0) (τ 1) ≡ substitute reduce τ (lam (applied_to 1 0)) → (ρ : ℕ → Image) × IsTypedInstance Copying F cp_lam_case.items ρ × ((i : ℕ) (A : LfType) → TypeAt (items_context lam_items) i A → as_term (skeleton A) (τ i) ≡ as_term (skeleton A) (Rattle.lf.specs.Substitution.after ρ lam_values i))
     general F τ (H, υ, (X, ρ, t, hx, d), hh, e) s = (in_front (put (arrow (base 0) (base 0)) H) keep, (H, keep, tt, hh, refl), λ i A q. ap (as_term (skeleton A)) (lam_same Copying (items_context F) H X τ υ ρ hh e d s i A q))
 
 pub app_split : IsSplitBy Copying copy_worlds first_below_second copy_goal 0 exp (free_variable exp ∷ []) 0 (constant 2) (pi exp (pi exp exp)) copy_app_case
@@ -155,11 +151,11 @@ S b = first_below_second 1 b
 block_world : World Copying copy_worlds S (cp (var 0) (var 0) ∷ exp ∷ [])
 block_world = whole_instance copy_block (inl refl) refl (next_entry {θ = Rattle.lf.specs.Substitution.lift keep} (cp (var 0) (var 0)) (next_entry {θ = keep} exp (begin_instance no_variables (record { typed = λ i A g u. absurd g; closed = λ i A g u. absurd g })) (star, refl, tt)) (cp_kind, refl, ((exp, refl, refl), ((exp, refl, refl), tt))))
 
-no_entry : IsHeadSplit Copying copy_worlds S first_below_second copy_goal 0 (copy_lam_case ∷ copy_app_case ∷ []) → ⊥
+no_entry : IsHeadSplit Copying copy_worlds S first_below_second copy_goal 0 (cp_lam_case ∷ copy_app_case ∷ []) → ⊥
 no_entry h = by (split.holds Copying (Extends-self S Copying copying_ok) (cp (var 0) (var 0) ∷ exp ∷ []) block_world None keep (app (var 1) (app (var 1) nil)) held)
   where
-    split : IsSplit Copying copy_worlds S copy_goal (copy_lam_case ∷ copy_app_case ∷ [])
-    split = head_split_is_split Copying copying_ok copy_worlds copy_typed first_below_second copy_subordination S (copying_lasts.self_contained 1 (inl refl)) copy_goal goal_typed 0 (copy_lam_case ∷ copy_app_case ∷ []) h
+    split : IsSplit Copying copy_worlds S copy_goal (cp_lam_case ∷ copy_app_case ∷ [])
+    split = head_split_is_split Copying copying_ok copy_worlds copy_typed first_below_second copy_subordination S (copying_lasts.self_contained 1 (inl refl)) copy_goal goal_typed 0 (cp_lam_case ∷ copy_app_case ∷ []) h
 
     held : HoldsDistinctly block_world copy_goal None keep (app (var 1) (app (var 1) nil))
     held = record {
@@ -173,7 +169,7 @@ no_entry h = by (split.holds Copying (Extends-self S Copying copying_ok) (cp (va
       is_distinct = tt;
     }
 
-    by : OneHolds block_world (copy_lam_case ∷ copy_app_case ∷ []) None keep (app (var 1) (app (var 1) nil)) → ⊥
+    by : OneHolds block_world (cp_lam_case ∷ copy_app_case ∷ []) None keep (app (var 1) (app (var 1) nil)) → ⊥
     by (inl o) = let q : var 1 ≡ substitute reduce o.holds.values (lam (applied_to 1 0)) = o.holds.has_arguments.0 in absurd cc
     by (inr (inl o)) = let q : var 1 ≡ substitute reduce o.holds.values (application (var 1) (var 0)) = o.holds.has_arguments.0 in absurd cc
     by (inr (inr o)) = o

@@ -1,8 +1,7 @@
 -- Heads over the signature with entries, and a second block variable.
 use Rattle.std.proofs.Common.{◌≡◌, ℕ, zero, suc, ◌+◌, inl, refl, sym, ap, arith}
-use Rattle.std.specs.Prelude.{Some}
 use Rattle.lf.specs.Rules.{stop}
-use Rattle.lf.specs.Syntax.{constant, Spine, nil, app, LfType}
+use Rattle.lf.specs.Syntax.{constant, Spine, nil, app}
 use Rattle.lf.specs.Substitution.{keep}
 use Rattle.lf.specs.Variables.{target}
 use Rattle.lf_unification.specs.Putting.{put_nothing, some_at_bound, some_in_argument, some_in_arguments, some_nowhere}
@@ -13,9 +12,7 @@ use Rattle.lf_coverage.specs.NewBlock.{with_new_block}
 use Rattle.lf_coverage.specs.NewInstance.{AreApart, with_instance}
 use Rattle.lf_coverage.specs.NumberedHeads.{IsNumberedHead, StandsForNone, of_signature, of_entry}
 use Rattle.lf_coverage.proofs.StaysApart.{new_instance_stays_apart}
-
-some_type : {A B : LfType} → Some A ≡ Some B → A ≡ B
-some_type e = cc
+use Rattle.lf_coverage.proofs.Parts.{some_same}
 
 pub entry_is_head : EntryIsHead
 entry_is_head = (of_entry 4 0 1 exp refl refl refl, of_signature 0 _ refl refl, refused)
@@ -24,7 +21,7 @@ entry_is_head = (of_entry 4 0 1 exp refl refl refl, of_signature 0 _ refl refl, 
     apart p q = omega arith
 
     refused : IsNumberedHead Copying 4 copy_entry_case (λ k. keep) 0 0 (constant 1) → ⊥
-    refused (of_signature k U e t) = apart (sym (ap target (some_type e))) t
+    refused (of_signature k U e t) = apart (sym (ap target (some_same e))) t
 
 one_is_apart : AreApart copy_entry_case (λ k. keep)
 one_is_apart zero zero b c e f p q = refl

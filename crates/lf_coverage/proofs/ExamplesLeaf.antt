@@ -1,7 +1,7 @@
 -- A leaf by a block entry, and a leaf of outputs.
 use Rattle.std.proofs.Common.{◌≡◌, ℕ, zero, suc, List, [], ◌∷◌, inl, inr, refl, sym, ap, subst}
-use Rattle.std.specs.Prelude.{Bool, true, false, Some}
-use Rattle.lf.specs.Syntax.{Term, LfType, Kind, nil, app, base, skeleton}
+use Rattle.std.specs.Prelude.{Bool, true, false}
+use Rattle.lf.specs.Syntax.{Term, LfType, nil, app, base, skeleton}
 use Rattle.lf.specs.AtOnce.{in_front}
 use Rattle.lf.specs.Substitution.{Image, keep, put, substitute, substitute_type, reduce}
 use Rattle.lf.specs.Typing.{TypeAt, ImageHasType, HasType}
@@ -24,9 +24,7 @@ use Rattle.lf_coverage.specs.Leaf.{IsInstanceLeaf}
 use Rattle.lf_coverage.specs.ExamplesLeaves.{EntryIsLeaf, GoalIsOutputLeaf, plus_asked}
 use Rattle.lf_coverage.proofs.Examples.{plus_subordination}
 use Rattle.lf_coverage.proofs.Leaves.{leaf_is_instance, leaves_cover, head_is_typed, subgoal_is_typed}
-
-some_kind : {A B : Kind} → Some A ≡ Some B → A ≡ B
-some_kind e = cc
+use Rattle.lf_coverage.proofs.Parts.{some_same}
 
 -- cp x _
 copy_typed : AreTypedBlocks Copying (copy_block ∷ [])
@@ -100,14 +98,11 @@ asked_terms (suc (suc zero)) o u = tt
 asked_terms (suc (suc (suc zero))) o u = tt
 asked_terms (suc (suc (suc (suc i)))) o u = absurd cc
 
-some_term : {M N : Term} → Some M ≡ Some N → M ≡ N
-some_term e = cc
-
 asked_given : HasGiven same_values plus_output_case.given asked_images
 asked_given zero M e = absurd cc
 asked_given (suc zero) M e = absurd cc
-asked_given (suc (suc zero)) M e = (base 0, ap (λ N. put (base 0) (substitute reduce same_values N)) (some_term e))
-asked_given (suc (suc (suc zero))) M e = (base 0, ap (λ N. put (base 0) (substitute reduce same_values N)) (some_term e))
+asked_given (suc (suc zero)) M e = (base 0, ap (λ N. put (base 0) (substitute reduce same_values N)) (some_same e))
+asked_given (suc (suc (suc zero))) M e = (base 0, ap (λ N. put (base 0) (substitute reduce same_values N)) (some_same e))
 asked_given (suc (suc (suc (suc i)))) M e = absurd cc
 
 abbrev asked : CommonInstance Addition [] plus_output_case plus_asked

@@ -1,23 +1,20 @@
 -- The local context of copying under a binder is typed; the other way round it isn't.
 use Rattle.std.proofs.Common.{◌≡◌, List, [], ◌∷◌, refl, sym, ◌∙◌, subst}
-use Rattle.std.specs.Prelude.{Some}
-use Rattle.lf.specs.Syntax.{LfType, Kind, nil, app}
+use Rattle.lf.specs.Syntax.{LfType, nil, app}
 use Rattle.lf.specs.Typing.{IsType, SpineFitsKind}
 use Rattle.lf_totality.specs.Examples.{Copying, cp, cp_kind, exp, function, var}
 use Rattle.lf_coverage.specs.ExamplesLocal.{CopyLocalIsTyped}
+use Rattle.lf_coverage.proofs.Parts.{some_same}
 
 abbrev two : List LfType
 two = function ∷ function ∷ []
-
-some_kind : {A B : Kind} → Some A ≡ Some B → A ≡ B
-some_kind e = cc
 
 function_typed : (G : List LfType) → IsType Copying G function
 function_typed G = ((_, refl, tt), (_, refl, tt))
 
 -- F is no exp
 no_copy : IsType Copying two (cp (var 0) (var 0)) → ⊥
-no_copy (K, e, s) = by (subst (SpineFitsKind Copying two (app (var 0) (app (var 0) nil))) (sym (some_kind e)) s)
+no_copy (K, e, s) = by (subst (SpineFitsKind Copying two (app (var 0) (app (var 0) nil))) (sym (some_same e)) s)
   where
     by : SpineFitsKind Copying two (app (var 0) (app (var 0) nil)) cp_kind → ⊥
     by ((A, g, q), t) = no (sym g ∙ q)

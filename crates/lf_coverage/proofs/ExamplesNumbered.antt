@@ -9,6 +9,7 @@ use Rattle.lf_coverage.specs.EntryConstants.{with_entries}
 use Rattle.lf_coverage.specs.OwnTerms.{BlockVariable}
 use Rattle.lf_coverage.specs.NumberedInstance.{block_at, moved_constant, move_spine}
 use Rattle.lf_coverage.specs.ExamplesNumbered.{Turning, first_block, second_block, TurnedIsTyped, two_copies, one_copy, BlocksAreIdentified, CopiesAreNumbered}
+use Rattle.lf_coverage.proofs.Parts.{some_same}
 
 -- c.x for n
 abbrev on_entry : ℕ → Image
@@ -21,9 +22,6 @@ on_entry_typed (suc i) A (B, g, e) = absurd g
 pub turned_is_typed : TurnedIsTyped
 turned_is_typed = record { variables = tt; on_own_terms = λ i A g. absurd g; blocks = (inl refl, (on_entry, on_entry_typed, refl), (((nil, refl), tt), tt), (inr (inl refl), (keep, (λ i A g. absurd g), refl), tt, tt)) }
 
-some_block : {b d : BlockVariable} → Some b ≡ Some d → b ≡ d
-some_block e = cc
-
 -- what a block variable of the first case has become
 abbrev become : BlockVariable → BlockVariable
 become b = record { block = b.block; terms = substitute_spine reduce (λ i. keep (i + 0)) (move_spine (moved_constant 4 (copy_block ∷ copy_block ∷ []) (copy_block ∷ []) (λ j. 0)) b.terms) }
@@ -32,8 +30,8 @@ abbrev Becomes : BlockVariable → Type 0
 Becomes b = block_at one_copy.blocks 0 ≡ Some (become b)
 
 identified : (k : ℕ) (b : BlockVariable) → block_at two_copies.blocks k ≡ Some b → Becomes b
-identified zero b e = subst Becomes (some_block e) refl
-identified (suc zero) b e = subst Becomes (some_block e) refl
+identified zero b e = subst Becomes (some_same e) refl
+identified (suc zero) b e = subst Becomes (some_same e) refl
 identified (suc (suc k)) b e = absurd cc
 
 zero_is_one : {m : ℕ} → zero ≡ suc m → ⊥

@@ -13,9 +13,7 @@ use Rattle.lf_totality.specs.Examples.{Copying, copying_types, copy_block, exp, 
 use Rattle.lf_coverage.specs.HeadOrder.{Offer, constant_rank, new_rank, one_offered, next_offered}
 use Rattle.lf_coverage.specs.TooDeep.{IsDeepCase}
 use Rattle.lf_coverage.specs.Examples.{copy_offers, CopyHeadsAreInOrder, number, NumbersGetDeep, StoresOfMeeting}
-
-some_type : {A B : LfType} → Some A ≡ Some B → A ≡ B
-some_type e = cc
+use Rattle.lf_coverage.proofs.Parts.{some_same}
 
 abbrev Listed : List Item → ℕ → Head → LfType → Type 0
 Listed J n h A = Member (record { items = J; moved = n; head = h; type = A }) copy_offers
@@ -37,10 +35,10 @@ every J n h A (constant_head k U e t) = by k U e t
     apart p q = omega arith
 
     by : (k : ℕ) (U : LfType) → copying_types k ≡ Some U → target U ≡ 0 → Listed (free_variable exp ∷ []) 0 (constant k) U
-    by zero U e t = subst (Listed (free_variable exp ∷ []) 0 (constant 0)) (some_type e) (inl refl)
-    by (suc zero) U e t = absurd (apart (sym (ap target (some_type e))) t)
-    by (suc (suc zero)) U e t = subst (Listed (free_variable exp ∷ []) 0 (constant 2)) (some_type e) (inr (inl refl))
-    by (suc (suc (suc zero))) U e t = absurd (apart (sym (ap target (some_type e))) t)
+    by zero U e t = subst (Listed (free_variable exp ∷ []) 0 (constant 0)) (some_same e) (inl refl)
+    by (suc zero) U e t = absurd (apart (sym (ap target (some_same e))) t)
+    by (suc (suc zero)) U e t = subst (Listed (free_variable exp ∷ []) 0 (constant 2)) (some_same e) (inr (inl refl))
+    by (suc (suc (suc zero))) U e t = absurd (apart (sym (ap target (some_same e))) t)
     by (suc (suc (suc (suc k)))) U e t = absurd cc
 every J n h A (bound_head j B l g t) = absurd (none l)
   where

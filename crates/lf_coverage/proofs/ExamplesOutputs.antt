@@ -1,6 +1,6 @@
 -- Worked goals of outputs.
 use Rattle.std.proofs.Common.{◌≡◌, ℕ, zero, suc, List, [], ◌∷◌, inl, inr, refl, sym, ap, ◌∙◌, subst}
-use Rattle.std.specs.Prelude.{Bool, true, Some}
+use Rattle.std.specs.Prelude.{Bool, true}
 use Rattle.lf.specs.Syntax.{Spine, LfType, Kind, nil, app, atom, pi, kind_pi, star, weaken}
 use Rattle.lf.specs.Typing.{TypeAt, SpineType}
 use Rattle.lf.specs.Subordination.{Block, Member, IsTypedBlock}
@@ -23,6 +23,7 @@ use Rattle.lf_coverage.proofs.Examples.{plus_subordination}
 use Rattle.lf_coverage.proofs.ExamplesLeaf.{output_leaf, at_two, at_three}
 use Rattle.lf_coverage.proofs.OutputBeside.{output_goal_is_typed}
 use Rattle.lf_coverage.proofs.OutputRuns.{solved_run_gives_outputs}
+use Rattle.lf_coverage.proofs.Parts.{some_same}
 
 abbrev plus_ground : ℕ → Bool
 plus_ground = ground_first addition_marks plus_s
@@ -73,11 +74,8 @@ abbrev entry_arguments : Spine
 entry_arguments = with_given some_case (entry_clause some_block [] some_entry) (binders [] (some_goal 2)) (target_arguments (some_goal 2))
 
 pub entry_goal_is_untyped : EntryGoalIsUntyped
-entry_goal_is_untyped Σ e t = by (subst (TypedArguments Σ entry_context some_case.arguments entry_arguments) (some_kind (sym t.of_family ∙ e)) t.arguments)
+entry_goal_is_untyped Σ e t = by (subst (TypedArguments Σ entry_context some_case.arguments entry_arguments) (some_same (sym t.of_family ∙ e)) t.arguments)
   where
-    some_kind : {K L : Kind} → Some K ≡ Some L → K ≡ L
-    some_kind q = cc
-
     last : SpineType Σ entry_context (app (var 0) nil) (weaken (weaken (pi (atom 0 nil) (atom 2 (app (applied_to 2 0) nil))))) (atom 2 (app (applied_to 5 0) nil)) → ⊥
     last (m, q) = cc
 

@@ -28,7 +28,8 @@ use Rattle.lf_coverage.specs.ExamplesStuck.{Zeros, solved_case, two_inputs}
 use Rattle.lf_coverage.specs.ExamplesTyped.{plus_s_head}
 use Rattle.lf_coverage.specs.FullMatching.{PlacesHavePatterns}
 use Rattle.lf_coverage.specs.Stuck.{AreHeadsBeside, IsStrategyCase, IsStrategyHead}
-use Rattle.lf_coverage.specs.SubordinateRuns.{AnswersEachHead, ComesBy, comes_by_split, comes_itself}
+use Rattle.lf_coverage.specs.SubordinateRuns.{ComesBy, comes_by_split, comes_itself}
+use Rattle.lf_coverage.specs.UnifiedSplit.{AnswersEachHead}
 use Rattle.lf_coverage.proofs.ExamplesMatching.{plus_is_instance}
 use Rattle.lf_coverage.proofs.ExamplesStuck.{applied_is_reached, no_values}
 use Rattle.lf_coverage.proofs.ExamplesSubordinate.{addition_is_tested, answered}

@@ -25,6 +25,7 @@ use Rattle.lf_totality.proofs.ExamplesReached.{both_still}
 use Rattle.lf_checks.specs.Clause.{variables, outside}
 use Rattle.lf_cases.specs.Full.{occurrences_at, AppliesToAll}
 use Rattle.lf_coverage.specs.ExamplesStuck.{PatternsStand, BoundIsTaken, Zeros, zero_heads, applied_case, AppliedIsReached, SolvedHasCandidate, Lower, lower_below, lower_clause, lower_case, LowerIsUnsplit}
+use Rattle.lf_coverage.proofs.Parts.{some_same}
 
 pub patterns_stand : PatternsStand
 patterns_stand = (refl, refl, λ h. true≢false (sym h))
@@ -35,22 +36,16 @@ bound_is_taken = ((refl, ((refl, tt), tt)), λ h. true≢false (sym h.1.0.0))
 zeros_ok : IsSignature Zeros
 zeros_ok = record { types_ok = types; kinds_ok = kinds }
   where
-    same : {A B : LfType} → Some A ≡ Some B → A ≡ B
-    same e = cc
-
-    same_kind : {J K : Kind} → Some J ≡ Some K → J ≡ K
-    same_kind e = cc
-
     types : (c : ℕ) (A : LfType) → Zeros.types c ≡ Some A → IsType Zeros [] A
-    types zero A e = subst (IsType Zeros []) (same e) (star, refl, tt)
-    types (suc zero) A e = subst (IsType Zeros []) (same e) ((star, refl, tt), (star, refl, tt))
-    types (suc (suc zero)) A e = subst (IsType Zeros []) (same e) (kind_pi nat (kind_pi nat star), refl, ((nat, refl, refl), ((nat, refl, refl), tt)))
+    types zero A e = subst (IsType Zeros []) (some_same e) (star, refl, tt)
+    types (suc zero) A e = subst (IsType Zeros []) (some_same e) ((star, refl, tt), (star, refl, tt))
+    types (suc (suc zero)) A e = subst (IsType Zeros []) (some_same e) (kind_pi nat (kind_pi nat star), refl, ((nat, refl, refl), ((nat, refl, refl), tt)))
     types (suc (suc (suc n))) A e = absurd cc
 
     kinds : (a : ℕ) (K : Kind) → Zeros.kinds a ≡ Some K → IsKind Zeros [] K
-    kinds zero K e = subst (IsKind Zeros []) (same_kind e) tt
+    kinds zero K e = subst (IsKind Zeros []) (some_same e) tt
     kinds (suc zero) K e = absurd cc
-    kinds (suc (suc zero)) K e = subst (IsKind Zeros []) (same_kind e) ((star, refl, tt), ((star, refl, tt), tt))
+    kinds (suc (suc zero)) K e = subst (IsKind Zeros []) (some_same e) ((star, refl, tt), ((star, refl, tt), tt))
     kinds (suc (suc (suc n))) K e = absurd cc
 
 pub no_values : Values Zeros everything [] [] keep

@@ -19,11 +19,13 @@ use Rattle.lf_totality.proofs.ExampleLemmas.{below_itself as test_itself}
 use Rattle.lf_coverage.specs.ExamplesSubordinate.{ArgumentsAreNotEnough, FunctionsAreSplit, OutputsAreRaisedBelow, AdditionIsTested, PlusRunIsAnswered, OddCaseComesByNone, odd_case, of_sum, LooseCaseIsSplit, loose_case}
 use Rattle.lf_coverage.specs.Leaf.{IsInstanceLeaf}
 use Rattle.lf_coverage.specs.Subordinate.{QuantifiersAreBelow}
-use Rattle.lf_coverage.specs.SubordinateRuns.{IsAnsweredSplit, AnswersEachHead, ComesBy, comes_itself, comes_by_split}
+use Rattle.lf_coverage.specs.SubordinateRuns.{ComesBy, comes_itself, comes_by_split}
+use Rattle.lf_coverage.specs.UnifiedSplit.{IsAnsweredSplit, AnswersEachHead}
 use Rattle.lf_coverage.proofs.Examples.{goal_typed, plus_subordination, same_is}
 use Rattle.lf_coverage.proofs.ExamplesLeaves.{zero_leaf, successor_leaf}
 use Rattle.lf_coverage.proofs.ExamplesUnified.{plus_solved}
 use Rattle.lf_coverage.proofs.SubordinateRuns.{answered_split_is_answer, input_run_quantifies_below, answered_run_covers_inputs}
+use Rattle.lf_coverage.proofs.Parts.{some_same}
 
 pub arguments_are_not_enough : ArgumentsAreNotEnough
 arguments_are_not_enough = ((((refl, refl), refl), tt), (λ h. true≢false (sym h.0.0)), (λ h. true≢false (sym h.1.1.0)))
@@ -35,12 +37,6 @@ pub outputs_are_raised_below : OutputsAreRaisedBelow
 outputs_are_raised_below = (refl, refl, ((refl, tt, tt), ((refl, tt, tt), tt)), (λ h. true≢false (sym h.2.0)))
 
 -- The test is that of the declarations.
-some_type : {A B : LfType} → Some A ≡ Some B → A ≡ B
-some_type e = cc
-
-some_kind : {A B : Kind} → Some A ≡ Some B → A ≡ B
-some_kind e = cc
-
 quantified_is_below : (A : LfType) → QuantifiersAreBelow first_below_second A → (a b : ℕ) → Quantifies a b A → first_below_second b a ≡ true
 quantified_is_below (pi A B) (q, h, k) a b (inl (e, f)) = ap₂ first_below_second (sym f) (sym e) ∙ q
 quantified_is_below (pi A B) (q, h, k) a b (inr (inl r)) = quantified_is_below A h a b r
@@ -58,15 +54,15 @@ kind_is_below f (kind_pi A K) (q, h, k) a b (inr (inr r)) = kind_is_below f K k 
 kind_is_below f star h a b q = absurd q
 
 types_below : (c : ℕ) (U : LfType) → addition_types c ≡ Some U → QuantifiersAreBelow first_below_second U
-types_below zero U e = subst (QuantifiersAreBelow first_below_second) (some_type e) tt
-types_below (suc zero) U e = subst (QuantifiersAreBelow first_below_second) (some_type e) (refl, tt, tt)
-types_below (suc (suc zero)) U e = subst (QuantifiersAreBelow first_below_second) (some_type e) (refl, tt, tt)
-types_below (suc (suc (suc zero))) U e = subst (QuantifiersAreBelow first_below_second) (some_type e) (refl, tt, (refl, tt, (refl, tt, (refl, tt, tt))))
+types_below zero U e = subst (QuantifiersAreBelow first_below_second) (some_same e) tt
+types_below (suc zero) U e = subst (QuantifiersAreBelow first_below_second) (some_same e) (refl, tt, tt)
+types_below (suc (suc zero)) U e = subst (QuantifiersAreBelow first_below_second) (some_same e) (refl, tt, tt)
+types_below (suc (suc (suc zero))) U e = subst (QuantifiersAreBelow first_below_second) (some_same e) (refl, tt, (refl, tt, (refl, tt, (refl, tt, tt))))
 types_below (suc (suc (suc (suc c)))) U e = absurd cc
 
 kinds_below : (f : ℕ) (K : Kind) → addition_kinds f ≡ Some K → KindIsBelow f K
-kinds_below zero K e = subst (KindIsBelow 0) (some_kind e) tt
-kinds_below (suc zero) K e = subst (KindIsBelow 1) (some_kind e) (refl, tt, (refl, tt, (refl, tt, tt)))
+kinds_below zero K e = subst (KindIsBelow 0) (some_same e) tt
+kinds_below (suc zero) K e = subst (KindIsBelow 1) (some_same e) (refl, tt, (refl, tt, (refl, tt, tt)))
 kinds_below (suc (suc f)) K e = absurd cc
 
 below_is_tested : {a b : ℕ} → Below Addition [] a b → first_below_second b a ≡ true
@@ -90,7 +86,7 @@ pub no_world : (B : Block) → Member B [] → IsTypedBlock Addition B
 no_world B m = absurd m
 
 pub answered : IsAnsweredSplit Addition [] first_below_second plus_input_goal 1 (plus_zero_case ∷ plus_successor_case ∷ [])
-answered = record { type = plus_solved.type; at = plus_solved.at; is_free = plus_solved.is_free; offers = plus_solved.offers; are_offers = plus_solved.are_offers; in_order = plus_solved.in_order; listed = plus_solved.listed }
+answered = plus_solved.answered
 
 run : Ends (IsInstanceLeaf Addition [] plus_heads) (AnswersEachHead Addition [] first_below_second) plus_input_goal
 run = by_split (plus_zero_case ∷ plus_successor_case ∷ []) (1, answered) (next_case (at_leaf zero_leaf) (next_case (at_leaf successor_leaf) no_case))

@@ -20,11 +20,9 @@ use Rattle.lf_coverage.specs.ExamplesTwins.{Twins, twin_types, twin_block, twin_
 use Rattle.lf_coverage.specs.HeadOrder.{AreInOrder, Offer, constant_rank, new_rank, old_rank, one_offered, next_offered}
 use Rattle.lf_coverage.specs.Heads.{AreOffers, ArgumentsAreBelow, GivesCase, GivesNone, IsHeadSplit, Keeps, no_offer, with_case, without_case}
 use Rattle.lf_coverage.proofs.SameInstance.{instance_unique}
+use Rattle.lf_coverage.proofs.Parts.{some_same}
 
 -- heads of exp and of same
-some_type : {A B : LfType} → Some A ≡ Some B → A ≡ B
-some_type e = cc
-
 abbrev pub alike_type : LfType
 alike_type = pi exp (same (var 0) (var 0))
 
@@ -58,7 +56,7 @@ each_exp : (I : List Item) (P : Each) → P (with_block twin_block I) 2 (variabl
 each_exp I P p q J n h A (constant_head k U e t) = absurd (no_constant k U e t)
   where
     no_constant : (k : ℕ) (U : LfType) → twin_types k ≡ Some U → target U ≡ 0 → ⊥
-    no_constant zero U e t = differ (sym (ap target (some_type e))) t
+    no_constant zero U e t = differ (sym (ap target (some_same e))) t
     no_constant (suc k) U e t = cc
 each_exp I P p q J n h A (bound_head j B l g t) = absurd (none_taken l)
 each_exp I P p q J n h A (entry_head j B g f t) = q j B g f t
@@ -69,7 +67,7 @@ each_same : (I : List Item) (M N : Term) (P : Each) → P I 0 (constant 0) alike
 each_same I M N P p q J n h A (constant_head k U e t) = at_constant k U e
   where
     at_constant : (k : ℕ) (U : LfType) → twin_types k ≡ Some U → P I 0 (constant k) U
-    at_constant zero U e = subst (P I 0 (constant 0)) (some_type e) p
+    at_constant zero U e = subst (P I 0 (constant 0)) (some_same e) p
     at_constant (suc k) U e = absurd cc
 each_same I M N P p q J n h A (bound_head j B l g t) = absurd (none_taken l)
 each_same I M N P p q J n h A (entry_head j B g f t) = absurd (q j B g f t)

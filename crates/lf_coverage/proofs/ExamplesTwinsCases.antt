@@ -1,6 +1,6 @@
 -- The cases of two block variables are those that are to be answered, each by a most general typed instance.
 use Rattle.std.proofs.Common.{◌≡◌, ℕ, suc, List, [], ◌∷◌, ◌+◌, length, refl, sym, ap, ◌∙◌, subst, arith, inl, inr}
-use Rattle.std.specs.Prelude.{Bool, Some, ◌⊎◌}
+use Rattle.std.specs.Prelude.{Bool, ◌⊎◌}
 use Rattle.lf.specs.Syntax.{Term, constant, variable, nil, app, LfType, base, skeleton}
 use Rattle.lf.specs.AtOnce.{in_front, shift_by}
 use Rattle.lf.specs.Substitution.{Image, keep, put, rename_image, apply_image, substitute, reduce, after}
@@ -16,9 +16,7 @@ use Rattle.lf_coverage.specs.Heads.{IsHeadSplit, IsTypedCase, no_offer, with_cas
 use Rattle.lf_coverage.proofs.ExamplesTwins.{es, alike_type, first_items, first_values, first_items_typed, first_instance, first_type, first_same, new_items, new_values, second_block, new_items_typed, new_instance, new_type, new_same_values, old_values, old_items_typed, old_instance, old_type, old_same, alike_items, alike_values, alike_items_typed, alike_instance, alike_same, both_items, terms_first, terms_second, new_offer, old_offer, alike_offer, goal_offers, entry_offers, alike_offers, none_same_one, none_same_two, goal_in_order, entry_in_order, alike_in_order, goal_below, entry_below, alike_below, goal_split, entry_split, two_split, alike_split}
 use Rattle.lf_coverage.proofs.ExamplesTwinsRun.{goal_typed, twins_ok, twins_typed, twin_subordination}
 use Rattle.lf_coverage.proofs.Runs.{head_split_is_split}
-
-some_type : {A B : LfType} → Some A ≡ Some B → A ≡ B
-some_type e = cc
+use Rattle.lf_coverage.proofs.Parts.{some_same, keep_same}
 
 -- b.x for X
 pub first_by : IsSplitBy Twins twin_worlds up_to twin_goal 2 exp first_items 2 (variable 1) exp one_entry
@@ -83,7 +81,7 @@ old_by = record {
 
 -- alike H has the type same H H
 alike_of : (G : List LfType) (H M N : Term) → HasType Twins G (alike H) (same M N) → (H ≡ M) × (H ≡ N)
-alike_of G H M N (A, e, r) = let (h, q) = subst (λ X. SpineType Twins G (app H nil) X (same M N)) (sym (some_type e)) r in (terms_first q, terms_second q)
+alike_of G H M N (A, e, r) = let (h, q) = subst (λ X. SpineType Twins G (app H nil) X (same M N)) (sym (some_same e)) r in (terms_first q, terms_second q)
 
 pub alike_by : IsSplitBy Twins twin_worlds up_to same_entry 0 (same (var 2) (var 2)) same_entry.items 0 (constant 0) alike_type entry_alike
 alike_by = record {
@@ -118,11 +116,8 @@ image_suc x y j k p q e = let r : keep (suc j) ≡ keep (suc k) = sym (ap (renam
     inj e = cc
 
 image_shift : (n : ℕ) (x y : Image) (j k : ℕ) → x ≡ keep j → y ≡ keep k → rename_image (shift_by n) x ≡ rename_image (shift_by n) y → x ≡ y
-image_shift n x y j k p q e = let r : keep (j + n) ≡ keep (k + n) = sym (ap (rename_image (shift_by n)) p) ∙ e ∙ ap (rename_image (shift_by n)) q in p ∙ ap keep (same_sum j k n (inj r)) ∙ sym q
+image_shift n x y j k p q e = let r : keep (j + n) ≡ keep (k + n) = sym (ap (rename_image (shift_by n)) p) ∙ e ∙ ap (rename_image (shift_by n)) q in p ∙ ap keep (same_sum j k n (keep_same r)) ∙ sym q
   where
-    inj : {j k : ℕ} → keep j ≡ keep k → j ≡ k
-    inj e = cc
-
     same_sum : (j k n : ℕ) → j + n ≡ k + n → j ≡ k
     same_sum j k n e = omega (arith, e)
 
@@ -138,11 +133,8 @@ newest F C υ θ φ τ c e b e' q =
     let (j, p) = is_variable F τ b in
     let l : keep 1 ≡ θ 1 = sym (ap (λ f. f 1) e ∙ ap (λ D. lift_over D.entries υ 1) c) in
     let r : φ 1 ≡ keep (j + length C.entries) = ap (λ f. f 1) e' ∙ ap (rename_image (shift_by (length C.entries))) p in
-    far j (inj (l ∙ q ∙ r ∙ ap (λ D. keep (j + length D.entries)) c))
+    far j (keep_same (l ∙ q ∙ r ∙ ap (λ D. keep (j + length D.entries)) c))
   where
-    inj : {j k : ℕ} → keep j ≡ keep k → j ≡ k
-    inj e = cc
-
     far : (j : ℕ) → 1 ≡ j + 2 → ⊥
     far j e = omega (arith, e)
 

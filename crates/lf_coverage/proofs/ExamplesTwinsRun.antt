@@ -24,25 +24,20 @@ use Rattle.lf_coverage.specs.Leaf.{IsInstanceLeaf}
 use Rattle.lf_coverage.proofs.ExamplesTwins.{whole, goal_split, entry_split, two_split, alike_split}
 use Rattle.lf_coverage.proofs.Leaves.{head_is_typed, leaf_is_instance}
 use Rattle.lf_coverage.proofs.Runs.{head_splits_cover}
-
-some_type : {A B : LfType} → Some A ≡ Some B → A ≡ B
-some_type e = cc
-
-some_kind : {A B : Kind} → Some A ≡ Some B → A ≡ B
-some_kind e = cc
+use Rattle.lf_coverage.proofs.Parts.{some_same}
 
 -- the signature and the block
 pub twins_ok : IsSignature Twins
 twins_ok = record { types_ok = types_ok; kinds_ok = kinds_ok }
   where
     types_ok : (c : ℕ) (A : LfType) → twin_types c ≡ Some A → IsType Twins [] A
-    types_ok zero A e = subst (IsType Twins []) (some_type e) ((star, refl, tt), (_, refl, ((exp, refl, refl), ((exp, refl, refl), tt))))
+    types_ok zero A e = subst (IsType Twins []) (some_same e) ((star, refl, tt), (_, refl, ((exp, refl, refl), ((exp, refl, refl), tt))))
     types_ok (suc c) A e = absurd cc
 
     kinds_ok : (a : ℕ) (K : Kind) → twin_kinds a ≡ Some K → IsKind Twins [] K
-    kinds_ok zero K e = subst (IsKind Twins []) (some_kind e) tt
-    kinds_ok (suc zero) K e = subst (IsKind Twins []) (some_kind e) ((star, refl, tt), ((star, refl, tt), tt))
-    kinds_ok (suc (suc zero)) K e = subst (IsKind Twins []) (some_kind e) ((star, refl, tt), ((star, refl, tt), ((_, refl, ((exp, (exp, refl, refl), refl), ((exp, refl, refl), tt))), tt)))
+    kinds_ok zero K e = subst (IsKind Twins []) (some_same e) tt
+    kinds_ok (suc zero) K e = subst (IsKind Twins []) (some_same e) ((star, refl, tt), ((star, refl, tt), tt))
+    kinds_ok (suc (suc zero)) K e = subst (IsKind Twins []) (some_same e) ((star, refl, tt), ((star, refl, tt), ((_, refl, ((exp, (exp, refl, refl), refl), ((exp, refl, refl), tt))), tt)))
     kinds_ok (suc (suc (suc a))) K e = absurd cc
 
 entry_typed : IsType Twins (exp ∷ []) (check (var 0) (var 0) (alike (var 0)))
@@ -80,13 +75,13 @@ contained f d = record { declared = declared f d; kinds_in = kinds_in; types_in 
     declared (suc (suc (suc f))) (K, e) (suc (suc (suc a))) h = absurd cc
 
     kinds_in : (a : ℕ) (K : Kind) → twin_kinds a ≡ Some K → up_to f a ≡ true → KindFamiliesIn (up_to f) K
-    kinds_in zero K e h = subst (KindFamiliesIn (up_to f)) (some_kind e) tt
-    kinds_in (suc zero) K e h = subst (KindFamiliesIn (up_to f)) (some_kind e) (refl, (refl, tt))
-    kinds_in (suc (suc zero)) K e h = subst (KindFamiliesIn (up_to f)) (some_kind e) (refl, (refl, (one_of f h, tt)))
+    kinds_in zero K e h = subst (KindFamiliesIn (up_to f)) (some_same e) tt
+    kinds_in (suc zero) K e h = subst (KindFamiliesIn (up_to f)) (some_same e) (refl, (refl, tt))
+    kinds_in (suc (suc zero)) K e h = subst (KindFamiliesIn (up_to f)) (some_same e) (refl, (refl, (one_of f h, tt)))
     kinds_in (suc (suc (suc a))) K e h = absurd cc
 
     types_in : (c : ℕ) (A : LfType) → twin_types c ≡ Some A → up_to f (target A) ≡ true → FamiliesIn (up_to f) A
-    types_in zero A e h = subst (FamiliesIn (up_to f)) (some_type e) (refl, ap (λ X. up_to f (target X)) (some_type e) ∙ h)
+    types_in zero A e h = subst (FamiliesIn (up_to f)) (some_same e) (refl, ap (λ X. up_to f (target X)) (some_same e) ∙ h)
     types_in (suc c) A e h = absurd cc
 
     entries_in : (B : Block) (E : LfType) → Member B twin_worlds → Member E B.entries → up_to f (target E) ≡ true → FamiliesIn (up_to f) E
@@ -168,7 +163,7 @@ module _ (S : ℕ → Bool) (z : S 0 ≡ true) (o : S 1 ≡ true) (L : Case → 
 
 -- the places are for exp and same
 holds_both : (S : ℕ → Bool) → IsBeside Twins twin_worlds S twin_goal → (S 0 ≡ true) × (S 1 ≡ true)
-holds_both S b = let p : PlacesIn S (true ∷ true ∷ true ∷ []) check_kind = subst (PlacesIn S (true ∷ true ∷ true ∷ [])) (sym (some_kind b.of_family)) b.places in (p.0, p.1.1.0)
+holds_both S b = let p : PlacesIn S (true ∷ true ∷ true ∷ []) check_kind = subst (PlacesIn S (true ∷ true ∷ true ∷ [])) (sym (some_same b.of_family)) b.places in (p.0, p.1.1.0)
 
 pub twin_run_covers : TwinRunCovers
 twin_run_covers = ((λ S c z o. run S z o (IsInstanceLeaf Twins twin_worlds (twin_head ∷ [])) leaf), covers)

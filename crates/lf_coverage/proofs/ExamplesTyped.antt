@@ -21,6 +21,7 @@ use Rattle.lf_coverage.proofs.ExamplesLeaf.{output_leaf, at_two, at_three}
 use Rattle.lf_coverage.proofs.Leaves.{head_is_typed, subgoal_is_typed}
 use Rattle.lf_coverage.proofs.Meeting.{never_is_apart}
 use Rattle.lf_coverage.proofs.TypedCases.{input_goal_is_typed, meet_store_is_ready}
+use Rattle.lf_coverage.proofs.Parts.{some_same}
 
 head_typed : IsTypedPattern Addition plus_s_head
 head_typed = head_is_typed Addition addition_ok [] (λ B m. absurd m) plus_s (from_constant 3 plus_s.type refl)
@@ -75,14 +76,11 @@ plus_goals_are_typed = (
 pub odd_case_is_untyped : OddCaseIsUntyped
 odd_case_is_untyped = (record { items = ((tt, (_, refl, tt)), (plus_kind, refl, ((nat, refl, refl), ((nat, refl, refl), ((nat, refl, refl), tt))))); given = tt; arguments = ((base 1, (base 1, refl, refl)), ((base 0, (base 0, refl, refl)), tt)) }, no)
   where
-    some_kind : {K L : Kind} → Some K ≡ Some L → K ≡ L
-    some_kind e = cc
-
     other : (A : LfType) → A ≡ Rattle.lf_totality.specs.Examples.on_three 1 z (Rattle.lf_totality.specs.Examples.var 1) (Rattle.lf_totality.specs.Examples.var 1) → A ≡ nat → ⊥
     other A e q = cc
 
     no : IsTypedBeside Addition [] odd_case plus_s_head → ⊥
-    no t = by t.kind (some_kind t.of_family) t.arguments
+    no t = by t.kind (some_same t.of_family) t.arguments
       where
         by : (K : Kind) → plus_kind ≡ K → Rattle.lf_coverage.specs.TypedCase.TypedArguments Addition (Rattle.lf.specs.Variables.onto (items_context odd_case.items) (scope plus_s)) odd_case.arguments (Rattle.lf_cases.specs.Candidates.with_given odd_case plus_s [] (Rattle.lf.specs.Variables.target_arguments plus_s.type)) K → ⊥
         by K e a = first (subst (Rattle.lf_coverage.specs.TypedCase.TypedArguments Addition (Rattle.lf.specs.Variables.onto (items_context odd_case.items) (scope plus_s)) odd_case.arguments (Rattle.lf_cases.specs.Candidates.with_given odd_case plus_s [] (Rattle.lf.specs.Variables.target_arguments plus_s.type))) (sym e) a)

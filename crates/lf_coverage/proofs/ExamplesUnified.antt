@@ -33,18 +33,7 @@ use Rattle.lf_coverage.specs.ExamplesTyped.{SuccessorIsSplit}
 use Rattle.lf_totality.specs.Examples.{plus_input_goal}
 use Rattle.lf_coverage.proofs.SolvedSplit.{solved_splits}
 use Rattle.lf_coverage.proofs.Unified.{never_gives}
-
-some_term : {M N : Term} → Some M ≡ Some N → M ≡ N
-some_term e = cc
-
-none_some : {N : Term} → None ≡ Some N → ⊥
-none_some e = cc
-
-some_type : {A B : LfType} → Some A ≡ Some B → A ≡ B
-some_type e = cc
-
-some_kind : {A B : Kind} → Some A ≡ Some B → A ≡ B
-some_kind e = cc
+use Rattle.lf_coverage.proofs.Parts.{some_same, none_some}
 
 -- X and Y as metavariables, and a new one before
 abbrev two_types : ℕ → Option LfType
@@ -54,14 +43,14 @@ abbrev three_types : ℕ → Option LfType
 three_types m = context_metavariables (nat ∷ nat ∷ nat ∷ []) m
 
 two_nats : (m : ℕ) (A : LfType) → two_types m ≡ Some A → nat ≡ A
-two_nats zero A e = some_type e
-two_nats (suc zero) A e = some_type e
+two_nats zero A e = some_same e
+two_nats (suc zero) A e = some_same e
 two_nats (suc (suc m)) A e = absurd cc
 
 three_nats : (m : ℕ) (A : LfType) → three_types m ≡ Some A → nat ≡ A
-three_nats zero A e = some_type e
-three_nats (suc zero) A e = some_type e
-three_nats (suc (suc zero)) A e = some_type e
+three_nats zero A e = some_same e
+three_nats (suc zero) A e = some_same e
+three_nats (suc (suc zero)) A e = some_same e
 three_nats (suc (suc (suc m))) A e = absurd cc
 
 module _ (Ψ : ℕ → Option LfType) (nats : (m : ℕ) (A : LfType) → Ψ m ≡ Some A → nat ≡ A) (U : (ℕ → Option Term) → Type 0) where
@@ -123,7 +112,7 @@ zero_after = record {
   is_order = ((tt, refl, (λ h. h), tt, (star, refl, tt), (λ ρ. refl), tt), refl, no_one, tt, (star, refl, tt), (λ ρ. refl), (tt, zero_typed two_types two_nats (IsFilling Addition [] after_zero), λ ρ. refl));
   all_listed = zero_listed;
   bindings_listed = ((nat, inl refl), tt);
-  values_bound = ((λ N e. inl (ap (λ X. record { of = 1; value = X }) (sym (some_term e)))), ((λ N e. absurd (none_some e)), tt));
+  values_bound = ((λ N e. inl (ap (λ X. record { of = 1; value = X }) (sym (some_same e)))), ((λ N e. absurd (none_some e)), tt));
   typed = record {
     declarations_typed = declared two_types two_nats (IsFilling Addition [] after_zero);
     bindings_typed = ((nat, refl, zero_typed two_types two_nats (IsFilling Addition [] after_zero)), tt);
@@ -179,7 +168,7 @@ successor_after = record {
   is_order = (((tt, refl, (λ h. h), tt, (star, refl, tt), (λ ρ. refl), tt), refl, no_one, tt, (star, refl, tt), (λ ρ. refl), tt), refl, no_two, tt, (star, refl, tt), (λ ρ. refl), ((((inr (inl refl)), tt), tt), successor_typed three_types three_nats (IsFilling Addition [] after_successor) 0 refl, λ ρ. refl));
   all_listed = successor_listed;
   bindings_listed = ((nat, inl refl), tt);
-  values_bound = ((λ N e. inl (ap (λ X. record { of = 2; value = X }) (sym (some_term e)))), ((λ N e. absurd (none_some e)), ((λ N e. absurd (none_some e)), tt)));
+  values_bound = ((λ N e. inl (ap (λ X. record { of = 2; value = X }) (sym (some_same e)))), ((λ N e. absurd (none_some e)), ((λ N e. absurd (none_some e)), tt)));
   typed = record {
     declarations_typed = declared three_types three_nats (IsFilling Addition [] after_successor);
     bindings_typed = ((nat, refl, successor_typed three_types three_nats (IsFilling Addition [] after_successor) 0 refl), tt);
@@ -216,15 +205,17 @@ plus_unified = record {
 
 pub plus_solved : IsSolvedSplit Addition [] first_below_second plus_input_goal 1 (plus_zero_case ∷ plus_successor_case ∷ [])
 plus_solved = record {
-  type = nat;
-  at = (nat, refl, refl);
-  is_free = refl;
+  answered = record {
+    type = nat;
+    at = (nat, refl, refl);
+    is_free = refl;
+    offers = plus_offers;
+    are_offers = plus_are_offers;
+    in_order = plus_in_order;
+    listed = with_case (record { kind = star; of_family = refl; no_block = tt; finds = (after_zero, zero_solved, refl) }) (with_case (record { kind = star; of_family = refl; no_block = tt; finds = (after_successor, successor_solved, refl) }) no_offer);
+  };
   takes_below = tt;
-  offers = plus_offers;
-  are_offers = plus_are_offers;
-  in_order = plus_in_order;
   arguments_below = each_head (λ I n h A. ArgumentsAreBelow first_below_second A) tt (refl, tt);
-  listed = with_case (record { kind = star; of_family = refl; no_block = tt; finds = (after_zero, zero_solved, refl) }) (with_case (record { kind = star; of_family = refl; no_block = tt; finds = (after_successor, successor_solved, refl) }) no_offer);
 }
 
 pub successor_is_split : SuccessorIsSplit
@@ -247,16 +238,16 @@ three_contained = record { declared = declared; kinds_in = kinds_in; types_in = 
     declared (suc (suc (suc a))) e = absurd cc
 
     kinds_in : (a : ℕ) (K : Kind) → numbered_kinds a ≡ Some K → first_three a ≡ true → KindFamiliesIn first_three K
-    kinds_in zero K e s = subst (KindFamiliesIn first_three) (some_kind e) tt
-    kinds_in (suc zero) K e s = subst (KindFamiliesIn first_three) (some_kind e) (refl, tt)
-    kinds_in (suc (suc zero)) K e s = subst (KindFamiliesIn first_three) (some_kind e) (refl, tt)
+    kinds_in zero K e s = subst (KindFamiliesIn first_three) (some_same e) tt
+    kinds_in (suc zero) K e s = subst (KindFamiliesIn first_three) (some_same e) (refl, tt)
+    kinds_in (suc (suc zero)) K e s = subst (KindFamiliesIn first_three) (some_same e) (refl, tt)
     kinds_in (suc (suc (suc a))) K e s = absurd cc
 
     types_in : (c : ℕ) (A : LfType) → numbered_types c ≡ Some A → first_three (Rattle.lf.specs.Variables.target A) ≡ true → FamiliesIn first_three A
-    types_in zero A e s = subst (FamiliesIn first_three) (some_type e) refl
-    types_in (suc zero) A e s = subst (FamiliesIn first_three) (some_type e) (refl, refl)
-    types_in (suc (suc zero)) A e s = subst (FamiliesIn first_three) (some_type e) refl
-    types_in (suc (suc (suc zero))) A e s = subst (FamiliesIn first_three) (some_type e) (refl, ((refl, (refl, refl)), refl))
+    types_in zero A e s = subst (FamiliesIn first_three) (some_same e) refl
+    types_in (suc zero) A e s = subst (FamiliesIn first_three) (some_same e) (refl, refl)
+    types_in (suc (suc zero)) A e s = subst (FamiliesIn first_three) (some_same e) refl
+    types_in (suc (suc (suc zero))) A e s = subst (FamiliesIn first_three) (some_same e) (refl, ((refl, (refl, refl)), refl))
     types_in (suc (suc (suc (suc n)))) A e s = absurd cc
 
 successor_typed_items : AreTypedItems Numbered [] successor_items

@@ -2,7 +2,7 @@
 use Rattle.std.proofs.Common.{◌≡◌, ℕ, zero, suc, List, [], ◌∷◌, ◌+◌, length, inl, inr, refl, sym, ap, ap₂, ◌∙◌, subst, arith}
 use Rattle.std.specs.Prelude.{Bool, true, false, Some, None}
 use Rattle.lf.specs.Eta.{arity, eta_arguments, eta_long, lambdas}
-use Rattle.lf.specs.Syntax.{LfType, Skeleton, Spine, Term, lambda, root, skeleton, variable, weaken, rename_type}
+use Rattle.lf.specs.Syntax.{LfType, Skeleton, Spine, root, skeleton, variable, weaken, rename_type}
 use Rattle.lf.proofs.AtOnce.{eta_at_once}
 use Rattle.lf.specs.Substitution.{Image, keep, rename_image, substitute_image}
 use Rattle.lf.specs.AtOnce.{shift_by}
@@ -24,14 +24,12 @@ use Rattle.lf_cases.proofs.OutputItems.{length_instance}
 use Rattle.lf_coverage.proofs.Forms.{far_type}
 use Rattle.lf_coverage.proofs.SameInstance.{front_entry, front_behind, instance_unique, entry_has_type}
 use Rattle.lf_coverage.proofs.Standing.{stood, Outer, entry_outer}
+use Rattle.lf_coverage.proofs.Parts.{lambda_same}
 
 -- the variable at the head, under lambdas
 same_head : (n i j : ℕ) (S T : Spine) → lambdas n (root (variable i) S) ≡ lambdas n (root (variable j) T) → i ≡ j
 same_head zero i j S T e = cc
-same_head (suc n) i j S T e = same_head n i j S T (inside e)
-  where
-    inside : {M N : Term} → lambda M ≡ lambda N → M ≡ N
-    inside e = cc
+same_head (suc n) i j S T e = same_head n i j S T (lambda_same e)
 
 -- an eta-long variable tells its number
 same_variable : (a : Skeleton) (v u : ℕ) → eta_long a (variable v) ≡ eta_long a (variable u) → v ≡ u

@@ -124,6 +124,12 @@ no_shift_type A = ap (λ ρ. rename_type ρ A) (fun_ext none) ∙ rename_identit
     none : (i : ℕ) → i + 0 ≡ i
     none i = omega arith
 
+-- a variable of the first context is one of both
+pub near_type : (O Q : List LfType) (i : ℕ) (A : LfType) → TypeAt O i A → TypeAt (onto O Q) i A
+near_type [] Q i A g = absurd g
+near_type (B ∷ O) Q zero A e = e
+near_type (B ∷ O) Q (suc i) A (C, g, e) = (C, near_type O Q i C g, e)
+
 pub far_type : (D G : List LfType) (j : ℕ) (A : LfType) → TypeAt G j A → TypeAt (onto D G) (j + length D) (rename_type (shift_by (length D)) A)
 far_type [] G j A g = subst (λ k. TypeAt G k (rename_type (shift_by 0) A)) (none j) (subst (TypeAt G j) (sym (no_shift_type A)) g)
   where

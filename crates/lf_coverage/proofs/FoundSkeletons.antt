@@ -1,6 +1,6 @@
 -- What is read off a term has the skeleton of the variable that it is read off for.
 use Rattle.std.proofs.Common.{◌≡◌, ℕ, zero, suc, List, [], ◌∷◌, refl, sym, ap, ◌∙◌, subst, inl, inr}
-use Rattle.std.specs.Prelude.{Bool, true, false, cond, Option, Some, None, ◌⊎◌}
+use Rattle.std.specs.Prelude.{Bool, true, false, cond, Option, Some, None, ◌⊎◌, not}
 use Rattle.lf.specs.Syntax.{constant, variable, metavariable, Term, Spine, lambda, root, nil, app, LfType, Kind, pi, atom, kind_pi, star, Skeleton, base, arrow, skeleton, kind_skeleton, lift_renaming, rename, rename_spine}
 use Rattle.lf.specs.AtOnce.{in_front}
 use Rattle.lf.specs.Substitution.{Image, put, lift, single, apply_image, substitute, substitute_spine, substitute_type, reduce}
@@ -24,8 +24,12 @@ use Rattle.lf_checks.proofs.Determined.{KeptSame, same_lift}
 use Rattle.lf_checks.proofs.EtaTest.{both_l, both_r}
 use Rattle.lf_checks.proofs.StrictTypes.{either_cases}
 use Rattle.lf_cases.specs.Case.{covered_places}
-use Rattle.lf_coverage.specs.Matching.{has_only, spine_has_only, is_outer, without, argument_variables, over_lambdas, read_off, arguments_of, found, found_spine, found_at, ArePlaces}
-use Rattle.lf_coverage.proofs.ReadOff.{bound, by_test, one}
+use Rattle.lf_coverage.specs.TermMatching.{bound}
+use Rattle.lf_coverage.specs.Matching.{has_only, spine_has_only, without, argument_variables, over_lambdas, read_off, arguments_of, found, found_spine, found_at, ArePlaces}
+use Rattle.lf_coverage.proofs.ReadOff.{one}
+use Rattle.lf_coverage.proofs.Choices.{second_of, decided}
+use Rattle.lf_coverage.proofs.Parts.{some_same, second_same, first_same, no_arrow}
+use Rattle.lf_coverage.proofs.EtaArguments.{bound_argument}
 
 -- what passes the test uses variables of the set only
 mutual
@@ -49,13 +53,13 @@ renames_under U Γ Δ ρ a h (suc i) s u g = h i s u g
 
 -- what stands at the case's side: bound variables have the skeletons that they have in the pattern, and the others those outside the binders
 abbrev pub BoundLined : ℕ → List LfType → List Skeleton → Type 0
-BoundLined n C Δ = (i : ℕ) (s : Skeleton) (A : LfType) → is_outer n i ≡ false → SkeletonAt Δ i s → TypeAt C i A → skeleton A ≡ s
+BoundLined n C Δ = (i : ℕ) (s : Skeleton) (A : LfType) → bound n i ≡ true → SkeletonAt Δ i s → TypeAt C i A → skeleton A ≡ s
 
 abbrev pub OuterLined : ℕ → List Skeleton → List Skeleton → Type 0
-OuterLined n Δ Ω = (i : ℕ) (s : Skeleton) → is_outer n i ≡ true → SkeletonAt Δ i s → SkeletonAt Ω (without n i) s
+OuterLined n Δ Ω = (i : ℕ) (s : Skeleton) → not (bound n i) ≡ true → SkeletonAt Δ i s → SkeletonAt Ω (without n i) s
 
 abbrev pub BoundIn : ℕ → (ℕ → Bool) → Type 0
-BoundIn n B = (i : ℕ) → B i ≡ true → is_outer n i ≡ false
+BoundIn n B = (i : ℕ) → B i ≡ true → bound n i ≡ true
 
 pub bound_lined_under : (n : ℕ) (C : List LfType) (Δ : List Skeleton) (A : LfType) → BoundLined n C Δ → BoundLined (suc n) (A ∷ C) (skeleton A ∷ Δ)
 bound_lined_under n C Δ A h zero s X o g e = ap skeleton e ∙ skeleton_renamed suc A ∙ g
@@ -75,20 +79,13 @@ none_under F h (suc i) e = h i e
 
 -- under the lambdas over the variables ys
 abbrev Placed : ℕ → List ℕ → List Skeleton → List Skeleton → Type 0
-Placed n ys Δ Ψ = (i : ℕ) (s : Skeleton) → either (is_in i ys) (is_outer n i) ≡ true → SkeletonAt Δ i s → SkeletonAt Ψ (over_lambdas ys n i) s
+Placed n ys Δ Ψ = (i : ℕ) (s : Skeleton) → either (is_in i ys) (not (bound n i)) ≡ true → SkeletonAt Δ i s → SkeletonAt Ψ (over_lambdas ys n i) s
 
 placed_next : (n : ℕ) (ys : List ℕ) (Δ Ψ : List Skeleton) (y : ℕ) (a : Skeleton) → ((s : Skeleton) → SkeletonAt Δ y s → a ≡ s) → Placed n ys Δ Ψ → Placed n (y ∷ ys) Δ (a ∷ Ψ)
 placed_next n ys Δ Ψ y a k h i s u g =
-    by_test (same_number i y)
+    decided (same_number i y)
     (λ q. subst (λ b. SkeletonAt (a ∷ Ψ) (cond b zero (suc (over_lambdas ys n i))) s) (sym q) (k s (subst (λ j. SkeletonAt Δ j s) (number_is i y q) g)))
-    (λ q. subst (λ b. SkeletonAt (a ∷ Ψ) (cond b zero (suc (over_lambdas ys n i))) s) (sym q) (h i s (subst (λ b. either (either b (is_in i ys)) (is_outer n i) ≡ true) q u) g))
-
-second_of : (a b : Bool) → either a b ≡ true → a ≡ false → b ≡ true
-second_of true b e f = absurd cc
-second_of false b e f = e
-
-some_is : {M N : Term} → Some M ≡ Some N → M ≡ N
-some_is e = cc
+    (λ q. subst (λ b. SkeletonAt (a ∷ Ψ) (cond b zero (suc (over_lambdas ys n i))) s) (sym q) (h i s (subst (λ b. either (either b (is_in i ys)) (not (bound n i)) ≡ true) q u) g))
 
 module _ (Σ : Signature) (ok : IsSignature Σ) where
   mutual
@@ -106,12 +103,12 @@ module _ (Σ : Signature) (ok : IsSignature Σ) where
     spine_renamed_on U Γ Δ ρ (app M S) (base c) v h u s = s
 
   -- a term under lambdas over the arguments of a spine
-  abstracted : (B : ℕ → Bool) (n : ℕ) (C : List LfType) (Δ : List Skeleton) → IsContext Σ C → BoundLined n C Δ → BoundIn n B → (T : Spine) (A Z : LfType) (ys : List ℕ) (Ψ : List Skeleton) (M : Term) → IsType Σ C A → SpineType Σ C T A Z → pattern_arguments B ys T ≡ true → Placed n ys Δ Ψ → Uses (λ i. either (is_in i (argument_variables ys T)) (is_outer n i)) M → TermSkeleton (constant_skeletons Σ) Δ M (skeleton Z) → TermSkeleton (constant_skeletons Σ) Ψ (lambdas (argument_count T) (rename (over_lambdas (argument_variables ys T) n) M)) (skeleton A)
-  abstracted B n C Δ c bl bi nil A Z ys Ψ M t s e h u m = subst (λ X. TermSkeleton (constant_skeletons Σ) Ψ (rename (over_lambdas ys n) M) (skeleton X)) (sym s) (renamed_on (λ i. either (is_in i ys) (is_outer n i)) Δ Ψ (over_lambdas ys n) M (skeleton Z) h u m)
+  abstracted : (B : ℕ → Bool) (n : ℕ) (C : List LfType) (Δ : List Skeleton) → IsContext Σ C → BoundLined n C Δ → BoundIn n B → (T : Spine) (A Z : LfType) (ys : List ℕ) (Ψ : List Skeleton) (M : Term) → IsType Σ C A → SpineType Σ C T A Z → pattern_arguments B ys T ≡ true → Placed n ys Δ Ψ → Uses (λ i. either (is_in i (argument_variables ys T)) (not (bound n i))) M → TermSkeleton (constant_skeletons Σ) Δ M (skeleton Z) → TermSkeleton (constant_skeletons Σ) Ψ (lambdas (argument_count T) (rename (over_lambdas (argument_variables ys T) n) M)) (skeleton A)
+  abstracted B n C Δ c bl bi nil A Z ys Ψ M t s e h u m = subst (λ X. TermSkeleton (constant_skeletons Σ) Ψ (rename (over_lambdas ys n) M) (skeleton X)) (sym s) (renamed_on (λ i. either (is_in i ys) (not (bound n i))) Δ Ψ (over_lambdas ys n) M (skeleton Z) h u m)
   abstracted B n C Δ c bl bi (app Q T) (atom d V) Z ys Ψ M t s e h u m = absurd s
   abstracted B n C Δ c bl bi (app Q T) (pi A1 A2) Z ys Ψ M (t1, t2) (r, s) e h u m =
       let o : Option ℕ = head_variable zero Q in
-      let (y, b, oe, by, ns, me) = bound Σ ok B ys Q o (both_l (is_bound B ys Q o) (pattern_arguments B (with_seen o ys) T) e) in
+      let (y, b, oe, by, ns, me) = bound_argument B ys Q o (both_l (is_bound B ys Q o) (pattern_arguments B (with_seen o ys) T) e) in
       let r' : HasType Σ C (eta_long b (variable y)) A1 = subst (λ X. HasType Σ C X A1) me r in
       let (Y, g) = eta_at_type Σ ok b C y nil A1 r' in
       let (f, yw) = eta_spine Σ ok b C y nil Y A1 c g t1 r' in
@@ -128,19 +125,19 @@ module _ (Σ : Signature) (ok : IsSignature Σ) where
     found_skeleton B F n C Δ Ω ν x a N (root h S) (pi A1 P) c t bl ol bi kb nf g q m e f = absurd q
     found_skeleton B F n C Δ Ω ν x a N (root (constant d) S) (atom b T) c t bl ol bi kb nf g (A, k, s) (w, v, m) e f = found_spine_skeleton B F n C Δ Ω ν x a N S A (atom b T) c (constant_type Σ ok C d A k) bl ol bi kb nf g s (base b) (subst (λ z. SpineSkeleton (constant_skeletons Σ) Δ (substitute_spine reduce ν S) z (base b)) (constant_same d A w k v) m) e f
     found_skeleton B F n C Δ Ω ν x a N (root (metavariable d) S) (atom b T) c t bl ol bi kb nf g (A, k, s) m e f = absurd k
-    found_skeleton B F n C Δ Ω ν x a N (root (variable j) S) (atom b T) c t bl ol bi kb nf g (A, k, s) m e f = by_test (both (same_number j x) (pattern_arguments B [] S)) here (inside (λ w v z. found_spine_skeleton B F n C Δ Ω ν x a N S A (atom b T) c (declared_is_type Σ ok C j A c k) bl ol bi kb nf g s (base b) w v z))
+    found_skeleton B F n C Δ Ω ν x a N (root (variable j) S) (atom b T) c t bl ol bi kb nf g (A, k, s) m e f = decided (both (same_number j x) (pattern_arguments B [] S)) here (inside (λ w v z. found_spine_skeleton B F n C Δ Ω ν x a N S A (atom b T) c (declared_is_type Σ ok C j A c k) bl ol bi kb nf g s (base b) w v z))
       where
         M : Term
         M = apply_image reduce (ν j) (substitute_spine reduce ν S)
 
         K : ℕ → Bool
-        K i = either (is_in i (argument_variables [] S)) (is_outer n i)
+        K i = either (is_in i (argument_variables [] S)) (not (bound n i))
 
         L : Term
         L = lambdas (argument_count S) (rename (over_lambdas (argument_variables [] S) n) M)
 
         only_some : has_only K M ≡ true → read_off n S M ≡ Some N → L ≡ N
-        only_some z r = some_is (sym (ap (λ b. cond b (Some L) None) z) ∙ r)
+        only_some z r = some_same (sym (ap (λ b. cond b (Some L) None) z) ∙ r)
 
         never : has_only K M ≡ false → read_off n S M ≡ Some N → ⊥
         never z r = let q : None ≡ Some N = sym (ap (λ b. cond b (Some L) None) z) ∙ r in absurd cc
@@ -150,7 +147,7 @@ module _ (Σ : Signature) (ok : IsSignature Σ) where
             let r : read_off n S M ≡ Some N = sym (ap (λ b. cond b (read_off n S M) (found_spine B F n x S (arguments_of M))) z) ∙ f in
             let jx : j ≡ x = number_is j x (both_l (same_number j x) (pattern_arguments B [] S) z) in
             let sa : skeleton A ≡ a = one Σ ok (context_skeletons C) x (skeleton A) a (subst (λ i. SkeletonAt (context_skeletons C) i (skeleton A)) jx (variable_has_skeleton C j A k)) g in
-            by_test (has_only K M)
+            decided (has_only K M)
             (λ y. subst (λ X. TermSkeleton (constant_skeletons Σ) Ω X a) (only_some y r) (subst (TermSkeleton (constant_skeletons Σ) Ω L) sa (abstracted B n C Δ c bl bi S A (atom b T) [] Ω M (declared_is_type Σ ok C j A c k) s (both_r (same_number j x) (pattern_arguments B [] S) z) (λ i s o g. ol i s o g) (only_uses K M y) m)))
             (λ y. absurd (never y r))
 
@@ -171,7 +168,7 @@ module _ (Σ : Signature) (ok : IsSignature Σ) where
     found_spine_skeleton B F n C Δ Ω ν x a N nil A Z c t bl ol bi kb nf g s u m e f = absurd cc
     found_spine_skeleton B F n C Δ Ω ν x a N (app Q S) (atom b T) Z c t bl ol bi kb nf g s u m e f = absurd s
     found_spine_skeleton B F n C Δ Ω ν x a N (app Q S) (pi A1 A2) Z c (t1, t2) bl ol bi kb nf g (q, s) u (m, ms) e f =
-        by_test (strict B F x Q)
+        decided (strict B F x Q)
         (λ z. found_skeleton B F n C Δ Ω ν x a N Q A1 c t1 bl ol bi kb nf g q m z (sym (ap (λ b. cond b (found B F n x Q (substitute reduce ν Q)) (found_spine B F n x S (substitute_spine reduce ν S))) z) ∙ f))
         (λ z. found_spine_skeleton B F n C Δ Ω ν x a N S (instantiate_type A1 Q A2) Z c (instance_is_type Σ ok C A1 Q A2 c t1 t2 q) bl ol bi kb nf g s u (subst (λ w. SpineSkeleton (constant_skeletons Σ) Δ (substitute_spine reduce ν S) w u) (sym (skeleton_substituted reduce (single (skeleton A1) Q) A2)) ms) (second_of (strict B F x Q) (strict_spine B F x S) e z) (sym (ap (λ b. cond b (found B F n x Q (substitute reduce ν Q)) (found_spine B F n x S (substitute_spine reduce ν S))) z) ∙ f))
 
@@ -181,21 +178,9 @@ module _ (Σ : Signature) (ok : IsSignature Σ) where
   found_at_skeleton F C G ν θ x a N (app Q S) L [] T K c k nf g s ks p h i e f = absurd i
   found_at_skeleton F C G ν θ x a N (app Q S) star (M ∷ Ms) T K c k nf g s ks p h i e f = absurd s
   found_at_skeleton F C G ν θ x a N (app Q S) (kind_pi A L) (M ∷ Ms) nil K c k nf g s ks p h i e f = absurd h
-  found_at_skeleton F C G ν θ x a N (app Q S) (kind_pi A L) (M ∷ Ms) (app R T) star c k nf g s ks p h i e f = absurd (no ks)
-    where
-      no : {t u : Skeleton} → arrow t u ≡ base 0 → ⊥
-      no e = cc
-  found_at_skeleton F C G ν θ x a N (app Q S) (kind_pi A L) (None ∷ Ms) (app R T) (kind_pi A' K) c (t1, t2) nf g (q, s) ks p h i e f = found_at_skeleton F C G ν (in_front (put (skeleton A') R) θ) x a N S (instantiate_kind A Q L) Ms T K c (substitution_keeps_kinds Σ ok (A ∷ C) C (single (skeleton A) Q) L (single_substitution_typed Σ ok C A Q (skeleton_context_of Σ ok C c) (type_by_skeletons Σ C A t1) q) t2) nf g s (kind_skeleton_substituted 0 reduce (single (skeleton A) Q) L ∙ rest ks) p h i e f
-    where
-      rest : {t u v w : Skeleton} → arrow t u ≡ arrow v w → u ≡ w
-      rest e = cc
+  found_at_skeleton F C G ν θ x a N (app Q S) (kind_pi A L) (M ∷ Ms) (app R T) star c k nf g s ks p h i e f = absurd (no_arrow ks)
+  found_at_skeleton F C G ν θ x a N (app Q S) (kind_pi A L) (None ∷ Ms) (app R T) (kind_pi A' K) c (t1, t2) nf g (q, s) ks p h i e f = found_at_skeleton F C G ν (in_front (put (skeleton A') R) θ) x a N S (instantiate_kind A Q L) Ms T K c (substitution_keeps_kinds Σ ok (A ∷ C) C (single (skeleton A) Q) L (single_substitution_typed Σ ok C A Q (skeleton_context_of Σ ok C c) (type_by_skeletons Σ C A t1) q) t2) nf g s (kind_skeleton_substituted 0 reduce (single (skeleton A) Q) L ∙ second_same ks) p h i e f
   found_at_skeleton F C G ν θ x a N (app Q S) (kind_pi A L) (Some M ∷ Ms) (app R T) (kind_pi A' K) c (t1, t2) nf g (q, s) ks (r, p) (h, hs) (i, is) e f =
-      by_test (strict nothing F x Q)
-      (λ z. found_skeleton nothing F zero C (context_skeletons G) (context_skeletons G) ν x a N Q A c t1 (λ j s X o g k. absurd cc) (λ j s o g. g) (λ j b. absurd cc) (λ j b. absurd cc) nf g q (subst (λ X. TermSkeleton (constant_skeletons Σ) (context_skeletons G) X (skeleton A)) (sym h ∙ i) (subst (TermSkeleton (constant_skeletons Σ) (context_skeletons G) R) (skeleton_substituted reduce θ A' ∙ sym (first ks)) (typed_has_skeleton Σ G R (substitute_type reduce θ A') r))) z (ap (found nothing F zero x Q) (sym i) ∙ sym (ap (λ b. cond b (found nothing F zero x Q M) (found_at nothing F zero x S Ms)) z) ∙ f))
-      (λ z. found_at_skeleton F C G ν (in_front (put (skeleton A') R) θ) x a N S (instantiate_kind A Q L) Ms T K c (substitution_keeps_kinds Σ ok (A ∷ C) C (single (skeleton A) Q) L (single_substitution_typed Σ ok C A Q (skeleton_context_of Σ ok C c) (type_by_skeletons Σ C A t1) q) t2) nf g s (kind_skeleton_substituted 0 reduce (single (skeleton A) Q) L ∙ rest ks) p hs is (second_of (strict nothing F x Q) (strict_at (covered_places Ms) nothing F x S) e z) (sym (ap (λ b. cond b (found nothing F zero x Q M) (found_at nothing F zero x S Ms)) z) ∙ f))
-    where
-      first : {t u v w : Skeleton} → arrow t u ≡ arrow v w → t ≡ v
-      first e = cc
-
-      rest : {t u v w : Skeleton} → arrow t u ≡ arrow v w → u ≡ w
-      rest e = cc
+      decided (strict nothing F x Q)
+      (λ z. found_skeleton nothing F zero C (context_skeletons G) (context_skeletons G) ν x a N Q A c t1 (λ j s X o g k. absurd cc) (λ j s o g. g) (λ j b. absurd cc) (λ j b. absurd cc) nf g q (subst (λ X. TermSkeleton (constant_skeletons Σ) (context_skeletons G) X (skeleton A)) (sym h ∙ i) (subst (TermSkeleton (constant_skeletons Σ) (context_skeletons G) R) (skeleton_substituted reduce θ A' ∙ sym (first_same ks)) (typed_has_skeleton Σ G R (substitute_type reduce θ A') r))) z (ap (found nothing F zero x Q) (sym i) ∙ sym (ap (λ b. cond b (found nothing F zero x Q M) (found_at nothing F zero x S Ms)) z) ∙ f))
+      (λ z. found_at_skeleton F C G ν (in_front (put (skeleton A') R) θ) x a N S (instantiate_kind A Q L) Ms T K c (substitution_keeps_kinds Σ ok (A ∷ C) C (single (skeleton A) Q) L (single_substitution_typed Σ ok C A Q (skeleton_context_of Σ ok C c) (type_by_skeletons Σ C A t1) q) t2) nf g s (kind_skeleton_substituted 0 reduce (single (skeleton A) Q) L ∙ second_same ks) p hs is (second_of (strict nothing F x Q) (strict_at (covered_places Ms) nothing F x S) e z) (sym (ap (λ b. cond b (found nothing F zero x Q M) (found_at nothing F zero x S Ms)) z) ∙ f))

@@ -10,11 +10,11 @@ use Rattle.lf.specs.Eta.{eta_long}
 use Rattle.lf.specs.Typing.{Signature, TypeAt, ImageHasType, instantiate_type, HasType, SpineType, SpineFitsKind, IsType, IsKind, IsContext, IsSignature}
 use Rattle.lf.specs.Variables.{target, target_arguments, under, hide, everything, nothing, Uses, UsesType, SameOn, same_number, at_variable, IsTypedRenamingOn}
 use Rattle.lf.proofs.Agreement.{agree_on, agree_on_type, uses_type_within}
-use Rattle.lf.proofs.Checker.{number_is}
+use Rattle.lf.proofs.Checker.{number_is, number_itself}
 use Rattle.lf.proofs.Closed.{closed_type_substituted}
 use Rattle.lf.proofs.Decidability.{variable_type_unique}
-use Rattle.lf.proofs.Eta.{EtaLike, Fits, eta_renames, reduce_nil, substitute_eta_expand}
-use Rattle.lf.proofs.EtaTypes.{SameForm, eta_form, eta_spine, eta_at_type, eta_type}
+use Rattle.lf.proofs.Eta.{reduce_nil, substitute_eta_expand}
+use Rattle.lf.proofs.EtaTypes.{SameForm, eta_spine, eta_at_type}
 use Rattle.lf.proofs.Partial.{skeletons_beside, variable_has_skeleton_beside, type_by_skeletons_beside, substitute_instance, skeleton_context_of_beside, partial_substitution_keeps_types, uses_all, uses_type_all}
 use Rattle.lf.proofs.Patch.{beyond, pick, patch, patch_same, skeleton_beside_has_variable}
 use Rattle.lf.proofs.Renaming.{renamings_compose, reduction_beta, substitute_identity}
@@ -48,7 +48,11 @@ use Rattle.lf_coverage.specs.MatchingLaws.{HeadMatchIsTyped}
 use Rattle.lf_coverage.proofs.FoundSkeletons.{found_at_skeleton, none_under}
 use Rattle.lf_coverage.proofs.GroundHolds.{head_ground_holds_types}
 use Rattle.lf_coverage.proofs.Matching.{found_is, goal_agrees, ground_is_strict, is_own, none_fixed}
-use Rattle.lf_coverage.proofs.ReadOff.{bound, by_test, either_second, moved_in, renames, same_refl, with_variable}
+use Rattle.lf_coverage.proofs.ReadOff.{moved_in, with_variable}
+use Rattle.lf_coverage.proofs.Choices.{second_of, either_second, decided}
+use Rattle.lf_coverage.proofs.Carried.{beyond_at}
+use Rattle.lf_coverage.proofs.Parts.{some_same}
+use Rattle.lf_coverage.proofs.EtaArguments.{bound_argument, argument_renames, argument_renames_type, newest_at}
 
 -- y put in for the newest variable, and back
 abbrev back : ℕ → ℕ → ℕ
@@ -56,10 +60,10 @@ back y i = cond (same_number i y) zero (suc i)
 
 module _ (y : ℕ) (W : ℕ → Bool) (free : W y ≡ true → ⊥) where
   back_moves : SameOn W (λ i. keep (back y i)) (λ i. keep (suc i))
-  back_moves i e = by_test (same_number i y) (λ q. absurd (free (subst (λ j. W j ≡ true) (number_is i y q) e))) (λ q. ap (λ b. keep (cond b zero (suc i))) q)
+  back_moves i e = decided (same_number i y) (λ q. absurd (free (subst (λ j. W j ≡ true) (number_is i y q) e))) (λ q. ap (λ b. keep (cond b zero (suc i))) q)
 
   back_stays : SameOn (under W) (λ i. keep (back y (at_variable y i))) keep
-  back_stays zero e = ap (λ b. keep (cond b zero (suc y))) (same_refl y)
+  back_stays zero e = ap (λ b. keep (cond b zero (suc y))) (number_itself y)
   back_stays (suc i) e = back_moves i e
 
   back_weakens : (X : LfType) → UsesType W X → rename_type (back y) X ≡ weaken X
@@ -72,12 +76,8 @@ module _ (y : ℕ) (W : ℕ → Bool) (free : W y ≡ true → ⊥) where
   back_type A u = renamings_compose_type (back y) (at_variable y) A ∙ sym (substitution_as_renaming_type reduce (λ i. back y (at_variable y i)) A) ∙ agree_on_type reduce (under W) (λ i. keep (back y (at_variable y i))) keep A back_stays u ∙ substitute_identity_type reduce A
 
 into_variable : (y : ℕ) (W : ℕ → Bool) (i : ℕ) → under W i ≡ true → with_variable y W (at_variable y i) ≡ true
-into_variable y W zero e = ap (λ b. either b (W y)) (same_refl y)
+into_variable y W zero e = ap (λ b. either b (W y)) (number_itself y)
 into_variable y W (suc i) e = either_second (same_number i y) (W i) e
-
-pub second_of : (a b : Bool) → either a b ≡ true → a ≡ false → b ≡ true
-second_of true b e f = absurd cc
-second_of false b e f = e
 
 -- each bound variable has its type under these values
 abbrev pub BoundTyped : (ℕ → Bool) → List LfType → List LfType → (ℕ → Image) → Type 0
@@ -101,28 +101,6 @@ module _ (Σ : Signature) (ok : IsSignature Σ) (R : List Skeleton) where
   through : (C D : List LfType) (ν : ℕ → Image) (A : LfType) (M : Term) (B : LfType) → SubstitutionBySkeletons (constant_skeletons Σ) (skeletons_beside [] C) (skeletons_beside R D) ν → HasType Σ C M A → IsType Σ (A ∷ C) B → substitute_type reduce ν (instantiate_type A M B) ≡ instantiate_type (substitute_type reduce ν A) (substitute reduce ν M) (substitute_type reduce (lift ν) B)
   through C D ν A M B w m b = substitute_instance Σ ok [] R C D ν A M B w m (type_by_skeletons_beside Σ [] (A ∷ C) B b)
 
-  at_eta : (D : List LfType) (y : ℕ) (b : Skeleton) (A B : LfType) → TypeAt D y A → SameForm b (skeleton A) → TypeBySkeletons (family_skeletons Σ) (constant_skeletons Σ) (skeleton A ∷ skeletons_beside R D) B → instantiate_type A (eta_long b (variable y)) B ≡ rename_type (at_variable y) B
-  at_eta D y b A B g f k = eta_type Σ ok (skeleton A ∷ skeletons_beside R D) (skeletons_beside R D) (single (skeleton A) (eta_long b (variable y))) (at_variable y) B like fit (renames Σ ok (skeletons_beside R D) y (skeleton A) (variable_has_skeleton_beside R D y A g)) k
-    where
-      like : EtaLike (λ c. Unit {0}) (single (skeleton A) (eta_long b (variable y))) (at_variable y)
-      like zero = (tt, eta_form b (skeleton A) (variable y) nil f)
-      like (suc i) = refl
-
-      fit : Fits (skeleton A ∷ skeletons_beside R D) (single (skeleton A) (eta_long b (variable y)))
-      fit zero t e = e
-      fit (suc i) t e = tt
-
-  term_at_eta : (Δ : List Skeleton) (s1 s2 b : Skeleton) (y : ℕ) (N : Term) → TermSkeleton (constant_skeletons Σ) (s1 ∷ Δ) N s2 → SkeletonAt Δ y s1 → SameForm b s1 → substitute reduce (single s1 (eta_long b (variable y))) N ≡ rename (at_variable y) N
-  term_at_eta Δ s1 s2 b y N n g f = eta_renames (constant_skeletons Σ) (s1 ∷ Δ) Δ (single s1 (eta_long b (variable y))) (at_variable y) N s2 like fit (renames Σ ok Δ y s1 g) n
-    where
-      like : EtaLike (λ c. Unit {0}) (single s1 (eta_long b (variable y))) (at_variable y)
-      like zero = (tt, eta_form b s1 (variable y) nil f)
-      like (suc i) = refl
-
-      fit : Fits (s1 ∷ Δ) (single s1 (eta_long b (variable y)))
-      fit zero t e = e
-      fit (suc i) t e = tt
-
   -- a value that is typed on distinct bound variables is typed
   pattern_back : (B W : ℕ → Bool) (C D : List LfType) (ν : ℕ → Image) (ys : List ℕ) (S : Spine) (A Z : LfType) (a : Skeleton) (N : Term) → IsContext Σ C → IsType Σ C A → SubstitutionBySkeletons (constant_skeletons Σ) (skeletons_beside [] C) (skeletons_beside R D) ν → KeptSame B ν ν → BoundTyped B C D ν → SpineType Σ C S A Z → pattern_arguments B ys S ≡ true → skeleton A ≡ a → TermSkeleton (constant_skeletons Σ) (skeletons_beside R D) N a → Uses W N → HoldsTypes W D → UsesType W (substitute_type reduce ν A) → ((i : ℕ) → W i ≡ true → B i ≡ true → is_in i ys ≡ false → ⊥) → HasType Σ D (reduce a N (substitute_spine reduce ν S)) (substitute_type reduce ν Z) → HasType Σ D N (substitute_type reduce ν A)
   pattern_back B W C D ν ys nil A Z a N c t w kb bt s e q m u ht ut p h = subst (λ X. HasType Σ D N (substitute_type reduce ν X)) (sym s) (subst (λ M. HasType Σ D M (substitute_type reduce ν Z)) (reduce_nil a N) h)
@@ -131,7 +109,7 @@ module _ (Σ : Signature) (ok : IsSignature Σ) (R : List Skeleton) where
   pattern_back B W C D ν ys (app M S) (pi A1 A2) Z (arrow s1 s2) (root k T) c t w kb bt s e q m u ht ut p h = absurd m
   pattern_back B W C D ν ys (app M S) (pi A1 A2) Z (arrow s1 s2) (lambda N) c (t1, t2) w kb bt (r, s) e q m u ht (u1, u2) p h =
       let o : Option ℕ = head_variable zero M in
-      let (y, b, oe, by, ns, me) = bound Σ ok B ys M o (both_l (is_bound B ys M o) (pattern_arguments B (with_seen o ys) S) e) in
+      let (y, b, oe, by, ns, me) = bound_argument B ys M o (both_l (is_bound B ys M o) (pattern_arguments B (with_seen o ys) S) e) in
       let ks = (kb y by).0 in
       let r' : HasType Σ C (eta_long b (variable y)) A1 = subst (λ X. HasType Σ C X A1) me r in
       let (Y, g) = eta_at_type Σ ok b C y nil A1 r' in
@@ -142,10 +120,10 @@ module _ (Σ : Signature) (ok : IsSignature Σ) (R : List Skeleton) where
       let gd : TypeAt D y (substitute_type reduce ν A1) = bt y A1 by (subst (TypeAt C y) yw g) in
       let sy : SkeletonAt (skeletons_beside R D) y s1 = subst (SkeletonAt (skeletons_beside R D) y) (sk ∙ q1) (variable_has_skeleton_beside R D y (substitute_type reduce ν A1) gd) in
       let es : substitute reduce ν M ≡ eta_long b (variable y) = ap (substitute reduce ν) me ∙ substitute_eta_expand ν b (variable y) (variable y) nil ks in
-      let ev : reduce (arrow s1 s2) (lambda N) (app (substitute reduce ν M) (substitute_spine reduce ν S)) ≡ reduce s2 (rename (at_variable y) N) (substitute_spine reduce ν S) = reduction_beta s1 s2 N (substitute reduce ν M) (substitute_spine reduce ν S) ∙ ap (λ X. reduce s2 (substitute reduce (single s1 X) N) (substitute_spine reduce ν S)) es ∙ ap (λ X. reduce s2 X (substitute_spine reduce ν S)) (term_at_eta (skeletons_beside R D) s1 s2 b y N m sy (subst (SameForm b) q1 f)) in
-      let m' : TermSkeleton (constant_skeletons Σ) (skeletons_beside R D) (rename (at_variable y) N) s2 = renaming_keeps_skeletons (constant_skeletons Σ) (s1 ∷ skeletons_beside R D) (skeletons_beside R D) (at_variable y) N s2 (renames Σ ok (skeletons_beside R D) y s1 sy) m in
+      let ev : reduce (arrow s1 s2) (lambda N) (app (substitute reduce ν M) (substitute_spine reduce ν S)) ≡ reduce s2 (rename (at_variable y) N) (substitute_spine reduce ν S) = reduction_beta s1 s2 N (substitute reduce ν M) (substitute_spine reduce ν S) ∙ ap (λ X. reduce s2 (substitute reduce (single s1 X) N) (substitute_spine reduce ν S)) es ∙ ap (λ X. reduce s2 X (substitute_spine reduce ν S)) (argument_renames (skeletons_beside R D) s1 b y sy (subst (SameForm b) q1 f) (constant_skeletons Σ) N s2 m) in
+      let m' : TermSkeleton (constant_skeletons Σ) (skeletons_beside R D) (rename (at_variable y) N) s2 = renaming_keeps_skeletons (constant_skeletons Σ) (s1 ∷ skeletons_beside R D) (skeletons_beside R D) (at_variable y) N s2 (newest_at (skeletons_beside R D) y s1 sy) m in
       let k2 : TypeBySkeletons (family_skeletons Σ) (constant_skeletons Σ) (skeleton (substitute_type reduce ν A1) ∷ skeletons_beside R D) (substitute_type reduce (lift ν) A2) = substitution_keeps_types_by_skeletons (family_skeletons Σ) (constant_skeletons Σ) (skeleton A1 ∷ skeletons_beside [] C) (skeleton (substitute_type reduce ν A1) ∷ skeletons_beside R D) (lift ν) A2 (goes_under C D ν A1 w) (type_by_skeletons_beside Σ [] (A1 ∷ C) A2 t2) in
-      let eq : substitute_type reduce ν (instantiate_type A1 M A2) ≡ rename_type (at_variable y) (substitute_type reduce (lift ν) A2) = through C D ν A1 M A2 w r t2 ∙ ap (λ X. instantiate_type (substitute_type reduce ν A1) X (substitute_type reduce (lift ν) A2)) es ∙ at_eta D y b (substitute_type reduce ν A1) (substitute_type reduce (lift ν) A2) gd (subst (SameForm b) (sym sk) f) k2 in
+      let eq : substitute_type reduce ν (instantiate_type A1 M A2) ≡ rename_type (at_variable y) (substitute_type reduce (lift ν) A2) = through C D ν A1 M A2 w r t2 ∙ ap (λ X. instantiate_type (substitute_type reduce ν A1) X (substitute_type reduce (lift ν) A2)) es ∙ argument_renames_type (skeletons_beside R D) (skeleton (substitute_type reduce ν A1)) b y (variable_has_skeleton_beside R D y (substitute_type reduce ν A1) gd) (subst (SameForm b) (sym sk) f) Σ ok (substitute_type reduce (lift ν) A2) k2 in
       let ih : HasType Σ D (rename (at_variable y) N) (substitute_type reduce ν (instantiate_type A1 M A2)) = pattern_back B (with_variable y W) C D ν (with_seen o ys) S (instantiate_type A1 M A2) Z s2 (rename (at_variable y) N) c (instance_is_type Σ ok C A1 M A2 c t1 t2 r) w kb bt s (both_r (is_bound B ys M o) (pattern_arguments B (with_seen o ys) S) e) (skeleton_substituted reduce (single (skeleton A1) M) A2 ∙ q2) m' (moved_in y W N u) (holds y (substitute_type reduce ν A1) gd u1) (subst (UsesType (with_variable y W)) (sym eq) (uses_type_renamed (under W) (with_variable y W) (at_variable y) (substitute_type reduce (lift ν) A2) (into_variable y W) u2)) (λ i v b h. later y i v b (subst (λ z. is_in i (with_seen z ys) ≡ false) oe h)) (subst (λ X. HasType Σ D X (substitute_type reduce ν Z)) ev h) in
       let free : W y ≡ true → ⊥ = λ v. p y v by ns in
       let z : HasType Σ (substitute_type reduce ν A1 ∷ D) (rename (back y) (rename (at_variable y) N)) (rename_type (back y) (rename_type (at_variable y) (substitute_type reduce (lift ν) A2))) = strengthening_keeps_typing Σ ok (with_variable y W) D (substitute_type reduce ν A1 ∷ D) (back y) (rename (at_variable y) N) (rename_type (at_variable y) (substitute_type reduce (lift ν) A2)) (moves y (substitute_type reduce ν A1) gd u1 free) (moved_in y W N u) (subst (HasType Σ D (rename (at_variable y) N)) eq ih) in
@@ -155,12 +133,12 @@ module _ (Σ : Signature) (ok : IsSignature Σ) (R : List Skeleton) where
       inside y i v = either_second (same_number i y) (W i) v
 
       holds : (y : ℕ) (X : LfType) → TypeAt D y X → UsesType W X → HoldsTypes (with_variable y W) D
-      holds y X gd ux i V k z = by_test (same_number i y)
+      holds y X gd ux i V k z = decided (same_number i y)
           (λ q. uses_type_within W (with_variable y W) V (inside y) (subst (UsesType W) (variable_type_unique D y X V gd (subst (λ j. TypeAt D j V) (number_is i y q) k)) ux))
           (λ q. uses_type_within W (with_variable y W) V (inside y) (ht i V k (second_of (same_number i y) (W i) z q)))
 
       moves : (y : ℕ) (X : LfType) → TypeAt D y X → UsesType W X → (W y ≡ true → ⊥) → IsTypedRenamingOn (with_variable y W) D (X ∷ D) (back y)
-      moves y X gd ux free i V k z = by_test (same_number i y)
+      moves y X gd ux free i V k z = decided (same_number i y)
           (λ q.
           let e : X ≡ V = variable_type_unique D y X V gd (subst (λ j. TypeAt D j V) (number_is i y q) k) in
           subst (λ b. TypeAt (X ∷ D) (cond b zero (suc i)) (rename_type (back y) V)) (sym q) (back_weakens y W free V (subst (UsesType W) e ux) ∙ ap weaken (sym e)))
@@ -173,9 +151,6 @@ module _ (Σ : Signature) (ok : IsSignature Σ) (R : List Skeleton) where
       later : (y i : ℕ) → with_variable y W i ≡ true → B i ≡ true → is_in i (y ∷ ys) ≡ false → ⊥
       later y i v b h = let (v', h') = split (same_number i y) (W i) (is_in i ys) v h in p i v' b h'
 
-  some_type : {A A' : LfType} → Some A ≡ Some A' → A ≡ A'
-  some_type e = cc
-
   mutual
     -- The lemma
     pub typed_value : (B F W : ℕ → Bool) (C D : List LfType) (ν : ℕ → Image) (x : ℕ) (X : LfType) (a : Skeleton) (N Q : Term) (P : LfType) → IsContext Σ C → IsType Σ C P → SubstitutionBySkeletons (constant_skeletons Σ) (skeletons_beside [] C) (skeletons_beside R D) ν → KeptSame B ν ν → BoundTyped B C D ν → ((i : ℕ) → F i ≡ true → ⊥) → Apart W B → HoldsTypes W D → ν x ≡ put a N → Uses W N → UsesType W (substitute_type reduce ν X) → TypeAt C x X → HasType Σ C Q P → HasType Σ D (substitute reduce ν Q) (substitute_type reduce ν P) → strict B F x Q ≡ true → HasType Σ D N (substitute_type reduce ν X)
@@ -184,9 +159,9 @@ module _ (Σ : Signature) (ok : IsSignature Σ) (R : List Skeleton) where
         (subst (HasType Σ (substitute_type reduce ν A1 ∷ D) (rename suc N)) (lifted_substitution_weakened_type ν X) (typed_value (under B) (hide F) (hide W) (A1 ∷ C) (substitute_type reduce ν A1 ∷ D) (lift ν) (suc x) (weaken X) a (rename suc N) Q P (c, t1) t2 (goes_under C D ν A1 w) (same_lift B ν ν kb) (bound_typed_under B C D ν A1 bt) (none_under F nf) (apart_lift W B p) (holds_under W D (substitute_type reduce ν A1) ht) (ap (rename_image suc) e) (uses_renamed W (hide W) suc N (λ i v. v) u) (subst (UsesType (hide W)) (sym (lifted_substitution_weakened_type ν X)) (uses_type_renamed W (hide W) suc (substitute_type reduce ν X) (λ i v. v) ux)) (X, g, refl) q m z))
     typed_value B F W C D ν x X a N (lambda Q) (atom d T) c t w kb bt nf p ht e u ux g q m z = absurd q
     typed_value B F W C D ν x X a N (root h S) (pi A1 P) c t w kb bt nf p ht e u ux g q m z = absurd q
-    typed_value B F W C D ν x X a N (root (constant d) S) (atom b T) c t w kb bt nf p ht e u ux g (A, k, s) (A', k', m) z = typed_spine B F W C D ν x X a N S A (atom b T) c (constant_type Σ ok C d A k) w kb bt nf p ht e u ux g s (atom b (substitute_spine reduce ν T)) (subst (λ V. SpineType Σ D (substitute_spine reduce ν S) V (atom b (substitute_spine reduce ν T))) (some_type (sym k' ∙ k) ∙ sym (closed_type_substituted Σ reduce ν A (ok.types_ok d A k))) m) z
+    typed_value B F W C D ν x X a N (root (constant d) S) (atom b T) c t w kb bt nf p ht e u ux g (A, k, s) (A', k', m) z = typed_spine B F W C D ν x X a N S A (atom b T) c (constant_type Σ ok C d A k) w kb bt nf p ht e u ux g s (atom b (substitute_spine reduce ν T)) (subst (λ V. SpineType Σ D (substitute_spine reduce ν S) V (atom b (substitute_spine reduce ν T))) (some_same (sym k' ∙ k) ∙ sym (closed_type_substituted Σ reduce ν A (ok.types_ok d A k))) m) z
     typed_value B F W C D ν x X a N (root (metavariable d) S) (atom b T) c t w kb bt nf p ht e u ux g (A, k, s) m z = absurd k
-    typed_value B F W C D ν x X a N (root (variable j) S) (atom b T) c t w kb bt nf p ht e u ux g (A, k, s) m z = by_test (both (same_number j x) (pattern_arguments B [] S)) here (inside (λ v y. typed_spine B F W C D ν x X a N S A (atom b T) c (declared_is_type Σ ok C j A c k) w kb bt nf p ht e u ux g s (atom b (substitute_spine reduce ν T)) v y))
+    typed_value B F W C D ν x X a N (root (variable j) S) (atom b T) c t w kb bt nf p ht e u ux g (A, k, s) m z = decided (both (same_number j x) (pattern_arguments B [] S)) here (inside (λ v y. typed_spine B F W C D ν x X a N S A (atom b T) c (declared_is_type Σ ok C j A c k) w kb bt nf p ht e u ux g s (atom b (substitute_spine reduce ν T)) v y))
       where
         here : both (same_number j x) (pattern_arguments B [] S) ≡ true → HasType Σ D N (substitute_type reduce ν X)
         here y =
@@ -211,7 +186,7 @@ module _ (Σ : Signature) (ok : IsSignature Σ) (R : List Skeleton) where
     typed_spine B F W C D ν x X a N nil A Z c t w kb bt nf p ht e u ux g s V m z = absurd cc
     typed_spine B F W C D ν x X a N (app Q S) (atom b T) Z c t w kb bt nf p ht e u ux g s V m z = absurd s
     typed_spine B F W C D ν x X a N (app Q S) (pi A1 A2) Z c (t1, t2) w kb bt nf p ht e u ux g (q, s) V (m, ms) z =
-        by_test (strict B F x Q)
+        decided (strict B F x Q)
         (λ y. typed_value B F W C D ν x X a N Q A1 c t1 w kb bt nf p ht e u ux g q m y)
         (λ y. typed_spine B F W C D ν x X a N S (instantiate_type A1 Q A2) Z c (instance_is_type Σ ok C A1 Q A2 c t1 t2 q) w kb bt nf p ht e u ux g s V (subst (λ Y. SpineType Σ D (substitute_spine reduce ν S) Y V) (sym (through C D ν A1 Q A2 w q t2)) ms) (second_of (strict B F x Q) (strict_spine B F x S) z y))
 
@@ -230,7 +205,7 @@ module _ (Σ : Signature) (ok : IsSignature Σ) (R : List Skeleton) where
       let sk = AllTyped-has_skeleton Σ ok [] Y O θ t in
       let ty : IsType Σ O (substitute_type reduce θ A) = partial_substitution_keeps_types Σ ok [] [] everything Y O θ A (record { typed = λ i B y u. t i B y; sk = sk; source_skeletons = skeleton_context_of_beside Σ ok [] Y cy; target_skeletons = skeleton_context_of_beside Σ ok [] O c }) (uses_type_all everything A (λ i. refl)) ka in
       let same : substitute_type reduce ν (substitute_type reduce θ A) ≡ substitute_type reduce η A = substitutions_compose_type (family_skeletons Σ) (constant_skeletons Σ) (skeletons_beside [] Y) (skeletons_beside [] O) (skeletons_beside R G) θ ν A sk w (type_by_skeletons_beside Σ [] Y A ka) ∙ agree_on_type reduce V (after ν θ) η A h v in
-      by_test (strict nothing F x Q)
+      decided (strict nothing F x Q)
       (λ y. typed_value nothing F everything O G ν x X a N Q (substitute_type reduce θ A) c ty w (λ i b. absurd cc) (λ i X b k. absurd cc) nf (λ i v b. cc) (λ i X k v. uses_type_all everything X (λ j. refl)) e (uses_all everything N (λ i. refl)) (uses_type_all everything (substitute_type reduce ν X) (λ i. refl)) g q (subst (HasType Σ G (substitute reduce ν Q)) (sym same) (subst (λ Z. HasType Σ G Z (substitute_type reduce η A)) r p)) y)
       (λ y. at_typed F O G ν x X a N m S K (A ∷ Y) (in_front (put (skeleton A) Q) θ) (in_front (put (skeleton A) M) η) (under V) T c w nf e g (cy, ka) (typed_cons Σ ok Y O θ A Q t q) k vs shown (subst (SpineFitsKind Σ O S) (instance_cons Σ ok Y O θ A Q K t ka k q) s) ps rs (second_of (strict nothing F x Q) (strict_at m nothing F x S) z y))
     where
@@ -258,15 +233,8 @@ term_there i None x h = absurd h
 term_there i (Some A) None h = absurd h
 term_there i (Some A) (Some N) h = (N, refl)
 
-pub beyond_at : (P : List Skeleton) (D : List LfType) (i : ℕ) (t : Skeleton) → SkeletonAt P i t → SkeletonAt (skeletons_beside P D) (beyond D i) t
-beyond_at P [] i t g = g
-beyond_at P (A ∷ D) i t g = beyond_at P D i t g
-
 pub more : (Σ : Signature) (R : List Skeleton) (G : List LfType) (N : Term) (a : Skeleton) → TermSkeleton (constant_skeletons Σ) (context_skeletons G) N a → TermSkeleton (constant_skeletons Σ) (skeletons_beside R G) N a
 more Σ R G N a n = subst (λ M. TermSkeleton (constant_skeletons Σ) (skeletons_beside R G) M a) (rename_identity N) (renaming_keeps_skeletons (constant_skeletons Σ) (context_skeletons G) (skeletons_beside R G) (λ i. i) N a (λ i t g. let (A, h, e) = skeleton_has_variable G i t g in subst (SkeletonAt (skeletons_beside R G) i) e (variable_has_skeleton_beside R G i A h)) n)
-
-some_kind : {K L : Kind} → Some K ≡ Some L → K ≡ L
-some_kind e = cc
 
 pub head_match_is_typed : HeadMatchIsTyped
 head_match_is_typed Σ ok W typed C c i cn ng K kd v T hT pT (g, ft, same) =
@@ -284,13 +252,13 @@ head_match_is_typed Σ ok W typed C c i cn ng K kd v T hT pT (g, ft, same) =
     let ty = clause_typed Σ ok W typed c i in
     let ct : IsContext Σ O = binders_typed Σ ok c.type c.outer ty.0 ty.1 in
     let (L, l, fit) = end_typed Σ ok c.type c.outer ty.1 in
-    let fK : SpineFitsKind Σ O S K = subst (SpineFitsKind Σ O S) (some_kind (sym l ∙ kd)) fit in
+    let fK : SpineFitsKind Σ O S K = subst (SpineFitsKind Σ O S) (some_same (sym l ∙ kd)) fit in
     let strictly : (j : ℕ) (A : LfType) → TypeAt O j A → V j ≡ true → strict_at m nothing F j S ≡ true = λ j A h u. ground_is_strict p m C.given j (subst (λ Ns. is_given Ns j ≡ false) (sym ng) refl) (is_own (origin i) cn j A h) u in
     let there : (j : ℕ) (A : LfType) → TypeAt O j A → V j ≡ true → (N : Term) × (found_term C p j ≡ Some N) = λ j A h u. term_there j (type_at O j) (found_term C p j) (ft j (is_own (origin i) cn j A h) u) in
     let read : (j : ℕ) (N : Term) → found_term C p j ≡ Some N → found_at nothing F zero j S Ms ≡ Some N = λ j N e. sym (ap (λ x. or_else x (found_at nothing F zero j S Ms)) (subst (λ Ns. given_at Ns j ≡ None) (sym ng) refl)) ∙ e in
     let skel : (j : ℕ) (A : LfType) (N : Term) → TypeAt O j A → V j ≡ true → found_term C p j ≡ Some N → TermSkeleton (constant_skeletons Σ) (context_skeletons G) N (skeleton A) = λ j A N h u e. found_at_skeleton Σ ok F O G ν keep j (skeleton A) N S K Ms T K ct (family_kind Σ ok O (target c.type) K kd) (none_fixed (origin i) cn) (variable_has_skeleton O j A h) fK refl pT hT same (strictly j A h u) (read j N e) in
     let sk : SubstitutionBySkeletons (constant_skeletons Σ) (skeletons_beside [] O) (skeletons_beside R G) (patch V G ν) = λ j t h.
-    by_test (V j)
+    decided (V j)
     (λ u.
     let (A, x, e) = skeleton_beside_has_variable O j t h in
     let (N, q) = there j A x u in

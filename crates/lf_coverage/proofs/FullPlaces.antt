@@ -1,7 +1,7 @@
 -- The arguments of a case and the tuple of a linear and full clause: without a candidate values make the one the other.
 use Rattle.std.proofs.Common.{◌≡◌, ℕ, zero, suc, List, [], ◌∷◌, length, inl, inr, refl, sym, ap, ap₂, ◌∙◌, subst}
 use Rattle.std.specs.Prelude.{◌≤◌, ◌++◌, Bool, true, Option, Some, None}
-use Rattle.lf.specs.Syntax.{Term, Spine, nil, app, LfType, Kind, pi, atom, kind_pi, star, Skeleton, arrow, skeleton, kind_skeleton}
+use Rattle.lf.specs.Syntax.{Term, Spine, nil, app, LfType, Kind, pi, atom, kind_pi, star, Skeleton, skeleton, kind_skeleton}
 use Rattle.lf.specs.Substitution.{Image, lift, single, substitute, substitute_spine, substitute_kind, reduce}
 use Rattle.lf.specs.AtOnce.{lift_by}
 use Rattle.lf.specs.SkeletonTyping.{TermSkeleton}
@@ -26,6 +26,7 @@ use Rattle.lf_coverage.proofs.Occurring.{stays, other_part, at_most_first, at_mo
 use Rattle.lf_coverage.proofs.TermMatching.{match_terms, gives_still}
 use Rattle.lf_coverage.proofs.LowTerms.{below_substituted}
 use Rattle.lf_coverage.proofs.FullTakes.{HasSkeletons, full_takes}
+use Rattle.lf_coverage.proofs.Parts.{second_same, first_same}
 
 -- the types of the places quantify over what is below
 abbrev PlacesQuantify : (ℕ → ℕ → Bool) → Kind → Type 0
@@ -71,35 +72,26 @@ module _ (Σ : Signature) (below : ℕ → ℕ → Bool) (through : (f g : ℕ) 
   match_places Ds D D' θ (M ∷ Ms) (app N T) (app O1 O) (app V1 V) star K h h' g b w q e m n hm hn o f a s k = absurd m
   match_places Ds D D' θ (M ∷ Ms) (app N T) (app O1 O) (app V1 V) (kind_pi A' K') star h h' g b w q e m n hm hn o f a s k = absurd n
   match_places Ds D D' θ (None ∷ Ms) (app N T) (app O1 O) (app V1 V) (kind_pi A' K') (kind_pi A K) h h' g b w (qa, q) e m (n, ns) hm hn o f a s k =
-      let r : PlacesMatch Σ Δ C P (length Ds) θ Ms T = match_places Ds D D' θ Ms T O V (instantiate_kind A' O1 K') (instantiate_kind A N K) h h' g b w (places_substituted (single (skeleton A') O1) K' q) (kind_skeleton_substituted zero reduce (single (skeleton A') O1) K' ∙ second e ∙ sym (kind_skeleton_substituted zero reduce (single (skeleton A) N) K)) m ns hm hn o f a s k in
+      let r : PlacesMatch Σ Δ C P (length Ds) θ Ms T = match_places Ds D D' θ Ms T O V (instantiate_kind A' O1 K') (instantiate_kind A N K) h h' g b w (places_substituted (single (skeleton A') O1) K' q) (kind_skeleton_substituted zero reduce (single (skeleton A') O1) K' ∙ second_same e ∙ sym (kind_skeleton_substituted zero reduce (single (skeleton A) N) K)) m ns hm hn o f a s k in
       record { values = r.values; skeletons = r.skeletons; others = r.others; same = r.same }
-    where
-      second : {x y u v : Skeleton} → arrow x y ≡ arrow u v → y ≡ v
-      second e = cc
   match_places Ds D D' θ (Some M ∷ Ms) (app N T) (app O1 O) (app V1 V) (kind_pi A' K') (kind_pi A K) h h' g b w (qa, q) e (m, ms) (n, ns) (hm, hms) (hn, hns) o (f, fs') (a, ar) (s, ss) k =
       let l : ℕ = length Ds in
       let places : List Bool = covered_places Ms in
       let here : List ℕ = candidates (bound l) (hidden l F) (hidden l P) l M N in
       let rest : List ℕ = candidates_at (bound l) (hidden l F) (hidden l P) l Ms T in
       let same : substitute reduce (lift_by l σ) M ≡ substitute reduce (lift_by l τ) N = sym a ∙ s in
-      let takes : TakesBound (bound l) (hidden l P) M N = full_takes Σ below through itself constants C Δ F P σ τ θ fs ps b w Ds D D' M N A' A h h' g qa (first e) m n f hm same (then_first here rest k) in
-      let m' : TermSkeleton (constant_skeletons Σ) (Ds ++ context_skeletons Δ) M (skeleton A) = subst (λ z. TermSkeleton (constant_skeletons Σ) (Ds ++ context_skeletons Δ) M z) (first e) (subst (λ G. TermSkeleton (constant_skeletons Σ) G M (skeleton A')) (skeletons_onto D' Ds Δ h') (typed_has_skeleton Σ (onto D' Δ) M A' m)) in
+      let takes : TakesBound (bound l) (hidden l P) M N = full_takes Σ below through itself constants C Δ F P σ τ θ fs ps b w Ds D D' M N A' A h h' g qa (first_same e) m n f hm same (then_first here rest k) in
+      let m' : TermSkeleton (constant_skeletons Σ) (Ds ++ context_skeletons Δ) M (skeleton A) = subst (λ z. TermSkeleton (constant_skeletons Σ) (Ds ++ context_skeletons Δ) M z) (first_same e) (subst (λ G. TermSkeleton (constant_skeletons Σ) G M (skeleton A')) (skeletons_onto D' Ds Δ h') (typed_has_skeleton Σ (onto D' Δ) M A' m)) in
       let n' : TermSkeleton (constant_skeletons Σ) (Ds ++ context_skeletons C) N (skeleton A) = subst (λ G. TermSkeleton (constant_skeletons Σ) G N (skeleton A)) (skeletons_onto D Ds C h) (typed_has_skeleton Σ (onto D C) N A n) in
       let r : HasMatch Σ (context_skeletons Δ) (context_skeletons C) P l θ M N = match_terms Σ (context_skeletons Δ) (context_skeletons C) F P Ds σ τ θ M N (skeleton A) fs ps b w m' n' hm hn (λ x p. at_most_first (occurrences (over l x) N) (occurrences_at places (over l x) T) (o x p)) takes same (then_first here rest k) in
       let b' : TakesBack F P σ τ r.values = takes_back F P σ τ θ r.values (kept_outside P θ r.values (λ x. occurrences (over l x) N ≡ 0) r.others) b in
-      let v : PlacesMatch Σ Δ C P l r.values Ms T = match_places Ds D D' r.values Ms T O V (instantiate_kind A' M K') (instantiate_kind A N K) h h' g b' (gives_still Σ (context_skeletons Δ) (context_skeletons C) F P θ r.values (kept_outside P θ r.values (λ x. occurrences (over l x) N ≡ 0) r.others) w) (places_substituted (single (skeleton A') M) K' q) (kind_skeleton_substituted zero reduce (single (skeleton A') M) K' ∙ second e ∙ sym (kind_skeleton_substituted zero reduce (single (skeleton A) N) K)) ms ns hms hns (λ x p. at_most_second (occurrences (over l x) N) (occurrences_at places (over l x) T) (o x p)) fs' ar ss (then_second here rest k) in
+      let v : PlacesMatch Σ Δ C P l r.values Ms T = match_places Ds D D' r.values Ms T O V (instantiate_kind A' M K') (instantiate_kind A N K) h h' g b' (gives_still Σ (context_skeletons Δ) (context_skeletons C) F P θ r.values (kept_outside P θ r.values (λ x. occurrences (over l x) N ≡ 0) r.others) w) (places_substituted (single (skeleton A') M) K' q) (kind_skeleton_substituted zero reduce (single (skeleton A') M) K' ∙ second_same e ∙ sym (kind_skeleton_substituted zero reduce (single (skeleton A) N) K)) ms ns hms hns (λ x p. at_most_second (occurrences (over l x) N) (occurrences_at places (over l x) T) (o x p)) fs' ar ss (then_second here rest k) in
       record {
         values = v.values;
         skeletons = λ z. v.skeletons (r.skeletons z);
         others = λ x z. v.others x (λ p. sum_second (occurrences (over l x) N) (occurrences_at places (over l x) T) (z p)) ∙ r.others x (λ p. sum_first (occurrences (over l x) N) (occurrences_at places (over l x) T) (z p));
         same = (sym (stays P l r.values v.values N (λ x z. v.others x (λ p. other_part (occurrences (over l x) N) (occurrences_at places (over l x) T) (o x p) (z p))) ∙ r.same), v.same);
       }
-    where
-      first : {x y u v : Skeleton} → arrow x y ≡ arrow u v → x ≡ u
-      first e = cc
-
-      second : {x y u v : Skeleton} → arrow x y ≡ arrow u v → y ≡ v
-      second e = cc
 
 pub full_places_match : FullPlacesMatch
 full_places_match Σ ok W bs below t C Δ D D' F P σ τ θ fs ps b w a K e Ms T O V h g m n hm hn o f ar s k =

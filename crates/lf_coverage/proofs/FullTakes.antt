@@ -12,18 +12,22 @@ use Rattle.lf.specs.Variables.{target, onto, Uses, Within}
 use Rattle.lf.proofs.TypeLaws.{skeleton_renamed, skeleton_substituted}
 use Rattle.lf.proofs.Decidability.{variable_type_unique}
 use Rattle.lf.proofs.ToSkeletons.{variable_has_skeleton}
+use Rattle.lf.proofs.Checker.{number_itself}
+use Rattle.lf_unification.specs.Patterns.{skeleton_target}
 use Rattle.lf_unification.proofs.ToSkeletons.{SkeletonAt-once}
 use Rattle.lf_checks.specs.Tests.{either}
 use Rattle.lf_checks.specs.Strict.{head_variable, lower, pattern_arguments}
+use Rattle.lf_checks.proofs.Determined.{app_first, app_rest}
 use Rattle.lf_cases.specs.Full.{IsArgument, AppliesToAll, IsFullTerm, IsFullSpine}
 use Rattle.lf_cases.specs.Candidates.{candidates, candidates_spine, counted, is_rigid}
 use Rattle.lf_coverage.specs.Subordinate.{QuantifiersAreBelow, AllQuantifiersAreBelow}
 use Rattle.lf_coverage.specs.TermMatching.{HasPatterns, HavePatterns, TakesBound, TakeBound, is_this_variable, heads_argument, bound, hidden, Stay, TakesBack, GivesSkeletons}
-use Rattle.lf_coverage.proofs.Abstracted.{same_self}
-use Rattle.lf_coverage.proofs.Choices.{then_first, then_second, none_counted, chosen, not_chosen, decided, choose_first, choose_second, first_chosen, second_chosen}
-use Rattle.lf_coverage.proofs.UnderBound.{hidden_is_over, lower_over, stay_lifted, back_lifted, pattern_here, patterns_inside, root_spine, root_head, variable_same, head_of_constant, stays_root}
+use Rattle.lf_coverage.proofs.Choices.{then_first, then_second, chosen, not_chosen, decided, choose_first, choose_second, first_chosen, second_chosen, either_second}
+use Rattle.lf_coverage.proofs.UnderBound.{stay_lifted, back_lifted, patterns_inside, root_spine, root_head, variable_same, head_of_constant, stays_root, no_candidate}
 use Rattle.lf_coverage.proofs.TermMatching.{lifted_skeletons}
-use Rattle.lf_coverage.proofs.LowTerms.{Low, low_term, spine_target, below_at, below_substituted}
+use Rattle.lf_coverage.proofs.LowTerms.{Low, low_term, spine_target, below_substituted}
+use Rattle.lf_coverage.proofs.Subordinate.{below_at}
+use Rattle.lf_coverage.proofs.Parts.{some_same, lambda_same, first_same, second_same}
 
 -- the skeletons of a local context are these
 abbrev pub HasSkeletons : List LfType → List Skeleton → Type 0
@@ -55,23 +59,15 @@ eta_head (arrow a b) n i S = eta_head b (suc n) (suc i) _
 
 argument_heads : (a : Skeleton) (i : ℕ) (S : Spine) → IsArgument (eta_long a (variable i)) S → heads_argument i S ≡ true
 argument_heads a i nil h = absurd h
-argument_heads a i (app N S) (inl e) = ap (λ z. either z (heads_argument i S)) (ap (is_this_variable i) (sym (ap (head_variable zero) e) ∙ eta_head a zero i nil) ∙ same_self i)
-argument_heads a i (app N S) (inr h) = second (is_this_variable i (head_variable zero N)) (heads_argument i S) (argument_heads a i S h)
-  where
-    second : (b c : Bool) → c ≡ true → either b c ≡ true
-    second true c e = refl
-    second false c e = e
+argument_heads a i (app N S) (inl e) = ap (λ z. either z (heads_argument i S)) (ap (is_this_variable i) (sym (ap (head_variable zero) e) ∙ eta_head a zero i nil) ∙ number_itself i)
+argument_heads a i (app N S) (inr h) = either_second (is_this_variable i (head_variable zero N)) (heads_argument i S) (argument_heads a i S h)
 
-abbrev family_of : Skeleton → ℕ
-family_of (base c) = c
-family_of (arrow a b) = family_of b
-
-family_is : (A : LfType) → family_of (skeleton A) ≡ target A
+family_is : (A : LfType) → skeleton_target (skeleton A) ≡ target A
 family_is (pi A B) = family_is B
 family_is (atom a S) = refl
 
 same_family : (A B : LfType) → skeleton A ≡ skeleton B → target A ≡ target B
-same_family A B e = sym (family_is A) ∙ ap family_of e ∙ family_is B
+same_family A B e = sym (family_is A) ∙ ap skeleton_target e ∙ family_is B
 
 module _ (Σ : Signature) (below : ℕ → ℕ → Bool) (through : (f g : ℕ) → below f g ≡ true → Within (below g) (below f)) (itself : (f : ℕ) → below f f ≡ true) (constants : (c : ℕ) (U : LfType) → Σ.types c ≡ Some U → QuantifiersAreBelow below U) where
   -- what a variable is to take, and what its arguments are to
@@ -114,21 +110,16 @@ module _ (Σ : Signature) (below : ℕ → ℕ → Bool) (through : (f g : ℕ) 
     takes_constant Ds D D' (metavariable d) S l T c R' a R h h' g rec (X, t, r) n f hm s k = absurd t
     takes_constant Ds D D' (constant d) S l T c R' a R h h' g rec (X, t, r) (X1, t1, r1) (X2, t2, f) hm s k =
         let (dl, es) = head_of_constant d l (substitute_spine reduce (lift_by (length Ds) σ) S) (substitute_spine reduce (lift_by (length Ds) τ) T) s in
-        let x1 : X1 ≡ X = once (sym t1 ∙ ap Σ.types (sym dl) ∙ t) in
-        let x2 : X2 ≡ X = once (sym t2 ∙ ap Σ.types (sym dl) ∙ t) in
+        let x1 : X1 ≡ X = some_same (sym t1 ∙ ap Σ.types (sym dl) ∙ t) in
+        let x2 : X2 ≡ X = some_same (sym t2 ∙ ap Σ.types (sym dl) ∙ t) in
         rec X X (constants d X t) refl r (subst (λ Z. SpineType Σ (onto D C) T Z (atom a R)) x1 r1) (subst (IsFullSpine Σ below C (hidden (length Ds) P) D T) x2 f) hm es k
-      where
-        once : {x y : LfType} → Some x ≡ Some y → x ≡ y
-        once e = cc
     takes_constant Ds D D' (variable i) S l T c R' a R h h' g rec (X, t, r) n f hm s k = by (hidden (length Ds) F i) refl
       where
         apart : {x : ℕ} {X Y : Spine} → root (variable x) X ≡ root (constant l) Y → ⊥
         apart e = cc
 
         by : (z : Bool) → hidden (length Ds) F i ≡ z → TakeBound (bound (length Ds)) (hidden (length Ds) P) S T
-        by true z =
-            let (y, u, fy) = hidden_is_over (length Ds) F i z in
-            absurd (none_counted (pattern_arguments (bound (length Ds)) [] S) (lower (length Ds) i) y (pattern_here (bound (length Ds)) (hidden (length Ds) F) i S z hm) (ap (lower (length Ds)) u ∙ lower_over (length Ds) y) (chosen (hidden (length Ds) F i) (counted (pattern_arguments (bound (length Ds)) [] S) (lower (length Ds) i)) (candidates_spine (bound (length Ds)) (hidden (length Ds) F) (hidden (length Ds) P) (length Ds) S T) z k))
+        by true z = absurd (no_candidate (length Ds) F i S (candidates_spine (bound (length Ds)) (hidden (length Ds) F) (hidden (length Ds) P) (length Ds) S T) hm k z)
         by false z = let (x, u) = stay_lifted Ds (context_skeletons Δ) F σ fs i (skeleton X) (skeleton_at D' Ds Δ i X h' t) z in absurd (apart (sym (stays_root (lift_by (length Ds) σ i) x (substitute_spine reduce (lift_by (length Ds) σ) S) u) ∙ s))
 
     takes_variable : (Ds : List Skeleton) (D D' : List LfType) (h0 : Head) (S : Spine) (j : ℕ) (T : Spine) (c : ℕ) (R' : Spine) (a : ℕ) (R : Spine) (X2 : LfType) → HasSkeletons D Ds → HasSkeletons D' Ds → AllQuantifiersAreBelow below (onto D' Δ) → Inside Ds D D' S T (atom c R') (atom a R) → HasType Σ (onto D' Δ) (root h0 S) (atom c R') → TypeAt (onto D C) j X2 → SpineType Σ (onto D C) T X2 (atom a R) → IsFullSpine Σ below C (hidden (length Ds) P) D T X2 → HasPatterns (bound (length Ds)) (hidden (length Ds) F) (root h0 S) → hidden (length Ds) P j ≡ false → substitute reduce (lift_by (length Ds) σ) (root h0 S) ≡ substitute reduce (lift_by (length Ds) τ) (root (variable j) T) → candidates (bound (length Ds)) (hidden (length Ds) F) (hidden (length Ds) P) (length Ds) (root h0 S) (root (variable j) T) ≡ [] → TakeBound (bound (length Ds)) (hidden (length Ds) P) S T
@@ -138,7 +129,7 @@ module _ (Σ : Signature) (below : ℕ → ℕ → Bool) (through : (f g : ℕ) 
         apart : {x : ℕ} {X Y : Spine} → root (constant d) X ≡ root (variable x) Y → ⊥
         apart e = cc
     takes_variable Ds D D' (variable i) S j T c R' a R X2 h h' g rec (X, t, r) t2 n f hm p s k =
-        decided (hidden (length Ds) F i) (λ z. absurd (candidate z))
+        decided (hidden (length Ds) F i) (λ z. absurd (no_candidate (length Ds) F i S (candidates_spine (bound (length Ds)) (hidden (length Ds) F) (hidden (length Ds) P) (length Ds) S T) hm looked z))
         (λ z.
         let (x, rx) = stay_lifted Ds (context_skeletons Δ) F σ fs i (skeleton X) (skeleton_at D' Ds Δ i X h' t) z in
         let (y, ry) = stay_lifted Ds (context_skeletons C) P τ ps j (skeleton X2) (skeleton_at D Ds C j X2 h t2) p in
@@ -147,29 +138,15 @@ module _ (Σ : Signature) (below : ℕ → ℕ → Bool) (through : (f g : ℕ) 
         let back : lift_by (length Ds) θ j ≡ keep i = back_lifted (length Ds) F P σ τ θ b i j x z p rx (ry ∙ ap keep yx) in
         let at : SkeletonAt (Ds ++ context_skeletons Δ) i (skeleton X2) = subst (λ v. ImageSkeleton (constant_skeletons Σ) (Ds ++ context_skeletons Δ) v (skeleton X2)) back (lifted_skeletons Σ (context_skeletons Δ) (context_skeletons C) F P Ds θ w j (skeleton X2) (skeleton_at D Ds C j X2 h t2) p) in
         let xx : skeleton X ≡ skeleton X2 = SkeletonAt-once (Ds ++ context_skeletons Δ) i (skeleton X) (skeleton X2) (skeleton_at D' Ds Δ i X h' t) at in
-        rec X X2 (below_at Σ below through itself constants (onto D' Δ) g i X t) xx r n f (patterns_inside (bound (length Ds)) (hidden (length Ds) F) i S z hm) (root_spine eq) (not_chosen (hidden (length Ds) F i) (counted (pattern_arguments (bound (length Ds)) [] S) (lower (length Ds) i)) (candidates_spine (bound (length Ds)) (hidden (length Ds) F) (hidden (length Ds) P) (length Ds) S T) z looked))
+        rec X X2 (below_at below (onto D' Δ) g i X t) xx r n f (patterns_inside (bound (length Ds)) (hidden (length Ds) F) i S z hm) (root_spine eq) (not_chosen (hidden (length Ds) F i) (counted (pattern_arguments (bound (length Ds)) [] S) (lower (length Ds) i)) (candidates_spine (bound (length Ds)) (hidden (length Ds) F) (hidden (length Ds) P) (length Ds) S T) z looked))
       where
         looked : cond (hidden (length Ds) F i) (counted (pattern_arguments (bound (length Ds)) [] S) (lower (length Ds) i)) (candidates_spine (bound (length Ds)) (hidden (length Ds) F) (hidden (length Ds) P) (length Ds) S T) ≡ []
         looked = chosen (is_rigid (hidden (length Ds) P) (variable j)) (cond (hidden (length Ds) F i) (counted (pattern_arguments (bound (length Ds)) [] S) (lower (length Ds) i)) (candidates_spine (bound (length Ds)) (hidden (length Ds) F) (hidden (length Ds) P) (length Ds) S T)) [] (ap not p) k
 
-        candidate : hidden (length Ds) F i ≡ true → ⊥
-        candidate z =
-            let (y, u, fy) = hidden_is_over (length Ds) F i z in
-            none_counted (pattern_arguments (bound (length Ds)) [] S) (lower (length Ds) i) y (pattern_here (bound (length Ds)) (hidden (length Ds) F) i S z hm) (ap (lower (length Ds)) u ∙ lower_over (length Ds) y) (chosen (hidden (length Ds) F i) (counted (pattern_arguments (bound (length Ds)) [] S) (lower (length Ds) i)) (candidates_spine (bound (length Ds)) (hidden (length Ds) F) (hidden (length Ds) P) (length Ds) S T) z looked)
-
     mutual
       -- The lemma
       pub full_takes : (Ds : List Skeleton) (D D' : List LfType) (M N : Term) (A' A : LfType) → HasSkeletons D Ds → HasSkeletons D' Ds → AllQuantifiersAreBelow below (onto D' Δ) → QuantifiersAreBelow below A' → skeleton A' ≡ skeleton A → HasType Σ (onto D' Δ) M A' → HasType Σ (onto D C) N A → IsFullTerm Σ below C (hidden (length Ds) P) D N A → HasPatterns (bound (length Ds)) (hidden (length Ds) F) M → substitute reduce (lift_by (length Ds) σ) M ≡ substitute reduce (lift_by (length Ds) τ) N → candidates (bound (length Ds)) (hidden (length Ds) F) (hidden (length Ds) P) (length Ds) M N ≡ [] → TakesBound (bound (length Ds)) (hidden (length Ds) P) M N
-      full_takes Ds D D' (lambda M) (lambda N) (pi A1' A2') (pi A1 A2) h h' g (q, a, d) e m n f hm s k = full_takes (skeleton A1 ∷ Ds) (A1 ∷ D) (A1' ∷ D') M N A2' A2 (refl, h) (first e, h') (a, g) d (second e) m n f hm (body s) k
-        where
-          body : {X Y : Term} → lambda X ≡ lambda Y → X ≡ Y
-          body e = cc
-
-          first : {x y u v : Skeleton} → arrow x y ≡ arrow u v → x ≡ u
-          first e = cc
-
-          second : {x y u v : Skeleton} → arrow x y ≡ arrow u v → y ≡ v
-          second e = cc
+      full_takes Ds D D' (lambda M) (lambda N) (pi A1' A2') (pi A1 A2) h h' g (q, a, d) e m n f hm s k = full_takes (skeleton A1 ∷ Ds) (A1 ∷ D) (A1' ∷ D') M N A2' A2 (refl, h) (first_same e, h') (a, g) d (second_same e) m n f hm (lambda_same s) k
       full_takes Ds D D' (lambda M) (lambda N) (pi A1' A2') (atom a R) h h' g q e m n f hm s k = absurd n
       full_takes Ds D D' (lambda M) (lambda N) (atom a R) A h h' g q e m n f hm s k = absurd m
       full_takes Ds D D' (lambda M) (root k' T) A' A h h' g q e m n f hm s k = tt
@@ -193,16 +170,4 @@ module _ (Σ : Signature) (below : ℕ → ℕ → Bool) (through : (f g : ℕ) 
       take_spines Ds D D' (app M S) (app N T) (pi A' B') (pi A B) Z' Z h h' g (q, qa, qb) e (m, r) (n, ns) (f, fs') (hm, hms) s k =
           let first : List ℕ = candidates (bound (length Ds)) (hidden (length Ds) F) (hidden (length Ds) P) (length Ds) M N in
           let rest : List ℕ = candidates_spine (bound (length Ds)) (hidden (length Ds) F) (hidden (length Ds) P) (length Ds) S T in
-          (full_takes Ds D D' M N A' A h h' g qa (arrow_first e) m n f hm (head_same s) (then_first first rest k), take_spines Ds D D' S T (instantiate_type A' M B') (instantiate_type A N B) Z' Z h h' g (below_substituted Σ below through itself constants reduce (single (skeleton A') M) B' qb) (skeleton_substituted reduce (single (skeleton A') M) B' ∙ arrow_second e ∙ sym (skeleton_substituted reduce (single (skeleton A) N) B)) r ns fs' hms (rest_same s) (then_second first rest k))
-        where
-          arrow_first : {x y u v : Skeleton} → arrow x y ≡ arrow u v → x ≡ u
-          arrow_first e = cc
-
-          arrow_second : {x y u v : Skeleton} → arrow x y ≡ arrow u v → y ≡ v
-          arrow_second e = cc
-
-          head_same : {X Y : Term} {A B : Spine} → app X A ≡ app Y B → X ≡ Y
-          head_same e = cc
-
-          rest_same : {X Y : Term} {A B : Spine} → app X A ≡ app Y B → A ≡ B
-          rest_same e = cc
+          (full_takes Ds D D' M N A' A h h' g qa (first_same e) m n f hm (app_first s) (then_first first rest k), take_spines Ds D D' S T (instantiate_type A' M B') (instantiate_type A N B) Z' Z h h' g (below_substituted Σ below through itself constants reduce (single (skeleton A') M) B' qb) (skeleton_substituted reduce (single (skeleton A') M) B' ∙ second_same e ∙ sym (skeleton_substituted reduce (single (skeleton A) N) B)) r ns fs' hms (app_rest s) (then_second first rest k))

@@ -21,9 +21,9 @@ use Rattle.lf_cases.specs.Candidates.{given_images}
 use Rattle.lf_cases.specs.OutputGoal.{renumber}
 use Rattle.lf_cases.proofs.OutputItems.{lifted, lift_after}
 use Rattle.lf_cases.proofs.Raised.{rename_identity, rename_identity_type}
-use Rattle.lf_coverage.proofs.Forms.{far_type}
-use Rattle.lf_coverage.proofs.Meeting.{near_type}
-use Rattle.lf_coverage.proofs.Transfer.{lift_instance, after_over}
+use Rattle.lf_coverage.proofs.Forms.{far_type, near_type}
+use Rattle.lf_coverage.proofs.Transfer.{after_over, lifted_instance}
+use Rattle.lf_coverage.proofs.Parts.{none_some}
 use mathlib.Core.Path.{fun_ext}
 
 -- nothing is given for the variable, and it stands for itself; or a term is
@@ -42,9 +42,6 @@ given_next A G N Ms n i s (inr (B, M, g, q, e)) = inr (weaken B, M, (B, g, refl)
 
 pub given_cases : (G : List LfType) (Ms : List (Option Term)) (n i : ℕ) → StandsForItself G Ms n i ⊎ StandsForGiven G Ms n i
 given_cases G [] n i = inl (refl, λ A M k q. none_some q)
-  where
-    none_some : {M : Term} → None ≡ Some M → ⊥
-    none_some q = cc
 given_cases [] (Some M ∷ Ms) n i = inl (refl, λ A N k q. absurd k)
 given_cases [] (None ∷ Ms) n i = inl (refl, λ A N k q. absurd k)
 given_cases (A ∷ G) (Some M ∷ Ms) n zero = inr (weaken A, M, refl, refl, ap (λ a. put a M) (sym (skeleton_renamed suc A)))
@@ -52,9 +49,6 @@ given_cases (A ∷ G) (None ∷ Ms) n zero = inl (ap keep (none n), λ B M k q. 
   where
     none : (n : ℕ) → n ≡ 0 + n
     none n = omega arith
-
-    none_some : {M : Term} → None ≡ Some M → ⊥
-    none_some q = cc
 given_cases (A ∷ G) (Some M ∷ Ms) n (suc i) = given_next A G (Some M) Ms n i refl (given_cases G Ms (suc n) i)
 given_cases (A ∷ G) (None ∷ Ms) n (suc i) = given_next A G None Ms n i refl (given_cases G Ms (suc n) i)
 
@@ -114,20 +108,17 @@ given_fits Σ O Q Ms v i t k = by (given_cases Q Ms (length O) i)
 
 -- Values that give the variables the given terms' values do to a text of the clause what they do to it with the given terms put in.
 module _ (Σ : Signature) (X Q F : List LfType) (g σ : ℕ → Image) (n : ℕ) (fg : SubstitutionBySkeletons (constant_skeletons Σ) (context_skeletons Q) (context_skeletons X) g) (fσ : SubstitutionBySkeletons (constant_skeletons Σ) (context_skeletons X) (context_skeletons F) σ) (same : (i : ℕ) → after σ g i ≡ σ (i + n)) where
-  second_under : (D : List LfType) → SubstitutionBySkeletons (constant_skeletons Σ) (context_skeletons (onto (instance D g) X)) (context_skeletons (onto (instance (instance D g) σ) F)) (lift_over D σ)
-  second_under D = subst (SubstitutionBySkeletons (constant_skeletons Σ) (context_skeletons (onto (instance D g) X)) (context_skeletons (onto (instance (instance D g) σ) F))) (lift_instance D g σ) (lifted Σ (instance D g) X F σ fσ)
-
   images_same : (D : List LfType) → after (lift_over D σ) (lift_over D g) ≡ (λ i. lift_over D σ (lift_renaming_by (length D) (shift_by n) i))
   images_same D = after_over D g σ ∙ ap (lift_over D) (fun_ext same) ∙ sym (lift_after D (shift_by n) σ)
 
   pub type_put : (D : List LfType) (A : LfType) → TypeBySkeletons (family_skeletons Σ) (constant_skeletons Σ) (context_skeletons (onto D Q)) A → substitute_type reduce (lift_over D σ) (substitute_type reduce (lift_over D g) A) ≡ substitute_type reduce (lift_over D σ) (rename_type (lift_renaming_by (length D) (shift_by n)) A)
   type_put D A k =
-      substitutions_compose_type (family_skeletons Σ) (constant_skeletons Σ) (context_skeletons (onto D Q)) (context_skeletons (onto (instance D g) X)) (context_skeletons (onto (instance (instance D g) σ) F)) (lift_over D g) (lift_over D σ) A (lifted Σ D Q X g fg) (second_under D) k
+      substitutions_compose_type (family_skeletons Σ) (constant_skeletons Σ) (context_skeletons (onto D Q)) (context_skeletons (onto (instance D g) X)) (context_skeletons (onto (instance (instance D g) σ) F)) (lift_over D g) (lift_over D σ) A (lifted Σ D Q X g fg) (lifted_instance Σ X F D g σ fσ) k
       ∙ ap (λ f. substitute_type reduce f A) (images_same D)
       ∙ sym (substitute_renamed_type reduce (lift_over D σ) (lift_renaming_by (length D) (shift_by n)) A)
 
   pub spine_put : (D : List LfType) (S : Spine) (t u : Skeleton) → SpineSkeleton (constant_skeletons Σ) (context_skeletons (onto D Q)) S t u → substitute_spine reduce (lift_over D σ) (substitute_spine reduce (lift_over D g) S) ≡ substitute_spine reduce (lift_over D σ) (rename_spine (lift_renaming_by (length D) (shift_by n)) S)
   spine_put D S t u k =
-      substitutions_compose_spine (constant_skeletons Σ) (context_skeletons (onto D Q)) (context_skeletons (onto (instance D g) X)) (context_skeletons (onto (instance (instance D g) σ) F)) (lift_over D g) (lift_over D σ) S t u (lifted Σ D Q X g fg) (second_under D) k
+      substitutions_compose_spine (constant_skeletons Σ) (context_skeletons (onto D Q)) (context_skeletons (onto (instance D g) X)) (context_skeletons (onto (instance (instance D g) σ) F)) (lift_over D g) (lift_over D σ) S t u (lifted Σ D Q X g fg) (lifted_instance Σ X F D g σ fσ) k
       ∙ ap (λ f. substitute_spine reduce f S) (images_same D)
       ∙ sym (substitute_renamed_spine reduce (lift_over D σ) (lift_renaming_by (length D) (shift_by n)) S)

@@ -1,7 +1,7 @@
 -- What is read off for a subgoal is typed, where what is given and the case's arguments are.
 use Rattle.std.proofs.Common.{◌≡◌, ℕ, zero, suc, List, [], ◌∷◌, refl, sym, ap, ◌∙◌, subst}
 use Rattle.std.specs.Prelude.{Bool, true, false, cond, Option, Some, None}
-use Rattle.lf.specs.Syntax.{Term, Spine, nil, app, LfType, Kind, pi, atom, kind_pi, star, Skeleton, base, arrow, skeleton, kind_skeleton, weaken, rename}
+use Rattle.lf.specs.Syntax.{Term, Spine, nil, app, LfType, Kind, pi, atom, kind_pi, star, Skeleton, skeleton, kind_skeleton, weaken, rename}
 use Rattle.lf.specs.Substitution.{Image, keep, put, rename_image, lift, single, substitute, substitute_spine, substitute_type, substitute_kind, reduce}
 use Rattle.lf.specs.SkeletonTyping.{SkeletonAt, TermSkeleton, ImageSkeleton, SubstitutionBySkeletons}
 use Rattle.lf.specs.Skeletons.{constant_skeletons, context_skeletons}
@@ -20,6 +20,7 @@ use Rattle.lf.proofs.ToSkeletons.{kind_skeleton_substituted, type_by_skeletons, 
 use Rattle.lf.proofs.TypeLaws.{skeleton_substituted, lifted_substitution_weakened_type}
 use Rattle.lf.proofs.Uses.{uses_renamed, uses_type_renamed}
 use Rattle.lf.proofs.Weakening.{declared_is_type}
+use Rattle.lf.proofs.Checker.{both_of}
 use Rattle.lf_unification.proofs.RenamingBack.{HasType-unrename}
 use Rattle.lf_checks.specs.Clause.{scope, variables, outside}
 use Rattle.lf_checks.specs.Ground.{UsesGoal}
@@ -42,25 +43,15 @@ use Rattle.lf_coverage.specs.MatchingLaws.{GoalMatchingDecides}
 use Rattle.lf_coverage.specs.MeetStore.{IsConstants}
 use Rattle.lf_coverage.specs.TypedCase.{TypedArguments, IsTypedBeside, given_values}
 use Rattle.lf_coverage.proofs.FoundSkeletons.{BoundIn, BoundLined, OuterLined, bound_in_under, bound_lined_under, found_skeleton, none_under, outer_lined_under}
-use Rattle.lf_coverage.proofs.FoundTyped.{BoundTyped, beyond_at, bound_typed_under, goes_under, holds_under, more, second_of, term_there, typed_value}
+use Rattle.lf_coverage.proofs.FoundTyped.{BoundTyped, bound_typed_under, goes_under, holds_under, more, term_there, typed_value}
 use Rattle.lf_coverage.proofs.GroundHolds.{goal_ground_holds_types}
 use Rattle.lf_coverage.proofs.HeadMatching.{over_items}
-use Rattle.lf_coverage.proofs.Matched.{both_true, given_found, given_same, given_there, goal_part, goal_third, instance_matches, type_third}
+use Rattle.lf_coverage.proofs.Matched.{given_found, given_same, given_there, goal_part, goal_third, instance_matches, type_third}
 use Rattle.lf_coverage.proofs.Matching.{found_is, goal_agrees, ground_is_strict, is_own, none_fixed}
 use Rattle.lf_coverage.proofs.MatchInstance.{instance_is_decided, match_is_instance}
-use Rattle.lf_coverage.proofs.ReadOff.{by_test}
-
-first_skeleton : {t u v w : Skeleton} → arrow t u ≡ arrow v w → t ≡ v
-first_skeleton e = cc
-
-rest_skeleton : {t u v w : Skeleton} → arrow t u ≡ arrow v w → u ≡ w
-rest_skeleton e = cc
-
-no_skeleton : {t u : Skeleton} {c : ℕ} → arrow t u ≡ base c → ⊥
-no_skeleton e = cc
-
-some_kind : {K L : Kind} → Some K ≡ Some L → K ≡ L
-some_kind e = cc
+use Rattle.lf_coverage.proofs.Choices.{second_of, decided}
+use Rattle.lf_coverage.proofs.Carried.{beyond_at}
+use Rattle.lf_coverage.proofs.Parts.{first_same, second_same, some_same, no_arrow}
 
 -- The arguments of a case under the local context of a goal are typed, where at the other places those of the goal stand, under these values.
 abbrev TypedGoal : Signature → List LfType → (ℕ → Image) → LfType → List (Option Term) → Type 0
@@ -77,17 +68,17 @@ module _ (Σ : Signature) (ok : IsSignature Σ) where
   at_skeleton B F n C E Ω ν x a N (app Q S) L [] T K c k bl ol bi kb nf g s ks p i e f = absurd i
   at_skeleton B F n C E Ω ν x a N (app Q S) star (M ∷ Ms) T K c k bl ol bi kb nf g s ks p i e f = absurd s
   at_skeleton B F n C E Ω ν x a N (app Q S) (kind_pi A L) (M ∷ Ms) nil K c k bl ol bi kb nf g s ks p i e f = absurd p
-  at_skeleton B F n C E Ω ν x a N (app Q S) (kind_pi A L) (M ∷ Ms) (app R T) star c k bl ol bi kb nf g s ks p i e f = absurd (no_skeleton ks)
-  at_skeleton B F n C E Ω ν x a N (app Q S) (kind_pi A L) (None ∷ Ms) (app R T) (kind_pi A' K) c (t1, t2) bl ol bi kb nf g (q, s) ks p i e f = at_skeleton B F n C E Ω ν x a N S (instantiate_kind A Q L) Ms T (instantiate_kind A' R K) c (next_is_kind C A Q L c t1 t2 q) bl ol bi kb nf g s (kind_skeleton_substituted 0 reduce (single (skeleton A) Q) L ∙ rest_skeleton ks ∙ sym (kind_skeleton_substituted 0 reduce (single (skeleton A') R) K)) p i e f
+  at_skeleton B F n C E Ω ν x a N (app Q S) (kind_pi A L) (M ∷ Ms) (app R T) star c k bl ol bi kb nf g s ks p i e f = absurd (no_arrow ks)
+  at_skeleton B F n C E Ω ν x a N (app Q S) (kind_pi A L) (None ∷ Ms) (app R T) (kind_pi A' K) c (t1, t2) bl ol bi kb nf g (q, s) ks p i e f = at_skeleton B F n C E Ω ν x a N S (instantiate_kind A Q L) Ms T (instantiate_kind A' R K) c (next_is_kind C A Q L c t1 t2 q) bl ol bi kb nf g s (kind_skeleton_substituted 0 reduce (single (skeleton A) Q) L ∙ second_same ks ∙ sym (kind_skeleton_substituted 0 reduce (single (skeleton A') R) K)) p i e f
   at_skeleton B F n C E Ω ν x a N (app Q S) (kind_pi A L) (Some M ∷ Ms) (app R T) (kind_pi A' K) c (t1, t2) bl ol bi kb nf g (q, s) ks (m, p) (i, is) e f =
-      by_test (strict B F x Q)
-      (λ z. found_skeleton Σ ok B F n C (context_skeletons E) Ω ν x a N Q A c t1 bl ol bi kb nf g q (subst (λ X. TermSkeleton (constant_skeletons Σ) (context_skeletons E) X (skeleton A)) i (subst (TermSkeleton (constant_skeletons Σ) (context_skeletons E) M) (sym (first_skeleton ks)) (typed_has_skeleton Σ E M A' m))) z (ap (found B F n x Q) (sym i) ∙ sym (ap (λ b. cond b (found B F n x Q M) (found_at B F n x S Ms)) z) ∙ f))
-      (λ z. at_skeleton B F n C E Ω ν x a N S (instantiate_kind A Q L) Ms T (instantiate_kind A' M K) c (next_is_kind C A Q L c t1 t2 q) bl ol bi kb nf g s (kind_skeleton_substituted 0 reduce (single (skeleton A) Q) L ∙ rest_skeleton ks ∙ sym (kind_skeleton_substituted 0 reduce (single (skeleton A') M) K)) p is (second_of (strict B F x Q) (strict_at (covered_places Ms) B F x S) e z) (sym (ap (λ b. cond b (found B F n x Q M) (found_at B F n x S Ms)) z) ∙ f))
+      decided (strict B F x Q)
+      (λ z. found_skeleton Σ ok B F n C (context_skeletons E) Ω ν x a N Q A c t1 bl ol bi kb nf g q (subst (λ X. TermSkeleton (constant_skeletons Σ) (context_skeletons E) X (skeleton A)) i (subst (TermSkeleton (constant_skeletons Σ) (context_skeletons E) M) (sym (first_same ks)) (typed_has_skeleton Σ E M A' m))) z (ap (found B F n x Q) (sym i) ∙ sym (ap (λ b. cond b (found B F n x Q M) (found_at B F n x S Ms)) z) ∙ f))
+      (λ z. at_skeleton B F n C E Ω ν x a N S (instantiate_kind A Q L) Ms T (instantiate_kind A' M K) c (next_is_kind C A Q L c t1 t2 q) bl ol bi kb nf g s (kind_skeleton_substituted 0 reduce (single (skeleton A) Q) L ∙ second_same ks ∙ sym (kind_skeleton_substituted 0 reduce (single (skeleton A') M) K)) p is (second_of (strict B F x Q) (strict_at (covered_places Ms) B F x S) e z) (sym (ap (λ b. cond b (found B F n x Q M) (found_at B F n x S Ms)) z) ∙ f))
 
   -- and of a goal
   goal_skeleton : (B F : ℕ → Bool) (n : ℕ) (C E : List LfType) (Ω : List Skeleton) (ν : ℕ → Image) (x : ℕ) (a : Skeleton) (N : Term) (A : LfType) (Ms : List (Option Term)) → IsContext Σ C → IsType Σ C A → BoundLined n C (context_skeletons E) → OuterLined n (context_skeletons E) Ω → BoundIn n B → KeptSame B ν ν → ((i : ℕ) → F i ≡ true → ⊥) → SkeletonAt (context_skeletons C) x a → TypedGoal Σ E ν A Ms → ArePlaces Ms (target_arguments (substitute_type reduce ν A)) → strict_goal (covered_places Ms) B F x A ≡ true → found_goal B F n x A Ms ≡ Some N → TermSkeleton (constant_skeletons Σ) Ω N a
   goal_skeleton B F n C E Ω ν x a N (pi A1 A) Ms c (t1, t2) bl ol bi kb nf g p i e f = goal_skeleton (under B) (hide F) (suc n) (A1 ∷ C) (substitute_type reduce ν A1 ∷ E) Ω (lift ν) (suc x) a N A Ms (c, t1) t2 (subst (λ s. BoundLined (suc n) (A1 ∷ C) (s ∷ context_skeletons E)) (sym (skeleton_substituted reduce ν A1)) (bound_lined_under n C (context_skeletons E) A1 bl)) (outer_lined_under n (context_skeletons E) Ω (skeleton (substitute_type reduce ν A1)) ol) (bound_in_under n B bi) (same_lift B ν ν kb) (none_under F nf) g p i e f
-  goal_skeleton B F n C E Ω ν x a N (atom b S) Ms c (L, l, s) bl ol bi kb nf g (K, k, p) i e f = at_skeleton B F n C E Ω ν x a N S L Ms (substitute_spine reduce ν S) K c (family_kind Σ ok C b L l) bl ol bi kb nf g s (ap (kind_skeleton 0) (some_kind (sym l ∙ k))) p i e f
+  goal_skeleton B F n C E Ω ν x a N (atom b S) Ms c (L, l, s) bl ol bi kb nf g (K, k, p) i e f = at_skeleton B F n C E Ω ν x a N S L Ms (substitute_spine reduce ν S) K c (family_kind Σ ok C b L l) bl ol bi kb nf g s (ap (kind_skeleton 0) (some_same (sym l ∙ k))) p i e f
 
   module _ (R : List Skeleton) where
     -- the type of what is read off at the covered places
@@ -98,7 +89,7 @@ module _ (Σ : Signature) (ok : IsSignature Σ) where
     at_typed B F W C D ν x X a N (app Q S) star (M ∷ Ms) c k w kb bt nf far ht e u ux g s p i z = absurd s
     at_typed B F W C D ν x X a N (app Q S) (kind_pi A L) (None ∷ Ms) c (t1, t2) w kb bt nf far ht e u ux g (q, s) p i z = at_typed B F W C D ν x X a N S (instantiate_kind A Q L) Ms c (next_is_kind C A Q L c t1 t2 q) w kb bt nf far ht e u ux g s (subst (TypedArguments Σ D Ms (substitute_spine reduce ν S)) (sym (substitute_kind_instance Σ ok [] R C D ν A Q L w q (kind_by_skeletons_beside Σ [] (A ∷ C) L t2))) p) i z
     at_typed B F W C D ν x X a N (app Q S) (kind_pi A L) (Some M ∷ Ms) c (t1, t2) w kb bt nf far ht e u ux g (q, s) (m, p) (i, is) z =
-        by_test (strict B F x Q)
+        decided (strict B F x Q)
         (λ y. typed_value Σ ok R B F W C D ν x X a N Q A c t1 w kb bt nf far ht e u ux g q (subst (λ Y. HasType Σ D Y (substitute_type reduce ν A)) i m) y)
         (λ y. at_typed B F W C D ν x X a N S (instantiate_kind A Q L) Ms c (next_is_kind C A Q L c t1 t2 q) w kb bt nf far ht e u ux g s (subst (TypedArguments Σ D Ms (substitute_spine reduce ν S)) (ap (λ Y. instantiate_kind (substitute_type reduce ν A) Y (substitute_kind reduce (lift ν) L)) i ∙ sym (substitute_kind_instance Σ ok [] R C D ν A Q L w q (kind_by_skeletons_beside Σ [] (A ∷ C) L t2))) p) is (second_of (strict B F x Q) (strict_at (covered_places Ms) B F x S) z y))
 
@@ -107,7 +98,7 @@ module _ (Σ : Signature) (ok : IsSignature Σ) where
     goal_typed B F W C D ν x X a N (pi A1 A) Ms c (t1, t2) w kb bt nf p ht e u ux g m i z =
         HasType-unrename Σ ok D (substitute_type reduce ν A1 ∷ D) suc N (substitute_type reduce ν X) (λ i j e. cc) (λ i X g. g)
         (subst (HasType Σ (substitute_type reduce ν A1 ∷ D) (rename suc N)) (lifted_substitution_weakened_type ν X) (goal_typed (under B) (hide F) (hide W) (A1 ∷ C) (substitute_type reduce ν A1 ∷ D) (lift ν) (suc x) (weaken X) a (rename suc N) A Ms (c, t1) t2 (goes_under Σ ok R C D ν A1 w) (same_lift B ν ν kb) (bound_typed_under B C D ν A1 bt) (none_under F nf) (apart_lift W B p) (holds_under W D (substitute_type reduce ν A1) ht) (ap (rename_image suc) e) (uses_renamed W (hide W) suc N (λ i v. v) u) (subst (UsesType (hide W)) (sym (lifted_substitution_weakened_type ν X)) (uses_type_renamed W (hide W) suc (substitute_type reduce ν X) (λ i v. v) ux)) (X, g, refl) m i z))
-    goal_typed B F W C D ν x X a N (atom b S) Ms c (L, l, s) w kb bt nf p ht e u ux g (K, k, m) i z = at_typed B F W C D ν x X a N S L Ms c (family_kind Σ ok C b L l) w kb bt nf p ht e u ux g s (subst (TypedArguments Σ D Ms (substitute_spine reduce ν S)) (some_kind (sym k ∙ l) ∙ sym (closed_kind_substituted Σ reduce ν L (ok.kinds_ok b L l))) m) i z
+    goal_typed B F W C D ν x X a N (atom b S) Ms c (L, l, s) w kb bt nf p ht e u ux g (K, k, m) i z = at_typed B F W C D ν x X a N S L Ms c (family_kind Σ ok C b L l) w kb bt nf p ht e u ux g s (subst (TypedArguments Σ D Ms (substitute_spine reduce ν S)) (some_same (sym k ∙ l) ∙ sym (closed_kind_substituted Σ reduce ν L (ok.kinds_ok b L l))) m) i z
 
 -- What is typed over a case's items and the clause's scope is typed over the items.
 over_case : (Σ : Signature) (ok : IsSignature Σ) (E O : List LfType) (Ms : List (Option Term)) (S : Spine) (K : Kind) → HaveSkeletons (constant_skeletons Σ) (context_skeletons E) Ms → TypedArguments Σ (onto E O) Ms S K → TypedArguments Σ E Ms S K
@@ -163,7 +154,7 @@ module _ (Σ : Signature) (ok : IsSignature Σ) (W : List Block) (typed : AreTyp
   Y i = both (is_given C.given i) (in_context (scope p.clause) i)
 
   given_goal : UsesGoal (λ i. both (is_given C.given i) (in_context (scope p.clause) i)) (other_places C.arguments) p.type
-  given_goal = goal_third (is_given C.given) (in_context O) Y (λ i a b. both_true (is_given C.given i) (in_context O i) a b) (other_places C.arguments) p.type others (goal_part (in_context O) (other_places C.arguments) p.type (typed_uses_type Σ O (in_context O) p.type (in_covers O) tp.type_typed))
+  given_goal = goal_third (is_given C.given) (in_context O) Y (λ i a b. both_of (is_given C.given i) (in_context O i) a b) (other_places C.arguments) p.type others (goal_part (in_context O) (other_places C.arguments) p.type (typed_uses_type Σ O (in_context O) p.type (in_covers O) tp.type_typed))
 
   typed_by : (f : ℕ → Image) → SameOn (λ i. both (is_given C.given i) (in_context (scope p.clause) i)) (given_values C p) f → TypedGoal Σ (items_context C.items) f p.type C.arguments
   typed_by f h = goal_is_typed Σ ok G O Y (given_values C p) f h C.arguments [] p.type tb.kind (ap Σ.kinds tb.same_family ∙ tb.of_family) given_goal (subst (λ L. HaveSkeletons (constant_skeletons Σ) (context_skeletons (onto L G)) C.arguments) tb.local tb.by_skeletons.arguments) (subst (λ L. TypedArguments Σ (onto L (onto G O)) C.arguments (substitute_spine reduce (lift_over (binders [] p.type) (given_values C p)) (target_arguments p.type)) tb.kind) tb.local tb.arguments)
@@ -186,7 +177,7 @@ module _ (Σ : Signature) (ok : IsSignature Σ) (W : List Block) (typed : AreTyp
   -- each has its skeleton
   has_skeleton : (i : ℕ) (A : LfType) (N : Term) → TypeAt (scope p.clause) i A → V i ≡ true → found_term C p i ≡ Some N → TermSkeleton (constant_skeletons Σ) (context_skeletons (items_context C.items)) N (skeleton A)
   has_skeleton i A N h u e =
-      by_test (is_given C.given i)
+      decided (is_given C.given i)
       (λ z.
       let (s, m) = subst (λ y. ImageHasType Σ G y (substitute_type reduce (given_values C p) A)) (given_same C p i A h z ∙ given_found C p i A N h (given_term i N z e)) (tb.given.typed i A h z) in
       subst (TermSkeleton (constant_skeletons Σ) (context_skeletons G) N) (skeleton_substituted reduce (given_values C p) A) (typed_has_skeleton Σ G N (substitute_type reduce (given_values C p) A) m))
@@ -194,7 +185,7 @@ module _ (Σ : Signature) (ok : IsSignature Σ) (W : List Block) (typed : AreTyp
 
   fits : SubstitutionBySkeletons (constant_skeletons Σ) (skeletons_beside [] (scope p.clause)) (skeletons_beside (skeletons_beside [] (scope p.clause)) (items_context C.items)) (patch (ground_in p (covered_places C.arguments) C.given) (items_context C.items) (found_values C p))
   fits j t h =
-      by_test (V j)
+      decided (V j)
       (λ u.
       let (A, x, e) = skeleton_beside_has_variable O j t h in
       let (N, q) = there j A x u in
@@ -209,11 +200,11 @@ module _ (Σ : Signature) (ok : IsSignature Σ) (W : List Block) (typed : AreTyp
       let (N, q) = there i A h u in
       let is : ν i ≡ put (skeleton A) N = found_is i O A (found_term C p i) N h q in
       let even : substitute_type reduce ν A ≡ substitute_type reduce (patch V G ν) A = agree_on_type reduce V ν (patch V G ν) A (patch_same V G ν) (cl i A h u) in
-      subst (λ y. ImageHasType Σ G y (substitute_type reduce ν A)) (sym is) (skeleton_substituted reduce ν A, subst (HasType Σ G N) (sym even) (by_test (is_given C.given i) (λ z. given_case N q z even) (λ z. goal_typed Σ ok R nothing F everything O G (patch V G ν) i A (skeleton A) N p.type C.arguments tp.clause_typed tp.type_typed fits (λ j b. absurd cc) (λ j X b k. absurd cc) (none_fixed p.origin cn) (λ j v b. cc) (λ j X k v. uses_type_all everything X (λ l. refl)) (sym (patch_same V G ν i u) ∙ is) (uses_all everything N (λ j. refl)) (uses_type_all everything (substitute_type reduce (patch V G ν) A) (λ j. refl)) h (typed_by (patch V G ν) given_patched) (goal_agrees V ν (patch V G ν) (patch_same V G ν) C.arguments p.type g same) (ground_is_strict p (covered_places C.arguments) C.given i z (is_own p.origin cn i A h) u))))
+      subst (λ y. ImageHasType Σ G y (substitute_type reduce ν A)) (sym is) (skeleton_substituted reduce ν A, subst (HasType Σ G N) (sym even) (decided (is_given C.given i) (λ z. given_case N q z even) (λ z. goal_typed Σ ok R nothing F everything O G (patch V G ν) i A (skeleton A) N p.type C.arguments tp.clause_typed tp.type_typed fits (λ j b. absurd cc) (λ j X b k. absurd cc) (none_fixed p.origin cn) (λ j v b. cc) (λ j X k v. uses_type_all everything X (λ l. refl)) (sym (patch_same V G ν i u) ∙ is) (uses_all everything N (λ j. refl)) (uses_type_all everything (substitute_type reduce (patch V G ν) A) (λ j. refl)) h (typed_by (patch V G ν) given_patched) (goal_agrees V ν (patch V G ν) (patch_same V G ν) C.arguments p.type g same) (ground_is_strict p (covered_places C.arguments) C.given i z (is_own p.origin cn i A h) u))))
     where
       given_case : (N : Term) → found_term C p i ≡ Some N → is_given C.given i ≡ true → substitute_type reduce ν A ≡ substitute_type reduce (patch V G ν) A → HasType Σ G N (substitute_type reduce (patch V G ν) A)
       given_case N q z even =
-          let e : substitute_type reduce (given_values C p) A ≡ substitute_type reduce ν A = agree_on_type reduce Y (given_values C p) ν A given_on (type_third (is_given C.given) (in_context O) Y (λ j a b. both_true (is_given C.given j) (in_context O j) a b) A (tb.given.closed i A h z) (typed_uses_type Σ O (in_context O) A (in_covers O) (declared_is_type Σ ok O i A tp.clause_typed h))) in
+          let e : substitute_type reduce (given_values C p) A ≡ substitute_type reduce ν A = agree_on_type reduce Y (given_values C p) ν A given_on (type_third (is_given C.given) (in_context O) Y (λ j a b. both_of (is_given C.given j) (in_context O j) a b) A (tb.given.closed i A h z) (typed_uses_type Σ O (in_context O) A (in_covers O) (declared_is_type Σ ok O i A tp.clause_typed h))) in
           subst (HasType Σ G N) (e ∙ even) (subst (λ y. ImageHasType Σ G y (substitute_type reduce (given_values C p) A)) (given_same C p i A h z ∙ given_found C p i A N h (given_term i N z q)) (tb.given.typed i A h z)).1
 
   pub goal_matches : Matches Σ C p

@@ -68,7 +68,7 @@ module _ (Σ : Signature) (ok : IsSignature Σ) (W : List Block) (typed : AreTyp
   front_typed C G X x τ t h zero A e = subst (ImageHasType Σ G x) (sym (ap (substitute_type reduce (in_front x τ)) e ∙ substitute_renamed_type reduce (in_front x τ) suc X)) h
   front_typed C G X x τ t h (suc i) A (B, g, e) = subst (ImageHasType Σ G (τ i)) (sym (ap (substitute_type reduce (in_front x τ)) e ∙ substitute_renamed_type reduce (in_front x τ) suc B)) (t i B g)
 
-  behind_one : (C G : List LfType) (X : LfType) (θ : ℕ → Image) → IsTypedSubstitution Σ (X ∷ C) G θ → IsTypedSubstitution Σ C G (λ i. θ (suc i))
+  pub behind_one : (C G : List LfType) (X : LfType) (θ : ℕ → Image) → IsTypedSubstitution Σ (X ∷ C) G θ → IsTypedSubstitution Σ C G (λ i. θ (suc i))
   behind_one C G X θ t i A g = subst (ImageHasType Σ G (θ (suc i))) (substitute_renamed_type reduce θ suc A) (t (suc i) (weaken A) (A, g, refl))
 
   entries_typed : (es O C G : List LfType) (θ υ τ : ℕ → Image) → IsContext Σ (onto es O) → IsTypedSubstitution Σ O C υ → IsTypedSubstitution Σ (onto es O) G θ → IsTypedSubstitution Σ C G τ → ((i : ℕ) (A : LfType) → TypeAt O i A → as_term (skeleton A) (behind_entries es θ i) ≡ as_term (skeleton A) (after τ υ i)) → IsTypedSubstitution Σ (onto (instance es υ) C) G (entries_in_front es θ τ)

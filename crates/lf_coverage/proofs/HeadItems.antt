@@ -6,10 +6,12 @@ use Rattle.lf.specs.Substitution.{Image, lift, single, substitute, substitute_sp
 use Rattle.lf.specs.Typing.{Signature, SpineType, SpineFitsKind, instantiate_type, instantiate_kind}
 use Rattle.lf.specs.Variables.{target}
 use Rattle.lf_checks.specs.Marks.{Mark, output, output_places, input_places, NoneFree, SamePlaces}
+use Rattle.lf_checks.specs.ModeForms.{argument_count}
 use Rattle.lf_cases.specs.Case.{Item, free_variable, HasArguments, chosen_count}
 use Rattle.lf_cases.specs.Raised.{raise_by, raised_over, first_mask, other_masks}
 use Rattle.lf_cases.specs.OutputGoal.{renumber, over_item, raised_variable, output_masks, output_items, output_arguments}
 use Rattle.lf_cases.specs.Reached.{arguments_count, head_masks, head_items, head_spine}
+use Rattle.lf_coverage.proofs.Parts.{suc_same}
 
 -- A type as a kind with the same quantifiers, all of whose places are outputs.
 abbrev pub type_kind : LfType → Kind
@@ -38,22 +40,15 @@ kind_put_in : (A : LfType) (M : Term) (ρ : ℕ → ℕ) (B : LfType) → type_k
 kind_put_in A M ρ B = kind_substituted (single (Rattle.lf.specs.Syntax.skeleton A) M) (rename_type ρ B) ∙ ap (instantiate_kind A M) (kind_renamed ρ B)
 
 -- how many arguments a spine has
-abbrev pub spine_length : Spine → ℕ
-spine_length nil = zero
-spine_length (app M S) = suc (spine_length S)
-
-pub length_renamed : (ρ : ℕ → ℕ) (S : Spine) → spine_length (rename_spine ρ S) ≡ spine_length S
+pub length_renamed : (ρ : ℕ → ℕ) (S : Spine) → argument_count (rename_spine ρ S) ≡ argument_count S
 length_renamed ρ nil = refl
 length_renamed ρ (app M S) = ap suc (length_renamed ρ S)
-
-suc_inj : {m n : ℕ} → suc m ≡ suc n → m ≡ n
-suc_inj e = omega arith
 
 no_zero : {n : ℕ} → zero ≡ suc n → ⊥
 no_zero e = omega arith
 
 -- The items are those of the outputs of such a kind.
-pub same_items : (ks : List (List Bool)) (D : List LfType) (n : ℕ) (S : Spine) (A : LfType) (I : List Item) → spine_length S ≡ n → output_items ks D (output_places (outputs n)) S (type_kind A) I ≡ head_items ks D n A I
+pub same_items : (ks : List (List Bool)) (D : List LfType) (n : ℕ) (S : Spine) (A : LfType) (I : List Item) → argument_count S ≡ n → output_items ks D (output_places (outputs n)) S (type_kind A) I ≡ head_items ks D n A I
 same_items ks D zero S A I e = refl
 same_items ks D (suc n) nil A I e = absurd (no_zero e)
 same_items ks D (suc n) (app M S) (atom a T) I e = refl
@@ -62,10 +57,10 @@ same_items ks D (suc n) (app M S) (pi A B) I e =
     let ρ : ℕ → ℕ = lift_renaming (over_item D) in
     let J : List Item = free_variable (raise_by (first_mask ks) D A) ∷ I in
     ap (λ K. output_items (other_masks ks) (renumber suc D) (output_places (outputs n)) (rename_spine (over_item D) S) K J) (sym (kind_put_in A N ρ B))
-    ∙ same_items (other_masks ks) (renumber suc D) n (rename_spine (over_item D) S) (instantiate_type A N (rename_type ρ B)) J (length_renamed (over_item D) S ∙ suc_inj e)
+    ∙ same_items (other_masks ks) (renumber suc D) n (rename_spine (over_item D) S) (instantiate_type A N (rename_type ρ B)) J (length_renamed (over_item D) S ∙ suc_same e)
 
 -- so are the local variables over which they are raised
-pub same_masks : (below : ℕ → ℕ → Bool) (D : List LfType) (n : ℕ) (S : Spine) (A : LfType) → spine_length S ≡ n → output_masks below D (output_places (outputs n)) S (type_kind A) ≡ head_masks below D n A
+pub same_masks : (below : ℕ → ℕ → Bool) (D : List LfType) (n : ℕ) (S : Spine) (A : LfType) → argument_count S ≡ n → output_masks below D (output_places (outputs n)) S (type_kind A) ≡ head_masks below D n A
 same_masks below D zero S A e = refl
 same_masks below D (suc n) nil A e = absurd (no_zero e)
 same_masks below D (suc n) (app M S) (atom a T) e = refl
@@ -75,7 +70,7 @@ same_masks below D (suc n) (app M S) (pi A B) e =
     ap (λ ks. raised_over (below (target A)) D A ∷ ks)
     (
     ap (λ K. output_masks below (renumber suc D) (output_places (outputs n)) (rename_spine (over_item D) S) K) (sym (kind_put_in A N ρ B))
-    ∙ same_masks below (renumber suc D) n (rename_spine (over_item D) S) (instantiate_type A N (rename_type ρ B)) (length_renamed (over_item D) S ∙ suc_inj e)
+    ∙ same_masks below (renumber suc D) n (rename_spine (over_item D) S) (instantiate_type A N (rename_type ρ B)) (length_renamed (over_item D) S ∙ suc_same e)
     )
 
 pub count_is : (A : LfType) → chosen_count (output_places (outputs (arguments_count A))) (type_kind A) ≡ arguments_count A
@@ -94,13 +89,13 @@ none_free zero = tt
 none_free (suc n) = none_free n
 
 -- nothing is asked at the inputs: there are none
-pub no_inputs : (n : ℕ) (S T : Spine) → spine_length S ≡ n → spine_length T ≡ n → SamePlaces (input_places (outputs n)) S T
+pub no_inputs : (n : ℕ) (S T : Spine) → argument_count S ≡ n → argument_count T ≡ n → SamePlaces (input_places (outputs n)) S T
 no_inputs zero nil nil e f = tt
 no_inputs zero nil (app N T) e f = absurd (no_zero (sym f))
 no_inputs zero (app M S) T e f = absurd (no_zero (sym e))
 no_inputs (suc n) nil T e f = absurd (no_zero e)
 no_inputs (suc n) (app M S) nil e f = absurd (no_zero f)
-no_inputs (suc n) (app M S) (app N T) e f = no_inputs n S T (suc_inj e) (suc_inj f)
+no_inputs (suc n) (app M S) (app N T) e f = no_inputs n S T (suc_same e) (suc_same f)
 
 -- a spine that takes a type to an atom fits that kind, and has as many arguments as the type has quantifiers
 pub fits_kind : (Σ : Signature) (G : List LfType) (S : Spine) (A : LfType) (a : ℕ) (T : Spine) → SpineType Σ G S A (atom a T) → SpineFitsKind Σ G S (type_kind A)
@@ -108,11 +103,15 @@ fits_kind Σ G nil A a T e = subst (λ X. SpineFitsKind Σ G nil (type_kind X)) 
 fits_kind Σ G (app M S) (pi A B) a T (m, s) = (m, subst (SpineFitsKind Σ G S) (kind_substituted (single (Rattle.lf.specs.Syntax.skeleton A) M) B) (fits_kind Σ G S (instantiate_type A M B) a T s))
 fits_kind Σ G (app M S) (atom b U) a T s = absurd s
 
+pub count_renamed : (ρ : ℕ → ℕ) (A : LfType) → arguments_count (rename_type ρ A) ≡ arguments_count A
+count_renamed ρ (pi A B) = ap suc (count_renamed (lift_renaming ρ) B)
+count_renamed ρ (atom a S) = refl
+
 pub count_substituted : (σ : ℕ → Image) (A : LfType) → arguments_count (substitute_type reduce σ A) ≡ arguments_count A
 count_substituted σ (pi A B) = ap suc (count_substituted (lift σ) B)
 count_substituted σ (atom a S) = refl
 
-pub length_is : (Σ : Signature) (G : List LfType) (S : Spine) (A : LfType) (a : ℕ) (T : Spine) → SpineType Σ G S A (atom a T) → spine_length S ≡ arguments_count A
+pub length_is : (Σ : Signature) (G : List LfType) (S : Spine) (A : LfType) (a : ℕ) (T : Spine) → SpineType Σ G S A (atom a T) → argument_count S ≡ arguments_count A
 length_is Σ G nil A a T e = ap arguments_count (sym e)
 length_is Σ G (app M S) (pi A B) a T (m, s) = ap suc (length_is Σ G S (instantiate_type A M B) a T s ∙ count_substituted (single (Rattle.lf.specs.Syntax.skeleton A) M) B)
 length_is Σ G (app M S) (atom b U) a T s = absurd s

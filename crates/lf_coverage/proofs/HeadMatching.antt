@@ -3,12 +3,11 @@ use Rattle.std.proofs.Common.{◌≡◌, ℕ, zero, suc, List, [], ◌∷◌, le
 use Rattle.std.specs.Prelude.{Bool, true, false, Option, Some, None}
 use Rattle.lf.specs.Syntax.{constant, variable, metavariable, Term, Spine, lambda, root, nil, app, LfType, Kind, kind_pi, star, Skeleton, base, arrow, skeleton, kind_skeleton, rename}
 use Rattle.lf.specs.AtOnce.{in_front}
-use Rattle.lf.specs.Substitution.{Image, keep, put, rename_image, lift, single, substitute_image, substitute_type, substitute_kind, reduce, after}
+use Rattle.lf.specs.Substitution.{Image, keep, put, lift, single, substitute_type, substitute_kind, reduce}
 use Rattle.lf.specs.SkeletonTyping.{SkeletonAt, TermSkeleton, SpineSkeleton, KindBySkeletons, SubstitutionBySkeletons}
 use Rattle.lf.specs.Skeletons.{constant_skeletons, family_skeletons, context_skeletons}
 use Rattle.lf.specs.Typing.{Signature, TypeAt, HasType, IsSignature, instantiate_kind}
 use Rattle.lf.specs.Variables.{target, target_arguments, onto, under, everything, Uses, UsesSpine}
-use Rattle.lf.proofs.Renaming.{substitute_weakened}
 use Rattle.lf.proofs.SkeletonTypes.{substitutions_compose_kind}
 use Rattle.lf.proofs.SkeletonTyping.{lift_by_skeletons, single_by_skeletons, substitution_keeps_spine_skeletons}
 use Rattle.lf.proofs.Strength.{strengthening_keeps_typing}
@@ -35,6 +34,8 @@ use Rattle.lf_coverage.proofs.Leaves.{head_is_typed}
 use Rattle.lf_coverage.proofs.Matched.{instance_matches}
 use Rattle.lf_coverage.proofs.MatchInstance.{instance_is_decided, match_is_instance}
 use Rattle.lf_coverage.proofs.MeetReady.{arguments_fit, given_near}
+use Rattle.lf_coverage.proofs.InputTyped.{front_pointwise}
+use Rattle.lf_coverage.proofs.Parts.{some_same}
 use mathlib.Core.Path.{fun_ext}
 
 -- what is typed by skeletons uses variables of its context
@@ -63,15 +64,6 @@ first_type [] O i A g e = absurd cc
 first_type (B ∷ G) O zero A g e = g
 first_type (B ∷ G) O (suc i) A (X, g, q) e = (X, first_type G O i X g e, q)
 
--- one more value, after the others
-single_after : (a : Skeleton) (N : Term) (θ : ℕ → Image) (i : ℕ) → after (single a N) (lift θ) i ≡ in_front (put a N) θ i
-single_after a N θ zero = refl
-single_after a N θ (suc i) = around (θ i)
-  where
-    around : (x : Image) → substitute_image (single a N) (rename_image suc x) ≡ x
-    around (keep k) = refl
-    around (put b P) = ap (put b) (substitute_weakened reduce a N P)
-
 module _ (Σ : Signature) (ok : IsSignature Σ) (G O : List LfType) where
   front_fits : (Γ Δ : List Skeleton) (a : Skeleton) (N : Term) (η : ℕ → Image) → TermSkeleton (constant_skeletons Σ) Δ N a → SubstitutionBySkeletons (constant_skeletons Σ) Γ Δ η → SubstitutionBySkeletons (constant_skeletons Σ) (a ∷ Γ) Δ (in_front (put a N) η)
   front_fits Γ Δ a N η n w zero t e = (e, n)
@@ -81,7 +73,7 @@ module _ (Σ : Signature) (ok : IsSignature Σ) (G O : List LfType) where
   next_kind Γ η A N K w k n =
       ap (λ t. substitute_kind reduce (single t N) (substitute_kind reduce (lift η) K)) (skeleton_substituted reduce η A)
       ∙ substitutions_compose_kind (family_skeletons Σ) (constant_skeletons Σ) (skeleton A ∷ Γ) (skeleton A ∷ context_skeletons (onto G O)) (context_skeletons (onto G O)) (lift η) (single (skeleton A) N) K (lift_by_skeletons (constant_skeletons Σ) (skeleton A) Γ (context_skeletons (onto G O)) η w) (single_by_skeletons (constant_skeletons Σ) (skeleton A) (context_skeletons (onto G O)) N n) k
-      ∙ ap (λ f. substitute_kind reduce f K) (fun_ext (single_after (skeleton A) N η))
+      ∙ ap (λ f. substitute_kind reduce f K) (fun_ext (front_pointwise (skeleton A) N η))
 
   -- a term of the case is typed over its items alone
   pub over_items : (M : Term) (t : Skeleton) (A : LfType) → TermSkeleton (constant_skeletons Σ) (context_skeletons G) M t → HasType Σ (onto G O) M A → HasType Σ G M A
@@ -106,16 +98,13 @@ module _ (Σ : Signature) (ok : IsSignature Σ) (G O : List LfType) where
       let (T, p, ts) = typed_places Ms S K (skeleton A ∷ Γ) (in_front (put (skeleton A) N) η) k (front_fits Γ (context_skeletons (onto G O)) (skeleton A) N η n w) hm s (subst (TypedArguments Σ (onto G O) Ms S) (next_kind Γ η A N K w k n) a) in
       (app N T, p, ts)
 
-some_kind : {K L : Kind} → Some K ≡ Some L → K ≡ L
-some_kind e = cc
-
 pub head_matching_decides : HeadMatchingDecides
 head_matching_decides Σ ok W typed C c i cn tb ng K kd v =
     let p : Pattern = head_pattern c (origin i) in
     let G : List LfType = items_context C.items in
     let O : List LfType = scope c in
     let tp : IsTypedPattern Σ p = head_is_typed Σ ok W typed c i in
-    let kk : tb.kind ≡ K = some_kind (sym tb.of_family ∙ ap Σ.kinds (sym tb.same_family) ∙ kd) in
+    let kk : tb.kind ≡ K = some_same (sym tb.of_family ∙ ap Σ.kinds (sym tb.same_family) ∙ kd) in
     let fits : SubstitutionBySkeletons (constant_skeletons Σ) (context_skeletons O) (context_skeletons (onto G O)) (given_images (scope c) C.given (length (items_context C.items))) = given_fits Σ G O C.given (given_near Σ ok W typed C p tp tb) in
     let ss : SpineSkeleton (constant_skeletons Σ) (context_skeletons O) (target_arguments c.type) (kind_skeleton 0 tb.kind) (base 0) = kind_spine_has_skeleton Σ 0 O (target_arguments c.type) tb.kind (arguments_fit Σ ok W typed C p tp tb) in
     let S : Spine = with_given C c [] (target_arguments c.type) in

@@ -1,6 +1,6 @@
 -- The arguments of a head use only the variables whose families are below their own.
-use Rattle.std.proofs.Common.{◌≡◌, ℕ, zero, suc, List, [], ◌∷◌, refl, sym, ap, ap₂, ◌∙◌, subst, arith}
-use Rattle.std.specs.Prelude.{Bool, true, false}
+use Rattle.std.proofs.Common.{◌≡◌, ℕ, zero, suc, List, [], ◌∷◌, sym, ap, ◌∙◌, subst}
+use Rattle.std.specs.Prelude.{Bool, true}
 use Rattle.lf.specs.Syntax.{Term, Spine, nil, app, LfType, pi, atom, Kind, kind_pi, star, skeleton, weaken, rename_type}
 use Rattle.lf.specs.Substitution.{Image, single, lift, substitute_type, reduce}
 use Rattle.lf.specs.Typing.{Signature, SpineType, IsType, IsContext, instantiate_type}
@@ -10,7 +10,7 @@ use Rattle.lf.specs.Worlds.{World}
 use Rattle.lf.specs.Extension.{Extends}
 use Rattle.lf.proofs.Conservativity.{SelfContained-extends}
 use Rattle.lf.proofs.ExtensionTyping.{extension_over_less}
-use Rattle.lf.proofs.Strength.{families_renamed, families_substituted}
+use Rattle.lf.proofs.Strength.{families_renamed, families_substituted, family_target}
 use Rattle.lf.proofs.Strengthening.{TypesIn, world_types}
 use Rattle.lf.proofs.Substitution.{instance_is_type}
 use Rattle.lf.proofs.Target.{target_renamed, target_of}
@@ -19,21 +19,13 @@ use Rattle.lf_checks.specs.Marks.{output_places}
 use Rattle.lf_checks.specs.Tests.{both}
 use Rattle.lf_cases.specs.Raised.{LowPlaces, low}
 use Rattle.lf.proofs.Agreement.{uses_within}
+use Rattle.lf.proofs.Checker.{both_of}
+use Rattle.lf_checks.proofs.EtaTest.{both_l, both_r}
 use Rattle.lf_cases.specs.Reached.{arguments_count}
 use Rattle.lf_cases.proofs.Raised.{uses_low}
 use Rattle.lf_coverage.specs.Heads.{ArgumentsAreBelow}
 use Rattle.lf_coverage.proofs.HeadItems.{type_kind, outputs, kind_substituted, count_substituted}
-
-both_left : (a b : Bool) → both a b ≡ true → a ≡ true
-both_left true b e = refl
-both_left false b e = absurd cc
-
-both_right : (a b : Bool) → both a b ≡ true → b ≡ true
-both_right true b e = e
-both_right false b e = absurd cc
-
-both_of : (a b : Bool) → a ≡ true → b ≡ true → both a b ≡ true
-both_of a b e f = ap₂ both e f
+use Rattle.lf_coverage.proofs.Parts.{suc_same}
 
 pub families_within : (S T : ℕ → Bool) → Within S T → (A : LfType) → FamiliesIn S A → FamiliesIn T A
 families_within S T w (pi A B) (a, b) = (families_within S T w A a, families_within S T w B b)
@@ -47,10 +39,6 @@ pub families_unrenamed : (S : ℕ → Bool) (ρ : ℕ → ℕ) (A : LfType) → 
 families_unrenamed S ρ (pi A B) (a, b) = (families_unrenamed S ρ A a, families_unrenamed S (Rattle.lf.specs.Syntax.lift_renaming ρ) B b)
 families_unrenamed S ρ (atom a T) h = h
 
-pub target_in : (S : ℕ → Bool) (A : LfType) → FamiliesIn S A → S (target A) ≡ true
-target_in S (pi A B) (a, b) = target_in S B b
-target_in S (atom a T) h = h
-
 pub below_substituted : (below : ℕ → ℕ → Bool) (σ : ℕ → Image) (A : LfType) → ArgumentsAreBelow below A → ArgumentsAreBelow below (substitute_type reduce σ A)
 below_substituted below σ (pi A B) (a, b) = (subst (λ t. FamiliesIn (below t) (substitute_type reduce σ A)) (sym (target_of reduce σ A)) (families_substituted (below (target A)) reduce σ A a), below_substituted below (lift σ) B b)
 below_substituted below σ (atom a T) h = tt
@@ -61,10 +49,10 @@ module _ (Σ : Signature) (W : List Block) (below : ℕ → ℕ → Bool) (s : I
   part g a = both (Low a) (below g a)
 
   pub part_low : (g : ℕ) → Within (part g) Low
-  part_low g a e = both_left (Low a) (below g a) e
+  part_low g a e = both_l (Low a) (below g a) e
 
   part_below : (g : ℕ) → Within (part g) (below g)
-  part_below g a e = both_right (Low a) (below g a) e
+  part_below g a e = both_r (Low a) (below g a) e
 
   part_through : (g f : ℕ) → part g f ≡ true → Within (part f) (part g)
   part_through g f e a h = both_of (Low a) (below g a) (part_low f a h) (s.through g f (part_below g f e) a (part_below f a h))
@@ -118,14 +106,11 @@ module _ (Σ : Signature) (W : List Block) (below : ℕ → ℕ → Bool) (s : I
   spine_low D G c h zero S A a T fa ba ta st e = tt
   spine_low D G c h (suc n) nil A a T fa ba ta st e = tt
   spine_low D G c h (suc n) (app M S) (pi A B) a T (fa, fb) (ba, bb) (ta, tb) (m, st) e =
-      let b : Low (target A) ≡ true = target_in Low A fa in
+      let b : Low (target A) ≡ true = family_target Low A fa in
       let g : ℕ = target A in
       let σ : ℕ → Image = single (skeleton A) M in (
         uses_within (low (part g) D) (low (below g) D) M (low_within g D) (uses_low Σ' x.ok W (part g) (SelfContained-extends Σ Σ' W (part g) (extension_over_less Low (part g) Σ Σ' (part_low g) x) (part_contained g b)) D G (h g b) M A (in_part g A fa ba) m),
         subst (LowPlaces below D (output_places (outputs n)) S) (kind_substituted σ B)
             (spine_low D G c h n S (instantiate_type A M B) a T (families_substituted Low reduce σ B fb) (below_substituted below σ B bb) (instance_is_type Σ' x.ok (onto D G) A M B c ta tb m) st (count_substituted σ B ∙ suc_same e)),
       )
-    where
-      suc_same : suc (arguments_count B) ≡ suc n → arguments_count B ≡ n
-      suc_same e = omega arith
   spine_low D G c h (suc n) (app M S) (atom b U) a T fa ba ta st e = absurd st

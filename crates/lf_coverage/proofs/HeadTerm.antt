@@ -15,6 +15,7 @@ use Rattle.lf.proofs.TypeLaws.{skeleton_renamed}
 use Rattle.lf_unification.specs.Offering.{pi_over}
 use Rattle.lf_cases.specs.Case.{Item, items_context}
 use Rattle.lf_cases.specs.Reached.{arguments_count, head_masks, head_spine, head_term, with_block, taken, SplitHead, constant_head, bound_head, entry_head, new_entry_head, split_items}
+use Rattle.lf_totality.proofs.RaisedOutputs.{binders_over}
 use Rattle.lf_coverage.proofs.Forms.{renaming_near, renaming_far, as_pis, no_shift_type}
 use Rattle.lf_coverage.proofs.ResultType.{spine_fits}
 use Rattle.lf_coverage.proofs.Transfer.{behind_head, onto_skeleton}
@@ -44,11 +45,17 @@ pub taken_length : (ρ : ℕ → ℕ) (X : LfType) (Y Z : List LfType) → lengt
 taken_length ρ (pi A B) Y Z e = taken_length (Rattle.lf.specs.Syntax.lift_renaming ρ) B (rename_type ρ A ∷ Y) (A ∷ Z) (ap suc e)
 taken_length ρ (atom a S) Y Z e = e
 
-binders_over : (Y : List LfType) (B : LfType) (G : List LfType) → binders (onto Y G) B ≡ onto (binders Y B) G
-binders_over Y (pi A B) G = binders_over (A ∷ Y) B G
-binders_over Y (atom a S) G = refl
-
 module _ (Σ : Signature) (W : List Block) (below : ℕ → ℕ → Bool) (I : List Item) (X : LfType) where
+  -- an entry has the skeleton of its type behind the items of a head
+  far_entry : (J : List Item) (n j : ℕ) (B : LfType) → TypeAt (items_context J) j B → length (taken (rename_type (shift_by n) X)) ≡ length (taken X) → SkeletonAt (context_skeletons (onto (taken (rename_type (shift_by n) X)) (items_context (split_items below X J n (rename_type (shift_by (length (taken X))) B))))) (lift_renaming_by (length (taken (rename_type (shift_by n) X))) (shift_by (arguments_count (rename_type (shift_by (length (taken X))) B))) (j + length (taken X))) (skeleton (rename_type (shift_by (length (taken X))) B))
+  far_entry J n j B k e =
+      let A : LfType = rename_type (shift_by (length (taken X))) B in
+      let D : List LfType = taken (rename_type (shift_by n) X) in
+      let c : ℕ = arguments_count A in
+      let O : List LfType = items_context (split_items below X J n A) in
+      let g : SkeletonAt (context_skeletons O) (j + c) (skeleton A) = behind_head (head_masks below D c A) D c A J refl j (skeleton A) (subst (SkeletonAt (context_skeletons (items_context J)) j) (sym (skeleton_renamed (shift_by (length (taken X))) B)) (variable_has_skeleton (items_context J) j B k)) in
+      subst (λ i. SkeletonAt (context_skeletons (onto D O)) i (skeleton A)) (sym (ap (λ m. lift_renaming_by (length D) (shift_by c) (j + m)) (sym e) ∙ renaming_far (length D) (shift_by c) j)) (onto_skeleton D O (j + c) (skeleton A) g)
+
   -- the head has the skeleton of its type
   head_fits : (J : List Item) (n : ℕ) (h : Head) (A : LfType) → SplitHead Σ W I X J n h A → HeadSkeleton (constant_skeletons Σ) (context_skeletons (onto (taken (rename_type (shift_by n) X)) (items_context (split_items below X J n A)))) (rename_head (lift_renaming_by (length (taken (rename_type (shift_by n) X))) (shift_by (arguments_count A))) h) (skeleton A)
   head_fits J n h A (constant_head k U e t) = ap type_skeleton e
@@ -61,25 +68,7 @@ module _ (Σ : Signature) (W : List Block) (below : ℕ → ℕ → Bool) (I : L
       let O : List LfType = items_context (split_items below X I 0 B) in
       subst (λ i. SkeletonAt (context_skeletons (onto D O)) i (skeleton B)) (sym (renaming_near (length D) (shift_by (arguments_count B)) j l')) (near_skeleton D C O j (skeleton B) l' (subst (λ L. SkeletonAt (context_skeletons (onto L C)) j (skeleton B)) q g))
   head_fits J n h A (entry_head j B k f t) = far_entry I 0 j B k (taken_length (shift_by 0) X [] [] refl)
-    where
-      far_entry : (J : List Item) (n j : ℕ) (B : LfType) → TypeAt (items_context J) j B → length (taken (rename_type (shift_by n) X)) ≡ length (taken X) → SkeletonAt (context_skeletons (onto (taken (rename_type (shift_by n) X)) (items_context (split_items below X J n (rename_type (shift_by (length (taken X))) B))))) (lift_renaming_by (length (taken (rename_type (shift_by n) X))) (shift_by (arguments_count (rename_type (shift_by (length (taken X))) B))) (j + length (taken X))) (skeleton (rename_type (shift_by (length (taken X))) B))
-      far_entry J n j B k e =
-          let A : LfType = rename_type (shift_by (length (taken X))) B in
-          let D : List LfType = taken (rename_type (shift_by n) X) in
-          let c : ℕ = arguments_count A in
-          let O : List LfType = items_context (split_items below X J n A) in
-          let g : SkeletonAt (context_skeletons O) (j + c) (skeleton A) = behind_head (head_masks below D c A) D c A J refl j (skeleton A) (subst (SkeletonAt (context_skeletons (items_context J)) j) (sym (skeleton_renamed (shift_by (length (taken X))) B)) (variable_has_skeleton (items_context J) j B k)) in
-          subst (λ i. SkeletonAt (context_skeletons (onto D O)) i (skeleton A)) (sym (ap (λ m. lift_renaming_by (length D) (shift_by c) (j + m)) (sym e) ∙ renaming_far (length D) (shift_by c) j)) (onto_skeleton D O (j + c) (skeleton A) g)
   head_fits J n h A (new_entry_head B j C m l k t) = far_entry (with_block B I) (length B.some + length B.entries) j C k (taken_length (shift_by (length B.some + length B.entries)) X [] [] refl)
-    where
-      far_entry : (J : List Item) (n j : ℕ) (B : LfType) → TypeAt (items_context J) j B → length (taken (rename_type (shift_by n) X)) ≡ length (taken X) → SkeletonAt (context_skeletons (onto (taken (rename_type (shift_by n) X)) (items_context (split_items below X J n (rename_type (shift_by (length (taken X))) B))))) (lift_renaming_by (length (taken (rename_type (shift_by n) X))) (shift_by (arguments_count (rename_type (shift_by (length (taken X))) B))) (j + length (taken X))) (skeleton (rename_type (shift_by (length (taken X))) B))
-      far_entry J n j B k e =
-          let A : LfType = rename_type (shift_by (length (taken X))) B in
-          let D : List LfType = taken (rename_type (shift_by n) X) in
-          let c : ℕ = arguments_count A in
-          let O : List LfType = items_context (split_items below X J n A) in
-          let g : SkeletonAt (context_skeletons O) (j + c) (skeleton A) = behind_head (head_masks below D c A) D c A J refl j (skeleton A) (subst (SkeletonAt (context_skeletons (items_context J)) j) (sym (skeleton_renamed (shift_by (length (taken X))) B)) (variable_has_skeleton (items_context J) j B k)) in
-          subst (λ i. SkeletonAt (context_skeletons (onto D O)) i (skeleton A)) (sym (ap (λ m. lift_renaming_by (length D) (shift_by c) (j + m)) (sym e) ∙ renaming_far (length D) (shift_by c) j)) (onto_skeleton D O (j + c) (skeleton A) g)
 
   -- its target is that of the variable
   pub head_target : (J : List Item) (n : ℕ) (h : Head) (A : LfType) → SplitHead Σ W I X J n h A → target A ≡ target X

@@ -19,7 +19,7 @@ use Rattle.lf.proofs.Renaming.{substitute_weakened}
 use Rattle.lf.proofs.SkeletonTypes.{substitutions_compose_kind}
 use Rattle.lf.proofs.SkeletonTyping.{lift_by_skeletons, single_by_skeletons, substitution_keeps_spine_skeletons}
 use Rattle.lf.proofs.ToSkeletons.{type_by_skeletons, kind_by_skeletons, kind_spine_has_skeleton, typed_has_skeleton, variable_has_skeleton}
-use Rattle.lf.proofs.TypeLaws.{skeleton_renamed, skeleton_substituted, renamings_compose_type, rename_weakened, substitute_identity_kind, substitution_as_renaming_type}
+use Rattle.lf.proofs.TypeLaws.{skeleton_renamed, skeleton_substituted, renamings_compose_type, substitute_identity_kind, substitution_as_renaming_type}
 use Rattle.lf.proofs.Uses.{uses_type_renamed}
 use Rattle.lf_checks.specs.Clause.{Clause, scope}
 use Rattle.lf_checks.specs.Marks.{MentionChosenOnly}
@@ -31,10 +31,12 @@ use Rattle.lf_coverage.specs.Heads.{HaveSkeletons, IsTypedCase}
 use Rattle.lf_coverage.specs.TypedLocal.{HasTypedLocal}
 use Rattle.lf_coverage.specs.Leaf.{IsTypedPattern}
 use Rattle.lf_coverage.specs.TypedCase.{TypedArguments, IsTypedBeside}
-use Rattle.lf_coverage.proofs.Forms.{no_shift_type}
+use Rattle.lf_coverage.specs.Matching.{HoldsTypes}
+use Rattle.lf_coverage.proofs.Forms.{no_shift_type, near_type}
 use Rattle.lf_coverage.proofs.GivenValues.{given_fits, onto_context, values_near}
 use Rattle.lf_coverage.proofs.ItemsContext.{items_are_context}
-use Rattle.lf_coverage.proofs.Meeting.{near_type}
+use Rattle.lf_coverage.proofs.Strip.{under_binder}
+use Rattle.lf_coverage.proofs.Parts.{some_same, no_arrow}
 use mathlib.Core.Path.{fun_ext}
 
 -- Values that are eta-long variables do what a renaming does, to a text that uses only these.
@@ -73,7 +75,7 @@ module _ (κ : HeadSkeletons) where
   eta_on_type φ U Γ Δ σ ρ s h (atom a S) (t, e, m) u = ap (atom a) (eta_on_spine U Γ Δ σ ρ s h S t (base a) m u)
 
 -- one more argument put in
-front_pointwise : (a : Skeleton) (N : Term) (σ : ℕ → Image) (i : ℕ) → after (single a N) (lift σ) i ≡ in_front (put a N) σ i
+pub front_pointwise : (a : Skeleton) (N : Term) (σ : ℕ → Image) (i : ℕ) → after (single a N) (lift σ) i ≡ in_front (put a N) σ i
 front_pointwise a N σ zero = refl
 front_pointwise a N σ (suc i) = around (σ i)
   where
@@ -91,38 +93,30 @@ pub front_fits : (κ : HeadSkeletons) (Γ Δ : List Skeleton) (a : Skeleton) (N 
 front_fits κ Γ Δ a N σ m s zero t g = (g, m)
 front_fits κ Γ Δ a N σ m s (suc i) t g = s i t g
 
--- the set is closed under the types of its variables
-abbrev pub IsClosed : (ℕ → Bool) → List LfType → Type 0
-IsClosed V G = (i : ℕ) (A : LfType) → TypeAt G i A → V i ≡ true → UsesType V A
-
-pub closed_chosen : (V : ℕ → Bool) (G : List LfType) (A : LfType) → UsesType V A → IsClosed V G → IsClosed (under V) (A ∷ G)
+pub closed_chosen : (V : ℕ → Bool) (G : List LfType) (A : LfType) → UsesType V A → HoldsTypes V G → HoldsTypes (under V) (A ∷ G)
 closed_chosen V G A u c zero B e v = subst (UsesType (under V)) (sym e) (uses_type_renamed V (under V) suc A (λ i w. w) u)
 closed_chosen V G A u c (suc i) B (C, g, e) v = subst (UsesType (under V)) (sym e) (uses_type_renamed V (under V) suc C (λ j w. w) (c i C g v))
 
-pub closed_other : (V : ℕ → Bool) (G : List LfType) (A : LfType) → IsClosed V G → IsClosed (hide V) (A ∷ G)
+pub closed_other : (V : ℕ → Bool) (G : List LfType) (A : LfType) → HoldsTypes V G → HoldsTypes (hide V) (A ∷ G)
 closed_other V G A c zero B e v = absurd cc
 closed_other V G A c (suc i) B (C, g, e) v = subst (UsesType (hide V)) (sym e) (uses_type_renamed V (hide V) suc C (λ j w. w) (c i C g v))
-
-pub renames_chosen : (V : ℕ → Bool) (G D : List LfType) (ρ : ℕ → ℕ) (A : LfType) → IsTypedRenamingOn V G D ρ → IsTypedRenamingOn (under V) (A ∷ G) (rename_type ρ A ∷ D) (lift_renaming ρ)
-renames_chosen V G D ρ A r zero B e v = ap (rename_type (lift_renaming ρ)) e ∙ rename_weakened ρ A
-renames_chosen V G D ρ A r (suc i) B (C, g, e) v = (rename_type ρ C, r i C g v, ap (rename_type (lift_renaming ρ)) e ∙ rename_weakened ρ C)
 
 pub renames_other : (V : ℕ → Bool) (G D : List LfType) (ρ : ℕ → ℕ) (A : LfType) → IsTypedRenamingOn V G D ρ → IsTypedRenamingOn (hide V) (A ∷ G) D (past_place ρ)
 renames_other V G D ρ A r zero B e v = absurd cc
 renames_other V G D ρ A r (suc i) B (C, g, e) v = subst (TypeAt D (ρ i)) (sym (ap (rename_type (past_place ρ)) e ∙ renamings_compose_type (past_place ρ) suc C)) (r i C g v)
 
 module _ (Σ : Signature) (ok : IsSignature Σ) (W : List Block) (typed : AreTypedBlocks Σ W) where
-  pub renamed_type : (V : ℕ → Bool) (G D : List LfType) (ρ : ℕ → ℕ) (B : LfType) → IsContext Σ G → IsContext Σ D → IsTypedRenamingOn V G D ρ → IsClosed V G → IsType Σ G B → UsesType V B → IsType Σ D (rename_type ρ B)
+  pub renamed_type : (V : ℕ → Bool) (G D : List LfType) (ρ : ℕ → ℕ) (B : LfType) → IsContext Σ G → IsContext Σ D → IsTypedRenamingOn V G D ρ → HoldsTypes V G → IsType Σ G B → UsesType V B → IsType Σ D (rename_type ρ B)
   renamed_type V G D ρ B cg cd r c t u =
       let σ : ℕ → Image = λ i. keep (ρ i) in
       let v : Values Σ V G D σ = record { typed = λ i A g w. subst (TypeAt D (ρ i)) (sym (substitution_as_renaming_type reduce ρ A)) (r i A g w); closed = c } in
       subst (IsType Σ D) (sym (agree_on_type reduce V σ (patch V D σ) B (patch_same V D σ) u) ∙ substitution_as_renaming_type reduce ρ B) (partial_substitution_keeps_types Σ ok (skeletons_beside [] G) [] V G D (patch V D σ) B (patched Σ ok V G D σ cg cd v) u t)
 
   -- the items
-  goal_items_typed : (V : ℕ → Bool) (b : List Bool) (K : Kind) (G : List LfType) (ρ : ℕ → ℕ) (I : List Item) → IsContext Σ G → IsKind Σ G K → MentionChosenOnly V b K → IsTypedRenamingOn V G (items_context I) ρ → IsClosed V G → AreTypedItems Σ W I → AreTypedItems Σ W (goal_items b K ρ I)
+  goal_items_typed : (V : ℕ → Bool) (b : List Bool) (K : Kind) (G : List LfType) (ρ : ℕ → ℕ) (I : List Item) → IsContext Σ G → IsKind Σ G K → MentionChosenOnly V b K → IsTypedRenamingOn V G (items_context I) ρ → HoldsTypes V G → AreTypedItems Σ W I → AreTypedItems Σ W (goal_items b K ρ I)
   goal_items_typed V [] K G ρ I cg k m r c a = a
   goal_items_typed V (b ∷ bs) star G ρ I cg k m r c a = a
-  goal_items_typed V (true ∷ bs) (kind_pi A K) G ρ I cg (t, k) (u, m) r c a = goal_items_typed (under V) bs K (A ∷ G) (lift_renaming ρ) (free_variable (rename_type ρ A) ∷ I) (cg, t) k m (renames_chosen V G (items_context I) ρ A r) (closed_chosen V G A u c) (a, renamed_type V G (items_context I) ρ A cg (items_are_context Σ ok W typed I a) r c t u)
+  goal_items_typed V (true ∷ bs) (kind_pi A K) G ρ I cg (t, k) (u, m) r c a = goal_items_typed (under V) bs K (A ∷ G) (lift_renaming ρ) (free_variable (rename_type ρ A) ∷ I) (cg, t) k m (under_binder V G (items_context I) ρ A r) (closed_chosen V G A u c) (a, renamed_type V G (items_context I) ρ A cg (items_are_context Σ ok W typed I a) r c t u)
   goal_items_typed V (false ∷ bs) (kind_pi A K) G ρ I cg (t, k) m r c a = goal_items_typed (hide V) bs K (A ∷ G) (past_place ρ) I (cg, t) k m (renames_other V G (items_context I) ρ A r) (closed_other V G A c) a
 
   -- an item stands behind those of the later places
@@ -164,14 +158,8 @@ module _ (Σ : Signature) (ok : IsSignature Σ) (W : List Block) (typed : AreTyp
   goal_arguments_typed Q cq V [] star G ρ I τ (app N T) cg k m a s h t = absurd t
   goal_arguments_typed Q cq V [] (kind_pi A K) G ρ I τ T cg k m a s h t = absurd m
   goal_arguments_typed Q cq V (b ∷ bs) star G ρ I τ T cg k m a s h t = absurd m
-  goal_arguments_typed Q cq V (true ∷ bs) (kind_pi A K) G ρ I τ nil cg k m a s h t = absurd (no t)
-    where
-      no : {x y : Skeleton} {c : ℕ} → arrow x y ≡ base c → ⊥
-      no e = cc
-  goal_arguments_typed Q cq V (false ∷ bs) (kind_pi A K) G ρ I τ nil cg k m a s h t = absurd (no t)
-    where
-      no : {x y : Skeleton} {c : ℕ} → arrow x y ≡ base c → ⊥
-      no e = cc
+  goal_arguments_typed Q cq V (true ∷ bs) (kind_pi A K) G ρ I τ nil cg k m a s h t = absurd (no_arrow t)
+  goal_arguments_typed Q cq V (false ∷ bs) (kind_pi A K) G ρ I τ nil cg k m a s h t = absurd (no_arrow t)
   goal_arguments_typed Q cq V (true ∷ bs) (kind_pi A K) G ρ I τ (app N T) cg (t, k) (u, m) a s h (tn, ts) =
       let n : ℕ = chosen_count bs K in
       let B : LfType = rename_type ρ A in
@@ -238,9 +226,6 @@ module _ (Σ : Signature) (ok : IsSignature Σ) (W : List Block) (typed : AreTyp
         arguments = subst (TypedArguments Σ X (goal_arguments b K) (substitute_spine reduce g S)) (substitute_identity_kind reduce K) (goal_arguments_typed Q tp.clause_typed nothing b K [] (λ i. i) [] keep (substitute_spine reduce g S) tt k m items (λ i t z. absurd z) (λ i t z u. absurd z) ts);
       }
     where
-      some_same : {K L : Kind} → Some K ≡ Some L → K ≡ L
-      some_same e = cc
-
       spine_of : (c : Clause) {o : Origin c} → IsTypedPattern Σ (head_pattern c o) → (K : Kind) → ((L : Kind) → Σ.kinds (target c.type) ≡ Some L → Some L ≡ Some K) → SpineSkeleton (constant_skeletons Σ) (context_skeletons (scope c)) (target_arguments c.type) (kind_skeleton 0 K) (base 0)
       spine_of c tp K f = by tp.type_typed
         where

@@ -20,6 +20,7 @@ use Rattle.lf_cases.specs.Split.{HasNoBlockVariable}
 use Rattle.lf_coverage.specs.FullMatching.{InputsMatch, PlacesHavePatterns, PlacesMatch}
 use Rattle.lf_coverage.proofs.FullPlaces.{full_places_match}
 use Rattle.lf_coverage.proofs.OwnVariables.{once_in_head, full_in_head}
+use Rattle.lf_coverage.proofs.Parts.{some_same}
 
 -- a set under one more binder
 lifted_set : (P Q : ℕ → Bool) (ρ : ℕ → ℕ) → ((i : ℕ) → Q (ρ i) ≡ P i) → (i : ℕ) → hide Q (lift_renaming ρ i) ≡ hide P i
@@ -101,7 +102,7 @@ pub head_is_full : (Σ : Signature) (U : LfType) → IsType Σ [] U → (below :
 head_is_full Σ U typed below m full K ek b places =
     let T : Spine = target_arguments U in
     let (J, ej, f) = full.0 in
-    let kj : J ≡ K = some_kind (sym ej ∙ ek) in
+    let kj : J ≡ K = some_same (sym ej ∙ ek) in
     subst (λ b. AreFullPlaces Σ below (binders [] U) everything [] b T K) (sym places) (full_in_head Σ U typed below (input_places (m (target U))) K (subst (AreFullPlaces Σ below (binders [] U) (own_variables (constant_clause U)) [] (input_places (m (target U))) T) kj f))
 
 pub inputs_match : InputsMatch
@@ -112,6 +113,6 @@ inputs_match Σ ok below t m C nb eg el ep q K ek O ty hm k U eu fam hn lin full
     let places : covered_places C.arguments ≡ input_places (m (target U)) = ep ∙ ap (λ a. input_places (m a)) (sym fam) in
     let ek' : Σ.kinds (target U) ≡ Some K = ap Σ.kinds fam ∙ ek in
     let (L, el', fits) = target_fits Σ [] U typed in
-    let kl : L ≡ K = some_kind (sym el' ∙ ek') in
+    let kl : L ≡ K = some_same (sym el' ∙ ek') in
     let r : PlacesMatch Σ (items_context C.items) (binders [] U) everything zero keep C.arguments T = full_places_match Σ ok [] (λ B z. absurd z) below t (binders [] U) (items_context C.items) [] [] F everything s.case_values s.clause_values keep (λ i u g e. absurd (true≢false (sym (all_free C.items nb i u g) ∙ e))) (λ i u g e. absurd (true≢false e)) (λ i j l x y z v. absurd (true≢false y)) (λ x u g e. absurd (true≢false e)) C.family K ek C.arguments T O s.tuple refl q ty (subst (SpineFitsKind Σ (binders [] U) T) kl fits) hm (subst (λ b. PlacesHavePatterns nothing everything b T) (sym ep) hn) (λ x p. subst (λ b. occurrences_at b x T ≤ 1) (sym places) (once_in_head Σ U typed m lin x)) (head_is_full Σ U typed below m full K ek' (covered_places C.arguments) places) (subst (λ D. HasArguments (lift_over D s.case_values) C.arguments s.tuple) el s.of_case) s.of_clause (no_candidates C U eg none) in
     (r.values, r.same)

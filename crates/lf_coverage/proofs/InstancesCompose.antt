@@ -36,7 +36,7 @@ use Rattle.lf_coverage.proofs.ItemsContext.{items_are_context}
 use Rattle.lf_coverage.proofs.SolvedCase.{typed_instance}
 use Rattle.lf_coverage.proofs.SplitInstance.{split_case_is_instance}
 use Rattle.lf_coverage.proofs.StoreSolution.{long_at_is}
-use Rattle.lf_coverage.proofs.Transfer.{lift_instance, after_over}
+use Rattle.lf_coverage.proofs.Transfer.{lift_instance, after_over, lifted_instance}
 use mathlib.Core.Path.{fun_ext}
 
 front_after : (x : Image) (τ ρ : ℕ → Image) (i : ℕ) → after ρ (in_front x τ) i ≡ in_front (substitute_image ρ x) (after ρ τ) i
@@ -48,12 +48,9 @@ module _ (Σ : Signature) (C J G : List LfType) (σ ρ : ℕ → Image) (fσ : S
   first_under : (L : List LfType) → SubstitutionBySkeletons (constant_skeletons Σ) (context_skeletons (onto L C)) (context_skeletons (onto (instance L σ) J)) (lift_over L σ)
   first_under L = lifted Σ L C J σ fσ
 
-  second_under : (L : List LfType) → SubstitutionBySkeletons (constant_skeletons Σ) (context_skeletons (onto (instance L σ) J)) (context_skeletons (onto (instance (instance L σ) ρ) G)) (lift_over L ρ)
-  second_under L = subst (SubstitutionBySkeletons (constant_skeletons Σ) (context_skeletons (onto (instance L σ) J)) (context_skeletons (onto (instance (instance L σ) ρ) G))) (lift_instance L σ ρ) (lifted Σ (instance L σ) J G ρ fρ)
-
   term_twice : (L : List LfType) (M : Term) (t : Skeleton) → TermSkeleton (constant_skeletons Σ) (context_skeletons (onto L C)) M t → substitute reduce (lift_over L ρ) (substitute reduce (lift_over L σ) M) ≡ substitute reduce (lift_over L (after ρ σ)) M
   term_twice L M t m =
-      substitutions_compose (constant_skeletons Σ) (context_skeletons (onto L C)) (context_skeletons (onto (instance L σ) J)) (context_skeletons (onto (instance (instance L σ) ρ) G)) (lift_over L σ) (lift_over L ρ) M t (first_under L) (second_under L) m
+      substitutions_compose (constant_skeletons Σ) (context_skeletons (onto L C)) (context_skeletons (onto (instance L σ) J)) (context_skeletons (onto (instance (instance L σ) ρ) G)) (lift_over L σ) (lift_over L ρ) M t (first_under L) (lifted_instance Σ J G L σ ρ fρ) m
       ∙ ap (λ f. substitute reduce f M) (after_over L σ ρ)
 
   terms_twice : (L : List LfType) (Ms : List (Option Term)) → HaveSkeletons (constant_skeletons Σ) (context_skeletons (onto L C)) Ms → put_in (lift_over L ρ) (put_in (lift_over L σ) Ms) ≡ put_in (lift_over L (after ρ σ)) Ms
@@ -68,7 +65,7 @@ module _ (Σ : Signature) (C J G : List LfType) (σ ρ : ℕ → Image) (fσ : S
       one : substitute_type reduce (lift_over (instance L σ) ρ) (substitute_type reduce (lift_over L σ) A) ≡ substitute_type reduce (lift_over L (after ρ σ)) A
       one =
           ap (λ f. substitute_type reduce f (substitute_type reduce (lift_over L σ) A)) (lift_instance L σ ρ)
-          ∙ substitutions_compose_type (family_skeletons Σ) (constant_skeletons Σ) (context_skeletons (onto L C)) (context_skeletons (onto (instance L σ) J)) (context_skeletons (onto (instance (instance L σ) ρ) G)) (lift_over L σ) (lift_over L ρ) A (first_under L) (second_under L) (type_by_skeletons Σ (onto L C) A t)
+          ∙ substitutions_compose_type (family_skeletons Σ) (constant_skeletons Σ) (context_skeletons (onto L C)) (context_skeletons (onto (instance L σ) J)) (context_skeletons (onto (instance (instance L σ) ρ) G)) (lift_over L σ) (lift_over L ρ) A (first_under L) (lifted_instance Σ J G L σ ρ fρ) (type_by_skeletons Σ (onto L C) A t)
           ∙ ap (λ f. substitute_type reduce f A) (after_over L σ ρ)
 
 module _ (Σ : Signature) (ok : IsSignature Σ) (W : List Block) (typed : AreTypedBlocks Σ W) where

@@ -11,7 +11,7 @@ use Rattle.lf.proofs.ToSkeletons.{type_by_skeletons}
 use Rattle.lf_cases.specs.Case.{Item, free_variable, block_variable, items_context}
 use Rattle.lf_cases.specs.Missing.{AreTypedItems}
 
-outer_context : (Σ : Signature) (es O : List LfType) → IsContext Σ (onto es O) → IsContext Σ O
+pub outer_context : (Σ : Signature) (es O : List LfType) → IsContext Σ (onto es O) → IsContext Σ O
 outer_context Σ [] O c = c
 outer_context Σ (E ∷ es) O c = outer_context Σ es O c.0
 

@@ -12,6 +12,7 @@ use Rattle.lf.proofs.Agreement.{uses_type_within}
 use Rattle.lf.proofs.Partial.{uses_type_all}
 use Rattle.lf.proofs.Renaming.{lift_keep}
 use Rattle.lf.proofs.TypeLaws.{substitute_identity_type}
+use Rattle.lf.proofs.Checker.{number_itself}
 use Rattle.lf_unification.specs.Search.{occurs, occurs_spine, occurs_type}
 use Rattle.lf_checks.specs.Tests.{both, either}
 use Rattle.lf_checks.specs.Clause.{Clause, IsClause, from_constant, from_entry}
@@ -20,20 +21,16 @@ use Rattle.lf_cases.specs.Missing.{AreTypedItems}
 use Rattle.lf_cases.specs.OutputGoal.{free_variables, outside_items, outside_number, closed_over, kept_number, kept_items}
 use Rattle.lf_cases.specs.Pattern.{origin}
 use Rattle.lf_cases.proofs.BlockEntries.{onto_onto}
+use Rattle.lf_cases.proofs.GroundTypes.{either_left}
+use Rattle.lf_coverage.specs.Matching.{HoldsTypes}
 use Rattle.lf_coverage.proofs.Forms.{far_type}
-use Rattle.lf_coverage.proofs.InputTyped.{IsClosed, closed_chosen, closed_other, renames_chosen, renames_other, renamed_type}
-use Rattle.lf_coverage.proofs.ItemsContext.{items_are_context}
+use Rattle.lf_coverage.proofs.InputTyped.{closed_chosen, closed_other, renames_other, renamed_type}
+use Rattle.lf_coverage.proofs.ItemsContext.{items_are_context, outer_context}
 use Rattle.lf_coverage.proofs.SolvedCase.{free_context_is, free_typed}
+use Rattle.lf_coverage.proofs.Strip.{under_binder}
 use mathlib.Core.Path.{fun_ext}
 
 -- What occurs in a text is all that it uses.
-number_same : (i : ℕ) → same_number i i ≡ true
-number_same zero = refl
-number_same (suc i) = number_same i
-
-first_true : {a : Bool} (b : Bool) → a ≡ true → either a b ≡ true
-first_true b e = ap (λ x. either x b) e
-
 second_true : (a : Bool) {b : Bool} → b ≡ true → either a b ≡ true
 second_true true e = refl
 second_true false e = e
@@ -47,14 +44,14 @@ mutual
       newer (suc j) e = h j e
   term_uses W (root (constant c) S) h = spine_uses W S h
   term_uses W (root (metavariable c) S) h = spine_uses W S h
-  term_uses W (root (variable i) S) h = (h i (first_true (occurs_spine i S) (number_same i)), spine_uses W S (λ j e. h j (second_true (same_number j i) e)))
+  term_uses W (root (variable i) S) h = (h i (either_left (occurs_spine i S) (number_itself i)), spine_uses W S (λ j e. h j (second_true (same_number j i) e)))
 
   spine_uses : (W : ℕ → Bool) (S : Spine) → ((j : ℕ) → occurs_spine j S ≡ true → W j ≡ true) → UsesSpine W S
   spine_uses W nil h = tt
-  spine_uses W (app M S) h = (term_uses W M (λ j e. h j (first_true (occurs_spine j S) e)), spine_uses W S (λ j e. h j (second_true (occurs j M) e)))
+  spine_uses W (app M S) h = (term_uses W M (λ j e. h j (either_left (occurs_spine j S) e)), spine_uses W S (λ j e. h j (second_true (occurs j M) e)))
 
 type_uses : (W : ℕ → Bool) (A : LfType) → ((j : ℕ) → occurs_type j A ≡ true → W j ≡ true) → UsesType W A
-type_uses W (pi A B) h = (type_uses W A (λ j e. h j (first_true (occurs_type (suc j) B) e)), type_uses (under W) B (λ j. newer j))
+type_uses W (pi A B) h = (type_uses W A (λ j e. h j (either_left (occurs_type (suc j) B) e)), type_uses (under W) B (λ j. newer j))
   where
     newer : (j : ℕ) → occurs_type j B ≡ true → under W j ≡ true
     newer zero e = refl
@@ -70,12 +67,12 @@ keep_set (A ∷ D) V (suc i) = keep_set D (λ j. V (suc j)) i
 pub within_closed : (D : List LfType) (U : ℕ → Bool) → Within U (keep_set D (closed_over D U))
 within_closed [] U i e = refl
 within_closed (A ∷ D) U zero e = e
-within_closed (A ∷ D) U (suc i) e = within_closed D (λ j. either (U (suc j)) (both (U zero) (occurs_type j A))) i (first_true (both (U zero) (occurs_type i A)) e)
+within_closed (A ∷ D) U (suc i) e = within_closed D (λ j. either (U (suc j)) (both (U zero) (occurs_type j A))) i (either_left (both (U zero) (occurs_type i A)) e)
 
 renames_within : (U V : ℕ → Bool) (G D : List LfType) (ρ : ℕ → ℕ) → Within V U → IsTypedRenamingOn U G D ρ → IsTypedRenamingOn V G D ρ
 renames_within U V G D ρ w r i A g v = r i A g (w i v)
 
-closed_within : (U V : ℕ → Bool) (G : List LfType) → Within U V → Within V U → IsClosed U G → IsClosed V G
+closed_within : (U V : ℕ → Bool) (G : List LfType) → Within U V → Within V U → HoldsTypes U G → HoldsTypes V G
 closed_within U V G w x c i A g v = uses_type_within U V A w (c i A g (x i v))
 
 -- the context of what stands outside an entry
@@ -95,7 +92,7 @@ module _ (Σ : Signature) (ok : IsSignature Σ) (W : List Block) (typed : AreTyp
   pub record KeptTyped (C : List LfType) (V : ℕ → Bool) (ρ : ℕ → ℕ) (I : List Item) : Type 0 where
     pub items : AreTypedItems Σ W I
     pub renames : IsTypedRenamingOn V C (items_context I) ρ
-    pub closed : IsClosed V C
+    pub closed : HoldsTypes V C
 
   -- one more quantifier, kept or not
   module _ (A : LfType) (D O : List LfType) (U : ℕ → Bool) (ρ : ℕ → ℕ) (I : List Item) where
@@ -141,7 +138,7 @@ module _ (Σ : Signature) (ok : IsSignature Σ) (W : List Block) (typed : AreTyp
         let u : UsesType X A = type_uses X A (chosen e) in
         record {
           items = (k.items, renamed_type Σ ok W typed X (onto D O) (items_context J) κ A c (items_are_context Σ ok W typed J k.items) k.renames k.closed t u);
-          renames = renames_within (under X) Y (A ∷ onto D O) (rename_type κ A ∷ items_context J) (lift_renaming κ) set_in (renames_chosen X (onto D O) (items_context J) κ A k.renames);
+          renames = renames_within (under X) Y (A ∷ onto D O) (rename_type κ A ∷ items_context J) (lift_renaming κ) set_in (under_binder X (onto D O) (items_context J) κ A k.renames);
           closed = closed_within (under X) Y (A ∷ onto D O) (set_from e) set_in (closed_chosen X (onto D O) A u k.closed);
         }
     one_kept c t k false e = record {
@@ -155,10 +152,6 @@ module _ (Σ : Signature) (ok : IsSignature Σ) (W : List Block) (typed : AreTyp
   kept_typed (A ∷ D) O U ρ I (c, t) ti r = one_kept A D O U ρ I c t (kept_typed D O (λ j. either (U (suc j)) (both (U zero) (occurs_type j A))) ρ I c ti r) (U zero) refl
 
   -- what stands outside the clause
-  outer_of : (es O : List LfType) → IsContext Σ (onto es O) → IsContext Σ O
-  outer_of [] O c = c
-  outer_of (E ∷ es) O c = outer_of es O c.0
-
   pub outside_typed : {c : Clause} (d : IsClause Σ W c) → AreTypedItems Σ W (outside_items (origin d)) × IsTypedRenaming c.outer (items_context (outside_items (origin d))) (outside_number (origin d))
   outside_typed (from_constant k U e) = (tt, λ i A g. absurd g)
   outside_typed (from_entry B later E es m e) =
@@ -166,7 +159,7 @@ module _ (Σ : Signature) (ok : IsSignature Σ) (W : List Block) (typed : AreTyp
       let C : List LfType = items_context (free_variables B.some) in
       let shape : onto (instance B.entries keep) C ≡ onto later (E ∷ onto es O) = outside_context B later E es e in (
         (
-          free_typed Σ W O (outer_of B.entries O (typed B m)),
+          free_typed Σ W O (outer_context Σ B.entries O (typed B m)),
           m,
           record {
             typed = λ i A g u. subst (TypeAt C i) (sym (substitute_identity_type reduce A)) (subst (λ G. TypeAt G i A) (sym (free_context_is O)) g);

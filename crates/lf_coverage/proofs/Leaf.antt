@@ -20,7 +20,7 @@ use Rattle.lf.proofs.Partial.{skeletons_beside, PartialSubstitution, SkeletonTyp
 use Rattle.lf.proofs.Patch.{pick, patch, patch_same, patched}
 use Rattle.lf.proofs.SkeletonTypes.{substitutions_compose_type, substitution_keeps_types_by_skeletons}
 use Rattle.lf.proofs.Renaming.{substitute_identity}
-use Rattle.lf.proofs.ToSkeletons.{typed_has_skeleton}
+use Rattle.lf.proofs.ToSkeletons.{typed_has_skeleton, skeleton_has_variable}
 use Rattle.lf.proofs.TypeLaws.{skeleton_renamed, skeleton_substituted, substitute_renamed_type}
 use Rattle.lf.proofs.Weakening.{declared_is_type}
 use Rattle.lf.proofs.Worlds.{world_is_context}
@@ -36,13 +36,14 @@ use Rattle.lf_cases.proofs.LongValues.{long_at}
 use Rattle.lf_totality.proofs.OutputCases.{in_covers}
 use Rattle.lf_totality.proofs.Theorem.{outside_from}
 use Rattle.lf_coverage.specs.Heads.{HaveSkeletons}
-use Rattle.lf_coverage.proofs.Carried.{carry, carry_same, type_of, beside_nothing, carried, long_term_same, like_type, like_term}
+use Rattle.lf_coverage.proofs.Carried.{carry, carry_same, beside_nothing, carried, long_term_same, like_type, like_term}
 use Rattle.lf_coverage.proofs.Composing.{composed}
 use Rattle.lf_coverage.proofs.Forms.{lambdas_substituted}
 use Rattle.lf_coverage.proofs.GroundTyped.{ground_typed, items_extended, long_equal}
 use Rattle.lf_coverage.proofs.ItemsContext.{items_are_context}
 use Rattle.lf_coverage.proofs.Standing.{Outer}
 use Rattle.lf_coverage.proofs.Transfer.{same_in}
+use Rattle.lf_coverage.proofs.Parts.{lambda_same}
 use mathlib.Core.Path.{fun_ext}
 
 -- what stands outside a clause, counted from there
@@ -73,16 +74,13 @@ term_after f (keep j) t = absurd t
 term_after f (put a N) t = tt
 
 -- Under the lambdas of a local context.
-lambdas_inside : (n : ℕ) (M : Term) → lambdas n (lambda M) ≡ lambda (lambdas n M)
+pub lambdas_inside : (n : ℕ) (M : Term) → lambdas n (lambda M) ≡ lambda (lambdas n M)
 lambdas_inside zero M = refl
 lambdas_inside (suc n) M = ap lambda (lambdas_inside n M)
 
 same_under : (n : ℕ) {M N : Term} → lambdas n M ≡ lambdas n N → M ≡ N
 same_under zero e = e
-same_under (suc n) e = same_under n (inside e)
-  where
-    inside : {M N : Term} → lambda M ≡ lambda N → M ≡ N
-    inside e = cc
+same_under (suc n) e = same_under n (lambda_same e)
 
 abbrev arrows : List LfType → Skeleton → Skeleton
 arrows [] t = t
@@ -168,11 +166,11 @@ module _ (S : ℕ → Bool) (Σ Σ' : Signature) (x : Extends S Σ Σ') (ok : Is
   v_fits i t s = by (outside c.type everything i) refl
     where
       by : (b : Bool) → outside c.type everything i ≡ b → ImageSkeleton κ Δ (v i) t
-      by true e = let (A, h, q) = type_of O i t s in subst (ImageSkeleton κ Δ (v i)) (skeleton_substituted reduce v A ∙ q) (ImageHasType-has_skeleton Σ' x.ok P G (v i) (substitute_type reduce v A) (out_typed i A h e))
+      by true e = let (A, h, q) = skeleton_has_variable O i t s in subst (ImageSkeleton κ Δ (v i)) (skeleton_substituted reduce v A ∙ q) (ImageHasType-has_skeleton Σ' x.ok P G (v i) (substitute_type reduce v A) (out_typed i A h e))
       by false e = subst (λ y. ImageSkeleton κ Δ y t) (sym (v_own i e)) (ω_fits i t s)
 
   same_term : (N : Term) (t : Skeleton) → TermSkeleton κ (context_skeletons C) N t → substitute reduce σ' N ≡ substitute reduce σ N
-  same_term N t m = same_in κ (context_skeletons C) σ' σ (λ i s q. let (A, h, e) = type_of C i s q in carry_same C G σ i (in_covers C i A h)) N t m
+  same_term N t m = same_in κ (context_skeletons C) σ' σ (λ i s q. let (A, h, e) = skeleton_has_variable C i s q in carry_same C G σ i (in_covers C i A h)) N t m
 
   same_image : (y : Image) (Z : LfType) → ImageHasType Σ' C y Z → substitute_image σ' y ≡ substitute_image σ y
   same_image (keep j) Z h = carry_same C G σ j (in_covers C j Z h)
@@ -262,7 +260,7 @@ module _ (S : ℕ → Bool) (Σ Σ' : Signature) (x : Extends S Σ Σ') (ok : Is
 pub leaves_terms : (Σ : Signature) (I : List Item) (ρ : ℕ → Image) → SubstitutionBySkeletons (constant_skeletons Σ) (context_skeletons (items_context I)) (context_skeletons (items_context I)) ρ → LeavesAll I ρ → (M : Term) (t : Skeleton) → TermSkeleton (constant_skeletons Σ) (context_skeletons (items_context I)) M t → substitute reduce ρ M ≡ M
 leaves_terms Σ I ρ f l M t m =
     sym (long_term_same (constant_skeletons Σ) (items_context I) (context_skeletons (items_context I)) ρ M t f m)
-    ∙ same_in (constant_skeletons Σ) (context_skeletons (items_context I)) (long_at (items_context I) ρ) (long_at (items_context I) keep) (λ i s g. let (X, h, e) = type_of (items_context I) i s g in long_equal (items_context I) ρ keep l i X h) M t m
+    ∙ same_in (constant_skeletons Σ) (context_skeletons (items_context I)) (long_at (items_context I) ρ) (long_at (items_context I) keep) (λ i s g. let (X, h, e) = skeleton_has_variable (items_context I) i s g in long_equal (items_context I) ρ keep l i X h) M t m
     ∙ long_term_same (constant_skeletons Σ) (items_context I) (context_skeletons (items_context I)) keep M t (λ i s g. g) m
     ∙ substitute_identity reduce M
 

@@ -2,7 +2,7 @@
 use Rattle.std.proofs.Common.{◌≡◌, ℕ, zero, suc, List, [], ◌∷◌, inl, inr, refl, sym, ap, ◌∙◌, subst}
 use Rattle.std.specs.Prelude.{Bool, true, false, Option, Some, None, ◌⊎◌}
 use Rattle.lf.specs.Syntax.{Term, LfType, pi, atom, Skeleton, base, kind_skeleton}
-use Rattle.lf.specs.Substitution.{Image, put, substitute, substitute_spine, substitute_type, reduce}
+use Rattle.lf.specs.Substitution.{Image, put, substitute, substitute_spine, reduce}
 use Rattle.lf.specs.SkeletonTyping.{HeadSkeletons, TermSkeleton, SpineSkeleton, SubstitutionBySkeletons}
 use Rattle.lf.specs.Skeletons.{constant_skeletons, context_skeletons}
 use Rattle.lf.specs.Typing.{TypeAt, IsType}
@@ -31,6 +31,7 @@ use Rattle.lf.proofs.Partial.{uses_type_all}
 use Rattle.lf.proofs.Weakening.{declared_is_type}
 use Rattle.lf_totality.proofs.RaisedOutputs.{binders_over}
 use Rattle.lf_checks.proofs.StrictTypes.{either_cases}
+use Rattle.lf_totality.proofs.GoalHolds.{arguments_under}
 use Rattle.lf_coverage.specs.Heads.{HaveSkeletons}
 use Rattle.lf_coverage.specs.Laws.{LeafIsInstanceCase, LeavesCover, HeadIsTypedPattern, SubgoalIsTypedPattern}
 use Rattle.lf_coverage.proofs.Carried.{beside_nothing}
@@ -39,22 +40,22 @@ use Rattle.lf_coverage.proofs.Leaf.{v, v_out, v_typed, v_terms, v_given, v_place
 use Rattle.lf_coverage.proofs.Runs.{other_run, head_splits_cover}
 use Rattle.lf_coverage.proofs.Transfer.{instance_fits, fits_more, have_more}
 use Rattle.lf_coverage.proofs.Unified.{unified_split}
-
--- the arguments of a subgoal, under its local variables
-pub goal_arguments : (D : List LfType) (A : LfType) (s : ℕ → Image) → target_arguments (substitute_type reduce (lift_over D s) A) ≡ substitute_spine reduce (lift_over (binders D A) s) (target_arguments A)
-goal_arguments D (pi B A) s = goal_arguments (B ∷ D) A s
-goal_arguments D (atom a S) s = refl
+use Rattle.lf_coverage.proofs.Parts.{some_same}
+use Rattle.lf_coverage.proofs.Choices.{second_of}
 
 goal_places : (D : List LfType) (U : ℕ → Bool) (m : List Bool) (A : LfType) → UsesGoal (under_all D U) m A → UsesPlaces (under_all (binders D A) U) m (target_arguments A)
 goal_places D U m (pi B A) u = goal_places (B ∷ D) U m A u.1
 goal_places D U m (atom a S) u = u
 
+-- what is given is given
+pub given_is : (Ms : List (Option Term)) (i : ℕ) (M : Term) → given_at Ms i ≡ Some M → is_given Ms i ≡ true
+given_is [] i M e = absurd cc
+given_is (N ∷ Ms) zero M e = ap is_there e
+given_is (N ∷ Ms) (suc i) M e = given_is Ms i M e
+
 pub given_skeleton : (κ : HeadSkeletons) (Γ : List Skeleton) (Ms : List (Option Term)) (i : ℕ) (M : Term) → HaveSkeletons κ Γ Ms → given_at Ms i ≡ Some M → (t : Skeleton) × TermSkeleton κ Γ M t
 given_skeleton κ Γ [] i M h e = absurd cc
 given_skeleton κ Γ (Some N ∷ Ms) zero M ((t, n), h) e = (t, subst (λ X. TermSkeleton κ Γ X t) (some_same e) n)
-  where
-    some_same : Some N ≡ Some M → N ≡ M
-    some_same e = cc
 given_skeleton κ Γ (None ∷ Ms) zero M h e = absurd cc
 given_skeleton κ Γ (Some N ∷ Ms) (suc i) M (n, h) e = given_skeleton κ Γ Ms i M h e
 given_skeleton κ Γ (None ∷ Ms) (suc i) M h e = given_skeleton κ Γ Ms i M h e
@@ -80,13 +81,13 @@ leaf_is_instance Σ ok W typed S ps C leaf Σ' x G w F σ0 T hd =
     let hm : HaveSkeletons (constant_skeletons Σ') (context_skeletons (onto C.local (items_context I))) C.arguments = have_more S Σ Σ' x (context_skeletons (onto C.local (items_context I))) C.arguments leaf.typed.arguments in
     let hg : HaveSkeletons (constant_skeletons Σ') Γ C.given = have_more S Σ Σ' x Γ C.given leaf.typed.given in
     let V : ℕ → Bool = λ i. either (outside c.type everything i) (s.used i) in
-    let within : (i : ℕ) → outside c.type everything i ≡ false → V i ≡ true → s.used i ≡ true = λ i o q. by (outside c.type everything i) (s.used i) o q in
+    let within : (i : ℕ) → outside c.type everything i ≡ false → V i ≡ true → s.used i ≡ true = λ i o q. second_of (outside c.type everything i) (s.used i) q o in
     let closed : (i : ℕ) (X : LfType) → TypeAt (scope c) i X → V i ≡ true → UsesType V X = λ i X g q. or (outside c.type everything i) (s.used i) (UsesType V X) (either_cases (outside c.type everything i) (s.used i) q) (λ o. uses_type_within (outside c.type everything) V X (λ j z. either_left (s.used j) z) (outside_types c.type c.outer everything (λ j Y h z. uses_type_all everything Y (λ l. refl)) i X g o)) (λ u. uses_type_within s.used V X (λ j z. either_in (outside c.type everything j) z) (tv.closed i X g u)) in
     let t' : IsType Σ' (scope c) A = extension_keeps_types S Σ Σ' x (scope c) A leaf.pattern_typed.type_typed in
     let (L, el, fit) = end_typed Σ' x.ok A (scope c) t' in
     let sp : SpineSkeleton (constant_skeletons Σ') (context_skeletons (onto D (scope c))) (target_arguments A) (kind_skeleton (target A) L) (base (target A)) = subst (λ O. SpineSkeleton (constant_skeletons Σ') (context_skeletons O) (target_arguments A) (kind_skeleton (target A) L) (base (target A))) (binders_over [] A (scope c)) (subst (λ Δ. SpineSkeleton (constant_skeletons Σ') Δ (target_arguments A) (kind_skeleton (target A) L) (base (target A))) (beside_nothing (binders (scope c) A)) (kind_spine_has_skeleton_beside Σ' [] (target A) (binders (scope c) A) (target_arguments A) L fit)) in
     let v' : ℕ → Image = v S Σ Σ' x ok W typed G w I leaf.typed.items h.values h.is_ground c ct s.used s.clause_values tv outer out in
-    let clause_same : SamePlaces places s.tuple (substitute_spine reduce (lift_over D s.clause_values) (target_arguments A)) = subst (SamePlaces places s.tuple) (goal_arguments [] A s.clause_values) s.of_clause in
+    let clause_same : SamePlaces places s.tuple (substitute_spine reduce (lift_over D s.clause_values) (target_arguments A)) = subst (SamePlaces places s.tuple) (arguments_under [] A s.clause_values) s.of_clause in
     let used : UsesPlaces (under_all D s.used) places (target_arguments A) = goal_places [] s.used places A s.uses in
     let same : SamePlaces places T (substitute_spine reduce (lift_over D v') (target_arguments A)) = v_places S Σ Σ' x ok W typed G w I leaf.typed.items h.values h.is_ground c ct s.used s.clause_values tv outer out D C.local leaf.same_length s.case_values (leaves_deep Σ' I s.case_values fr l C.local) C.arguments T s.tuple (target_arguments A) (kind_skeleton (target A) L) (base (target A)) hm sp h.has_arguments s.of_case clause_same used in (
       p,
@@ -107,22 +108,13 @@ leaf_is_instance Σ ok W typed S ps C leaf Σ' x G w F σ0 T hd =
             let (t, n) = given_skeleton (constant_skeletons Σ') Γ C.given i M hg q in
             (a, b, substitute reduce h.values M, v_given S Σ Σ' x ok W typed G w I leaf.typed.items h.values h.is_ground c ct s.used s.clause_values tv outer out i a M t o (within i o k) n (r ∙ ap (put a) (leaves_terms Σ' I s.case_values fr l M t n)), z);
         terms = v_terms S Σ Σ' x ok W typed G w I leaf.typed.items h.values h.is_ground c ct s.used s.clause_values tv outer out V within s.terms;
-        same = subst (SamePlaces places T) (sym (goal_arguments [] A v')) same;
+        same = subst (SamePlaces places T) (sym (arguments_under [] A v')) same;
       },
     )
   where
-    by : (a b : Bool) → a ≡ false → either a b ≡ true → b ≡ true
-    by true b o q = absurd cc
-    by false b o q = q
-
     or : (a b : Bool) (X : Type 0) → (a ≡ true) ⊎ (b ≡ true) → (a ≡ true → X) → (b ≡ true → X) → X
     or a b X (inl q) f g = f q
     or a b X (inr q) f g = g q
-
-    given_is : (Ms : List (Option Term)) (i : ℕ) (M : Term) → given_at Ms i ≡ Some M → is_given Ms i ≡ true
-    given_is [] i M e = absurd cc
-    given_is (N ∷ Ms) zero M e = ap is_there e
-    given_is (N ∷ Ms) (suc i) M e = given_is Ms i M e
 
     here : (p : Pattern) (J K : List Item) (e : J ≡ K) (ρ : ℕ → Image) (it : IsTypedInstance Σ J C.items ρ) (τ : ℕ → Image) → StandsAmong Σ p.origin p.at_first J C.items ρ it τ → (i : IsTypedInstance Σ K C.items ρ) × StandsAmong Σ p.origin p.at_first K C.items ρ i τ
     here p J K e ρ it τ st = subst (λ K. (i : IsTypedInstance Σ K C.items ρ) × StandsAmong Σ p.origin p.at_first K C.items ρ i τ) e (it, st)

@@ -33,6 +33,7 @@ pub mod SplitInstance
 pub mod InstancesCompose
 pub mod ExamplesLocal
 pub mod ExamplesEntries
+pub mod EntryPlaces
 pub mod EntrySignature
 pub mod OwnTerms
 pub mod Reading
@@ -95,6 +96,8 @@ pub mod RenumberedSplit
 pub mod ExamplesRenumbering
 pub mod Abstracted
 pub mod Choices
+pub mod Parts
+pub mod EtaArguments
 pub mod UnderBound
 pub mod Occurring
 pub mod TermMatching

@@ -1,26 +1,18 @@
 -- A term mentions only variables of families below its own, where types quantify over what is below.
-use Rattle.std.proofs.Common.{◌≡◌, ℕ, zero, suc, List, [], ◌∷◌, refl, sym, ap, ap₂, ◌∙◌, subst}
+use Rattle.std.proofs.Common.{◌≡◌, ℕ, zero, suc, List, ◌∷◌, refl, sym, ap, ap₂, ◌∙◌, subst}
 use Rattle.std.specs.Prelude.{Bool, true, Some}
-use Rattle.lf.specs.Syntax.{constant, variable, metavariable, Term, Spine, lambda, root, nil, app, LfType, pi, atom, Skeleton, skeleton, rename_type, lift_renaming}
+use Rattle.lf.specs.Syntax.{constant, variable, metavariable, Term, Spine, lambda, root, nil, app, LfType, pi, atom, Skeleton, skeleton}
 use Rattle.lf.specs.Substitution.{Image, lift, single, substitute_type, reduce}
 use Rattle.lf.specs.Typing.{Signature, TypeAt, instantiate_type, HasType, SpineType}
 use Rattle.lf.specs.Variables.{target, under, Uses, UsesSpine, Within}
 use Rattle.lf.proofs.Target.{target_of, target_renamed}
 use Rattle.lf_coverage.specs.Subordinate.{QuantifiersAreBelow, AllQuantifiersAreBelow}
+use Rattle.lf_coverage.proofs.Subordinate.{below_at}
 
 module _ (Σ : Signature) (below : ℕ → ℕ → Bool) (through : (f g : ℕ) → below f g ≡ true → Within (below g) (below f)) (itself : (f : ℕ) → below f f ≡ true) (constants : (c : ℕ) (U : LfType) → Σ.types c ≡ Some U → QuantifiersAreBelow below U) where
-  below_renamed : (ρ : ℕ → ℕ) (A : LfType) → QuantifiersAreBelow below A → QuantifiersAreBelow below (rename_type ρ A)
-  below_renamed ρ (pi A B) (q, a, b) = (ap₂ below (target_renamed (lift_renaming ρ) B) (target_renamed ρ A) ∙ q, below_renamed ρ A a, below_renamed (lift_renaming ρ) B b)
-  below_renamed ρ (atom a T) q = tt
-
   pub below_substituted : (r : Skeleton → Term → Spine → Term) (σ : ℕ → Image) (A : LfType) → QuantifiersAreBelow below A → QuantifiersAreBelow below (substitute_type r σ A)
   below_substituted r σ (pi A B) (q, a, b) = (ap₂ below (target_of r (lift σ) B) (target_of r σ A) ∙ q, below_substituted r σ A a, below_substituted r (lift σ) B b)
   below_substituted r σ (atom a T) q = tt
-
-  pub below_at : (G : List LfType) → AllQuantifiersAreBelow below G → (i : ℕ) (A : LfType) → TypeAt G i A → QuantifiersAreBelow below A
-  below_at [] h i A g = absurd g
-  below_at (X ∷ G) (x, h) zero A e = subst (QuantifiersAreBelow below) (sym e) (below_renamed suc X x)
-  below_at (X ∷ G) (x, h) (suc i) A (B, g, e) = subst (QuantifiersAreBelow below) (sym e) (below_renamed suc B (below_at G h i B g))
 
   pub spine_target : (G : List LfType) (S : Spine) (A C : LfType) → SpineType Σ G S A C → target A ≡ target C
   spine_target G nil A C e = ap target e
@@ -43,7 +35,7 @@ module _ (Σ : Signature) (below : ℕ → ℕ → Bool) (through : (f g : ℕ) 
     low_term G U (root k S) (pi A B) g q h m = absurd m
     low_term G U (root (constant c) S) (atom a T) g q h (X, k, s) = low_spine G U S X (atom a T) g (constants c X k) h s
     low_term G U (root (metavariable c) S) (atom a T) g q h (X, k, s) = absurd k
-    low_term G U (root (variable i) S) (atom a T) g q h (X, k, s) = (h i X k (subst (λ f. below a f ≡ true) (sym (spine_target G S X (atom a T) s)) (itself a)), low_spine G U S X (atom a T) g (below_at G g i X k) h s)
+    low_term G U (root (variable i) S) (atom a T) g q h (X, k, s) = (h i X k (subst (λ f. below a f ≡ true) (sym (spine_target G S X (atom a T) s)) (itself a)), low_spine G U S X (atom a T) g (below_at below G g i X k) h s)
 
     low_spine : (G : List LfType) (U : ℕ → Bool) (S : Spine) (A C : LfType) → AllQuantifiersAreBelow below G → QuantifiersAreBelow below A → Low G U (target C) → SpineType Σ G S A C → UsesSpine U S
     low_spine G U nil A C g q h s = tt

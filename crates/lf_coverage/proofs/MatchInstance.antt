@@ -19,7 +19,7 @@ use Rattle.lf_checks.proofs.Numbered.{type_both}
 use Rattle.lf_checks.proofs.SmallerDecided.{is_true, same_term, same_type}
 use Rattle.lf_cases.specs.Cover.{AreTerms}
 use Rattle.lf_cases.specs.Case.{Item, Case, items_context, HasArguments, covered_places}
-use Rattle.lf_cases.specs.Pattern.{Origin, of_constant, of_entry, Pattern, given_at, is_there, is_given, ground_in}
+use Rattle.lf_cases.specs.Pattern.{Origin, of_constant, of_entry, Pattern, ground_in}
 use Rattle.lf_cases.specs.Missing.{AreTypedItems, CommonInstance, blocks_with}
 use Rattle.lf_cases.specs.Reached.{IsInstanceOf, LeavesAll}
 use Rattle.lf_coverage.specs.Heads.{HaveSkeletons}
@@ -27,18 +27,13 @@ use Rattle.lf_coverage.specs.Matching.{ArePlaces, HoldsTypes, Matches, found_val
 use Rattle.lf_coverage.specs.MatchingLaws.{MatchIsInstance, MatchingDecides, InstanceIsDecided}
 use Rattle.lf_coverage.specs.MeetStore.{IsConstants}
 use Rattle.lf_coverage.proofs.Leaf.{leaves_deep, leaves_terms}
-use Rattle.lf_coverage.proofs.Leaves.{given_skeleton}
+use Rattle.lf_coverage.proofs.Leaves.{given_skeleton, given_is}
 use Rattle.lf_coverage.proofs.Matched.{given_found, instance_matches, own_type}
 use Rattle.lf_coverage.proofs.Matching.{is_own}
 use Rattle.lf_coverage.proofs.OwnInstance.{items_stay}
 use Rattle.lf_coverage.proofs.SolvedMeets.{nothing_outside}
 use Rattle.lf_coverage.proofs.Transfer.{instance_fits}
 use native.Mathlib.Decide.{ℕ_discrete}
-
-given_is : (Ms : List (Option Term)) (i : ℕ) (M : Term) → given_at Ms i ≡ Some M → is_given Ms i ≡ true
-given_is [] i M e = absurd cc
-given_is (N ∷ Ms) zero M e = ap is_there e
-given_is (N ∷ Ms) (suc i) M e = given_is Ms i M e
 
 same_blocks : (Σ : Signature) {c : Clause} (o : Origin c) → IsConstants o → (W : List Block) (I : List Item) → AreTypedItems Σ W I → AreTypedItems Σ (blocks_with o W) I
 same_blocks Σ (of_constant U) k W I a = a

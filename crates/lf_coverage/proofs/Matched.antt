@@ -9,6 +9,7 @@ use Rattle.lf.specs.Subordination.{Block, AreTypedBlocks}
 use Rattle.lf.proofs.Agreement.{agree_on_type}
 use Rattle.lf.proofs.Kept.{typed_uses_type}
 use Rattle.lf.proofs.Weakening.{declared_is_type}
+use Rattle.lf.proofs.Checker.{both_of}
 use Rattle.lf_checks.specs.Clause.{Clause, scope, outside}
 use Rattle.lf_checks.specs.Ground.{UsesGoal}
 use Rattle.lf_checks.specs.Marks.{UsesPlaces}
@@ -29,7 +30,7 @@ use Rattle.lf_coverage.specs.MeetStore.{IsConstants}
 use Rattle.lf_coverage.specs.TypedCase.{IsTypedBeside, given_values}
 use Rattle.lf_coverage.proofs.GivenValues.{StandsForGiven, StandsForItself, given_cases}
 use Rattle.lf_coverage.proofs.Matching.{arguments_are, found_is, goal_agrees, ground_is_strict, is_own, value_found, values}
-use Rattle.lf_coverage.proofs.ReadOff.{by_test}
+use Rattle.lf_coverage.proofs.Choices.{decided}
 
 -- What is of two sets is of a third, and so is what uses both.
 abbrev pub Third : (ℕ → Bool) → (ℕ → Bool) → (ℕ → Bool) → Type 0
@@ -74,10 +75,6 @@ places_part U (false ∷ m) (app M S) u = places_part U m S u.1
 pub goal_part : (U : ℕ → Bool) (m : List Bool) (A : LfType) → UsesType U A → UsesGoal U m A
 goal_part U m (pi A B) u = (u.0, goal_part (under U) m B u.1)
 goal_part U m (atom a S) u = places_part U m S u
-
-pub both_true : (a b : Bool) → a ≡ true → b ≡ true → both a b ≡ true
-both_true true b e f = f
-both_true false b e f = e
 
 -- a clause's own variable is in its scope
 own_at : (A : LfType) (O : List LfType) (V : ℕ → Bool) → ((i : ℕ) → V i ≡ false → (X : LfType) × TypeAt O i X) → (i : ℕ) → outside A V i ≡ false → (X : LfType) × TypeAt (binders O A) i X
@@ -127,10 +124,10 @@ module _ (Σ : Signature) (ok : IsSignature Σ) (W : List Block) (typed : AreTyp
       value_found Σ ok W typed C tb.by_skeletons p tp s e l i A h (is_own p.origin k i A h) (both_l (s.used i) (V i) y) (both_r (s.used i) (V i) y)
 
   two : Third s.used (ground_in p (covered_places C.arguments) C.given) (λ i. both (s.used i) (ground_in p (covered_places C.arguments) C.given i))
-  two i u v = both_true (s.used i) (V i) u v
+  two i u v = both_of (s.used i) (V i) u v
 
   three : Third (λ i. both (s.used i) (ground_in p (covered_places C.arguments) C.given i)) (in_context (scope p.clause)) (λ i. both (both (s.used i) (ground_in p (covered_places C.arguments) C.given i)) (in_context (scope p.clause) i))
-  three i u v = both_true (both (s.used i) (V i)) (in_context (scope p.clause) i) u v
+  three i u v = both_of (both (s.used i) (V i)) (in_context (scope p.clause) i) u v
 
   in_scope : (i : ℕ) (A : LfType) → TypeAt (scope p.clause) i A → UsesType (in_context (scope p.clause)) A
   in_scope i A h = typed_uses_type Σ (scope p.clause) (in_context (scope p.clause)) A (in_covers (scope p.clause)) (declared_is_type Σ ok (scope p.clause) i A tp.clause_typed h)
@@ -144,7 +141,7 @@ module _ (Σ : Signature) (ok : IsSignature Σ) (W : List Block) (typed : AreTyp
   given_typed : (i : ℕ) (A : LfType) → TypeAt (scope p.clause) i A → is_given C.given i ≡ true → ImageHasType Σ (items_context C.items) (found_values C p i) (substitute_type reduce (found_values C p) A)
   given_typed i A h u =
       let Y : ℕ → Bool = λ j. both (is_given C.given j) (in_context (scope p.clause) j) in
-      let q : substitute_type reduce (given_values C p) A ≡ substitute_type reduce (found_values C p) A = agree_on_type reduce Y (given_values C p) (found_values C p) A (λ j y. let (B, b) = in_type (scope p.clause) j (both_r (is_given C.given j) (in_context (scope p.clause) j) y) in given_same C p j B b (both_l (is_given C.given j) (in_context (scope p.clause) j) y)) (type_third (is_given C.given) (in_context (scope p.clause)) Y (λ j a b. both_true (is_given C.given j) (in_context (scope p.clause) j) a b) A (tb.given.closed i A h u) (in_scope i A h)) in
+      let q : substitute_type reduce (given_values C p) A ≡ substitute_type reduce (found_values C p) A = agree_on_type reduce Y (given_values C p) (found_values C p) A (λ j y. let (B, b) = in_type (scope p.clause) j (both_r (is_given C.given j) (in_context (scope p.clause) j) y) in given_same C p j B b (both_l (is_given C.given j) (in_context (scope p.clause) j) y)) (type_third (is_given C.given) (in_context (scope p.clause)) Y (λ j a b. both_of (is_given C.given j) (in_context (scope p.clause) j) a b) A (tb.given.closed i A h u) (in_scope i A h)) in
       subst (λ y. ImageHasType Σ (items_context C.items) y (substitute_type reduce (found_values C p) A)) (given_same C p i A h u) (subst (ImageHasType Σ (items_context C.items) (given_values C p i)) q (tb.given.typed i A h u))
 
   -- what is ground and not given is used
@@ -154,12 +151,12 @@ module _ (Σ : Signature) (ok : IsSignature Σ) (W : List Block) (typed : AreTyp
   found_terms : AreTerms p.clause (ground_in p (covered_places C.arguments) C.given) (found_values C p)
   found_terms i o v =
       let (A, h) = own_type p.clause i o in
-      by_test (is_given C.given i)
+      decided (is_given C.given i)
       (λ u. let (M, q) = given_there C.given i u in subst IsTerm (sym (given_found C p i A M h q)) tt)
       (λ n. let u = used_here i o n v in subst IsTerm (value_found Σ ok W typed C tb.by_skeletons p tp s e l i A h (is_own p.origin k i A h) u v) (s.terms i o u))
 
   all_typed : (i : ℕ) (A : LfType) → TypeAt (scope p.clause) i A → V i ≡ true → ImageHasType Σ (items_context C.items) (found_values C p i) (substitute_type reduce (found_values C p) A)
-  all_typed i A h v = by_test (is_given C.given i) (λ u. given_typed i A h u) (λ n. used_typed i A h (used_here i (is_own p.origin k i A h) n v) v)
+  all_typed i A h v = decided (is_given C.given i) (λ u. given_typed i A h u) (λ n. used_typed i A h (used_here i (is_own p.origin k i A h) n v) v)
 
   same_places : ArePlaces C.arguments (target_arguments (substitute_type reduce (found_values C p) p.type))
   same_places = goal_agrees X s.clause_values (found_values C p) found_on C.arguments p.type (goal_third (λ j. both (s.used j) (V j)) (in_context (scope p.clause)) X three (covered_places C.arguments) p.type (goal_third s.used V (λ j. both (s.used j) (V j)) two (covered_places C.arguments) p.type s.uses g) (goal_part (in_context (scope p.clause)) (covered_places C.arguments) p.type (typed_uses_type Σ (scope p.clause) (in_context (scope p.clause)) p.type (in_covers (scope p.clause)) tp.type_typed))) (arguments_are Σ ok W typed C tb.by_skeletons p tp s e l)

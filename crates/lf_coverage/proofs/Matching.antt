@@ -1,7 +1,7 @@
 -- Where a case is an instance of a pattern, matching finds the values.
 use Rattle.std.proofs.Common.{◌≡◌, ℕ, zero, suc, List, [], ◌∷◌, refl, sym, ap, ◌∙◌, subst}
 use Rattle.std.specs.Prelude.{Bool, true, false, Option, Some, None}
-use Rattle.lf.specs.Syntax.{Term, Spine, nil, app, LfType, pi, atom, Skeleton, skeleton, weaken}
+use Rattle.lf.specs.Syntax.{Term, Spine, nil, app, LfType, pi, atom, Skeleton, skeleton}
 use Rattle.lf.specs.Substitution.{Image, keep, put, lift, substitute_spine, substitute_type, reduce}
 use Rattle.lf.specs.SkeletonTyping.{SubstitutionBySkeletons}
 use Rattle.lf.specs.Skeletons.{constant_skeletons, context_skeletons}
@@ -19,7 +19,6 @@ use Rattle.lf_checks.specs.Ground.{UsesGoal}
 use Rattle.lf_checks.specs.Marks.{SamePlaces, UsesPlaces}
 use Rattle.lf_checks.specs.Parts.{type_at}
 use Rattle.lf_checks.specs.Strict.{strict_goal}
-use Rattle.lf_checks.specs.Tests.{either}
 use Rattle.lf_checks.specs.Worlded.{IsTerm}
 use Rattle.lf_checks.proofs.Determined.{KeptAlike}
 use Rattle.lf_checks.proofs.EtaTest.{both_r}
@@ -30,6 +29,7 @@ use Rattle.lf_cases.specs.Pattern.{Origin, of_constant, of_entry, Pattern, is_th
 use Rattle.lf_cases.specs.Missing.{BlockAmong, IsTypedInstance, StandsAmong, CommonInstance}
 use Rattle.lf_cases.specs.Reached.{LeavesAll}
 use Rattle.lf_cases.proofs.Raised.{rename_identity}
+use Rattle.lf_cases.proofs.BlockEntries.{among_type}
 use Rattle.lf_totality.proofs.Core.{outer_at}
 use Rattle.lf_totality.proofs.Theorem.{outside_from}
 use Rattle.lf_coverage.specs.Heads.{HaveSkeletons, IsTypedCase}
@@ -42,8 +42,9 @@ use Rattle.lf_coverage.proofs.FirstStands.{among_keep, first_among}
 use Rattle.lf_coverage.proofs.ItemsContext.{items_are_context}
 use Rattle.lf_coverage.proofs.Leaf.{leaves_terms, leaves_deep}
 use Rattle.lf_coverage.proofs.Leaves.{given_skeleton}
-use Rattle.lf_coverage.proofs.ReadOff.{by_test, goal_read}
+use Rattle.lf_coverage.proofs.ReadOff.{goal_read}
 use Rattle.lf_coverage.proofs.Transfer.{instance_fits}
+use Rattle.lf_coverage.proofs.Choices.{decided, second_of}
 
 -- nothing stands outside a constant's clause
 out_of_nothing : (A : LfType) (V : ℕ → Bool) → ((k : ℕ) → V k ≡ true → ⊥) → (i : ℕ) → outside A V i ≡ true → ⊥
@@ -59,11 +60,6 @@ none_fixed (of_constant U) k i e = out_of_nothing U nothing (λ j q. cc) i e
 none_fixed (of_entry B later E es q) k i e = absurd k
 
 -- What stands for the entries before an entry are variables.
-entry_there : (es O : List LfType) (k : ℕ) → among es k ≡ true → (X : LfType) × TypeAt (onto es O) k X
-entry_there [] O k a = absurd cc
-entry_there (E ∷ es) O zero a = (weaken E, refl)
-entry_there (E ∷ es) O (suc k) a = let (X, g) = entry_there es O k a in (weaken X, (X, g, refl))
-
 before_keep : (later : List LfType) (E : LfType) (es : List LfType) (θ : ℕ → Image) → ((k : ℕ) → among (onto later (E ∷ es)) k ≡ true → (j : ℕ) × (θ k ≡ keep j)) → (k : ℕ) → among es k ≡ true → (j : ℕ) × (before later θ k ≡ keep j)
 before_keep [] E es θ h k a = h (suc k) a
 before_keep (D ∷ ds) E es θ h k a = before_keep ds E es (λ i. θ (suc i)) (λ i b. h (suc i) b) k a
@@ -71,7 +67,7 @@ before_keep (D ∷ ds) E es θ h k a = before_keep ds E es (λ i. θ (suc i)) (�
 entry_kept : (B : Block) (later : List LfType) (E : LfType) (es : List LfType) → onto later (E ∷ es) ≡ B.entries → (J : List Item) (θ : ℕ → Image) → BlockAmong J B θ → (τ : ℕ → Image) → AgreesOutside (entry_clause B es E) τ (before later θ) → (j : ℕ) → outside E (among es) j ≡ true → (i : ℕ) × (τ j ≡ keep i)
 entry_kept B later E es q J θ m τ agrees j e =
     let (k, r, a) = outside_from E (among es) j e in
-    let (X, x) = entry_there es B.some k a in
+    let (X, x) = among_type es B.some k a in
     let (i, y) = before_keep later E es θ (λ l b. among_keep J B θ m l (subst (λ ds. among ds l ≡ true) q b)) k a in
     (i, ap τ r ∙ sym (outer_at E τ k) ∙ agrees k X x ∙ y)
 
@@ -81,7 +77,7 @@ outside_kept Σ (of_entry B later E es q) false J I σ g τ (θ, m, agrees) j e 
 outside_kept Σ (of_entry B later E es q) true J I σ g τ (θ, m, agrees) j e = entry_kept B later E es q J θ (first_among Σ J I σ g B θ m) τ agrees j e
 
 -- of a constant's clause each variable in its scope is its own
-own_in_scope : (A : LfType) (O : List LfType) (V : ℕ → Bool) → ((i : ℕ) (X : LfType) → TypeAt O i X → V i ≡ false) → (i : ℕ) (X : LfType) → TypeAt (binders O A) i X → outside A V i ≡ false
+pub own_in_scope : (A : LfType) (O : List LfType) (V : ℕ → Bool) → ((i : ℕ) (X : LfType) → TypeAt O i X → V i ≡ false) → (i : ℕ) (X : LfType) → TypeAt (binders O A) i X → outside A V i ≡ false
 own_in_scope (pi A B) O V h i X g = own_in_scope B (A ∷ O) (hide V) hidden i X g
   where
     hidden : (k : ℕ) (Y : LfType) → TypeAt (A ∷ O) k Y → hide V k ≡ false
@@ -117,11 +113,7 @@ not_given (N ∷ Ms) (suc i) e = not_given Ms i e
 
 -- what is ground, own and not given is strict in the covered places
 pub ground_is_strict : (p : Pattern) (m : List Bool) (Ms : List (Option Term)) (i : ℕ) → is_given Ms i ≡ false → outside p.clause.type everything i ≡ false → ground_in p m Ms i ≡ true → strict_goal m nothing (outside p.clause.type p.clause.fixed) i p.type ≡ true
-ground_is_strict p m Ms i n o z = both_r (variables p.clause i) _ (second (outside p.clause.type everything i) _ o (second (is_given Ms i) _ n z))
-  where
-    second : (a b : Bool) → a ≡ false → either a b ≡ true → b ≡ true
-    second true b f e = absurd cc
-    second false b f e = e
+ground_is_strict p m Ms i n o z = both_r (variables p.clause i) _ (second_of (outside p.clause.type everything i) _ (second_of (is_given Ms i) _ z n) o)
 
 -- what is found, as an image
 pub found_is : (i : ℕ) (O : List LfType) (A : LfType) (x : Option Term) (N : Term) → TypeAt O i A → x ≡ Some N → as_image i (type_at O i) x ≡ put (skeleton A) N
@@ -173,7 +165,7 @@ module _ (Σ : Signature) (ok : IsSignature Σ) (W : List Block) (typed : AreTyp
   fixed_kept : KeptAlike (outside p.clause.type p.clause.fixed) (patch s.used (items_context C.items) s.clause_values) (patch s.used (items_context C.items) s.clause_values)
   fixed_kept j b =
       let (i, q) = outside_kept Σ p.origin p.at_first s.items C.items s.case_values s.is_instance s.clause_values s.stands j b in
-      by_test (s.used j)
+      decided (s.used j)
       (λ u. let r : patch s.used (items_context C.items) s.clause_values j ≡ keep i = sym (patch_same s.used (items_context C.items) s.clause_values j u) ∙ q in (i, r, r))
       (λ n. let r : patch s.used (items_context C.items) s.clause_values j ≡ keep (beyond (items_context C.items) j) = ap (λ b. pick b (s.clause_values j) (keep (beyond (items_context C.items) j))) n in (beyond (items_context C.items) j, r, r))
 

@@ -31,7 +31,11 @@ use Rattle.lf_unification.proofs.Eta.{rename_id, rename_id_type}
 use Rattle.lf_unification.proofs.Fillings.{LocalBySkeletonsUpTo-of}
 use Rattle.lf_unification.proofs.Indices.{skeletons_U, metavariables_skeletons}
 use Rattle.lf_unification.proofs.OpenRenamingBack.{SkeletonsUpTo, AllSkeletonsUpTo, Known, Known-lift_renaming, OpenHasType-unrename}
+use Rattle.lf_unification.specs.Lists.{followed}
+use Rattle.lf_unification.proofs.EquationLemmas.{solves_first}
+use Rattle.lf_unification.proofs.RigidSteps.{solves_rest}
 use Rattle.lf_checks.specs.Clause.{scope}
+use Rattle.lf_checks.proofs.Determined.{app_first, app_rest}
 use Rattle.lf_cases.specs.Case.{Case, items_context, as_term}
 use Rattle.lf_cases.specs.Pattern.{Pattern, is_given, given_at}
 use Rattle.lf_cases.specs.OutputGoal.{renumber}
@@ -41,7 +45,7 @@ use Rattle.lf_cases.proofs.OutputItems.{lifted, length_renumber, length_instance
 use Rattle.lf_totality.proofs.RaisedOutputs.{binders_over}
 use Rattle.lf_coverage.specs.Leaf.{IsTypedPattern}
 use Rattle.lf_coverage.specs.TypedCase.{TypedArguments, IsTypedBeside, given_values}
-use Rattle.lf_coverage.specs.MeetStore.{open_arguments, place_equations, one_given, given_equations, followed_by, meet_store}
+use Rattle.lf_coverage.specs.MeetStore.{open_arguments, place_equations, one_given, given_equations, meet_store}
 use Rattle.lf_coverage.specs.SplitStore.{open_term, open_spine, open_type, open_locals, type_in, context_metavariables}
 use Rattle.lf_coverage.proofs.ContextStore.{context_declared, context_store_ready}
 use Rattle.lf_coverage.proofs.Forms.{far_type, no_shift_type, shift_type_next}
@@ -52,32 +56,15 @@ use Rattle.lf_coverage.proofs.OpenSkeletons.{filled_values, filled_value, filled
 use Rattle.lf_coverage.proofs.OpenTyped.{open_kind, open_instance_kind, family_open, term_opened, type_opened}
 use Rattle.lf_coverage.proofs.StoreSolution.{looked_up, found_type, skeleton_open, value_at}
 use Rattle.lf_coverage.proofs.Transfer.{lift_instance}
+use Rattle.lf_coverage.proofs.Parts.{first_same, second_same, some_same}
 use mathlib.Core.Path.{fun_ext}
 
 -- parts of what is equal
-first_part : {t u v w : Skeleton} → arrow t u ≡ arrow v w → t ≡ v
-first_part e = cc
-
-second_part : {t u v w : Skeleton} → arrow t u ≡ arrow v w → u ≡ w
-second_part e = cc
-
 first_kind : {A B : LfType} {K L : Kind} → kind_pi A K ≡ kind_pi B L → A ≡ B
 first_kind e = cc
 
 second_kind : {A B : LfType} {K L : Kind} → kind_pi A K ≡ kind_pi B L → K ≡ L
 second_kind e = cc
-
-first_spine : {A B : Term} {S T : Spine} → app A S ≡ app B T → A ≡ B
-first_spine e = cc
-
-rest_spine : {A B : Term} {S T : Spine} → app A S ≡ app B T → S ≡ T
-rest_spine e = cc
-
-some_term : {M N : Term} → Some M ≡ Some N → M ≡ N
-some_term e = cc
-
-some_kind : {K L : Kind} → Some K ≡ Some L → K ≡ L
-some_kind e = cc
 
 -- Typing up to the fillings of a store whose metavariables are the variables of a context.
 module _ (Σ : Signature) (ok : IsSignature Σ) (X : List LfType) (cx : IsContext Σ X) (U : (ℕ → Option Term) → Type 0) (half : (β : ℕ → Option Term) → U β → (F : List LfType) × PartialInstance Σ [] (context_metavariables X) (λ m. ⊥) F β) where
@@ -182,7 +169,7 @@ module _ (Σ : Signature) (ok : IsSignature Σ) (X : List LfType) (cx : IsContex
           opened (A ∷ L) (d, t) = (opened L d, type_opened Σ ok X U L A t)
 
       next_skeletons : (AL AP : LfType) (M R : Term) (KL KP : Kind) → arrow (skeleton AL) (kind_skeleton 0 KL) ≡ arrow (skeleton AP) (kind_skeleton 0 KP) → kind_skeleton 0 (instantiate_kind AL M KL) ≡ kind_skeleton 0 (instantiate_kind AP R KP)
-      next_skeletons AL AP M R KL KP e = kind_skeleton_substituted 0 reduce (single (skeleton AL) M) KL ∙ second_part e ∙ sym (kind_skeleton_substituted 0 reduce (single (skeleton AP) R) KP)
+      next_skeletons AL AP M R KL KP e = kind_skeleton_substituted 0 reduce (single (skeleton AL) M) KL ∙ second_same e ∙ sym (kind_skeleton_substituted 0 reduce (single (skeleton AP) R) KP)
 
       next_agree : (AL AP : LfType) (M R : Term) (KL KP : Kind) → KindBySkeletons (family_skeletons Σ) (constant_skeletons Σ) (skeleton AL ∷ Γ2) KL → KindBySkeletons (family_skeletons Σ) (constant_skeletons Σ) (skeleton AP ∷ Γ1) KP → TermSkeleton (constant_skeletons Σ) Γ2 M (skeleton AL) → TermSkeleton (constant_skeletons Σ) Γ1 R (skeleton AP) → skeleton AL ≡ skeleton AP → ((β : ℕ → Option Term) (u : U β) → substitute_kind reduce (σ2 β u) (kind_pi AL KL) ≡ substitute_kind reduce (σ1 β u) (kind_pi AP KP)) → ((β : ℕ → Option Term) (u : U β) → substitute reduce (σ2 β u) M ≡ substitute reduce (σ1 β u) R) → (β : ℕ → Option Term) (u : U β) → substitute_kind reduce (σ2 β u) (instantiate_kind AL M KL) ≡ substitute_kind reduce (σ1 β u) (instantiate_kind AP R KP)
       next_agree AL AP M R KL KP kl kp mk rk s ag terms β u =
@@ -203,7 +190,7 @@ module _ (Σ : Signature) (ok : IsSignature Σ) (X : List LfType) (cx : IsContex
       places (Some M ∷ Ms) (app N Ts) (app R Ss) (kind_pi AL KL) star kl kp ks ag ts st a f h = tt
       places (None ∷ Ms) (app N Ts) (app R Ss) (kind_pi AL KL) star kl kp ks ag ts st a f h = tt
       places (Some M ∷ Ms) (app N Ts) (app R Ss) (kind_pi AL KL) (kind_pi AP KP) (al, kl) (ap', kp) ks ag (tn, ts) st (m, a) (r, f) h =
-          let s : skeleton AL ≡ skeleton AP = first_part ks in
+          let s : skeleton AL ≡ skeleton AP = first_same ks in
           let types : (β : ℕ → Option Term) (u : U β) → substitute_type reduce (σ1 β u) AP ≡ substitute_type reduce (σ2 β u) AL = λ β u. sym (first_kind (ag β u)) in
           let mk : TermSkeleton (constant_skeletons Σ) Γ2 M (skeleton AL) = typed_has_skeleton Σ (onto L2 X) M AL m in
           let rk : TermSkeleton (constant_skeletons Σ) Γ1 R (skeleton AP) = typed_has_skeleton Σ (onto L1 X) R AP r in
@@ -216,27 +203,18 @@ module _ (Σ : Signature) (ok : IsSignature Σ) (X : List LfType) (cx : IsContex
             record { local_typed = local_ok; type_typed = λ F β w u. type_by_opened Σ X L1 (context_skeletons F) AP ap'; left_typed = moved_typed M AL AP m al ap' (sym s) types; right_typed = term_opened Σ ok X U L1 R AP r },
             subst (λ Z. EquationsAreTyped Σ [] Ψ U (place_equations (open_locals L1) (open_arguments (length L1) Ms) (open_spine (length L1) Ss) Z)) (open_instance_kind (length L1) AP R KP)
                 (places Ms Ts Ss (instantiate_kind AL M KL) (instantiate_kind AP R KP) (single_kind_by_skeletons (family_skeletons Σ) (constant_skeletons Σ) (skeleton AL) Γ2 M KL mk kl) (single_kind_by_skeletons (family_skeletons Σ) (constant_skeletons Σ) (skeleton AP) Γ1 R KP rk kp) (next_skeletons AL AP M R KL KP ks) (next_agree AL AP M R KL KP kl kp mk rk s ag terms)
-                (subst (λ t. SpineSkeleton (constant_skeletons Σ) Γ2 Ts t (base 0)) (sym (kind_skeleton_substituted 0 reduce (single (skeleton AL) M) KL)) ts) (λ β u. rest_spine (st β u)) a f
+                (subst (λ t. SpineSkeleton (constant_skeletons Σ) Γ2 Ts t (base 0)) (sym (kind_skeleton_substituted 0 reduce (single (skeleton AL) M) KL)) ts) (λ β u. app_rest (st β u)) a f
                 (λ β u. subst (λ Z. SolvesAll (skeletons_of Ψ) β (place_equations (open_locals L1) (open_arguments (length L1) Ms) (open_spine (length L1) Ss) Z)) (sym (open_instance_kind (length L1) AP R KP)) (h β u).1)),
           )
       places (None ∷ Ms) (app N Ts) (app R Ss) (kind_pi AL KL) (kind_pi AP KP) (al, kl) (ap', kp) ks ag (tn, ts) st a (r, f) h =
-          let s : skeleton AL ≡ skeleton AP = first_part ks in
+          let s : skeleton AL ≡ skeleton AP = first_same ks in
           let rk : TermSkeleton (constant_skeletons Σ) Γ1 R (skeleton AP) = typed_has_skeleton Σ (onto L1 X) R AP r in
           subst (λ Z. EquationsAreTyped Σ [] Ψ U (place_equations (open_locals L1) (open_arguments (length L1) Ms) (open_spine (length L1) Ss) Z)) (open_instance_kind (length L1) AP R KP)
-          (places Ms Ts Ss (instantiate_kind AL N KL) (instantiate_kind AP R KP) (single_kind_by_skeletons (family_skeletons Σ) (constant_skeletons Σ) (skeleton AL) Γ2 N KL tn kl) (single_kind_by_skeletons (family_skeletons Σ) (constant_skeletons Σ) (skeleton AP) Γ1 R KP rk kp) (next_skeletons AL AP N R KL KP ks) (next_agree AL AP N R KL KP kl kp tn rk s ag (λ β u. first_spine (st β u)))
-          (subst (λ t. SpineSkeleton (constant_skeletons Σ) Γ2 Ts t (base 0)) (sym (kind_skeleton_substituted 0 reduce (single (skeleton AL) N) KL)) ts) (λ β u. rest_spine (st β u)) a f
+          (places Ms Ts Ss (instantiate_kind AL N KL) (instantiate_kind AP R KP) (single_kind_by_skeletons (family_skeletons Σ) (constant_skeletons Σ) (skeleton AL) Γ2 N KL tn kl) (single_kind_by_skeletons (family_skeletons Σ) (constant_skeletons Σ) (skeleton AP) Γ1 R KP rk kp) (next_skeletons AL AP N R KL KP ks) (next_agree AL AP N R KL KP kl kp tn rk s ag (λ β u. app_first (st β u)))
+          (subst (λ t. SpineSkeleton (constant_skeletons Σ) Γ2 Ts t (base 0)) (sym (kind_skeleton_substituted 0 reduce (single (skeleton AL) N) KL)) ts) (λ β u. app_rest (st β u)) a f
           (λ β u. subst (λ Z. SolvesAll (skeletons_of Ψ) β (place_equations (open_locals L1) (open_arguments (length L1) Ms) (open_spine (length L1) Ss) Z)) (sym (open_instance_kind (length L1) AP R KP)) (h β u)))
 
--- Solving both lists is solving each.
-pub solves_first : (ν : ℕ → Skeleton) (β : ℕ → Option Term) (es fs : List Equation) → SolvesAll ν β (followed_by es fs) → SolvesAll ν β es
-solves_first ν β [] fs h = tt
-solves_first ν β (e ∷ es) fs (a, h) = (a, solves_first ν β es fs h)
-
-pub solves_second : (ν : ℕ → Skeleton) (β : ℕ → Option Term) (es fs : List Equation) → SolvesAll ν β (followed_by es fs) → SolvesAll ν β fs
-solves_second ν β [] fs h = h
-solves_second ν β (e ∷ es) fs (a, h) = solves_second ν β es fs h
-
-both_typed : (Σ : Signature) (Φ : ℕ → Option LfType) (U : (ℕ → Option Term) → Type 0) (es fs : List Equation) → EquationsAreTyped Σ [] Φ U es → EquationsAreTyped Σ [] Φ U fs → EquationsAreTyped Σ [] Φ U (followed_by es fs)
+both_typed : (Σ : Signature) (Φ : ℕ → Option LfType) (U : (ℕ → Option Term) → Type 0) (es fs : List Equation) → EquationsAreTyped Σ [] Φ U es → EquationsAreTyped Σ [] Φ U fs → EquationsAreTyped Σ [] Φ U (followed es fs)
 both_typed Σ Φ U [] fs a b = b
 both_typed Σ Φ U (e ∷ es) fs (x, a) b = (x, both_typed Σ Φ U es fs a b)
 
@@ -248,16 +226,10 @@ given_solved ν β X k (N ∷ Ms) h zero M A e g = by (type_in X k) (looked_up X
     none : (k : ℕ) → 0 + k ≡ k
     none k = omega arith
 
-    some_same : {B C : LfType} → Some B ≡ Some C → B ≡ C
-    some_same e = cc
-
-    some_term : {B C : Term} → Some B ≡ Some C → B ≡ C
-    some_term e = cc
-
     by : (y : Option LfType) → y ≡ Some A → (x : Option Term) → x ≡ Some M → SolvesAll ν β (one_given k y x (given_equations X (suc k) Ms)) → fill ν β (open_term zero (eta_long (skeleton A) (variable (0 + k)))) ≡ fill ν β (open_term zero M)
     by None q x e s = absurd cc
     by (Some B) q None e s = absurd cc
-    by (Some B) q (Some P) e (s, t) = ap (λ j. fill ν β (open_term zero (eta_long (skeleton A) (variable j)))) (none k) ∙ ap (λ Z. fill ν β (open_term zero (eta_long (skeleton Z) (variable k)))) (sym (some_same q)) ∙ s ∙ ap (λ Z. fill ν β (open_term zero Z)) (some_term e)
+    by (Some B) q (Some P) e (s, t) = ap (λ j. fill ν β (open_term zero (eta_long (skeleton A) (variable j)))) (none k) ∙ ap (λ Z. fill ν β (open_term zero (eta_long (skeleton Z) (variable k)))) (sym (some_same q)) ∙ s ∙ ap (λ Z. fill ν β (open_term zero Z)) (some_same e)
 given_solved ν β X k (N ∷ Ms) h (suc i) M A e g = ap (λ j. fill ν β (open_term zero (eta_long (skeleton A) (variable j)))) (next i k) ∙ given_solved ν β X (suc k) Ms (rest (type_in X k) N h) i M A e (subst (λ j. TypeAt X j A) (next i k) g)
   where
     next : (i k : ℕ) → suc i + k ≡ i + suc k
@@ -319,9 +291,6 @@ module _ (Σ : Signature) (ok : IsSignature Σ) (W : List Block) (typed : AreTyp
   pub arguments_fit : SpineFitsKind Σ (onto D Q) (target_arguments p.type) tb.kind
   arguments_fit = by (end_typed Σ ok p.type Q tp.type_typed)
     where
-      some_same : {K L : Kind} → Some K ≡ Some L → K ≡ L
-      some_same e = cc
-
       by : IsType Σ (binders Q p.type) (atom (target p.type) (target_arguments p.type)) → SpineFitsKind Σ (onto D Q) (target_arguments p.type) tb.kind
       by (K, e, s) = subst (SpineFitsKind Σ (onto D Q) (target_arguments p.type)) (some_same (sym e ∙ ap Σ.kinds tb.same_family ∙ tb.of_family)) (subst (λ G. SpineFitsKind Σ G (target_arguments p.type) K) (binders_over [] p.type Q) s)
 
@@ -340,7 +309,7 @@ module _ (Σ : Signature) (ok : IsSignature Σ) (W : List Block) (typed : AreTyp
     where
       found : StandsForItself Q C.given n i ⊎ StandsForGiven Q C.given n i → HasType Σ X M (substitute_type reduce g A)
       found (inl (e, none)) = absurd (none A M h q)
-      found (inr (B, P, b, r, e)) = subst (λ N. HasType Σ X N (substitute_type reduce g A)) (some_term (sym r ∙ q)) (subst (λ x. ImageHasType Σ X x (substitute_type reduce g A)) e (given_near.typed i A h (given_there C.given i P r))).1
+      found (inr (B, P, b, r, e)) = subst (λ N. HasType Σ X N (substitute_type reduce g A)) (some_same (sym r ∙ q)) (subst (λ x. ImageHasType Σ X x (substitute_type reduce g A)) e (given_near.typed i A h (given_there C.given i P r))).1
 
   -- a filling of the store gives the clause's variables the given terms' values
   pub agrees : (β : ℕ → Option Term) (u : U β) (i : ℕ) → after (values Σ ok X joint_context U half β u) g i ≡ values Σ ok X joint_context U half β u (i + n)
@@ -420,7 +389,7 @@ module _ (Σ : Signature) (ok : IsSignature Σ) (W : List Block) (typed : AreTyp
       (substitution_keeps_spine_skeletons (constant_skeletons Σ) (context_skeletons (onto D Q)) (context_skeletons (onto L2 X)) (lift_over D g) S (kind_skeleton 0 K) (base 0) (lifted Σ D Q X g fg) ss)
       (λ β u. ap (λ f. substitute_spine reduce f T) (lift_instance D g (values Σ ok X joint_context U half β u)) ∙ spine_put Σ X Q (half β u).0 g (values Σ ok X joint_context U half β u) n fg (filled_fits Σ X (half β u).0 β (half β u).1) (agrees β u) D S (kind_skeleton 0 K) (base 0) ss ∙ ap (λ f. substitute_spine reduce f S1) (sym (lift_renumber (shift_by n) D (values Σ ok X joint_context U half β u))))
       (subst (λ L. TypedArguments Σ (onto L X) C.arguments T K) tb.local tb.arguments) fits
-      (λ β u. subst (λ Z. SolvesAll (skeletons_of Φ) β (place_equations (open_locals L1) (open_arguments (length L1) C.arguments) (open_spine (length L1) S1) Z)) (sym o) (subst (λ k. SolvesAll (skeletons_of Φ) β (place_equations (open_locals L1) (open_arguments k C.arguments) (open_spine k S1) K)) (sym e) (solves_second (skeletons_of Φ) β (given_equations X n C.given) _ u.2.1))) in
+      (λ β u. subst (λ Z. SolvesAll (skeletons_of Φ) β (place_equations (open_locals L1) (open_arguments (length L1) C.arguments) (open_spine (length L1) S1) Z)) (sym o) (subst (λ k. SolvesAll (skeletons_of Φ) β (place_equations (open_locals L1) (open_arguments k C.arguments) (open_spine k S1) K)) (sym e) (solves_rest (skeletons_of Φ) β (given_equations X n C.given) _ u.2.1))) in
       subst (λ k. EquationsAreTyped Σ [] Φ U (place_equations (open_locals L1) (open_arguments k C.arguments) (open_spine k S1) K)) e (subst (λ Z. EquationsAreTyped Σ [] Φ U (place_equations (open_locals L1) (open_arguments (length L1) C.arguments) (open_spine (length L1) S1) Z)) o r)
 
   -- The lemma

@@ -24,6 +24,7 @@ use Rattle.lf_unification.specs.Skeletons.{skeleton_or_default}
 use Rattle.lf_unification.specs.Solving.{Never}
 use Rattle.lf_unification.specs.Unifiers.{Equation, SolvesAll}
 use Rattle.lf_unification.proofs.Raise.{fill_pis}
+use Rattle.lf_unification.specs.Lists.{followed}
 use Rattle.lf_checks.specs.Clause.{Clause, scope}
 use Rattle.lf_checks.specs.Marks.{SamePlaces}
 use Rattle.lf_cases.specs.Case.{Item, Case, items_context, as_term, HasArguments, covered_places}
@@ -31,18 +32,19 @@ use Rattle.lf_cases.specs.Pattern.{Origin, of_constant, of_entry, Pattern, given
 use Rattle.lf_cases.specs.OutputGoal.{renumber}
 use Rattle.lf_cases.specs.Missing.{AreTypedItems, blocks_with}
 use Rattle.lf_cases.proofs.LongValues.{term_typed}
-use Rattle.lf_cases.proofs.OutputItems.{lifted}
+use Rattle.lf_cases.proofs.OutputItems.{lifted, length_renumber}
 use Rattle.lf_coverage.specs.Heads.{HaveSkeletons, IsTypedCase}
 use Rattle.lf_coverage.specs.Laws.{NeverSharesAll, NeverIsApart}
 use Rattle.lf_coverage.specs.Leaf.{IsTypedPattern}
-use Rattle.lf_coverage.specs.MeetStore.{open_arguments, place_equations, one_given, given_equations, followed_by, meet_store, IsConstants}
+use Rattle.lf_coverage.specs.MeetStore.{open_arguments, place_equations, one_given, given_equations, meet_store, IsConstants}
 use Rattle.lf_coverage.specs.SplitStore.{open_term, open_spine, open_type, open_locals, type_in, open_some, context_metavariables}
-use Rattle.lf_coverage.proofs.Forms.{far_type, as_pis, no_shift_type, shift_type_next}
+use Rattle.lf_coverage.proofs.Forms.{far_type, as_pis, no_shift_type, shift_type_next, near_type}
 use Rattle.lf_coverage.proofs.FreshValues.{Longer, longer, values_moved, arguments_moved, goal_moved}
 use Rattle.lf_coverage.proofs.InstancesCompose.{instance_is_typed}
 use Rattle.lf_coverage.proofs.ItemsContext.{items_are_context}
 use Rattle.lf_coverage.proofs.OpenTerms.{AllStand, FitsImage, all_lifted, fill_open, fill_open_type}
 use Rattle.lf_coverage.proofs.StoreSolution.{looked_up, found_type, skeleton_open, open_pis, value_at}
+use Rattle.lf_coverage.proofs.Parts.{suc_same, none_some}
 use mathlib.Core.Path.{fun_ext}
 
 -- the values of two contexts, the first in front of the second
@@ -67,11 +69,6 @@ joined_far (B ∷ O) σ τ i = ap (joined (B ∷ O) σ τ) (next i (length O)) �
     next i n = omega arith
 
 -- a variable of both is one of the first, or one of the second, moved
-pub near_type : (O Q : List LfType) (i : ℕ) (A : LfType) → TypeAt O i A → TypeAt (onto O Q) i A
-near_type [] Q i A g = absurd g
-near_type (B ∷ O) Q zero A e = e
-near_type (B ∷ O) Q (suc i) A (C, g, e) = (C, near_type O Q i C g, e)
-
 pub which_type : (O Q : List LfType) (i : ℕ) (A : LfType) → TypeAt (onto O Q) i A → TypeAt O i A ⊎ ((k : ℕ) × (B : LfType) × TypeAt Q k B × (i ≡ k + length O) × (A ≡ rename_type (shift_by (length O)) B))
 which_type [] Q i A g = inr (i, A, g, none i, sym (no_shift_type A))
   where
@@ -114,18 +111,11 @@ pub under_same : (β : ℕ → Option Term) (D E : List LfType) → length D ≡
 under_same β [] [] e = refl
 under_same β [] (B ∷ E) e = absurd cc
 under_same β (A ∷ D) [] e = absurd cc
-under_same β (A ∷ D) (B ∷ E) e = ap (Rattle.lf_unification.specs.Filling.moved suc) (under_same β D E (inside e))
-  where
-    inside : suc (length D) ≡ suc (length E) → length D ≡ length E
-    inside e = cc
+under_same β (A ∷ D) (B ∷ E) e = ap (Rattle.lf_unification.specs.Filling.moved suc) (under_same β D E (suc_same e))
 
 pub open_length : (D : List LfType) → length (open_locals D) ≡ length D
 open_length [] = refl
 open_length (A ∷ D) = ap suc (open_length D)
-
-pub renumber_length : (ρ : ℕ → ℕ) (D : List LfType) → length (renumber ρ D) ≡ length D
-renumber_length ρ [] = refl
-renumber_length ρ (A ∷ D) = ap suc (renumber_length ρ D)
 
 -- the quantifiers and the arguments of a type that is renamed
 pub binders_renumbered : (ρ : ℕ → ℕ) (D : List LfType) (A : LfType) → binders (renumber ρ D) (rename_type (lift_renaming_by (length D) ρ) A) ≡ renumber ρ (binders D A)
@@ -140,7 +130,7 @@ arguments_over : (E : List LfType) (P : LfType) → target_arguments (pi_over E 
 arguments_over [] P = refl
 arguments_over (A ∷ E) P = arguments_over E (pi A P)
 
-solves_both : (μ : ℕ → Skeleton) (β : ℕ → Option Term) (es fs : List Equation) → SolvesAll μ β es → SolvesAll μ β fs → SolvesAll μ β (followed_by es fs)
+solves_both : (μ : ℕ → Skeleton) (β : ℕ → Option Term) (es fs : List Equation) → SolvesAll μ β es → SolvesAll μ β fs → SolvesAll μ β (followed es fs)
 solves_both μ β [] fs s t = t
 solves_both μ β (e ∷ es) fs (x, s) t = (x, solves_both μ β es fs s t)
 
@@ -270,7 +260,7 @@ module _ (Σ : Signature) (ok : IsSignature Σ) (O Q G : List LfType) (co : IsCo
       let b : LfType = rename_type (shift_by (length O)) P in
       let form : rename_type (shift_by (length O)) P ≡ pi_over D (atom (target b) S) = as_pis b [] ∙ ap₂ (λ L T. pi_over L (atom (target b) T)) (binders_renumbered ρ [] P) (arguments_renamed ρ [] P) in
       let filled : substitute_type reduce τ P ≡ pi_over (fill_locals μ β (open_locals D)) (atom (target b) (fill_spine μ (under_locals (open_locals D) β) (open_spine (length D) S))) = sym (second_filled P t) ∙ ap (λ Z. fill_type μ β (open_type zero Z)) form ∙ ap (fill_type μ β) (open_pis D (target b) S) ∙ fill_pis μ β (open_locals D) (atom (target b) (open_spine (length D) S)) in
-      ap (λ n. fill_spine μ (under_locals (open_locals D) β) (open_spine n S)) (sym (renumber_length ρ (binders [] P)))
+      ap (λ n. fill_spine μ (under_locals (open_locals D) β) (open_spine n S)) (sym (length_renumber ρ (binders [] P)))
       ∙ sym (ap target_arguments filled ∙ arguments_over (fill_locals μ β (open_locals D)) (atom (target b) (fill_spine μ (under_locals (open_locals D) β) (open_spine (length D) S))))
 
 -- the blocks of a constant's clause are those of the worlds
@@ -288,7 +278,7 @@ never_with Σ ok W C tc p tp l K never co G cg σ ts τ tv T h e g =
     let bs : ℕ → Option Term = β Σ ok O Q G co tp.clause_typed cg σ τ ts tv in
     let E : List LfType = open_locals (renumber (shift_by (length O)) D) in
     let S : Spine = open_spine (length D) (rename_spine (lift_renaming_by (length D) (shift_by (length O))) (target_arguments p.type)) in
-    let le : length E ≡ length C.local = open_length (renumber (shift_by (length O)) D) ∙ renumber_length (shift_by (length O)) D ∙ sym l in
+    let le : length E ≡ length C.local = open_length (renumber (shift_by (length O)) D) ∙ length_renumber (shift_by (length O)) D ∙ sym l in
     let same : SamePlaces (covered_places C.arguments) T (fill_spine ms (under_locals E bs) S) = subst (SamePlaces (covered_places C.arguments) T) (sym (pattern_filled Σ ok O Q G co tp.clause_typed cg σ τ ts tv p.type tp.type_typed)) e in
     let places : SolvesAll ms bs (place_equations E (open_arguments (length C.local) C.arguments) S K) = places_solved Σ ok O Q G co tp.clause_typed cg σ τ ts tv C.local E le C.arguments S T K tc.arguments h same in
     let given : SolvesAll ms bs (given_equations (onto O Q) (length O) C.given) = given_solved Σ ok O Q G co tp.clause_typed cg σ τ ts tv C.given (length O) tc.given (λ k M A q z. let (a, r) = g k M A q z in (a, joined_far O σ τ k ∙ r)) in
@@ -311,7 +301,4 @@ never_is_apart Σ ok W typed C tc nc p tp i l none K never s =
     (rename_spine (lift_renaming_by (length C.local) f.moves) s.tuple)
     (arguments_moved C.local f.moves s.case_values C.arguments s.tuple s.of_case)
     (subst (λ n. SamePlaces (covered_places C.arguments) (rename_spine (lift_renaming_by n f.moves) s.tuple) (target_arguments (substitute_type reduce f.values p.type))) (sym l) same)
-    (λ k M A e z. absurd (none_is (sym (ap (λ Ms. given_at Ms k) none) ∙ e)))
-  where
-    none_is : {M : Term} → None ≡ Some M → ⊥
-    none_is e = cc
+    (λ k M A e z. absurd (none_some (sym (ap (λ Ms. given_at Ms k) none) ∙ e)))

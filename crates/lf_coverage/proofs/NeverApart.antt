@@ -1,6 +1,6 @@
 -- A case that is typed beside a constant's clause, and is never unified with it, shares no typed instance with it.
-use Rattle.std.proofs.Common.{◌≡◌, ℕ, ◌+◌, ◌⊎◌, List, [], length, inl, inr, refl, sym, ap, ap₂, ◌∙◌, subst}
-use Rattle.std.specs.Prelude.{Bool, true, false, Some}
+use Rattle.std.proofs.Common.{◌≡◌, ℕ, ◌+◌, ◌⊎◌, List, [], length, inl, inr, sym, ap, ap₂, ◌∙◌, subst}
+use Rattle.std.specs.Prelude.{Bool, true, Some}
 use Rattle.lf.specs.Syntax.{Term, Spine, LfType, Skeleton, skeleton, rename, rename_spine}
 use Rattle.lf.specs.Substitution.{Image, keep, put, rename_image, substitute, substitute_type, substitute_image, after, reduce}
 use Rattle.lf.specs.SkeletonTyping.{SubstitutionBySkeletons}
@@ -22,6 +22,7 @@ use Rattle.lf_unification.specs.Solving.{Never}
 use Rattle.lf_checks.specs.Clause.{scope}
 use Rattle.lf_checks.specs.Marks.{SamePlaces}
 use Rattle.lf_checks.specs.Tests.{either}
+use Rattle.lf_checks.proofs.StrictTypes.{either_cases}
 use Rattle.lf_cases.specs.Case.{Case, items_context, HasArguments, covered_places}
 use Rattle.lf_cases.specs.Pattern.{Pattern, is_given, given_at}
 use Rattle.lf_cases.specs.Missing.{CommonInstance}
@@ -37,17 +38,8 @@ use Rattle.lf_coverage.proofs.ItemsContext.{items_are_context}
 use Rattle.lf_coverage.proofs.MeetReady.{far_back}
 use Rattle.lf_coverage.proofs.Meeting.{joined, joined_near, joined_far, both_fit, never_with, no_block_with}
 use Rattle.lf_coverage.proofs.StayTyped.{value_type}
-
-either_true : (a b : Bool) → either a b ≡ true → (a ≡ true) ⊎ (b ≡ true)
-either_true true b e = inl refl
-either_true false b e = inr e
-
-first_of : (a b : Bool) → a ≡ true → either a b ≡ true
-first_of a b e = ap (λ x. either x b) e
-
-second_of : (a b : Bool) → b ≡ true → either a b ≡ true
-second_of true b e = refl
-second_of false b e = e
+use Rattle.lf_coverage.proofs.Choices.{either_first, either_second}
+use Rattle.lf_coverage.proofs.Parts.{some_same}
 
 module _ (Σ : Signature) (ok : IsSignature Σ) (W : List Block) (typed : AreTypedBlocks Σ W) (C : Case) (nc : HasNoBlockVariable C.items) (p : Pattern) (tp : IsTypedPattern Σ p) (i : IsConstants p.origin) (tb : IsTypedBeside Σ W C p) (s : CommonInstance Σ W C p) where
   abbrev O : List LfType
@@ -126,11 +118,11 @@ module _ (Σ : Signature) (ok : IsSignature Σ) (W : List Block) (typed : AreTyp
   U j = either (s.used j) (is_given C.given j)
 
   values_typed : Values Σ U Q H v
-  values_typed = record { typed = λ j A k u. each j A k (either_true (s.used j) (is_given C.given j) u); closed = λ j A k u. closed j A k (either_true (s.used j) (is_given C.given j) u) }
+  values_typed = record { typed = λ j A k u. each j A k (either_cases (s.used j) (is_given C.given j) u); closed = λ j A k u. closed j A k (either_cases (s.used j) (is_given C.given j) u) }
     where
       closed : (j : ℕ) (A : LfType) → TypeAt Q j A → (s.used j ≡ true) ⊎ (is_given C.given j ≡ true) → UsesType U A
-      closed j A k (inl u) = uses_type_within s.used U A (λ l e. first_of (s.used l) (is_given C.given l) e) (s.typed_values.closed j A k u)
-      closed j A k (inr u) = uses_type_within (is_given C.given) U A (λ l e. second_of (s.used l) (is_given C.given l) e) (tb.given.closed j A k u)
+      closed j A k (inl u) = uses_type_within s.used U A (λ l e. either_first (s.used l) (is_given C.given l) e) (s.typed_values.closed j A k u)
+      closed j A k (inr u) = uses_type_within (is_given C.given) U A (λ l e. either_second (s.used l) (is_given C.given l) e) (tb.given.closed j A k u)
 
       image_put : (x : Image) (A : LfType) → IsType Σ O A → ImageHasType Σ O x A → ImageHasType Σ H (substitute_image σ x) (substitute_type reduce σ A)
       image_put (keep l) A t k = tσ l A k
@@ -169,12 +161,9 @@ module _ (Σ : Signature) (ok : IsSignature Σ) (W : List Block) (typed : AreTyp
       let h1 : HasArguments (lift_over C.local σ) C.arguments T1 = arguments_moved C.local first.moves s.case_values C.arguments s.tuple s.of_case in
       let h2 : HasArguments (lift_over C.local τ) C.arguments T2 = arguments_moved C.local second.moves σ C.arguments T1 h1 in
       let s1 : SamePlaces b T1 (target_arguments (substitute_type reduce first.values p.type)) = subst (λ k. SamePlaces b (rename_spine (lift_renaming_by k first.moves) s.tuple) (target_arguments (substitute_type reduce first.values p.type))) (sym l) (goal_moved [] s.used first.moves s.clause_values first.values first.same b p.type s.tuple s.uses s.of_clause) in
-      let s2 : SamePlaces b T2 (target_arguments (substitute_type reduce second.values p.type)) = subst (λ k. SamePlaces b (rename_spine (lift_renaming_by k second.moves) T1) (target_arguments (substitute_type reduce second.values p.type))) (sym l) (goal_moved [] s.used second.moves first.values second.values (λ j u. ap (rename_image second.moves) (on_used j u) ∙ second.same j (first_of (s.used j) (is_given C.given j) u)) b p.type T1 s.uses s1) in
+      let s2 : SamePlaces b T2 (target_arguments (substitute_type reduce second.values p.type)) = subst (λ k. SamePlaces b (rename_spine (lift_renaming_by k second.moves) T1) (target_arguments (substitute_type reduce second.values p.type))) (sym l) (goal_moved [] s.used second.moves first.values second.values (λ j u. ap (rename_image second.moves) (on_used j u) ∙ second.same j (either_first (s.used j) (is_given C.given j) u)) b p.type T1 s.uses s1) in
       never_with Σ ok W C tb.by_skeletons p tp l tb.kind never co second.context second.is_context τ (values_moved Σ ok O H second.context second.moves σ second.renames tσ) second.values second.typed T2 h2 s2 given
     where
-      some_same : {M N : Term} → Some M ≡ Some N → M ≡ N
-      some_same e = cc
-
       given : (j : ℕ) (M : Term) (A : LfType) → given_at C.given j ≡ Some M → TypeAt X (j + n) A → (a : Skeleton) × (second.values j ≡ put a (substitute reduce τ M))
       given j M A q z = by (given_cases Q C.given n j)
         where
@@ -182,7 +171,7 @@ module _ (Σ : Signature) (ok : IsSignature Σ) (W : List Block) (typed : AreTyp
           by (inl (e, none)) = let (B, b, r) = far_back O Q j A z in absurd (none B M b q)
           by (inr (B, N, b, r, e)) = (
             skeleton B,
-            sym (second.same j (second_of (s.used j) (is_given C.given j) (given_there C.given j M q)))
+            sym (second.same j (either_second (s.used j) (is_given C.given j) (given_there C.given j M q)))
                 ∙ ap (λ x. rename_image second.moves (substitute_image both x)) e
                 ∙ ap (λ P. put (skeleton B) (rename second.moves P)) (sym (given_term j B N b r e) ∙ rename_substituted reduce reduction_is_natural first.moves s.case_values N)
                 ∙ ap (put (skeleton B)) (rename_substituted reduce reduction_is_natural second.moves σ N ∙ ap (substitute reduce τ) (some_same (sym r ∙ q))),

@@ -30,8 +30,9 @@ use Rattle.lf_cases.proofs.LongValues.{long_at, long_same, term_typed}
 use Rattle.lf_totality.proofs.OutputCases.{in_context, in_covers}
 use Rattle.lf_cases.proofs.OutputItems.{Follows, length_instance}
 use Rattle.lf_cases.proofs.Raised.{rename_identity_type}
-use Rattle.lf_coverage.proofs.Forms.{far_type}
+use Rattle.lf_coverage.proofs.Forms.{far_type, near_type}
 use Rattle.lf_coverage.proofs.SameInstance.{front_behind}
+use Rattle.lf_coverage.proofs.ItemsContext.{outer_context}
 use mathlib.Core.Path.{fun_ext}
 
 -- the terms of some values, in front of others
@@ -73,15 +74,6 @@ first_has w [] σ g B θ f = absurd f
 first_has w (free_variable A ∷ I) σ (N, τ, g, t, e) B θ f = first_has w I τ g B θ f
 first_has w (block_variable C υ ∷ I) σ g B θ f = refl
 
-at_front : (O C : List LfType) (i : ℕ) (A : LfType) → TypeAt O i A → TypeAt (onto O C) i A
-at_front [] C i A g = absurd g
-at_front (X ∷ O) C zero A e = e
-at_front (X ∷ O) C (suc i) A (B, g, e) = (B, at_front O C i B g, e)
-
-pub outer_context : (Σ : Signature) (es O : List LfType) → IsContext Σ (onto es O) → IsContext Σ O
-outer_context Σ [] O c = c
-outer_context Σ (E ∷ es) O c = outer_context Σ es O c.0
-
 pub some_values : (Σ : Signature) (G ds O : List LfType) (θ : ℕ → Image) → IsTypedSubstitution Σ (onto ds O) G θ → IsTypedSubstitution Σ O G (behind_entries ds θ)
 some_values Σ G [] O θ h i A g = h i A g
 some_values Σ G (D ∷ ds) O θ h i A g = some_values Σ G ds O (λ j. θ (suc j)) (λ j X k. subst (ImageHasType Σ G (θ (suc j))) (substitute_renamed_type reduce θ suc X) (h (suc j) (weaken X) (X, k, refl))) i A g
@@ -89,14 +81,14 @@ some_values Σ G (D ∷ ds) O θ h i A g = some_values Σ G ds O (λ j. θ (suc 
 -- Typed
 some_typed : (Σ : Signature) → IsSignature Σ → (W : List Block) (O : List LfType) (I : List Item) → IsContext Σ O → AreTypedItems Σ W I → AreTypedItems Σ W (items_onto (free_variables O) I)
 some_typed Σ ok W [] I c a = a
-some_typed Σ ok W (A ∷ O) I (c, t) a = (some_typed Σ ok W O I c a, subst (λ C. IsType Σ C A) (sym (some_items O I)) (subst (IsType Σ (onto O (items_context I))) (rename_identity_type A) (renaming_keeps_types Σ ok O (onto O (items_context I)) (λ i. i) A (λ i X g. subst (TypeAt (onto O (items_context I)) i) (sym (rename_identity_type X)) (at_front O (items_context I) i X g)) t)))
+some_typed Σ ok W (A ∷ O) I (c, t) a = (some_typed Σ ok W O I c a, subst (λ C. IsType Σ C A) (sym (some_items O I)) (subst (IsType Σ (onto O (items_context I))) (rename_identity_type A) (renaming_keeps_types Σ ok O (onto O (items_context I)) (λ i. i) A (λ i X g. subst (TypeAt (onto O (items_context I)) i) (sym (rename_identity_type X)) (near_type O (items_context I) i X g)) t)))
 
 pub block_typed : (Σ : Signature) → IsSignature Σ → (W : List Block) → AreTypedBlocks Σ W → (B : Block) → Member B W → (I : List Item) → AreTypedItems Σ W I → AreTypedItems Σ W (with_block B I)
 block_typed Σ ok W b B m I a = (
   some_typed Σ ok W B.some I (outer_context Σ B.entries B.some (b B m)) a,
   m,
   record {
-    typed = λ i A g u. subst (TypeAt (items_context (items_onto (free_variables B.some) I)) i) (sym (substitute_identity_type reduce A)) (subst (λ C. TypeAt C i A) (sym (some_items B.some I)) (at_front B.some (items_context I) i A g));
+    typed = λ i A g u. subst (TypeAt (items_context (items_onto (free_variables B.some) I)) i) (sym (substitute_identity_type reduce A)) (subst (λ C. TypeAt C i A) (sym (some_items B.some I)) (near_type B.some (items_context I) i A g));
     closed = λ i A g u. uses_type_all everything A (λ j. refl);
   },
 )

@@ -21,18 +21,14 @@ use Rattle.lf_coverage.specs.NumberedCase.{NumberedCase, some_spine, AreTypedBlo
 use Rattle.lf_coverage.specs.OwnTerms.{BlockVariable, blocks_of, own_terms, OnOwnTerms, SpineOnOwnTerms, TypeOnOwnTerms, rename_blocks}
 use Rattle.lf_coverage.proofs.EntrySignature.{grown_contexts, with_entries_is_signature, entries_kept, earlier_kept}
 use Rattle.lf_coverage.proofs.EntryValues.{some_own}
-use Rattle.lf_coverage.proofs.Forms.{far_type}
+use Rattle.lf_coverage.proofs.Forms.{far_type, near_type}
 use Rattle.lf_coverage.proofs.Numbering.{blocks_renamed}
 use Rattle.lf_coverage.proofs.NumberedTyped.{own_long, own_some, put_old_type, renamed_terms, blocks_end, member_end, rename_as_term, rename_some, among_worlds, old_own}
 use Rattle.lf_coverage.proofs.OwnTerms.{rename_own, own_renamed, type_renamed, own_agrees, type_agrees, own_stays}
+use Rattle.lf_coverage.proofs.ItemsContext.{outer_context}
 use mathlib.Core.Path.{fun_ext}
 
 -- A variable of both is one of the new ones, or an old one.
-at_front : (O X : List LfType) (i : ℕ) (A : LfType) → TypeAt O i A → TypeAt (onto O X) i A
-at_front [] X i A g = absurd g
-at_front (B ∷ O) X zero A e = e
-at_front (B ∷ O) X (suc i) A (D, g, e) = (D, at_front O X i D g, e)
-
 at_either : (O X : List LfType) (i : ℕ) (A : LfType) → TypeAt (onto O X) i A → TypeAt O i A ⊎ ((j : ℕ) × (D : LfType) × TypeAt X j D × (A ≡ rename_type (shift_by (length O)) D))
 at_either [] X i A g = inr (i, A, g, sym (ap (λ ρ. rename_type ρ A) (fun_ext none) ∙ rename_identity_type A))
   where
@@ -109,19 +105,15 @@ module _ (Σ : Signature) (ok : IsSignature Σ) (W : List Block) (typed : AreTyp
   kept : (c : ℕ) (A : LfType) → Σ₁.types c ≡ Some A → Σ₂.types c ≡ Some A
   kept c A e = subst (λ Ds. (with_entries Σ first Ds).types c ≡ Some A) (sym blocks_are) (earlier_kept Σ first (blocks_of bs) (B ∷ []) c A e)
 
-  outer : (es : List LfType) → IsContext Σ (onto es B.some) → IsContext Σ B.some
-  outer [] c = c
-  outer (E ∷ es) c = outer es c.0
-
   some_context : IsContext Σ B.some
-  some_context = outer B.entries (typed B member)
+  some_context = outer_context Σ B.entries B.some (typed B member)
 
   X₂ : IsContext Σ₂ X
   X₂ = grown_contexts Σ₁ Σ₂ kept (λ a K e. e) X tv.variables
 
   front_context : (O : List LfType) → IsContext Σ O → IsContext Σ₂ (onto O X)
   front_context [] c = X₂
-  front_context (A ∷ O) (c, t) = (front_context O c, subst (IsType Σ₂ (onto O X)) (rename_identity_type A) (renaming_keeps_types Σ₂ ok₂ O (onto O X) (λ i. i) A (λ i D g. subst (TypeAt (onto O X) i) (sym (rename_identity_type D)) (at_front O X i D g)) (growth_keeps_types Σ Σ₂ (entries_kept Σ first Bs₂) (λ a K e. e) O A t)))
+  front_context (A ∷ O) (c, t) = (front_context O c, subst (IsType Σ₂ (onto O X)) (rename_identity_type A) (renaming_keeps_types Σ₂ ok₂ O (onto O X) (λ i. i) A (λ i D g. subst (TypeAt (onto O X) i) (sym (rename_identity_type D)) (near_type O X i D g)) (growth_keeps_types Σ Σ₂ (entries_kept Σ first Bs₂) (λ a K e. e) O A t)))
 
   renames : IsTypedRenaming X Y ρ
   renames i A g = far_type B.some X i A g
@@ -153,7 +145,7 @@ module _ (Σ : Signature) (ok : IsSignature Σ) (W : List Block) (typed : AreTyp
   old_blocks : (ds : List BlockVariable) → AreTypedBlockVariables Σ₁ W X o ds → AreTypedBlockVariables Σ₂ W Y o₂ (rename_blocks ρ ds ++ new ∷ [])
   old_blocks [] h = (
     member,
-    (keep, λ i A g. subst (TypeAt Y i) (sym (substitute_identity_type reduce A)) (at_front B.some X i A g), locals_are B.some),
+    (keep, λ i A g. subst (TypeAt Y i) (sym (substitute_identity_type reduce A)) (near_type B.some X i A g), locals_are B.some),
     subst (SpineOnOwnTerms o₂) (sym (locals_are B.some)) (own_some o₂ B.some keep (λ i A g. own_long o₂ (skeleton A) i nil tt)),
     tt,
   )

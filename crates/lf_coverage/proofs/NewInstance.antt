@@ -27,13 +27,14 @@ use Rattle.lf_coverage.specs.OwnTerms.{BlockVariable, blocks_of, own_terms, rena
 use Rattle.lf_coverage.specs.Reading.{read, read_spine, read_type, weaken_read, read_constant, read_entry, entry_reading, variable_past}
 use Rattle.lf_coverage.proofs.EntrySignature.{behind_kept, else_cases, not_same}
 use Rattle.lf_coverage.proofs.EntryValues.{put_some, read_some, some_equal}
-use Rattle.lf_coverage.proofs.NewBlock.{front_long, front_past, front_term, outer_context, some_on, some_values}
+use Rattle.lf_coverage.proofs.NewBlock.{front_long, front_past, front_term, some_on, some_values}
 use Rattle.lf_coverage.proofs.NewBlockTyped.{locals_are}
 use Rattle.lf_coverage.proofs.Numbering.{blocks_renamed}
 use Rattle.lf_coverage.proofs.NumberedTyped.{blocks_end}
 use Rattle.lf_coverage.proofs.OwnTerms.{number_in, old_is_none}
 use Rattle.lf_coverage.proofs.ReadInstance.{inside_onto, reading_next, values_fit}
 use Rattle.lf_coverage.proofs.Reading.{IsOld, none_read_type, read_image, read_spine_renamed, rename_read, type_only}
+use Rattle.lf_coverage.proofs.ItemsContext.{outer_context}
 use mathlib.Core.Path.{fun_ext}
 
 -- Two readings that agree on the constants of a signature read alike what is typed over it.

@@ -13,6 +13,7 @@ use Rattle.lf.proofs.Kept.{typed_uses_type}
 use Rattle.lf.proofs.Partial.{uses_all}
 use Rattle.lf.proofs.Patch.{pick}
 use Rattle.lf.proofs.ToSkeletons.{type_by_skeletons, variable_has_skeleton}
+use Rattle.lf.proofs.Checker.{both_of}
 use Rattle.lf_checks.specs.Clause.{constant_clause, from_constant, outside}
 use Rattle.lf_checks.specs.Ground.{UsesGoal}
 use Rattle.lf_checks.specs.Marks.{Mark, MentionChosenOnly, input_places}
@@ -40,7 +41,7 @@ use Rattle.lf_coverage.proofs.GivenValues.{given_fits}
 use Rattle.lf_coverage.proofs.HeadMatching.{head_matching_decides}
 use Rattle.lf_coverage.proofs.InputsMatching.{all_free, head_is_full, no_candidates, some_kind, target_fits}
 use Rattle.lf_coverage.proofs.Leaves.{head_is_typed}
-use Rattle.lf_coverage.proofs.Matched.{both_true, goal_part, goal_third, own_type}
+use Rattle.lf_coverage.proofs.Matched.{goal_part, goal_third, own_type}
 use Rattle.lf_coverage.proofs.Matching.{found_is, goal_agrees, ground_is_strict, is_own, none_fixed}
 use Rattle.lf_coverage.proofs.MeetReady.{given_near}
 use Rattle.lf_coverage.proofs.OwnVariables.{once_in_head}
@@ -164,7 +165,7 @@ module _ (Σ : Signature) (ok : IsSignature Σ) (below : ℕ → ℕ → Bool) (
         let on : (i : ℕ) → Y i ≡ true → τ i ≡ found_values C p i = λ i y. let (A, g) = in_type O i (both_r (V i) (in_context O i) y) in long_at_is O r.values i A g ∙ sym (value_is i A g (both_l (V i) (in_context O i) y)) in (
           strict_head,
           λ i o v. let (A, g) = own_type (constant_clause U) i o in term_there (found_values C p i) (skeleton A) (as_term (skeleton A) (r.values i)) (value_is i A g v),
-          goal_agrees Y τ (found_values C p) on C.arguments (atom (target U) T) (goal_third V (in_context O) Y (λ i u v. both_true (V i) (in_context O i) u v) b (atom (target U) T) strict_head (goal_part (in_context O) b (atom (target U) T) (typed_uses_type Σ O (in_context O) (atom (target U) T) (in_covers O) tp.type_typed))) same,
+          goal_agrees Y τ (found_values C p) on C.arguments (atom (target U) T) (goal_third V (in_context O) Y (λ i u v. both_of (V i) (in_context O i) u v) b (atom (target U) T) strict_head (goal_part (in_context O) b (atom (target U) T) (typed_uses_type Σ O (in_context O) (atom (target U) T) (in_covers O) tp.type_typed))) same,
         )
 
 pub no_candidate_matches : NoCandidateMatches

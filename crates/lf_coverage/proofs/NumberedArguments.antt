@@ -31,10 +31,11 @@ use Rattle.lf_coverage.proofs.EntryValues.{read_as_term, put_term}
 use Rattle.lf_coverage.proofs.GroundTyped.{ground_typed, items_extended, long_equal}
 use Rattle.lf_coverage.proofs.NumberedTyped.{rename_as_term, typed_numbering, numbered_is_typed}
 use Rattle.lf_coverage.proofs.OwnTerms.{old_is_none}
-use Rattle.lf_coverage.proofs.ReadInstance.{no_metavariable, values_fit, heads, inside_onto, ok₁}
+use Rattle.lf_coverage.proofs.ReadInstance.{values_fit, heads, inside_onto, ok₁}
 use Rattle.lf_coverage.proofs.ReadSkeletons.{read_has_skeleton}
 use Rattle.lf_coverage.proofs.Reading.{OnlyConstants, SpineOnlyConstants, IsOld, none_read, read_image, FollowsRead, image_read_under, read_substituted}
 use Rattle.lf_coverage.proofs.Transfer.{same_in, lift_instance, after_over, term_more}
+use Rattle.lf_coverage.proofs.Parts.{none_some}
 use mathlib.Core.Path.{fun_ext}
 
 -- the constants of what has a skeleton
@@ -134,7 +135,7 @@ module _ (Σ Σ' : Signature) (ok : IsSignature Σ) (S : ℕ → Bool) (x : Exte
     where
       by : (y : Image) → ImageSkeleton (constant_skeletons (with_entries Σ first (blocks_of (numbering first C.items).blocks))) (context_skeletons X) y t → ImageOnOwnTerms (own_terms first (numbering first C.items).blocks) y → ImageSkeleton κ' (context_skeletons (onto X G)) (read_image f y) t
       by (keep j) p q = inside_onto X G j t p
-      by (put c N) (e, n) q = (e, read_has_skeleton (constant_skeletons (with_entries Σ first (blocks_of (numbering first C.items).blocks))) κ' (λ j u z. no_metavariable z) (context_skeletons X) (context_skeletons (onto X G)) f (own_terms first (numbering first C.items).blocks) N c (inside_onto X G) (heads Σ Σ' ok S x W typed first free (numbered first C) (numbered_is_typed Σ ok W typed first free C a) w θ ρ inst) n q)
+      by (put c N) (e, n) q = (e, read_has_skeleton (constant_skeletons (with_entries Σ first (blocks_of (numbering first C.items).blocks))) κ' (λ j u z. none_some z) (context_skeletons X) (context_skeletons (onto X G)) f (own_terms first (numbering first C.items).blocks) N c (inside_onto X G) (heads Σ Σ' ok S x W typed first free (numbered first C) (numbered_is_typed Σ ok W typed first free C a) w θ ρ inst) n q)
 
   agree : (i : ℕ) (A : LfType) → TypeAt (items_context C.items) i A → as_term (skeleton A) (σ i) ≡ as_term (skeleton A) (after ρ seen i)
   agree i A k = same i A k ∙ ap (substitute reduce ρ) (read_as_term f (skeleton A) (δ i)) ∙ put_term κ' (context_skeletons (onto X G)) (context_skeletons G) ρ ρ_fits (skeleton A) (seen i) (seen_fits i (skeleton A) (variable_has_skeleton (items_context C.items) i A k))

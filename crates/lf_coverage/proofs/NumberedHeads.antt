@@ -30,6 +30,7 @@ use Rattle.lf_coverage.proofs.Forms.{form}
 use Rattle.lf_coverage.proofs.Numbering.{entry_behind}
 use Rattle.lf_coverage.proofs.ReadInstance.{values_typed}
 use Rattle.lf_coverage.proofs.SameInstance.{find_entry, instance_unique}
+use Rattle.lf_coverage.proofs.Parts.{some_same}
 
 -- a value of a free variable is a term
 value_is_term : (Σ : Signature) (G : List LfType) (f : ℕ → ℕ → Option (ℕ × ℕ)) (X : List LfType) (σ : ℕ → Image) → AreGroundValues Σ G f X σ → (x : ℕ) (A : LfType) → TypeAt X x A → (N : Term) × (σ x ≡ put (skeleton A) N)
@@ -88,14 +89,11 @@ module _ {Σ' : Signature} {W : List Block} {S : ℕ → Bool} {G : List LfType}
   search k pre q [] h = inr (λ j b e. absurd cc)
   search k pre q (b ∷ bs) (i, e, h) = by (find_entry b.block.entries (θ k) v) (search (suc k) (pre ++ b.block ∷ []) (ap suc q ∙ sym (one_longer pre b.block)) bs h)
     where
-      some_block : {c d : BlockVariable} → Some c ≡ Some d → c ≡ d
-      some_block e = cc
-
       no_sum : (k : ℕ) → k + 0 ≡ k
       no_sum k = omega arith
 
       none : ((l : ℕ) → among b.block.entries l ≡ true → θ k l ≡ keep v → ⊥) → NoneHas (suc k) bs → NoneHas k (b ∷ bs)
-      none n m zero c s l a f = n l (ap (λ d. among d.block.entries l) (some_block s) ∙ a) (ap (λ i. θ i l) (sym (no_sum k)) ∙ f)
+      none n m zero c s l a f = n l (ap (λ d. among d.block.entries l) (some_same s) ∙ a) (ap (λ i. θ i l) (sym (no_sum k)) ∙ f)
       none n m (suc j) c s l a f = m j c s l a (ap (λ i. θ i l) (next_sum k j) ∙ f)
 
       by : ((l : ℕ) × (among b.block.entries l ≡ true) × (θ k l ≡ keep v)) ⊎ ((l : ℕ) → among b.block.entries l ≡ true → θ k l ≡ keep v → ⊥) → Among ((pre ++ b.block ∷ []) ++ blocks_of bs) ⊎ NoneHas (suc k) bs → Among (pre ++ b.block ∷ blocks_of bs) ⊎ NoneHas k (b ∷ bs)

@@ -23,7 +23,7 @@ use Rattle.lf_unification.specs.Offering.{pi_over, local_arguments}
 use Rattle.lf_cases.specs.Cover.{place_of}
 use Rattle.lf_cases.specs.Case.{Item, free_variable, block_variable, items_context, as_term}
 use Rattle.lf_cases.specs.Missing.{AreTypedItems}
-use Rattle.lf_cases.proofs.BlockEntries.{drop_typed, onto_onto}
+use Rattle.lf_cases.proofs.BlockEntries.{drop_typed}
 use Rattle.lf_cases.proofs.LongValues.{term_typed}
 use Rattle.lf_cases.proofs.OutputItems.{lifted}
 use Rattle.lf_coverage.specs.EntryConstants.{EntryConstant, entry_constant, entry_images, entry_constant_type, entry_type, with_entries, IsFreeFrom}
@@ -31,10 +31,11 @@ use Rattle.lf_coverage.specs.EntryLaws.{NumberedIsTyped}
 use Rattle.lf_coverage.specs.NumberedCase.{some_spine, AreTypedBlockVariables}
 use Rattle.lf_coverage.specs.Numbering.{entries_of, own_spine, numbering}
 use Rattle.lf_coverage.specs.OwnTerms.{BlockVariable, blocks_of, terms_at, terms_of_entry, own_terms, weaken_own, BeginsWith, OnOwnTerms, SpineOnOwnTerms, TypeOnOwnTerms, ImageOnOwnTerms, rename_blocks}
+use Rattle.lf_coverage.proofs.EntryPlaces.{whole, Rest, rest_next}
 use Rattle.lf_coverage.proofs.EntrySignature.{else_second, locals_typed, grown_contexts, grown_image, with_entries_is_signature, entries_kept, earlier_kept}
 use Rattle.lf_coverage.proofs.EntryValues.{some_own, put_locals, after_entries, some_typed}
 use Rattle.lf_coverage.proofs.GroundTyped.{front_typed, past_one}
-use Rattle.lf_coverage.proofs.ItemsContext.{items_are_context}
+use Rattle.lf_coverage.proofs.ItemsContext.{items_are_context, outer_context}
 use Rattle.lf_coverage.proofs.Numbering.{entry_behind, blocks_renamed}
 use Rattle.lf_coverage.proofs.OwnTerms.{rename_own, begins_renamed, own_as_renamed, own_renamed, spine_renamed, type_renamed, RedOwn, image_under, plug_own, reduce_own, own_agrees, type_agrees, own_stays, old_is_none, entry_from}
 use Rattle.lf_coverage.proofs.Reading.{IsOld}
@@ -292,12 +293,8 @@ module _ (Σ : Signature) (ok : IsSignature Σ) (W : List Block) (typed : AreTyp
       items₂ : IsContext Σ₂ C
       items₂ = more Bs₂ C (items_are_context Σ ok W typed I a)
 
-      outer : (es : List LfType) → IsContext Σ (onto es B.some) → IsContext Σ B.some
-      outer [] c = c
-      outer (E ∷ es) c = outer es c.0
-
       some₂ : IsContext Σ₂ B.some
-      some₂ = more Bs₂ B.some (outer B.entries (typed B member))
+      some₂ = more Bs₂ B.some (outer_context Σ B.entries B.some (typed B member))
 
       images₂ : IsTypedSubstitution Σ₂ C X δ
       images₂ i A g = grown_image Σ₁ Σ₂ kept (λ c K q. q) X (δ i) (substitute_type reduce δ A) (r.images i A g)
@@ -342,37 +339,31 @@ module _ (Σ : Signature) (ok : IsSignature Σ) (W : List Block) (typed : AreTyp
       constant_in : (later : List LfType) (E : LfType) (es : List LfType) → onto later (E ∷ es) ≡ B.entries → Σ₂.types (m + length es) ≡ Some (entry_constant_type m B.some es E)
       constant_in later E es e = else_second (Σ.types (m + length es)) (entry_type (entry_constant zero first Bs₂ (m + length es))) (Some (entry_constant_type m B.some es E)) (free.types_free (m + length es) (entry_from zero first Bs₂ (m + length es) (record { number = zero + length (blocks_of bs); block = B; from = m; place = place_of later; entry = E; before = es }) (found later E es e))) (ap entry_type (found later E es e))
 
-      abbrev Rest : List LfType → List LfType → Type 0
-      Rest later es = (D : LfType) (ds : List LfType) → es ≡ D ∷ ds → onto later (D ∷ ds) ≡ B.entries
-
-      rest_next : (later : List LfType) (D : LfType) (ds : List LfType) → Rest later (D ∷ ds) → Rest (onto later (D ∷ [])) ds
-      rest_next later D ds e F fs q = onto_onto later (D ∷ []) (F ∷ fs) ∙ ap (λ l. onto later (D ∷ l)) (sym q) ∙ e D ds refl
-
       entry_typed : (later : List LfType) (D : LfType) (ds : List LfType) → onto later (D ∷ ds) ≡ B.entries → IsContext Σ (onto ds B.some) × IsType Σ (onto ds B.some) D
-      entry_typed later D ds e = drop_typed Σ later D (onto ds B.some) (subst (IsContext Σ) (ap (λ fs. onto fs B.some) (sym e) ∙ onto_onto later (D ∷ ds) B.some) (typed B member))
+      entry_typed later D ds e = drop_typed Σ later D (onto ds B.some) (subst (IsContext Σ) (whole B later D ds e) (typed B member))
 
       -- the entries on the `some` variables
-      locals_fit : (later es : List LfType) → Rest later es → IsContext Σ (onto es B.some) → IsTypedSubstitution Σ₂ (onto es B.some) B.some (entry_images m (local_arguments B.some) es keep)
+      locals_fit : (later es : List LfType) → Rest B later es → IsContext Σ (onto es B.some) → IsTypedSubstitution Σ₂ (onto es B.some) B.some (entry_images m (local_arguments B.some) es keep)
       locals_fit later [] e c = λ i A g. subst (TypeAt B.some i) (sym (substitute_identity_type reduce A)) g
       locals_fit later (D ∷ ds) e (c, t) =
           let ι : ℕ → Image = entry_images m (local_arguments B.some) ds keep in
-          let s : IsTypedSubstitution Σ₂ (onto ds B.some) B.some ι = locals_fit (onto later (D ∷ [])) ds (rest_next later D ds e) c in
+          let s : IsTypedSubstitution Σ₂ (onto ds B.some) B.some ι = locals_fit (onto later (D ∷ [])) ds (rest_next B later D ds e) c in
           let T : LfType = substitute_type reduce ι D in
           let t₂ : IsType Σ₂ B.some T = substitution_keeps_types Σ₂ ok₂ (onto ds B.some) B.some ι D (record { typed = s; source_skeletons = skeleton_context_of Σ₂ ok₂ (onto ds B.some) (more Bs₂ (onto ds B.some) c); target_skeletons = skeleton_context_of Σ₂ ok₂ B.some some₂ }) (more_type Bs₂ (onto ds B.some) D t) in
           let N : Term = eta_expand (skeleton D) (constant (m + length ds)) (local_arguments B.some) in
           front_typed Σ₂ ok₂ [] (λ F i. absurd i) (onto ds B.some) B.some D (put (skeleton D) N) ι s (skeleton_substituted reduce ι D, eta_expand_has_type Σ₂ ok₂ (skeleton D) B.some (constant (m + length ds)) (local_arguments B.some) (pi_over B.some T) T some₂ (skeleton_substituted reduce ι D) t₂ (constant_in later D ds (e D ds refl)) (locals_typed Σ₂ ok₂ B.some T some₂ t₂))
 
       -- and on the terms
-      entries_fit : (later es : List LfType) → Rest later es → IsTypedSubstitution Σ₂ (onto (instance es υ) C) X (entry_images m U es δ)
+      entries_fit : (later es : List LfType) → Rest B later es → IsTypedSubstitution Σ₂ (onto (instance es υ) C) X (entry_images m U es δ)
       entries_fit later [] e = images₂
       entries_fit later (D ∷ ds) e =
           let q : onto later (D ∷ ds) ≡ B.entries = e D ds refl in
           let (c, t) = entry_typed later D ds q in
           let κ = constant_skeletons Σ₂ in
           let φ = family_skeletons Σ₂ in
-          let s : IsTypedSubstitution Σ₂ (onto (instance ds υ) C) X (entry_images m U ds δ) = entries_fit (onto later (D ∷ [])) ds (rest_next later D ds e) in
+          let s : IsTypedSubstitution Σ₂ (onto (instance ds υ) C) X (entry_images m U ds δ) = entries_fit (onto later (D ∷ [])) ds (rest_next B later D ds e) in
           let ι : ℕ → Image = entry_images m (local_arguments B.some) ds keep in
-          let l : IsTypedSubstitution Σ₂ (onto ds B.some) B.some ι = locals_fit (onto later (D ∷ [])) ds (rest_next later D ds e) c in
+          let l : IsTypedSubstitution Σ₂ (onto ds B.some) B.some ι = locals_fit (onto later (D ∷ [])) ds (rest_next B later D ds e) c in
           let t₂ : IsType Σ₂ (onto ds B.some) D = more_type Bs₂ (onto ds B.some) D t in
           let k = type_by_skeletons Σ₂ (onto ds B.some) D t₂ in
           let T : LfType = substitute_type reduce ι D in
@@ -391,10 +382,10 @@ module _ (Σ : Signature) (ok : IsSignature Σ) (W : List Block) (typed : AreTyp
           let N : Term = eta_expand (skeleton D) (constant (m + length ds)) U in
           front_typed Σ₂ ok₂ [] (λ F i. absurd i) (onto (instance ds υ) C) X (substitute_type reduce (lift_over ds υ) D) (put (skeleton D) N) (entry_images m U ds δ) s (kZ, eta_expand_has_type Σ₂ ok₂ (skeleton D) X (constant (m + length ds)) U (entry_constant_type m B.some ds D) Z context₂ kZ tZ (constant_in later D ds q) sZ)
 
-      entries_own : (later es : List LfType) → Rest later es → (i : ℕ) (A : LfType) → TypeAt (onto (instance es υ) C) i A → ImageOnOwnTerms o₂ (entry_images m U es δ i)
+      entries_own : (later es : List LfType) → Rest B later es → (i : ℕ) (A : LfType) → TypeAt (onto (instance es υ) C) i A → ImageOnOwnTerms o₂ (entry_images m U es δ i)
       entries_own later [] e i A g = own₂ i A g
       entries_own later (D ∷ ds) e zero A g = own_long_constant o₂ (skeleton D) (m + length ds) U (subst (λ u. BeginsWith u U) (sym (own_of later D ds (e D ds refl))) (nil, append_nothing U)) terms_own
-      entries_own later (D ∷ ds) e (suc i) A (F, g, q) = entries_own (onto later (D ∷ [])) ds (rest_next later D ds e) i F g
+      entries_own later (D ∷ ds) e (suc i) A (F, g, q) = entries_own (onto later (D ∷ [])) ds (rest_next B later D ds e) i F g
 
       old_blocks : (ds : List BlockVariable) → AreTypedBlockVariables Σ₁ W X (own bs) ds → AreTypedBlockVariables Σ₂ W X o₂ (ds ++ b ∷ [])
       old_blocks [] h = (member, (after δ υ, terms₂.typed, refl), terms_own, tt)

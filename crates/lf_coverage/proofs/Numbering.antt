@@ -24,14 +24,12 @@ use Rattle.lf.proofs.SkeletonTypes.{substitutions_compose_type}
 use Rattle.lf.proofs.Substitution.{typed_substitution_by_skeletons}
 use Rattle.lf.proofs.ToSkeletons.{variable_has_skeleton, skeleton_has_variable, typed_has_skeleton, type_by_skeletons}
 use Rattle.lf.proofs.TypeLaws.{skeleton_renamed, skeleton_substituted}
-use Rattle.lf_checks.specs.Clause.{among}
 use Rattle.lf_checks.specs.Tests.{choose}
+use Rattle.lf_checks.specs.ModeForms.{argument_count}
 use Rattle.lf_cases.specs.Pattern.{has_block_variable, FirstInstance}
 use Rattle.lf_cases.specs.Cover.{InstanceIn, place_of, before}
 use Rattle.lf_cases.specs.Case.{Item, free_variable, block_variable, items_context, entries_in_front, behind_entries, as_term, IsGroundInstance}
 use Rattle.lf_cases.specs.Missing.{AreTypedItems}
-use Rattle.lf_cases.proofs.BlockEntries.{at_place, onto_onto}
-use Rattle.lf_cases.proofs.Instances.{Begun, instance_typed, place_among}
 use Rattle.lf_cases.proofs.LongValues.{long_at, long_past, long_same}
 use Rattle.lf_totality.proofs.OutputCases.{in_context, in_covers, in_type}
 use Rattle.lf_coverage.specs.EntryConstants.{entry_among, entry_constant, entry_images, IsFreeFrom}
@@ -42,13 +40,13 @@ use Rattle.lf_coverage.specs.OwnTerms.{BlockVariable, blocks_of, rename_blocks}
 use Rattle.lf_coverage.specs.Reading.{read, read_spine, read_type, variable_past, read_entry, entry_reading}
 use Rattle.lf_coverage.proofs.Composing.{composed}
 use Rattle.lf_coverage.proofs.EntryFound.{among_at}
+use Rattle.lf_coverage.proofs.EntryPlaces.{Rest, rest_next, entry_is, entry_type_at}
 use Rattle.lf_coverage.proofs.EntrySignature.{else_first, else_second, among_none, not_same}
-use Rattle.lf_coverage.proofs.EntryValues.{read_entry_long, read_as_term, count_some, read_some, some_same, some_equal, put_term, put_some}
+use Rattle.lf_coverage.proofs.EntryValues.{read_entry_long, read_as_term, count_some, read_some, some_equal, put_term, put_some, some_terms_same}
 use Rattle.lf_coverage.proofs.GroundTyped.{ground_typed, items_extended, long_equal, past_one}
 use Rattle.lf_coverage.proofs.OwnTerms.{old_is_none}
 use Rattle.lf_coverage.proofs.ReadInstance.{values_fit, value_past, reading_next}
 use Rattle.lf_coverage.proofs.Reading.{read_renamed, read_spine_renamed, IsOld, typed_only, type_only, none_read, none_read_type, read_image, FollowsRead, read_substituted, read_type_substituted}
-use Rattle.lf_coverage.proofs.ReadSkeletons.{count}
 use Rattle.lf_coverage.proofs.Transfer.{same_in, onto_skeleton}
 
 -- The entries of a block variable behind others
@@ -91,15 +89,11 @@ image_read_next first Bs θ n (keep j) = refl
 image_read_next first Bs θ n (put a N) = ap (put a) (read_renamed (entry_reading first Bs θ n) (entry_reading first Bs θ (suc n)) suc N (reading_next first Bs θ n))
 
 -- what an instance gives from an entry on
-abbrev from_entry : List LfType → (ℕ → Image) → ℕ → Image
-from_entry [] φ = φ
-from_entry (D ∷ ds) φ = from_entry ds (λ i. φ (suc i))
-
-from_next : (later : List LfType) (E : LfType) (φ : ℕ → Image) (i : ℕ) → from_entry (onto later (E ∷ [])) φ i ≡ from_entry later φ (suc i)
+from_next : (later : List LfType) (E : LfType) (φ : ℕ → Image) (i : ℕ) → behind_entries (onto later (E ∷ [])) φ i ≡ behind_entries later φ (suc i)
 from_next [] E φ i = refl
 from_next (D ∷ ds) E φ i = from_next ds E (λ j. φ (suc j)) i
 
-from_first : (later : List LfType) (φ : ℕ → Image) → from_entry later φ zero ≡ φ (place_of later)
+from_first : (later : List LfType) (φ : ℕ → Image) → behind_entries later φ zero ≡ φ (place_of later)
 from_first [] φ = refl
 from_first (D ∷ ds) φ = from_first ds (λ j. φ (suc j))
 
@@ -324,25 +318,13 @@ module _ (Σ Σ' : Signature) (ok : IsSignature Σ) (S : ℕ → Bool) (x : Exte
     terms_from s = some_equal B.some (behind_entries B.entries (θ k)) (after ρ values) (λ i A g. s i A g ∙ values_same i A g) ∙ sym terms_value
 
     terms_to : some_spine B.some (behind_entries B.entries (θ k)) ≡ substitute_spine reduce ρ (read_spine (f (length X)) U) → SameTerms
-    terms_to e i A g = some_same B.some (behind_entries B.entries (θ k)) (after ρ values) (e ∙ terms_value) i A g ∙ sym (values_same i A g)
+    terms_to e i A g = some_terms_same B.some (behind_entries B.entries (θ k)) (after ρ values) (e ∙ terms_value) i A g ∙ sym (values_same i A g)
 
     module _ (at : InstanceIn w B (θ k)) where
-      begun : Begun Σ' x.ok G B B.entries (θ k)
-      begun = instance_typed Σ' x.ok w B (θ k) at
-
-      entry_is : (later : List LfType) (E : LfType) (es : List LfType) → onto later (E ∷ es) ≡ B.entries → (u : ℕ) × (θ k (place_of later) ≡ keep u)
-      entry_is later E es e = begun.kept (place_of later) (subst (λ ds. among ds (place_of later) ≡ true) e (place_among later E es))
-
-      whole : (later : List LfType) (E : LfType) (es : List LfType) → onto later (E ∷ es) ≡ B.entries → onto B.entries B.some ≡ onto later (E ∷ onto es B.some)
-      whole later E es e = ap (λ ds. onto ds B.some) (sym e) ∙ onto_onto later (E ∷ es) B.some
-
       skeleton_at : (later : List LfType) (E : LfType) (es : List LfType) → onto later (E ∷ es) ≡ B.entries → (u : ℕ) → θ k (place_of later) ≡ keep u → SkeletonAt (context_skeletons (onto X G)) (u + length X) (skeleton E)
-      skeleton_at later E es e u q =
-          let (Z, g, z) = at_place later E (onto es B.some) (θ k) in
-          let t : TypeAt G u (substitute_type reduce (before later (θ k)) E) = subst (TypeAt G u) z (subst (λ y. ImageHasType Σ' G y (substitute_type reduce (θ k) Z)) q (begun.typed.typed (place_of later) Z (subst (λ D. TypeAt D (place_of later) Z) (sym (whole later E es e)) g) refl)) in
-          onto_skeleton X G u (skeleton E) (subst (SkeletonAt (context_skeletons G) u) (skeleton_substituted reduce (before later (θ k)) E) (variable_has_skeleton G u (substitute_type reduce (before later (θ k)) E) t))
+      skeleton_at later E es e u q = onto_skeleton X G u (skeleton E) (subst (SkeletonAt (context_skeletons G) u) (skeleton_substituted reduce (before later (θ k)) E) (variable_has_skeleton G u (substitute_type reduce (before later (θ k)) E) (entry_type_at Σ' x.ok w B (θ k) at later E es e u q)))
 
-      read_at : (later : List LfType) (E : LfType) (es : List LfType) → onto later (E ∷ es) ≡ B.entries → (u : ℕ) → θ k (place_of later) ≡ keep u → f (length X) (m + length es) ≡ Some (count U, u + length X)
+      read_at : (later : List LfType) (E : LfType) (es : List LfType) → onto later (E ∷ es) ≡ B.entries → (u : ℕ) → θ k (place_of later) ≡ keep u → f (length X) (m + length es) ≡ Some (argument_count U, u + length X)
       read_at later E es e u q =
           ap (read_entry θ (length X)) (ap (λ Ds. entry_constant zero first Ds (m + length es)) lead.1 ∙ entry_behind zero first (blocks_of bs) B lead.0 later E es e)
           ∙ ap (λ y. Some (length B.some, variable_past (length X) y)) q
@@ -354,33 +336,27 @@ module _ (Σ Σ' : Signature) (ok : IsSignature Σ) (S : ℕ → Bool) (x : Exte
       abbrev images : List LfType → ℕ → Image
       images es i = read_image (f (length X)) (entry_images m U es (numbering first I).images i)
 
-      abbrev Rest : List LfType → List LfType → Type 0
-      Rest later es = (D : LfType) (ds : List LfType) → es ≡ D ∷ ds → onto later (D ∷ ds) ≡ B.entries
-
-      rest_next : (later : List LfType) (D : LfType) (ds : List LfType) → Rest later (D ∷ ds) → Rest (onto later (D ∷ [])) ds
-      rest_next later D ds e F fs q = onto_onto later (D ∷ []) (F ∷ fs) ∙ ap (λ l. onto later (D ∷ l)) (sym q) ∙ e D ds refl
-
-      images_fit : (later es : List LfType) → Rest later es → SubstitutionBySkeletons κ' (context_skeletons (onto (instance es υ) (items_context I))) (context_skeletons (onto X G)) (images es)
+      images_fit : (later es : List LfType) → Rest B later es → SubstitutionBySkeletons κ' (context_skeletons (onto (instance es υ) (items_context I))) (context_skeletons (onto X G)) (images es)
       images_fit later [] e = r.fits
-      images_fit later (D ∷ ds) e = front (images_fit (onto later (D ∷ [])) ds (rest_next later D ds e))
+      images_fit later (D ∷ ds) e = front (images_fit (onto later (D ∷ [])) ds (rest_next B later D ds e))
         where
           front : SubstitutionBySkeletons κ' (context_skeletons (onto (instance ds υ) (items_context I))) (context_skeletons (onto X G)) (images ds) → SubstitutionBySkeletons κ' (skeleton (substitute_type reduce (lift_over ds υ) D) ∷ context_skeletons (onto (instance ds υ) (items_context I))) (context_skeletons (onto X G)) (images (D ∷ ds))
           front ih zero t q =
-              let (u, p) = entry_is later D ds (e D ds refl) in
+              let (u, p) = entry_is Σ' x.ok w B (θ k) at later D ds (e D ds refl) in
               (sym (skeleton_substituted reduce (lift_over ds υ) D) ∙ q, subst (λ Y. TermSkeleton κ' (context_skeletons (onto X G)) Y (skeleton D)) (sym (long_at_entry later D ds (e D ds refl) u p)) (eta_long_has_skeleton κ' (context_skeletons (onto X G)) (skeleton D) (variable (u + length X)) (skeleton_at later D ds (e D ds refl) u p)))
           front ih (suc i) t g = ih i t g
 
-      images_agree : (later es : List LfType) → Rest later es → (i : ℕ) (A : LfType) → TypeAt (onto (instance es υ) (items_context I)) i A → as_term (skeleton A) (entries_in_front es (from_entry later (θ k)) τ i) ≡ as_term (skeleton A) (substitute_image ρ (images es i))
+      images_agree : (later es : List LfType) → Rest B later es → (i : ℕ) (A : LfType) → TypeAt (onto (instance es υ) (items_context I)) i A → as_term (skeleton A) (entries_in_front es (behind_entries later (θ k)) τ i) ≡ as_term (skeleton A) (substitute_image ρ (images es i))
       images_agree later [] e i A g = r.agree i A g
       images_agree later (D ∷ ds) e zero A g =
-          let (u, p) = entry_is later D ds (e D ds refl) in
+          let (u, p) = entry_is Σ' x.ok w B (θ k) at later D ds (e D ds refl) in
           ap (as_term (skeleton A)) (from_first later (θ k) ∙ p)
           ∙ ap (λ c. eta_long c (variable u)) (ap skeleton g ∙ skeleton_renamed suc (substitute_type reduce (lift_over ds υ) D) ∙ skeleton_substituted reduce (lift_over ds υ) D)
           ∙ sym (ap (substitute reduce ρ) (long_at_entry later D ds (e D ds refl) u p) ∙ substitute_eta_expand ρ (skeleton D) (variable (u + length X)) (variable u) nil (value_past Σ' x.ok G first Bs θ X ρ r.values u))
       images_agree later (D ∷ ds) e (suc i) A (F, g, q) =
-          ap (λ c. as_term c (entries_in_front ds (λ j. from_entry later (θ k) (suc j)) τ i)) (ap skeleton q ∙ skeleton_renamed suc F)
-          ∙ ap (as_term (skeleton F)) (in_front_same ds (λ j. from_entry later (θ k) (suc j)) (from_entry (onto later (D ∷ [])) (θ k)) τ i (λ j. sym (from_next later D (θ k) j)))
-          ∙ images_agree (onto later (D ∷ [])) ds (rest_next later D ds e) i F g
+          ap (λ c. as_term c (entries_in_front ds (λ j. behind_entries later (θ k) (suc j)) τ i)) (ap skeleton q ∙ skeleton_renamed suc F)
+          ∙ ap (as_term (skeleton F)) (in_front_same ds (λ j. behind_entries later (θ k) (suc j)) (behind_entries (onto later (D ∷ [])) (θ k)) τ i (λ j. sym (from_next later D (θ k) j)))
+          ∙ images_agree (onto later (D ∷ [])) ds (rest_next B later D ds e) i F g
           ∙ ap (λ c. as_term c (substitute_image ρ (images ds i))) (sym (ap skeleton q ∙ skeleton_renamed suc F))
 
       block_step : SameTerms → Agrees (block_variable B υ ∷ I) (entries_in_front B.entries (θ k) τ) ρ

@@ -6,13 +6,20 @@ use Rattle.lf.specs.Substitution.{Image, substitute, reduce}
 use Rattle.lf.specs.AtOnce.{lift_by}
 use Rattle.lf.specs.Variables.{under, Uses, UsesSpine, same_number}
 use Rattle.lf.proofs.Agreement.{agree_on}
+use Rattle.lf.proofs.Checker.{number_itself}
 use Rattle.lf_checks.specs.Tests.{either}
 use Rattle.lf_cases.specs.Full.{occurrences, occurrences_spine}
 use Rattle.lf_coverage.specs.TermMatching.{hidden, over}
-use Rattle.lf_coverage.proofs.Abstracted.{same_self}
 use Rattle.lf_coverage.proofs.UnderBound.{hidden_over, lifted_same}
+use Rattle.lf_coverage.proofs.Choices.{either_second}
 
 -- a term that occurs uses the variables that occur in it
+pub sum_first : (m n : ℕ) → m + n ≡ 0 → m ≡ 0
+sum_first m n e = omega arith
+
+pub sum_second : (m n : ℕ) → m + n ≡ 0 → n ≡ 0
+sum_second m n e = omega arith
+
 mutual
   pub uses_occurring : (U : ℕ → Bool) (M : Term) → ((i : ℕ) → (occurrences i M ≡ 0 → ⊥) → U i ≡ true) → Uses U M
   uses_occurring U (lambda M) h = uses_occurring (under U) M at
@@ -22,7 +29,7 @@ mutual
       at (suc i) k = h i k
   uses_occurring U (root (constant c) S) h = uses_occurring_spine U S h
   uses_occurring U (root (metavariable m) S) h = uses_occurring_spine U S h
-  uses_occurring U (root (variable j) S) h = (h j (λ e. first (same_number j j) (occurrences_spine j S) (same_self j) e), uses_occurring_spine U S (λ i k. h i (λ e. k (rest (same_number i j) (occurrences_spine i S) e))))
+  uses_occurring U (root (variable j) S) h = (h j (λ e. first (same_number j j) (occurrences_spine j S) (number_itself j) e), uses_occurring_spine U S (λ i k. h i (λ e. k (rest (same_number i j) (occurrences_spine i S) e))))
     where
       first : (b : Bool) (n : ℕ) → b ≡ true → cond b 1 0 + n ≡ 0 → ⊥
       first true n q e = omega arith
@@ -34,13 +41,7 @@ mutual
 
   pub uses_occurring_spine : (U : ℕ → Bool) (S : Spine) → ((i : ℕ) → (occurrences_spine i S ≡ 0 → ⊥) → U i ≡ true) → UsesSpine U S
   uses_occurring_spine U nil h = tt
-  uses_occurring_spine U (app M S) h = (uses_occurring U M (λ i k. h i (λ e. k (first (occurrences i M) (occurrences_spine i S) e))), uses_occurring_spine U S (λ i k. h i (λ e. k (second (occurrences i M) (occurrences_spine i S) e))))
-    where
-      first : (m n : ℕ) → m + n ≡ 0 → m ≡ 0
-      first m n e = omega arith
-
-      second : (m n : ℕ) → m + n ≡ 0 → n ≡ 0
-      second m n e = omega arith
+  uses_occurring_spine U (app M S) h = (uses_occurring U M (λ i k. h i (λ e. k (sum_first (occurrences i M) (occurrences_spine i S) e))), uses_occurring_spine U S (λ i k. h i (λ e. k (sum_second (occurrences i M) (occurrences_spine i S) e))))
 
 -- a number above zero
 abbrev pub positive : ℕ → Bool
@@ -54,10 +55,6 @@ is_positive (suc k) h = refl
 pub above_zero : (k : ℕ) → positive k ≡ true → k ≡ 0 → ⊥
 above_zero zero e q = absurd cc
 above_zero (suc k) e q = absurd cc
-
-pub either_second : (a b : Bool) → b ≡ true → either a b ≡ true
-either_second true b e = refl
-either_second false b e = e
 
 pub either_not : (a b : Bool) → a ≡ true → either (not a) b ≡ true → b ≡ true
 either_not true b p e = e
@@ -73,12 +70,6 @@ at_most_first m n h = omega arith
 
 pub at_most_second : (m n : ℕ) → m + n ≤ 1 → n ≤ 1
 at_most_second m n h = omega arith
-
-pub sum_first : (m n : ℕ) → m + n ≡ 0 → m ≡ 0
-sum_first m n e = omega arith
-
-pub sum_second : (m n : ℕ) → m + n ≡ 0 → n ≡ 0
-sum_second m n e = omega arith
 
 -- other values than those of a variable of the term leave it
 pub stays : (P : ℕ → Bool) (n : ℕ) (θ υ : ℕ → Image) (N : Term) → ((x : ℕ) → (P x ≡ true → occurrences (over n x) N ≡ 0 → ⊥) → υ x ≡ θ x) → substitute reduce (lift_by n υ) N ≡ substitute reduce (lift_by n θ) N

@@ -11,11 +11,12 @@ use Rattle.lf.specs.Subordination.{Block}
 use Rattle.lf.specs.Worlds.{World, lift_over, instance}
 use Rattle.lf.proofs.ToSkeletons.{type_by_skeletons}
 use Rattle.lf_checks.specs.Marks.{Mark, output_places}
+use Rattle.lf_checks.specs.ModeForms.{argument_count}
 use Rattle.lf_cases.specs.Case.{Item, items_context, IsGroundInstance}
 use Rattle.lf_cases.specs.Raised.{LowPlaces}
 use Rattle.lf_cases.specs.Reached.{arguments_count, head_masks, head_items, head_spine}
 use Rattle.lf_cases.proofs.OutputItems.{InputsFit, Follows, MayRaise, masks_may, found}
-use Rattle.lf_coverage.proofs.HeadItems.{type_kind, outputs, kind_substituted, spine_length, same_items, same_masks, count_is, arguments_are, none_free, no_inputs, fits_kind, length_is, count_substituted}
+use Rattle.lf_coverage.proofs.HeadItems.{type_kind, outputs, kind_substituted, same_items, same_masks, count_is, arguments_are, none_free, no_inputs, fits_kind, length_is, count_substituted}
 
 outputs_fit : (κ : HeadSkeletons) (Γ : List Skeleton) (n : ℕ) (S : Spine) (t : Skeleton) → InputsFit κ Γ (outputs n) S t
 outputs_fit κ Γ zero S t = tt
@@ -23,7 +24,7 @@ outputs_fit κ Γ (suc n) nil t = tt
 outputs_fit κ Γ (suc n) (app M S) (base c) = tt
 outputs_fit κ Γ (suc n) (app M S) (arrow a t) = outputs_fit κ Γ n S t
 
-length_kept : (σ : ℕ → Image) (S : Spine) → spine_length (substitute_spine reduce σ S) ≡ spine_length S
+length_kept : (σ : ℕ → Image) (S : Spine) → argument_count (substitute_spine reduce σ S) ≡ argument_count S
 length_kept σ nil = refl
 length_kept σ (app M S) = ap suc (length_kept σ S)
 
@@ -49,7 +50,7 @@ module _ (Σ : Signature) (ok : IsSignature Σ) (below : ℕ → ℕ → Bool) {
       let κ : HeadSkeletons = constant_skeletons Σ in
       let Γ : List Skeleton = context_skeletons (onto D (items_context I)) in
       let Y : LfType = substitute_type reduce (lift_over D τ) A in
-      let l : spine_length T ≡ n = length_is Σ (onto (instance D τ) G) T Y a V st ∙ count_substituted (lift_over D τ) A in
+      let l : argument_count T ≡ n = length_is Σ (onto (instance D τ) G) T Y a V st ∙ count_substituted (lift_over D τ) A in
       let kb : KindBySkeletons (family_skeletons Σ) κ Γ K = kind_by_type (family_skeletons Σ) κ Γ A (type_by_skeletons Σ (onto D (items_context I)) A ta) in
       let fit : SpineFitsKind Σ (onto (instance D τ) G) T (substitute_kind reduce (lift_over D τ) K) = subst (SpineFitsKind Σ (onto (instance D τ) G) T) (kind_substituted (lift_over D τ) A) (fits_kind Σ (onto (instance D τ) G) T Y a V st) in
       let h : LowPlaces below (instance D τ) (output_places m) T (substitute_kind reduce (lift_over D τ) K) = subst (LowPlaces below (instance D τ) (output_places m) T) (kind_substituted (lift_over D τ) A) r in

@@ -21,6 +21,7 @@ use Rattle.lf_coverage.proofs.Meeting.{stand_under}
 use Rattle.lf_coverage.proofs.OpenTyped.{open_kind}
 use Rattle.lf_coverage.proofs.OpenTerms.{fill_open, fill_open_type}
 use Rattle.lf_coverage.proofs.StoreSolution.{looked_up, skeleton_open}
+use Rattle.lf_coverage.proofs.Parts.{some_same}
 
 -- a metavariable for a variable has its skeleton, by any skeletons that give it this one
 module _ (Σ : Signature) (X : List LfType) (κ : HeadSkeletons) (constants : (c : ℕ) → κ.constant_skeleton c ≡ type_skeleton (Σ.types c)) (variables : (i : ℕ) (A : LfType) → TypeAt X i A → κ.metavariable_skeleton i ≡ Some (skeleton A)) where
@@ -102,9 +103,6 @@ module _ (Σ : Signature) (X F : List LfType) (β : ℕ → Option Term) (w : Pa
   pub filled_value : (i : ℕ) (A : LfType) → TypeAt X i A → (N : Term) × (β i ≡ Some N) × (filled_values i ≡ put (skeleton A) N) × TermSkeleton (constant_skeletons Σ) (context_skeletons F) N (skeleton A)
   filled_value i A k = by (context_metavariables X i) (β i) (ap open_some (looked_up X i A k)) refl (w.by_skeletons i) (w.plain_values i)
     where
-      some_same : {B C : LfType} → Some B ≡ Some C → B ≡ C
-      some_same e = cc
-
       by : (y : Option LfType) (z : Option Term) → y ≡ Some (open_type zero A) → β i ≡ z → ValueBySkeletons Σ F ν y z → ValueIsPlain z → (N : Term) × (β i ≡ Some N) × (filled_values i ≡ put (skeleton A) N) × TermSkeleton (constant_skeletons Σ) (context_skeletons F) N (skeleton A)
       by None z e q v p = absurd cc
       by (Some Y) None e q v p = absurd v

@@ -30,14 +30,13 @@ use Rattle.lf_cases.proofs.BlockEntries.{onto_onto}
 use Rattle.lf_totality.proofs.GoalHolds.{goal_gives}
 use Rattle.lf_coverage.specs.OutputLaws.{OutputGoalIsTyped}
 use Rattle.lf_coverage.specs.TypedCase.{TypedArguments, IsTypedBeside}
-use Rattle.lf_coverage.proofs.Forms.{far_type}
+use Rattle.lf_coverage.proofs.Forms.{far_type, near_type}
 use Rattle.lf_coverage.proofs.GivenImages.{type_in, image_of, image_at, is_given_at}
 use Rattle.lf_coverage.proofs.GivenValues.{near_typed}
 use Rattle.lf_coverage.proofs.GoalItems.{goal_keeps}
 use Rattle.lf_coverage.proofs.InputTyped.{Likes, likes_under, eta_on, eta_on_type}
 use Rattle.lf_coverage.proofs.ItemsContext.{items_are_context}
 use Rattle.lf_coverage.proofs.KeptTyped.{within_closed}
-use Rattle.lf_coverage.proofs.Meeting.{near_type}
 use Rattle.lf_coverage.proofs.OutputTyped.{GoalTyped, goal_case, goal_typed, sound_for}
 
 -- Arguments that are typed stay so where at the inputs the same terms stand.

@@ -32,14 +32,17 @@ use Rattle.lf_coverage.specs.Heads.{HaveSkeletons, IsTypedCase}
 use Rattle.lf_coverage.specs.OutputLaws.{OutputGoalIsTypedCase}
 use Rattle.lf_coverage.specs.TypedCase.{TypedArguments}
 use Rattle.lf_coverage.specs.TypedLocal.{HasTypedLocal}
+use Rattle.lf_coverage.specs.Matching.{HoldsTypes}
 use Rattle.lf_coverage.proofs.GivenValues.{local_context}
 use Rattle.lf_coverage.proofs.GoalItems.{goal_keeps, one_outside}
-use Rattle.lf_coverage.proofs.InputTyped.{IsClosed, closed_chosen, renames_chosen, renamed_type}
+use Rattle.lf_coverage.proofs.InputTyped.{closed_chosen, renamed_type}
 use Rattle.lf_coverage.proofs.ItemsContext.{items_are_context}
 use Rattle.lf_coverage.proofs.KeptTyped.{keep_set, within_closed, KeptTyped, kept_typed, outside_typed}
 use Rattle.lf_coverage.proofs.Meeting.{binders_renumbered}
 use Rattle.lf_coverage.proofs.PlacesTyped.{PlacesTyped, places_typed}
 use Rattle.lf_coverage.proofs.RaisedTyped.{renumber_twice}
+use Rattle.lf_coverage.proofs.Strip.{under_binder}
+use Rattle.lf_coverage.proofs.Parts.{some_same}
 use mathlib.Core.Path.{fun_ext}
 
 -- typed arguments have skeletons
@@ -71,10 +74,10 @@ module _ (Σ : Signature) (ok : IsSignature Σ) (W : List Block) (typed : AreTyp
     pub renames : IsTypedRenamingOn set (binders C A) (binders Y (rename_type (lift_renaming_by (length X) ρ) A)) (lift_renaming_by (length (binders X A)) ρ)
     pub uses : UsesPlaces set b (target_arguments A)
 
-  local_typed : (A : LfType) (C Y X : List LfType) (ρ : ℕ → ℕ) (b : List Bool) (V : ℕ → Bool) → IsContext Σ C → IsContext Σ Y → IsTypedRenamingOn V C Y (lift_renaming_by (length X) ρ) → IsClosed V C → IsType Σ C A → UsesGoal V b A → LocalTyped C Y X ρ b A
+  local_typed : (A : LfType) (C Y X : List LfType) (ρ : ℕ → ℕ) (b : List Bool) (V : ℕ → Bool) → IsContext Σ C → IsContext Σ Y → IsTypedRenamingOn V C Y (lift_renaming_by (length X) ρ) → HoldsTypes V C → IsType Σ C A → UsesGoal V b A → LocalTyped C Y X ρ b A
   local_typed (pi A B) C Y X ρ b V cc0 cy r cl (a, t) (u, us) =
       let l : ℕ → ℕ = lift_renaming_by (length X) ρ in
-      let h = local_typed B (A ∷ C) (rename_type l A ∷ Y) (A ∷ X) ρ b (under V) (cc0, a) (cy, renamed_type Σ ok W typed V C Y l A cc0 cy r cl a u) (renames_chosen V C Y l A r) (closed_chosen V C A u cl) t us in
+      let h = local_typed B (A ∷ C) (rename_type l A ∷ Y) (A ∷ X) ρ b (under V) (cc0, a) (cy, renamed_type Σ ok W typed V C Y l A cc0 cy r cl a u) (under_binder V C Y l A r) (closed_chosen V C A u cl) t us in
       record { context = h.context; set = h.set; renames = h.renames; uses = h.uses }
   local_typed (atom a S) C Y X ρ b V cc0 cy r cl t us = record { context = cy; set = V; renames = r; uses = us }
 
@@ -146,9 +149,6 @@ module _ (Σ : Signature) (ok : IsSignature Σ) (W : List Block) (typed : AreTyp
     fits : SpineFitsKind Σ (binders (scope c) A) (target_arguments A) K
     fits = by (end_typed Σ ok A (scope c) type_typed)
       where
-        some_same : {X Y : Kind} → Some X ≡ Some Y → X ≡ Y
-        some_same q = cc
-
         by : IsType Σ (binders (scope c) A) (atom (target A) (target_arguments A)) → SpineFitsKind Σ (binders (scope c) A) (target_arguments A) K
         by (X, q, s) = subst (SpineFitsKind Σ (binders (scope c) A) (target_arguments A)) (some_same (sym q ∙ e)) s
 
@@ -205,9 +205,6 @@ module _ (Σ : Signature) (ok : IsSignature Σ) (W : List Block) (typed : AreTyp
 -- the marks of the kind that is known
 pub sound_for : (Σ : Signature) (f : ℕ) (m : List Mark) (K : Kind) → Σ.kinds f ≡ Some K → HasSoundMarks Σ f m → AreSound nothing m K
 sound_for Σ f m K e (X, q, s) = subst (AreSound nothing m) (some_same (sym q ∙ e)) s
-  where
-    some_same : {P Q : Kind} → Some P ≡ Some Q → P ≡ Q
-    some_same h = cc
 
 pub output_goal_is_typed_case : OutputGoalIsTypedCase
 output_goal_is_typed_case Σ ok W typed below m c d U i A sub needs sound none K e =

@@ -1,10 +1,11 @@
 -- The constant of an entry on its own terms is read as its variable.
 use Rattle.std.proofs.Common.{◌≡◌, ℕ, zero, suc, List, [], ◌∷◌, length, refl, sym, ap, ◌∙◌}
 use Rattle.std.specs.Prelude.{Option, Some, None}
-use Rattle.lf.specs.Syntax.{constant, variable, Spine, root, nil, app, LfType}
+use Rattle.lf.specs.Syntax.{constant, variable, Spine, root, LfType}
 use Rattle.lf.specs.Eta.{append}
 use Rattle.lf.specs.Typing.{Signature}
 use Rattle.lf.specs.Subordination.{Block}
+use Rattle.lf_checks.specs.ModeForms.{argument_count}
 use Rattle.lf_coverage.specs.EntryConstants.{EntryConstant, entry_constant}
 use Rattle.lf_coverage.specs.NumberedCase.{AreTypedBlockVariables}
 use Rattle.lf_coverage.specs.NumberedHeads.{EntryOnOwnTermsIsRead}
@@ -13,25 +14,19 @@ use Rattle.lf_coverage.specs.Reading.{drop_arguments, read, read_constant, read_
 use Rattle.lf_coverage.proofs.EntryFound.{EachBlock, Found, entry_found, placed_among}
 use Rattle.lf_coverage.proofs.EntryValues.{count_some}
 use Rattle.lf_coverage.proofs.NumberedHeads.{left_zero}
-use Rattle.lf_coverage.proofs.ReadSkeletons.{count}
-
-drop_read : (f : ℕ → Option (ℕ × ℕ)) (U S : Spine) → drop_arguments (count U) (read_spine f (append U S)) ≡ read_spine f S
-drop_read f nil S = refl
-drop_read f (app M U) S = drop_read f U S
+use Rattle.lf_coverage.proofs.ReadTyped.{drop_own}
+use Rattle.lf_coverage.proofs.Parts.{some_same}
 
 -- as many terms as `some` variables
 abbrev HasTerms : ℕ → BlockVariable → Type 0
-HasTerms k b = count b.terms ≡ length b.block.some
+HasTerms k b = argument_count b.terms ≡ length b.block.some
 
 have_terms : (Σ : Signature) (W : List Block) (X : List LfType) (o : ℕ → Option Spine) (k : ℕ) (bs : List BlockVariable) → AreTypedBlockVariables Σ W X o bs → EachBlock HasTerms k bs
 have_terms Σ W X o k [] t = tt
-have_terms Σ W X o k (b ∷ bs) (m, (υ, u, e), p, t) = (ap count e ∙ count_some b.block.some υ, have_terms Σ W X o (suc k) bs t)
-
-some_pair : {x y : ℕ × ℕ} → Some x ≡ Some y → x ≡ y
-some_pair e = cc
+have_terms Σ W X o k (b ∷ bs) (m, (υ, u, e), p, t) = (ap argument_count e ∙ count_some b.block.some υ, have_terms Σ W X o (suc k) bs t)
 
 some_first : {m n v w : ℕ} → ◌≡◌ {A = Option (ℕ × ℕ)} (Some (m, v)) (Some (n, w)) → m ≡ n
-some_first e = ap (λ (p : ℕ × ℕ). p.0) (some_pair e)
+some_first e = ap (λ (p : ℕ × ℕ). p.0) (some_same e)
 
 pub entry_on_own_terms_is_read : EntryOnOwnTermsIsRead
 entry_on_own_terms_is_read Σ first W C tv θ n c m v h = at (entry_constant zero first (blocks_of C.blocks) c) refl
@@ -44,8 +39,8 @@ entry_on_own_terms_is_read Σ first W C tv θ n c m v h = at (entry_constant zer
     at (Some e) q =
         let f : Found HasTerms zero first C.blocks c e = entry_found HasTerms zero first C.blocks c e q (have_terms _ W C.variables (own_terms first C.blocks) zero C.blocks tv.blocks) in
         let p = placed_among e.number f.variable.block e.from zero f.variable.block.entries c e f.among in
-        let d : count f.variable.terms ≡ m = f.fact ∙ ap (λ D. length D.some) (sym p.block) ∙ some_first (sym (ap (read_entry θ n) q) ∙ h) in (
+        let d : argument_count f.variable.terms ≡ m = f.fact ∙ ap (λ D. length D.some) (sym p.block) ∙ some_first (sym (ap (read_entry θ n) q) ∙ h) in (
           f.variable.terms,
           ap (terms_of_entry C.blocks) q ∙ ap (terms_at C.blocks) (f.number ∙ left_zero f.index) ∙ f.terms,
-          λ S. ap (λ y. read_constant y c (read_spine (entry_reading first (blocks_of C.blocks) θ n) (append f.variable.terms S))) h ∙ ap (λ k. root (variable v) (drop_arguments k (read_spine (entry_reading first (blocks_of C.blocks) θ n) (append f.variable.terms S)))) (sym d) ∙ ap (root (variable v)) (drop_read (entry_reading first (blocks_of C.blocks) θ n) f.variable.terms S),
+          λ S. ap (λ y. read_constant y c (read_spine (entry_reading first (blocks_of C.blocks) θ n) (append f.variable.terms S))) h ∙ ap (λ k. root (variable v) (drop_arguments k (read_spine (entry_reading first (blocks_of C.blocks) θ n) (append f.variable.terms S)))) (sym d) ∙ ap (root (variable v)) (drop_own (entry_reading first (blocks_of C.blocks) θ n) f.variable.terms S),
         )

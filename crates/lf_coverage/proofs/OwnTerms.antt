@@ -11,6 +11,7 @@ use Rattle.lf_coverage.specs.EntryConstants.{EntryConstant, entry_among, entry_c
 use Rattle.lf_coverage.specs.OwnTerms.{BlockVariable, blocks_of, terms_at, terms_of_entry, own_terms, weaken_own, BeginsWith, OnOwnTerms, SpineOnOwnTerms, TypeOnOwnTerms, ImageOnOwnTerms, put_in_blocks}
 use Rattle.lf_coverage.specs.EntryLaws.{OwnTermsAreKept, OwnTermsStay}
 use Rattle.lf_coverage.proofs.EntrySignature.{else_cases, behind_kept, among_from}
+use Rattle.lf_coverage.proofs.Parts.{none_some, some_same}
 
 -- own terms, renamed and with values put in
 abbrev pub rename_own : (ℕ → ℕ) → Option Spine → Option Spine
@@ -185,20 +186,14 @@ old_is_none Σ first free Bs c A e = at (entry_constant zero first Bs c) refl
     at : (x : Option EntryConstant) → entry_constant zero first Bs c ≡ x → entry_constant zero first Bs c ≡ None
     at None q = q
     at (Some x) q = absurd (none_some (sym (free.types_free c (entry_from zero first Bs c x q)) ∙ e))
-      where
-        none_some : None ≡ Some A → ⊥
-        none_some e = cc
 
 -- an entry is one of a block variable of the list
-some_is : {x y : EntryConstant} → Some x ≡ Some y → x ≡ y
-some_is e = cc
-
 pub number_among : (k : ℕ) (B : Block) (n p : ℕ) (es : List LfType) (c : ℕ) (e : EntryConstant) → entry_among k B n p es c ≡ Some e → e.number ≡ k
 number_among k B n p [] c e r = absurd cc
 number_among k B n p (E ∷ es) c e r = by (number_among k B n (suc p) es c e) (same_number c (n + length es)) r
   where
     by : (entry_among k B n (suc p) es c ≡ Some e → e.number ≡ k) → (b : Bool) → cond b (Some (record { number = k; block = B; from = n; place = p; entry = E; before = es })) (entry_among k B n (suc p) es c) ≡ Some e → e.number ≡ k
-    by ih true r = ap (λ (x : EntryConstant). x.number) (sym (some_is r))
+    by ih true r = ap (λ (x : EntryConstant). x.number) (sym (some_same r))
     by ih false r = ih r
 
 pub number_in : (k n : ℕ) (Bs : List Block) (c : ℕ) (e : EntryConstant) → entry_constant k n Bs c ≡ Some e → (j : ℕ) × (e.number ≡ k + j) × (suc j ≤ length Bs)

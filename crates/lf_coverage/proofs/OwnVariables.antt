@@ -2,17 +2,18 @@
 use Rattle.std.proofs.Common.{◌≡◌, ℕ, zero, suc, List, [], ◌∷◌, refl, sym, ap, ◌∙◌, arith, true≢false}
 use Rattle.std.specs.Prelude.{◌+◌, ◌≤◌, Bool, true, false, not, cond}
 use Rattle.lf.specs.Syntax.{constant, variable, metavariable, Term, Spine, lambda, root, nil, app, LfType, Kind, pi, atom, kind_pi, star}
-use Rattle.lf.specs.Typing.{Signature, TypeAt, instantiate_type, instantiate_kind, IsType}
+use Rattle.lf.specs.Typing.{Signature, instantiate_type, instantiate_kind, IsType}
 use Rattle.lf.specs.Variables.{binders, target, target_arguments, hide, under, everything, Uses, UsesSpine, same_number}
 use Rattle.lf.proofs.Kept.{typed_uses_type}
+use Rattle.lf.proofs.Checker.{number_itself}
 use Rattle.lf_unification.specs.Search.{occurs, occurs_spine, occurs_type}
 use Rattle.lf_checks.specs.Clause.{constant_clause, variables, outside, is_variable, with_newest}
 use Rattle.lf_checks.specs.Marks.{Mark, input_places}
 use Rattle.lf_checks.specs.Tests.{either, both}
+use Rattle.lf_checks.proofs.Reach.{number_equal}
 use Rattle.lf_cases.specs.Full.{occurrences, occurrences_spine, occurrences_at, own_variables, AppliesToAll, IsFullTerm, IsFullSpine, AreFullPlaces, IsLinear}
-use Rattle.lf_coverage.proofs.Abstracted.{number_same, same_self}
-use Rattle.lf_coverage.proofs.Choices.{decided, choose_first, choose_second, first_chosen, second_chosen}
-use Rattle.lf_coverage.proofs.Occurring.{either_second}
+use Rattle.lf_coverage.proofs.Choices.{decided, choose_first, choose_second, first_chosen, second_chosen, either_first, either_second}
+use Rattle.lf_coverage.proofs.Matching.{own_in_scope}
 
 neither_first : (a b : Bool) → either a b ≡ false → a ≡ false
 neither_first true b e = e
@@ -26,7 +27,7 @@ none_of_both : (a b : Bool) → a ≡ false → b ≡ false → either a b ≡ f
 none_of_both true b e f = e
 none_of_both false b e f = f
 
-nothing_more : (b : Bool) (n : ℕ) → b ≡ false → n ≡ 0 → cond b 1 0 + n ≡ 0
+pub nothing_more : (b : Bool) (n : ℕ) → b ≡ false → n ≡ 0 → cond b 1 0 + n ≡ 0
 nothing_more true n e f = absurd cc
 nothing_more false n e f = omega arith
 
@@ -60,7 +61,7 @@ mutual
   not_used V x (root (variable i) S) e (v, u) = none_of_both (same_number x i) (occurs_spine x S) (other (same_number x i) refl) (not_used_spine V x S e u)
     where
       other : (b : Bool) → same_number x i ≡ b → b ≡ false
-      other true q = absurd (true≢false (sym v ∙ ap V (sym (number_same x i q)) ∙ e))
+      other true q = absurd (true≢false (sym v ∙ ap V (sym (number_equal x i q)) ∙ e))
       other false q = refl
 
   not_used_spine : (V : ℕ → Bool) (x : ℕ) (S : Spine) → V x ≡ false → UsesSpine V S → occurs_spine x S ≡ false
@@ -76,25 +77,12 @@ no_subgoal V (pi A B) x h e = no_subgoal (with_newest (occurs_type zero B) V) B 
     newest (suc j) q = neither_second (occurs_type j A) (occurs_type (suc j) B) (h j q)
 no_subgoal V (atom a S) x h e = h x e
 
--- what has a type isn't outside
-inside : (G : List LfType) (U : LfType) (W : ℕ → Bool) → ((j : ℕ) (A : LfType) → TypeAt G j A → W j ≡ false) → (i : ℕ) (A : LfType) → TypeAt (binders G U) i A → outside U W i ≡ false
-inside G (pi B C) W h i A g = inside (B ∷ G) C (hide W) hidden i A g
-  where
-    hidden : (j : ℕ) (A : LfType) → TypeAt (B ∷ G) j A → hide W j ≡ false
-    hidden zero A k = refl
-    hidden (suc j) A (X, k, e) = h j X k
-inside G (atom a S) W h i A g = h i A g
-
 head_type : (Σ : Signature) (G : List LfType) (U : LfType) → IsType Σ G U → IsType Σ (binders G U) (atom (target U) (target_arguments U))
 head_type Σ G (pi A B) (a, b) = head_type Σ (A ∷ G) B b
 head_type Σ G (atom a S) t = t
 
 occurs_here : (i : ℕ) (b : Bool) → either (same_number i i) b ≡ true
-occurs_here i b = ap (λ z. either z b) (same_self i)
-
-either_first : (a b : Bool) → a ≡ true → either a b ≡ true
-either_first true b e = refl
-either_first false b e = absurd cc
+occurs_here i b = ap (λ z. either z b) (number_itself i)
 
 module _ (Σ : Signature) (below : ℕ → ℕ → Bool) (C : List LfType) where
   mutual
@@ -131,7 +119,7 @@ module _ (Σ : Signature) (below : ℕ → ℕ → Bool) (C : List LfType) where
 -- U is the type of a constant
 module _ (Σ : Signature) (U : LfType) (t : IsType Σ [] U) where
   outside_is_absent : (x : ℕ) → outside U everything x ≡ true → occurs_spine x (target_arguments U) ≡ false
-  outside_is_absent x e = not_used_spine (λ i. not (outside U everything i)) x (target_arguments U) (ap not e) (typed_uses_type Σ (binders [] U) (λ i. not (outside U everything i)) (atom (target U) (target_arguments U)) (λ i A g. ap not (inside [] U everything (λ j X k. absurd k) i A g)) (head_type Σ [] U t))
+  outside_is_absent x e = not_used_spine (λ i. not (outside U everything i)) x (target_arguments U) (ap not e) (typed_uses_type Σ (binders [] U) (λ i. not (outside U everything i)) (atom (target U) (target_arguments U)) (λ i A g. ap not (own_in_scope U [] everything (λ j X k. absurd k) i A g)) (head_type Σ [] U t))
 
   subgoal_is_absent : (x : ℕ) → variables (constant_clause U) x ≡ false → occurs_spine x (target_arguments U) ≡ false
   subgoal_is_absent x e = no_subgoal everything U x (λ j q. absurd (true≢false q)) e

@@ -18,6 +18,7 @@ use Rattle.lf.proofs.ToSkeletons.{type_by_skeletons}
 use Rattle.lf.proofs.TypeLaws.{skeleton_renamed, renamings_compose_type, substitution_as_renaming_type, substitute_identity_type}
 use Rattle.lf.proofs.Uses.{uses_type_renamed}
 use Rattle.lf.proofs.Weakening.{weakening_renames, renames_under_binder, renaming_keeps_spine_typing, renaming_keeps_types}
+use Rattle.lf.proofs.Renaming.{up_up}
 use Rattle.lf_unification.proofs.EtaTyped.{expand_typed, substituted_self_type}
 use Rattle.lf_unification.proofs.ToSkeletons.{type_by_skeletons as all_by_skeletons}
 use Rattle.lf_cases.specs.Case.{Item, free_variable, items_context}
@@ -34,6 +35,7 @@ use Rattle.lf_coverage.proofs.InputTyped.{renamed_type}
 use Rattle.lf_coverage.proofs.ItemsContext.{items_are_context}
 use Rattle.lf_coverage.proofs.ResultType.{low_moved, variable_moved, next_spine, next_count}
 use Rattle.lf_coverage.proofs.SolvedCase.{behind_types}
+use Rattle.lf_coverage.proofs.Parts.{suc_same}
 use mathlib.Core.Path.{fun_ext}
 
 abbrev but_newest : ℕ → Bool
@@ -120,13 +122,9 @@ module _ (Σ : Signature) (ok : IsSignature Σ) (W : List Block) (typed : AreTyp
   renumber_twice ρ τ [] = refl
   renumber_twice ρ τ (A ∷ D) = ap₂ ◌∷◌ (ap (λ n. rename_type (lift_renaming_by n ρ) (rename_type (lift_renaming_by (length D) τ) A)) (length_renumber τ D) ∙ renamings_compose_type (lift_renaming_by (length D) ρ) (lift_renaming_by (length D) τ) A ∙ ap (λ f. rename_type f A) (lift_twice (length D) ρ τ)) (renumber_twice ρ τ D)
     where
-      one : (ρ τ : ℕ → ℕ) (i : ℕ) → lift_renaming ρ (lift_renaming τ i) ≡ lift_renaming (λ j. ρ (τ j)) i
-      one ρ τ zero = refl
-      one ρ τ (suc i) = refl
-
       lift_twice : (n : ℕ) (ρ τ : ℕ → ℕ) → (λ i. lift_renaming_by n ρ (lift_renaming_by n τ i)) ≡ lift_renaming_by n (λ i. ρ (τ i))
       lift_twice zero ρ τ = refl
-      lift_twice (suc n) ρ τ = fun_ext (one (lift_renaming_by n ρ) (lift_renaming_by n τ)) ∙ ap lift_renaming (lift_twice n ρ τ)
+      lift_twice (suc n) ρ τ = fun_ext (up_up (lift_renaming_by n ρ) (lift_renaming_by n τ)) ∙ ap lift_renaming (lift_twice n ρ τ)
 
   renumber_none : (D : List LfType) → renumber (shift_by 0) D ≡ D
   renumber_none [] = refl
@@ -137,11 +135,7 @@ module _ (Σ : Signature) (ok : IsSignature Σ) (W : List Block) (typed : AreTyp
     where
       next : (i k : ℕ) → suc i + k ≡ i + suc k
       next i k = omega arith
-  lift_sum (suc n) k = fun_ext (one (lift_renaming_by n (shift_by k)) (lift_renaming_by n suc)) ∙ ap lift_renaming (lift_sum n k)
-    where
-      one : (ρ τ : ℕ → ℕ) (i : ℕ) → lift_renaming ρ (lift_renaming τ i) ≡ lift_renaming (λ j. ρ (τ j)) i
-      one ρ τ zero = refl
-      one ρ τ (suc i) = refl
+  lift_sum (suc n) k = fun_ext (up_up (lift_renaming_by n (shift_by k)) (lift_renaming_by n suc)) ∙ ap lift_renaming (lift_sum n k)
 
   -- What is known of a head of this type under the local context D: its items are typed, and in the context of these its arguments, which take its
   -- type to the one that is left.
@@ -204,7 +198,7 @@ module _ (Σ : Signature) (ok : IsSignature Σ) (W : List Block) (typed : AreTyp
       let te : rename_type (lift_renaming_by (length D1) (shift_by n)) A1 ≡ instantiate_type (rename_type m A) (raised_variable k D A n) (rename_type (lift_renaming m) B) =
       ap (λ j. rename_type (lift_renaming_by j (shift_by n)) A1) (length_renumber suc D)
       ∙ rename_instance (lift_renaming_by (length D) (shift_by n)) A N B1
-      ∙ ap₂ (λ M T. substitute_type reduce (single (skeleton (rename_type (lift_renaming_by (length D) (shift_by n)) A)) M) T) (variable_moved k D A zero n ∙ ap (raised_variable k D A) (none n)) (renamings_compose_type (lift_renaming (lift_renaming_by (length D) (shift_by n))) (lift_renaming l) B ∙ ap (λ f. rename_type f B) (fun_ext (one (lift_renaming_by (length D) (shift_by n)) l) ∙ ap lift_renaming (lift_sum (length D) n)))
+      ∙ ap₂ (λ M T. substitute_type reduce (single (skeleton (rename_type (lift_renaming_by (length D) (shift_by n)) A)) M) T) (variable_moved k D A zero n ∙ ap (raised_variable k D A) (none n)) (renamings_compose_type (lift_renaming (lift_renaming_by (length D) (shift_by n))) (lift_renaming l) B ∙ ap (λ f. rename_type f B) (fun_ext (up_up (lift_renaming_by (length D) (shift_by n)) l) ∙ ap lift_renaming (lift_sum (length D) n)))
       ∙ ap (λ a. substitute_type reduce (single a (raised_variable k D A n)) (rename_type (lift_renaming m) B)) (skeleton_renamed (lift_renaming_by (length D) (shift_by n)) A ∙ sym (skeleton_renamed m A)) in
       let ts2 : SpineType Σ (onto (renumber (shift_by (suc n)) D) Y) (head_spine (head_masks below D1 n A1) D B) (instantiate_type (rename_type m A) (raised_variable k D A n) (rename_type (lift_renaming m) B)) R = subst (λ T. SpineType Σ (onto (renumber (shift_by (suc n)) D) Y) (head_spine (head_masks below D1 n A1) D B) T R) te (subst (λ S. SpineType Σ (onto (renumber (shift_by (suc n)) D) Y) S (rename_type (lift_renaming_by (length D1) (shift_by n)) A1) R) (next_spine ks D A B) ts) in
       record {
@@ -213,15 +207,8 @@ module _ (Σ : Signature) (ok : IsSignature Σ) (W : List Block) (typed : AreTyp
         arguments = (subst (λ j. HasType Σ (onto (renumber (shift_by (suc n)) D) Y) (raised_variable k D A j) (rename_type m A)) (sym (suc_same e)) nt2, subst (λ j. SpineType Σ (onto (renumber (shift_by (suc n)) D) Y) (head_spine (head_masks below D1 n A1) D B) (instantiate_type (rename_type m A) (raised_variable k D A j) (rename_type (lift_renaming m) B)) R) (sym (suc_same e)) ts2);
       }
     where
-      suc_same : suc (arguments_count B) ≡ suc n → arguments_count B ≡ n
-      suc_same e = omega arith
-
       next : (i n : ℕ) → suc i + n ≡ i + suc n
       next i n = omega arith
 
       none : (n : ℕ) → 0 + n ≡ n
       none n = omega arith
-
-      one : (ρ τ : ℕ → ℕ) (i : ℕ) → lift_renaming ρ (lift_renaming τ i) ≡ lift_renaming (λ j. ρ (τ j)) i
-      one ρ τ zero = refl
-      one ρ τ (suc i) = refl

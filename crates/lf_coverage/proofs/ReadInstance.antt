@@ -1,6 +1,6 @@
 -- Under a ground instance of a case with block variables by number, what is read is typed.
 use Rattle.std.proofs.Common.{◌≡◌, ℕ, zero, suc, List, [], ◌∷◌, length, ◌+◌, Option, Some, None, ◌⊎◌, inl, inr, refl, sym, ap, ap₂, ◌∙◌, subst, arith}
-use Rattle.std.specs.Prelude.{Bool, true}
+use Rattle.std.specs.Prelude.{Bool}
 use Rattle.lf.specs.Syntax.{constant, variable, Term, Spine, nil, LfType, Kind, pi, Skeleton, base, arrow, skeleton, weaken}
 use Rattle.lf.specs.Substitution.{Image, keep, put, substitute, substitute_spine, substitute_image, substitute_type, reduce, after}
 use Rattle.lf.specs.AtOnce.{in_front}
@@ -26,11 +26,10 @@ use Rattle.lf.proofs.TypeLaws.{skeleton_renamed, skeleton_substituted, substitut
 use Rattle.lf.proofs.Weakening.{declared_is_type}
 use Rattle.lf.proofs.Worlds.{world_is_context}
 use Rattle.lf_unification.specs.Offering.{pi_over, local_arguments}
-use Rattle.lf_checks.specs.Clause.{among}
+use Rattle.lf_checks.specs.ModeForms.{argument_count}
 use Rattle.lf_cases.specs.Cover.{InstanceIn, place_of, before}
 use Rattle.lf_cases.specs.Case.{as_term, behind_entries}
-use Rattle.lf_cases.proofs.BlockEntries.{at_place, drop_typed, onto_onto}
-use Rattle.lf_cases.proofs.Instances.{Begun, instance_typed, place_among}
+use Rattle.lf_cases.proofs.BlockEntries.{drop_typed, onto_onto}
 use Rattle.lf_cases.proofs.LongValues.{long_past, long_same}
 use Rattle.lf_totality.proofs.OutputCases.{in_context, in_covers, in_type}
 use Rattle.lf_coverage.specs.EntryConstants.{EntryConstant, entry_among, entry_constant, entry_images, entry_constant_type, entry_type, with_entries, IsFreeFrom}
@@ -40,21 +39,18 @@ use Rattle.lf_coverage.specs.OwnTerms.{BlockVariable, blocks_of, terms_at, terms
 use Rattle.lf_coverage.specs.Reading.{read, read_spine, read_type, variable_past, read_entry, entry_reading}
 use Rattle.lf_coverage.proofs.Composing.{composed}
 use Rattle.lf_coverage.proofs.EntryFound.{PlacedAmong, placed_among, among_at, EachBlock, Found, entry_found}
+use Rattle.lf_coverage.proofs.EntryPlaces.{whole, begun, entry_is, entry_type_at}
 use Rattle.lf_coverage.proofs.EntrySignature.{else_second, else_cases, locals_typed, entries_kept, with_entries_is_signature}
-use Rattle.lf_coverage.proofs.EntryValues.{read_entry_long, count_some, read_some, some_same, some_own, put_some, put_locals, after_entries, some_typed}
+use Rattle.lf_coverage.proofs.EntryValues.{read_entry_long, count_some, read_some, some_own, put_some, put_locals, after_entries, some_typed, some_terms_same}
 use Rattle.lf_coverage.proofs.GroundTyped.{front_typed, long_equal}
 use Rattle.lf_coverage.proofs.OwnTerms.{entry_from, old_is_none}
-use Rattle.lf_coverage.proofs.ReadSkeletons.{count, behind_arguments, ReadsSkeleton, Reads, read_has_skeleton, read_type_has_skeletons}
+use Rattle.lf_coverage.proofs.ReadSkeletons.{behind_arguments, ReadsSkeleton, Reads, read_has_skeleton, read_type_has_skeletons}
 use Rattle.lf_coverage.proofs.ReadTyped.{ReadsInto, ReadsConstant, reads_typed}
 use Rattle.lf_coverage.proofs.Reading.{rename_read, read_type_renamed, skeleton_read, IsOld, type_only, none_read_type, read_image, FollowsRead, read_type_substituted}
 use Rattle.lf_coverage.proofs.Transfer.{onto_skeleton}
+use Rattle.lf_coverage.proofs.ItemsContext.{outer_context}
+use Rattle.lf_coverage.proofs.Parts.{none_some, some_same}
 use mathlib.Core.Path.{fun_ext}
-
-no_type : {A : LfType} → None ≡ Some A → ⊥
-no_type e = cc
-
-pub no_metavariable : {t : Skeleton} → None ≡ Some t → ⊥
-no_metavariable e = cc
 
 -- one variable more in front of the context
 pub reading_next : (first : ℕ) (Bs : List Block) (θ : ℕ → ℕ → Image) (n c : ℕ) → entry_reading first Bs θ (suc n) c ≡ rename_read suc (entry_reading first Bs θ n c)
@@ -188,29 +184,14 @@ module _ (Σ Σ' : Signature) (ok : IsSignature Σ) (S : ℕ → Bool) (x : Exte
     O : List LfType
     O = B.some
 
-    begun : Begun Σ' x.ok G B B.entries (θ k)
-    begun = instance_typed Σ' x.ok w B (θ k) at
-
-    entry_is : (later : List LfType) (E : LfType) (es : List LfType) → onto later (E ∷ es) ≡ B.entries → (u : ℕ) × (θ k (place_of later) ≡ keep u)
-    entry_is later E es e = begun.kept (place_of later) (subst (λ ds. among ds (place_of later) ≡ true) e (place_among later E es))
-
-    -- the context of an entry
-    whole : (later : List LfType) (E : LfType) (es : List LfType) → onto later (E ∷ es) ≡ B.entries → onto B.entries B.some ≡ onto later (E ∷ onto es B.some)
-    whole later E es e = ap (λ ds. onto ds B.some) (sym e) ∙ onto_onto later (E ∷ es) B.some
-
-    entry_type_at : (later : List LfType) (E : LfType) (es : List LfType) → onto later (E ∷ es) ≡ B.entries → (u : ℕ) → θ k (place_of later) ≡ keep u → TypeAt G u (substitute_type reduce (before later (θ k)) E)
-    entry_type_at later E es e u q =
-        let (Z, g, z) = at_place later E (onto es B.some) (θ k) in
-        subst (TypeAt G u) z (subst (λ y. ImageHasType Σ' G y (substitute_type reduce (θ k) Z)) q (begun.typed.typed (place_of later) Z (subst (λ D. TypeAt D (place_of later) Z) (sym (whole later E es e)) g) refl))
-
     read_at : (later : List LfType) (E : LfType) (es : List LfType) → onto later (E ∷ es) ≡ B.entries → (u : ℕ) → θ k (place_of later) ≡ keep u → f (m + length es) ≡ Some (length B.some, u + length X)
     read_at later E es e u q = ap (read_entry θ (length X)) (found later E es e) ∙ ap (λ y. Some (length B.some, variable_past (length X) y)) q
 
     skeleton_at : (later : List LfType) (E : LfType) (es : List LfType) → onto later (E ∷ es) ≡ B.entries → (u : ℕ) → θ k (place_of later) ≡ keep u → SkeletonAt Θ (u + length X) (skeleton E)
-    skeleton_at later E es e u q = onto_skeleton X G u (skeleton E) (subst (SkeletonAt (context_skeletons G) u) (skeleton_substituted reduce (before later (θ k)) E) (variable_has_skeleton G u (substitute_type reduce (before later (θ k)) E) (entry_type_at later E es e u q)))
+    skeleton_at later E es e u q = onto_skeleton X G u (skeleton E) (subst (SkeletonAt (context_skeletons G) u) (skeleton_substituted reduce (before later (θ k)) E) (variable_has_skeleton G u (substitute_type reduce (before later (θ k)) E) (entry_type_at Σ' x.ok w B (θ k) at later E es e u q)))
 
-    terms_count : count U ≡ length B.some
-    terms_count = ap count ue ∙ count_some B.some υ
+    terms_count : argument_count U ≡ length B.some
+    terms_count = ap argument_count ue ∙ count_some B.some υ
 
     long_at_entry : (later : List LfType) (E : LfType) (es : List LfType) → onto later (E ∷ es) ≡ B.entries → (u : ℕ) → θ k (place_of later) ≡ keep u → read f (eta_expand (skeleton E) (constant (m + length es)) U) ≡ eta_long (skeleton E) (variable (u + length X))
     long_at_entry later E es e u q = read_entry_long f (skeleton E) (m + length es) (u + length X) U (read_at later E es e u q ∙ ap (λ n. Some (n, u + length X)) (sym terms_count))
@@ -223,7 +204,7 @@ module _ (Σ Σ' : Signature) (ok : IsSignature Σ) (S : ℕ → Bool) (x : Exte
     abbrev images : List LfType → ℕ → Image
     images es i = read_image f (entry_images m U es υ i)
 
-    module _ (heads : Reads (constant_skeletons Σ₁) κ' (λ j t e. no_metavariable e) Θ f o) where
+    module _ (heads : Reads (constant_skeletons Σ₁) κ' (λ j t e. none_some e) Θ f o) where
       some_fits : SubstitutionBySkeletons κ' (context_skeletons B.some) Θ (λ i. read_image f (υ i))
       some_fits i t g =
           let (A, h, e) = skeleton_has_variable B.some i t g in
@@ -231,7 +212,7 @@ module _ (Σ Σ' : Signature) (ok : IsSignature Σ) (S : ℕ → Bool) (x : Exte
         where
           by : (y : Image) → ImageSkeleton (constant_skeletons Σ₁) (context_skeletons X) y t → OnOwnTerms o (as_term t y) → ImageSkeleton κ' Θ (read_image f y) t
           by (keep j) h p = inside_onto X G j t h
-          by (put a N) (e, n) p = (e, read_has_skeleton (constant_skeletons Σ₁) κ' (λ j u q. no_metavariable q) (context_skeletons X) Θ f o N a (inside_onto X G) heads n p)
+          by (put a N) (e, n) p = (e, read_has_skeleton (constant_skeletons Σ₁) κ' (λ j u q. none_some q) (context_skeletons X) Θ f o N a (inside_onto X G) heads n p)
 
       images_fit : (later es : List LfType) → ((D : LfType) (ds : List LfType) → es ≡ D ∷ ds → onto later (D ∷ ds) ≡ B.entries) → SubstitutionBySkeletons κ' (context_skeletons (onto es B.some)) Θ (images es)
       images_fit later [] e = some_fits
@@ -239,20 +220,20 @@ module _ (Σ Σ' : Signature) (ok : IsSignature Σ) (S : ℕ → Bool) (x : Exte
         where
           front : SubstitutionBySkeletons κ' (context_skeletons (onto ds B.some)) Θ (images ds) → SubstitutionBySkeletons κ' (skeleton D ∷ context_skeletons (onto ds B.some)) Θ (images (D ∷ ds))
           front ih zero t q =
-              let (u, p) = entry_is later D ds (e D ds refl) in
+              let (u, p) = entry_is Σ' x.ok w B (θ k) at later D ds (e D ds refl) in
               (q, subst (λ Y. TermSkeleton κ' Θ Y (skeleton D)) (sym (long_at_entry later D ds (e D ds refl) u p)) (eta_long_has_skeleton κ' Θ (skeleton D) (variable (u + length X)) (skeleton_at later D ds (e D ds refl) u p)))
           front ih (suc i) t g = ih i t g
 
       -- under the values they are the instance
       some_agree : (i : ℕ) (A : LfType) → TypeAt B.some i A → as_term (skeleton A) (substitute_image σ (read_image f (υ i))) ≡ as_term (skeleton A) (behind_entries B.entries (θ k) i)
-      some_agree i A g = some_same B.some (after σ (λ j. read_image f (υ j))) (behind_entries B.entries (θ k)) (sym (same ∙ ap (λ V. substitute_spine reduce σ (read_spine f V)) ue ∙ ap (substitute_spine reduce σ) (read_some f B.some υ) ∙ put_some κ' B.some Θ (context_skeletons G) (λ j. read_image f (υ j)) σ some_fits fits)) i A g
+      some_agree i A g = some_terms_same B.some (after σ (λ j. read_image f (υ j))) (behind_entries B.entries (θ k)) (sym (same ∙ ap (λ V. substitute_spine reduce σ (read_spine f V)) ue ∙ ap (substitute_spine reduce σ) (read_some f B.some υ) ∙ put_some κ' B.some Θ (context_skeletons G) (λ j. read_image f (υ j)) σ some_fits fits)) i A g
 
       images_agree : (later : List LfType) (E : LfType) (es : List LfType) → onto later (E ∷ es) ≡ B.entries → (i : ℕ) (A : LfType) → TypeAt (onto es B.some) i A → as_term (skeleton A) (substitute_image σ (images es i)) ≡ as_term (skeleton A) (before later (θ k) i)
       images_agree later E [] e i A g = some_agree i A g ∙ ap (as_term (skeleton A)) (ap (λ ds. behind_entries ds (θ k) i) (sym e) ∙ before_some later E (θ k) i)
       images_agree later E (D ∷ ds) e zero A g =
           let l : List LfType = onto later (E ∷ []) in
           let q : onto l (D ∷ ds) ≡ B.entries = next_later later E D ds e in
-          let (u, p) = entry_is l D ds q in
+          let (u, p) = entry_is Σ' x.ok w B (θ k) at l D ds q in
           ap (substitute reduce σ) (long_at_entry l D ds q u p)
           ∙ substitute_eta_expand σ (skeleton D) (variable (u + length X)) (variable u) nil (past u)
           ∙ ap (λ a. eta_long a (variable u)) (sym (ap skeleton g ∙ skeleton_renamed suc D))
@@ -269,7 +250,7 @@ module _ (Σ Σ' : Signature) (ok : IsSignature Σ) (S : ℕ → Bool) (x : Exte
         L = onto es B.some
 
         entry_typed : IsContext Σ (onto es B.some) × IsType Σ (onto es B.some) E
-        entry_typed = drop_typed Σ later E (onto es B.some) (subst (IsContext Σ) (whole later E es e) ct)
+        entry_typed = drop_typed Σ later E (onto es B.some) (subst (IsContext Σ) (whole B later E es e) ct)
 
         known : TypeBySkeletons (family_skeletons Σ') κ' (context_skeletons (onto es B.some)) E
         known = type_by_skeletons Σ' (onto es B.some) E (extension_keeps_types S Σ Σ' x (onto es B.some) E entry_typed.1)
@@ -284,8 +265,8 @@ module _ (Σ Σ' : Signature) (ok : IsSignature Σ) (S : ℕ → Bool) (x : Exte
             let Δ : List Skeleton = context_skeletons G in
             let ψ : ℕ → Image = after σ (images es) in
             let kψ : SubstitutionBySkeletons κ' Γ Δ ψ = composed κ' Γ Θ Δ (images es) σ es_fit fits in
-            let kφ : SubstitutionBySkeletons κ' (context_skeletons (onto B.entries B.some)) Δ (θ k) = typed_substitution_by_skeletons Σ' x.ok (onto B.entries B.some) G (θ k) (λ i A g. begun.typed.typed i A g refl) in
-            let kb : SubstitutionBySkeletons κ' Γ Δ (before later (θ k)) = before_fits κ' later E (onto es B.some) Δ (θ k) (subst (λ D. SubstitutionBySkeletons κ' (context_skeletons D) Δ (θ k)) (whole later E es e) kφ) in
+            let kφ : SubstitutionBySkeletons κ' (context_skeletons (onto B.entries B.some)) Δ (θ k) = typed_substitution_by_skeletons Σ' x.ok (onto B.entries B.some) G (θ k) (λ i A g. (begun Σ' x.ok w B (θ k) at).typed.typed i A g refl) in
+            let kb : SubstitutionBySkeletons κ' Γ Δ (before later (θ k)) = before_fits κ' later E (onto es B.some) Δ (θ k) (subst (λ D. SubstitutionBySkeletons κ' (context_skeletons D) Δ (θ k)) (whole B later E es e) kφ) in
             substitutions_compose_type (family_skeletons Σ') κ' Γ Θ Δ (images es) σ E es_fit fits known
             ∙ sym (long_same κ' (family_skeletons Σ') [] (onto es B.some) Δ ψ E kψ known)
             ∙ agree_on_type reduce (in_context (onto es B.some)) (long_past [] (onto es B.some) ψ) (long_past [] (onto es B.some) (before later (θ k))) E (λ i u. let (A, g) = in_type (onto es B.some) i u in long_equal (onto es B.some) ψ (before later (θ k)) (images_agree later E es e) i A g) (typed_uses_type Σ (onto es B.some) (in_context (onto es B.some)) E (in_covers (onto es B.some)) entry_typed.1)
@@ -294,10 +275,6 @@ module _ (Σ Σ' : Signature) (ok : IsSignature Σ) (S : ℕ → Bool) (x : Exte
         -- the type of the constant on the `some` variables
         constant_in : (l : List LfType) (D : LfType) (ds : List LfType) → onto l (D ∷ ds) ≡ B.entries → Σ₁.types (m + length ds) ≡ Some (entry_constant_type m B.some ds D)
         constant_in l D ds q = else_second (Σ.types (m + length ds)) (entry_type (entry_constant zero first Bs (m + length ds))) (Some (entry_constant_type m B.some ds D)) (free.types_free (m + length ds) (entry_from zero first Bs (m + length ds) (record { number = k; block = B; from = m; place = place_of l; entry = D; before = ds }) (found l D ds q))) (ap entry_type (found l D ds q))
-
-        outer_typed : (ds : List LfType) → IsContext Σ (onto ds B.some) → IsContext Σ B.some
-        outer_typed [] c = c
-        outer_typed (D ∷ ds) c = outer_typed ds c.0
 
         more_context : (D : List LfType) → IsContext Σ D → IsContext Σ₁ D
         more_context [] c = c
@@ -309,7 +286,7 @@ module _ (Σ Σ' : Signature) (ok : IsSignature Σ) (S : ℕ → Bool) (x : Exte
             let ι : ℕ → Image = entry_images m (local_arguments B.some) ds keep in
             let s : IsTypedSubstitution Σ₁ (onto ds B.some) B.some ι = locals_fit (onto l (D ∷ [])) ds (λ F fs r. onto_onto l (D ∷ []) (F ∷ fs) ∙ ap (λ gs. onto l (D ∷ gs)) (sym r) ∙ q D ds refl) c in
             let c₁ : IsContext Σ₁ (onto ds B.some) = more_context (onto ds B.some) c in
-            let o₁ : IsContext Σ₁ B.some = more_context B.some (outer_typed ds c) in
+            let o₁ : IsContext Σ₁ B.some = more_context B.some (outer_context Σ ds B.some c) in
             let T : LfType = substitute_type reduce ι D in
             let t₁ : IsType Σ₁ B.some T = substitution_keeps_types Σ₁ ok₁ (onto ds B.some) B.some ι D (record { typed = s; source_skeletons = skeleton_context_of Σ₁ ok₁ (onto ds B.some) c₁; target_skeletons = skeleton_context_of Σ₁ ok₁ B.some o₁ }) (growth_keeps_types Σ Σ₁ (entries_kept Σ first Bs) (λ b K r. r) (onto ds B.some) D t) in
             let N : Term = eta_expand (skeleton D) (constant (m + length ds)) (local_arguments B.some) in
@@ -319,7 +296,7 @@ module _ (Σ Σ' : Signature) (ok : IsSignature Σ) (S : ℕ → Bool) (x : Exte
         on_locals = locals_fit (onto later (E ∷ [])) es (λ D ds q. onto_onto later (E ∷ []) (D ∷ ds) ∙ ap (λ l. onto later (E ∷ l)) (sym q) ∙ e) entry_typed.0
 
         some_context : IsContext Σ₁ B.some
-        some_context = more_context B.some (outer_typed es entry_typed.0)
+        some_context = more_context B.some (outer_context Σ es B.some entry_typed.0)
 
         entry_more : IsType Σ₁ (onto es B.some) E
         entry_more = growth_keeps_types Σ Σ₁ (entries_kept Σ first Bs) (λ b K r. r) (onto es B.some) E entry_typed.1
@@ -358,7 +335,7 @@ module _ (Σ Σ' : Signature) (ok : IsSignature Σ) (S : ℕ → Bool) (x : Exte
           past u,
           terms_count,
           terms_typed,
-          subst (TypeAt G u) (sym (ap (substitute_type reduce σ) read_on_terms ∙ value_type)) (entry_type_at later E es e u q),
+          subst (TypeAt G u) (sym (ap (substitute_type reduce σ) read_on_terms ∙ value_type)) (entry_type_at Σ' x.ok w B (θ k) at later E es e u q),
           subst (TypeBySkeletons (family_skeletons Σ') κ' Θ) (sym read_on_terms) (substitution_keeps_types_by_skeletons (family_skeletons Σ') κ' (context_skeletons (onto es B.some)) Θ (images es) E es_fit known),
         )
 
@@ -390,7 +367,7 @@ module _ (Σ Σ' : Signature) (ok : IsSignature Σ) (S : ℕ → Bool) (x : Exte
         (ap (λ ds. entry_among e.number place.variable.block e.from zero ds (e.from + length es)) (sym r) ∙ among_at e.number place.variable.block e.from zero later E es ∙ ap (λ j. Some (record { number = e.number; block = place.variable.block; from = e.from; place = j; entry = E; before = es })) (no_place (place_of later)))
 
     variable_is : (u : ℕ) × (θ e.number (place_of among_block.later) ≡ keep u)
-    variable_is = entry_is e.number place.variable.block e.from place.variable.terms place.fact.1.0 (typed place.variable.block place.fact.0) place.fact.1.1 place.fact.1.2 place.fact.2 place.fact.3 place.fact.4 found among_block.later e.entry e.before among_block.entries
+    variable_is = entry_is Σ' x.ok w place.variable.block (θ e.number) place.fact.3 among_block.later e.entry e.before among_block.entries
 
     abbrev the_type : LfType
     the_type = entry_constant_type e.from e.block.some e.before e.entry
@@ -411,7 +388,7 @@ module _ (Σ Σ' : Signature) (ok : IsSignature Σ) (S : ℕ → Bool) (x : Exte
         (subst (λ P. ReadsSkeleton κ' Θ (Some (length place.variable.block.some, variable_is.0 + length X)) (Some place.variable.terms) c (skeleton P)) same_type
         (entry_skeleton e.number place.variable.block e.from place.variable.terms place.fact.1.0 (typed place.variable.block place.fact.0) place.fact.1.1 place.fact.1.2 place.fact.2 place.fact.3 place.fact.4 found among_block.later e.entry e.before among_block.entries variable_is.0 variable_is.1)))
 
-    entry_constants : Reads (constant_skeletons Σ₁) κ' (λ j t q. no_metavariable q) Θ f o → ReadsConstant Σ Σ₁ Σ' ok ok₁ x.ok x.types_stay X G f σ Θ (entry_constant_type e.from e.block.some e.before e.entry) c (read_entry θ (length X) (Some e)) (terms_of_entry C.blocks (Some e))
+    entry_constants : Reads (constant_skeletons Σ₁) κ' (λ j t q. none_some q) Θ f o → ReadsConstant Σ Σ₁ Σ' ok ok₁ x.ok x.types_stay X G f σ Θ (entry_constant_type e.from e.block.some e.before e.entry) c (read_entry θ (length X) (Some e)) (terms_of_entry C.blocks (Some e))
     entry_constants heads =
         subst (λ z. ReadsConstant Σ Σ₁ Σ' ok ok₁ x.ok x.types_stay X G f σ Θ (entry_constant_type e.from e.block.some e.before e.entry) c z (terms_of_entry C.blocks (Some e))) (sym same_reading)
         (subst (λ z. ReadsConstant Σ Σ₁ Σ' ok ok₁ x.ok x.types_stay X G f σ Θ (entry_constant_type e.from e.block.some e.before e.entry) c (Some (length place.variable.block.some, variable_is.0 + length X)) z) (sym same_terms)
@@ -422,30 +399,24 @@ module _ (Σ Σ' : Signature) (ok : IsSignature Σ) (S : ℕ → Bool) (x : Exte
   type_cases : (c : ℕ) (P : LfType) → Σ₁.types c ≡ Some P → (Σ.types c ≡ Some P) ⊎ (entry_type (entry_constant zero first Bs c) ≡ Some P)
   type_cases c P e = else_cases (Σ.types c) (entry_type (entry_constant zero first Bs c)) P e
 
-  some_type : {P Q : LfType} → Some P ≡ Some Q → P ≡ Q
-  some_type e = cc
-
   head_entry : (c : ℕ) (P : LfType) (y : Option EntryConstant) → entry_constant zero first Bs c ≡ y → entry_type y ≡ Some P → ReadsSkeleton κ' Θ (read_entry θ (length X) y) (terms_of_entry C.blocks y) c (skeleton P)
-  head_entry c P None q r = absurd (no_type r)
-  head_entry c P (Some e) q r = subst (λ Q. ReadsSkeleton κ' Θ (read_entry θ (length X) (Some e)) (terms_of_entry C.blocks (Some e)) c (skeleton Q)) (some_type r) (entry_heads c e q)
+  head_entry c P None q r = absurd (none_some r)
+  head_entry c P (Some e) q r = subst (λ Q. ReadsSkeleton κ' Θ (read_entry θ (length X) (Some e)) (terms_of_entry C.blocks (Some e)) c (skeleton Q)) (some_same r) (entry_heads c e q)
 
-  pub heads : Reads (constant_skeletons Σ₁) κ' (λ j t q. no_metavariable q) Θ f o
+  pub heads : Reads (constant_skeletons Σ₁) κ' (λ j t q. none_some q) Θ f o
   heads c t g = typed_constant (Σ₁.types c) refl g
     where
       typed_constant : (y : Option LfType) → Σ₁.types c ≡ y → type_skeleton y ≡ Some t → ReadsSkeleton κ' Θ (f c) (o c) c t
-      typed_constant None q r = absurd (no_metavariable r)
-      typed_constant (Some P) q r = subst (ReadsSkeleton κ' Θ (f c) (o c) c) (some_skeleton r) (by (type_cases c P q))
+      typed_constant None q r = absurd (none_some r)
+      typed_constant (Some P) q r = subst (ReadsSkeleton κ' Θ (f c) (o c) c) (some_same r) (by (type_cases c P q))
         where
-          some_skeleton : {a b : Skeleton} → Some a ≡ Some b → a ≡ b
-          some_skeleton e = cc
-
           by : (Σ.types c ≡ Some P) ⊎ (entry_type (entry_constant zero first Bs c) ≡ Some P) → ReadsSkeleton κ' Θ (f c) (o c) c (skeleton P)
           by (inl old) = subst (λ z. ReadsSkeleton κ' Θ z (o c) c (skeleton P)) (sym (old_none c (P, old))) (ap type_skeleton (x.types_stay c P old))
           by (inr new) = head_entry c P (entry_constant zero first Bs c) refl new
 
   constant_entry : (c : ℕ) (P : LfType) (y : Option EntryConstant) → entry_constant zero first Bs c ≡ y → entry_type y ≡ Some P → ReadsConstant Σ Σ₁ Σ' ok ok₁ x.ok x.types_stay X G f σ Θ P c (read_entry θ (length X) y) (terms_of_entry C.blocks y)
-  constant_entry c P None q r = absurd (no_type r)
-  constant_entry c P (Some e) q r = subst (λ Q. ReadsConstant Σ Σ₁ Σ' ok ok₁ x.ok x.types_stay X G f σ Θ Q c (read_entry θ (length X) (Some e)) (terms_of_entry C.blocks (Some e))) (some_type r) (entry_constants c e q heads)
+  constant_entry c P None q r = absurd (none_some r)
+  constant_entry c P (Some e) q r = subst (λ Q. ReadsConstant Σ Σ₁ Σ' ok ok₁ x.ok x.types_stay X G f σ Θ Q c (read_entry θ (length X) (Some e)) (terms_of_entry C.blocks (Some e))) (some_same r) (entry_constants c e q heads)
 
   constants : (c : ℕ) (P : LfType) → Σ₁.types c ≡ Some P → ReadsConstant Σ Σ₁ Σ' ok ok₁ x.ok x.types_stay X G f σ Θ P c (f c) (o c)
   constants c P q = by (type_cases c P q)
@@ -458,11 +429,11 @@ module _ (Σ Σ' : Signature) (ok : IsSignature Σ) (S : ℕ → Bool) (x : Exte
   family_more a t q = by (Σ.kinds a) refl q
     where
       by : (y : Option Kind) → Σ.kinds a ≡ y → family_skeleton a y ≡ Some t → family_skeletons Σ' a ≡ Some t
-      by None e r = absurd (no_metavariable r)
+      by None e r = absurd (none_some r)
       by (Some K) e r = ap (family_skeleton a) (x.kinds_stay a K e) ∙ r
 
   pub type_known : (A : LfType) → IsType Σ₁ X A → TypeOnOwnTerms o A → TypeBySkeletons (family_skeletons Σ') κ' Θ (read_type f A)
-  type_known A t own = read_type_has_skeletons (constant_skeletons Σ₁) κ' (λ j u q. no_metavariable q) (family_skeletons Σ₁) (family_skeletons Σ') (context_skeletons X) Θ f o A family_more (inside_onto X G) heads (type_by_skeletons Σ₁ X A t) own
+  type_known A t own = read_type_has_skeletons (constant_skeletons Σ₁) κ' (λ j u q. none_some q) (family_skeletons Σ₁) (family_skeletons Σ') (context_skeletons X) Θ f o A family_more (inside_onto X G) heads (type_by_skeletons Σ₁ X A t) own
 
   -- THE reading
   pub reads_into : ReadsInto Σ Σ₁ Σ' ok ok₁ x.ok x.types_stay X G f o σ Θ

@@ -9,9 +9,9 @@ use Rattle.lf.specs.Eta.{eta_long, lambdas}
 use Rattle.lf.specs.Typing.{Signature, instantiate_type, instantiate_kind, HasType, SpineType, SpineFitsKind, IsType, IsKind, IsContext, IsSignature}
 use Rattle.lf.specs.Variables.{under, hide, Uses, same_number, at_variable, target_arguments, UsesSpine}
 use Rattle.lf.proofs.Agreement.{agree_on, uses_within}
-use Rattle.lf.proofs.Checker.{number_is}
-use Rattle.lf.proofs.Eta.{EtaLike, Fits, eta_renames, reduce_nil, substitute_eta_expand}
-use Rattle.lf.proofs.EtaTypes.{SameForm, eta_form, eta_spine, eta_at_type}
+use Rattle.lf.proofs.Checker.{number_is, number_itself, both_of}
+use Rattle.lf.proofs.Eta.{reduce_nil, substitute_eta_expand}
+use Rattle.lf.proofs.EtaTypes.{SameForm, eta_spine, eta_at_type}
 use Rattle.lf.proofs.Regular.{substitution_keeps_kinds}
 use Rattle.lf.proofs.Renaming.{renamings_compose, reduction_beta}
 use Rattle.lf.proofs.SkeletonTyping.{renaming_keeps_skeletons, lift_by_skeletons}
@@ -21,60 +21,39 @@ use Rattle.lf.proofs.TypeLaws.{skeleton_substituted, substitution_as_renaming}
 use Rattle.lf.proofs.Uses.{uses_renamed}
 use Rattle.lf.proofs.Weakening.{declared_is_type}
 use Rattle.lf_checks.specs.ModeForms.{argument_count}
-use Rattle.lf_checks.specs.Strict.{head_variable, is_bound, pattern_arguments, with_seen, eta_at, strict, strict_spine, strict_at, strict_goal}
+use Rattle.lf_checks.specs.Strict.{head_variable, is_bound, pattern_arguments, with_seen, strict, strict_spine, strict_at, strict_goal}
 use Rattle.lf_checks.specs.Tests.{both, either, is_in}
 use Rattle.lf_checks.proofs.Determined.{KeptSame, KeptAlike, Apart, same_lift, alike_lift, apart_lift}
-use Rattle.lf_checks.proofs.EtaTest.{both_l, both_r, is_eta}
+use Rattle.lf_checks.proofs.EtaTest.{both_l, both_r}
 use Rattle.lf_checks.proofs.StrictTypes.{either_cases}
 use Rattle.lf_cases.specs.Case.{covered_places}
-use Rattle.lf_coverage.specs.Matching.{has_only, spine_has_only, is_outer, without, argument_variables, over_lambdas, read_off, arguments_of, found, found_spine, found_at, found_goal, ArePlaces}
-
-pub same_refl : (i : ℕ) → same_number i i ≡ true
-same_refl zero = refl
-same_refl (suc i) = same_refl i
-
-not_true : (b : Bool) → not b ≡ true → b ≡ false
-not_true true e = absurd cc
-not_true false e = refl
+use Rattle.lf_coverage.specs.TermMatching.{bound}
+use Rattle.lf_coverage.specs.Matching.{has_only, spine_has_only, without, argument_variables, over_lambdas, read_off, arguments_of, found, found_spine, found_at, found_goal, ArePlaces}
+use Rattle.lf_coverage.proofs.Choices.{either_second, decided, second_of}
+use Rattle.lf_coverage.proofs.EtaArguments.{bound_argument, argument_renames, newest_at}
 
 -- both cases of a test
-pub by_test : {X : Type 0} (b : Bool) → (b ≡ true → X) → (b ≡ false → X) → X
-by_test true f g = f refl
-by_test false f g = g refl
-
 abbrev pub with_variable : ℕ → (ℕ → Bool) → ℕ → Bool
 with_variable y V i = either (same_number i y) (V i)
 
 pub moved_in : (y : ℕ) (V : ℕ → Bool) (N : Term) → Uses (under V) N → Uses (with_variable y V) (rename (at_variable y) N)
 moved_in y V N u = uses_renamed (under V) (with_variable y V) (at_variable y) N at u
   where
-    in_second : (a b : Bool) → b ≡ true → either a b ≡ true
-    in_second true b e = refl
-    in_second false b e = e
-
     at : (i : ℕ) → under V i ≡ true → with_variable y V (at_variable y i) ≡ true
-    at zero e = ap (λ b. either b (V y)) (same_refl y)
-    at (suc i) e = in_second (same_number i y) (V i) e
+    at zero e = ap (λ b. either b (V y)) (number_itself y)
+    at (suc i) e = either_second (same_number i y) (V i) e
 
 -- What uses variables of a set only passes the test.
-both_true : (a b : Bool) → a ≡ true → b ≡ true → both a b ≡ true
-both_true true b e f = f
-both_true false b e f = e
-
 mutual
   only_true : (U : ℕ → Bool) (M : Term) → Uses U M → has_only U M ≡ true
   only_true U (lambda M) u = only_true (under U) M u
   only_true U (root (constant c) S) u = spine_only_true U S u
   only_true U (root (metavariable m) S) u = spine_only_true U S u
-  only_true U (root (variable i) S) u = both_true (U i) (spine_has_only U S) u.0 (spine_only_true U S u.1)
+  only_true U (root (variable i) S) u = both_of (U i) (spine_has_only U S) u.0 (spine_only_true U S u.1)
 
   spine_only_true : (U : ℕ → Bool) (S : Spine) → UsesSpine U S → spine_has_only U S ≡ true
   spine_only_true U nil u = refl
-  spine_only_true U (app M S) u = both_true (has_only U M) (spine_has_only U S) (only_true U M u.0) (spine_only_true U S u.1)
-
-pub either_second : (a b : Bool) → b ≡ true → either a b ≡ true
-either_second true b e = refl
-either_second false b e = e
+  spine_only_true U (app M S) u = both_of (has_only U M) (spine_has_only U S) (only_true U M u.0) (spine_only_true U S u.1)
 
 -- variables that were seen stay among the arguments
 seen_stay : (S : Spine) (ys : List ℕ) (i : ℕ) → is_in i ys ≡ true → is_in i (argument_variables ys S) ≡ true
@@ -87,7 +66,7 @@ seen_stay (app M S) ys i e = seen_stay S (with_seen (head_variable zero M) ys) i
 
 -- n variables are bound, those of B
 abbrev pub Binds : ℕ → (ℕ → Bool) → Type 0
-Binds n B = (i : ℕ) → is_outer n i ≡ false → B i ≡ true
+Binds n B = (i : ℕ) → bound n i ≡ true → B i ≡ true
 
 pub binds_under : (n : ℕ) (B : ℕ → Bool) → Binds n B → Binds (suc n) (under B)
 binds_under n B h zero e = refl
@@ -102,32 +81,10 @@ last_lambda y ys n V N free u =
     ∙ substitution_as_renaming reduce (lift_renaming (over_lambdas ys n)) N
   where
     same : (i : ℕ) → under V i ≡ true → keep (over_lambdas (y ∷ ys) n (at_variable y i)) ≡ keep (lift_renaming (over_lambdas ys n) i)
-    same zero e = ap (λ b. keep (cond b zero (suc (over_lambdas ys n y)))) (same_refl y)
-    same (suc i) e = by_test (same_number i y) (λ q. absurd (free (subst (λ j. V j ≡ true) (number_is i y q) e))) (λ q. ap (λ b. keep (cond b zero (suc (over_lambdas ys n i)))) q)
+    same zero e = ap (λ b. keep (cond b zero (suc (over_lambdas ys n y)))) (number_itself y)
+    same (suc i) e = decided (same_number i y) (λ q. absurd (free (subst (λ j. V j ≡ true) (number_is i y q) e))) (λ q. ap (λ b. keep (cond b zero (suc (over_lambdas ys n i)))) q)
 
 module _ (Σ : Signature) (ok : IsSignature Σ) where
-  pub bound : (B : ℕ → Bool) (seen : List ℕ) (M : Term) (o : Option ℕ) → is_bound B seen M o ≡ true → (y : ℕ) × (a : Skeleton) × (o ≡ Some y) × (B y ≡ true) × (is_in y seen ≡ false) × (M ≡ eta_long a (variable y))
-  bound B seen M None e = absurd cc
-  bound B seen M (Some y) e =
-      let r : both (B y) (not (is_in y seen)) ≡ true = both_r (eta_at zero y M) (both (B y) (not (is_in y seen))) e in
-      let (a, q) = is_eta y M (both_l (eta_at zero y M) (both (B y) (not (is_in y seen))) e) in
-      (y, a, refl, both_l (B y) (not (is_in y seen)) r, not_true (is_in y seen) (both_r (B y) (not (is_in y seen)) r), q)
-
-  pub renames : (Δ : List Skeleton) (k : ℕ) (s1 : Skeleton) → SkeletonAt Δ k s1 → (i : ℕ) (t : Skeleton) → SkeletonAt (s1 ∷ Δ) i t → SkeletonAt Δ (at_variable k i) t
-  renames Δ k s1 g zero t e = subst (SkeletonAt Δ k) e g
-  renames Δ k s1 g (suc i) t e = e
-
-  argument : (Δ : List Skeleton) (s1 s2 : Skeleton) (b : Skeleton) (k : ℕ) (N : Term) → TermSkeleton (constant_skeletons Σ) (s1 ∷ Δ) N s2 → SkeletonAt Δ k s1 → SameForm b s1 → substitute reduce (single s1 (eta_long b (variable k))) N ≡ rename (at_variable k) N
-  argument Δ s1 s2 b k N n g f = eta_renames (constant_skeletons Σ) (s1 ∷ Δ) Δ (single s1 (eta_long b (variable k))) (at_variable k) N s2 like fit (renames Δ k s1 g) n
-    where
-      like : EtaLike (λ c. Unit {0}) (single s1 (eta_long b (variable k))) (at_variable k)
-      like zero = (tt, eta_form b s1 (variable k) nil f)
-      like (suc i) = refl
-
-      fit : Fits (s1 ∷ Δ) (single s1 (eta_long b (variable k)))
-      fit zero t e = e
-      fit (suc i) t e = tt
-
   -- what a body applied to distinct bound variables that it doesn't use is, under lambdas over these, is the body
   read_back : (B V : ℕ → Bool) (n : ℕ) (C : List LfType) (Δ : List Skeleton) (τ : ℕ → Image) (seen : List ℕ) (S : Spine) (A Z : LfType) (a : Skeleton) (N : Term) → IsContext Σ C → IsType Σ C A → SubstitutionBySkeletons (constant_skeletons Σ) (context_skeletons C) Δ τ → KeptSame B τ τ → SpineType Σ C S A Z → pattern_arguments B seen S ≡ true → skeleton A ≡ a → TermSkeleton (constant_skeletons Σ) Δ N a → Uses V N → ((i : ℕ) → V i ≡ true → B i ≡ true → is_in i seen ≡ false → ⊥) → (lambdas (argument_count S) (rename (over_lambdas (argument_variables seen S) n) (reduce a N (substitute_spine reduce τ S))) ≡ rename (over_lambdas seen n) N) × ((W : ℕ → Bool) → ((i : ℕ) → V i ≡ true → W i ≡ true) → ((i : ℕ) → is_in i (argument_variables seen S) ≡ true → W i ≡ true) → Uses W (reduce a N (substitute_spine reduce τ S)))
   read_back B V n C Δ τ seen nil A Z a N c t w kb s e q m u p = (ap (rename (over_lambdas seen n)) (reduce_nil a N), λ W h k. subst (Uses W) (sym (reduce_nil a N)) (uses_within V W N h u))
@@ -136,7 +93,7 @@ module _ (Σ : Signature) (ok : IsSignature Σ) where
   read_back B V n C Δ τ seen (app M S) (pi A1 A2) Z (arrow s1 s2) (root h T) c t w kb s e q m u p = absurd m
   read_back B V n C Δ τ seen (app M S) (pi A1 A2) Z (arrow s1 s2) (lambda N) c (t1, t2) w kb (r, s) e q m u p =
       let o : Option ℕ = head_variable zero M in
-      let (y, b, oe, by, ns, me) = bound B seen M o (both_l (is_bound B seen M o) (pattern_arguments B (with_seen o seen) S) e) in
+      let (y, b, oe, by, ns, me) = bound_argument B seen M o (both_l (is_bound B seen M o) (pattern_arguments B (with_seen o seen) S) e) in
       let ks = (kb y by).0 in
       let r' : HasType Σ C (eta_long b (variable y)) A1 = subst (λ X. HasType Σ C X A1) me r in
       let (Y, g) = eta_at_type Σ ok b C y nil A1 r' in
@@ -145,8 +102,8 @@ module _ (Σ : Signature) (ok : IsSignature Σ) where
       let q2 : skeleton A2 ≡ s2 = cc in
       let sy : SkeletonAt Δ y s1 = subst (λ x. ImageSkeleton (constant_skeletons Σ) Δ x s1) ks (w y s1 (subst (SkeletonAt (context_skeletons C) y) (ap skeleton yw ∙ q1) (variable_has_skeleton C y Y g))) in
       let es : substitute reduce τ M ≡ eta_long b (variable y) = ap (substitute reduce τ) me ∙ substitute_eta_expand τ b (variable y) (variable y) nil ks in
-      let ev : reduce (arrow s1 s2) (lambda N) (app (substitute reduce τ M) (substitute_spine reduce τ S)) ≡ reduce s2 (rename (at_variable y) N) (substitute_spine reduce τ S) = reduction_beta s1 s2 N (substitute reduce τ M) (substitute_spine reduce τ S) ∙ ap (λ X. reduce s2 (substitute reduce (single s1 X) N) (substitute_spine reduce τ S)) es ∙ ap (λ X. reduce s2 X (substitute_spine reduce τ S)) (argument Δ s1 s2 b y N m sy (subst (SameForm b) q1 f)) in
-      let m' : TermSkeleton (constant_skeletons Σ) Δ (rename (at_variable y) N) s2 = renaming_keeps_skeletons (constant_skeletons Σ) (s1 ∷ Δ) Δ (at_variable y) N s2 (renames Δ y s1 sy) m in
+      let ev : reduce (arrow s1 s2) (lambda N) (app (substitute reduce τ M) (substitute_spine reduce τ S)) ≡ reduce s2 (rename (at_variable y) N) (substitute_spine reduce τ S) = reduction_beta s1 s2 N (substitute reduce τ M) (substitute_spine reduce τ S) ∙ ap (λ X. reduce s2 (substitute reduce (single s1 X) N) (substitute_spine reduce τ S)) es ∙ ap (λ X. reduce s2 X (substitute_spine reduce τ S)) (argument_renames Δ s1 b y sy (subst (SameForm b) q1 f) (constant_skeletons Σ) N s2 m) in
+      let m' : TermSkeleton (constant_skeletons Σ) Δ (rename (at_variable y) N) s2 = renaming_keeps_skeletons (constant_skeletons Σ) (s1 ∷ Δ) Δ (at_variable y) N s2 (newest_at Δ y s1 sy) m in
       let ih = read_back B (with_variable y V) n C Δ τ (with_seen o seen) S (instantiate_type A1 M A2) Z s2 (rename (at_variable y) N) c (instance_is_type Σ ok C A1 M A2 c t1 t2 r) w kb s (both_r (is_bound B seen M o) (pattern_arguments B (with_seen o seen) S) e) (skeleton_substituted reduce (single (skeleton A1) M) A2 ∙ q2) m' (moved_in y V N u) (λ i v b h. later p y i v b (subst (λ z. is_in i (with_seen z seen) ≡ false) oe h)) in (
         ap lambda (
             ap (λ X. lambdas (argument_count S) (rename (over_lambdas (argument_variables (with_seen o seen) S) n) X)) ev
@@ -154,7 +111,7 @@ module _ (Σ : Signature) (ok : IsSignature Σ) where
             ∙ ap (λ z. rename (over_lambdas (with_seen z seen) n) (rename (at_variable y) N)) oe
             ∙ last_lambda y seen n V N (λ v. p y v by ns) u
             ),
-        λ W h k. subst (Uses W) (sym ev) (ih.1 W (λ i z. among y W h (k y (seen_stay S (with_seen o seen) y (subst (λ x. is_in y (with_seen x seen) ≡ true) (sym oe) (ap (λ b. either b (is_in y seen)) (same_refl y))))) i (either_cases (same_number i y) (V i) z)) k),
+        λ W h k. subst (Uses W) (sym ev) (ih.1 W (λ i z. among y W h (k y (seen_stay S (with_seen o seen) y (subst (λ x. is_in y (with_seen x seen) ≡ true) (sym oe) (ap (λ b. either b (is_in y seen)) (number_itself y))))) i (either_cases (same_number i y) (V i) z)) k),
       )
     where
       among : (y : ℕ) (W : ℕ → Bool) → ((i : ℕ) → V i ≡ true → W i ≡ true) → W y ≡ true → (i : ℕ) → (same_number i y ≡ true) ⊎ (V i ≡ true) → W i ≡ true
@@ -184,7 +141,7 @@ module _ (Σ : Signature) (ok : IsSignature Σ) where
     strict_read B F V n C Δ τ x a N (root h S) (pi A1 P) c t w kb kf p bd q u g m e = absurd m
     strict_read B F V n C Δ τ x a N (root (constant d) S) (atom b T) c t w kb kf p bd q u g (A, k, s) e = strict_read_spine B F V n C Δ τ x a N S A (atom b T) c (constant_type Σ ok C d A k) w kb kf p bd q u g s e
     strict_read B F V n C Δ τ x a N (root (metavariable d) S) (atom b T) c t w kb kf p bd q u g (A, k, s) e = absurd k
-    strict_read B F V n C Δ τ x a N (root (variable j) S) (atom b T) c t w kb kf p bd q u g (A, k, s) e = by_test (both (same_number j x) (pattern_arguments B [] S)) here (inside (λ f. strict_read_spine B F V n C Δ τ x a N S A (atom b T) c (declared_is_type Σ ok C j A c k) w kb kf p bd q u g s f))
+    strict_read B F V n C Δ τ x a N (root (variable j) S) (atom b T) c t w kb kf p bd q u g (A, k, s) e = decided (both (same_number j x) (pattern_arguments B [] S)) here (inside (λ f. strict_read_spine B F V n C Δ τ x a N S A (atom b T) c (declared_is_type Σ ok C j A c k) w kb kf p bd q u g s f))
       where
         M : Term
         M = apply_image reduce (τ j) (substitute_spine reduce τ S)
@@ -204,16 +161,12 @@ module _ (Σ : Signature) (ok : IsSignature Σ) where
             let l : M ≡ reduce a N (substitute_spine reduce τ S) = ap (λ y. apply_image reduce y (substitute_spine reduce τ S)) (ap τ jx ∙ q) in
             ap (λ b. cond b (read_off n S M) (found_spine B F n x S (arguments_of M))) z
             ∙ ap (read_off n S) l
-            ∙ ap (λ b. cond b (Some (lambdas (argument_count S) (rename (over_lambdas (argument_variables [] S) n) (reduce a N (substitute_spine reduce τ S))))) None) (only_true (λ i. either (is_in i (argument_variables [] S)) (is_outer n i)) (reduce a N (substitute_spine reduce τ S)) (back.1 (λ i. either (is_in i (argument_variables [] S)) (is_outer n i)) (λ i v. either_second (is_in i (argument_variables [] S)) (is_outer n i) (by_test (is_outer n i) (λ y. y) (λ f. absurd (p i v (bd i f))))) (λ i y. ap (λ b. either b (is_outer n i)) y)))
+            ∙ ap (λ b. cond b (Some (lambdas (argument_count S) (rename (over_lambdas (argument_variables [] S) n) (reduce a N (substitute_spine reduce τ S))))) None) (only_true (λ i. either (is_in i (argument_variables [] S)) (not (bound n i))) (reduce a N (substitute_spine reduce τ S)) (back.1 (λ i. either (is_in i (argument_variables [] S)) (not (bound n i))) (λ i v. either_second (is_in i (argument_variables [] S)) (not (bound n i)) (decided (bound n i) (λ f. absurd (p i v (bd i f))) (λ f. ap not f))) (λ i y. ap (λ b. either b (not (bound n i))) y)))
             ∙ ap Some back.0
-
-        rigid : (a b : Bool) → either a b ≡ true → a ≡ false → b ≡ true
-        rigid true b e f = absurd cc
-        rigid false b e f = e
 
         inside : (strict_spine B F x S ≡ true → found_spine B F n x S (substitute_spine reduce τ S) ≡ Some (rename (without n) N)) → both (same_number j x) (pattern_arguments B [] S) ≡ false → cond (both (same_number j x) (pattern_arguments B [] S)) (read_off n S M) (found_spine B F n x S (arguments_of M)) ≡ Some (rename (without n) N)
         inside next z =
-            let r : both (either (B j) (F j)) (strict_spine B F x S) ≡ true = rigid (both (same_number j x) (pattern_arguments B [] S)) (both (either (B j) (F j)) (strict_spine B F x S)) e z in
+            let r : both (either (B j) (F j)) (strict_spine B F x S) ≡ true = second_of (both (same_number j x) (pattern_arguments B [] S)) (both (either (B j) (F j)) (strict_spine B F x S)) e z in
             let (i, h) = kept_at (either_cases (B j) (F j) (both_l (either (B j) (F j)) (strict_spine B F x S) r)) in
             ap (λ b. cond b (read_off n S M) (found_spine B F n x S (arguments_of M))) z
             ∙ ap (λ y. found_spine B F n x S (arguments_of (apply_image reduce y (substitute_spine reduce τ S)))) h
@@ -222,11 +175,7 @@ module _ (Σ : Signature) (ok : IsSignature Σ) where
     pub strict_read_spine : (B F V : ℕ → Bool) (n : ℕ) (C : List LfType) (Δ : List Skeleton) (τ : ℕ → Image) (x : ℕ) (a : Skeleton) (N : Term) (S : Spine) (A Z : LfType) → IsContext Σ C → IsType Σ C A → SubstitutionBySkeletons (constant_skeletons Σ) (context_skeletons C) Δ τ → KeptSame B τ τ → KeptAlike F τ τ → Apart V B → Binds n B → τ x ≡ put a N → Uses V N → SkeletonAt (context_skeletons C) x a → SpineType Σ C S A Z → strict_spine B F x S ≡ true → found_spine B F n x S (substitute_spine reduce τ S) ≡ Some (rename (without n) N)
     strict_read_spine B F V n C Δ τ x a N nil A Z c t w kb kf p bd q u g s e = absurd cc
     strict_read_spine B F V n C Δ τ x a N (app M S) (atom b T) Z c t w kb kf p bd q u g s e = absurd s
-    strict_read_spine B F V n C Δ τ x a N (app M S) (pi A1 A2) Z c (t1, t2) w kb kf p bd q u g (m, s) e = by_test (strict B F x M) (λ z. ap (λ b. cond b (found B F n x M (substitute reduce τ M)) (found_spine B F n x S (substitute_spine reduce τ S))) z ∙ strict_read B F V n C Δ τ x a N M A1 c t1 w kb kf p bd q u g m z) (λ z. ap (λ b. cond b (found B F n x M (substitute reduce τ M)) (found_spine B F n x S (substitute_spine reduce τ S))) z ∙ strict_read_spine B F V n C Δ τ x a N S (instantiate_type A1 M A2) Z c (instance_is_type Σ ok C A1 M A2 c t1 t2 m) w kb kf p bd q u g s (other (strict B F x M) (strict_spine B F x S) e z))
-      where
-        other : (a b : Bool) → either a b ≡ true → a ≡ false → b ≡ true
-        other true b e f = absurd cc
-        other false b e f = e
+    strict_read_spine B F V n C Δ τ x a N (app M S) (pi A1 A2) Z c (t1, t2) w kb kf p bd q u g (m, s) e = decided (strict B F x M) (λ z. ap (λ b. cond b (found B F n x M (substitute reduce τ M)) (found_spine B F n x S (substitute_spine reduce τ S))) z ∙ strict_read B F V n C Δ τ x a N M A1 c t1 w kb kf p bd q u g m z) (λ z. ap (λ b. cond b (found B F n x M (substitute reduce τ M)) (found_spine B F n x S (substitute_spine reduce τ S))) z ∙ strict_read_spine B F V n C Δ τ x a N S (instantiate_type A1 M A2) Z c (instance_is_type Σ ok C A1 M A2 c t1 t2 m) w kb kf p bd q u g s (second_of (strict B F x M) (strict_spine B F x S) e z))
 
   -- at the covered places of a family's arguments
   places_read : (B F V : ℕ → Bool) (n : ℕ) (C : List LfType) (Δ : List Skeleton) (τ : ℕ → Image) (x : ℕ) (a : Skeleton) (N : Term) (S : Spine) (K : Kind) (Ms : List (Option Term)) → IsContext Σ C → IsKind Σ C K → SubstitutionBySkeletons (constant_skeletons Σ) (context_skeletons C) Δ τ → KeptSame B τ τ → KeptAlike F τ τ → Apart V B → Binds n B → τ x ≡ put a N → Uses V N → SkeletonAt (context_skeletons C) x a → SpineFitsKind Σ C S K → strict_at (covered_places Ms) B F x S ≡ true → ArePlaces Ms (substitute_spine reduce τ S) → found_at B F n x S Ms ≡ Some (rename (without n) N)
@@ -236,11 +185,7 @@ module _ (Σ : Signature) (ok : IsSignature Σ) where
   places_read B F V n C Δ τ x a N (app Q S) K [] c t w kb kf p bd q u g s e h = absurd h
   places_read B F V n C Δ τ x a N (app Q S) star (M ∷ Ms) c t w kb kf p bd q u g s e h = absurd s
   places_read B F V n C Δ τ x a N (app Q S) (kind_pi A K) (None ∷ Ms) c (t1, t2) w kb kf p bd q u g (r, s) e h = places_read B F V n C Δ τ x a N S (instantiate_kind A Q K) Ms c (substitution_keeps_kinds Σ ok (A ∷ C) C (single (skeleton A) Q) K (single_substitution_typed Σ ok C A Q (skeleton_context_of Σ ok C c) (type_by_skeletons Σ C A t1) r) t2) w kb kf p bd q u g s e h
-  places_read B F V n C Δ τ x a N (app Q S) (kind_pi A K) (Some M ∷ Ms) c (t1, t2) w kb kf p bd q u g (r, s) e (i, h) = by_test (strict B F x Q) (λ z. ap (λ b. cond b (found B F n x Q M) (found_at B F n x S Ms)) z ∙ ap (found B F n x Q) i ∙ strict_read B F V n C Δ τ x a N Q A c t1 w kb kf p bd q u g r z) (λ z. ap (λ b. cond b (found B F n x Q M) (found_at B F n x S Ms)) z ∙ places_read B F V n C Δ τ x a N S (instantiate_kind A Q K) Ms c (substitution_keeps_kinds Σ ok (A ∷ C) C (single (skeleton A) Q) K (single_substitution_typed Σ ok C A Q (skeleton_context_of Σ ok C c) (type_by_skeletons Σ C A t1) r) t2) w kb kf p bd q u g s (other (strict B F x Q) (strict_at (covered_places Ms) B F x S) e z) h)
-    where
-      other : (a b : Bool) → either a b ≡ true → a ≡ false → b ≡ true
-      other true b e f = absurd cc
-      other false b e f = e
+  places_read B F V n C Δ τ x a N (app Q S) (kind_pi A K) (Some M ∷ Ms) c (t1, t2) w kb kf p bd q u g (r, s) e (i, h) = decided (strict B F x Q) (λ z. ap (λ b. cond b (found B F n x Q M) (found_at B F n x S Ms)) z ∙ ap (found B F n x Q) i ∙ strict_read B F V n C Δ τ x a N Q A c t1 w kb kf p bd q u g r z) (λ z. ap (λ b. cond b (found B F n x Q M) (found_at B F n x S Ms)) z ∙ places_read B F V n C Δ τ x a N S (instantiate_kind A Q K) Ms c (substitution_keeps_kinds Σ ok (A ∷ C) C (single (skeleton A) Q) K (single_substitution_typed Σ ok C A Q (skeleton_context_of Σ ok C c) (type_by_skeletons Σ C A t1) r) t2) w kb kf p bd q u g s (second_of (strict B F x Q) (strict_at (covered_places Ms) B F x S) e z) h)
 
   -- and of a type
   pub goal_read : (B F V : ℕ → Bool) (n : ℕ) (C : List LfType) (Δ : List Skeleton) (τ : ℕ → Image) (x : ℕ) (a : Skeleton) (N : Term) (A : LfType) (Ms : List (Option Term)) → IsContext Σ C → IsType Σ C A → SubstitutionBySkeletons (constant_skeletons Σ) (context_skeletons C) Δ τ → KeptSame B τ τ → KeptAlike F τ τ → Apart V B → Binds n B → τ x ≡ put a N → Uses V N → SkeletonAt (context_skeletons C) x a → strict_goal (covered_places Ms) B F x A ≡ true → ArePlaces Ms (target_arguments (substitute_type reduce τ A)) → found_goal B F n x A Ms ≡ Some (rename (without n) N)

@@ -3,33 +3,30 @@ use Rattle.std.proofs.Common.{◌≡◌, ℕ, zero, suc, List, ◌∷◌, ◌≤
 use Rattle.lf.specs.Syntax.{constant, variable, metavariable, Term, Spine, lambda, root, nil, app, LfType, pi, atom, Skeleton, base, arrow, skeleton, rename_spine}
 use Rattle.lf.specs.Eta.{append}
 use Rattle.lf.specs.SkeletonTyping.{HeadSkeletons, SkeletonAt, TermSkeleton, SpineSkeleton, TypeBySkeletons}
+use Rattle.lf_checks.specs.ModeForms.{argument_count}
 use Rattle.lf_coverage.specs.OwnTerms.{weaken_own, BeginsWith, OnOwnTerms, SpineOnOwnTerms, TypeOnOwnTerms}
 use Rattle.lf_coverage.specs.Reading.{drop_arguments, weaken_read, read_constant, read, read_spine, read_type}
 use Rattle.lf_coverage.proofs.Reading.{under_read, skeleton_read}
 
--- how many arguments a spine has; what is left of a skeleton behind n arguments
-abbrev pub count : Spine → ℕ
-count nil = zero
-count (app M S) = suc (count S)
-
+-- what is left of a skeleton behind n arguments
 abbrev pub behind_arguments : ℕ → Skeleton → Skeleton
 behind_arguments zero t = t
 behind_arguments (suc n) (arrow a b) = behind_arguments n b
 behind_arguments (suc n) (base c) = base c
 
-pub count_renamed : (ρ : ℕ → ℕ) (S : Spine) → count (rename_spine ρ S) ≡ count S
+pub count_renamed : (ρ : ℕ → ℕ) (S : Spine) → argument_count (rename_spine ρ S) ≡ argument_count S
 count_renamed ρ nil = refl
 count_renamed ρ (app M S) = ap suc (count_renamed ρ S)
 
-pub count_read : (f : ℕ → Option (ℕ × ℕ)) (S : Spine) → count (read_spine f S) ≡ count S
+pub count_read : (f : ℕ → Option (ℕ × ℕ)) (S : Spine) → argument_count (read_spine f S) ≡ argument_count S
 count_read f nil = refl
 count_read f (app M S) = ap suc (count_read f S)
 
-count_append : (U T : Spine) → count U ≤ count (append U T)
+count_append : (U T : Spine) → argument_count U ≤ argument_count (append U T)
 count_append nil T = omega arith
 count_append (app M U) T = let l = count_append U T in omega arith
 
-drop_skeleton : (κ : HeadSkeletons) (Γ : List Skeleton) (n : ℕ) (S : Spine) (t u : Skeleton) → n ≤ count S → SpineSkeleton κ Γ S t u → SpineSkeleton κ Γ (drop_arguments n S) (behind_arguments n t) u
+drop_skeleton : (κ : HeadSkeletons) (Γ : List Skeleton) (n : ℕ) (S : Spine) (t u : Skeleton) → n ≤ argument_count S → SpineSkeleton κ Γ S t u → SpineSkeleton κ Γ (drop_arguments n S) (behind_arguments n t) u
 drop_skeleton κ Γ zero S t u l s = s
 drop_skeleton κ Γ (suc n) nil t u l s = absurd (omega (arith, l))
 drop_skeleton κ Γ (suc n) (app M S) (arrow a b) u l (m, s) = drop_skeleton κ Γ n S b u (omega (arith, l)) s
@@ -39,7 +36,7 @@ drop_skeleton κ Γ (suc n) (app M S) (base c) u l s = absurd s
 abbrev pub ReadsSkeleton : HeadSkeletons → List Skeleton → Option (ℕ × ℕ) → Option Spine → ℕ → Skeleton → Type 0
 ReadsSkeleton κ Θ None u c t = κ.constant_skeleton c ≡ Some t
 ReadsSkeleton κ Θ (Some (n, v)) None c t = ⊥
-ReadsSkeleton κ Θ (Some (n, v)) (Some U) c t = (count U ≡ n) × SkeletonAt Θ v (behind_arguments n t)
+ReadsSkeleton κ Θ (Some (n, v)) (Some U) c t = (argument_count U ≡ n) × SkeletonAt Θ v (behind_arguments n t)
 
 pub skeleton_under : (κ : HeadSkeletons) (Θ : List Skeleton) (a : Skeleton) (x : Option (ℕ × ℕ)) (u : Option Spine) (c : ℕ) (t : Skeleton) → ReadsSkeleton κ Θ x u c t → ReadsSkeleton κ (a ∷ Θ) (weaken_read x) (weaken_own u) c t
 skeleton_under κ Θ a None None c t h = h
@@ -61,7 +58,7 @@ module _ (κ κ' : HeadSkeletons) (no : (m : ℕ) (t : Skeleton) → κ.metavari
   read_head : (Θ : List Skeleton) (x : Option (ℕ × ℕ)) (u : Option Spine) (f : ℕ → Option (ℕ × ℕ)) (c : ℕ) (t : Skeleton) (d : ℕ) (S : Spine) → ReadsSkeleton κ' Θ x u c t → BeginsWith u S → SpineSkeleton κ' Θ (read_spine f S) t (base d) → TermSkeleton κ' Θ (read_constant x c (read_spine f S)) (base d)
   read_head Θ None u f c t d S h b s = (t, h, s)
   read_head Θ (Some (n, v)) None f c t d S h b s = absurd h
-  read_head Θ (Some (n, v)) (Some U) f c t d S (e, g) (T, q) s = (behind_arguments n t, g, drop_skeleton κ' Θ n (read_spine f S) t (base d) (let l = count_append U T in let r = ap count q in let m = count_read f S in omega arith) s)
+  read_head Θ (Some (n, v)) (Some U) f c t d S (e, g) (T, q) s = (behind_arguments n t, g, drop_skeleton κ' Θ n (read_spine f S) t (base d) (let l = count_append U T in let r = ap argument_count q in let m = count_read f S in omega arith) s)
 
   mutual
     pub read_has_skeleton : (Γ Θ : List Skeleton) (f : ℕ → Option (ℕ × ℕ)) (o : ℕ → Option Spine) (M : Term) (t : Skeleton) → Inside Γ Θ → Reads Θ f o → TermSkeleton κ Γ M t → OnOwnTerms o M → TermSkeleton κ' Θ (read f M) t

@@ -13,16 +13,15 @@ use Rattle.lf.proofs.Substitution.{SkeletonType, SkeletonContext, skeleton_conte
 use Rattle.lf.proofs.ToSkeletons.{typed_has_skeleton, type_by_skeletons}
 use Rattle.lf.proofs.TypeLaws.{skeleton_renamed, skeleton_substituted, lifted_substitution_weakened_type}
 use Rattle.lf.proofs.Weakening.{weakening_renames, renaming_keeps_typing, renaming_keeps_spine_typing}
+use Rattle.lf_checks.specs.ModeForms.{argument_count}
 use Rattle.lf_coverage.specs.OwnTerms.{weaken_own, BeginsWith, OnOwnTerms, SpineOnOwnTerms}
 use Rattle.lf_coverage.specs.Reading.{drop_arguments, weaken_read, read_constant, read, read_spine, read_type}
 use Rattle.lf_coverage.proofs.Reading.{under_read, read_weakened, skeleton_read, read_instance, IsOld, type_only, none_read_type}
-use Rattle.lf_coverage.proofs.ReadSkeletons.{count, count_renamed, ReadsSkeleton, skeleton_under, read_has_skeleton}
-
-no_metavariable : {t : Skeleton} → None ≡ Some t → ⊥
-no_metavariable e = cc
+use Rattle.lf_coverage.proofs.ReadSkeletons.{count_renamed, ReadsSkeleton, skeleton_under, read_has_skeleton}
+use Rattle.lf_coverage.proofs.Parts.{none_some}
 
 -- own arguments that are dropped
-drop_own : (f : ℕ → Option (ℕ × ℕ)) (U T : Spine) → drop_arguments (count U) (read_spine f (append U T)) ≡ read_spine f T
+pub drop_own : (f : ℕ → Option (ℕ × ℕ)) (U T : Spine) → drop_arguments (argument_count U) (read_spine f (append U T)) ≡ read_spine f T
 drop_own f nil T = refl
 drop_own f (app M U) T = drop_own f U T
 
@@ -41,7 +40,7 @@ module _ (Σ Σ₁ Σ' : Signature) (ok : IsSignature Σ) (ok₁ : IsSignature �
   abbrev pub ReadsConstant : List LfType → List LfType → (ℕ → Option (ℕ × ℕ)) → (ℕ → Image) → List Skeleton → LfType → ℕ → Option (ℕ × ℕ) → Option Spine → Type 0
   ReadsConstant Γ Δ f ρ Θ P c None u = Σ.types c ≡ Some P
   ReadsConstant Γ Δ f ρ Θ P c (Some (n, v)) None = ⊥
-  ReadsConstant Γ Δ f ρ Θ P c (Some (n, v)) (Some U) = (w : ℕ) × (Q : LfType) × (ρ v ≡ keep w) × (count U ≡ n) × SpineType Σ₁ Γ U P Q × TypeAt Δ w (Read f ρ Q) × Known Θ (read_type f Q)
+  ReadsConstant Γ Δ f ρ Θ P c (Some (n, v)) (Some U) = (w : ℕ) × (Q : LfType) × (ρ v ≡ keep w) × (argument_count U ≡ n) × SpineType Σ₁ Γ U P Q × TypeAt Δ w (Read f ρ Q) × Known Θ (read_type f Q)
 
   -- terms over Γ are read by f, and the values ρ in Δ are put in; o has the own terms
   pub record ReadsInto (Γ Δ : List LfType) (f : ℕ → Option (ℕ × ℕ)) (o : ℕ → Option Spine) (ρ : ℕ → Image) (Θ : List Skeleton) : Type 0 where
@@ -113,7 +112,7 @@ module _ (Σ Σ₁ Σ' : Signature) (ok : IsSignature Σ) (ok₁ : IsSignature �
     -- the instance of a type
     module _ (A : LfType) (M : Term) (B : LfType) (m : HasType Σ₁ Γ M A) (own : OnOwnTerms o M) (k : Known (skeleton (read_type f A) ∷ Θ) (read_type (under_read f) B)) where
       term_known : TermSkeleton (constant_skeletons Σ') Θ (read f M) (skeleton (read_type f A))
-      term_known = subst (TermSkeleton (constant_skeletons Σ') Θ (read f M)) (sym (skeleton_read f A)) (read_has_skeleton (constant_skeletons Σ₁) (constant_skeletons Σ') (λ j t e. no_metavariable e) (context_skeletons Γ) Θ f o M (skeleton A) r.inside r.heads (typed_has_skeleton Σ₁ Γ M A m) own)
+      term_known = subst (TermSkeleton (constant_skeletons Σ') Θ (read f M)) (sym (skeleton_read f A)) (read_has_skeleton (constant_skeletons Σ₁) (constant_skeletons Σ') (λ j t e. none_some e) (context_skeletons Γ) Θ f o M (skeleton A) r.inside r.heads (typed_has_skeleton Σ₁ Γ M A m) own)
 
       instance_read : Read f ρ (instantiate_type A M B) ≡ instantiate_type (Read f ρ A) (substitute reduce ρ (read f M)) (Read (under_read f) (lift ρ) B)
       instance_read =
@@ -143,7 +142,7 @@ module _ (Σ Σ₁ Σ' : Signature) (ok : IsSignature Σ) (ok₁ : IsSignature �
     at_head c a P S T (Some (n, v)) None h b s args = absurd h
     at_head c a P S T (Some (n, v)) (Some U) (w, Q, e, l, q, g, k) (V, d) s args =
         subst (λ Y. HasType Σ' Δ Y (Read f ρ (atom a T)))
-        (ap (λ Z. root (variable w) (substitute_spine reduce ρ Z)) (sym (ap (λ j. drop_arguments j (read_spine f S)) (sym l) ∙ ap (λ X. drop_arguments (count U) (read_spine f X)) d ∙ drop_own f U V)) ∙ sym (ap (λ y. apply_image reduce y (substitute_spine reduce ρ (drop_arguments n (read_spine f S)))) e))
+        (ap (λ Z. root (variable w) (substitute_spine reduce ρ Z)) (sym (ap (λ j. drop_arguments j (read_spine f S)) (sym l) ∙ ap (λ X. drop_arguments (argument_count U) (read_spine f X)) d ∙ drop_own f U V)) ∙ sym (ap (λ y. apply_image reduce y (substitute_spine reduce ρ (drop_arguments n (read_spine f S)))) e))
         (Read f ρ Q, g, args U V Q d q k)
 
   mutual

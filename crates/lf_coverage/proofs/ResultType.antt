@@ -23,13 +23,10 @@ use Rattle.lf_cases.specs.Reached.{arguments_count, head_items, head_spine}
 use Rattle.lf_cases.proofs.OutputItems.{lift_renumber, length_renumber, lift_after, instance_renumber, low_renumber, low_kept, locals_same, lifted, variable_fits}
 use Rattle.lf_coverage.specs.Heads.{result_type}
 use Rattle.lf_coverage.proofs.Forms.{renaming_far}
-use Rattle.lf_coverage.proofs.HeadItems.{count_substituted}
+use Rattle.lf_coverage.proofs.HeadItems.{count_substituted, count_renamed}
 use Rattle.lf_coverage.proofs.Transfer.{behind_head}
+use Rattle.lf_coverage.proofs.Parts.{suc_same}
 use mathlib.Core.Path.{fun_ext}
-
-pub count_renamed : (ρ : ℕ → ℕ) (A : LfType) → arguments_count (rename_type ρ A) ≡ arguments_count A
-count_renamed ρ (pi A B) = ap suc (count_renamed (lift_renaming ρ) B)
-count_renamed ρ (atom a S) = refl
 
 variable_same : (k : List Bool) (D : List LfType) (A A' : LfType) (n n' : ℕ) → skeleton A' ≡ skeleton A → n' ≡ n → raised_variable k D A' n' ≡ raised_variable k D A n
 variable_same k D A A' n n' f g = ap (λ s. eta_expand s (variable (n' + length D)) (locals_by k D)) f ∙ ap (λ l. eta_expand (skeleton A) (variable (l + length D)) (locals_by k D)) g
@@ -50,6 +47,9 @@ spine_renumber ks ρ D (atom a S) = refl
 -- what is left for the next argument
 abbrev pub next_type : List (List Bool) → List LfType → LfType → LfType → LfType
 next_type ks D A B = instantiate_type A (raised_variable (first_mask ks) D A zero) (rename_type (lift_renaming (over_item D)) B)
+
+next_target : (ks : List (List Bool)) (D : List LfType) (A B : LfType) → target (next_type ks D A B) ≡ target B
+next_target ks D A B = target_of reduce (single (skeleton A) (raised_variable (first_mask ks) D A zero)) (rename_type (lift_renaming (over_item D)) B) ∙ target_renamed (lift_renaming (over_item D)) B
 
 pub next_spine : (ks : List (List Bool)) (D : List LfType) (A B : LfType) → head_spine (other_masks ks) (renumber suc D) (next_type ks D A B) ≡ head_spine (other_masks ks) D B
 next_spine ks D A B = spine_renumber (other_masks ks) suc D (next_type ks D A B) ∙ spine_substituted (other_masks ks) D (single (skeleton A) (raised_variable (first_mask ks) D A zero)) (rename_type (lift_renaming (over_item D)) B) ∙ spine_renamed (other_masks ks) D (lift_renaming (over_item D)) B
@@ -143,9 +143,6 @@ module _ (Σ : Signature) where
       let e' : T ≡ substitute_spine reduce (lift_over D' φ) (head_spine (other_masks ks) D' A') = tail_of e ∙ ap₂ (λ f S. substitute_spine reduce f S) (sym (lift_renumber suc D φ)) (sym (next_spine ks D A B)) in
       ap (λ f. substitute_type reduce f (result_type (other_masks ks) D' n A')) (sym (lift_renumber suc D φ)) ∙ result_is (other_masks ks) G n D' A' J c' φ s (next_by_skeletons ks D (items_context I) A B k) T b V t' e'
     where
-      suc_same : suc (arguments_count B) ≡ suc n → arguments_count B ≡ n
-      suc_same e = omega arith
-
       next : (i n : ℕ) → suc i + n ≡ i + suc n
       next i n = omega arith
 
@@ -166,13 +163,7 @@ module _ (Σ : Signature) where
     where
       no : zero ≡ suc n → ⊥
       no c = omega arith
-  result_atom ks (suc n) D (pi A B) c = result_atom (other_masks ks) n (renumber suc D) (next_type ks D A B) (next_count ks D A B ∙ suc_same c) ∙ ap (λ t. atom t (target_arguments (result_type (other_masks ks) (renumber suc D) n (next_type ks D A B)))) (next_target D A B)
-    where
-      suc_same : suc (arguments_count B) ≡ suc n → arguments_count B ≡ n
-      suc_same e = omega arith
-
-      next_target : (D : List LfType) (A B : LfType) → target (next_type ks D A B) ≡ target B
-      next_target D A B = target_of reduce (single (skeleton A) (raised_variable (first_mask ks) D A zero)) (rename_type (lift_renaming (over_item D)) B) ∙ target_renamed (lift_renaming (over_item D)) B
+  result_atom ks (suc n) D (pi A B) c = result_atom (other_masks ks) n (renumber suc D) (next_type ks D A B) (next_count ks D A B ∙ suc_same c) ∙ ap (λ t. atom t (target_arguments (result_type (other_masks ks) (renumber suc D) n (next_type ks D A B)))) (next_target ks D A B)
 
   pub result_by_skeletons : (ks : List (List Bool)) (n : ℕ) (D : List LfType) (A : LfType) (I : List Item) → TypeBySkeletons (family_skeletons Σ) (constant_skeletons Σ) (context_skeletons (onto D (items_context I))) A → TypeBySkeletons (family_skeletons Σ) (constant_skeletons Σ) (context_skeletons (onto D (items_context (head_items ks D n A I)))) (result_type ks D n A)
   result_by_skeletons ks zero D A I k = k
@@ -196,13 +187,7 @@ module _ (Σ : Signature) where
       let rest : SpineSkeleton (constant_skeletons Σ) (context_skeletons (onto D' X)) (head_spine (other_masks ks) D' A') (skeleton A') (base (target A')) = spine_fits (other_masks ks) n D' A' J c' in
       let rest2 : SpineSkeleton (constant_skeletons Σ) (context_skeletons (onto D X)) (head_spine (other_masks ks) D' A') (skeleton A') (base (target A')) = subst (λ Γ. SpineSkeleton (constant_skeletons Σ) Γ (head_spine (other_masks ks) D' A') (skeleton A') (base (target A'))) (locals_same suc D X) rest in
       let rest3 : SpineSkeleton (constant_skeletons Σ) (context_skeletons (onto D X)) (head_spine (other_masks ks) D B) (skeleton A') (base (target A')) = subst (λ S. SpineSkeleton (constant_skeletons Σ) (context_skeletons (onto D X)) S (skeleton A') (base (target A'))) (next_spine ks D A B) rest2 in
-      (variable_fits Σ (first_mask ks) D X A (arguments_count B) at, subst (λ t. SpineSkeleton (constant_skeletons Σ) (context_skeletons (onto D X)) (head_spine (other_masks ks) D B) t (base (target B))) (next_skeleton ks D A B) (subst (λ b. SpineSkeleton (constant_skeletons Σ) (context_skeletons (onto D X)) (head_spine (other_masks ks) D B) (skeleton A') (base b)) (next_target D A B) rest3))
+      (variable_fits Σ (first_mask ks) D X A (arguments_count B) at, subst (λ t. SpineSkeleton (constant_skeletons Σ) (context_skeletons (onto D X)) (head_spine (other_masks ks) D B) t (base (target B))) (next_skeleton ks D A B) (subst (λ b. SpineSkeleton (constant_skeletons Σ) (context_skeletons (onto D X)) (head_spine (other_masks ks) D B) (skeleton A') (base b)) (next_target ks D A B) rest3))
     where
-      suc_same : suc (arguments_count B) ≡ suc n → arguments_count B ≡ n
-      suc_same e = omega arith
-
       none : (m : ℕ) → 0 + m ≡ m
       none m = omega arith
-
-      next_target : (D : List LfType) (A B : LfType) → target (next_type ks D A B) ≡ target B
-      next_target D A B = target_of reduce (single (skeleton A) (raised_variable (first_mask ks) D A zero)) (rename_type (lift_renaming (over_item D)) B) ∙ target_renamed (lift_renaming (over_item D)) B

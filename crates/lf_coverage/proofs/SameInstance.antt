@@ -13,13 +13,11 @@ use Rattle.lf_cases.specs.Case.{Item, free_variable, block_variable, items_conte
 use Rattle.lf_cases.specs.Split.{StandsFor}
 use Rattle.lf_unification.proofs.Offer.{decide}
 use Rattle.lf_cases.specs.Candidates.{hide_all, free_among}
+use Rattle.lf_coverage.proofs.Parts.{keep_same}
 
 -- A moved image that is a variable was one.
 pub moved_keep : (x : Image) (v : ℕ) → rename_image suc x ≡ keep v → (u : ℕ) × (x ≡ keep u) × (suc u ≡ v)
-moved_keep (keep i) v e = (i, refl, keep_inj e)
-  where
-    keep_inj : {a b : ℕ} → keep a ≡ keep b → a ≡ b
-    keep_inj e = cc
+moved_keep (keep i) v e = (i, refl, keep_same e)
 moved_keep (put a N) v e = absurd (no e)
   where
     no : put a (Rattle.lf.specs.Syntax.rename suc N) ≡ keep v → ⊥
@@ -44,10 +42,7 @@ module _ (Σ : Signature) where
   apart (begin_instance w t) B θ i k l v a e f = absurd cc
   apart (next_entry E o t) B θ (υ, i, q) zero l v a e f =
       let (u, p, r) = moved_keep (υ l) v (sym (ap (λ g. g l) q) ∙ f) in
-      not_zero (r ∙ sym (keep_inj e))
-    where
-      keep_inj : keep zero ≡ keep v → zero ≡ v
-      keep_inj e = cc
+      not_zero (r ∙ sym (keep_same e))
   apart (next_entry {θ = τ} E o t) B θ (υ, i, q) (suc k) l v a e f =
       let (u, p, r) = before_newest (τ k) (υ l) v e (sym (ap (λ g. g l) q) ∙ f) in
       apart o B υ i k l u a p r

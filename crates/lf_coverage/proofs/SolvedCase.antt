@@ -1,5 +1,5 @@
 -- What unification solves gives a case that keeps the instances, and what it never solves gives none.
-use Rattle.std.proofs.Common.{◌≡◌, ℕ, zero, suc, List, [], ◌∷◌, ◌+◌, length, inl, refl, sym, ap, ◌∙◌, subst, arith, true≢false}
+use Rattle.std.proofs.Common.{◌≡◌, ℕ, zero, suc, List, [], ◌∷◌, ◌+◌, length, inl, refl, sym, ap, ◌∙◌, subst, arith}
 use Rattle.std.specs.Prelude.{Bool, true, false, Option, Some, None}
 use Rattle.lf.specs.Syntax.{Head, Term, LfType, Kind, pi, atom, Skeleton, skeleton, weaken, rename, rename_type, lift_renaming}
 use Rattle.lf.specs.Substitution.{Image, put, rename_image, substitute, substitute_type, substitute_image, reduce}
@@ -9,7 +9,7 @@ use Rattle.lf.specs.AtOnce.{in_front, shift_by}
 use Rattle.lf.specs.Typing.{Signature, TypeAt, HasType, ImageHasType, IsType, IsContext, IsSignature, instantiate_type}
 use Rattle.lf.specs.Variables.{onto}
 use Rattle.lf.specs.Subordination.{Block, AreTypedBlocks, SelfContained}
-use Rattle.lf.specs.Worlds.{World, instance}
+use Rattle.lf.specs.Worlds.{World}
 use Rattle.lf.specs.Extension.{Extends}
 use Rattle.lf.proofs.Renaming.{rename_substituted, reduction_is_natural}
 use Rattle.lf.proofs.Substitution.{constant_type}
@@ -26,13 +26,13 @@ use Rattle.lf_unification.specs.Unifiers.{ExtendsFilling, Solution, Store}
 use Rattle.lf_unification.proofs.AnswerIsGeneric.{Part, part, answer_images}
 use Rattle.lf_unification.proofs.Filling.{substituted_option, skeleton_fill}
 use Rattle.lf_unification.proofs.Solving.{well_formed_answer}
-use Rattle.lf_cases.specs.Case.{Item, free_variable, block_variable, Case, items_context, as_term, entries_in_front, IsGroundInstance}
+use Rattle.lf_cases.specs.Case.{Item, free_variable, block_variable, Case, items_context, as_term, IsGroundInstance}
 use Rattle.lf_cases.specs.Pattern.{FirstInstance}
 use Rattle.lf_cases.specs.OutputGoal.{free_variables, renumber, over_item, raised_variable}
 use Rattle.lf_cases.specs.Raised.{raise_by, first_mask, other_masks}
 use Rattle.lf_cases.specs.Split.{HasNoBlockVariable}
 use Rattle.lf_cases.specs.Missing.{AreTypedItems, IsTypedInstance}
-use Rattle.lf_cases.specs.Candidates.{free_among, hide_all}
+use Rattle.lf_cases.specs.Candidates.{free_among}
 use Rattle.lf_cases.specs.Reached.{arguments_count, head_masks, head_items, with_block, taken, SplitHead, constant_head, bound_head, entry_head, new_entry_head, split_items}
 use Rattle.lf_cases.proofs.Assemble.{binders_typed}
 use Rattle.lf_totality.proofs.RaisedOutputs.{binders_over}
@@ -45,9 +45,10 @@ use Rattle.lf_coverage.proofs.ItemsContext.{items_are_context}
 use Rattle.lf_coverage.proofs.NewBlock.{block_typed, moved_at}
 use Rattle.lf_coverage.proofs.OpenTerms.{AllStand, FitsImage, fill_open_type}
 use Rattle.lf_coverage.proofs.ResultType.{next_count}
-use Rattle.lf_coverage.proofs.SomeHead.{free_value}
+use Rattle.lf_coverage.proofs.SomeHead.{free_value, entry_value}
 use Rattle.lf_coverage.proofs.StoreSolution.{looked_up, skeleton_open, filling, filling_is, types_in, value_back, context, makes_solution}
 use Rattle.lf_coverage.proofs.Strip.{strip, out_of, into, term_back}
+use Rattle.lf_coverage.proofs.Parts.{some_same, suc_same}
 use mathlib.Core.Path.{fun_ext}
 
 -- Items that are free variables.
@@ -100,12 +101,6 @@ ground_instance {Σ} {G = G} w (A ∷ O) σ f =
     let (N, e, n) = f zero (weaken A) refl in
     (N, (λ i. σ (suc i)), ground_instance w O (λ i. σ (suc i)) (λ i B g. let (M, p, m) = f (suc i) (weaken B) (B, g, refl) in (M, p ∙ ap (λ a. put a M) (skeleton_renamed suc B), subst (HasType Σ G M) (substitute_renamed_type reduce σ suc B) m)), subst (HasType Σ G N) (substitute_renamed_type reduce σ suc A) n, in_front_is σ (put (skeleton A) N) (e ∙ ap (λ a. put a N) (skeleton_renamed suc A)))
 
-none_is : {A : Term} → None ≡ Some A → ⊥
-none_is e = cc
-
-some_is : {A : Type 0} {x y : A} → Some x ≡ Some y → x ≡ y
-some_is e = cc
-
 -- the type of a head is one
 pub head_typed : (Σ : Signature) (ok : IsSignature Σ) (W : List Block) (typed : AreTypedBlocks Σ W) (I : List Item) (ti : AreTypedItems Σ W I) (x : ℕ) (X : LfType) → TypeAt (items_context I) x X → (J : List Item) (n : ℕ) (h : Head) (A : LfType) → SplitHead Σ W I X J n h A → AreTypedItems Σ W J × TypeAt (items_context J) (x + n) (rename_type (shift_by n) X) × IsType Σ (onto (taken (rename_type (shift_by n) X)) (items_context J)) A
 head_typed Σ ok W typed I ti x X at J n h A s = by s
@@ -150,20 +145,12 @@ behind_types ks D (suc n) (pi A B) I e i X g =
     next : (i n : ℕ) → suc i + n ≡ i + suc n
     next i n = omega arith
 
-    suc_same : suc (arguments_count B) ≡ suc n → arguments_count B ≡ n
-    suc_same e = omega arith
-
 -- what a typed instance gives a free variable
 typed_free_value : (Σ : Signature) (J I : List Item) (σ : ℕ → Image) → IsTypedInstance Σ J I σ → (x : ℕ) (X : LfType) → TypeAt (items_context I) x X → free_among I x ≡ true → (N : Term) × (σ x ≡ put (skeleton X) N)
 typed_free_value Σ J [] σ g x X t f = absurd t
 typed_free_value Σ J (free_variable A ∷ I) σ (N, τ, g, n, e) zero X t f = (N, ap (λ z. z zero) e ∙ ap (λ a. put a N) (sym (ap skeleton t ∙ skeleton_renamed suc A)))
 typed_free_value Σ J (free_variable A ∷ I) σ (N, τ, g, n, e) (suc x) X (Y, t, q) f = let (M, p) = typed_free_value Σ J I τ g x Y t f in (M, ap (λ z. z (suc x)) e ∙ p ∙ ap (λ a. put a M) (sym (ap skeleton q ∙ skeleton_renamed suc Y)))
-typed_free_value Σ J (block_variable B υ ∷ I) σ (θ, τ, g, i, s, e) x X t f = let (N, p) = by (λ y Y u v. typed_free_value Σ J I τ g y Y u v) B.entries θ x X t f in (N, ap (λ z. z x) e ∙ p)
-  where
-    by : ((y : ℕ) (Y : LfType) → TypeAt (items_context I) y Y → free_among I y ≡ true → (N : Term) × (τ y ≡ put (skeleton Y) N)) → (ds : List LfType) (φ : ℕ → Image) (y : ℕ) (Y : LfType) → TypeAt (onto (instance ds υ) (items_context I)) y Y → hide_all ds (free_among I) y ≡ true → (N : Term) × (entries_in_front ds φ τ y ≡ put (skeleton Y) N)
-    by h [] φ y Y t f = h y Y t f
-    by h (D ∷ ds) φ zero Y t f = absurd (true≢false (sym f))
-    by h (D ∷ ds) φ (suc y) Y (Z, t, q) f = let (N, p) = by h ds (λ j. φ (suc j)) y Z t f in (N, p ∙ ap (λ a. put a N) (sym (ap skeleton q ∙ skeleton_renamed suc Z)))
+typed_free_value Σ J (block_variable B υ ∷ I) σ (θ, τ, g, i, s, e) x X t f = let (N, p) = entry_value τ υ I (λ y Y u v. typed_free_value Σ J I τ g y Y u v) B.entries θ x X t f in (N, ap (λ z. z x) e ∙ p)
 
 either_value : (b : Bool) (x y : Image) → (b ≡ true → x ≡ y) → (b ≡ false → x ≡ y) → x ≡ y
 either_value true x y f g = f refl
@@ -228,7 +215,7 @@ module _ (Σ : Signature) (ok : IsSignature Σ) (W : List Block) (typed : AreTyp
         by : (y : Option LfType) (z : Option Term) → y ≡ Some (open_type zero B) → given.0 i ≡ z → ValueHasType Σ O μ0 given.0 y z → (N : Term) × (γ i ≡ Some N) × (given.0 i ≡ Some N) × HasType Σ O N (fill_type μ0 given.0 (open_type zero B))
         by None z e q v = absurd cc
         by (Some Y) None e q v = absurd v
-        by (Some Y) (Some N) e q v = (N, given.1 i (open_type zero B) (declared i B k) ∙ q, q, subst (λ Z. HasType Σ O N (fill_type μ0 given.0 Z)) (some_is e) v)
+        by (Some Y) (Some N) e q v = (N, given.1 i (open_type zero B) (declared i B k) ∙ q, q, subst (λ Z. HasType Σ O N (fill_type μ0 given.0 Z)) (some_same e) v)
 
     value_is : (i : ℕ) (B : LfType) (k : TypeAt (items_context P) i B) → answer_values after order i ≡ put (skeleton B) (value i B k).0
     value_is i B k = ap (answer_image (μ1 i)) ((value i B k).1) ∙ ap (λ a. put a (value i B k).0) (ap skeleton_or_default (declared_after i B k) ∙ skeleton_open zero B)
@@ -272,7 +259,7 @@ module _ (Σ : Signature) (ok : IsSignature Σ) (W : List Block) (typed : AreTyp
               let (N, q) = free_value w P τ m.is_ground i B k (all_free P (without nj) i B k) in
               let V : Term = (value i B k).0 in
               let r : Some (rename (out_of S G) (as_term (skeleton B) (τ i))) ≡ Some (substitute reduce ρ V) = sym (filling_is Σ ok W typed S sc P aj fam Σ' e G w τ m.is_ground i B k) ∙ sym (b i (open_type zero B) (declared i B k)) ∙ p.same i (s.well_formed.all_listed i (open_type zero B) (declared_after i B k)) ∙ ap (substituted_option ρ) ((value i B k).1) in
-              q ∙ ap (put (skeleton B)) (sym (ap (as_term (skeleton B)) q) ∙ sym (value_back Σ ok W typed S sc P aj fam Σ' e G w τ m.is_ground i B k) ∙ ap (rename (into S G)) (some_is r) ∙ rename_substituted reduce reduction_is_natural (into S G) ρ V) ∙ ap (substitute_image ν) (sym (value_is i B k));
+              q ∙ ap (put (skeleton B)) (sym (ap (as_term (skeleton B)) q) ∙ sym (value_back Σ ok W typed S sc P aj fam Σ' e G w τ m.is_ground i B k) ∙ ap (rename (into S G)) (some_same r) ∙ rename_substituted reduce reduction_is_natural (into S G) ρ V) ∙ ap (substitute_image ν) (sym (value_is i B k));
         }
 
     -- The lemma

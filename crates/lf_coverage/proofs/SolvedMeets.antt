@@ -24,6 +24,7 @@ use Rattle.lf_unification.specs.Solving.{Solved}
 use Rattle.lf_unification.specs.Unifiers.{Solution, SolvesAll, Store}
 use Rattle.lf_unification.proofs.OpenSound.{PartialInstance-of}
 use Rattle.lf_unification.proofs.Solving.{solved_unifier}
+use Rattle.lf_unification.proofs.RigidSteps.{solves_rest}
 use Rattle.lf_checks.specs.Clause.{Clause, scope}
 use Rattle.lf_checks.specs.Ground.{UsesGoal}
 use Rattle.lf_checks.specs.Marks.{SamePlaces, UsesPlaces}
@@ -36,20 +37,21 @@ use Rattle.lf_cases.specs.Split.{HasNoBlockVariable}
 use Rattle.lf_cases.proofs.BlockEntries.{onto_onto}
 use Rattle.lf_cases.proofs.OutputItems.{length_instance, length_renumber, lift_after, lift_renumber}
 use Rattle.lf_cases.proofs.Raised.{rename_identity}
+use Rattle.lf_totality.proofs.GoalHolds.{arguments_under}
 use Rattle.lf_coverage.specs.Heads.{HaveSkeletons}
 use Rattle.lf_coverage.specs.Leaf.{IsTypedPattern}
 use Rattle.lf_coverage.specs.MeetStore.{open_arguments, place_equations, given_equations, IsConstants, meet_store}
 use Rattle.lf_coverage.specs.SplitStore.{open_term, open_spine, open_type, open_locals, open_some, type_in, context_metavariables, answer_image}
 use Rattle.lf_coverage.specs.TypedCase.{TypedArguments, IsTypedBeside, given_values}
-use Rattle.lf_coverage.proofs.Forms.{far_type}
+use Rattle.lf_coverage.proofs.Forms.{far_type, near_type}
 use Rattle.lf_coverage.proofs.GivenValues.{StandsForItself, StandsForGiven, given_cases, far_renames, local_renames}
-use Rattle.lf_coverage.proofs.Leaves.{goal_arguments}
-use Rattle.lf_coverage.proofs.MeetReady.{joint_context, arguments_fit, agrees, far_back, solves_second}
-use Rattle.lf_coverage.proofs.Meeting.{near_type, open_length, under_same}
+use Rattle.lf_coverage.proofs.MeetReady.{joint_context, arguments_fit, agrees, far_back}
+use Rattle.lf_coverage.proofs.Meeting.{open_length, under_same}
 use Rattle.lf_coverage.proofs.OpenSkeletons.{filled_values, filled_value, filled_term, filled_type}
 use Rattle.lf_coverage.proofs.SolvedCase.{free_typed, free_context_is, typed_instance}
 use Rattle.lf_coverage.proofs.StoreSolution.{looked_up, found_type}
 use Rattle.lf_coverage.proofs.Transfer.{same_in, same_over}
+use Rattle.lf_coverage.proofs.Parts.{some_same, second_same, no_arrow}
 
 -- what stands for a variable of the clause: its metavariable's value, where there is one
 abbrev clause_value : (ℕ → Image) → Skeleton → Option Term → Option Term → Image
@@ -120,13 +122,7 @@ module _ (Σ : Signature) (ok : IsSignature Σ) (W : List Block) (typed : AreTyp
       by : {N : Term} (y : Option LfType) (z : Option Term) → y ≡ Some (open_type zero A) → z ≡ Some N → ValueHasType Σ F (skeletons_of Ψ) β y z → HasType Σ F N (fill_type (skeletons_of Ψ) β (open_type zero A))
       by None z e q v = absurd cc
       by (Some Y) None e q v = absurd v
-      by (Some Y) (Some M) e q v = subst (λ P. HasType Σ F P (fill_type (skeletons_of Ψ) β (open_type zero A))) (some_term q) (subst (λ Z. HasType Σ F M (fill_type (skeletons_of Ψ) β Z)) (some_type e) v)
-        where
-          some_term : {M N : Term} → Some M ≡ Some N → M ≡ N
-          some_term e = cc
-
-          some_type : {A B : LfType} → Some A ≡ Some B → A ≡ B
-          some_type e = cc
+      by (Some Y) (Some M) e q v = subst (λ P. HasType Σ F P (fill_type (skeletons_of Ψ) β (open_type zero A))) (some_same q) (subst (λ Z. HasType Σ F M (fill_type (skeletons_of Ψ) β Z)) (some_same e) v)
 
   -- the clause's variables have those of their metavariables
   moved : Agree Q τ (λ j. σ (j + n))
@@ -145,9 +141,6 @@ module _ (Σ : Signature) (ok : IsSignature Σ) (W : List Block) (typed : AreTyp
   given : HasGiven σ C.given τ
   given j M e = by (type_in X (j + n)) refl (β (j + n)) refl (sol.0.typed (j + n))
     where
-      some_term : {M N : Term} → Some M ≡ Some N → M ≡ N
-      some_term e = cc
-
       inside : (A : LfType) → TypeAt X (j + n) A → (a : Skeleton) × (τ j ≡ put a (substitute reduce σ M))
       inside A k =
           let (B, b, r) = far_back O Q j A k in
@@ -155,7 +148,7 @@ module _ (Σ : Signature) (ok : IsSignature Σ) (W : List Block) (typed : AreTyp
         where
           found : (B : LfType) → TypeAt Q j B → StandsForItself Q C.given n j ⊎ StandsForGiven Q C.given n j → (a : Skeleton) × (τ j ≡ put a (substitute reduce σ M))
           found B b (inl (q, none)) = absurd (none B M b e)
-          found B b (inr (E, P, x, q, r)) = (skeleton E, moved j B b ∙ sym (agrees Σ ok W typed C p tp tb β (F, w, sol.1) j) ∙ ap (substitute_image σ) r ∙ ap (λ N. put (skeleton E) (substitute reduce σ N)) (some_term (sym q ∙ e)))
+          found B b (inr (E, P, x, q, r)) = (skeleton E, moved j B b ∙ sym (agrees Σ ok W typed C p tp tb β (F, w, sol.1) j) ∙ ap (substitute_image σ) r ∙ ap (λ N. put (skeleton E) (substitute reduce σ N)) (some_same (sym q ∙ e)))
 
       by : (y : Option LfType) → type_in X (j + n) ≡ y → (z : Option Term) → β (j + n) ≡ z → ValueHasType Σ F (skeletons_of Ψ) β (open_some y) z → (a : Skeleton) × (τ j ≡ put a (substitute reduce σ M))
       by None q (Some N) r v = absurd v
@@ -199,28 +192,16 @@ module _ (Σ : Signature) (ok : IsSignature Σ) (W : List Block) (typed : AreTyp
   arguments_held G f (None ∷ Ms) nil KL K ks t ss hs a h = absurd a
   arguments_held G f (Some M ∷ Ms) (app R S) star K ks t ss hs a h = absurd a
   arguments_held G f (None ∷ Ms) (app R S) star K ks t ss hs a h = absurd a
-  arguments_held G f (Some M ∷ Ms) (app R S) (kind_pi AL KL) star ks t ss hs a h = absurd (no ks)
-    where
-      no : {x y : Skeleton} {c : ℕ} → arrow x y ≡ base c → ⊥
-      no e = cc
-  arguments_held G f (None ∷ Ms) (app R S) (kind_pi AL KL) star ks t ss hs a h = absurd (no ks)
-    where
-      no : {x y : Skeleton} {c : ℕ} → arrow x y ≡ base c → ⊥
-      no e = cc
+  arguments_held G f (Some M ∷ Ms) (app R S) (kind_pi AL KL) star ks t ss hs a h = absurd (no_arrow ks)
+  arguments_held G f (None ∷ Ms) (app R S) (kind_pi AL KL) star ks t ss hs a h = absurd (no_arrow ks)
   arguments_held G f (Some M ∷ Ms) (app R S) (kind_pi AL KL) (kind_pi A K) ks (base x) ss hs a h = absurd ss
   arguments_held G f (None ∷ Ms) (app R S) (kind_pi AL KL) (kind_pi A K) ks (base x) ss hs a h = absurd ss
   arguments_held G f (Some M ∷ Ms) (app R S) (kind_pi AL KL) (kind_pi A K) ks (arrow x y) (r, ss) ((z, m), hs) (t, a) (e, h) =
-      let rest = arguments_held G f Ms S (instantiate_kind AL M KL) (instantiate_kind A (open_term (length D) (rename (lift_renaming_by (length D) (shift_by n)) R)) K) (kind_skeleton_substituted 0 reduce (single (skeleton AL) M) KL ∙ second_part ks ∙ sym (kind_skeleton_substituted 0 reduce (single (skeleton A) (open_term (length D) (rename (lift_renaming_by (length D) (shift_by n)) R))) K)) y ss hs a h in
+      let rest = arguments_held G f Ms S (instantiate_kind AL M KL) (instantiate_kind A (open_term (length D) (rename (lift_renaming_by (length D) (shift_by n)) R)) K) (kind_skeleton_substituted 0 reduce (single (skeleton AL) M) KL ∙ second_same ks ∙ sym (kind_skeleton_substituted 0 reduce (single (skeleton A) (open_term (length D) (rename (lift_renaming_by (length D) (shift_by n)) R))) K)) y ss hs a h in
       ((sym (pattern_term R x r) ∙ sym e ∙ case_term M z m, rest.0), (refl, rest.1))
-    where
-      second_part : {t u v w : Skeleton} → arrow t u ≡ arrow v w → u ≡ w
-      second_part e = cc
   arguments_held G f (None ∷ Ms) (app R S) (kind_pi AL KL) (kind_pi A K) ks (arrow x y) (r, ss) hs a h =
-      let rest = arguments_held G f Ms S (instantiate_kind AL (substitute reduce f R) KL) (instantiate_kind A (open_term (length D) (rename (lift_renaming_by (length D) (shift_by n)) R)) K) (kind_skeleton_substituted 0 reduce (single (skeleton AL) (substitute reduce f R)) KL ∙ second_part ks ∙ sym (kind_skeleton_substituted 0 reduce (single (skeleton A) (open_term (length D) (rename (lift_renaming_by (length D) (shift_by n)) R))) K)) y ss hs a h in
+      let rest = arguments_held G f Ms S (instantiate_kind AL (substitute reduce f R) KL) (instantiate_kind A (open_term (length D) (rename (lift_renaming_by (length D) (shift_by n)) R)) K) (kind_skeleton_substituted 0 reduce (single (skeleton AL) (substitute reduce f R)) KL ∙ second_same ks ∙ sym (kind_skeleton_substituted 0 reduce (single (skeleton A) (open_term (length D) (rename (lift_renaming_by (length D) (shift_by n)) R))) K)) y ss hs a h in
       (rest.0, rest.1)
-    where
-      second_part : {t u v w : Skeleton} → arrow t u ≡ arrow v w → u ≡ w
-      second_part e = cc
 
   -- The lemma
   pub meets : CommonInstance Σ W C p
@@ -228,7 +209,7 @@ module _ (Σ : Signature) (ok : IsSignature Σ) (W : List Block) (typed : AreTyp
       let S : Spine = target_arguments p.type in
       let b : List Bool = covered_places C.arguments in
       let T : Spine = substitute_spine reduce (lift_over D τ) S in
-      let held = arguments_held (onto C.local X) (lift_over D (given_values C p)) C.arguments S tb.kind tb.kind refl (kind_skeleton 0 tb.kind) (kind_spine_has_skeleton Σ 0 (onto D Q) S tb.kind (arguments_fit Σ ok W typed C p tp tb)) tb.by_skeletons.arguments tb.arguments (solves_second (skeletons_of Ψ) β (given_equations X n C.given) (place_equations (open_locals (renumber (shift_by n) D)) (open_arguments (length D) C.arguments) (open_spine (length D) (rename_spine (lift_renaming_by (length D) (shift_by n)) S)) tb.kind) sol.1.1) in
+      let held = arguments_held (onto C.local X) (lift_over D (given_values C p)) C.arguments S tb.kind tb.kind refl (kind_skeleton 0 tb.kind) (kind_spine_has_skeleton Σ 0 (onto D Q) S tb.kind (arguments_fit Σ ok W typed C p tp tb)) tb.by_skeletons.arguments tb.arguments (solves_rest (skeletons_of Ψ) β (given_equations X n C.given) (place_equations (open_locals (renumber (shift_by n) D)) (open_arguments (length D) C.arguments) (open_spine (length D) (rename_spine (lift_renaming_by (length D) (shift_by n)) S)) tb.kind) sol.1.1) in
       record {
         items = free_variables F;
         typed_items = free_typed Σ _ F sol.0.context;
@@ -243,7 +224,7 @@ module _ (Σ : Signature) (ok : IsSignature Σ) (W : List Block) (typed : AreTyp
         stands = nothing_outside Σ p.origin i p.at_first (free_variables F) C.items σ case_typed τ;
         tuple = T;
         of_case = held.0;
-        of_clause = subst (SamePlaces b T) (sym (goal_arguments [] p.type τ)) held.1;
+        of_clause = subst (SamePlaces b T) (sym (arguments_under [] p.type τ)) held.1;
       }
 
 pub solved_meets : (Σ : Signature) (ok : IsSignature Σ) (W : List Block) (typed : AreTypedBlocks Σ W) (C : Case) → HasNoBlockVariable C.items → (p : Pattern) → IsTypedPattern Σ p → IsConstants p.origin → (t : IsTypedBeside Σ W C p) (after : Store) → Solved Σ (meet_store C p t.kind) after → CommonInstance Σ W C p

@@ -29,7 +29,7 @@ use Rattle.lf_coverage.proofs.HeadTerm.{term_fits}
 use Rattle.lf_coverage.proofs.ItemsContext.{items_are_context}
 use Rattle.lf_coverage.proofs.NoCase.{families, all_declared, context_declared, whole_block, with_whole, in_all_worlds, items_world, head_made, head_in_all_worlds, none_of_items}
 use Rattle.lf_coverage.proofs.OpenTerms.{fill_open}
-use Rattle.lf_coverage.proofs.SolvedCase.{free_typed, typed_instance, without, answer, given, stand, fits, value_typed, kept}
+use Rattle.lf_coverage.proofs.SolvedCase.{free_typed, typed_instance, without, answer, given, stand, fits, value_typed, kept, free_without}
 use Rattle.lf_coverage.proofs.SplitReady.{split_items_typed, place}
 use Rattle.lf_coverage.proofs.StoreSolution.{value_at}
 
@@ -42,10 +42,6 @@ ground_is_instance : (Σ : Signature) (F : List Item) {W : List Block} {S : ℕ 
 ground_is_instance Σ F w [] σ n g = tt
 ground_is_instance Σ F w (free_variable A ∷ I) σ n (N, τ, g, t, e) = (N, τ, ground_is_instance Σ F w I τ n g, t, e)
 ground_is_instance Σ F w (block_variable B υ ∷ I) σ n g = absurd n
-
-free_without : (O : List LfType) → HasNoBlockVariable (free_variables O)
-free_without [] = tt
-free_without (A ∷ O) = free_without O
 
 module _ (Σ : Signature) (ok : IsSignature Σ) (W : List Block) (typed : AreTypedBlocks Σ W) (below : ℕ → ℕ → Bool) (C : Case) (tc : IsTypedCase Σ W C) (x : ℕ) (X : LfType) (at : TypeAt (items_context C.items) x X) (J : List Item) (n : ℕ) (h : Head) (A : LfType) (sh : SplitHead Σ W C.items X J n h A) (nj : HasNoBlockVariable J) (K : Kind) (after0 : Store) (s : Solved Σ (split_store below x X J n h A K) after0) where
   abbrev I : List Item

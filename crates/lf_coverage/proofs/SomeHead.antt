@@ -17,7 +17,7 @@ use Rattle.lf.proofs.Decidability.{variable_type_unique}
 use Rattle.lf.proofs.ExtensionTyping.{extension_keeps_contexts}
 use Rattle.lf.proofs.Regular.{head_type}
 use Rattle.lf.proofs.Conservativity.{spine_target}
-use Rattle.lf.proofs.Strength.{families_substituted}
+use Rattle.lf.proofs.Strength.{families_substituted, family_target}
 use Rattle.lf.proofs.Substitution.{typed_substitution_by_skeletons, constant_type, skeleton_context_of, substitution_keeps_types}
 use Rattle.lf.proofs.Target.{target_of, target_renamed}
 use Rattle.lf.proofs.TypeLaws.{skeleton_renamed, substitute_renamed_type}
@@ -47,25 +47,27 @@ use Rattle.lf_coverage.proofs.ResultType.{result_is}
 use Rattle.lf_coverage.proofs.Forms.{form, lambdas_substituted, lift_over_near, renaming_near, renaming_far, local_type, local_has_type, no_shift_type, far_type, far_substituted, lift_same, as_pis, pis_substituted}
 use Rattle.lf_coverage.proofs.GroundTyped.{ground_typed, items_extended}
 use Rattle.lf_coverage.proofs.HeadItems.{type_kind, outputs, count_substituted}
-use Rattle.lf_coverage.proofs.HeadRaised.{below_substituted, AllTypesIn, context_types, families_within, local_types, part, part_itself, part_low, spine_low, target_in}
+use Rattle.lf_coverage.proofs.HeadRaised.{below_substituted, AllTypesIn, context_types, families_within, local_types, part, part_itself, part_low, spine_low}
 use Rattle.lf_coverage.proofs.ItemsContext.{items_are_context}
 use Rattle.lf_coverage.proofs.NewBlock.{block_typed, moved_at, front_long, block_values, block_on, block_keeps}
 use Rattle.lf_coverage.proofs.Offered.{offered}
 use Rattle.lf_coverage.proofs.SameInstance.{entry_or_new, entry_has_type, front_entry}
 use Rattle.lf_cases.proofs.Instances.{place_among}
+use Rattle.lf_coverage.proofs.Parts.{some_same}
 use mathlib.Core.Path.{fun_ext}
+
+-- what the entries leave free has its value
+pub entry_value : (τ υ : ℕ → Image) (I : List Item) → ((y : ℕ) (Y : LfType) → TypeAt (items_context I) y Y → free_among I y ≡ true → (N : Term) × (τ y ≡ put (skeleton Y) N)) → (ds : List LfType) (φ : ℕ → Image) (y : ℕ) (Y : LfType) → TypeAt (onto (instance ds υ) (items_context I)) y Y → hide_all ds (free_among I) y ≡ true → (N : Term) × (entries_in_front ds φ τ y ≡ put (skeleton Y) N)
+entry_value τ υ I h [] φ y Y t f = h y Y t f
+entry_value τ υ I h (D ∷ ds) φ zero Y t f = absurd (true≢false (sym f))
+entry_value τ υ I h (D ∷ ds) φ (suc y) Y (Z, t, q) f = let (N, p) = entry_value τ υ I h ds (λ j. φ (suc j)) y Z t f in (N, p ∙ ap (λ a. put a N) (sym (ap skeleton q ∙ skeleton_renamed suc Z)))
 
 -- the value of a free variable
 pub free_value : {Σ : Signature} {W : List Block} {S : ℕ → Bool} {G : List LfType} (w : World Σ W S G) (I : List Item) (σ : ℕ → Image) → IsGroundInstance w I σ → (x : ℕ) (X : LfType) → TypeAt (items_context I) x X → free_among I x ≡ true → (N : Term) × (σ x ≡ put (skeleton X) N)
 free_value w [] σ g x X t f = absurd t
 free_value w (free_variable A ∷ I) σ (N, τ, g, n, e) zero X t f = (N, ap (λ z. z zero) e ∙ ap (λ a. put a N) (sym (ap skeleton t ∙ skeleton_renamed suc A)))
 free_value w (free_variable A ∷ I) σ (N, τ, g, n, e) (suc x) X (Y, t, q) f = let (M, p) = free_value w I τ g x Y t f in (M, ap (λ z. z (suc x)) e ∙ p ∙ ap (λ a. put a M) (sym (ap skeleton q ∙ skeleton_renamed suc Y)))
-free_value w (block_variable B υ ∷ I) σ (θ, τ, g, i, s, e) x X t f = let (N, p) = by (λ y Y u v. free_value w I τ g y Y u v) B.entries θ x X t f in (N, ap (λ z. z x) e ∙ p)
-  where
-    by : ((y : ℕ) (Y : LfType) → TypeAt (items_context I) y Y → free_among I y ≡ true → (N : Term) × (τ y ≡ put (skeleton Y) N)) → (ds : List LfType) (φ : ℕ → Image) (y : ℕ) (Y : LfType) → TypeAt (onto (instance ds υ) (items_context I)) y Y → hide_all ds (free_among I) y ≡ true → (N : Term) × (entries_in_front ds φ τ y ≡ put (skeleton Y) N)
-    by h [] φ y Y t f = h y Y t f
-    by h (D ∷ ds) φ zero Y t f = absurd (true≢false (sym f))
-    by h (D ∷ ds) φ (suc y) Y (Z, t, q) f = let (N, p) = by h ds (λ j. φ (suc j)) y Z t f in (N, p ∙ ap (λ a. put a N) (sym (ap skeleton q ∙ skeleton_renamed suc Z)))
+free_value w (block_variable B υ ∷ I) σ (θ, τ, g, i, s, e) x X t f = let (N, p) = entry_value τ υ I (λ y Y u v. free_value w I τ g y Y u v) B.entries θ x X t f in (N, ap (λ z. z x) e ∙ p)
 
 pub onto_nothing : (D : List LfType) → onto D [] ≡ D
 onto_nothing [] = refl
@@ -74,9 +76,6 @@ onto_nothing (A ∷ D) = ap (λ X. A ∷ X) (onto_nothing D)
 -- a head has one type
 pub head_same : (Σ : Signature) (G : List LfType) (h : Head) (A B : LfType) → HeadHasType Σ G h A → HeadHasType Σ G h B → A ≡ B
 head_same Σ G (constant c) A B e f = some_same (sym e ∙ f)
-  where
-    some_same : Some A ≡ Some B → A ≡ B
-    some_same e = cc
 head_same Σ G (variable i) A B g h = variable_type_unique G i A B g h
 head_same Σ G (metavariable m) A B g h = absurd g
 
@@ -143,7 +142,7 @@ module _ (Σ : Signature) (ok : IsSignature Σ) (W : List Block) (typed : AreTyp
   types_in = subst (AllTypesIn Σ W below s Low sc Σ' ext) local_is (local_types Σ W below s Low sc Σ' ext Y0 G (families_substituted Low reduce σ X fams) (below_substituted below σ X args) (context_types Σ W below s Low sc Σ' ext w))
 
   target_below : Low (target X) ≡ true
-  target_below = target_in Low X fams
+  target_below = family_target Low X fams
 
   -- the families of the type of a head
   head_families : (h : Head) (Y : LfType) → HeadHasType Σ' (onto E G) h Y → target Y ≡ target X → FamiliesIn Low Y

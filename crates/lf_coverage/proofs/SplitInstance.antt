@@ -12,8 +12,9 @@ use Rattle.lf_cases.specs.OutputGoal.{free_variables, renumber, over_item, raise
 use Rattle.lf_cases.specs.Raised.{raise_by, first_mask, other_masks}
 use Rattle.lf_cases.specs.Reached.{arguments_count, head_masks, head_items, items_onto, with_block, taken, SplitHead, constant_head, bound_head, entry_head, new_entry_head, split_items, split_by}
 use Rattle.lf_coverage.specs.Laws.{SplitCaseIsInstance}
-use Rattle.lf_coverage.proofs.HeadItems.{count_substituted}
+use Rattle.lf_coverage.proofs.HeadItems.{count_substituted, count_renamed}
 use Rattle.lf_coverage.proofs.SameInstance.{front_behind}
+use Rattle.lf_coverage.proofs.Parts.{suc_same}
 use mathlib.Core.Path.{fun_ext}
 
 none : (i : ℕ) → i ≡ i + 0
@@ -41,13 +42,6 @@ module _ (Σ : Signature) (J : List Item) where
     where
       next : (i n : ℕ) → suc i + n ≡ i + suc n
       next i n = omega arith
-
-      suc_same : suc (arguments_count B) ≡ suc n → arguments_count B ≡ n
-      suc_same e = omega arith
-
-      count_renamed : (ρ : ℕ → ℕ) (A : LfType) → arguments_count (rename_type ρ A) ≡ arguments_count A
-      count_renamed ρ (pi A B) = ap suc (count_renamed (lift_renaming ρ) B)
-      count_renamed ρ (atom a S) = refl
 
   behind_some : (O : List LfType) (I : List Item) (σ : ℕ → Image) → IsTypedInstance Σ J (items_onto (free_variables O) I) σ → IsTypedInstance Σ J I (λ i. σ (i + length O))
   behind_some [] I σ g = moved I σ (λ i. σ (i + 0)) (λ i. ap σ (none i)) g

@@ -1,5 +1,5 @@
 -- The store of a split of a typed case is well formed.
-use Rattle.std.proofs.Common.{◌≡◌, ℕ, zero, suc, ◌+◌, List, [], ◌∷◌, length, refl, sym, ap, ◌∙◌, subst, arith}
+use Rattle.std.proofs.Common.{◌≡◌, ℕ, zero, ◌+◌, List, [], ◌∷◌, length, refl, sym, ap, ◌∙◌, subst, arith}
 use Rattle.std.specs.Prelude.{Bool, Option, Some}
 use Rattle.lf.specs.Syntax.{Head, variable, Term, Spine, lambda, root, LfType, pi, atom, Kind, arrow, skeleton, rename_head, rename_type}
 use Rattle.lf.specs.SkeletonTyping.{KindBySkeletons}
@@ -53,15 +53,13 @@ use Rattle.lf_coverage.proofs.RaisedTyped.{HeadTyped, head_is_typed}
 use Rattle.lf_coverage.proofs.ResultType.{result_atom}
 use Rattle.lf_coverage.proofs.SolvedCase.{head_typed, behind_types}
 use Rattle.lf_coverage.proofs.StoreSolution.{open_pis, skeleton_open}
+use Rattle.lf_coverage.proofs.Leaf.{lambdas_inside}
+use Rattle.lf_coverage.proofs.Parts.{some_same}
 use mathlib.Core.Path.{fun_ext}
-
-lambda_inside : (n : ℕ) (M : Term) → lambdas n (lambda M) ≡ lambda (lambdas n M)
-lambda_inside zero M = refl
-lambda_inside (suc n) M = ap lambda (lambda_inside n M)
 
 has_lambdas : (Σ : Signature) (D G : List LfType) (M : Term) (P : LfType) → HasType Σ (onto D G) M P → HasType Σ G (lambdas (length D) M) (pi_over D P)
 has_lambdas Σ [] G M P m = m
-has_lambdas Σ (A ∷ D) G M P m = subst (λ N. HasType Σ G N (pi_over D (pi A P))) (lambda_inside (length D) M) (has_lambdas Σ D G (lambda M) (pi A P) m)
+has_lambdas Σ (A ∷ D) G M P m = subst (λ N. HasType Σ G N (pi_over D (pi A P))) (lambdas_inside (length D) M) (has_lambdas Σ D G (lambda M) (pi A P) m)
 
 skeleton_pis : (D : List LfType) (P Q : LfType) → skeleton P ≡ skeleton Q → skeleton (pi_over D P) ≡ skeleton (pi_over D Q)
 skeleton_pis [] P Q e = e
@@ -182,9 +180,6 @@ module _ (Σ : Signature) (ok : IsSignature Σ) (W : List Block) (typed : AreTyp
 
     fits_of : (G : List LfType) (a : ℕ) (S : Spine) → IsType Σ G (atom a S) → a ≡ target X → SpineFitsKind Σ G S K
     fits_of G a S (L, e, s) q = subst (SpineFitsKind Σ G S) (some_same (sym e ∙ ap Σ.kinds q ∙ of_family)) s
-      where
-        some_same : {M N : Kind} → Some M ≡ Some N → M ≡ N
-        some_same e = cc
 
     pub first_fits : SpineFitsKind Σ (onto D C) S1 K
     first_fits = fits_of (onto D C) (target X2) S1 (subst (λ G. IsType Σ G (atom (target X2) S1)) (binders_over [] X2 C) (end_typed Σ ok X2 C tx)) (target_renamed (shift_by (n + c)) X)

@@ -37,16 +37,15 @@ use Rattle.lf_coverage.proofs.HeadSplit.{put_in_fits}
 use Rattle.lf_coverage.proofs.ItemsContext.{items_are_context}
 use Rattle.lf_coverage.proofs.MeetReady.{arguments_fit}
 use Rattle.lf_coverage.proofs.Meeting.{joined, joined_near, joined_far, which_type}
-use Rattle.lf_coverage.proofs.Transfer.{same_in, lift_instance, after_over}
+use Rattle.lf_coverage.proofs.Transfer.{same_in, lift_instance, after_over, lifted_instance}
+use Rattle.lf_coverage.proofs.Leaves.{given_skeleton}
+use Rattle.lf_coverage.proofs.Parts.{some_same}
 use mathlib.Core.Path.{fun_ext}
 
 -- the given terms with values put in
 given_put : (σ : ℕ → Image) (Ms : List (Option Term)) (i : ℕ) (M : Term) → given_at Ms i ≡ Some M → given_at (put_in σ Ms) i ≡ Some (substitute reduce σ M)
 given_put σ [] i M e = absurd cc
 given_put σ (Some N ∷ Ms) zero M e = ap (λ P. Some (substitute reduce σ P)) (some_same e)
-  where
-    some_same : Some N ≡ Some M → N ≡ M
-    some_same e = cc
 given_put σ (None ∷ Ms) zero M e = absurd cc
 given_put σ (Some N ∷ Ms) (suc i) M e = given_put σ Ms i M e
 given_put σ (None ∷ Ms) (suc i) M e = given_put σ Ms i M e
@@ -64,16 +63,6 @@ is_given_put σ (Some M ∷ Ms) zero = refl
 is_given_put σ (None ∷ Ms) zero = refl
 is_given_put σ (Some M ∷ Ms) (suc i) = is_given_put σ Ms i
 is_given_put σ (None ∷ Ms) (suc i) = is_given_put σ Ms i
-
-have_at : (κ : HeadSkeletons) (Γ : List Skeleton) (Ms : List (Option Term)) (i : ℕ) (M : Term) → HaveSkeletons κ Γ Ms → given_at Ms i ≡ Some M → (t : Skeleton) × TermSkeleton κ Γ M t
-have_at κ Γ [] i M h e = absurd cc
-have_at κ Γ (Some N ∷ Ms) zero M ((t, m), h) e = (t, subst (λ P. TermSkeleton κ Γ P t) (some_same e) m)
-  where
-    some_same : Some N ≡ Some M → N ≡ M
-    some_same e = cc
-have_at κ Γ (None ∷ Ms) zero M h e = absurd cc
-have_at κ Γ (Some N ∷ Ms) (suc i) M (n, h) e = have_at κ Γ Ms i M h e
-have_at κ Γ (None ∷ Ms) (suc i) M h e = have_at κ Γ Ms i M h e
 
 -- a type that uses only variables with typed values is one under these
 pub value_type : (Σ : Signature) (ok : IsSignature Σ) (V : ℕ → Bool) (G D : List LfType) (σ : ℕ → Image) (B : LfType) → IsContext Σ G → IsContext Σ D → Values Σ V G D σ → IsType Σ G B → UsesType V B → IsType Σ D (substitute_type reduce σ B)
@@ -159,15 +148,12 @@ module _ (Σ : Signature) (ok : IsSignature Σ) (W : List Block) (typed : AreTyp
     given_after : (i : ℕ) → after τ g i ≡ h i
     given_after i = by (given_cases Q C.given n i) (given_cases Q (put_in σ C.given) m i)
       where
-        some_same : {M N : Term} → Some M ≡ Some N → M ≡ N
-        some_same e = cc
-
         by : StandsForItself Q C.given n i ⊎ StandsForGiven Q C.given n i → StandsForItself Q (put_in σ C.given) m i ⊎ StandsForGiven Q (put_in σ C.given) m i → after τ g i ≡ h i
         by (inl (e, none)) (inl (f, never)) = ap (substitute_image τ) e ∙ joined_far O σ (λ k. keep (k + m)) i ∙ sym f
         by (inl (e, none)) (inr (B, N, b, r, f)) = let (M, q) = given_from_put σ C.given i N r in absurd (none B M b q)
         by (inr (A, M, a, q, e)) (inl (f, never)) = absurd (never A (substitute reduce σ M) a (given_put σ C.given i M q))
         by (inr (A, M, a, q, e)) (inr (B, N, b, r, f)) =
-            let (t, k) = have_at (constant_skeletons Σ) (context_skeletons O) C.given i M tb.by_skeletons.given q in
+            let (t, k) = given_skeleton (constant_skeletons Σ) (context_skeletons O) C.given i M tb.by_skeletons.given q in
             ap (substitute_image τ) e ∙ ap₂ put (ap skeleton (Rattle.lf.proofs.Decidability.variable_type_unique Q i A B a b)) (same_here M t k ∙ some_same (sym (given_put σ C.given i M q) ∙ r)) ∙ sym f
 
     fg : SubstitutionBySkeletons (constant_skeletons Σ) (context_skeletons Q) (context_skeletons X) g
@@ -175,9 +161,6 @@ module _ (Σ : Signature) (ok : IsSignature Σ) (W : List Block) (typed : AreTyp
 
     images_after : (L : List LfType) → after (lift_over L τ) (lift_over L g) ≡ lift_over L h
     images_after L = after_over L g τ ∙ ap (lift_over L) (fun_ext given_after)
-
-    second_under : (L : List LfType) → SubstitutionBySkeletons (constant_skeletons Σ) (context_skeletons (onto (instance L g) X)) (context_skeletons (onto (instance (instance L g) τ) Y)) (lift_over L τ)
-    second_under L = subst (SubstitutionBySkeletons (constant_skeletons Σ) (context_skeletons (onto (instance L g) X)) (context_skeletons (onto (instance (instance L g) τ) Y))) (lift_instance L g τ) (lifted Σ (instance L g) X Y τ joint_fits)
 
     -- the type of a given term is a type over the items
     given_type : (A : LfType) → IsType Σ Q A → UsesType (is_given C.given) A → IsType Σ O (substitute_type reduce g A)
@@ -257,7 +240,7 @@ module _ (Σ : Signature) (ok : IsSignature Σ) (W : List Block) (typed : AreTyp
         let T : Spine = with_given C p.clause E S in
         let st : SpineSkeleton (constant_skeletons Σ) (context_skeletons (onto L X)) T (kind_skeleton 0 K) (base 0) = subst (λ M. SpineSkeleton (constant_skeletons Σ) (context_skeletons (onto M X)) T (kind_skeleton 0 K) (base 0)) (sym tb.local) (Rattle.lf.proofs.SkeletonTyping.substitution_keeps_spine_skeletons (constant_skeletons Σ) (context_skeletons (onto E Q)) (context_skeletons (onto (instance E g) X)) (lift_over E g) S (kind_skeleton 0 K) (base 0) (lifted Σ E Q X g fg) ss) in
         let a : TypedArguments Σ (onto (instance L τ) Y) (put_in (lift_over L τ) C.arguments) (substitute_spine reduce (lift_over L τ) T) (substitute_kind reduce (lift_over L τ) K) = arguments_put L cl C.arguments T K (kind_by_skeletons Σ (onto L X) K (family_kind Σ ok (onto L X) C.family K tb.of_family)) st tb.arguments in
-        let ts2 : substitute_spine reduce (lift_over L τ) T ≡ substitute_spine reduce (lift_over E h) S = ap (λ M. substitute_spine reduce (lift_over M τ) T) tb.local ∙ ap (λ f. substitute_spine reduce f T) (lift_instance E g τ) ∙ substitutions_compose_spine (constant_skeletons Σ) (context_skeletons (onto E Q)) (context_skeletons (onto (instance E g) X)) (context_skeletons (onto (instance (instance E g) τ) Y)) (lift_over E g) (lift_over E τ) S (kind_skeleton 0 K) (base 0) (lifted Σ E Q X g fg) (second_under E) ss ∙ ap (λ f. substitute_spine reduce f S) (images_after E) in
+        let ts2 : substitute_spine reduce (lift_over L τ) T ≡ substitute_spine reduce (lift_over E h) S = ap (λ M. substitute_spine reduce (lift_over M τ) T) tb.local ∙ ap (λ f. substitute_spine reduce f T) (lift_instance E g τ) ∙ substitutions_compose_spine (constant_skeletons Σ) (context_skeletons (onto E Q)) (context_skeletons (onto (instance E g) X)) (context_skeletons (onto (instance (instance E g) τ) Y)) (lift_over E g) (lift_over E τ) S (kind_skeleton 0 K) (base 0) (lifted Σ E Q X g fg) (lifted_instance Σ X Y E g τ joint_fits) ss ∙ ap (λ f. substitute_spine reduce f S) (images_after E) in
         let a2 : TypedArguments Σ (onto (instance L σ) Y) (put_in (lift_over L σ) C.arguments) (substitute_spine reduce (lift_over E h) S) K =
         subst (TypedArguments Σ (onto (instance L σ) Y) (put_in (lift_over L σ) C.arguments) (substitute_spine reduce (lift_over E h) S)) (closed_kind_substituted Σ reduce (lift_over L τ) K ck)
         (subst (λ T2. TypedArguments Σ (onto (instance L σ) Y) (put_in (lift_over L σ) C.arguments) T2 (substitute_kind reduce (lift_over L τ) K)) ts2
@@ -284,4 +267,4 @@ module _ (Σ : Signature) (ok : IsSignature Σ) (W : List Block) (typed : AreTyp
 
         local_twice : (L : List LfType) → IsContext Σ (onto L Q) → instance (instance L g) τ ≡ instance L h
         local_twice [] c = refl
-        local_twice (A ∷ L) (c, t) = ap₂ ◌∷◌ (ap (λ f. substitute_type reduce f (substitute_type reduce (lift_over L g) A)) (lift_instance L g τ) ∙ substitutions_compose_type (family_skeletons Σ) (constant_skeletons Σ) (context_skeletons (onto L Q)) (context_skeletons (onto (instance L g) X)) (context_skeletons (onto (instance (instance L g) τ) Y)) (lift_over L g) (lift_over L τ) A (lifted Σ L Q X g fg) (second_under L) (type_by_skeletons Σ (onto L Q) A t) ∙ ap (λ f. substitute_type reduce f A) (images_after L)) (local_twice L c)
+        local_twice (A ∷ L) (c, t) = ap₂ ◌∷◌ (ap (λ f. substitute_type reduce f (substitute_type reduce (lift_over L g) A)) (lift_instance L g τ) ∙ substitutions_compose_type (family_skeletons Σ) (constant_skeletons Σ) (context_skeletons (onto L Q)) (context_skeletons (onto (instance L g) X)) (context_skeletons (onto (instance (instance L g) τ) Y)) (lift_over L g) (lift_over L τ) A (lifted Σ L Q X g fg) (lifted_instance Σ X Y L g τ joint_fits) (type_by_skeletons Σ (onto L Q) A t) ∙ ap (λ f. substitute_type reduce f A) (images_after L)) (local_twice L c)

@@ -9,18 +9,16 @@ use Rattle.lf_coverage.specs.NewInstance.{NewInstanceStaysApart, with_instance}
 use Rattle.lf_coverage.specs.NumberedInstance.{block_at}
 use Rattle.lf_coverage.specs.OwnTerms.{BlockVariable, rename_blocks}
 use Rattle.lf_coverage.proofs.EntrySignature.{not_same}
-
-some_block : {c d : BlockVariable} → Some c ≡ Some d → c ≡ d
-some_block e = cc
+use Rattle.lf_coverage.proofs.Parts.{some_same}
 
 -- a block variable of the longer list is an old one, renamed, or the new one
 abbrev OldOrNew : List BlockVariable → BlockVariable → ℕ → BlockVariable → Type 0
 OldOrNew bs n j b = ((d : BlockVariable) × (block_at bs j ≡ Some d) × (d.block ≡ b.block) × (suc j ≤ length bs)) ⊎ ((j ≡ length bs) × (b.block ≡ n.block))
 
 old_or_new : (ρ : ℕ → ℕ) (n : BlockVariable) (bs : List BlockVariable) (j : ℕ) (b : BlockVariable) → block_at (rename_blocks ρ bs ++ n ∷ []) j ≡ Some b → OldOrNew bs n j b
-old_or_new ρ n [] zero b e = inr (refl, ap (λ d. d.block) (sym (some_block e)))
+old_or_new ρ n [] zero b e = inr (refl, ap (λ d. d.block) (sym (some_same e)))
 old_or_new ρ n [] (suc j) b e = absurd cc
-old_or_new ρ n (d ∷ bs) zero b e = inl (d, refl, ap (λ c. c.block) (some_block e), omega arith)
+old_or_new ρ n (d ∷ bs) zero b e = inl (d, refl, ap (λ c. c.block) (some_same e), omega arith)
 old_or_new ρ n (d ∷ bs) (suc j) b e = by (old_or_new ρ n bs j b e)
   where
     by : ((c : BlockVariable) × (block_at bs j ≡ Some c) × (c.block ≡ b.block) × (suc j ≤ length bs)) ⊎ ((j ≡ length bs) × (b.block ≡ n.block)) → ((c : BlockVariable) × (block_at bs j ≡ Some c) × (c.block ≡ b.block) × (suc (suc j) ≤ suc (length bs))) ⊎ ((suc j ≡ suc (length bs)) × (b.block ≡ n.block))

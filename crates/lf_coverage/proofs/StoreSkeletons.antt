@@ -17,6 +17,7 @@ use Rattle.lf.proofs.Weakening.{declared_is_type, renaming_keeps_kind_spines, re
 use Rattle.lf_unification.specs.Offering.{spine_equations}
 use Rattle.lf_unification.specs.Patterns.{local_skeletons}
 use Rattle.lf_unification.specs.Unifiers.{Equation}
+use Rattle.lf_unification.specs.Lists.{followed}
 use Rattle.lf_checks.specs.Clause.{scope}
 use Rattle.lf_cases.specs.Case.{Item, Case, items_context}
 use Rattle.lf_cases.specs.OutputGoal.{renumber}
@@ -26,7 +27,7 @@ use Rattle.lf_cases.specs.Reached.{SplitHead, arguments_count, split_items, take
 use Rattle.lf_cases.proofs.OutputItems.{length_renumber}
 use Rattle.lf_coverage.specs.Laws.{StoresHaveSkeletons}
 use Rattle.lf_coverage.specs.Leaf.{IsTypedPattern}
-use Rattle.lf_coverage.specs.MeetStore.{followed_by, given_equations, meet_store, one_given, open_arguments, place_equations}
+use Rattle.lf_coverage.specs.MeetStore.{given_equations, meet_store, one_given, open_arguments, place_equations}
 use Rattle.lf_coverage.specs.SplitStore.{open_locals, open_some, open_spine, open_type, split_store, type_in, context_metavariables}
 use Rattle.lf_coverage.specs.StoreSkeletons.{declared_in, LocalsHaveSkeletons, StoreHasSkeletons, TypesHaveSkeletons}
 use Rattle.lf_coverage.specs.TypedCase.{IsTypedBeside}
@@ -36,9 +37,10 @@ use Rattle.lf_coverage.proofs.OpenSkeletons.{kind_opened_by, spine_opened_by, ty
 use Rattle.lf_coverage.proofs.OpenTyped.{family_open}
 use Rattle.lf_coverage.proofs.SplitReady.{cc0, context_under, first_fits, lengths, tx}
 use Rattle.lf_coverage.proofs.StoreSolution.{found_type, looked_up, skeleton_open}
+use Rattle.lf_coverage.proofs.Parts.{some_same}
 
 module _ (Σ : Signature) (Ψ : ℕ → Option LfType) where
-  both_have : (es fs : List Equation) → TypesHaveSkeletons Σ Ψ es → TypesHaveSkeletons Σ Ψ fs → TypesHaveSkeletons Σ Ψ (followed_by es fs)
+  both_have : (es fs : List Equation) → TypesHaveSkeletons Σ Ψ es → TypesHaveSkeletons Σ Ψ fs → TypesHaveSkeletons Σ Ψ (followed es fs)
   both_have [] fs h k = k
   both_have (e ∷ es) fs (x, h) k = (x, both_have es fs h k)
 
@@ -122,9 +124,6 @@ module _ (Σ : Signature) (ok : IsSignature Σ) (W : List Block) (typed : AreTyp
 
 pub stores_have_skeletons : StoresHaveSkeletons
 stores_have_skeletons Σ ok W typed C = (
-  λ p tp tb K e. subst (λ L. StoreHasSkeletons Σ (meet_store C p L)) (same (sym tb.of_family ∙ e)) (meet_has Σ ok W typed C p tp tb),
+  λ p tp tb K e. subst (λ L. StoreHasSkeletons Σ (meet_store C p L)) (some_same (sym tb.of_family ∙ e)) (meet_has Σ ok W typed C p tp tb),
   λ below tc x X at J n h A sh K e. split_has Σ ok W typed below C.items tc.items x X at J n h A sh K e,
 )
-  where
-    same : {P Q : Kind} → Some P ≡ Some Q → P ≡ Q
-    same q = cc

@@ -44,6 +44,7 @@ use Rattle.lf_coverage.proofs.OpenTerms.{AllStand, FitsImage, fill_open, fill_op
 use Rattle.lf_coverage.proofs.ResultType.{result_atom, result_by_skeletons}
 use Rattle.lf_coverage.proofs.Transfer.{term_more}
 use Rattle.lf_coverage.proofs.Strip.{strip, out_of, into, stripped, term_stripped}
+use Rattle.lf_coverage.proofs.Parts.{none_some, some_same}
 
 -- the type of a variable, looked up
 pub looked_up : (G : List LfType) (i : ℕ) (A : LfType) → TypeAt G i A → type_in G i ≡ Some A
@@ -51,19 +52,13 @@ looked_up [] i A g = absurd g
 looked_up (X ∷ G) zero A e = ap Some (sym e)
 looked_up (X ∷ G) (suc i) A (C, g, e) = ap weaken_some (looked_up G i C g) ∙ ap Some (sym e)
 
-none_is : {A : LfType} → None ≡ Some A → ⊥
-none_is e = cc
-
-some_is : {A B : LfType} → Some A ≡ Some B → A ≡ B
-some_is e = cc
-
 weakened_is : (y : Option LfType) (A : LfType) → weaken_some y ≡ Some A → (C : LfType) × (y ≡ Some C) × (A ≡ weaken C)
-weakened_is None A e = absurd (none_is e)
-weakened_is (Some C) A e = (C, refl, some_is (sym e))
+weakened_is None A e = absurd (none_some e)
+weakened_is (Some C) A e = (C, refl, some_same (sym e))
 
 pub found_type : (G : List LfType) (i : ℕ) (A : LfType) → type_in G i ≡ Some A → TypeAt G i A
-found_type [] i A e = absurd (none_is e)
-found_type (X ∷ G) zero A e = some_is (sym e)
+found_type [] i A e = absurd (none_some e)
+found_type (X ∷ G) zero A e = some_same (sym e)
 found_type (X ∷ G) (suc i) A e = let (C, q, r) = weakened_is (type_in G i) A e in (C, found_type G i C q, r)
 
 pub skeleton_open : (k : ℕ) (A : LfType) → skeleton (open_type k A) ≡ skeleton A

@@ -4,18 +4,19 @@ use Rattle.std.specs.Prelude.{◌+◌, ◌≤◌, Bool, true, false, cond}
 use Rattle.lf.specs.Syntax.{constant, variable, metavariable, Term, Spine, lambda, root, nil, app, LfType, Kind, pi, atom, kind_pi, star}
 use Rattle.lf.specs.Typing.{Signature, HasType, SpineType, SpineFitsKind, instantiate_type, instantiate_kind}
 use Rattle.lf.specs.Variables.{binders, target, target_arguments, under, hide, nothing, everything, same_number}
+use Rattle.lf.proofs.Checker.{number_itself}
 use Rattle.lf_checks.specs.Clause.{constant_clause, outside}
 use Rattle.lf_checks.specs.Marks.{UsesPlaces, input_places}
 use Rattle.lf_checks.specs.Strict.{pattern_arguments, strict, strict_spine, strict_at}
 use Rattle.lf_checks.specs.Tests.{both, either}
 use Rattle.lf_checks.proofs.EtaTest.{both_l, both_r}
 use Rattle.lf_checks.proofs.StrictTypes.{either_cases}
+use Rattle.lf_checks.proofs.Reach.{number_equal}
 use Rattle.lf_cases.specs.Full.{occurrences, occurrences_spine, occurrences_at}
 use Rattle.lf_cases.specs.Pattern.{ground_in, head_pattern, of_constant}
 use Rattle.lf_coverage.specs.FullMatching.{PlacesHavePatterns}
 use Rattle.lf_coverage.specs.Stuck.{StrictIsPattern}
 use Rattle.lf_coverage.specs.TermMatching.{HasPatterns, HavePatterns, bound, hidden, over}
-use Rattle.lf_coverage.proofs.Abstracted.{number_same, same_self}
 use Rattle.lf_coverage.proofs.Choices.{decided, first_chosen, second_chosen}
 use Rattle.lf_coverage.proofs.InputsMatching.{none_outside, target_fits}
 use Rattle.lf_coverage.proofs.Matching.{ground_is_strict}
@@ -123,11 +124,11 @@ module _ (Σ : Signature) where
         let Here : Type 0 = pattern_arguments (bound n) [] S ≡ true in
         let In : Type 0 = HavePatterns (bound n) (hidden n everything) S in
         decided (hidden n everything j)
-        (λ p. first_chosen Here In (hidden n everything j) p (let (y, q, r) = hidden_is_over n everything j p in pattern_there (same_number j (over n y)) (pattern_arguments (bound n) [] S) (bound n j) (F j) (strict_spine (bound n) F (over n y) S) (ap (bound n) q ∙ not_bound n y) (f j) (s y (here_counts (same_number (over n y) j) (occurrences_spine (over n y) S) (ap (same_number (over n y)) q ∙ same_self (over n y))))))
+        (λ p. first_chosen Here In (hidden n everything j) p (let (y, q, r) = hidden_is_over n everything j p in pattern_there (same_number j (over n y)) (pattern_arguments (bound n) [] S) (bound n j) (F j) (strict_spine (bound n) F (over n y) S) (ap (bound n) q ∙ not_bound n y) (f j) (s y (here_counts (same_number (over n y) j) (occurrences_spine (over n y) S) (ap (same_number (over n y)) q ∙ number_itself (over n y))))))
         (λ p. second_chosen Here In (hidden n everything j) p (patterns_spine n F f G S X (atom a T) t (λ x. others_most (same_number (over n x) j) (occurrences_spine (over n x) S) (once x)) (λ x o. strict_inside (same_number j (over n x)) (pattern_arguments (bound n) [] S) (either (bound n j) (F j)) (strict_spine (bound n) F (over n x) S) (other j p x) (s x (λ z. o (others_zero (same_number (over n x) j) (occurrences_spine (over n x) S) z))))))
       where
         other : (j : ℕ) → hidden n everything j ≡ false → (x : ℕ) → same_number j (over n x) ≡ false
-        other j p x = decided (same_number j (over n x)) (λ q. absurd (true≢false (sym (hidden_over n everything x) ∙ ap (hidden n everything) (sym (number_same j (over n x) q)) ∙ p))) (λ q. q)
+        other j p x = decided (same_number j (over n x)) (λ q. absurd (true≢false (sym (hidden_over n everything x) ∙ ap (hidden n everything) (sym (number_equal j (over n x) q)) ∙ p))) (λ q. q)
 
     patterns_spine : (n : ℕ) (F : ℕ → Bool) → ((j : ℕ) → F j ≡ false) → (G : List LfType) (S : Spine) (A C : LfType) → SpineType Σ G S A C → ((x : ℕ) → occurrences_spine (over n x) S ≤ 1) → ((x : ℕ) → (occurrences_spine (over n x) S ≡ 0 → ⊥) → strict_spine (bound n) F (over n x) S ≡ true) → HavePatterns (bound n) (hidden n everything) S
     patterns_spine n F f G nil A C t once s = tt

@@ -1,7 +1,7 @@
 -- A context without the variables whose families are outside a self-contained set: over the first signature, what is typed in the extension by
 -- families of the set is typed there.
 use Rattle.std.proofs.Common.{◌≡◌, ℕ, zero, suc, List, [], ◌∷◌, refl, sym, ap, ◌∙◌, subst, true≢false}
-use Rattle.std.specs.Prelude.{Bool, true, false, cond, Some}
+use Rattle.std.specs.Prelude.{Bool, true, false, cond}
 use Rattle.lf.specs.Syntax.{Term, Spine, nil, app, LfType, Kind, pi, atom, kind_pi, star, skeleton, weaken, rename, rename_spine, rename_type, rename_kind, lift_renaming}
 use Rattle.lf.specs.Substitution.{keep, single, substitute, substitute_type, substitute_kind, reduce}
 use Rattle.lf.specs.Typing.{Signature, TypeAt, HasType, SpineFitsKind, IsType, IsContext, IsSignature, IsTypedRenaming, instantiate_kind}
@@ -19,6 +19,7 @@ use Rattle.lf.proofs.Target.{target_renamed}
 use Rattle.lf.proofs.TypeLaws.{renamings_compose_type, rename_weakened, rename_single_kind, skeleton_renamed, substitution_as_renaming, substitution_as_renaming_type, substitute_identity_type}
 use Rattle.lf.proofs.Weakening.{renaming_keeps_typing}
 use Rattle.lf_cases.specs.Case.{past_place}
+use Rattle.lf_coverage.proofs.Parts.{some_same}
 use mathlib.Core.Path.{fun_ext}
 
 -- the variables whose families are in the set
@@ -84,7 +85,7 @@ out_typed S (X ∷ G) i A g u = by (S (target X)) refl i A g u (λ k B h v. out_
     by false q zero A e u h = absurd (true≢false (sym u ∙ q))
     by false q (suc i) A (C, g, e) u h = subst (TypeAt (strip S G) (out_of S G i)) (sym (ap (rename_type (past_place (out_of S G))) e ∙ renamings_compose_type (past_place (out_of S G)) suc C)) (h i C g u)
 
-under_binder : (U : ℕ → Bool) (G D : List LfType) (ρ : ℕ → ℕ) (B : LfType) → IsTypedRenamingOn U G D ρ → IsTypedRenamingOn (under U) (B ∷ G) (rename_type ρ B ∷ D) (lift_renaming ρ)
+pub under_binder : (U : ℕ → Bool) (G D : List LfType) (ρ : ℕ → ℕ) (B : LfType) → IsTypedRenamingOn U G D ρ → IsTypedRenamingOn (under U) (B ∷ G) (rename_type ρ B ∷ D) (lift_renaming ρ)
 under_binder U G D ρ B h zero A e u = ap (rename_type (lift_renaming ρ)) e ∙ rename_weakened ρ B
 under_binder U G D ρ B h (suc i) A (C, g, e) u = (rename_type ρ C, h i C g u, ap (rename_type (lift_renaming ρ)) e ∙ rename_weakened ρ C)
 
@@ -135,9 +136,6 @@ module _ (Σ Σ' : Signature) (W : List Block) (S : ℕ → Bool) (x : Extends S
   places_conserved G nil star g k s = tt
   places_conserved G (app M T) (kind_pi A K) g (a, k) (m, s) = (conserve Σ Σ' W S x c G M A g a m, places_conserved G T (instantiate_kind A M K) g (kind_substituted S A M K k) s)
   places_conserved G (app M T) star g k s = absurd s
-
-  some_same : {K L : Kind} → Some K ≡ Some L → K ≡ L
-  some_same e = cc
 
   type_conserved : (G : List LfType) (A : LfType) → TypesIn S G → FamiliesIn S A → IsType Σ' G A → IsType Σ G A
   type_conserved G (pi A B) g (a, b) (t, u) = (type_conserved G A g a t, type_conserved (A ∷ G) B (push G A a g) b u)

@@ -20,9 +20,9 @@ use Rattle.lf_coverage.specs.Heads.{IsTypedCase}
 use Rattle.lf_coverage.specs.Leaf.{IsTypedPattern}
 use Rattle.lf_coverage.specs.MeetStore.{IsConstants, IsOpen}
 use Rattle.lf_coverage.specs.Stuck.{AreHeadsBeside, ComesAsInstance, FirstSplitsReach, HeadsAreOfStrategy, InputRunIsNeverStuck, InputRunIsStrategys, InputRunProceeds, IsAnswered, IsStrategyCase, IsStrategyHead, Proceeds, SharesNone}
-use Rattle.lf_coverage.specs.SubordinateRuns.{AnswersEachHead, ComesBy, IsAnsweredSplit, comes_by_split, comes_itself}
+use Rattle.lf_coverage.specs.SubordinateRuns.{ComesBy, comes_by_split, comes_itself}
 use Rattle.lf_coverage.specs.TypedCase.{IsTypedBeside}
-use Rattle.lf_coverage.specs.UnifiedSplit.{HeadIsSolved}
+use Rattle.lf_coverage.specs.UnifiedSplit.{HeadIsSolved, IsAnsweredSplit, AnswersEachHead}
 use Rattle.lf_coverage.proofs.HeadSplit.{head_of_case, places_put_in}
 use Rattle.lf_coverage.proofs.InstancesCompose.{instances_compose, reached_is_instance}
 use Rattle.lf_coverage.proofs.Leaves.{head_is_typed}

@@ -23,6 +23,7 @@ use Rattle.lf_coverage.specs.Subordinate.{QuantifiersAreBelow, AllQuantifiersAre
 use Rattle.lf_coverage.specs.SubordinateRuns.{OccurringIsBelow, RaisedQuantifiesBelow}
 use Rattle.lf_coverage.proofs.Strip.{type_uses}
 use Rattle.lf_coverage.proofs.Subordinate.{families_below, below_renamed, below_at}
+use Rattle.lf_coverage.proofs.Choices.{either_second}
 
 -- A variable that occurs in a type is used.
 used_type : (U : ℕ → Bool) (x : ℕ) (A : LfType) → UsesType U A → occurs_type x A ≡ true → U x ≡ true
@@ -34,16 +35,12 @@ used_type U x (pi A B) (u, v) o = by (either_cases (occurs_type x A) (occurs_typ
 used_type U x (atom a S) u o = used U x (root (constant zero) S) u o
 
 -- It occurs in the renamed type, renamed.
-either_right : (a b : Bool) → b ≡ true → either a b ≡ true
-either_right true b e = refl
-either_right false b e = e
-
 one_of : {a b c d : Bool} → (a ≡ true → c ≡ true) → (b ≡ true → d ≡ true) → either a b ≡ true → either c d ≡ true
 one_of {a = a} {b = b} {c = c} {d = d} f g e = by (either_cases a b e)
   where
     by : (a ≡ true) ⊎ (b ≡ true) → either c d ≡ true
     by (inl p) = either_left d (f p)
-    by (inr p) = either_right c d (g p)
+    by (inr p) = either_second c d (g p)
 
 mutual
   occurs_renamed : (ρ : ℕ → ℕ) (x : ℕ) (M : Term) → occurs x M ≡ true → occurs (ρ x) (rename ρ M) ≡ true

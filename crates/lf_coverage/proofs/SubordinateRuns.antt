@@ -7,7 +7,6 @@ use Rattle.lf.specs.Typing.{Signature, IsSignature}
 use Rattle.lf.specs.Subordination.{Block, Member, AreTypedBlocks, IsBelowTest, SelfContained}
 use Rattle.lf_unification.specs.Dependency.{free_context}
 use Rattle.lf_unification.specs.OpenTyping.{skeletons_of}
-use Rattle.lf_checks.specs.Below.{IsSubordination}
 use Rattle.lf_cases.specs.Case.{Item, Case, items_context, input_goal}
 use Rattle.lf_cases.specs.OutputGoal.{free_variables}
 use Rattle.lf_cases.specs.Reached.{SplitHead, arguments_count, split_items}
@@ -17,8 +16,8 @@ use Rattle.lf_coverage.specs.HeadOrder.{Offer}
 use Rattle.lf_coverage.specs.Heads.{IsTypedCase}
 use Rattle.lf_coverage.specs.SplitStore.{AllFamiliesIn, split_store}
 use Rattle.lf_coverage.specs.Subordinate.{AllQuantifiersAreBelow}
-use Rattle.lf_coverage.specs.SubordinateRuns.{IsAnsweredSplit, AnswersEachHead, ComesBy, comes_itself, comes_by_split, SolvedQuantifiesBelow, AnsweredSplitIsSolved, AnsweredSplitIsAnswer, RunQuantifiesBelow, InputRunQuantifiesBelow, AnsweredRunCovers, AnsweredRunCoversInputs}
-use Rattle.lf_coverage.specs.UnifiedSplit.{HeadIsSolved, IsSolvedSplit, SolvesEachHead}
+use Rattle.lf_coverage.specs.SubordinateRuns.{ComesBy, comes_itself, comes_by_split, SolvedQuantifiesBelow, AnsweredSplitIsSolved, AnsweredSplitIsAnswer, RunQuantifiesBelow, InputRunQuantifiesBelow, AnsweredRunCovers, AnsweredRunCoversInputs}
+use Rattle.lf_coverage.specs.UnifiedSplit.{HeadIsSolved, IsAnsweredSplit, AnswersEachHead, IsSolvedSplit, SolvesEachHead}
 use Rattle.lf_coverage.proofs.CasesOf.{is_unified, cases_of, solved_run_covers, solved_run_covers_inputs}
 use Rattle.lf_coverage.proofs.Everywhere.{of_families, free_has, metavariables_have, run_has}
 use Rattle.lf_coverage.proofs.HeadSplit.{answer_of, head_of_case, split_cases_typed}
@@ -46,9 +45,6 @@ solved_quantifies_below Σ below before after h s C k =
     free_items_below below (free_context (skeletons_of after.metavariables) s.well_formed.order) (free_has R (λ a. Unit {0}) Σ (skeletons_of after.metavariables) after.metavariables _ (run_has R (λ a. Unit {0}) s.run (λ m A e. as_everywhere below A (h m A e))) s.well_formed.order s.well_formed.is_order)
 
 module _ (Σ : Signature) (ok : IsSignature Σ) (W : List Block) (typed : AreTypedBlocks Σ W) (below : ℕ → ℕ → Bool) (test : (f : ℕ) → IsBelowTest Σ W (below f) f) where
-  sub : IsSubordination Σ W below
-  sub = below_is_subordination Σ ok W typed below test
-
   module _ (C : Case) (tc : IsTypedCase Σ W C) (q : AllQuantifiersAreBelow below (items_context C.items)) (x : ℕ) (Cs : List Case) (sp : IsAnsweredSplit Σ W below C x Cs) where
     -- each head is answered, so there is no new block variable
     no_block : (J : List Item) (n : ℕ) (h : Head) (A : LfType) → SplitHead Σ W C.items sp.type J n h A → HasNoBlockVariable J
@@ -63,15 +59,9 @@ module _ (Σ : Signature) (ok : IsSignature Σ) (W : List Block) (typed : AreTyp
 
     is_solved : IsSolvedSplit Σ W below C x Cs
     is_solved = record {
-      type = sp.type;
-      at = sp.at;
-      is_free = sp.is_free;
-      takes_below = arguments_below below Σ W sub sp.type (below_at below (items_context C.items) q x sp.type sp.at);
-      offers = sp.offers;
-      are_offers = sp.are_offers;
-      in_order = sp.in_order;
-      arguments_below = λ J n h A sh. arguments_below below Σ W sub A (heads_quantify_below Σ W below test C.items q x sp.type sp.at J n h A sh (no_block J n h A sh));
-      listed = sp.listed;
+      answered = sp;
+      takes_below = arguments_below below Σ W (below_is_subordination Σ ok W typed below test) sp.type (below_at below (items_context C.items) q x sp.type sp.at);
+      arguments_below = λ J n h A sh. arguments_below below Σ W (below_is_subordination Σ ok W typed below test) A (heads_quantify_below Σ W below test C.items q x sp.type sp.at J n h A sh (no_block J n h A sh));
     }
 
     cases_below : (D : Case) → Member D Cs → AllQuantifiersAreBelow below (items_context D.items)
@@ -106,7 +96,7 @@ pub answered_split_is_solved : AnsweredSplitIsSolved
 answered_split_is_solved Σ ok W typed below test C tc q x Cs sp = (is_solved Σ ok W typed below test C tc q x Cs sp, cases_below Σ ok W typed below test C tc q x Cs sp)
 
 pub answered_split_is_answer : AnsweredSplitIsAnswer
-answered_split_is_answer Σ ok W typed below test C tc q x Cs sp = cases_of Σ ok W typed below C tc x Cs (is_solved Σ ok W typed below test C tc q x Cs sp) (sub Σ ok W typed below test)
+answered_split_is_answer Σ ok W typed below test C tc q x Cs sp = cases_of Σ ok W typed below C tc x Cs (is_solved Σ ok W typed below test C tc q x Cs sp) (below_is_subordination Σ ok W typed below test)
 
 pub run_quantifies_below : RunQuantifiesBelow
 run_quantifies_below Σ ok W typed below test goal t q D r = comes_kept Σ ok W typed below test goal D (t, q) r
@@ -115,7 +105,7 @@ pub input_run_quantifies_below : InputRunQuantifiesBelow
 input_run_quantifies_below Σ ok W typed below test a m K e c D r = comes_kept Σ ok W typed below test (input_goal a m K) D ((input_goal_is_typed_case Σ ok W typed a m K e c).0, inputs_quantify_below Σ W below test a m K e) r
 
 pub answered_run_covers : AnsweredRunCovers
-answered_run_covers Σ ok W typed below test ps goal n t q fam r = solved_run_covers Σ ok W typed below (sub Σ ok W typed below test) ps goal n t fam (other_run {Kept = Kept Σ ok W typed below test} (λ D k l. l) (split_kept Σ ok W typed below test) (t, q) r)
+answered_run_covers Σ ok W typed below test ps goal n t q fam r = solved_run_covers Σ ok W typed below (below_is_subordination Σ ok W typed below test) ps goal n t fam (other_run {Kept = Kept Σ ok W typed below test} (λ D k l. l) (split_kept Σ ok W typed below test) (t, q) r)
 
 pub answered_run_covers_inputs : AnsweredRunCoversInputs
-answered_run_covers_inputs Σ ok W typed below test ps a m K e c r = solved_run_covers_inputs Σ ok W typed below (sub Σ ok W typed below test) ps a m K e c (other_run {Kept = Kept Σ ok W typed below test} (λ D k l. l) (split_kept Σ ok W typed below test) ((input_goal_is_typed_case Σ ok W typed a m K e c).0, inputs_quantify_below Σ W below test a m K e) r)
+answered_run_covers_inputs Σ ok W typed below test ps a m K e c r = solved_run_covers_inputs Σ ok W typed below (below_is_subordination Σ ok W typed below test) ps a m K e c (other_run {Kept = Kept Σ ok W typed below test} (λ D k l. l) (split_kept Σ ok W typed below test) ((input_goal_is_typed_case Σ ok W typed a m K e c).0, inputs_quantify_below Σ W below test a m K e) r)

@@ -1,6 +1,6 @@
 -- A term of a clause and one of a case that share an instance: if no variable of the case is a candidate, the one is made the other.
 use Rattle.std.proofs.Common.{◌≡◌, ℕ, zero, suc, List, [], ◌∷◌, length, refl, sym, ap, ap₂, ◌∙◌, subst, arith}
-use Rattle.std.specs.Prelude.{◌+◌, ◌≤◌, ◌++◌, Bool, true, false, not, cond, Some}
+use Rattle.std.specs.Prelude.{◌+◌, ◌≤◌, ◌++◌, Bool, true, false, not, cond}
 use Rattle.lf.specs.Syntax.{Head, constant, variable, metavariable, Term, Spine, lambda, root, nil, app, Skeleton, base, arrow, rename}
 use Rattle.lf.specs.Substitution.{Image, keep, put, rename_image, apply_image, substitute, substitute_spine, reduce}
 use Rattle.lf.specs.AtOnce.{lift_by}
@@ -9,23 +9,28 @@ use Rattle.lf.specs.Skeletons.{constant_skeletons}
 use Rattle.lf.specs.Typing.{Signature}
 use Rattle.lf.specs.Variables.{Uses, same_number}
 use Rattle.lf.proofs.SkeletonTyping.{renaming_keeps_skeletons}
+use Rattle.lf.proofs.Checker.{number_itself}
 use Rattle.lf_unification.proofs.ToSkeletons.{SkeletonAt-once}
 use Rattle.lf_checks.specs.Tests.{either}
 use Rattle.lf_checks.specs.Strict.{lower, pattern_arguments}
+use Rattle.lf_checks.proofs.Reach.{number_equal}
+use Rattle.lf_checks.proofs.Determined.{app_first, app_rest}
 use Rattle.lf_cases.specs.Full.{occurrences, occurrences_spine}
 use Rattle.lf_cases.specs.Candidates.{candidates, candidates_spine, counted, is_rigid}
 use Rattle.lf_coverage.specs.TermMatching.{HasPatterns, HavePatterns, TakesBound, TakeBound, heads_argument, bound, hidden, over, Stay, TakesBack, GivesSkeletons, HasMatch, HaveMatch, TermsMatch, ArgumentsMatch}
-use Rattle.lf_coverage.proofs.Abstracted.{abstracted, abstracted_uses, abstracted_applied, skeleton_back, same_self, number_same}
-use Rattle.lf_coverage.proofs.Choices.{then_first, then_second, none_counted, chosen, not_chosen, decided}
-use Rattle.lf_coverage.proofs.UnderBound.{down, moved_down, hidden_is_over, lower_over, lifted_keeps, lifted_value, stay_lifted, back_lifted, over_at, bound_at, pattern_here, patterns_inside, bound_here, bound_inside, root_spine, root_head, variable_same, takes_back, kept_outside, head_of_constant, stays_root}
+use Rattle.lf_coverage.proofs.Abstracted.{abstracted, abstracted_uses, abstracted_applied, skeleton_back}
+use Rattle.lf_coverage.proofs.Choices.{then_first, then_second, chosen, not_chosen, decided}
+use Rattle.lf_coverage.specs.Matching.{without}
+use Rattle.lf_coverage.proofs.UnderBound.{moved_down, hidden_is_over, lifted_keeps, lifted_value, stay_lifted, back_lifted, over_at, bound_at, pattern_here, patterns_inside, bound_here, bound_inside, root_spine, root_head, variable_same, takes_back, kept_outside, head_of_constant, stays_root, no_candidate}
 use Rattle.lf_coverage.proofs.Occurring.{other_part, at_most_first, at_most_second, sum_first, sum_second, stays}
+use Rattle.lf_coverage.proofs.Parts.{some_same, lambda_same}
 
 -- θ with another value for y
 abbrev with_value : ℕ → Skeleton → Term → (ℕ → Image) → ℕ → Image
 with_value y s V θ x = cond (same_number x y) (put s V) (θ x)
 
 value_here : (y : ℕ) (s : Skeleton) (V : Term) (θ : ℕ → Image) → with_value y s V θ y ≡ put s V
-value_here y s V θ = ap (λ b. cond b (put s V) (θ y)) (same_self y)
+value_here y s V θ = ap (λ b. cond b (put s V) (θ y)) (number_itself y)
 
 module _ (Σ : Signature) (Δ Φ : List Skeleton) (F P : ℕ → Bool) where
   -- a variable with its arguments takes any term that has of the bound variables only these
@@ -33,7 +38,7 @@ module _ (Σ : Signature) (Δ Φ : List Skeleton) (F P : ℕ → Bool) where
   flexible D θ M y T c py m (s, g, ts) e u =
       let n : ℕ = length D in
       let W : Term = abstracted T M in
-      let V : Term = rename (down n) W in
+      let V : Term = rename (without n) W in
       let wv : rename (over n) V ≡ W = moved_down n W (abstracted_uses (bound n) (λ i. not (bound n i)) [] T M e u) in
       let υ : ℕ → Image = with_value y s V θ in
       let (k, r) = abstracted_applied (constant_skeletons Σ) (bound n) (D ++ Δ) (D ++ Φ) (lift_by n υ) [] T s (base c) M (λ i a b q. bound_at D Δ Φ i a b q) (λ i b. lifted_keeps n υ i b) e ts m in
@@ -49,7 +54,7 @@ module _ (Σ : Signature) (Δ Φ : List Skeleton) (F P : ℕ → Bool) where
       typed s V v g w i t h = at (same_number i y) refl
         where
           at : (b : Bool) → same_number i y ≡ b → ImageSkeleton (constant_skeletons Σ) Δ (cond (same_number i y) (put s V) (θ i)) t
-          at true q = subst (λ b. ImageSkeleton (constant_skeletons Σ) Δ (cond b (put s V) (θ i)) t) (sym q) (SkeletonAt-once Φ y s t g (subst (λ j. SkeletonAt Φ j t) (number_same i y q) h), v)
+          at true q = subst (λ b. ImageSkeleton (constant_skeletons Σ) Δ (cond b (put s V) (θ i)) t) (sym q) (SkeletonAt-once Φ y s t g (subst (λ j. SkeletonAt Φ j t) (number_equal i y q) h), v)
           at false q = subst (λ b. ImageSkeleton (constant_skeletons Σ) Δ (cond b (put s V) (θ i)) t) (sym q) (w i t h)
 
       kept : (s : Skeleton) (V : Term) (x : ℕ) → (P x ≡ true → occurrences (over (length D) x) (root (variable (over (length D) y)) T) ≡ 0) → with_value y s V θ x ≡ θ x
@@ -60,7 +65,7 @@ module _ (Σ : Signature) (Δ Φ : List Skeleton) (F P : ℕ → Bool) where
           one false k q e = absurd cc
 
           at : (b : Bool) → same_number x y ≡ b → cond (same_number x y) (put s V) (θ x) ≡ θ x
-          at true q = absurd (let xy : x ≡ y = number_same x y q in one (same_number (over (length D) x) (over (length D) y)) (occurrences_spine (over (length D) x) T) (subst (λ z. same_number (over (length D) z) (over (length D) y) ≡ true) (sym xy) (same_self (over (length D) y))) (h (subst (λ z. P z ≡ true) (sym xy) py)))
+          at true q = absurd (let xy : x ≡ y = number_equal x y q in one (same_number (over (length D) x) (over (length D) y)) (occurrences_spine (over (length D) x) T) (subst (λ z. same_number (over (length D) z) (over (length D) y) ≡ true) (sym xy) (number_itself (over (length D) y))) (h (subst (λ z. P z ≡ true) (sym xy) py)))
           at false q = ap (λ b. cond b (put s V) (θ x)) q
 
   here : (D : List Skeleton) (θ : ℕ → Image) (M : Term) (j : ℕ) (T : Spine) (c : ℕ) → hidden (length D) P j ≡ true → TermSkeleton (constant_skeletons Σ) (D ++ Δ) M (base c) → TermSkeleton (constant_skeletons Σ) (D ++ Φ) (root (variable j) T) (base c) → pattern_arguments (bound (length D)) [] T ≡ true → Uses (λ i. either (not (bound (length D) i)) (heads_argument i T)) M → HasMatch Σ Δ Φ P (length D) θ M (root (variable j) T)
@@ -102,20 +107,15 @@ module _ (Σ : Signature) (Δ Φ : List Skeleton) (F P : ℕ → Bool) where
   match_constant D σ τ θ (metavariable d) S l T c fs ps b w (s, g, ms) n hm k e q = absurd cc
   match_constant D σ τ θ (constant d) S l T c fs ps b w (s, g, ms) (s', g', ns) hm k e q =
       let (dl, es) = head_of_constant d l (substitute_spine reduce (lift_by (length D) σ) S) (substitute_spine reduce (lift_by (length D) τ) T) e in
-      let ss : s' ≡ s = once (sym g' ∙ ap (constant_skeletons Σ).constant_skeleton (sym dl) ∙ g) in
+      let ss : s' ≡ s = some_same (sym g' ∙ ap (constant_skeletons Σ).constant_skeleton (sym dl) ∙ g) in
       subst (λ i. HasMatch Σ Δ Φ P (length D) θ (root (constant d) S) (root (constant i) T)) dl (of_constants (length D) θ d S T (k s ms (subst (λ z. SpineSkeleton (constant_skeletons Σ) (D ++ Φ) T z (base c)) ss ns) hm es q))
-    where
-      once : {x y : Skeleton} → Some x ≡ Some y → x ≡ y
-      once e = cc
   match_constant D σ τ θ (variable i) S l T c fs ps b w (s, g, ms) n hm k e q = by (hidden (length D) F i) refl
     where
       apart : {x : ℕ} {X Y : Spine} → root (variable x) X ≡ root (constant l) Y → ⊥
       apart e = cc
 
       by : (f : Bool) → hidden (length D) F i ≡ f → HasMatch Σ Δ Φ P (length D) θ (root (variable i) S) (root (constant l) T)
-      by true f =
-          let (y, r, fy) = hidden_is_over (length D) F i f in
-          absurd (none_counted (pattern_arguments (bound (length D)) [] S) (lower (length D) i) y (pattern_here (bound (length D)) (hidden (length D) F) i S f hm) (ap (lower (length D)) r ∙ lower_over (length D) y) (chosen (hidden (length D) F i) (counted (pattern_arguments (bound (length D)) [] S) (lower (length D) i)) (candidates_spine (bound (length D)) (hidden (length D) F) (hidden (length D) P) (length D) S T) f q))
+      by true f = absurd (no_candidate (length D) F i S (candidates_spine (bound (length D)) (hidden (length D) F) (hidden (length D) P) (length D) S T) hm q f)
       by false f = let (x, r) = stay_lifted D Δ F σ fs i s g f in absurd (apart (sym (stays_root (lift_by (length D) σ i) x (substitute_spine reduce (lift_by (length D) σ) S) r) ∙ e))
 
   -- it has a variable that stays
@@ -126,7 +126,7 @@ module _ (Σ : Signature) (Δ Φ : List Skeleton) (F P : ℕ → Bool) where
       apart : {x : ℕ} {X Y : Spine} → root (constant d) X ≡ root (variable x) Y → ⊥
       apart e = cc
   match_variable D σ τ θ (variable i) S j T c fs ps b w (s, g, ms) (s', g', ns) hm k p e q =
-      decided (hidden (length D) F i) (λ f. absurd (candidate f))
+      decided (hidden (length D) F i) (λ f. absurd (no_candidate (length D) F i S (candidates_spine (bound (length D)) (hidden (length D) F) (hidden (length D) P) (length D) S T) hm looked f))
       (λ f.
       let (x, rx) = stay_lifted D Δ F σ fs i s g f in
       let (z, rz) = stay_lifted D Φ P τ ps j s' g' p in
@@ -145,20 +145,12 @@ module _ (Σ : Signature) (Δ Φ : List Skeleton) (F P : ℕ → Bool) where
       looked : cond (hidden (length D) F i) (counted (pattern_arguments (bound (length D)) [] S) (lower (length D) i)) (candidates_spine (bound (length D)) (hidden (length D) F) (hidden (length D) P) (length D) S T) ≡ []
       looked = chosen (is_rigid (hidden (length D) P) (variable j)) (cond (hidden (length D) F i) (counted (pattern_arguments (bound (length D)) [] S) (lower (length D) i)) (candidates_spine (bound (length D)) (hidden (length D) F) (hidden (length D) P) (length D) S T)) [] rigid q
 
-      candidate : hidden (length D) F i ≡ true → ⊥
-      candidate f =
-          let (y, r, fy) = hidden_is_over (length D) F i f in
-          none_counted (pattern_arguments (bound (length D)) [] S) (lower (length D) i) y (pattern_here (bound (length D)) (hidden (length D) F) i S f hm) (ap (lower (length D)) r ∙ lower_over (length D) y) (chosen (hidden (length D) F i) (counted (pattern_arguments (bound (length D)) [] S) (lower (length D) i)) (candidates_spine (bound (length D)) (hidden (length D) F) (hidden (length D) P) (length D) S T) f looked)
-
   mutual
     pub match_terms : (D : List Skeleton) (σ τ θ : ℕ → Image) (M N : Term) (t : Skeleton) → Stay Δ F σ → Stay Φ P τ → TakesBack F P σ τ θ → GivesSkeletons Σ Δ Φ P θ → TermSkeleton (constant_skeletons Σ) (D ++ Δ) M t → TermSkeleton (constant_skeletons Σ) (D ++ Φ) N t → HasPatterns (bound (length D)) (hidden (length D) F) M → HasPatterns (bound (length D)) (hidden (length D) P) N → ((x : ℕ) → P x ≡ true → occurrences (over (length D) x) N ≤ 1) → TakesBound (bound (length D)) (hidden (length D) P) M N → substitute reduce (lift_by (length D) σ) M ≡ substitute reduce (lift_by (length D) τ) N → candidates (bound (length D)) (hidden (length D) F) (hidden (length D) P) (length D) M N ≡ [] → HasMatch Σ Δ Φ P (length D) θ M N
     match_terms D σ τ θ (lambda M) (lambda N) (base c) fs ps b w m n hm hn o k e q = absurd m
     match_terms D σ τ θ (lambda M) (lambda N) (arrow a d) fs ps b w m n hm hn o k e q =
-        let r : HasMatch Σ Δ Φ P (suc (length D)) θ M N = match_terms (a ∷ D) σ τ θ M N d fs ps b w m n hm hn o k (body e) q in
+        let r : HasMatch Σ Δ Φ P (suc (length D)) θ M N = match_terms (a ∷ D) σ τ θ M N d fs ps b w m n hm hn o k (lambda_same e) q in
         record { values = r.values; skeletons = r.skeletons; others = r.others; same = ap lambda r.same }
-      where
-        body : {X Y : Term} → lambda X ≡ lambda Y → X ≡ Y
-        body e = cc
     match_terms D σ τ θ (lambda M) (root h T) (base c) fs ps b w m n hm hn o k e q = absurd m
     match_terms D σ τ θ (lambda M) (root h T) (arrow a d) fs ps b w m n hm hn o k e q = absurd n
     match_terms D σ τ θ (root h S) N (arrow a d) fs ps b w m n hm hn o k e q = absurd m
@@ -177,21 +169,15 @@ module _ (Σ : Signature) (Δ Φ : List Skeleton) (F P : ℕ → Bool) where
     match_spines D σ τ θ (app M S) (app N T) (arrow a d) u fs ps b w (m, ms) (n, ns) (hm, hms) (hn, hns) o (k, ks) e q =
         let first : List ℕ = candidates (bound (length D)) (hidden (length D) F) (hidden (length D) P) (length D) M N in
         let rest : List ℕ = candidates_spine (bound (length D)) (hidden (length D) F) (hidden (length D) P) (length D) S T in
-        let r : HasMatch Σ Δ Φ P (length D) θ M N = match_terms D σ τ θ M N a fs ps b w m n hm hn (λ x p. at_most_first (occurrences (over (length D) x) N) (occurrences_spine (over (length D) x) T) (o x p)) k (head_same e) (then_first first rest q) in
+        let r : HasMatch Σ Δ Φ P (length D) θ M N = match_terms D σ τ θ M N a fs ps b w m n hm hn (λ x p. at_most_first (occurrences (over (length D) x) N) (occurrences_spine (over (length D) x) T) (o x p)) k (app_first e) (then_first first rest q) in
         let b' : TakesBack F P σ τ r.values = takes_back F P σ τ θ r.values (kept_outside P θ r.values (λ x. occurrences (over (length D) x) N ≡ 0) r.others) b in
-        let v : HaveMatch Σ Δ Φ P (length D) r.values S T = match_spines D σ τ r.values S T d u fs ps b' (gives_still θ r.values (kept_outside P θ r.values (λ x. occurrences (over (length D) x) N ≡ 0) r.others) w) ms ns hms hns (λ x p. at_most_second (occurrences (over (length D) x) N) (occurrences_spine (over (length D) x) T) (o x p)) ks (rest_same e) (then_second first rest q) in
+        let v : HaveMatch Σ Δ Φ P (length D) r.values S T = match_spines D σ τ r.values S T d u fs ps b' (gives_still θ r.values (kept_outside P θ r.values (λ x. occurrences (over (length D) x) N ≡ 0) r.others) w) ms ns hms hns (λ x p. at_most_second (occurrences (over (length D) x) N) (occurrences_spine (over (length D) x) T) (o x p)) ks (app_rest e) (then_second first rest q) in
         record {
           values = v.values;
           skeletons = λ z. v.skeletons (r.skeletons z);
           others = λ x h. v.others x (λ p. sum_second (occurrences (over (length D) x) N) (occurrences_spine (over (length D) x) T) (h p)) ∙ r.others x (λ p. sum_first (occurrences (over (length D) x) N) (occurrences_spine (over (length D) x) T) (h p));
           same = ap₂ app (stays P (length D) r.values v.values N (λ x g. v.others x (λ p. other_part (occurrences (over (length D) x) N) (occurrences_spine (over (length D) x) T) (o x p) (g p))) ∙ r.same) v.same;
         }
-      where
-        head_same : {X Y : Term} {A B : Spine} → app X A ≡ app Y B → X ≡ Y
-        head_same e = cc
-
-        rest_same : {X Y : Term} {A B : Spine} → app X A ≡ app Y B → A ≡ B
-        rest_same e = cc
 
 pub terms_match : TermsMatch
 terms_match Σ D Δ Φ F P σ τ θ M N t fs ps b w m n hm hn o k e q = match_terms Σ Δ Φ F P D σ τ θ M N t fs ps b w m n hm hn o k e q

@@ -24,7 +24,8 @@ use Rattle.lf_cases.specs.Missing.{put_in}
 use Rattle.lf_cases.specs.Reached.{arguments_count, head_items}
 use Rattle.lf_cases.proofs.OutputItems.{lifted, length_instance}
 use Rattle.lf_coverage.specs.Heads.{HaveSkeletons}
-use Rattle.lf_coverage.proofs.HeadItems.{count_substituted}
+use Rattle.lf_coverage.proofs.HeadItems.{count_substituted, count_renamed}
+use Rattle.lf_coverage.proofs.Parts.{suc_same}
 use mathlib.Core.Path.{fun_ext}
 
 -- Substitutions that are the same on a context do the same to what is typed in it by skeletons.
@@ -54,6 +55,10 @@ module _ (κ : HeadSkeletons) where
 pub lift_instance : (L : List LfType) (σ ρ : ℕ → Image) → lift_over (instance L σ) ρ ≡ lift_over L ρ
 lift_instance [] σ ρ = refl
 lift_instance (A ∷ L) σ ρ = ap lift (lift_instance L σ ρ)
+
+-- what is put in under a local context that has had something put in
+pub lifted_instance : (Σ : Signature) (J G L : List LfType) (σ ρ : ℕ → Image) → SubstitutionBySkeletons (constant_skeletons Σ) (context_skeletons J) (context_skeletons G) ρ → SubstitutionBySkeletons (constant_skeletons Σ) (context_skeletons (onto (instance L σ) J)) (context_skeletons (onto (instance (instance L σ) ρ) G)) (lift_over L ρ)
+lifted_instance Σ J G L σ ρ f = subst (SubstitutionBySkeletons (constant_skeletons Σ) (context_skeletons (onto (instance L σ) J)) (context_skeletons (onto (instance (instance L σ) ρ) G))) (lift_instance L σ ρ) (lifted Σ (instance L σ) J G ρ f)
 
 pub after_over : (L : List LfType) (σ ρ : ℕ → Image) → after (lift_over L ρ) (lift_over L σ) ≡ lift_over L (after ρ σ)
 after_over [] σ ρ = refl
@@ -152,13 +157,6 @@ behind_head ks D (suc n) (pi A B) I e i t g =
   where
     next : (i n : ℕ) → suc i + n ≡ i + suc n
     next i n = omega arith
-
-    suc_same : suc (arguments_count B) ≡ suc n → arguments_count B ≡ n
-    suc_same e = omega arith
-
-    count_renamed : (ρ : ℕ → ℕ) (A : LfType) → arguments_count (rename_type ρ A) ≡ arguments_count A
-    count_renamed ρ (pi A B) = ap suc (count_renamed (lift_renaming ρ) B)
-    count_renamed ρ (atom a S) = refl
 
 -- What has a skeleton has it in each extension.
 module _ (S : ℕ → Bool) (Σ Σ' : Signature) (x : Rattle.lf.specs.Extension.Extends S Σ Σ') where

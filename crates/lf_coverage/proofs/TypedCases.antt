@@ -22,12 +22,10 @@ use Rattle.lf_coverage.proofs.SolvedMeets.{solved_meets}
 use Rattle.lf_coverage.proofs.SolvedSplit.{solved_splits}
 use Rattle.lf_coverage.proofs.SplitReady.{split_items_typed, split_ready}
 use Rattle.lf_coverage.proofs.StayTyped.{stays_typed}
+use Rattle.lf_coverage.proofs.Parts.{some_same}
 
 same_kind : {y : Option Kind} {K L : Kind} → y ≡ Some K → y ≡ Some L → K ≡ L
-same_kind e f = by (sym e ∙ f)
-  where
-    by : {K L : Kind} → Some K ≡ Some L → K ≡ L
-    by q = cc
+same_kind e f = some_same (sym e ∙ f)
 
 pub meet_store_is_ready : MeetStoreIsReady
 meet_store_is_ready Σ ok W typed C p tp t K e = subst (λ L. IsWellFormed Σ (meet_store C p L)) (same_kind t.of_family e) (meet_ready Σ ok W typed C p tp t)

@@ -15,8 +15,9 @@ use Rattle.lf.proofs.SkeletonTyping.{renaming_keeps_skeletons, renaming_by_skele
 use Rattle.lf.proofs.ToSkeletons.{variable_has_skeleton, skeleton_has_variable, type_by_skeletons}
 use Rattle.lf.proofs.TypeLaws.{renamings_compose_type, skeleton_renamed}
 use Rattle.lf.proofs.Weakening.{renaming_keeps_types, renames_under_binder}
-use Rattle.lf.proofs.Eta.{EtaLike, Fits, reduce_nil}
-use Rattle.lf.proofs.EtaTypes.{SameForm, eta_form, eta_spine, eta_at_type, eta_type}
+use Rattle.lf.proofs.Eta.{reduce_nil}
+use Rattle.lf.proofs.EtaTypes.{SameForm, eta_spine, eta_at_type}
+use Rattle.lf.proofs.Checker.{number_itself}
 use Rattle.lf_unification.specs.Patterns.{Injective, extend_renaming}
 use Rattle.lf_unification.proofs.Eta.{rename_id_type}
 use Rattle.lf_unification.proofs.RenamingBack.{Back, HasType-unrename}
@@ -25,9 +26,10 @@ use Rattle.lf_checks.specs.Strict.{head_variable, is_bound, pattern_arguments, w
 use Rattle.lf_checks.proofs.EtaTest.{both_l, both_r}
 use Rattle.lf_coverage.specs.TermMatching.{bound, over}
 use Rattle.lf_coverage.specs.FullMatching.{PatternValuesAreTyped}
-use Rattle.lf_coverage.proofs.Abstracted.{bound_of, argument_renames, same_self}
-use Rattle.lf_coverage.proofs.Occurring.{either_second}
 use Rattle.lf_coverage.proofs.StrictHeads.{not_bound}
+use Rattle.lf_coverage.proofs.Choices.{either_second, not_true}
+use Rattle.lf_coverage.proofs.Parts.{suc_same}
+use Rattle.lf_coverage.proofs.EtaArguments.{bound_argument, argument_renames, argument_renames_type}
 
 by_skeletons : (G' G : List LfType) (ρ : ℕ → ℕ) → IsTypedRenaming G' G ρ → RenamingBySkeletons (context_skeletons G') (context_skeletons G) ρ
 by_skeletons G' G ρ r i t g =
@@ -38,10 +40,6 @@ by_skeletons G' G ρ r i t g =
 put_in_first : (y : ℕ) (ρ : ℕ → ℕ) (i : ℕ) → at_variable y (lift_renaming ρ i) ≡ extend_renaming y ρ i
 put_in_first y ρ zero = refl
 put_in_first y ρ (suc i) = refl
-
-not_true : (b : Bool) → not b ≡ true → b ≡ false
-not_true true e = absurd cc
-not_true false e = refl
 
 -- an argument that comes wasn't seen
 is_new : (B : ℕ → Bool) (seen : List ℕ) (N : Term) (o : Option ℕ) (y : ℕ) → o ≡ Some y → is_bound B seen N o ≡ true → is_in y seen ≡ false
@@ -57,7 +55,7 @@ module _ (Σ : Signature) (ok : IsSignature Σ) (n : ℕ) (G : List LfType) (c :
   unapplied seen G' ρ (lambda V) (pi A B) P (app N S) r inj back h (t1, t2) v e (a1, s) m =
       let o : Option ℕ = head_variable zero N in
       let e1 : is_bound (bound n) seen N o ≡ true = both_l (is_bound (bound n) seen N o) (pattern_arguments (bound n) (with_seen o seen) S) e in
-      let (y, a, oe, by, ne) = bound_of (bound n) seen N o e1 in
+      let (y, a, oe, by, unseen, ne) = bound_argument (bound n) seen N o e1 in
       let new : is_in y seen ≡ false = is_new (bound n) seen N o y oe e1 in
       let A' : LfType = rename_type ρ A in
       let a2 : HasType Σ G (eta_long a (variable y)) A' = subst (λ Z. HasType Σ G Z A') ne a1 in
@@ -70,23 +68,11 @@ module _ (Σ : Signature) (ok : IsSignature Σ) (n : ℕ) (G : List LfType) (c :
       let sy : SkeletonAt (context_skeletons G) y (skeleton A) = subst (SkeletonAt (context_skeletons G) y) (skeleton_renamed ρ A) (variable_has_skeleton G y A' gy) in
       let vk : TermSkeleton (constant_skeletons Σ) (skeleton A ∷ context_skeletons G) (rename (lift_renaming ρ) V) (skeleton B) = renaming_keeps_skeletons (constant_skeletons Σ) (skeleton A ∷ context_skeletons G') (skeleton A ∷ context_skeletons G) (lift_renaming ρ) V (skeleton B) (renaming_by_skeletons_under_binder (context_skeletons G') (context_skeletons G) ρ (skeleton A) (by_skeletons G' G ρ r)) v in
       let ev : reduce (arrow (skeleton A) (skeleton B)) (lambda (rename (lift_renaming ρ) V)) (app N S) ≡ reduce (skeleton B) (rename ρ' V) S
-      = reduction_beta (skeleton A) (skeleton B) (rename (lift_renaming ρ) V) N S ∙ ap (λ Z. reduce (skeleton B) (substitute reduce (single (skeleton A) Z) (rename (lift_renaming ρ) V)) S) ne ∙ ap (λ Z. reduce (skeleton B) Z S) (argument_renames (constant_skeletons Σ) (context_skeletons G) (skeleton A) (skeleton B) a y (rename (lift_renaming ρ) V) vk sy (subst (SameForm a) (skeleton_renamed ρ A) f) ∙ renamings_compose (at_variable y) (lift_renaming ρ) V ∙ ap (λ z. rename z V) (fun_ext (put_in_first y ρ))) in
+      = reduction_beta (skeleton A) (skeleton B) (rename (lift_renaming ρ) V) N S ∙ ap (λ Z. reduce (skeleton B) (substitute reduce (single (skeleton A) Z) (rename (lift_renaming ρ) V)) S) ne ∙ ap (λ Z. reduce (skeleton B) Z S) (argument_renames (context_skeletons G) (skeleton A) a y sy (subst (SameForm a) (skeleton_renamed ρ A) f) (constant_skeletons Σ) (rename (lift_renaming ρ) V) (skeleton B) vk ∙ renamings_compose (at_variable y) (lift_renaming ρ) V ∙ ap (λ z. rename z V) (fun_ext (put_in_first y ρ))) in
       unapplied (with_seen o seen) (A ∷ G') ρ' V B P S (renames y gy) (injective y by new) (backwards y gy) (subst (λ z. (i : ℕ) → bound n (ρ' i) ≡ true → is_in (ρ' i) (with_seen z seen) ≡ true) (sym oe) (seen_all y)) t2 v (both_r (is_bound (bound n) seen N o) (pattern_arguments (bound n) (with_seen o seen) S) e) (subst (λ Z. SpineType Σ G S Z P) inst s) (subst (λ Z. HasType Σ G Z P) ev m)
     where
       at_type : (y : ℕ) (a : Skeleton) (A' B' : LfType) → SameForm a (skeleton A') → TypeAt G y A' → IsType Σ (A' ∷ G) B' → instantiate_type A' (eta_long a (variable y)) B' ≡ rename_type (at_variable y) B'
-      at_type y a A' B' f gy tb = eta_type Σ ok (skeleton A' ∷ context_skeletons G) (context_skeletons G) (single (skeleton A') (eta_long a (variable y))) (at_variable y) B' like fit into (type_by_skeletons Σ (A' ∷ G) B' tb)
-        where
-          like : EtaLike (λ z. Unit {0}) (single (skeleton A') (eta_long a (variable y))) (at_variable y)
-          like zero = (tt, eta_form a (skeleton A') (variable y) nil f)
-          like (suc i) = refl
-
-          fit : Fits (skeleton A' ∷ context_skeletons G) (single (skeleton A') (eta_long a (variable y)))
-          fit zero u q = q
-          fit (suc i) u q = tt
-
-          into : (i : ℕ) (u : Skeleton) → SkeletonAt (skeleton A' ∷ context_skeletons G) i u → SkeletonAt (context_skeletons G) (at_variable y i) u
-          into zero u q = subst (SkeletonAt (context_skeletons G) y) q (variable_has_skeleton G y A' gy)
-          into (suc i) u q = q
+      at_type y a A' B' f gy tb = argument_renames_type (context_skeletons G) (skeleton A') a y (variable_has_skeleton G y A' gy) f Σ ok B' (type_by_skeletons Σ (A' ∷ G) B' tb)
 
       renames : (y : ℕ) → TypeAt G y (rename_type ρ A) → IsTypedRenaming (A ∷ G') G (extend_renaming y ρ)
       renames y gy zero Z q = subst (TypeAt G y) (sym (ap (rename_type (extend_renaming y ρ)) q ∙ renamings_compose_type (extend_renaming y ρ) suc A)) gy
@@ -106,7 +92,7 @@ module _ (Σ : Signature) (ok : IsSignature Σ) (n : ℕ) (G : List LfType) (c :
       injective y b new (suc i) (suc j) q = ap suc (inj i j q)
 
       seen_all : (y : ℕ) (i : ℕ) → bound n (extend_renaming y ρ i) ≡ true → is_in (extend_renaming y ρ i) (y ∷ seen) ≡ true
-      seen_all y zero b = ap (λ z. either z (is_in y seen)) (same_self y)
+      seen_all y zero b = ap (λ z. either z (is_in y seen)) (number_itself y)
       seen_all y (suc i) b = either_second (Rattle.lf.specs.Variables.same_number (ρ i) y) (is_in (ρ i) seen) (h i b)
 
 -- past the bound variables
@@ -116,10 +102,7 @@ over_renames (E ∷ D) G i A g = (rename_type (over (length D)) A, over_renames 
 
 over_injective : (n : ℕ) → Injective (over n)
 over_injective zero i j e = e
-over_injective (suc n) i j e = over_injective n i j (before e)
-  where
-    before : suc (over n i) ≡ suc (over n j) → over n i ≡ over n j
-    before e = cc
+over_injective (suc n) i j e = over_injective n i j (suc_same e)
 
 over_back : (D G : List LfType) → Back G (onto D G) (over (length D))
 over_back [] G i X g = (X, g, sym (rename_id_type X))

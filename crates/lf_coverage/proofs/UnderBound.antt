@@ -1,6 +1,6 @@
 -- Variables, values and skeletons under bound variables.
 use Rattle.std.proofs.Common.{◌≡◌, ℕ, zero, suc, List, [], ◌∷◌, length, refl, sym, ap, ◌∙◌, true≢false}
-use Rattle.std.specs.Prelude.{◌++◌, Bool, true, false, not, Some}
+use Rattle.std.specs.Prelude.{◌++◌, Bool, true, false, not, Some, cond}
 use Rattle.lf.specs.Syntax.{Head, constant, variable, Term, Spine, root, Skeleton, rename}
 use Rattle.lf.specs.Substitution.{Image, keep, put, rename_image, apply_image, reduce}
 use Rattle.lf.specs.AtOnce.{lift_by}
@@ -13,22 +13,20 @@ use Rattle.lf.proofs.Renaming.{substitute_identity}
 use Rattle.lf.proofs.Agreement.{agree_on}
 use Rattle.lf_checks.specs.Tests.{either}
 use Rattle.lf_checks.specs.Strict.{lower, pattern_arguments}
+use Rattle.lf_cases.specs.Candidates.{counted}
+use Rattle.lf_coverage.specs.Matching.{without}
 use Rattle.lf_coverage.specs.TermMatching.{HasPatterns, HavePatterns, TakesBound, TakeBound, heads_argument, bound, hidden, over, Stay, TakesBack}
-use Rattle.lf_coverage.proofs.Choices.{choose_first, choose_second}
+use Rattle.lf_coverage.proofs.Choices.{choose_first, choose_second, none_counted, chosen}
+use Rattle.lf_coverage.proofs.Parts.{keep_same}
 
 -- a variable that isn't bound is one over the bound ones
-abbrev pub down : ℕ → ℕ → ℕ
-down zero i = i
-down (suc n) zero = zero
-down (suc n) (suc i) = down n i
-
-pub over_down : (n i : ℕ) → not (bound n i) ≡ true → over n (down n i) ≡ i
+pub over_down : (n i : ℕ) → not (bound n i) ≡ true → over n (without n i) ≡ i
 over_down zero i e = refl
 over_down (suc n) zero e = absurd cc
 over_down (suc n) (suc i) e = ap suc (over_down n i e)
 
-pub moved_down : (n : ℕ) (M : Term) → Uses (λ i. not (bound n i)) M → rename (over n) (rename (down n) M) ≡ M
-moved_down n M u = renamings_compose (over n) (down n) M ∙ sym (substitution_as_renaming reduce (λ i. over n (down n i)) M) ∙ agree_on reduce (λ i. not (bound n i)) (λ i. keep (over n (down n i))) keep M (λ i e. ap keep (over_down n i e)) u ∙ substitute_identity reduce M
+pub moved_down : (n : ℕ) (M : Term) → Uses (λ i. not (bound n i)) M → rename (over n) (rename (without n) M) ≡ M
+moved_down n M u = renamings_compose (over n) (without n) M ∙ sym (substitution_as_renaming reduce (λ i. over n (without n i)) M) ∙ agree_on reduce (λ i. not (bound n i)) (λ i. keep (over n (without n i))) keep M (λ i e. ap keep (over_down n i e)) u ∙ substitute_identity reduce M
 
 pub hidden_over : (n : ℕ) (P : ℕ → Bool) (i : ℕ) → hidden n P (over n i) ≡ P i
 hidden_over zero P i = refl
@@ -66,10 +64,7 @@ stay_lifted (a ∷ D) Γ F σ h zero t g e = (zero, refl)
 stay_lifted (a ∷ D) Γ F σ h (suc i) t g e = let (j, q) = stay_lifted D Γ F σ h i t g e in (suc j, ap (rename_image suc) q)
 
 pub moved_image : (x : Image) (k : ℕ) → rename_image suc x ≡ keep k → (j : ℕ) × (k ≡ suc j) × (x ≡ keep j)
-moved_image (keep i) k e = (i, sym (kept e), refl)
-  where
-    kept : {m n : ℕ} → keep m ≡ keep n → m ≡ n
-    kept e = cc
+moved_image (keep i) k e = (i, sym (keep_same e), refl)
 moved_image (put a N) k e = absurd cc
 
 pub back_lifted : (n : ℕ) (F P : ℕ → Bool) (σ τ θ : ℕ → Image) → TakesBack F P σ τ θ → TakesBack (hidden n F) (hidden n P) (lift_by n σ) (lift_by n τ) (lift_by n θ)
@@ -138,3 +133,9 @@ head_of_constant c d S T e = (constant_same (root_head e), root_spine e)
 -- an instance of a variable that stays
 pub stays_root : (x : Image) (k : ℕ) (S : Spine) → x ≡ keep k → apply_image reduce x S ≡ root (variable k) S
 stays_root x k S e = ap (λ z. apply_image reduce z S) e
+
+-- a free variable at the head of a pattern is a candidate, where there are none
+pub no_candidate : (n : ℕ) (F : ℕ → Bool) (i : ℕ) (S : Spine) (xs : List ℕ) → HasPatterns (bound n) (hidden n F) (root (variable i) S) → cond (hidden n F i) (counted (pattern_arguments (bound n) [] S) (lower n i)) xs ≡ [] → hidden n F i ≡ true → ⊥
+no_candidate n F i S xs h q f =
+    let (y, r, fy) = hidden_is_over n F i f in
+    none_counted (pattern_arguments (bound n) [] S) (lower n i) y (pattern_here (bound n) (hidden n F) i S f h) (ap (lower n) r ∙ lower_over n y) (chosen (hidden n F i) (counted (pattern_arguments (bound n) [] S) (lower n i)) xs f q)

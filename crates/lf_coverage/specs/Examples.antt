@@ -1,10 +1,10 @@
 -- Worked cases: a split by heads, and heads that give a case and none.
 use Rattle.std.specs.Prelude.{◌≡◌, ℕ, zero, suc, List, [], ◌∷◌, Some, None}
 use Rattle.lf.specs.Syntax.{constant, variable, metavariable, Term, root, nil, Kind, pi, kind_pi, star}
-use Rattle.lf_cases.specs.Pattern.{Pattern, of_constant, subgoal_pattern, IsCoveredCase}
+use Rattle.lf_cases.specs.Pattern.{IsCoveredCase}
 use Rattle.lf_cases.specs.Split.{IsInstanceCase, Ends}
 use Rattle.lf_unification.specs.Solving.{Never}
-use Rattle.lf_totality.specs.Examples.{Addition, Copying, copy_block, exp, function, nat, z, on_three, plus_kind, plus_s, plus_output_case, var, successor, plus_heads, plus_input_goal, plus_zero_case, plus_successor_case, first_below_second}
+use Rattle.lf_totality.specs.Examples.{Addition, Copying, copy_block, exp, function, nat, z, plus_kind, plus_output_case, var, successor, plus_heads, plus_input_goal, plus_zero_case, plus_successor_case, first_below_second}
 use Rattle.lf_totality.specs.ExamplesGroups.{on_one, one_kind, first_three}
 use Rattle.lf_totality.specs.ExamplesBlocks.{Numbered, a_z}
 use Rattle.lf_totality.specs.ExamplesSplits.{successor_items}
@@ -19,6 +19,7 @@ use Rattle.lf_cases.specs.Case.{free_variable}
 use Rattle.lf_cases.specs.Reached.{with_block, GivesNoCase}
 use Rattle.lf_coverage.specs.SplitStore.{split_store}
 use Rattle.lf_coverage.specs.UnifiedSplit.{IsUnifiedSplit}
+use Rattle.lf_coverage.specs.ExamplesLeaves.{plus_asked}
 
 -- The variable X of plus X Y _ is split by its heads z and s into plus z Y _ and plus (s X) Y _.
 abbrev pub PlusIsSplitByHeads : Type 0
@@ -67,11 +68,7 @@ two_nats = kind_pi nat (kind_pi nat star)
 abbrev pub equal : ℕ → ℕ → Equation
 equal m n = record { local = []; left = root (metavariable m) nil; right = root (metavariable n) nil; of_type = nat }
 
--- the subgoal of plus-s
-abbrev pub plus_asks : Pattern
-plus_asks = subgoal_pattern plus_s (of_constant plus_s.type) (on_three 1 (var 3) (var 2) (var 1))
-
 -- The store of eq X Y and the clause {Z:nat} eq Z Z: X = Z and Y = Z. That of the output goal plus X Y Z of plus-s and its subgoal: what is given, X and
 -- Y, is equated with the clause's variables, and then the outputs.
 abbrev pub StoresOfMeeting : Type 0
-StoresOfMeeting = ((meet_store eq_goal (head_of eq_r.type) two_nats).equations ≡ equal 1 2 ∷ equal 0 2 ∷ []) × ((meet_store plus_output_case plus_asks plus_kind).equations ≡ equal 5 1 ∷ equal 6 2 ∷ equal 0 4 ∷ [])
+StoresOfMeeting = ((meet_store eq_goal (head_of eq_r.type) two_nats).equations ≡ equal 1 2 ∷ equal 0 2 ∷ []) × ((meet_store plus_output_case plus_asked plus_kind).equations ≡ equal 5 1 ∷ equal 6 2 ∷ equal 0 4 ∷ [])

@@ -6,7 +6,8 @@ use Rattle.lf_cases.specs.Case.{Case, free_variable, input_goal}
 use Rattle.lf_cases.specs.Pattern.{Pattern, of_constant, of_entry, head_pattern}
 use Rattle.lf_cases.specs.Reached.{Reached}
 use Rattle.lf_cases.specs.Split.{Ends}
-use Rattle.lf_totality.specs.Examples.{Copying, applied_to, application, block_case, copy_block, copy_entry, copy_heads, copying_marks, cp, cp_app, cp_kind, cp_lam, exp, first_below_second, function, lam, var}
+use Rattle.lf_totality.specs.Examples.{Copying, application, block_case, copy_block, copy_entry, copy_heads, copying_marks, cp, cp_app, cp_kind, cp_lam, exp, first_below_second, var}
+use Rattle.lf_totality.specs.ExamplesReached.{cp_lam_case}
 use Rattle.lf_coverage.specs.Calls.{CoverIs, MatchedIs, SplitIs, cases, covered, instance, missing}
 use Rattle.lf_coverage.specs.Heads.{IsHeadSplit, SplitsByHeads}
 use Rattle.lf_coverage.specs.Leaf.{IsInstanceLeaf}
@@ -20,19 +21,16 @@ copy_worlds = copy_block ∷ []
 abbrev pub copy_goal : Case
 copy_goal = input_goal 1 (input_places (copying_marks 1)) cp_kind
 
-abbrev pub copy_lam_case : Case
-copy_lam_case = record { items = free_variable function ∷ []; given = []; local = []; family = 1; arguments = Some (lam (applied_to 1 0)) ∷ None ∷ [] }
-
 abbrev pub copy_app_case : Case
 copy_app_case = record { items = free_variable exp ∷ free_variable exp ∷ []; given = []; local = []; family = 1; arguments = Some (application (var 1) (var 0)) ∷ None ∷ [] }
 
 abbrev pub copy_cases : List Case
-copy_cases = copy_lam_case ∷ copy_app_case ∷ block_case ∷ []
+copy_cases = cp_lam_case ∷ copy_app_case ∷ block_case ∷ []
 
 -- Beside each self-contained set that holds exp each head gives its case: each instance of the goal that makes X the head is one of that case. Without the
 -- entry of the block it is no split.
 abbrev pub CopyIsSplitByHeads : Type 0
-CopyIsSplitByHeads = ((S : ℕ → Bool) → SelfContained Copying copy_worlds S → S 0 ≡ true → IsHeadSplit Copying copy_worlds S first_below_second copy_goal 0 copy_cases) × (IsHeadSplit Copying copy_worlds (first_below_second 1) first_below_second copy_goal 0 (copy_lam_case ∷ copy_app_case ∷ []) → ⊥)
+CopyIsSplitByHeads = ((S : ℕ → Bool) → SelfContained Copying copy_worlds S → S 0 ≡ true → IsHeadSplit Copying copy_worlds S first_below_second copy_goal 0 copy_cases) × (IsHeadSplit Copying copy_worlds (first_below_second 1) first_below_second copy_goal 0 (cp_lam_case ∷ copy_app_case ∷ []) → ⊥)
 
 -- So these are the cases that are to be answered: each by a most general typed instance, and together they hold what the goal holds.
 abbrev pub CopyCasesAreAnswer : Type 0
@@ -50,7 +48,7 @@ copy_entry_head = head_pattern copy_entry (of_entry copy_block [] (cp (var 0) (v
 
 -- Each case is an instance of a clause, the third of the entry u; and the goal of none.
 abbrev pub CopyCasesAreInstances : Type 0
-CopyCasesAreInstances = MatchedIs Copying copy_worlds copy_lam_case copy_lam_head instance × MatchedIs Copying copy_worlds copy_app_case copy_app_head instance × MatchedIs Copying copy_worlds block_case copy_entry_head instance × ((p : Pattern) → Member p copy_heads → MatchedIs Copying copy_worlds copy_goal p instance → ⊥)
+CopyCasesAreInstances = MatchedIs Copying copy_worlds cp_lam_case copy_lam_head instance × MatchedIs Copying copy_worlds copy_app_case copy_app_head instance × MatchedIs Copying copy_worlds block_case copy_entry_head instance × ((p : Pattern) → Member p copy_heads → MatchedIs Copying copy_worlds copy_goal p instance → ⊥)
 
 -- The strategy reaches each of them: X is the first candidate, by cp-lam.
 abbrev pub CopyCasesAreReached : Type 0

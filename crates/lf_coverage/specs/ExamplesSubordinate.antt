@@ -13,7 +13,8 @@ use Rattle.lf_coverage.specs.Calls.{AreCasesBesideAll, CoverIs, covered}
 use Rattle.lf_coverage.specs.Heads.{ArgumentsAreBelow}
 use Rattle.lf_coverage.specs.Leaf.{IsInstanceLeaf}
 use Rattle.lf_coverage.specs.Subordinate.{QuantifiersAreBelow, AllQuantifiersAreBelow}
-use Rattle.lf_coverage.specs.SubordinateRuns.{AnswersEachHead, ComesBy}
+use Rattle.lf_coverage.specs.SubordinateRuns.{ComesBy}
+use Rattle.lf_coverage.specs.UnifiedSplit.{AnswersEachHead}
 
 -- Of the families a = 0, c = 1 and d = 2 all are below c, and no other is below another.
 abbrev pub all_below_second : ℕ → ℕ → Bool

@@ -1,4 +1,6 @@
 -- The laws of splits by heads that the functions of this crate carry.
+-- `NeverGivesNoCase`, `SolvedIsSplit`, `LeftIsOutside`, `NeverIsApartBeside` and `SolvedSharesInstance` hold under any numbers of the metavariables
+-- too, as `RenumberingLaws` says, whose laws stand on these.
 use Rattle.std.specs.Prelude.{◌≡◌, ℕ, ◌+◌, List, [], length, Bool, true, Some}
 use Rattle.lf.specs.Syntax.{Head, LfType, Kind}
 use Rattle.lf.specs.Typing.{Signature, TypeAt, IsSignature}

@@ -1,6 +1,6 @@
 -- Matching of a case with a pattern of a constant's clause: the values of the clause's variables are read off the case where they stand strictly in
 -- the pattern, and then it is tested that they make the pattern the case.
-use Rattle.std.specs.Prelude.{◌≡◌, ℕ, zero, suc, List, [], ◌∷◌, Bool, true, false, cond, Option, Some, None}
+use Rattle.std.specs.Prelude.{◌≡◌, ℕ, zero, suc, List, [], ◌∷◌, Bool, true, false, not, cond, Option, Some, None}
 use Rattle.lf.specs.Syntax.{constant, variable, metavariable, Term, Spine, lambda, root, nil, app, LfType, pi, atom, skeleton, rename}
 use Rattle.lf.specs.Substitution.{Image, keep, put, substitute_type, reduce}
 use Rattle.lf.specs.Eta.{lambdas}
@@ -15,6 +15,7 @@ use Rattle.lf_checks.specs.Strict.{head_variable, with_seen, pattern_arguments, 
 use Rattle.lf_cases.specs.Cover.{AreTerms}
 use Rattle.lf_cases.specs.Case.{Case, items_context, covered_places}
 use Rattle.lf_cases.specs.Pattern.{Pattern, given_at, ground_in}
+use Rattle.lf_coverage.specs.TermMatching.{bound}
 
 -- whether each variable of a term is one of U
 abbrev mutual
@@ -29,13 +30,7 @@ abbrev mutual
   spine_has_only U nil = true
   spine_has_only U (app M S) = both (has_only U M) (spine_has_only U S)
 
--- whether a variable under n binders stands outside them
-abbrev pub is_outer : ℕ → ℕ → Bool
-is_outer zero i = true
-is_outer (suc n) zero = false
-is_outer (suc n) (suc i) = is_outer n i
-
--- such a variable, as it is outside them
+-- a variable that stands outside n binders, as it is outside them
 abbrev pub without : ℕ → ℕ → ℕ
 without zero i = i
 without (suc n) zero = zero
@@ -54,7 +49,7 @@ over_lambdas (y ∷ ys) n i = cond (same_number i y) zero (suc (over_lambdas ys 
 -- What x is where x y1 .. yk is M, all under n binders: [y1] .. [yk] M. None where M has another variable that they bind, since no value of x makes
 -- x y1 .. yk such a term. F y x beside c x y under [x] [y] gives [y] [x] c x y; F x beside it gives none.
 abbrev pub read_off : ℕ → Spine → Term → Option Term
-read_off n S M = cond (has_only (λ i. either (is_in i (argument_variables [] S)) (is_outer n i)) M) (Some (lambdas (argument_count S) (rename (over_lambdas (argument_variables [] S) n) M))) None
+read_off n S M = cond (has_only (λ i. either (is_in i (argument_variables [] S)) (not (bound n i))) M) (Some (lambdas (argument_count S) (rename (over_lambdas (argument_variables [] S) n) M))) None
 
 -- the arguments of a root
 abbrev pub arguments_of : Term → Spine

@@ -7,6 +7,7 @@ use Rattle.lf.specs.Eta.{eta_long}
 use Rattle.lf.specs.Typing.{Signature, instantiate_kind}
 use Rattle.lf.specs.Variables.{target_arguments, binders, onto}
 use Rattle.lf_unification.specs.DeepEquations.{AreDeep}
+use Rattle.lf_unification.specs.Lists.{followed}
 use Rattle.lf_unification.specs.Solving.{Left}
 use Rattle.lf_unification.specs.Unifiers.{Equation, Store}
 use Rattle.lf_checks.specs.Clause.{Clause, scope}
@@ -42,11 +43,6 @@ abbrev pub given_equations : List LfType → ℕ → List (Option Term) → List
 given_equations X k [] = []
 given_equations X k (M ∷ Ms) = one_given k (type_in X k) M (given_equations X (suc k) Ms)
 
--- both lists
-abbrev pub followed_by : List Equation → List Equation → List Equation
-followed_by [] fs = fs
-followed_by (e ∷ es) fs = e ∷ followed_by es fs
-
 -- The items of the case and, behind them, the variables of the clause are metavariables. What is given is equated first, and then the arguments at
 -- the covered places. K is the kind of the family.
 abbrev pub meet_store : Case → Pattern → Kind → Store
@@ -57,7 +53,7 @@ meet_store C p K =
     record {
       metavariables = context_metavariables X;
       bindings = [];
-      equations = followed_by (given_equations X n C.given) (place_equations (open_locals (renumber (shift_by n) D)) (open_arguments (length D) C.arguments) (open_spine (length D) (rename_spine (lift_renaming_by (length D) (shift_by n)) (target_arguments p.type))) K);
+      equations = followed (given_equations X n C.given) (place_equations (open_locals (renumber (shift_by n) D)) (open_arguments (length D) C.arguments) (open_spine (length D) (rename_spine (lift_renaming_by (length D) (shift_by n)) (target_arguments p.type))) K);
     }
 
 -- the clause is a constant's

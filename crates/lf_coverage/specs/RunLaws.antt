@@ -39,7 +39,7 @@ InstanceIsTypedCase = (Σ : Signature) → IsSignature Σ → (W : List Block) �
 abbrev pub CandidateIsVariable : Type 0
 CandidateIsVariable = (C : Case) (p : Pattern) (x : ℕ) → Member x (case_candidates C p) → (free_among C.items x ≡ true) × ((X : LfType) × TypeAt (items_context C.items) x X)
 
--- What is never solved, a case that is typed beside a constant's clause and this clause, is answered so.
+-- What is never solved, a case that is typed beside a constant's clause and this clause, is answered so: `NeverIsApartBeside` in the words of the call.
 abbrev pub NeverIsMatchedApart : Type 0
 NeverIsMatchedApart = (Σ : Signature) → IsSignature Σ → (W : List Block) → AreTypedBlocks Σ W → (C : Case) → HasNoBlockVariable C.items → (p : Pattern) → IsTypedPattern Σ p → IsConstants p.origin → IsTypedBeside Σ W C p → (K : Kind) → Σ.kinds C.family ≡ Some K → Never Σ [] (meet_store C p K) → MatchedIs Σ W C p apart
 
@@ -63,15 +63,17 @@ SolvedKeepsFamilies = (Σ : Signature) (S : ℕ → Bool) (before after : Store)
 abbrev pub SolvedSplitIsUnified : Type 0
 SolvedSplitIsUnified = (Σ : Signature) → IsSignature Σ → (W : List Block) → AreTypedBlocks Σ W → (below : ℕ → ℕ → Bool) (S : ℕ → Bool) → SelfContained Σ W S → (C : Case) → IsTypedCase Σ W C → AllFamiliesIn S (items_context C.items) → (x : ℕ) (Cs : List Case) → IsSolvedSplit Σ W below C x Cs → IsUnifiedSplit Σ W S below C x Cs × ((D : Case) → Member D Cs → AllFamiliesIn S (items_context D.items))
 
--- So its cases are those of the variable beside such sets.
+-- So its cases are those of the variable beside such sets. Where `below` is the test of the declarations, `AnsweredSplitIsAnswer` asks nothing of the
+-- types of heads, and of the case's items that they quantify only over what is below.
 abbrev pub SolvedSplitIsAnswer : Type 0
 SolvedSplitIsAnswer = (Σ : Signature) → IsSignature Σ → (W : List Block) → AreTypedBlocks Σ W → (below : ℕ → ℕ → Bool) → IsSubordination Σ W below → (C : Case) → IsTypedCase Σ W C → (x : ℕ) (Cs : List Case) → IsSolvedSplit Σ W below C x Cs → AreCasesBesideAll Σ W below C x Cs
 
 -- A run of such splits that ends at instances of patterns covers its goal, where this is typed and each set beside which it is to be covered holds
--- the families in the types of its items.
+-- the families in the types of its items. Where `below` is that test, `AnsweredRunCovers` asks nothing of what comes along the run, and of the goal's
+-- items that they quantify only over what is below.
 abbrev pub SolvedRunCovers : Type 0
 SolvedRunCovers = (Σ : Signature) → IsSignature Σ → (W : List Block) → AreTypedBlocks Σ W → (below : ℕ → ℕ → Bool) → IsSubordination Σ W below → (ps : List Pattern) (goal : Case) → HasOneBlockVariable goal.items → IsTypedCase Σ W goal → ((S : ℕ → Bool) → IsBeside Σ W S goal → AllFamiliesIn S (items_context goal.items)) → Ends (IsInstanceLeaf Σ W ps) (SolvesEachHead Σ W below) goal → CoverIs Σ W below ps goal covered
 
--- The goal of inputs is such a one.
+-- The goal of inputs is such a one. Where `below` is that test, this follows from `AnsweredRunCoversInputs`, whose run is asked less.
 abbrev pub SolvedRunCoversInputs : Type 0
 SolvedRunCoversInputs = (Σ : Signature) → IsSignature Σ → (W : List Block) → AreTypedBlocks Σ W → (below : ℕ → ℕ → Bool) → IsSubordination Σ W below → (ps : List Pattern) (a : ℕ) (m : List Bool) (K : Kind) → Σ.kinds a ≡ Some K → MentionChosenOnly nothing m K → Ends (IsInstanceLeaf Σ W ps) (SolvesEachHead Σ W below) (input_goal a m K) → CoverIs Σ W below ps (input_goal a m K) covered

@@ -21,9 +21,10 @@ use Rattle.lf_coverage.specs.FullMatching.{AllHavePatterns, PlacesHavePatterns}
 use Rattle.lf_coverage.specs.Matching.{MatchesByTerms}
 use Rattle.lf_coverage.specs.MeetStore.{IsOpen, meet_store}
 use Rattle.lf_coverage.specs.Subordinate.{AllQuantifiersAreBelow}
-use Rattle.lf_coverage.specs.SubordinateRuns.{AnswersEachHead, ComesBy, IsAnsweredSplit}
+use Rattle.lf_coverage.specs.SubordinateRuns.{ComesBy}
 use Rattle.lf_coverage.specs.TypedCase.{IsTypedBeside}
 use Rattle.lf_coverage.specs.TypedLocal.{HasTypedLocal}
+use Rattle.lf_coverage.specs.UnifiedSplit.{IsAnsweredSplit, AnswersEachHead}
 
 -- The pattern is the head of a constant's clause for the family a: each variable in its inputs is applied to distinct bound variables, and the clause
 -- is linear and full. So is plus-s; not k (F z), where F is applied to a constant, nor eq-r, which has X twice.

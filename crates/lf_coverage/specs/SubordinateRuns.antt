@@ -10,7 +10,6 @@ use Rattle.lf_unification.specs.Unifiers.{Store}
 use Rattle.lf_checks.specs.Clause.{IsSubgoal, constant_clause}
 use Rattle.lf_checks.specs.Marks.{Mark, MentionChosenOnly}
 use Rattle.lf_cases.specs.Case.{Item, Case, items_context, input_goal}
-use Rattle.lf_cases.specs.Candidates.{free_among}
 use Rattle.lf_cases.specs.Missing.{AreTypedItems}
 use Rattle.lf_cases.specs.OutputGoal.{output_goal}
 use Rattle.lf_cases.specs.Pattern.{Pattern, of_constant}
@@ -18,27 +17,11 @@ use Rattle.lf_cases.specs.Raised.{raise_by, raised_over}
 use Rattle.lf_cases.specs.Reached.{SplitHead, split_items}
 use Rattle.lf_cases.specs.Split.{Ends, HasNoBlockVariable, HasOneBlockVariable}
 use Rattle.lf_coverage.specs.Calls.{AreCasesBesideAll, CoverIs, IsBeside, covered}
-use Rattle.lf_coverage.specs.HeadOrder.{Offer, AreInOrder}
-use Rattle.lf_coverage.specs.Heads.{AreOffers, IsTypedCase, Listed}
+use Rattle.lf_coverage.specs.Heads.{IsTypedCase}
 use Rattle.lf_coverage.specs.Leaf.{IsInstanceLeaf}
 use Rattle.lf_coverage.specs.SplitStore.{AllFamiliesIn, solved_case}
 use Rattle.lf_coverage.specs.Subordinate.{QuantifiersAreBelow, AllQuantifiersAreBelow}
-use Rattle.lf_coverage.specs.UnifiedSplit.{HeadIsSolved, IsSolvedSplit}
-
--- A split of the free variable x of C at each head of which unification answers: the heads are offered in order, and the answers make the list of
--- cases. plus X Y _ is split so by z and s.
-pub record IsAnsweredSplit (Σ : Signature) (W : List Block) (below : ℕ → ℕ → Bool) (C : Case) (x : ℕ) (Cs : List Case) : Type 0 where
-  pub type : LfType
-  pub at : TypeAt (items_context C.items) x type
-  pub is_free : free_among C.items x ≡ true
-  pub offers : List Offer
-  pub are_offers : AreOffers Σ W C.items type offers
-  pub in_order : AreInOrder W C.items type offers
-  pub listed : Listed (HeadIsSolved Σ below C x type) offers Cs
-
--- a case is split so at one of its variables
-abbrev pub AnswersEachHead : Signature → List Block → (ℕ → ℕ → Bool) → Case → List Case → Type 0
-AnswersEachHead Σ W below C Cs = (x : ℕ) × IsAnsweredSplit Σ W below C x Cs
+use Rattle.lf_coverage.specs.UnifiedSplit.{IsAnsweredSplit, AnswersEachHead, IsSolvedSplit}
 
 -- The cases that come from a goal by splits: itself, and each case of a split of one that does.
 pub data ComesBy (Splits : Case → List Case → Type 0) (goal : Case) : Case → Type 0 where

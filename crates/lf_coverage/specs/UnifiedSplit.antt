@@ -44,17 +44,25 @@ pub record HeadIsSolved (Σ : Signature) (below : ℕ → ℕ → Bool) (C : Cas
   pub finds : UnifierFinds Σ below C x X h kind found
 
 -- A split of the free variable x of C at each head of which unification answers: the heads are offered in order, and the answers make the list of
--- cases. The families in the types of the arguments that x and the heads take are below their own.
-pub record IsSolvedSplit (Σ : Signature) (W : List Block) (below : ℕ → ℕ → Bool) (C : Case) (x : ℕ) (Cs : List Case) : Type 0 where
+-- cases. Nothing is asked of families. plus X Y _ is split so by z and s.
+pub record IsAnsweredSplit (Σ : Signature) (W : List Block) (below : ℕ → ℕ → Bool) (C : Case) (x : ℕ) (Cs : List Case) : Type 0 where
   pub type : LfType
   pub at : TypeAt (items_context C.items) x type
   pub is_free : free_among C.items x ≡ true
-  pub takes_below : ArgumentsAreBelow below type
   pub offers : List Offer
   pub are_offers : AreOffers Σ W C.items type offers
   pub in_order : AreInOrder W C.items type offers
-  pub arguments_below : (J : List Item) (n : ℕ) (h : Head) (A : LfType) → SplitHead Σ W C.items type J n h A → ArgumentsAreBelow below A
   pub listed : Listed (HeadIsSolved Σ below C x type) offers Cs
+
+-- a case is split so at one of its variables
+abbrev pub AnswersEachHead : Signature → List Block → (ℕ → ℕ → Bool) → Case → List Case → Type 0
+AnswersEachHead Σ W below C Cs = (x : ℕ) × IsAnsweredSplit Σ W below C x Cs
+
+-- So it is split, and the families in the types of the arguments that x and the heads take are below their own.
+pub record IsSolvedSplit (Σ : Signature) (W : List Block) (below : ℕ → ℕ → Bool) (C : Case) (x : ℕ) (Cs : List Case) : Type 0 where
+  pub answered : IsAnsweredSplit Σ W below C x Cs
+  pub takes_below : ArgumentsAreBelow below answered.type
+  pub arguments_below : (J : List Item) (n : ℕ) (h : Head) (A : LfType) → SplitHead Σ W C.items answered.type J n h A → ArgumentsAreBelow below A
 
 -- a case is split so at one of its variables
 abbrev pub SolvesEachHead : Signature → List Block → (ℕ → ℕ → Bool) → Case → List Case → Type 0
