@@ -27,22 +27,22 @@ outside_all [] V i x f e = subst (λ j. V j ≡ true) (some_same e) f
 outside_all (A ∷ D) V i x f e = outside_under (hide_all D V) (length D) V (outside_all D V) i x f e
 
 -- each of the list is in V
-abbrev AllIn : (ℕ → Bool) → List ℕ → Type 0
+abbrev pub AllIn : (ℕ → Bool) → List ℕ → Type 0
 AllIn V xs = (x : ℕ) → Member x xs → V x ≡ true
 
-all_then : (V : ℕ → Bool) (xs ys : List ℕ) → AllIn V xs → AllIn V ys → AllIn V (then xs ys)
+pub all_then : (V : ℕ → Bool) (xs ys : List ℕ) → AllIn V xs → AllIn V ys → AllIn V (then xs ys)
 all_then V [] ys h k x m = k x m
 all_then V (z ∷ xs) ys h k x (inl e) = h x (inl e)
 all_then V (z ∷ xs) ys h k x (inr m) = all_then V xs ys (λ y n. h y (inr n)) k x m
 
-all_chosen : (V : ℕ → Bool) (b : Bool) (xs ys : List ℕ) → (b ≡ true → AllIn V xs) → (b ≡ false → AllIn V ys) → AllIn V (cond b xs ys)
+pub all_chosen : (V : ℕ → Bool) (b : Bool) (xs ys : List ℕ) → (b ≡ true → AllIn V xs) → (b ≡ false → AllIn V ys) → AllIn V (cond b xs ys)
 all_chosen V true xs ys h k = h refl
 all_chosen V false xs ys h k = k refl
 
-all_none : (V : ℕ → Bool) → AllIn V []
+pub all_none : (V : ℕ → Bool) → AllIn V []
 all_none V x m = absurd m
 
-all_counted : (V : ℕ → Bool) (b : Bool) (y : Option ℕ) → ((x : ℕ) → y ≡ Some x → V x ≡ true) → AllIn V (counted b y)
+pub all_counted : (V : ℕ → Bool) (b : Bool) (y : Option ℕ) → ((x : ℕ) → y ≡ Some x → V x ≡ true) → AllIn V (counted b y)
 all_counted V true (Some y) h x (inl e) = subst (λ z. V z ≡ true) (sym e) (h y refl)
 all_counted V true (Some y) h x (inr m) = absurd m
 all_counted V true None h x m = absurd m
@@ -74,7 +74,7 @@ module _ (V : ℕ → Bool) where
   all_first y xs e h x (inl q) = subst (λ z. V z ≡ true) (sym q) e
   all_first y xs e h x (inr m) = h x m
 
-  all_once : (seen xs : List ℕ) → AllIn V xs → AllIn V (each_once seen xs)
+  pub all_once : (seen xs : List ℕ) → AllIn V xs → AllIn V (each_once seen xs)
   all_once seen [] h = all_none V
   all_once seen (y ∷ xs) h = all_chosen V (is_in y seen) (each_once seen xs) (y ∷ each_once (y ∷ seen) xs) (λ e. all_once seen xs (λ x m. h x (inr m))) (λ e. all_first y (each_once (y ∷ seen) xs) (h y (inl refl)) (all_once (y ∷ seen) xs (λ z n. h z (inr n))))
 
@@ -84,7 +84,7 @@ type_behind [] G V h i e = h i e
 type_behind (A ∷ D) G V h zero e = absurd cc
 type_behind (A ∷ D) G V h (suc i) e = let (X, g) = type_behind D G V h i e in (weaken X, (X, g, refl))
 
-hide_same : (es : List LfType) (θ : ℕ → Image) (V : ℕ → Bool) (i : ℕ) → hide_all es V i ≡ hide_all (instance es θ) V i
+pub hide_same : (es : List LfType) (θ : ℕ → Image) (V : ℕ → Bool) (i : ℕ) → hide_all es V i ≡ hide_all (instance es θ) V i
 hide_same [] θ V i = refl
 hide_same (E ∷ es) θ V zero = refl
 hide_same (E ∷ es) θ V (suc i) = hide_same es θ V i

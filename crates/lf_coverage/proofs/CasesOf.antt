@@ -26,7 +26,7 @@ use Rattle.lf_coverage.proofs.Unified.{unified_split}
 use Rattle.lf_coverage.proofs.Parts.{some_same}
 
 -- other answers to the same heads
-listed_by : {A B : Offer → Option Case → Type 0} {hs : List Offer} {Cs : List Case} → ((h : Offer) (found : Option Case) → Member h hs → A h found → B h found) → Listed A hs Cs → Listed B hs Cs
+pub listed_by : {A B : Offer → Option Case → Type 0} {hs : List Offer} {Cs : List Case} → ((h : Offer) (found : Option Case) → Member h hs → A h found → B h found) → Listed A hs Cs → Listed B hs Cs
 listed_by f no_offer = no_offer
 listed_by f (with_case {h = h} {D = D} a l) = with_case (f h (Some D) (inl refl) a) (listed_by (λ k z m. f k z (inr m)) l)
 listed_by f (without_case {h = h} a l) = without_case (f h None (inl refl) a) (listed_by (λ k z m. f k z (inr m)) l)

@@ -13,6 +13,7 @@ use Rattle.lf_unification.specs.Solving.{IsWellFormed, Never, Solved}
 use Rattle.lf_unification.specs.Steps.{Run, bind, no_step, then_run}
 use Rattle.lf_unification.specs.Unifiers.{Store, on_left}
 use Rattle.lf_unification.proofs.Runs.{run_keeps_unifiers}
+use Rattle.lf_unification.proofs.Solving.{solved_not_never}
 use Rattle.lf_cases.specs.Missing.{AreTypedItems}
 use Rattle.lf_cases.specs.Reached.{constant_head}
 use Rattle.lf_totality.specs.Examples.{Addition, nat, z, successor, var, first_below_second, plus_zero_case, plus_successor_case, plus_input_goal}
@@ -22,10 +23,10 @@ use Rattle.lf_totality.specs.ExamplesSplits.{successor_items}
 use Rattle.lf_totality.proofs.Addition.{addition_ok}
 use Rattle.lf_totality.proofs.ExamplesBlocks.{numbered_ok}
 use Rattle.lf_cases.specs.Case.{Case}
-use Rattle.lf_coverage.specs.Heads.{ArgumentsAreBelow, IsTypedCase, with_case, no_offer}
+use Rattle.lf_coverage.specs.Heads.{ArgumentsAreBelow, IsTypedCase, Listed, with_case, no_offer}
 use Rattle.lf_coverage.specs.SplitStore.{split_store, context_metavariables}
 use Rattle.lf_coverage.specs.Examples.{PlusIsSplitByUnification, SuccessorGivesNone}
-use Rattle.lf_coverage.specs.UnifiedSplit.{IsSolvedSplit}
+use Rattle.lf_coverage.specs.UnifiedSplit.{HeadIsSolved, IsSolvedSplit}
 use Rattle.lf_coverage.proofs.Examples.{plus_offers, plus_are_offers, plus_in_order, two, each_head, goal_typed}
 use Rattle.lf_coverage.proofs.NoCase.{never_gives_no_case}
 use Rattle.lf_coverage.specs.ExamplesRenumbering.{successor_store, unknown}
@@ -120,7 +121,7 @@ zero_after = record {
   };
 }
 
-no_argument : IsPattern [] (base 0) []
+pub no_argument : IsPattern [] (base 0) []
 no_argument = record { places = λ Γ. tt; distinct = λ i j e. e }
 
 zero_run : Run Addition before_zero after_zero
@@ -269,3 +270,13 @@ successor_none = (
 -- the store is ready, and X := s X' solves it
 pub successor_done : IsWellFormed Addition successor_store × (after : Store) × Solved Addition successor_store after × (after.bindings ≡ record { of = 2; value = successor (unknown 0) } ∷ [])
 successor_done = (successor_before, after_successor, successor_solved, refl)
+
+-- the stores of X with z and with s have a typed unifier
+pub zero_has_unifier : Never Addition [] (split_store first_below_second 1 nat two 0 (constant 0) nat star) → ⊥
+zero_has_unifier n = solved_not_never Addition addition_ok before_zero after_zero zero_solved n
+
+pub successor_has_unifier : Never Addition [] (split_store first_below_second 1 nat two 0 (constant 1) (pi nat nat) star) → ⊥
+successor_has_unifier n = solved_not_never Addition addition_ok before_successor after_successor successor_solved n
+
+pub plus_listed : Listed (HeadIsSolved Addition first_below_second plus_input_goal 1 nat) plus_offers (plus_zero_case ∷ plus_successor_case ∷ [])
+plus_listed = with_case (record { kind = star; of_family = refl; no_block = tt; finds = (after_zero, zero_solved, refl) }) (with_case (record { kind = star; of_family = refl; no_block = tt; finds = (after_successor, successor_solved, refl) }) no_offer)

@@ -147,3 +147,7 @@ pub mod HeadsOverEntries
 pub mod OwnHeads
 pub mod ExamplesTwinsCases
 pub mod ExamplesTwinsReached
+pub mod RefutedSplits
+pub mod ExamplesRefuted
+pub mod CandidateRuns
+pub mod CandidateRunCovers

@@ -70,7 +70,7 @@ all_free (free_variable X ∷ I) h zero A g = refl
 all_free (free_variable X ∷ I) h (suc i) A (B, g, e) = all_free I h i B g
 all_free (block_variable B υ ∷ I) h i A g = absurd h
 
-no_first : {Σ : Signature} {W : List Block} {S : ℕ → Bool} {G : List LfType} (w : World Σ W S G) (I : List Item) (σ : ℕ → Image) (g : IsGroundInstance w I σ) (B : Block) (θ : ℕ → Image) → HasNoBlockVariable I → FirstInstance w I σ g B θ → ⊥
+pub no_first : {Σ : Signature} {W : List Block} {S : ℕ → Bool} {G : List LfType} (w : World Σ W S G) (I : List Item) (σ : ℕ → Image) (g : IsGroundInstance w I σ) (B : Block) (θ : ℕ → Image) → HasNoBlockVariable I → FirstInstance w I σ g B θ → ⊥
 no_first w [] σ g B θ h f = f
 no_first w (free_variable A ∷ I) σ (N, τ, g, t, e) B θ h f = no_first w I τ g B θ h f
 no_first w (block_variable C υ ∷ I) σ g B θ h f = h

@@ -13,7 +13,7 @@ use Rattle.lf_cases.specs.Reached.{SplitHead, arguments_count, split_items}
 use Rattle.lf_cases.specs.Split.{HasNoBlockVariable}
 use Rattle.lf_cases.proofs.Subordinate.{below_is_subordination}
 use Rattle.lf_coverage.specs.HeadOrder.{Offer}
-use Rattle.lf_coverage.specs.Heads.{IsTypedCase}
+use Rattle.lf_coverage.specs.Heads.{ArgumentsAreBelow, IsTypedCase}
 use Rattle.lf_coverage.specs.SplitStore.{AllFamiliesIn, split_store}
 use Rattle.lf_coverage.specs.Subordinate.{AllQuantifiersAreBelow}
 use Rattle.lf_coverage.specs.SubordinateRuns.{ComesBy, comes_itself, comes_by_split, SolvedQuantifiesBelow, AnsweredSplitIsSolved, AnsweredSplitIsAnswer, RunQuantifiesBelow, InputRunQuantifiesBelow, AnsweredRunCovers, AnsweredRunCoversInputs}
@@ -31,7 +31,7 @@ use Rattle.lf_coverage.proofs.Unified.{unified_split}
 
 -- contexts and items
 module _ (below : ℕ → ℕ → Bool) where
-  all_everywhere : (G : List LfType) → AllQuantifiersAreBelow below G → AllByRecursion (BelowEverywhere below) G
+  pub all_everywhere : (G : List LfType) → AllQuantifiersAreBelow below G → AllByRecursion (BelowEverywhere below) G
   all_everywhere [] h = tt
   all_everywhere (A ∷ G) (a, h) = (as_everywhere below A a, all_everywhere G h)
 
@@ -63,6 +63,11 @@ module _ (Σ : Signature) (ok : IsSignature Σ) (W : List Block) (typed : AreTyp
       takes_below = arguments_below below Σ W (below_is_subordination Σ ok W typed below test) sp.type (below_at below (items_context C.items) q x sp.type sp.at);
       arguments_below = λ J n h A sh. arguments_below below Σ W (below_is_subordination Σ ok W typed below test) A (heads_quantify_below Σ W below test C.items q x sp.type sp.at J n h A sh (no_block J n h A sh));
     }
+
+    -- the families in the types of what the variable and the heads take
+    pub answered_arguments_below : ArgumentsAreBelow below sp.type × ((J : List Item) (n : ℕ) (h : Head) (A : LfType) → SplitHead Σ W C.items sp.type J n h A → ArgumentsAreBelow below A)
+    unfolding is_solved
+    answered_arguments_below = (is_solved.takes_below, is_solved.arguments_below)
 
     cases_below : (D : Case) → Member D Cs → AllQuantifiersAreBelow below (items_context D.items)
     cases_below D m = let (h, k, a) = head_of_case sp.listed D m in by h (sp.are_offers.each h k) a

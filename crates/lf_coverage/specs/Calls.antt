@@ -60,8 +60,8 @@ pub record AreCasesBeside (Σ : Signature) (W : List Block) (below : ℕ → ℕ
 abbrev pub AreCasesOf : Signature → List Block → (ℕ → ℕ → Bool) → Case → ℕ → List Case → Type 0
 AreCasesOf Σ W below C x Cs = AreCasesBeside Σ W below C x Cs (λ S A. FamiliesIn S A)
 
--- So it is beside those that hold the families in the types of all items: enough for a run. What this law leaves open of the whole promise is that
--- items on which neither the variable nor a head depends need no value in the set.
+-- So it is beside those that hold the families in the types of all items: this follows where unification never solves or is solved
+-- (`AnsweredSplitIsAnswer`). Beside the others too it follows where steps refute what is never solved (`RefutedSplitIsAnswer`).
 abbrev pub AreCasesBesideAll : Signature → List Block → (ℕ → ℕ → Bool) → Case → ℕ → List Case → Type 0
 AreCasesBesideAll Σ W below C x Cs = AreCasesBeside Σ W below C x Cs (λ S A. AllFamiliesIn S (items_context C.items))
 

@@ -31,6 +31,9 @@ pub mod Laws
 pub mod RunLaws
 pub mod ExamplesRuns
 pub mod SubordinateRuns
+pub mod RefutedSplits
+pub mod ExamplesRefuted
+pub mod CandidateRuns
 pub mod ExamplesSubordinate
 pub mod Renumbering
 pub mod RenumberingLaws

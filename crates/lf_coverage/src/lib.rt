@@ -32,6 +32,9 @@ ghost use Rattle.lf_coverage.specs.ExamplesCopying.{CopyIsSplitByHeads, CopyCase
 ghost use Rattle.lf_coverage.specs.ExamplesTwins.{TwinsAreSplit, TwinCasesAreAnswers, TwinCasesAreReached, TwinRunCovers, TwinsAreOneInstance, TwinsAreMatched};
 ghost use Rattle.lf_coverage.specs.NumberedHeads.{NumberedHeadsAreAll, EntryOnOwnTermsIsRead};
 ghost use Rattle.lf_coverage.specs.NewInstance.{NewInstanceIsOfNewBlock, NewInstanceStaysApart, HeadsAreOverEntries};
+ghost use Rattle.lf_coverage.specs.RefutedSplits.{RunInExtension, RefutedGivesNone, SolvedGivesCaseBeside, RefutedSplitIsAnswer, RefutedRunCovers};
+ghost use Rattle.lf_coverage.specs.ExamplesRefuted.{KeptIsSplit, KeptIsWithin, PlusRunIsAtCandidate, SuccessorIsRefuted};
+ghost use Rattle.lf_coverage.specs.CandidateRuns.{CandidateIsInSet, CandidateRunCovers, ClosedSetsAreWithin, CandidateRunAnswersOutputs};
 ghost use Rattle.lf_coverage.specs.ExamplesInstances.{EntryIsHead, SecondIsApart, BindingMovesOwnTerms};
 
 /// The heads of a split give all its cases.
@@ -836,4 +839,41 @@ pub fn twin_cases_are_answers()
 /// And the strategy reaches them.
 pub fn twin_cases_are_reached()
     ensures { TwinCasesAreReached }
+{}
+
+/// Steps stay steps in each extension of the signature, so what they refute gives no case there, and what they solve gives one.
+pub fn refuted_gives_none()
+    ensures runs { RunInExtension }
+    ensures none { RefutedGivesNone }
+    ensures case { SolvedGivesCaseBeside }
+{}
+
+/// So the cases of a split are those of the variable beside each set that holds the families of its type.
+pub fn refuted_split_is_answer()
+    ensures { RefutedSplitIsAnswer }
+{}
+
+/// And a run of such splits covers its goal.
+pub fn refuted_run_covers()
+    ensures { RefutedRunCovers }
+{}
+
+/// A number is split beside a set that doesn't hold the family of another variable, and different constants are refuted.
+pub fn kept_is_split()
+    ensures kept { KeptIsSplit }
+    ensures refuted { SuccessorIsRefuted }
+    ensures run { PlusRunIsAtCandidate }
+    ensures within { KeptIsWithin }
+{}
+
+/// A candidate is of a family of each set beside which its case is to be covered.
+pub fn candidate_is_in_set()
+    ensures { CandidateIsInSet }
+{}
+
+/// So a run that splits at candidates covers its goal.
+pub fn candidate_run_covers()
+    ensures runs { CandidateRunCovers }
+    ensures within { ClosedSetsAreWithin }
+    ensures outputs { CandidateRunAnswersOutputs }
 {}
