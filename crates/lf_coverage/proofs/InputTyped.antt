@@ -120,7 +120,7 @@ module _ (Σ : Signature) (ok : IsSignature Σ) (W : List Block) (typed : AreTyp
   goal_items_typed V (false ∷ bs) (kind_pi A K) G ρ I cg (t, k) m r c a = goal_items_typed (hide V) bs K (A ∷ G) (past_place ρ) I (cg, t) k m (renames_other V G (items_context I) ρ A r) (closed_other V G A c) a
 
   -- an item stands behind those of the later places
-  goal_behind : (b : List Bool) (K : Kind) (ρ : ℕ → ℕ) (I : List Item) (i : ℕ) (B : LfType) → TypeAt (items_context I) i B → TypeAt (items_context (goal_items b K ρ I)) (i + chosen_count b K) (rename_type (shift_by (chosen_count b K)) B)
+  pub goal_behind : (b : List Bool) (K : Kind) (ρ : ℕ → ℕ) (I : List Item) (i : ℕ) (B : LfType) → TypeAt (items_context I) i B → TypeAt (items_context (goal_items b K ρ I)) (i + chosen_count b K) (rename_type (shift_by (chosen_count b K)) B)
   goal_behind [] K ρ I i B g = subst (λ j. TypeAt (items_context I) j (rename_type (shift_by 0) B)) (none i) (subst (TypeAt (items_context I) i) (sym (no_shift_type B)) g)
     where
       none : (i : ℕ) → i ≡ i + 0

@@ -151,3 +151,11 @@ pub mod RefutedSplits
 pub mod ExamplesRefuted
 pub mod CandidateRuns
 pub mod CandidateRunCovers
+pub mod PatternTerms
+pub mod PatternSteps
+pub mod PatternValues
+pub mod PatternTests
+pub mod PatternCases
+pub mod ExamplesPatterns
+pub mod PatternHeads
+pub mod PatternRuns

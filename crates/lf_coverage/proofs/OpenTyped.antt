@@ -24,7 +24,7 @@ open_variable_is (suc k) (suc i) = by (open_variable_is k i)
     by (inr (m, e)) = inr (m, ap (rename_head suc) e)
 
 -- Renaming.
-abbrev Moves : ℕ → ℕ → (ℕ → ℕ) → Type 0
+abbrev pub Moves : ℕ → ℕ → (ℕ → ℕ) → Type 0
 Moves k l ρ = (i : ℕ) → open_variable l (ρ i) ≡ rename_head ρ (open_variable k i)
 
 head_past : (ρ : ℕ → ℕ) (h : Head) → rename_head suc (rename_head ρ h) ≡ rename_head (lift_renaming ρ) (rename_head suc h)
@@ -37,17 +37,17 @@ moves_under k l ρ h zero = refl
 moves_under k l ρ h (suc i) = ap (rename_head suc) (h i) ∙ head_past ρ (open_variable k i)
 
 mutual
-  open_renamed : (k l : ℕ) (ρ : ℕ → ℕ) → Moves k l ρ → (M : Term) → open_term l (rename ρ M) ≡ rename ρ (open_term k M)
+  pub open_renamed : (k l : ℕ) (ρ : ℕ → ℕ) → Moves k l ρ → (M : Term) → open_term l (rename ρ M) ≡ rename ρ (open_term k M)
   open_renamed k l ρ h (lambda M) = ap lambda (open_renamed (suc k) (suc l) (lift_renaming ρ) (moves_under k l ρ h) M)
   open_renamed k l ρ h (root (constant c) S) = ap (root (constant c)) (open_renamed_spine k l ρ h S)
   open_renamed k l ρ h (root (metavariable m) S) = ap (root (metavariable m)) (open_renamed_spine k l ρ h S)
   open_renamed k l ρ h (root (variable i) S) = ap₂ root (h i) (open_renamed_spine k l ρ h S)
 
-  open_renamed_spine : (k l : ℕ) (ρ : ℕ → ℕ) → Moves k l ρ → (S : Spine) → open_spine l (rename_spine ρ S) ≡ rename_spine ρ (open_spine k S)
+  pub open_renamed_spine : (k l : ℕ) (ρ : ℕ → ℕ) → Moves k l ρ → (S : Spine) → open_spine l (rename_spine ρ S) ≡ rename_spine ρ (open_spine k S)
   open_renamed_spine k l ρ h nil = refl
   open_renamed_spine k l ρ h (app M S) = ap₂ app (open_renamed k l ρ h M) (open_renamed_spine k l ρ h S)
 
-open_renamed_type : (k l : ℕ) (ρ : ℕ → ℕ) → Moves k l ρ → (A : LfType) → open_type l (rename_type ρ A) ≡ rename_type ρ (open_type k A)
+pub open_renamed_type : (k l : ℕ) (ρ : ℕ → ℕ) → Moves k l ρ → (A : LfType) → open_type l (rename_type ρ A) ≡ rename_type ρ (open_type k A)
 open_renamed_type k l ρ h (pi A B) = ap₂ pi (open_renamed_type k l ρ h A) (open_renamed_type (suc k) (suc l) (lift_renaming ρ) (moves_under k l ρ h) B)
 open_renamed_type k l ρ h (atom a S) = ap (atom a) (open_renamed_spine k l ρ h S)
 

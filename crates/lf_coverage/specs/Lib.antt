@@ -53,3 +53,8 @@ pub mod ExamplesTwins
 pub mod NumberedHeads
 pub mod NewInstance
 pub mod ExamplesInstances
+pub mod PatternStores
+pub mod PatternCases
+pub mod ExamplesPatterns
+pub mod PatternHeads
+pub mod PatternRuns

@@ -36,6 +36,11 @@ ghost use Rattle.lf_coverage.specs.RefutedSplits.{RunInExtension, RefutedGivesNo
 ghost use Rattle.lf_coverage.specs.ExamplesRefuted.{KeptIsSplit, KeptIsWithin, PlusRunIsAtCandidate, SuccessorIsRefuted};
 ghost use Rattle.lf_coverage.specs.CandidateRuns.{CandidateIsInSet, CandidateRunCovers, ClosedSetsAreWithin, CandidateRunAnswersOutputs};
 ghost use Rattle.lf_coverage.specs.ExamplesInstances.{EntryIsHead, SecondIsApart, BindingMovesOwnTerms};
+ghost use Rattle.lf_coverage.specs.PatternStores.{StepKeepsPatterns, StepKeepsTypePatterns, SolvedKeepsPatterns};
+ghost use Rattle.lf_coverage.specs.PatternCases.{SolvedCaseIsPattern, PatternCaseHasPatterns};
+ghost use Rattle.lf_coverage.specs.ExamplesPatterns.{BoundAreDistinct, EquationsOfPatterns, StuckIsNoPattern, NatHasNoIndices};
+ghost use Rattle.lf_coverage.specs.PatternHeads.{HeadArgumentsArePatterns, VariablesArePatterns, HeadTermIsPattern};
+ghost use Rattle.lf_coverage.specs.PatternRuns.{RunKeepsPatterns, InputRunHasPatterns};
 
 /// The heads of a split give all its cases.
 pub fn head_split_is_split()
@@ -876,4 +881,38 @@ pub fn candidate_run_covers()
     ensures runs { CandidateRunCovers }
     ensures within { ClosedSetsAreWithin }
     ensures outputs { CandidateRunAnswersOutputs }
+{}
+
+/// Each step of unification takes a store of patterns to one, and so does solving; declared types that have patterns stay so.
+pub fn steps_keep_patterns()
+    ensures step { StepKeepsPatterns }
+    ensures types { StepKeepsTypePatterns }
+    ensures solved { SolvedKeepsPatterns }
+{}
+
+/// So the case that is read off is one of patterns, where the split store is; and it stands on patterns as matching asks.
+pub fn solved_case_is_pattern()
+    ensures solved { SolvedCaseIsPattern }
+    ensures matching { PatternCaseHasPatterns }
+{}
+
+/// F z isn't a metavariable on distinct bound variables, so eq z (F z) is no case of patterns; nat has no indices.
+pub fn stuck_is_no_pattern()
+    ensures distinct { BoundAreDistinct }
+    ensures equations { EquationsOfPatterns }
+    ensures stuck { StuckIsNoPattern }
+    ensures indices { NatHasNoIndices }
+{}
+
+/// The new variables of a head stand on distinct variables of those that the split variable takes, and a variable is a pattern.
+pub fn head_arguments_are_patterns()
+    ensures arguments { HeadArgumentsArePatterns }
+    ensures variables { VariablesArePatterns }
+    ensures head { HeadTermIsPattern }
+{}
+
+/// Over families without indices each case of a run by unification stands on patterns, from the goal of inputs on.
+pub fn run_keeps_patterns()
+    ensures run { RunKeepsPatterns }
+    ensures inputs { InputRunHasPatterns }
 {}

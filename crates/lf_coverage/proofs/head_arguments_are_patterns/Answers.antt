@@ -1,0 +1,11 @@
+use Rattle.lf_coverage.proofs.PatternHeads.{head_arguments_are_patterns, head_term_is_pattern, variables_are_patterns}
+use Rattle.lf_coverage.proofs.head_arguments_are_patterns.Goals as goal
+
+pub returns-clause-arguments : goal.returns-clause-arguments
+returns-clause-arguments c = head_arguments_are_patterns
+
+pub returns-clause-variables : goal.returns-clause-variables
+returns-clause-variables c = variables_are_patterns
+
+pub returns-clause-head : goal.returns-clause-head
+returns-clause-head c = head_term_is_pattern
