@@ -1,15 +1,16 @@
 -- What declaring and binding keep.
-use Rattle.std.proofs.Common.{◌≡◌, ℕ, zero, suc, ◌+◌, List, [], ◌∷◌, ◌++◌, length, Option, Some, None, slice_get, slice_set, refl, sym, ap, ◌∙◌, subst, arith}
+use Rattle.std.proofs.Common.{◌≡◌, ℕ, zero, suc, ◌+◌, List, [], ◌∷◌, ◌++◌, length, Option, Some, None, Result, Ok, Err, IfOk, Bool, IsTrue, slice_get, slice_set, refl, sym, ap, ◌∙◌, subst, arith}
 use Rattle.std.specs.Option.{option_map}
+use Rattle.std.specs.declared.alloc.AllocError.{AllocError}
 use Rattle.lf.specs.Entries.{Entry, signature_of}
 use Rattle.lf.specs.SkeletonTyping.{TermSkeleton}
 use Rattle.lf.specs.Syntax.{LfType, Skeleton, Spine, Term, metavariable, root, skeleton}
 use Rattle.lf_unification.specs.OpenTyping.{MetavariablesIn, MetavariablesInSpine}
-use Rattle.tw_metas.specs.State.{Declaration, IsUnbound, State, Story, changed, empty_state, empty_story, joined, value_of, with_declared, with_value}
+use Rattle.tw_metas.specs.State.{Declaration, IsUnbound, State, Story, changed, empty_story, joined, value_of, with_declared, with_value}
 use Rattle.tw_putting.specs.Stores.{types_of}
 use Rattle.tw_putting.proofs.Kept.{bind_keeps, bind_keeps_bound, declare_keeps, declare_keeps_bound, empty_by_skeletons}
 use Rattle.tw_putting.proofs.Walks.{unbound_from}
-use Rattle.tests_substitution.specs.Kept.{IsBound, IsFree, heads_of}
+use Rattle.tests_substitution.specs.Kept.{IsBound, IsFree, MayHave, heads_of}
 
 length_grown : {A : Type 0} (xs : List A) (y : A) → length (xs ++ y ∷ []) ≡ length xs + 1
 length_grown [] y = refl
@@ -62,7 +63,7 @@ value_is_bound σ Γ y z m N d p b g v t f =
 pub at_other : (s : State) (m n : ℕ) (M : Term) (S : Spine) → M ≡ root (metavariable n) S → (n ≡ m → ⊥) → value_of s n ≡ None → MetavariablesInSpine (IsFree s m) S → MetavariablesIn (IsFree s m) M
 at_other s m n M S p d v i = subst (MetavariablesIn (IsFree s m)) (sym p) ((d, unbound_from s.values n v s.bound), i)
 
--- there is no value where none was found
-pub not_some : {A B : Type 0} (f : A → B) (o : Option A) (u : Option B) → ((x : A) → o ≡ Some x → ⊥) → option_map f o ≡ u → u ≡ None
-not_some f None u n e = sym e
-not_some f (Some x) u n e = absurd (n x refl)
+-- a metavariable may have what its type allows
+pub may_have_by : (σ : List Entry) (Γ : List Skeleton) (s : State) (m : ℕ) (N : Term) (d : Declaration) (r : Result Bool AllocError) → slice_get s.declared m ≡ Some d → value_of s m ≡ None → MetavariablesIn (IsFree s m) N → IfOk r (λ b. IsTrue b → TermSkeleton (heads_of σ s) Γ N (skeleton d.of_type)) → IfOk r (λ b. IsTrue b → MayHave σ Γ s m N)
+may_have_by σ Γ s m N d (Err e) g v f k = k
+may_have_by σ Γ s m N d (Ok b) g v f k = λ x. record { declaration = d; is_declared = g; has_none = v; typed = k x; others = f }

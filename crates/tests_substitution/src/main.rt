@@ -2,67 +2,117 @@
 #![tactic(auto)]
 
 #[tactic(auto, using(tw_putting::proofs::Environments::environments))]
+mod binding;
+mod filling;
+mod moving;
+#[tactic(auto, using(tw_putting::proofs::Environments::environments))]
 mod putting;
+mod reading;
+mod showing;
 #[tactic(auto, using(tw_putting::proofs::Openings::openings))]
 mod skeletons;
 #[tactic(auto, using(tw_putting::proofs::Environments::environments))]
 mod stores;
+mod substituting;
+#[tactic(auto, using(tw_putting::proofs::Environments::environments))]
 mod substitution;
+#[tactic(auto, using(tw_putting::proofs::Openings::openings))]
+mod typing;
+mod values;
 
-use crate::substitution::{moved, put};
 use std::alloc::Global;
 use std::{fs, io};
 use tests_forms::{Case, FormFault, Names, read_cases, read_signature};
 use tw_signature::Signature;
 
-/// The files of cases, in order.
-const FILES: [&str; 2] = ["substitution.txt", "depth.txt"];
-
-// what came out of the case
-fn answer(
+// Adds what comes out of a case to the line.
+fn put_answer(
     alloc: Global,
     signature: &Signature,
     names: &mut Names,
     case: &Case,
-) -> Result<String, FormFault> {
+    line: &mut String,
+) -> Result<(), FormFault> {
     match case.kind.as_str() {
-        "shift" | "open" | "close" => moved(alloc, names, case),
-        "substitute" | "instantiate" | "apply" | "put" => put(alloc, signature, names, case),
+        "shift" | "open" | "close" => moving::put_answer(alloc, names, case, line),
+        "substitute" | "instantiate" | "apply" | "put" => {
+            values::put_answer(alloc, signature, names, case, line)
+        }
         _ => Err(FormFault::NoMeaning),
     }
+}
+
+// Prints the line of a case, or why there is none.
+fn tell(
+    rt: &HostRuntime,
+    name: &str,
+    line: &str,
+    outcome: Result<(), FormFault>,
+) -> io::Result<()> {
+    match outcome {
+        Ok(()) => println!(rt; "{name}: {line}"),
+        Err(fault) => tell_fault(rt, name, fault),
+    }
+}
+
+fn tell_fault(rt: &HostRuntime, name: &str, fault: FormFault) -> io::Result<()> {
+    match fault {
+        FormFault::NoMeaning => println!(rt; "{name} can't be read"),
+        FormFault::NoMemory => println!(rt; "{name} wants memory"),
+    }
+}
+
+fn run_case(
+    rt: &HostRuntime,
+    signature: &Signature,
+    names: &mut Names,
+    case: &Case,
+) -> io::Result<()> {
+    let alloc = rt.alloc();
+    names.forget_all_but_constants(alloc);
+    let mut line = String::new(alloc);
+    let outcome = put_answer(alloc, signature, names, case, &mut line);
+    tell(rt, case.name.as_str(), line.as_str(), outcome)
 }
 
 fn run_cases(
     rt: &HostRuntime,
     signature: &Signature,
     names: &mut Names,
-    file: &str,
+    cases: &[Case],
 ) -> io::Result<()> {
-    let alloc = rt.alloc();
-    let text = fs::read_to_string(rt, file)?;
-    let Ok(cases) = read_cases(alloc, text.as_str()) else {
-        return println!(rt; "{file} can't be read");
-    };
-    println!(rt; "{file}")?;
-    for case in &cases {
-        names.forget_all_but_constants(alloc);
-        let name = &case.name;
-        match answer(alloc, signature, names, case) {
-            Ok(line) => println!(rt; "{name}: {line}")?,
-            Err(FormFault::NoMeaning) => println!(rt; "{name} can't be read")?,
-            Err(FormFault::NoMemory) => println!(rt; "{name} wants memory")?,
-        }
+    for case in cases {
+        run_case(rt, signature, names, case)?;
     }
     Ok(())
 }
 
+// Prints the name of the file, and a line for each of its cases.
+fn run_file(
+    rt: &HostRuntime,
+    signature: &Signature,
+    names: &mut Names,
+    file: &str,
+) -> io::Result<()> {
+    let text = fs::read_to_string(rt, file)?;
+    match read_cases(rt.alloc(), text.as_str()) {
+        Ok(cases) => {
+            println!(rt; "{file}")?;
+            run_cases(rt, signature, names, &cases)
+        }
+        Err(fault) => tell_fault(rt, file, fault),
+    }
+}
+
 fn main(rt: HostRuntime) -> io::Result<()> {
     let text = fs::read_to_string(&rt, "numbers.txt")?;
-    let Ok((signature, mut names)) = read_signature(rt.alloc(), text.as_str()) else {
-        return println!(rt; "numbers.txt can't be read");
-    };
-    for file in FILES {
-        run_cases(&rt, &signature, &mut names, file)?;
+    match read_signature(rt.alloc(), text.as_str()) {
+        Ok((signature, mut names)) => run(&rt, &signature, &mut names),
+        Err(fault) => tell_fault(&rt, "numbers.txt", fault),
     }
-    Ok(())
+}
+
+fn run(rt: &HostRuntime, signature: &Signature, names: &mut Names) -> io::Result<()> {
+    run_file(rt, signature, names, "substitution.txt")?;
+    run_file(rt, signature, names, "depth.txt")
 }

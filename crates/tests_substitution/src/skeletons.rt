@@ -1,10 +1,10 @@
-//! Typing by skeletons, decided by running it.
-ghost use Rattle.std.specs.Prelude.{◌≡◌, ◌∷◌, ◌++◌, IfOk, IfSome, IsTrue, map, option_map, slice_get};
+//! Skeletons of variables, families and heads.
+ghost use Rattle.std.specs.Prelude.{◌≡◌, ◌∷◌, [], ◌++◌, IfOk, IfSome, OnOk, map, option_map, slice_get};
 ghost use Rattle.lf.specs.Entries.{signature_of};
 ghost use Rattle.lf.specs.Skeletons.{family_skeletons};
-ghost use Rattle.lf.specs.SkeletonTyping.{HeadSkeleton, SpineSkeleton, TermSkeleton, TypeBySkeletons};
-ghost use Rattle.lf.specs.Syntax.{kind_skeleton as skeleton_of_kind};
-ghost use Rattle.tw_terms.specs.OpenView.{open_head_of, open_spine_of, open_term_of, open_type_of};
+ghost use Rattle.lf.specs.SkeletonTyping.{HeadSkeleton};
+ghost use Rattle.lf.specs.Syntax.{kind_skeleton as skeleton_of_kind, skeleton as skeleton_of_type};
+ghost use Rattle.tw_terms.specs.OpenView.{open_head_of, open_type_of};
 ghost use Rattle.tw_terms.specs.View.{kind_of, skeleton_of};
 ghost use Rattle.tests_substitution.specs.Kept.{heads_of};
 
@@ -12,7 +12,29 @@ use std::alloc::{AllocError, Global};
 use tw_metas::Store;
 use tw_putting::open_skeleton;
 use tw_signature::Signature;
-use tw_terms::{ConstId, Kind, Open, OpenHead, OpenSpine, OpenTy, Skeleton, skeleton};
+use tw_terms::{ConstId, Kind, OpenHead, OpenTy, Skeleton, skeleton};
+
+/// Adds copies of the skeletons.
+fn push_all(
+    alloc: Global,
+    skeletons: &[Skeleton],
+    all: &mut Vec<Skeleton>,
+) -> Result<(), AllocError>
+    ensures { OnOk result (map skeleton_of all.new.items ≡ map skeleton_of all.old.items ++ map skeleton_of skeletons.now) }
+{
+    for skeleton in skeletons {
+        push_copy(alloc, skeleton, all)?;
+    }
+    Ok(())
+}
+
+/// Adds a copy of the skeleton.
+fn push_copy(alloc: Global, skeleton: &Skeleton, all: &mut Vec<Skeleton>) -> Result<(), AllocError>
+    ensures { OnOk result (map skeleton_of all.new.items ≡ map skeleton_of all.old.items ++ (skeleton_of skeleton.now ∷ [])) }
+{
+    all.push(skeleton.copy(alloc)?)?;
+    Ok(())
+}
 
 /// The skeletons, and the others behind them.
 pub(crate) fn followed(
@@ -23,12 +45,8 @@ pub(crate) fn followed(
     ensures { IfOk result (λ v. map skeleton_of v.items ≡ map skeleton_of first.now ++ map skeleton_of others.now) }
 {
     let mut all = Vec::new(alloc);
-    for skeleton in first {
-        all.push(skeleton.copy(alloc)?)?;
-    }
-    for other in others {
-        all.push(other.copy(alloc)?)?;
-    }
+    push_all(alloc, first, &mut all)?;
+    push_all(alloc, others, &mut all)?;
     Ok(all)
 }
 
@@ -41,11 +59,21 @@ pub(crate) fn under(
     ensures { IfOk result (λ v. map skeleton_of v.items ≡ skeleton_of newest.now ∷ map skeleton_of variables.now) }
 {
     let mut inside = Vec::new(alloc);
-    inside.push(newest.copy(alloc)?)?;
-    for variable in variables {
-        inside.push(variable.copy(alloc)?)?;
-    }
+    push_copy(alloc, newest, &mut inside)?;
+    push_all(alloc, variables, &mut inside)?;
     Ok(inside)
+}
+
+/// The skeletons with that of the type in front.
+pub(crate) fn under_type(
+    alloc: Global,
+    ty: &OpenTy,
+    variables: &[Skeleton],
+) -> Result<Vec<Skeleton>, AllocError>
+    ensures { IfOk result (λ v. map skeleton_of v.items ≡ skeleton_of_type (open_type_of ty.now) ∷ map skeleton_of variables.now) }
+{
+    let newest = open_skeleton(alloc, ty)?;
+    under(alloc, &newest, variables)
 }
 
 /// The skeletons of variables, the newest first: those inside of this one, then this one, then those outside.
@@ -78,7 +106,7 @@ fn kind_skeleton(alloc: Global, family: ConstId, kind: &Kind) -> Result<Skeleton
 }
 
 /// The skeleton of a family.
-fn family_skeleton(
+pub(crate) fn family_skeleton(
     alloc: Global,
     signature: &Signature,
     family: ConstId,
@@ -107,7 +135,7 @@ fn variable_skeleton(
 }
 
 /// The skeleton of a head.
-fn head_skeleton(
+pub(crate) fn head_skeleton(
     alloc: Global,
     signature: &Signature,
     store: &Store,
@@ -125,90 +153,6 @@ fn head_skeleton(
         OpenHead::Meta(meta) => match store.about(meta) {
             Some((_, ty)) => Ok(Some(open_skeleton(alloc, ty)?)),
             None => Ok(None),
-        },
-    }
-}
-
-/// Whether the term has the skeleton.
-#[cycle(typed)]
-pub(crate) fn term_has(
-    alloc: Global,
-    term: &Open,
-    made: &Skeleton,
-    signature: &Signature,
-    store: &Store,
-    variables: &[Skeleton],
-) -> Result<bool, AllocError>
-    ensures { IfOk result (λ b. IsTrue b → TermSkeleton (heads_of signature.now store.now.now) (map skeleton_of variables.now) (open_term_of term.now) (skeleton_of made.now)) }
-{
-    match (term, made) {
-        (Open::Lam(body), Skeleton::Arrow(domain, range)) => {
-            let inside = under(alloc, domain, variables)?;
-            term_has(alloc, body, range, signature, store, &inside)
-        }
-        (Open::Root(head, spine), Skeleton::Base(_)) => {
-            match head_skeleton(alloc, signature, store, variables, *head)? {
-                Some(taken) => spine_has(alloc, spine, &taken, made, signature, store, variables),
-                None => Ok(false),
-            }
-        }
-        _ => Ok(false),
-    }
-}
-
-/// Whether the arguments take one skeleton to another.
-#[cycle(typed)]
-pub(crate) fn spine_has(
-    alloc: Global,
-    spine: &OpenSpine,
-    taken: &Skeleton,
-    made: &Skeleton,
-    signature: &Signature,
-    store: &Store,
-    variables: &[Skeleton],
-) -> Result<bool, AllocError>
-    ensures { IfOk result (λ b. IsTrue b → SpineSkeleton (heads_of signature.now store.now.now) (map skeleton_of variables.now) (open_spine_of spine.now) (skeleton_of taken.now) (skeleton_of made.now)) }
-{
-    let mut rest = taken;
-    for arg in &spine.args {
-        match rest {
-            Skeleton::Arrow(domain, range) => {
-                if !term_has(alloc, arg, domain, signature, store, variables)? {
-                    return Ok(false);
-                }
-                rest = range;
-            }
-            Skeleton::Base(_) => return Ok(false),
-        }
-    }
-    Ok(rest.same(made))
-}
-
-/// Whether skeletons type the type.
-pub(crate) fn type_has(
-    alloc: Global,
-    ty: &OpenTy,
-    signature: &Signature,
-    store: &Store,
-    variables: &[Skeleton],
-) -> Result<bool, AllocError>
-    ensures { IfOk result (λ b. IsTrue b → TypeBySkeletons (family_skeletons (signature_of signature.now)) (heads_of signature.now store.now.now) (map skeleton_of variables.now) (open_type_of ty.now)) }
-{
-    match ty {
-        OpenTy::Pi(domain, range) => {
-            if !type_has(alloc, domain, signature, store, variables)? {
-                return Ok(false);
-            }
-            let newest = open_skeleton(alloc, domain)?;
-            let inside = under(alloc, &newest, variables)?;
-            type_has(alloc, range, signature, store, &inside)
-        }
-        OpenTy::Atom(family, spine) => match family_skeleton(alloc, signature, *family)? {
-            Some(taken) => {
-                let made = Skeleton::Base(*family);
-                spine_has(alloc, spine, &taken, &made, signature, store, variables)
-            }
-            None => Ok(false),
         },
     }
 }

@@ -1,44 +1,31 @@
-//! Stores with values that skeletons type.
-ghost use Rattle.std.specs.Prelude.{IfOk, IfSome, IsTrue, map};
+//! Metavariables that are declared, and values that skeletons type, which they get one after another.
+ghost use Rattle.std.specs.Prelude.{◌≡◌, IfOk, IsTrue, None, OnOk, map};
+ghost use Rattle.lf.specs.SkeletonTyping.{TermSkeleton};
+ghost use Rattle.lf.specs.Syntax.{skeleton};
 ghost use Rattle.lf_unification.specs.OpenTyping.{MetavariablesIn, MetavariablesInSpine};
-ghost use Rattle.tw_terms.specs.OpenView.{open_spine_of, open_term_of};
+ghost use Rattle.tw_metas.specs.State.{value_of};
+ghost use Rattle.tw_terms.specs.OpenView.{open_spine_of, open_term_of, open_type_of};
 ghost use Rattle.tw_terms.specs.View.{skeleton_of};
-ghost use Rattle.tests_substitution.specs.Kept.{IsBound, IsFree};
+ghost use Rattle.tests_substitution.specs.Kept.{IsBound, IsFree, KeepsBound, MayHave, heads_of};
 
-use crate::skeletons::term_has;
+use crate::typing::term_has;
 use std::alloc::{AllocError, Global};
 use tw_metas::Store;
 use tw_putting::open_skeleton;
 use tw_signature::Signature;
 use tw_terms::{MetaId, Open, OpenContext, OpenHead, OpenSpine, OpenTy, Skeleton};
 
-/// The store with metavariables of these types, which get these values in turn, in the context of these variables. None where skeletons don't type a value, or where
-/// it mentions its own metavariable or one that has a value.
-pub(crate) fn bound_store(
-    alloc: Global,
-    signature: &Signature,
-    outer: &[Skeleton],
-    types: &[OpenTy],
-    values: Vec<(MetaId, Open)>,
-) -> Result<Option<Store>, AllocError>
-    ensures { IfOk result (λ o. IfSome o (λ s. IsBound signature.now (map skeleton_of outer.now) s.now)) }
+/// One metavariable more, of this type, in the empty context.
+pub(crate) fn declare(alloc: Global, ty: &OpenTy, store: &mut Store) -> Result<(), AllocError>
+    ensures { OnOk result (KeepsBound store.old.now store.new.now) }
 {
-    let mut store = Store::new(alloc);
-    for ty in types {
-        let context = OpenContext::new(alloc);
-        let ty = ty.copy(alloc)?;
-        store.fresh(context, ty)?;
-    }
-    for (meta, value) in values {
-        if !bind(alloc, signature, outer, &mut store, meta, value)? {
-            return Ok(None);
-        }
-    }
-    Ok(Some(store))
+    let ty = ty.copy(alloc)?;
+    store.fresh(OpenContext::new(alloc), ty)?;
+    Ok(())
 }
 
 /// Gives the metavariable the value, if it may have it.
-fn bind(
+pub(crate) fn bind(
     alloc: Global,
     signature: &Signature,
     outer: &[Skeleton],
@@ -49,23 +36,61 @@ fn bind(
     requires { IsBound signature.now (map skeleton_of outer.now) store.old.now }
     ensures { IfOk result (λ b. IsTrue b → IsBound signature.now (map skeleton_of outer.now) store.new.now) }
 {
-    let Some((_, ty)) = store.about(meta) else {
-        return Ok(false);
-    };
-    let made = open_skeleton(alloc, ty)?;
-    if let Some(_) = store.value(meta) {
-        return Ok(false);
-    }
-    let typed = term_has(alloc, &value, &made, signature, store, outer)?;
-    if !typed {
-        return Ok(false);
-    }
-    let others = mentions_others(store, meta, &value);
-    if !others {
+    if !may_have(alloc, signature, outer, store, meta, &value)? {
         return Ok(false);
     }
     store.bind(meta, value)?;
     Ok(true)
+}
+
+/// Whether the metavariable may have the value: it has none, and the value has the skeleton of its type and mentions only other metavariables without a value.
+fn may_have(
+    alloc: Global,
+    signature: &Signature,
+    outer: &[Skeleton],
+    store: &Store,
+    meta: MetaId,
+    value: &Open,
+) -> Result<bool, AllocError>
+    ensures { IfOk result (λ b. IsTrue b → MayHave signature.now (map skeleton_of outer.now) store.now.now meta.0 (open_term_of value.now)) }
+{
+    let free = has_no_value(store, meta);
+    if !free {
+        return Ok(false);
+    }
+    let others = mentions_others(store, meta, value);
+    if !others {
+        return Ok(false);
+    }
+    match store.about(meta) {
+        Some((_, ty)) => has_type(alloc, value, ty, signature, store, outer),
+        None => Ok(false),
+    }
+}
+
+/// Whether the metavariable has no value.
+fn has_no_value(store: &Store, meta: MetaId) -> bool
+    ensures { IsTrue result → value_of store.now.now meta.0 ≡ None }
+{
+    match store.value(meta) {
+        Some(_) => false,
+        None => true,
+    }
+}
+
+/// Whether the term has the skeleton of the type.
+fn has_type(
+    alloc: Global,
+    value: &Open,
+    ty: &OpenTy,
+    signature: &Signature,
+    store: &Store,
+    outer: &[Skeleton],
+) -> Result<bool, AllocError>
+    ensures { IfOk result (λ b. IsTrue b → TermSkeleton (heads_of signature.now store.now.now) (map skeleton_of outer.now) (open_term_of value.now) (skeleton (open_type_of ty.now))) }
+{
+    let made = open_skeleton(alloc, ty)?;
+    term_has(alloc, value, &made, signature, store, outer)
 }
 
 /// Whether the term mentions only metavariables that have no value, and not this one.

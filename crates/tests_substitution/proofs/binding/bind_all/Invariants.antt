@@ -1,0 +1,7 @@
+use Rattle.std.proofs.Common.{map}
+use Rattle.tw_terms.specs.View.{skeleton_of}
+use Rattle.tests_substitution.specs.Kept.{IsBound}
+use Rattle.tests_substitution.proofs.binding.bind_all.Given as goal
+
+abbrev pub invariant-loop-field : goal.invariant-loop-field
+invariant-loop-field l = IsBound l.signature (map skeleton_of l.outer) l.store.now
