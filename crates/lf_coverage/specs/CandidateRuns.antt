@@ -1,5 +1,5 @@
 -- Which families the variables have that the strategy may split: those of the set beside which the case is to be covered. So runs that split at
--- candidates cover, where nothing is asked of the variables that are split.
+-- candidates cover, where each such set that holds an item's family holds what the item's type quantifies.
 use Rattle.std.specs.Prelude.{◌≡◌, ℕ, List, [], ◌∷◌, Bool, true, cond, Some}
 use Rattle.lf.specs.Syntax.{LfType, Kind}
 use Rattle.lf.specs.Typing.{Signature, TypeAt, IsSignature}
@@ -21,11 +21,11 @@ use Rattle.lf_coverage.specs.Subordinate.{AllQuantifiersAreBelow}
 use Rattle.lf_coverage.specs.TypedCase.{IsTypedBeside}
 
 -- A candidate of a case that is typed beside the pattern is of a family of each set beside which the case is to be covered. In a case of E : exp and
--- N : nat, whose covered argument is N, only N is one beside {nat}.
+-- N : nat, whose covered argument is N, the one candidate is N, and nat is in each such set; exp need not be.
 abbrev pub CandidateIsInSet : Type 0
 CandidateIsInSet = (Σ : Signature) (W : List Block) (S : ℕ → Bool) (C : Case) (p : Pattern) → IsTypedBeside Σ W C p → HasNoBlockVariable C.items → IsBeside Σ W S C → (x : ℕ) → Member x (case_candidates C p) → (X : LfType) → TypeAt (items_context C.items) x X → S (target X) ≡ true
 
--- What is quantified over a family of S is of a family of S.
+-- In {x:A} B, where the family of B is in S, that of A is too.
 abbrev pub within : (ℕ → Bool) → ℕ → ℕ → Bool
 within S a b = cond (S a) (S b) true
 

@@ -31,7 +31,8 @@ equating M N = record { metavariables = some_metavariables; bindings = []; equat
 abbrev pub EquationsOfPatterns : Type 0
 EquationsOfPatterns = IsPatternStore Zeros (equating (root (metavariable 0) nil) z) × (IsPatternStore Zeros (equating (taking z) z) → ⊥)
 
--- eq z Y is a case of patterns, and eq z (F z) is none: so no run of splits by unification whose stores are of patterns comes to it.
+-- eq z Y is a case of patterns, and eq z (F z) is none: so by `RunKeepsPatterns` no run over
+-- nat comes from eq X Y to it.
 abbrev pub StuckIsNoPattern : Type 0
 StuckIsNoPattern = IsPatternCase Zeros solved_case × (IsPatternCase Zeros applied_case → ⊥)
 

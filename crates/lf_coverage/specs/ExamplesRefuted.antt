@@ -29,7 +29,7 @@ kept_case = record { items = kept_items; given = Some (var 1) ∷ []; local = []
 abbrev pub KeptIsSplit : Type 0
 KeptIsSplit = (Cs : List Case) × IsRefutedSplit Addition [] first_below_second kept_case 0 Cs × SplitIs Addition [] first_below_second kept_case 0 (cases Cs) × FamiliesIn (same_number 0) nat × (AllFamiliesIn (same_number 0) (items_context kept_case.items) → ⊥)
 
--- s X = z is refuted by one step more, that which finds different heads. N = z isn't: it is solved.
+-- s X = z stands second; one step takes it first, and its heads differ. The store of N = z is never refuted: it is solved.
 abbrev pub SuccessorIsRefuted : Type 0
 SuccessorIsRefuted = Refutes Numbered (split_store first_below_second 0 (on_one 2 (successor (var 1))) successor_items 0 (constant 2) a_z.type one_kind) × (Refutes Addition (split_store first_below_second 0 nat kept_items 0 (constant 0) nat star) → ⊥)
 
@@ -37,7 +37,7 @@ SuccessorIsRefuted = Refutes Numbered (split_store first_below_second 0 (on_one 
 abbrev pub PlusRunIsAtCandidate : Type 0
 PlusRunIsAtCandidate = (case_candidates plus_input_goal (head_pattern plus_z (of_constant plus_z.type)) ≡ 1 ∷ []) × Ends (IsInstanceLeaf Addition [] plus_heads) (RefutesCandidate Addition [] first_below_second plus_heads) plus_input_goal
 
--- Beside plus-s, whose last variable V is given for, N is the one candidate of this case. The set {nat} holds what is quantified over its families in the
+-- Beside plus-s, for whose last variable V is given, N is the one candidate; the case isn't typed beside it, since nothing is given for X, Y and Z. The set {nat} holds what is quantified over its families in the
 -- types of N and V; not in {u:plus z z z} nat.
 abbrev pub KeptIsWithin : Type 0
 KeptIsWithin = (case_candidates kept_case (head_pattern plus_s (of_constant plus_s.type)) ≡ 0 ∷ []) × AllQuantifiersAreBelow (within (same_number 0)) (items_context kept_case.items) × (AllQuantifiersAreBelow (within (same_number 0)) (of_sum ∷ []) → ⊥)

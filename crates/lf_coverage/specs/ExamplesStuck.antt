@@ -15,7 +15,7 @@ use Rattle.lf_totality.specs.ExamplesReached.{equal_kinds, head_of, eq_goal, app
 use Rattle.lf_coverage.specs.TermMatching.{HasPatterns, TakesBound}
 use Rattle.lf_coverage.specs.FullMatching.{AllHavePatterns, PlacesHavePatterns}
 
--- Patterns: X, and [x] F x; not F z, though F stands for a variable.
+-- Patterns: X, and [x] F x; not F z, since z is no bound variable.
 abbrev pub PatternsStand : Type 0
 PatternsStand = HasPatterns nothing everything (var 0) × HasPatterns nothing everything (lambda (applied_to 1 0)) × (HasPatterns nothing everything (root (variable 0) (app z nil)) → ⊥)
 
@@ -46,7 +46,7 @@ applied_case = record { items = free_variable (pi nat nat) ∷ []; given = []; l
 -- eq X Y is split at X by z. That X is z and Y is F z is a most general unifier too, since every term is an instance of F z. So eq z (F z) is
 -- reached. It shares an instance with the clause, which is linear and full, and is none of it; but F z is no variable on distinct bound
 -- variables. So the strategy is stuck there: that it never is can be said only of cases whose variables stand on distinct bound variables, as
--- solving gives them. Here this is eq z Y.
+-- solving gives them over families without indices. Here this is eq z Y.
 abbrev pub AppliedIsReached : Type 0
 AppliedIsReached = Reached Zeros [] (λ C p. ⊥) first_below_second zero_heads eq_goal applied_case × IsUnsplit Zeros [] (λ C p. ⊥) zero_heads applied_case × IsLinear two_inputs (constant_clause (on_two 2 z z)) × IsFull Zeros first_below_second two_inputs (constant_clause (on_two 2 z z))
 
@@ -88,7 +88,7 @@ lower_clause = constant_clause (pi (atom 1 nil) (atom 4 (app (root (constant 1) 
 abbrev pub lower_case : Case
 lower_case = record { items = free_variable (pi (atom 0 nil) (atom 1 nil)) ∷ []; given = []; local = []; family = 4; arguments = Some (root (constant 1) (app (lambda (root (constant 0) (app (applied_to 1 0) nil))) nil)) ∷ [] }
 
--- The clause is linear and full, since x isn't below Y. It shares an instance with the case, which has no candidate and isn't one of it. So the
+-- The clause is linear and full, since a, the family of x, isn't below b, that of Y. It shares an instance with the case, which has no candidate and isn't one of it. So the
 -- types of a case's variables have to quantify over what is below: no goal of inputs has such an F, but a block with a `some` variable could bring one.
 abbrev pub LowerIsUnsplit : Type 0
 LowerIsUnsplit = IsUnsplit Lower [] (λ C p. ⊥) (head_of lower_clause.type ∷ []) lower_case × IsLinear (λ a. input ∷ []) lower_clause × IsFull Lower lower_below (λ a. input ∷ []) lower_clause

@@ -22,6 +22,7 @@ ArgumentsArePatterns Σ Ψ [] = Unit {0}
 ArgumentsArePatterns Σ Ψ (Some M ∷ Ms) = ((t : Skeleton) × IsPatternTerm Σ Ψ [] (open_term zero M) t) × ArgumentsArePatterns Σ Ψ Ms
 ArgumentsArePatterns Σ Ψ (None ∷ Ms) = ArgumentsArePatterns Σ Ψ Ms
 
+-- Such a case. Nothing is asked of what is given. So is eq z Y; not eq z (F z).
 pub record IsPatternCase (Σ : Signature) (C : Case) : Type 0 where
   pub no_local : C.local ≡ []
   pub types : TypesArePatterns Σ (context_metavariables (items_context C.items))
@@ -32,6 +33,6 @@ pub record IsPatternCase (Σ : Signature) (C : Case) : Type 0 where
 abbrev pub SolvedCaseIsPattern : Type 0
 SolvedCaseIsPattern = (Σ : Signature) → IsSignature Σ → (W : List Block) (below : ℕ → ℕ → Bool) (C : Case) → IsTypedCase Σ W C → IsPatternCase Σ C → (x : ℕ) (X : LfType) → TypeAt (items_context C.items) x X → (J : List Item) (n : ℕ) (h : Head) (A : LfType) → SplitHead Σ W C.items X J n h A → HasNoBlockVariable J → (K : Kind) → IsPatternStore Σ (split_store below x X J n h A K) → TypesArePatterns Σ (context_metavariables (items_context (split_items below X J n A))) → (after : Store) (s : Solved Σ (split_store below x X J n h A K) after) → IsPatternCase Σ (solved_case C (n + arguments_count A) after s.well_formed.order)
 
--- Such a case stands on patterns as matching asks: then the strategy is never stuck at it.
+-- Such a case stands on patterns as matching asks, and as `InputRunIsNeverStuck` asks of a case in the empty world.
 abbrev pub PatternCaseHasPatterns : Type 0
 PatternCaseHasPatterns = (Σ : Signature) (W : List Block) (C : Case) → HasNoBlockVariable C.items → IsTypedCase Σ W C → IsPatternCase Σ C → AllHavePatterns nothing (free_among C.items) C.arguments

@@ -25,6 +25,7 @@ HaveNoIndices Σ S = (a : ℕ) → S a ≡ true → Σ.kinds a ≡ Some star
 abbrev pub RunKeepsPatterns : Type 0
 RunKeepsPatterns = (Σ : Signature) → IsSignature Σ → (W : List Block) → AreTypedBlocks Σ W → (below : ℕ → ℕ → Bool) → ((f : ℕ) → IsBelowTest Σ W (below f) f) → (S : ℕ → Bool) → SelfContained Σ W S → HaveNoIndices Σ S → (goal : Case) → IsTypedCase Σ W goal → AllQuantifiersAreBelow below (items_context goal.items) → AllFamiliesIn S (items_context goal.items) → HasNoBlockVariable goal.items → IsPatternCase Σ goal → (D : Case) → ComesBy (AnswersEachHead Σ W below) goal D → IsPatternCase Σ D
 
--- So each case from the goal of inputs stands on patterns as matching asks. Then the strategy isn't stuck at it.
+-- So each case from the goal of inputs stands on patterns as matching asks. This `InputRunIsNeverStuck` asks of a
+-- case in the empty world.
 abbrev pub InputRunHasPatterns : Type 0
 InputRunHasPatterns = (Σ : Signature) → IsSignature Σ → (W : List Block) → AreTypedBlocks Σ W → (below : ℕ → ℕ → Bool) → ((f : ℕ) → IsBelowTest Σ W (below f) f) → (S : ℕ → Bool) → SelfContained Σ W S → HaveNoIndices Σ S → (a : ℕ) (m : List Bool) (K : Kind) → Σ.kinds a ≡ Some K → MentionChosenOnly nothing m K → AllFamiliesIn S (items_context (input_goal a m K).items) → (D : Case) → ComesBy (AnswersEachHead Σ W below) (input_goal a m K) D → AllHavePatterns nothing (free_among D.items) D.arguments

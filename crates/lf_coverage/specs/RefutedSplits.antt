@@ -21,7 +21,8 @@ use Rattle.lf_coverage.specs.SplitStore.{split_store, solved_case}
 use Rattle.lf_coverage.specs.Subordinate.{AllQuantifiersAreBelow}
 use Rattle.lf_coverage.specs.UnifiedSplit.{IsAnsweredSplit}
 
--- Steps lead from the store to one whose first equation is refuted. So the store of z and the head s of X is: z = s X'.
+-- Steps lead from the store to one whose first equation is refuted. So it is with a store that has the equation z = s X'; not with
+-- X = s X', which is solved.
 abbrev pub Refutes : Signature → Store → Type 0
 Refutes Σ before = (after : Store) × Run Σ before after × IsRefuted after
 

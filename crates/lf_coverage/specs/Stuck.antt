@@ -79,7 +79,7 @@ NoCandidateMatches = (Σ : Signature) → IsSignature Σ → (below : ℕ → �
 abbrev pub NoCandidateIsInstance : Type 0
 NoCandidateIsInstance = (Σ : Signature) → IsSignature Σ → (below : ℕ → ℕ → Bool) → ((f : ℕ) → IsBelowTest Σ [] (below f) f) → (m : ℕ → List Mark) (C : Case) → IsStrategyCase below m C → (K : Kind) → Σ.kinds C.family ≡ Some K → MentionChosenOnly nothing (input_places (m C.family)) K → (p : Pattern) → IsStrategyHead Σ below m C.family p → IsTypedBeside Σ [] C p → CommonInstance Σ [] C p → case_candidates C p ≡ [] → IsInstanceOf Σ [] C p
 
--- So where all patterns are such heads a case that isn't split is open with one of them, and shares an instance with none.
+-- So where all patterns are such heads a case that can't be split is open with one of them, and shares an instance with none.
 abbrev pub UnsplitSharesNone : Type 0
 UnsplitSharesNone = (Σ : Signature) → IsSignature Σ → (below : ℕ → ℕ → Bool) → ((f : ℕ) → IsBelowTest Σ [] (below f) f) → (m : ℕ → List Mark) (C : Case) → IsStrategyCase below m C → (K : Kind) → Σ.kinds C.family ≡ Some K → MentionChosenOnly nothing (input_places (m C.family)) K → (ps : List Pattern) → AreHeadsBeside Σ below m ps C → IsUnsplit Σ [] (IsOpen Σ) ps C → SharesNone Σ ps C × ((p : Pattern) × Member p ps × IsOpen Σ C p)
 

@@ -79,7 +79,8 @@ TakesBack F P σ τ θ = (i j k : ℕ) → F i ≡ false → P j ≡ false → �
 abbrev pub GivesSkeletons : Signature → List Skeleton → List Skeleton → (ℕ → Bool) → (ℕ → Image) → Type 0
 GivesSkeletons Σ Δ Φ P θ = (x : ℕ) (t : Skeleton) → SkeletonAt Φ x t → P x ≡ false → ImageSkeleton (constant_skeletons Σ) Δ (θ x) t
 
--- Values that are those of θ but for the variables of P that occur in N; they make N the term M, under n bound variables.
+-- Values that are those of θ but for the variables of P that occur in N; they have their skeletons, where those of θ have, and make N the term M, under n
+-- bound variables.
 pub record HasMatch (Σ : Signature) (Δ Φ : List Skeleton) (P : ℕ → Bool) (n : ℕ) (θ : ℕ → Image) (M N : Term) : Type 0 where
   pub values : ℕ → Image
   pub skeletons : SubstitutionBySkeletons (constant_skeletons Σ) Φ Δ θ → SubstitutionBySkeletons (constant_skeletons Σ) Φ Δ values
