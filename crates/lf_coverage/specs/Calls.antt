@@ -1,5 +1,6 @@
 -- What the calls of coverage are to answer: the contracts that `instance_of`, `split`, `cover`, `input_goal` and `output_goal` will carry. A case
--- stands here for what the program keeps of it.
+-- stands here for what the program keeps of it. The own block variable of an entry is here the last of the items. A split by an entry of a new block
+-- variable may put it before that one: such splits have no answer until block variables have numbers (`NumberedCase`).
 use Rattle.std.specs.Prelude.{◌≡◌, ℕ, List, [], ◌∷◌, Bool, true, false, Option, Some, None}
 use Rattle.lf.specs.Syntax.{LfType, Kind, kind_pi, star}
 use Rattle.lf.specs.Typing.{Signature, TypeAt}
@@ -49,7 +50,7 @@ HeadGives Σ W below C x X h (Some D) = IsSplitBy Σ W below C x X h.items h.mov
 HeadGives Σ W below C x X h None = GivesNoCase Σ W below x X h.items h.moved h.head h.type
 
 -- The listed cases are what the heads give, in their order; and beside each of these self-contained sets one of them holds each tuple that the case
--- holds.
+-- holds with different instances for different block variables.
 pub record AreCasesBeside (Σ : Signature) (W : List Block) (below : ℕ → ℕ → Bool) (C : Case) (x : ℕ) (Cs : List Case) (These : (ℕ → Bool) → LfType → Type 0) : Type 0 where
   pub type : LfType
   pub at : TypeAt (items_context C.items) x type

@@ -1,4 +1,4 @@
--- A whole run with a block: copying under a binder, in the worlds of its block {x:exp} {u:cp x x}.
+-- A whole run with a block: the inputs of copying, in the worlds of its block {x:exp} {u:cp x x}.
 use Rattle.std.specs.Prelude.{◌≡◌, ℕ, List, [], ◌∷◌, Bool, true, Some, None, refl}
 use Rattle.lf.specs.Subordination.{Block, Member, SelfContained}
 use Rattle.lf_checks.specs.Marks.{input_places}

@@ -1,4 +1,4 @@
--- Worked goals of outputs: typed beside a subgoal, or not; and a run.
+-- Worked goals of outputs: typed beside a subgoal, or not; and one that is an instance at once.
 use Rattle.std.specs.Prelude.{◌≡◌, refl, [], ◌∷◌, Some}
 use Rattle.lf.specs.Syntax.{nil, app, atom, kind_pi, star}
 use Rattle.lf.specs.Typing.{Signature}

@@ -21,7 +21,8 @@ use Rattle.lf_coverage.specs.Reading.{entry_reading, read, read_spine}
 abbrev pub StandsForNone : NumberedCase → (ℕ → ℕ → Image) → Block → (ℕ → Image) → Type 0
 StandsForNone C θ B φ = (k : ℕ) (b : BlockVariable) → block_at C.blocks k ≡ Some b → b.block ≡ B → θ k ≡ φ → ⊥
 
--- A head of the family a under n variables that are taken: a constant of Σ; a variable that is taken; or what the constant of an entry is read as.
+-- A head of the family a under n variables that are taken: a constant of Σ; a variable that is taken, of whatever
+-- family; or what the constant of an entry is read as.
 pub data IsNumberedHead (Σ : Signature) (first : ℕ) (C : NumberedCase) (θ : ℕ → ℕ → Image) (n a : ℕ) : Head → Type 0 where
   of_signature : (k : ℕ) (U : LfType) → Σ.types k ≡ Some U → target U ≡ a → IsNumberedHead Σ first C θ n a (constant k)
   of_taken : (j : ℕ) → j < n → IsNumberedHead Σ first C θ n a (variable j)

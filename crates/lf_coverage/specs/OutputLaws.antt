@@ -53,7 +53,8 @@ abbrev pub OpenOutputsAreCovered : Type 0
 OpenOutputsAreCovered = (Σ : Signature) (m : ℕ → List Mark) (W : List Block) (S : ℕ → Bool) (c : Clause) (U : ℕ → Bool) (A : LfType) → (((j : ℕ) (X : LfType) → TypeAt (scope c) j X → U j ≡ true → UsesType U X) → ⊥) → CoveredOutputs Σ m W S c U A
 
 -- A run of splits, at each head of which unification answers, from the goal of outputs to instances of patterns covers the goal beside each
--- self-contained set that holds the family of the clause and, for an entry, the families in the types of its block.
+-- self-contained set that holds the family of the clause and, for an entry, the families in the types of its block. For an entry the goal has a block
+-- variable, so this speaks of goals that are instances at once, or that are split at a variable without heads.
 abbrev pub SolvedRunCoversOutputs : Type 0
 SolvedRunCoversOutputs = (Σ : Signature) → IsSignature Σ → (W : List Block) → AreTypedBlocks Σ W → (below : ℕ → ℕ → Bool) → IsSubordination Σ W below → (m : ℕ → List Mark) (c : Clause) (d : IsClause Σ W c) (U : ℕ → Bool) (i : ℕ) (A : LfType) → IsSubgoal c i A → UsesGoal U (input_places (m (target A))) A → HasSoundMarks Σ (target A) (m (target A)) → NoneFree (m (target A)) → (K : Kind) → Σ.kinds (target A) ≡ Some K → (ps : List Pattern) → Ends (IsInstanceLeaf Σ W ps) (SolvesEachHead Σ W below) (output_goal below m (origin d) U A K) → (S : ℕ → Bool) → SelfContained Σ W S → S (target c.type) ≡ true → AllFamiliesIn S (items_context (outside_items (origin d))) → IsCoveredCase Σ W S ps (output_goal below m (origin d) U A K)
 

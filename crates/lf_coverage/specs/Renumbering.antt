@@ -79,7 +79,8 @@ renumbered_store π s = record {
 abbrev pub AgreeOn : (ℕ → Option LfType) → Renumbering → Renumbering → Type 0
 AgreeOn Ψ π ρ = (m : ℕ) (A : LfType) → Ψ m ≡ Some A → ρ.to m ≡ π.to m
 
--- The store t is s with other numbers for its metavariables: m has the number g m, and there are no others.
+-- The store t is s where metavariable m has the number g m, and there are no others. Whether g has different numbers for different ones is asked where
+-- this is used.
 pub record HasNumbers (g : ℕ → ℕ) (s t : Store) : Type 0 where
   pub declared : (m : ℕ) (A : LfType) → s.metavariables m ≡ Some A → t.metavariables (g m) ≡ Some (renumbered_type g A)
   pub no_others : (k : ℕ) (B : LfType) → t.metavariables k ≡ Some B → (m : ℕ) × Declares s.metavariables m × (g m ≡ k)

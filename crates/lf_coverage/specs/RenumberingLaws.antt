@@ -49,7 +49,7 @@ abbrev pub ReadyUnderNumbers : Type 0
 ReadyUnderNumbers = (Σ : Signature) → IsSignature Σ → (π : Renumbering) (s : Store) → (IsWellFormed Σ s → IsWellFormed Σ (renumbered_store π s)) × (StoreHasSkeletons Σ s → StoreHasSkeletons Σ (renumbered_store π s))
 
 -- A step of a store is one under other numbers, where the metavariables that were declared keep theirs. A new one may have to take another number:
--- each number from some one on is to be free, and exchanging 0 and 1 in a store of metavariable 0 leaves 2 free, and not 0.
+-- in a store of metavariable 0 the numbers from 1 on are free; with 0 and 1 exchanged those from 2 on are, and not those from 0, the new number of 1.
 abbrev pub StepUnderNumbers : Type 0
 StepUnderNumbers = (Σ : Signature) → IsSignature Σ → (π : Renumbering) (s s' : Store) → Step Σ s s' → (ρ : Renumbering) × AgreeOn s.metavariables π ρ × Step Σ (renumbered_store π s) (renumbered_store ρ s')
 

@@ -1,4 +1,5 @@
--- What a run by unification keeps of subordination, and what it then covers. Nothing is asked of the families in types along the run.
+-- What a run by unification keeps of subordination, and what it then covers. Nothing is asked of the families in types along
+-- the run; of those of the goal's items it is, but for the goal of inputs.
 use Rattle.std.specs.Prelude.{◌≡◌, ℕ, zero, List, ◌∷◌, Bool, true, Some}
 use Rattle.lf.specs.Syntax.{Head, LfType, Kind}
 use Rattle.lf.specs.Typing.{Signature, TypeAt, IsType, IsSignature}

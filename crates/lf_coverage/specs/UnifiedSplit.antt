@@ -44,7 +44,8 @@ pub record HeadIsSolved (Σ : Signature) (below : ℕ → ℕ → Bool) (C : Cas
   pub finds : UnifierFinds Σ below C x X h kind found
 
 -- A split of the free variable x of C at each head of which unification answers: the heads are offered in order, and the answers make the list of
--- cases. Nothing is asked of families. plus X Y _ is split so by z and s.
+-- cases. The items of each head are free variables: so there is no such split of a case with a block variable, but at a variable without any head; nor
+-- one where an entry of the worlds is a head, as of cp X _ in the worlds of {x:exp} {u:cp x x}. plus X Y _ is split so by z and s.
 pub record IsAnsweredSplit (Σ : Signature) (W : List Block) (below : ℕ → ℕ → Bool) (C : Case) (x : ℕ) (Cs : List Case) : Type 0 where
   pub type : LfType
   pub at : TypeAt (items_context C.items) x type
@@ -64,6 +65,6 @@ pub record IsSolvedSplit (Σ : Signature) (W : List Block) (below : ℕ → ℕ 
   pub takes_below : ArgumentsAreBelow below answered.type
   pub arguments_below : (J : List Item) (n : ℕ) (h : Head) (A : LfType) → SplitHead Σ W C.items answered.type J n h A → ArgumentsAreBelow below A
 
--- a case is split so at one of its variables
+-- a case is split so at one of its variables, with the families of arguments below their own
 abbrev pub SolvesEachHead : Signature → List Block → (ℕ → ℕ → Bool) → Case → List Case → Type 0
 SolvesEachHead Σ W below C Cs = (x : ℕ) × IsSolvedSplit Σ W below C x Cs

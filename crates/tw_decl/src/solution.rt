@@ -172,7 +172,7 @@ fn implicit_count(quantifiers: &Context) -> Result<u32, AllocError>
 {
     let count = quantifiers.len();
     if count > u32::MAX as usize {
-        // No query in memory has so many variables; no clause of an answer says so.
+        // An answer of 2 ^ 32 free variables or more counts as want of memory; no clause of an answer says so.
         return Err(AllocError);
     }
     Ok(count as u32)

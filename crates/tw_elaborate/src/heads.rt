@@ -132,6 +132,7 @@ fn on_arguments(
                 body = substitute(alloc, &inner, 0, arg, domain)?;
                 rest = range;
             }
+            // Each argument has a lambda and a quantifier; the loop doesn't carry it.
             _ => return Err(HeredFault::NoMemory),
         }
     }

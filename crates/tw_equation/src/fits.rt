@@ -65,6 +65,7 @@ fn skeletons(alloc: Global, context: &Context) -> Result<Vec<Skeleton>, AllocErr
     for variable in 0..context.len() {
         match context.get(variable as u64) {
             Some(ty) => skeletons.push(skeleton(alloc, ty)?)?,
+            // A context has a type for each number below its length; the loop doesn't carry it.
             None => return Err(AllocError),
         }
     }

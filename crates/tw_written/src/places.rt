@@ -47,7 +47,7 @@ pub fn frees_in_text_order(
     variables(alloc, &sites)
 }
 
-/// Adds the spots of the free variables, of these skeletons and at these places.
+/// Adds the spots of the free variables, of these skeletons and at these places. Fails where no skeleton in memory takes so many arguments, too.
 fn free_spots(
     alloc: Global,
     signature: &Signature,
