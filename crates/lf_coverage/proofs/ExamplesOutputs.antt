@@ -18,7 +18,10 @@ use Rattle.lf_totality.specs.ExamplesReached.{open_case, some_block, some_case, 
 use Rattle.lf_totality.proofs.Addition.{addition_ok}
 use Rattle.lf_totality.proofs.Copying.{copying_ok}
 use Rattle.lf_coverage.specs.ExamplesOutputs.{PlusOutputsAreTyped, CopyOutputsAreTyped, OpenGoalIsUntyped, EntryGoalIsUntyped, PlusOutputsAreCovered}
+use Rattle.lf_coverage.specs.ExamplesAnsweredOutputs.{PlusOutputRunCovers, plus_output_patterns, CopyOutputRunStaysTyped}
 use Rattle.lf_coverage.specs.TypedCase.{TypedArguments}
+use Rattle.lf_coverage.proofs.AnsweredOutputs.{output_goal_quantifies_below, answered_run_covers_outputs, output_run_stays_typed}
+use Rattle.lf_coverage.proofs.ExamplesSubordinate.{addition_is_tested}
 use Rattle.lf_coverage.proofs.Examples.{plus_subordination}
 use Rattle.lf_coverage.proofs.ExamplesLeaf.{output_leaf, at_two, at_three}
 use Rattle.lf_coverage.proofs.OutputBeside.{output_goal_is_typed}
@@ -94,3 +97,13 @@ plus_outputs_are_covered = solved_run_gives_outputs Addition addition_ok [] (λ 
     outer (suc (suc zero)) e = absurd cc
     outer (suc (suc (suc zero))) e = absurd cc
     outer (suc (suc (suc (suc j)))) e = refl
+
+pub plus_output_run_covers : PlusOutputRunCovers
+plus_output_run_covers = (
+  output_goal_quantifies_below Addition addition_ok [] (λ B m. absurd m) first_below_second addition_is_tested addition_marks 3 plus_s.type refl plus_ground 0 (on_three 1 (var 3) (var 2) (var 1)) (refl, refl) ((refl, tt), ((refl, tt), tt)) (plus_kind, refl, (tt, (tt, tt))) tt plus_kind refl,
+  at_leaf output_leaf,
+  λ S sc t. answered_run_covers_outputs Addition addition_ok [] (λ B m. absurd m) first_below_second addition_is_tested addition_marks 3 plus_s.type refl plus_ground 0 (on_three 1 (var 3) (var 2) (var 1)) (refl, refl) ((refl, tt), ((refl, tt), tt)) (plus_kind, refl, (tt, (tt, tt))) tt plus_kind refl plus_output_patterns (at_leaf output_leaf) S sc t,
+)
+
+pub copy_output_run_stays_typed : CopyOutputRunStaysTyped
+copy_output_run_stays_typed D r = output_run_stays_typed Copying copying_ok (copy_block ∷ []) copy_world first_below_second copying_marks 1 cp_lam.type refl copy_ground copy_closed 0 copy_subgoal (refl, refl) (tt, (((refl, tt), ((refl, tt), tt)), ((refl, ((refl, tt), tt)), tt))) (cp_kind, refl, (tt, tt)) tt cp_kind refl D r

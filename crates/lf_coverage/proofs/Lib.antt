@@ -133,6 +133,7 @@ pub mod GivenImages
 pub mod OutputBeside
 pub mod OutputModed
 pub mod OutputRuns
+pub mod AnsweredOutputs
 pub mod ExamplesOutputs
 pub mod ExamplesCopying
 pub mod ExamplesCopyingSplit

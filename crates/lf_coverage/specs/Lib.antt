@@ -47,7 +47,9 @@ pub mod ExamplesMatching
 pub mod Stuck
 pub mod ExamplesStrategy
 pub mod OutputLaws
+pub mod AnsweredOutputs
 pub mod ExamplesOutputs
+pub mod ExamplesAnsweredOutputs
 pub mod ExamplesCopying
 pub mod ExamplesTwins
 pub mod NumberedHeads

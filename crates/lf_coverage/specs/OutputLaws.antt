@@ -55,6 +55,7 @@ OpenOutputsAreCovered = (Σ : Signature) (m : ℕ → List Mark) (W : List Block
 -- A run of splits, at each head of which unification answers, from the goal of outputs to instances of patterns covers the goal beside each
 -- self-contained set that holds the family of the clause and, for an entry, the families in the types of its block. For an entry the goal has a block
 -- variable, so this speaks of goals that are instances at once, or that are split at a variable without heads.
+-- For a constant the sharper `AnsweredRunCoversOutputs` asks nothing of the families in types along the run.
 abbrev pub SolvedRunCoversOutputs : Type 0
 SolvedRunCoversOutputs = (Σ : Signature) → IsSignature Σ → (W : List Block) → AreTypedBlocks Σ W → (below : ℕ → ℕ → Bool) → IsSubordination Σ W below → (m : ℕ → List Mark) (c : Clause) (d : IsClause Σ W c) (U : ℕ → Bool) (i : ℕ) (A : LfType) → IsSubgoal c i A → UsesGoal U (input_places (m (target A))) A → HasSoundMarks Σ (target A) (m (target A)) → NoneFree (m (target A)) → (K : Kind) → Σ.kinds (target A) ≡ Some K → (ps : List Pattern) → Ends (IsInstanceLeaf Σ W ps) (SolvesEachHead Σ W below) (output_goal below m (origin d) U A K) → (S : ℕ → Bool) → SelfContained Σ W S → S (target c.type) ≡ true → AllFamiliesIn S (items_context (outside_items (origin d))) → IsCoveredCase Σ W S ps (output_goal below m (origin d) U A K)
 
@@ -63,6 +64,7 @@ abbrev pub SolvedRunAnswersOutputs : Type 0
 SolvedRunAnswersOutputs = (Σ : Signature) → IsSignature Σ → (W : List Block) → AreTypedBlocks Σ W → (below : ℕ → ℕ → Bool) → IsSubordination Σ W below → (m : ℕ → List Mark) (c : Clause) (d : IsClause Σ W c) (U : ℕ → Bool) (i : ℕ) (A : LfType) → IsSubgoal c i A → UsesGoal U (input_places (m (target A))) A → HasSoundMarks Σ (target A) (m (target A)) → NoneFree (m (target A)) → (K : Kind) → Σ.kinds (target A) ≡ Some K → (ps : List Pattern) → ((S : ℕ → Bool) → IsBeside Σ W S (output_goal below m (origin d) U A K) → AllFamiliesIn S (items_context (output_goal below m (origin d) U A K).items)) → Ends (IsInstanceLeaf Σ W ps) (SolvesEachHead Σ W below) (output_goal below m (origin d) U A K) → CoverIs Σ W below ps (output_goal below m (origin d) U A K) covered
 
 -- And the outputs of a constant's subgoal are covered where a run from their goal ends at instances of the subgoal.
+-- The sharper `AnsweredRunGivesOutputs` asks nothing of the families in types along the run.
 abbrev pub SolvedRunGivesOutputs : Type 0
 SolvedRunGivesOutputs = (Σ : Signature) → IsSignature Σ → (W : List Block) → AreTypedBlocks Σ W → (below : ℕ → ℕ → Bool) → IsSubordination Σ W below → (m : ℕ → List Mark) (f : ℕ) → IsDeclared Σ f → (k : ℕ) (T : LfType) → Σ.types k ≡ Some T → below f (target T) ≡ true → (U : ℕ → Bool) → Within (outside T everything) U → (i : ℕ) (A : LfType) → IsSubgoal (constant_clause T) i A → IsSequence Σ W (scope (constant_clause T)) (binders [] A) → UsesGoal U (input_places (m (target A))) A → HasSoundMarks Σ (target A) (m (target A)) → NoneFree (m (target A)) → (K : Kind) → Σ.kinds (target A) ≡ Some K → PlacesBelow Σ below f K → Ends (IsInstanceLeaf Σ W (subgoal_pattern (constant_clause T) (of_constant T) A ∷ [])) (SolvesEachHead Σ W below) (output_goal below m (of_constant T) U A K) → CoveredOutputs Σ m W (below f) (constant_clause T) U A
 

@@ -43,6 +43,7 @@ abbrev pub SplitItemsQuantifyBelow : Type 0
 SplitItemsQuantifyBelow = (Σ : Signature) → IsSignature Σ → (W : List Block) → AreTypedBlocks Σ W → (below : ℕ → ℕ → Bool) → ((f : ℕ) → IsBelowTest Σ W (below f) f) → (I : List Item) → AreTypedItems Σ W I → AllQuantifiersAreBelow below (items_context I) → (x : ℕ) (X : LfType) → TypeAt (items_context I) x X → (J : List Item) (n : ℕ) (h : Head) (A : LfType) → SplitHead Σ W I X J n h A → HasNoBlockVariable J → AllQuantifiersAreBelow below (items_context (split_items below X J n A))
 
 -- And so do those of the goal of a subgoal's outputs in the clause of a constant, where they are typed.
+-- The sharper `OutputGoalQuantifiesBelow` proves them typed.
 abbrev pub OutputsQuantifyBelow : Type 0
 OutputsQuantifyBelow = (Σ : Signature) → IsSignature Σ → (W : List Block) → AreTypedBlocks Σ W → (below : ℕ → ℕ → Bool) → ((f : ℕ) → IsBelowTest Σ W (below f) f) → (k : ℕ) (U : LfType) → Σ.types k ≡ Some U → (m : ℕ → List Mark) (V : ℕ → Bool) (i : ℕ) (A : LfType) → IsSubgoal (constant_clause U) i A → (K : Kind) → Σ.kinds (target A) ≡ Some K → AreTypedItems Σ W (output_goal below m (of_constant U) V A K).items → AllQuantifiersAreBelow below (items_context (output_goal below m (of_constant U) V A K).items)
 

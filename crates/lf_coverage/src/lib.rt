@@ -27,7 +27,9 @@ ghost use Rattle.lf_coverage.specs.FullMatching.{FullPlacesMatch, InputsMatch, H
 ghost use Rattle.lf_coverage.specs.ExamplesMatching.{ValuesAreFound, PlusMatches, PlusIsInstance, TwoAreNotOne};
 ghost use Rattle.lf_coverage.specs.MatchingLaws.{InstanceIsFound, ValuesAreDetermined, InstanceMatches, MatchIsInstance, MatchingDecides, InstanceIsDecided, HeadGroundHoldsTypes, GoalGroundHoldsTypes, HeadMatchIsTyped, HeadMatchingDecides, HeadMatchIsLeaf, GoalMatchingDecides};
 ghost use Rattle.lf_coverage.specs.OutputLaws.{OutputGoalIsTypedCase, OutputGoalIsTyped, ModedGoalsAreTyped, StrictGoalsAreTyped, NeverIsMissingOutput, OpenOutputsAreCovered, SolvedRunCoversOutputs, SolvedRunAnswersOutputs, SolvedRunGivesOutputs, SolvedRunsGiveOutputs};
+ghost use Rattle.lf_coverage.specs.AnsweredOutputs.{AnsweredRunIsSolved, OutputGoalQuantifiesBelow, AnsweredRunCoversOutputs, AnsweredRunGivesOutputs, OutputRunStaysTyped, StrictRunStaysTyped};
 ghost use Rattle.lf_coverage.specs.ExamplesOutputs.{PlusOutputsAreTyped, CopyOutputsAreTyped, OpenGoalIsUntyped, EntryGoalIsUntyped, PlusOutputsAreCovered};
+ghost use Rattle.lf_coverage.specs.ExamplesAnsweredOutputs.{PlusOutputRunCovers, CopyOutputRunStaysTyped};
 ghost use Rattle.lf_coverage.specs.ExamplesCopying.{CopyIsSplitByHeads, CopyCasesAreAnswer, CopyCasesAreInstances, CopyCasesAreReached, CopyRunCovers, CopyEntryIsMissing};
 ghost use Rattle.lf_coverage.specs.ExamplesTwins.{TwinsAreSplit, TwinCasesAreAnswers, TwinCasesAreReached, TwinRunCovers, TwinsAreOneInstance, TwinsAreMatched};
 ghost use Rattle.lf_coverage.specs.NumberedHeads.{NumberedHeadsAreAll, EntryOnOwnTermsIsRead};
@@ -915,4 +917,24 @@ pub fn head_arguments_are_patterns()
 pub fn run_keeps_patterns()
     ensures run { RunKeepsPatterns }
     ensures inputs { InputRunHasPatterns }
+{}
+
+/// A run from the goal of a constant's outputs by splits on which unification answers covers them, whatever families are in the types along it.
+pub fn answered_run_covers_outputs()
+    ensures solved { AnsweredRunIsSolved }
+    ensures below { OutputGoalQuantifiesBelow }
+    ensures goal { AnsweredRunCoversOutputs }
+    ensures constant { AnsweredRunGivesOutputs }
+{}
+
+/// Each case of it is a typed instance of the goal, and typed beside the subgoal.
+pub fn output_run_stays_typed()
+    ensures ground { OutputRunStaysTyped }
+    ensures moded { StrictRunStaysTyped }
+{}
+
+/// The run from plus-s's outputs covers them, and copying's stays typed.
+pub fn answered_outputs_are_covered()
+    ensures plus { PlusOutputRunCovers }
+    ensures copying { CopyOutputRunStaysTyped }
 {}
