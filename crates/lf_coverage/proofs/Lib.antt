@@ -160,3 +160,5 @@ pub mod PatternCases
 pub mod ExamplesPatterns
 pub mod PatternHeads
 pub mod PatternRuns
+pub mod PatternSplits
+pub mod PatternHeadRuns

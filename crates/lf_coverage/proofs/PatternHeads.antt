@@ -161,7 +161,7 @@ past_shift (arrow a b) i = past_shift b (suc i) ∙ next i (arity b)
     next : (m n : ℕ) → suc m + n ≡ m + suc n
     next m n = omega arith
 
-length_context : (D : List LfType) → length (context_skeletons D) ≡ length D
+pub length_context : (D : List LfType) → length (context_skeletons D) ≡ length D
 length_context [] = refl
 length_context (A ∷ D) = ap suc (length_context D)
 
@@ -204,7 +204,7 @@ over_sum (suc n) i = next i n ∙ ap suc (over_sum n i)
     next i n = omega arith
 
 -- a raised variable
-raised_is_pattern : (Σ : Signature) (Φ : ℕ → Option LfType) (ks : List Bool) (D : List LfType) (B Z : LfType) (n : ℕ) → Φ n ≡ Some Z → skeleton Z ≡ skeleton (raise_by ks D B) → IsPatternTerm Σ Φ (context_skeletons D) (open_term (length D) (raised_variable ks D B n)) (skeleton B)
+pub raised_is_pattern : (Σ : Signature) (Φ : ℕ → Option LfType) (ks : List Bool) (D : List LfType) (B Z : LfType) (n : ℕ) → Φ n ≡ Some Z → skeleton Z ≡ skeleton (raise_by ks D B) → IsPatternTerm Σ Φ (context_skeletons D) (open_term (length D) (raised_variable ks D B n)) (skeleton B)
 raised_is_pattern Σ Φ ks D B Z n e q =
     let b : Skeleton = skeleton B in
     let s : skeleton Z ≡ raised ks D b = q ∙ skeleton_raised ks D B in
@@ -215,7 +215,7 @@ raised_is_pattern Σ Φ ks D B Z n e q =
     ∙ same_lambdas b (root (metavariable n) (append (rename_spine (shift_by (arity b)) (locals_by ks D)) (eta_arguments b))) in
     subst (λ M. IsPatternTerm Σ Φ (context_skeletons D) M b) (sym is) (closed Σ Φ b (context_skeletons D) (root (metavariable n) (append (rename_spine (shift_by (arity b)) (locals_by ks D)) (eta_arguments b))) (Z, e, ap skeleton_target s ∙ raised_target ks D b, subst (λ t. AreDistinct (context_under b (context_skeletons D)) t (append (rename_spine (shift_by (arity b)) (locals_by ks D)) (eta_arguments b))) (sym s) (raised_distinct ks D b)))
 
-renumber_same : (ρ : ℕ → ℕ) (D : List LfType) → context_skeletons (renumber ρ D) ≡ context_skeletons D
+pub renumber_same : (ρ : ℕ → ℕ) (D : List LfType) → context_skeletons (renumber ρ D) ≡ context_skeletons D
 renumber_same ρ [] = refl
 renumber_same ρ (A ∷ D) = ap₂ ◌∷◌ (skeleton_renamed _ A) (renumber_same ρ D)
 
@@ -268,7 +268,7 @@ pub variables_are_patterns : VariablesArePatterns
 variables_are_patterns Σ G x X g = subst (λ M. IsPatternTerm Σ (context_metavariables G) [] M (skeleton X)) (sym (open_expand zero (skeleton X) x nil)) (subst (λ a. IsPatternTerm Σ (context_metavariables G) [] (eta_expand a (metavariable x) nil) a) (skeleton_open zero X) (eta_is_pattern Σ (context_metavariables G) x (open_type zero X) (ap open_some (looked_up G x X g))))
 
 -- the variables that a variable takes
-under_binders : (G : List LfType) (X : LfType) → context_under (skeleton X) (context_skeletons G) ≡ context_skeletons (binders G X)
+pub under_binders : (G : List LfType) (X : LfType) → context_under (skeleton X) (context_skeletons G) ≡ context_skeletons (binders G X)
 under_binders G (pi A B) = under_binders (A ∷ G) B
 under_binders G (atom a S) = refl
 

@@ -110,7 +110,7 @@ pub run_keeps_patterns : RunKeepsPatterns
 run_keeps_patterns Σ ok W typed below test S sc none goal tg qg f nb p D r = (comes_kept Σ ok W typed below test S sc none goal tg qg D (f, nb, p) r).2
 
 module _ (Σ : Signature) (ok : IsSignature Σ) (W : List Block) (typed : AreTypedBlocks Σ W) where
-  goal_patterns : (b : List Bool) (K : Kind) (ρ : ℕ → ℕ) (I : List Item) → ArgumentsArePatterns Σ (context_metavariables (items_context (goal_items b K ρ I))) (goal_arguments b K)
+  pub goal_patterns : (b : List Bool) (K : Kind) (ρ : ℕ → ℕ) (I : List Item) → ArgumentsArePatterns Σ (context_metavariables (items_context (goal_items b K ρ I))) (goal_arguments b K)
   goal_patterns [] K ρ I = tt
   goal_patterns (b ∷ bs) star ρ I = tt
   goal_patterns (true ∷ bs) (kind_pi A K) ρ I =

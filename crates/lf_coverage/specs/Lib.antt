@@ -60,3 +60,5 @@ pub mod PatternCases
 pub mod ExamplesPatterns
 pub mod PatternHeads
 pub mod PatternRuns
+pub mod PatternSplits
+pub mod PatternHeadRuns

@@ -43,6 +43,8 @@ ghost use Rattle.lf_coverage.specs.PatternCases.{SolvedCaseIsPattern, PatternCas
 ghost use Rattle.lf_coverage.specs.ExamplesPatterns.{BoundAreDistinct, EquationsOfPatterns, StuckIsNoPattern, NatHasNoIndices};
 ghost use Rattle.lf_coverage.specs.PatternHeads.{HeadArgumentsArePatterns, VariablesArePatterns, HeadTermIsPattern};
 ghost use Rattle.lf_coverage.specs.PatternRuns.{RunKeepsPatterns, InputRunHasPatterns};
+ghost use Rattle.lf_coverage.specs.PatternSplits.{SplitStoreIsPattern, SplitCaseIsPattern};
+ghost use Rattle.lf_coverage.specs.PatternHeadRuns.{SplitsByPatternsKeepThem, InputSplitsHavePatterns, InputSplitsAreNeverStuck};
 
 /// The heads of a split give all its cases.
 pub fn head_split_is_split()
@@ -937,4 +939,17 @@ pub fn output_run_stays_typed()
 pub fn answered_outputs_are_covered()
     ensures plus { PlusOutputRunCovers }
     ensures copying { CopyOutputRunStaysTyped }
+{}
+
+/// Where the types of a head on its new variables have patterns, the split store is one of patterns, its equations of indices too, and so is the case.
+pub fn split_case_is_pattern()
+    ensures store { SplitStoreIsPattern }
+    ensures case { SplitCaseIsPattern }
+{}
+
+/// So along a run whose heads have patterns each case is one of patterns, over families with indices too; from the goal of inputs it is never stuck.
+pub fn splits_by_patterns_keep_them()
+    ensures run { SplitsByPatternsKeepThem }
+    ensures inputs { InputSplitsHavePatterns }
+    ensures never_stuck { InputSplitsAreNeverStuck }
 {}
