@@ -2,7 +2,7 @@
 use Rattle.std.proofs.Common.{◌≡◌, ℕ, zero, suc, ◌+◌, List, [], ◌∷◌, length, inl, inr, refl, sym, ap, ◌∙◌, subst}
 use Rattle.std.specs.Prelude.{Bool, true, false, cond, Some}
 use Rattle.lf.specs.AtOnce.{shift_by}
-use Rattle.lf.specs.Syntax.{Head, Term, LfType, pi, atom, skeleton, lift_renaming, rename_type}
+use Rattle.lf.specs.Syntax.{Head, Term, LfType, Kind, pi, atom, skeleton, lift_renaming, rename_type}
 use Rattle.lf.specs.Substitution.{Image, single, reduce}
 use Rattle.lf.specs.Typing.{Signature, TypeAt, IsSignature, instantiate_type}
 use Rattle.lf.specs.Variables.{target, binders, FamiliesIn}
@@ -12,19 +12,22 @@ use Rattle.lf.proofs.Strength.{families_renamed, families_substituted, family_ta
 use Rattle.lf.proofs.Target.{target_of}
 use Rattle.lf_unification.specs.Dependency.{free_context}
 use Rattle.lf_unification.specs.OpenTyping.{skeletons_of}
-use Rattle.lf_cases.specs.Case.{Item, free_variable, Case, items_context, covered_places}
+use Rattle.lf_cases.specs.Case.{Item, free_variable, Case, items_context}
 use Rattle.lf_cases.specs.OutputGoal.{output_goal, renumber, over_item, raised_variable}
-use Rattle.lf_cases.specs.Pattern.{Pattern, of_constant, subgoal_pattern}
-use Rattle.lf_checks.specs.Clause.{Clause, IsClause, constant_clause, from_constant}
+use Rattle.lf_cases.specs.Pattern.{Pattern, IsCoveredCase, of_constant, subgoal_pattern}
+use Rattle.lf_checks.specs.Clause.{Clause, IsClause, IsSubgoal, constant_clause, from_constant, scope}
+use Rattle.lf_checks.specs.Ground.{UsesGoal}
+use Rattle.lf_checks.specs.Marks.{Mark, HasSoundMarks, NoneFree, input_places}
 use Rattle.lf_cases.specs.Raised.{raise_by, first_mask, other_masks}
 use Rattle.lf_cases.specs.Reached.{SplitHead, constant_head, bound_head, entry_head, new_entry_head, arguments_count, head_items, head_masks, taken, split_items}
-use Rattle.lf_cases.specs.Split.{HasNoBlockVariable, HasOneBlockVariable, IsSplit}
+use Rattle.lf_cases.specs.Split.{Ends, HasNoBlockVariable, HasOneBlockVariable, IsSplit}
 use Rattle.lf_cases.proofs.Subordinate.{below_is_subordination}
 use Rattle.lf_coverage.specs.Calls.{IsBeside, LocalsIn, PlacesIn}
-use Rattle.lf_coverage.specs.CandidateRuns.{within, RefutesCandidate, CandidateRunCovers, ClosedSetsAreWithin, CandidateRunAnswersOutputs}
+use Rattle.lf_coverage.specs.CandidateRuns.{within, RefutesCandidate, CandidateRunCoversBeside, CandidateRunCoversClosed, CandidateRunCovers, ClosedSetsAreWithin, CandidateRunCoversOutputs, CandidateRunAnswersOutputs}
 use Rattle.lf_coverage.specs.HeadOrder.{Offer}
 use Rattle.lf_coverage.specs.Heads.{IsTypedCase, IsHeadSplit, SplitsByHeads}
-use Rattle.lf_coverage.specs.Leaf.{IsTypedPattern}
+use Rattle.lf_coverage.specs.Leaf.{IsInstanceLeaf, IsTypedPattern}
+use Rattle.lf_coverage.specs.Matching.{HoldsTypes}
 use Rattle.lf_coverage.specs.SplitStore.{AllFamiliesIn, split_store, answer_values}
 use Rattle.lf_coverage.specs.Subordinate.{QuantifiersAreBelow, AllQuantifiersAreBelow}
 use Rattle.lf_coverage.specs.TypedCase.{IsTypedBeside}
@@ -149,10 +152,10 @@ module _ (Σ : Signature) (ok : IsSignature Σ) (W : List Block) (typed : AreTyp
             };
           }
 
-pub candidate_run_covers : CandidateRunCovers
-candidate_run_covers Σ ok W typed below test ps patterns goal n t tb q fam r S b =
+pub candidate_run_covers_beside : CandidateRunCoversBeside
+candidate_run_covers_beside Σ ok W typed below test ps patterns goal n t tb q S b w r =
     head_splits_cover Σ ok W typed below (below_is_subordination Σ ok W typed below test) S b.self_contained ps goal (one_without goal.items n) t
-    (other_run {Kept = Kept Σ W below ps S} (λ D k l. leaf_is_instance Σ ok W typed S ps D l) (split_kept Σ ok W typed below test ps patterns S) (record { no_block = n; is_typed = t; typed_beside = tb; are_below = q; are_within = fam S b; is_beside = b }) r)
+    (other_run {Kept = Kept Σ W below ps S} (λ D k l. leaf_is_instance Σ ok W typed S ps D l) (split_kept Σ ok W typed below test ps patterns S) (record { no_block = n; is_typed = t; typed_beside = tb; are_below = q; are_within = w; is_beside = b }) r)
 
 -- sets that hold what is below
 module _ (below : ℕ → ℕ → Bool) (S : ℕ → Bool) (holds : (a b : ℕ) → below a b ≡ true → S a ≡ true → S b ≡ true) where
@@ -171,14 +174,24 @@ module _ (below : ℕ → ℕ → Bool) (S : ℕ → Bool) (holds : (a b : ℕ) 
 pub closed_sets_are_within : ClosedSetsAreWithin
 closed_sets_are_within below S holds G g = context_within below S holds G g
 
-pub candidate_run_answers_outputs : CandidateRunAnswersOutputs
-candidate_run_answers_outputs Σ ok W typed below test m k T there U closed i A sub needs sound none K e fam r =
+pub candidate_run_covers_closed : CandidateRunCoversClosed
+candidate_run_covers_closed Σ ok W typed below test ps patterns goal n t tb q S holds b r =
+    candidate_run_covers_beside Σ ok W typed below test ps patterns goal n t tb q S b (closed_sets_are_within below S holds (items_context goal.items) q) r
+
+pub candidate_run_covers : CandidateRunCovers
+candidate_run_covers Σ ok W typed below test ps patterns goal n t tb q fam r S b =
+    candidate_run_covers_beside Σ ok W typed below test ps patterns goal n t tb q S b (fam S b) r
+
+-- the goal of a constant's subgoal
+outputs_beside : (Σ : Signature) → IsSignature Σ → (W : List Block) → AreTypedBlocks Σ W → (below : ℕ → ℕ → Bool) → ((f : ℕ) → IsBelowTest Σ W (below f) f) → (m : ℕ → List Mark) (k : ℕ) (T : LfType) → Σ.types k ≡ Some T → (U : ℕ → Bool) → HoldsTypes U (scope (constant_clause T)) → (i : ℕ) (A : LfType) → IsSubgoal (constant_clause T) i A → UsesGoal U (input_places (m (target A))) A → HasSoundMarks Σ (target A) (m (target A)) → NoneFree (m (target A)) → (K : Kind) → Σ.kinds (target A) ≡ Some K → (S : ℕ → Bool) → IsBeside Σ W S (output_goal below m (of_constant T) U A K) → (AllQuantifiersAreBelow below (items_context (output_goal below m (of_constant T) U A K).items) → AllQuantifiersAreBelow (within S) (items_context (output_goal below m (of_constant T) U A K).items)) → Ends (IsInstanceLeaf Σ W (subgoal_pattern (constant_clause T) (of_constant T) A ∷ [])) (RefutesCandidate Σ W below (subgoal_pattern (constant_clause T) (of_constant T) A ∷ [])) (output_goal below m (of_constant T) U A K) → IsCoveredCase Σ W S (subgoal_pattern (constant_clause T) (of_constant T) A ∷ []) (output_goal below m (of_constant T) U A K)
+outputs_beside Σ ok W typed below test m k T there U closed i A sub needs sound none K e S b w r =
     let c : Clause = constant_clause T in
     let d : IsClause Σ W c = from_constant k T there in
     let p : Pattern = subgoal_pattern c (of_constant T) A in
     let tc : IsTypedCase Σ W (output_goal below m (of_constant T) U A K) = (output_goal_is_typed_case Σ ok W typed below m c d U i A sub needs sound none K e).0 in
     let (tb, n) = output_goal_is_typed Σ ok W typed below m k T there U closed i A sub needs sound none K e in
-    candidate_run_covers Σ ok W typed below test (p ∷ []) (one p (subgoal_is_typed Σ ok W typed c d i A sub)) (output_goal below m (of_constant T) U A K) n tc (also p tb) (outputs_quantify_below Σ ok W typed below test k T there m U i A sub K e tc.items) fam r
+    let q : AllQuantifiersAreBelow below (items_context (output_goal below m (of_constant T) U A K).items) = outputs_quantify_below Σ ok W typed below test k T there m U i A sub K e tc.items in
+    candidate_run_covers_beside Σ ok W typed below test (p ∷ []) (one p (subgoal_is_typed Σ ok W typed c d i A sub)) (output_goal below m (of_constant T) U A K) n tc (also p tb) q S b (w q) r
   where
     one : (p : Pattern) → IsTypedPattern Σ p → (q : Pattern) → Member q (p ∷ []) → IsTypedPattern Σ q
     one p t q (inl e) = subst (IsTypedPattern Σ) (sym e) t
@@ -187,3 +200,11 @@ candidate_run_answers_outputs Σ ok W typed below test m k T there U closed i A 
     also : {C : Case} (p : Pattern) → IsTypedBeside Σ W C p → (q : Pattern) → Member q (p ∷ []) → IsTypedBeside Σ W C q
     also {C = C} p t q (inl e) = subst (IsTypedBeside Σ W C) (sym e) t
     also p t q (inr z) = absurd z
+
+pub candidate_run_covers_outputs : CandidateRunCoversOutputs
+candidate_run_covers_outputs Σ ok W typed below test m k T there U closed i A sub needs sound none K e S holds b r =
+    outputs_beside Σ ok W typed below test m k T there U closed i A sub needs sound none K e S b (λ q. closed_sets_are_within below S holds (items_context (output_goal below m (of_constant T) U A K).items) q) r
+
+pub candidate_run_answers_outputs : CandidateRunAnswersOutputs
+candidate_run_answers_outputs Σ ok W typed below test m k T there U closed i A sub needs sound none K e fam r S b =
+    outputs_beside Σ ok W typed below test m k T there U closed i A sub needs sound none K e S b (λ q. fam S b) r

@@ -8,7 +8,7 @@ use Rattle.lf.specs.Substitution.{keep, put, reduce, substitute_type}
 use Rattle.lf.specs.Typing.{ImageHasType, TypeAt}
 use Rattle.lf.specs.Variables.{everything, nothing, target_arguments}
 use Rattle.lf.proofs.Partial.{uses_type_all}
-use Rattle.lf_checks.specs.Clause.{from_constant, outside, variables}
+use Rattle.lf_checks.specs.Clause.{constant_clause, from_constant, outside, variables}
 use Rattle.lf_checks.specs.Marks.{input_places}
 use Rattle.lf_cases.specs.Candidates.{case_candidates}
 use Rattle.lf_cases.specs.Case.{free_variable}
@@ -18,13 +18,14 @@ use Rattle.lf_cases.specs.Missing.{CommonInstance}
 use Rattle.lf_cases.specs.Pattern.{Pattern}
 use Rattle.lf_cases.specs.Reached.{IsInstanceOf, of_first}
 use Rattle.lf_totality.specs.Examples.{Addition, addition_marks, first_below_second, nat, on_two, plus_heads, plus_input_goal, plus_kind, plus_s, plus_successor_case, plus_z, plus_zero_case, successor, var, z}
-use Rattle.lf_totality.specs.ExamplesReached.{Applied, applied_clause, head_of}
+use Rattle.lf_totality.specs.ExamplesReached.{Applied, Equality, applied_clause, head_of}
+use Rattle.lf_totality.specs.ExamplesMissing.{eq_r}
 use Rattle.lf_totality.proofs.Addition.{addition_ok}
 use Rattle.lf_totality.proofs.ExamplesFull.{full_clauses}
 use Rattle.lf_totality.proofs.ExamplesMissing.{linear_clauses}
-use Rattle.lf_coverage.specs.ExamplesStrategy.{CasesAreStrategys, HeadsAreStrategys, PlusSplitsAtFirst, SolvedIsNotStuck, SuccessorIsNotStuck, one_input}
+use Rattle.lf_coverage.specs.ExamplesStrategy.{CasesAreStrategys, HeadsAreStrategys, PlusSplitsAtFirst, SolvedIsNotStuck, SuccessorIsNotStuck}
 use Rattle.lf_coverage.specs.ExamplesMatching.{plus_z_head}
-use Rattle.lf_coverage.specs.ExamplesStuck.{Zeros, solved_case, two_inputs}
+use Rattle.lf_coverage.specs.ExamplesStuck.{Zeros, zeros_below, one_input, solved_case, two_inputs}
 use Rattle.lf_coverage.specs.ExamplesTyped.{plus_s_head}
 use Rattle.lf_coverage.specs.FullMatching.{PlacesHavePatterns}
 use Rattle.lf_coverage.specs.Stuck.{AreHeadsBeside, IsStrategyCase, IsStrategyHead}
@@ -55,16 +56,19 @@ plus_are_heads p (inl e) = record { constant = 2; type = plus_z.type; declared =
 plus_are_heads p (inr (inl e)) = record { constant = 3; type = plus_s.type; declared = refl; of_family = refl; is_head = e; patterns = ((refl, tt), (refl, tt)); linear = linear_clauses.0; full = full_clauses.0 }
 plus_are_heads p (inr (inr l)) = absurd l
 
-zero_is_head : IsStrategyHead Zeros first_below_second two_inputs 2 (head_of (on_two 2 z z))
+zero_is_head : IsStrategyHead Zeros zeros_below two_inputs 2 (head_of (on_two 2 z z))
 zero_is_head = record { constant = 2; type = on_two 2 z z; declared = refl; of_family = refl; is_head = refl; patterns = (tt, (tt, tt)); linear = applied_is_reached.2; full = applied_is_reached.3 }
 
 pub heads_are_strategys : HeadsAreStrategys
-heads_are_strategys = (plus_are_heads, zero_is_head, none)
+heads_are_strategys = (plus_are_heads, zero_is_head, none, twice)
   where
     none : IsStrategyHead Applied first_below_second one_input 2 (head_of applied_clause.type) → ⊥
     none h =
         let q : PlacesHavePatterns nothing everything (true ∷ []) (target_arguments applied_clause.type) = subst (PlacesHavePatterns nothing everything (true ∷ [])) (sym (ap (λ p. target_arguments p.type) h.is_head)) h.patterns in
         true≢false (sym q.0)
+
+    twice : IsStrategyHead Equality zeros_below two_inputs 2 (head_of eq_r.type) → ⊥
+    twice h = linear_clauses.1 (subst (λ U. IsLinear two_inputs (constant_clause U)) (sym (ap (λ p. p.clause.type) h.is_head)) h.linear)
 
 -- plus (s X) Y _ comes by s
 comes : ComesBy (AnswersEachHead Addition [] first_below_second) plus_input_goal plus_successor_case
@@ -80,7 +84,11 @@ cases_are_strategys = (
   record { none_given = refl; inputs = refl; quantifies_below = (tt, tt); patterns = (tt, (refl, tt)) },
   λ c. true≢false (sym c.patterns.1.0),
   λ c. true≢false (sym c.quantifies_below.0.0),
+  λ c. third c.inputs,
 )
+  where
+    third : (true ∷ true ∷ true ∷ []) ≡ (true ∷ true ∷ false ∷ []) → ⊥
+    third e = cc
 
 shares_s : CommonInstance Addition [] plus_successor_case plus_s_head
 shares_s = plus_is_instance.0.0

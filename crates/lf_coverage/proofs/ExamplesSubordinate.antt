@@ -1,12 +1,11 @@
 -- Worked cases of what is quantified along a run.
-use Rattle.std.proofs.Common.{◌≡◌, ℕ, zero, suc, List, [], ◌∷◌, inl, inr, refl, sym, ap, ap₂, ◌∙◌, subst, true≢false}
+use Rattle.std.proofs.Common.{◌≡◌, ℕ, zero, suc, List, [], ◌∷◌, inl, inr, refl, sym, ap, ◌∙◌, subst, true≢false}
 use Rattle.std.specs.Prelude.{true, Some}
-use Rattle.lf.specs.Syntax.{constant, Term, lambda, LfType, Kind, pi, atom, kind_pi, star, base, skeleton}
+use Rattle.lf.specs.Syntax.{constant, Term, lambda, LfType, Kind, star, base, skeleton}
 use Rattle.lf.specs.Substitution.{Image, keep, put, after}
 use Rattle.lf.specs.AtOnce.{in_front}
 use Rattle.lf.specs.Typing.{TypeAt}
-use Rattle.lf.specs.Variables.{target}
-use Rattle.lf.specs.Subordination.{Block, Member, Quantifies, KindQuantifies, Below, below_itself, below_through, below_in_constant, below_in_kind, below_in_entry, IsTypedBlock}
+use Rattle.lf.specs.Subordination.{Block, Member, Below, below_itself, below_in_constant, IsTypedBlock}
 use Rattle.lf.proofs.Eta.{reduce_nil}
 use Rattle.lf_checks.specs.Marks.{input_places}
 use Rattle.lf_cases.specs.Case.{Item, as_term}
@@ -26,6 +25,7 @@ use Rattle.lf_coverage.proofs.ExamplesLeaves.{zero_leaf, successor_leaf}
 use Rattle.lf_coverage.proofs.ExamplesUnified.{plus_solved}
 use Rattle.lf_coverage.proofs.SubordinateRuns.{answered_split_is_answer, input_run_quantifies_below, answered_run_covers_inputs}
 use Rattle.lf_coverage.proofs.Parts.{some_same}
+use Rattle.lf_coverage.proofs.TestedBelow.{KindIsBelow, below_is_tested}
 
 pub arguments_are_not_enough : ArgumentsAreNotEnough
 arguments_are_not_enough = ((((refl, refl), refl), tt), (λ h. true≢false (sym h.0.0)), (λ h. true≢false (sym h.1.1.0)))
@@ -37,22 +37,6 @@ pub outputs_are_raised_below : OutputsAreRaisedBelow
 outputs_are_raised_below = (refl, refl, ((refl, tt, tt), ((refl, tt, tt), tt)), (λ h. true≢false (sym h.2.0)))
 
 -- The test is that of the declarations.
-quantified_is_below : (A : LfType) → QuantifiersAreBelow first_below_second A → (a b : ℕ) → Quantifies a b A → first_below_second b a ≡ true
-quantified_is_below (pi A B) (q, h, k) a b (inl (e, f)) = ap₂ first_below_second (sym f) (sym e) ∙ q
-quantified_is_below (pi A B) (q, h, k) a b (inr (inl r)) = quantified_is_below A h a b r
-quantified_is_below (pi A B) (q, h, k) a b (inr (inr r)) = quantified_is_below B k a b r
-quantified_is_below (atom c S) h a b q = absurd q
-
-abbrev KindIsBelow : ℕ → Kind → Type 0
-KindIsBelow f (kind_pi A K) = (first_below_second f (target A) ≡ true) × QuantifiersAreBelow first_below_second A × KindIsBelow f K
-KindIsBelow f star = Unit {0}
-
-kind_is_below : (f : ℕ) (K : Kind) → KindIsBelow f K → (a b : ℕ) → KindQuantifies f a b K → first_below_second b a ≡ true
-kind_is_below f (kind_pi A K) (q, h, k) a b (inl (e, g)) = ap₂ first_below_second (sym g) (sym e) ∙ q
-kind_is_below f (kind_pi A K) (q, h, k) a b (inr (inl r)) = quantified_is_below A h a b r
-kind_is_below f (kind_pi A K) (q, h, k) a b (inr (inr r)) = kind_is_below f K k a b r
-kind_is_below f star h a b q = absurd q
-
 types_below : (c : ℕ) (U : LfType) → addition_types c ≡ Some U → QuantifiersAreBelow first_below_second U
 types_below zero U e = subst (QuantifiersAreBelow first_below_second) (some_same e) tt
 types_below (suc zero) U e = subst (QuantifiersAreBelow first_below_second) (some_same e) (refl, tt, tt)
@@ -60,17 +44,10 @@ types_below (suc (suc zero)) U e = subst (QuantifiersAreBelow first_below_second
 types_below (suc (suc (suc zero))) U e = subst (QuantifiersAreBelow first_below_second) (some_same e) (refl, tt, (refl, tt, (refl, tt, (refl, tt, tt))))
 types_below (suc (suc (suc (suc c)))) U e = absurd cc
 
-kinds_below : (f : ℕ) (K : Kind) → addition_kinds f ≡ Some K → KindIsBelow f K
-kinds_below zero K e = subst (KindIsBelow 0) (some_same e) tt
-kinds_below (suc zero) K e = subst (KindIsBelow 1) (some_same e) (refl, tt, (refl, tt, (refl, tt, tt)))
+kinds_below : (f : ℕ) (K : Kind) → addition_kinds f ≡ Some K → KindIsBelow first_below_second f K
+kinds_below zero K e = subst (KindIsBelow first_below_second 0) (some_same e) tt
+kinds_below (suc zero) K e = subst (KindIsBelow first_below_second 1) (some_same e) (refl, tt, (refl, tt, (refl, tt, tt)))
 kinds_below (suc (suc f)) K e = absurd cc
-
-below_is_tested : {a b : ℕ} → Below Addition [] a b → first_below_second b a ≡ true
-below_is_tested (below_itself {a = a}) = test_itself a
-below_is_tested (below_through {a = a} {b = b} {c = c} p q) = plus_subordination.through c b (below_is_tested q) a (below_is_tested p)
-below_is_tested (below_in_constant {a = a} {b = b} c U e q) = quantified_is_below U (types_below c U e) a b q
-below_is_tested (below_in_kind {a = a} {b = b} f K e q) = kind_is_below f K (kinds_below f K e) a b q
-below_is_tested (below_in_entry B E i j q) = absurd i
 
 tested_is_below : (f b : ℕ) → first_below_second f b ≡ true → Below Addition [] b f
 tested_is_below zero b e = subst (λ c. Below Addition [] c 0) (sym (same_is 0 b e)) below_itself
@@ -79,7 +56,7 @@ tested_is_below (suc zero) (suc b) e = subst (λ c. Below Addition [] (suc c) 1)
 tested_is_below (suc (suc n)) b e = subst (λ c. Below Addition [] c (suc (suc n))) (sym (same_is (suc (suc n)) b e)) below_itself
 
 pub addition_is_tested : AdditionIsTested
-addition_is_tested f b = (tested_is_below f b, λ p. below_is_tested p)
+addition_is_tested f b = (tested_is_below f b, λ p. below_is_tested first_below_second Addition test_itself plus_subordination.through types_below kinds_below p)
 
 -- A run.
 pub no_world : (B : Block) → Member B [] → IsTypedBlock Addition B

@@ -77,6 +77,7 @@ pub mod Everywhere
 pub mod SubordinateRaised
 pub mod SubordinateItems
 pub mod SubordinateRuns
+pub mod TestedBelow
 pub mod ExamplesSubordinate
 pub mod RenumberedSyntax
 pub mod RenumberedBack

@@ -32,7 +32,8 @@ use Rattle.lf_totality.proofs.OutputCases.{in_context, in_covers, in_type}
 use Rattle.lf_coverage.specs.FullMatching.{PlacesHavePatterns, PlacesMatch}
 use Rattle.lf_coverage.specs.Heads.{HaveSkeletons}
 use Rattle.lf_coverage.specs.Leaf.{IsTypedPattern}
-use Rattle.lf_coverage.specs.Matching.{ArePlaces, MatchesByTerms, found_goal, found_term, found_values, or_else}
+use Rattle.lf_coverage.specs.EntryConstants.{or_else}
+use Rattle.lf_coverage.specs.Matching.{ArePlaces, MatchesByTerms, found_goal, found_term, found_values}
 use Rattle.lf_coverage.specs.Stuck.{IsStrategyCase, NoCandidateMatches, NoCandidateIsInstance}
 use Rattle.lf_coverage.specs.Subordinate.{AllQuantifiersAreBelow}
 use Rattle.lf_coverage.specs.TypedCase.{IsTypedBeside, TypedArguments}

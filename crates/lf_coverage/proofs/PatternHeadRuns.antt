@@ -1,5 +1,5 @@
 -- Runs at each split of which the heads have patterns keep them.
-use Rattle.std.proofs.Common.{◌≡◌, ℕ, List, [], refl, sym, subst}
+use Rattle.std.proofs.Common.{ℕ, List, [], refl, sym, subst}
 use Rattle.std.specs.Prelude.{Bool, Some}
 use Rattle.lf.specs.Subordination.{Block, Member, AreTypedBlocks, IsBelowTest}
 use Rattle.lf.specs.Typing.{Signature, IsSignature}

@@ -18,9 +18,9 @@ use Rattle.lf_cases.specs.Case.{Item, items_context}
 use Rattle.lf_cases.specs.Reached.{SplitHead, constant_head, bound_head, entry_head, new_entry_head, arguments_count, head_masks, head_term, split_items, taken}
 use Rattle.lf_cases.specs.Split.{HasNoBlockVariable}
 use Rattle.lf_coverage.specs.Heads.{result_type}
-use Rattle.lf_coverage.specs.PatternSplits.{HeadHasPatterns, SplitCaseIsPattern, SplitStoreIsPattern}
+use Rattle.lf_coverage.specs.PatternSplits.{SplitCaseIsPattern, SplitStoreIsPattern}
 use Rattle.lf_coverage.specs.PatternStores.{ArePatternArguments, IsPatternTerm, IsPatternType, SidesArePatterns}
-use Rattle.lf_coverage.specs.SplitStore.{context_metavariables, open_locals, open_some, open_spine, open_term, open_type, split_store}
+use Rattle.lf_coverage.specs.SplitStore.{context_metavariables, open_locals, open_some, open_spine, open_term, open_type}
 use Rattle.lf_coverage.proofs.HeadTerm.{head_target, taken_length}
 use Rattle.lf_coverage.proofs.PatternCases.{solved_case_is_pattern}
 use Rattle.lf_coverage.proofs.PatternHeads.{head_term_is_pattern, under_binders, variables_are_patterns}

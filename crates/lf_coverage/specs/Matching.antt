@@ -15,6 +15,7 @@ use Rattle.lf_checks.specs.Strict.{head_variable, with_seen, pattern_arguments, 
 use Rattle.lf_cases.specs.Cover.{AreTerms}
 use Rattle.lf_cases.specs.Case.{Case, items_context, covered_places}
 use Rattle.lf_cases.specs.Pattern.{Pattern, given_at, ground_in}
+use Rattle.lf_coverage.specs.EntryConstants.{or_else}
 use Rattle.lf_coverage.specs.TermMatching.{bound}
 
 -- whether each variable of a term is one of U
@@ -83,11 +84,6 @@ found_at B F n x (app Q T) (None ∷ Ms) = found_at B F n x T Ms
 abbrev pub found_goal : (ℕ → Bool) → (ℕ → Bool) → ℕ → ℕ → LfType → List (Option Term) → Option Term
 found_goal B F n x (pi A C) Ms = found_goal (under B) (hide F) (suc n) (suc x) C Ms
 found_goal B F n x (atom a S) Ms = found_at B F n x S Ms
-
--- the first, or else the second
-abbrev pub or_else : Option Term → Option Term → Option Term
-or_else (Some M) N = Some M
-or_else None N = N
 
 -- The term for a variable of the clause: the one that is given for it, or else the one that is read off.
 abbrev pub found_term : Case → Pattern → ℕ → Option Term

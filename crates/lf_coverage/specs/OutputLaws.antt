@@ -1,7 +1,7 @@
 -- The laws of the goals of outputs that the functions of this crate carry.
 use Rattle.std.specs.Prelude.{◌≡◌, ◌<◌, ℕ, suc, List, [], ◌∷◌, Bool, true, Some}
 use Rattle.lf.specs.Syntax.{LfType, Kind}
-use Rattle.lf.specs.Typing.{Signature, TypeAt, IsSignature}
+use Rattle.lf.specs.Typing.{Signature, IsSignature}
 use Rattle.lf.specs.Variables.{target, target_arguments, binders, everything, UsesType, Within}
 use Rattle.lf.specs.Subordination.{Block, AreTypedBlocks, IsDeclared, SelfContained}
 use Rattle.lf_unification.specs.Solving.{Never}
@@ -22,6 +22,7 @@ use Rattle.lf_cases.specs.Split.{Ends, HasNoBlockVariable, HasOneBlockVariable}
 use Rattle.lf_coverage.specs.Calls.{CoverIs, IsBeside, covered, missing}
 use Rattle.lf_coverage.specs.Heads.{IsTypedCase}
 use Rattle.lf_coverage.specs.Leaf.{IsInstanceLeaf}
+use Rattle.lf_coverage.specs.Matching.{HoldsTypes}
 use Rattle.lf_coverage.specs.MeetStore.{IsOpen, meet_store}
 use Rattle.lf_coverage.specs.SplitStore.{AllFamiliesIn}
 use Rattle.lf_coverage.specs.TypedCase.{IsTypedBeside}
@@ -37,7 +38,7 @@ OutputGoalIsTypedCase = (Σ : Signature) → IsSignature Σ → (W : List Block)
 -- And the goal of a constant's subgoal is typed beside it, where what is ground holds the variables in the types of its variables. Where it doesn't,
 -- there are no values of what is ground and no outputs to be covered; the goal is typed by itself, but not beside the subgoal.
 abbrev pub OutputGoalIsTyped : Type 0
-OutputGoalIsTyped = (Σ : Signature) → IsSignature Σ → (W : List Block) → AreTypedBlocks Σ W → (below : ℕ → ℕ → Bool) (m : ℕ → List Mark) (k : ℕ) (T : LfType) → Σ.types k ≡ Some T → (U : ℕ → Bool) → ((j : ℕ) (X : LfType) → TypeAt (scope (constant_clause T)) j X → U j ≡ true → UsesType U X) → (i : ℕ) (A : LfType) → IsSubgoal (constant_clause T) i A → UsesGoal U (input_places (m (target A))) A → HasSoundMarks Σ (target A) (m (target A)) → NoneFree (m (target A)) → (K : Kind) → Σ.kinds (target A) ≡ Some K → IsTypedBeside Σ W (output_goal below m (of_constant T) U A K) (subgoal_pattern (constant_clause T) (of_constant T) A) × HasNoBlockVariable (output_goal below m (of_constant T) U A K).items
+OutputGoalIsTyped = (Σ : Signature) → IsSignature Σ → (W : List Block) → AreTypedBlocks Σ W → (below : ℕ → ℕ → Bool) (m : ℕ → List Mark) (k : ℕ) (T : LfType) → Σ.types k ≡ Some T → (U : ℕ → Bool) → HoldsTypes U (scope (constant_clause T)) → (i : ℕ) (A : LfType) → IsSubgoal (constant_clause T) i A → UsesGoal U (input_places (m (target A))) A → HasSoundMarks Σ (target A) (m (target A)) → NoneFree (m (target A)) → (K : Kind) → Σ.kinds (target A) ≡ Some K → IsTypedBeside Σ W (output_goal below m (of_constant T) U A K) (subgoal_pattern (constant_clause T) (of_constant T) A) × HasNoBlockVariable (output_goal below m (of_constant T) U A K).items
 
 -- So the checks of modes give it: the goal of each subgoal of a well-moded clause is typed by itself, with what is ground before the subgoal.
 abbrev pub ModedGoalsAreTyped : Type 0
@@ -50,7 +51,7 @@ StrictGoalsAreTyped = (Σ : Signature) → IsSignature Σ → (W : List Block) �
 
 -- Where what is ground doesn't hold the variables in the types of its variables, no outputs are to be covered.
 abbrev pub OpenOutputsAreCovered : Type 0
-OpenOutputsAreCovered = (Σ : Signature) (m : ℕ → List Mark) (W : List Block) (S : ℕ → Bool) (c : Clause) (U : ℕ → Bool) (A : LfType) → (((j : ℕ) (X : LfType) → TypeAt (scope c) j X → U j ≡ true → UsesType U X) → ⊥) → CoveredOutputs Σ m W S c U A
+OpenOutputsAreCovered = (Σ : Signature) (m : ℕ → List Mark) (W : List Block) (S : ℕ → Bool) (c : Clause) (U : ℕ → Bool) (A : LfType) → (HoldsTypes U (scope c) → ⊥) → CoveredOutputs Σ m W S c U A
 
 -- A run of splits, at each head of which unification answers, from the goal of outputs to instances of patterns covers the goal beside each
 -- self-contained set that holds the family of the clause and, for an entry, the families in the types of its block. For an entry the goal has a block
@@ -74,4 +75,4 @@ SolvedRunsGiveOutputs = (Σ : Signature) → IsSignature Σ → (W : List Block)
 
 -- In the empty world a case that the strategy reaches from such a goal, and that unification never solves with the subgoal, is missing.
 abbrev pub NeverIsMissingOutput : Type 0
-NeverIsMissingOutput = (Σ : Signature) → IsSignature Σ → (below : ℕ → ℕ → Bool) (m : ℕ → List Mark) (k : ℕ) (T : LfType) → Σ.types k ≡ Some T → (U : ℕ → Bool) → ((j : ℕ) (X : LfType) → TypeAt (scope (constant_clause T)) j X → U j ≡ true → UsesType U X) → (i : ℕ) (A : LfType) → IsSubgoal (constant_clause T) i A → UsesGoal U (input_places (m (target A))) A → HasSoundMarks Σ (target A) (m (target A)) → NoneFree (m (target A)) → (K : Kind) → Σ.kinds (target A) ≡ Some K → (D : Case) → Reached Σ [] (IsOpen Σ) below (subgoal_pattern (constant_clause T) (of_constant T) A ∷ []) (output_goal below m (of_constant T) U A K) D → Never Σ [] (meet_store D (subgoal_pattern (constant_clause T) (of_constant T) A) K) → CoverIs Σ [] below (subgoal_pattern (constant_clause T) (of_constant T) A ∷ []) (output_goal below m (of_constant T) U A K) (missing D)
+NeverIsMissingOutput = (Σ : Signature) → IsSignature Σ → (below : ℕ → ℕ → Bool) (m : ℕ → List Mark) (k : ℕ) (T : LfType) → Σ.types k ≡ Some T → (U : ℕ → Bool) → HoldsTypes U (scope (constant_clause T)) → (i : ℕ) (A : LfType) → IsSubgoal (constant_clause T) i A → UsesGoal U (input_places (m (target A))) A → HasSoundMarks Σ (target A) (m (target A)) → NoneFree (m (target A)) → (K : Kind) → Σ.kinds (target A) ≡ Some K → (D : Case) → Reached Σ [] (IsOpen Σ) below (subgoal_pattern (constant_clause T) (of_constant T) A ∷ []) (output_goal below m (of_constant T) U A K) D → Never Σ [] (meet_store D (subgoal_pattern (constant_clause T) (of_constant T) A) K) → CoverIs Σ [] below (subgoal_pattern (constant_clause T) (of_constant T) A ∷ []) (output_goal below m (of_constant T) U A K) (missing D)

@@ -20,7 +20,7 @@ ghost use Rattle.lf_coverage.specs.ExamplesLeaves.{PlusEndsAtLeaves, EntryIsLeaf
 ghost use Rattle.lf_coverage.specs.ExamplesRenumbering.{TurnedIsSolved, NumbersDiffer, NewTakesAnother};
 ghost use Rattle.lf_coverage.specs.RenumberingLaws.{NumbersExtend, NumbersAreRenumbering, UndoingReturns, ReadyUnderNumbers, StepUnderNumbers, NeverUnderNumbers, SolvedUnderNumbers, LeftUnderNumbers, DeepUnderNumbers, FoundUnderNumbers, NeverGivesNoCaseUnderNumbers, SolvedIsSplitUnderNumbers, LeftIsOutsideUnderNumbers, TooDeepUnderNumbers, NeverIsApartUnderNumbers, SolvedSharesInstanceUnderNumbers, OpenUnderNumbers};
 ghost use Rattle.lf_coverage.specs.TermMatching.{TermsMatch, ArgumentsMatch};
-ghost use Rattle.lf_coverage.specs.ExamplesStuck.{PatternsStand, BoundIsTaken, AppliedIsReached, SolvedHasCandidate, LowerIsUnsplit};
+ghost use Rattle.lf_coverage.specs.ExamplesStuck.{PatternsStand, BoundIsTaken, AppliedIsReached, SolvedHasCandidate, LowerIsUnsplit, ZerosAreTested, LowerIsTested};
 ghost use Rattle.lf_coverage.specs.Stuck.{StrictIsPattern, HeadsAreOfStrategy, NoCandidateMatches, NoCandidateIsInstance, UnsplitSharesNone, NeverUnsplit, CaseProceeds, ComesAsInstance, FirstSplitsReach, InputRunIsStrategys, InputRunIsNeverStuck, InputRunProceeds};
 ghost use Rattle.lf_coverage.specs.ExamplesStrategy.{HeadsAreStrategys, CasesAreStrategys, PlusSplitsAtFirst, SuccessorIsNotStuck, SolvedIsNotStuck};
 ghost use Rattle.lf_coverage.specs.FullMatching.{FullPlacesMatch, InputsMatch, HeadsAreStrict, PatternValuesAreTyped};
@@ -36,7 +36,7 @@ ghost use Rattle.lf_coverage.specs.NumberedHeads.{NumberedHeadsAreAll, EntryOnOw
 ghost use Rattle.lf_coverage.specs.NewInstance.{NewInstanceIsOfNewBlock, NewInstanceStaysApart, HeadsAreOverEntries};
 ghost use Rattle.lf_coverage.specs.RefutedSplits.{RunInExtension, RefutedGivesNone, SolvedGivesCaseBeside, RefutedSplitIsAnswer, RefutedRunCovers};
 ghost use Rattle.lf_coverage.specs.ExamplesRefuted.{KeptIsSplit, KeptIsWithin, PlusRunIsAtCandidate, SuccessorIsRefuted};
-ghost use Rattle.lf_coverage.specs.CandidateRuns.{CandidateIsInSet, CandidateRunCovers, ClosedSetsAreWithin, CandidateRunAnswersOutputs};
+ghost use Rattle.lf_coverage.specs.CandidateRuns.{CandidateIsInSet, CandidateRunCoversBeside, CandidateRunCoversClosed, CandidateRunCovers, ClosedSetsAreWithin, CandidateRunCoversOutputs, CandidateRunAnswersOutputs};
 ghost use Rattle.lf_coverage.specs.ExamplesInstances.{EntryIsHead, SecondIsApart, BindingMovesOwnTerms};
 ghost use Rattle.lf_coverage.specs.PatternStores.{StepKeepsPatterns, StepKeepsTypePatterns, SolvedKeepsPatterns};
 ghost use Rattle.lf_coverage.specs.PatternCases.{SolvedCaseIsPattern, PatternCaseHasPatterns};
@@ -528,6 +528,8 @@ pub fn applied_is_reached()
     ensures stuck { AppliedIsReached }
     ensures solved { SolvedHasCandidate }
     ensures lower { LowerIsUnsplit }
+    ensures zeros { ZerosAreTested }
+    ensures test { LowerIsTested }
 {}
 
 /// And so are the arguments of a case and the tuple of a linear and full clause.
@@ -882,8 +884,11 @@ pub fn candidate_is_in_set()
 
 /// So a run that splits at candidates covers its goal.
 pub fn candidate_run_covers()
-    ensures runs { CandidateRunCovers }
+    ensures beside { CandidateRunCoversBeside }
     ensures within { ClosedSetsAreWithin }
+    ensures closed { CandidateRunCoversClosed }
+    ensures runs { CandidateRunCovers }
+    ensures closed_outputs { CandidateRunCoversOutputs }
     ensures outputs { CandidateRunAnswersOutputs }
 {}
 

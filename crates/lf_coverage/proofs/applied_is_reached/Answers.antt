@@ -1,4 +1,4 @@
-use Rattle.lf_coverage.proofs.ExamplesStuck.{patterns_stand, bound_is_taken, applied_is_reached, solved_has_candidate, lower_is_unsplit}
+use Rattle.lf_coverage.proofs.ExamplesStuck.{patterns_stand, bound_is_taken, applied_is_reached, solved_has_candidate, lower_is_unsplit, zeros_are_tested, lower_is_tested}
 use Rattle.lf_coverage.proofs.applied_is_reached.Goals as goal
 
 pub returns-clause-patterns : goal.returns-clause-patterns
@@ -15,3 +15,9 @@ returns-clause-solved c = solved_has_candidate
 
 pub returns-clause-lower : goal.returns-clause-lower
 returns-clause-lower c = lower_is_unsplit
+
+pub returns-clause-zeros : goal.returns-clause-zeros
+returns-clause-zeros c = zeros_are_tested
+
+pub returns-clause-test : goal.returns-clause-test
+returns-clause-test c = lower_is_tested
