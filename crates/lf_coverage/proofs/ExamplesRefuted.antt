@@ -9,7 +9,7 @@ use Rattle.lf_unification.specs.OpenTyping.{MetavariablesInType, OpenIsType, Ope
 use Rattle.lf_unification.specs.Outside.{Avoids, Holds}
 use Rattle.lf_unification.specs.PartialInstance.{IsFilling}
 use Rattle.lf_unification.specs.Solving.{IsWellFormed, Never, Solved}
-use Rattle.lf_unification.specs.Steps.{Run, bind, constants_differ, next_equation, no_step, then_run}
+use Rattle.lf_unification.specs.Steps.{CanRefute, Run, bind, constants_differ, next_equation, no_step, then_run}
 use Rattle.lf_unification.specs.Unifiers.{Store, on_left}
 use Rattle.lf_unification.proofs.Runs.{run_refuted, run_solved}
 use Rattle.lf_unification.proofs.Solving.{solved_not_never}
@@ -21,7 +21,7 @@ use Rattle.lf_coverage.specs.ExamplesRefuted.{KeptIsSplit, KeptIsWithin, PlusRun
 use Rattle.lf_coverage.specs.ExamplesMatching.{plus_z_head}
 use Rattle.lf_coverage.specs.HeadOrder.{Offer, AreInOrder, constant_rank, next_offered, one_offered}
 use Rattle.lf_coverage.specs.Heads.{AreOffers, IsTypedCase, no_offer, with_case}
-use Rattle.lf_coverage.specs.RefutedSplits.{Refutes, IsRefutedSplit}
+use Rattle.lf_coverage.specs.RefutedSplits.{IsRefutedSplit}
 use Rattle.lf_coverage.specs.SplitStore.{context_metavariables, split_store}
 use Rattle.lf_coverage.proofs.ExamplesSubordinate.{addition_is_tested}
 use Rattle.lf_coverage.proofs.ExamplesUnified.{no_argument, plus_listed, successor_has_unifier, zero_has_unifier}
@@ -210,7 +210,7 @@ some_kind e = cc
 kept_refuted : IsRefutedSplit Addition [] first_below_second kept_case 0 kept_cases
 kept_refuted = record { answered = kept_answered; refuted = refuted }
   where
-    refuted : (h : Offer) → Member h kept_offers → (K : Kind) → Some star ≡ Some K → Never Addition [] (split_store first_below_second 0 nat h.items h.moved h.head h.type K) → Refutes Addition (split_store first_below_second 0 nat h.items h.moved h.head h.type K)
+    refuted : (h : Offer) → Member h kept_offers → (K : Kind) → Some star ≡ Some K → Never Addition [] (split_store first_below_second 0 nat h.items h.moved h.head h.type K) → CanRefute Addition (split_store first_below_second 0 nat h.items h.moved h.head h.type K)
     refuted h (inl e) K k n = absurd (solved_not_never Addition addition_ok kept_zero kept_zero_after kept_zero_solved (subst (λ g. Never Addition [] (split_store first_below_second 0 nat g.items g.moved g.head g.type star)) e (subst (λ L. Never Addition [] (split_store first_below_second 0 nat h.items h.moved h.head h.type L)) (sym (some_kind k)) n)))
     refuted h (inr (inl e)) K k n = absurd (solved_not_never Addition addition_ok kept_successor kept_successor_after kept_successor_solved (subst (λ g. Never Addition [] (split_store first_below_second 0 nat g.items g.moved g.head g.type star)) e (subst (λ L. Never Addition [] (split_store first_below_second 0 nat h.items h.moved h.head h.type L)) (sym (some_kind k)) n)))
     refuted h (inr (inr e)) K k n = absurd e
@@ -219,18 +219,18 @@ pub kept_is_split : KeptIsSplit
 kept_is_split = (kept_refuted, refuted_split_is_answer Addition addition_ok [] no_blocks first_below_second addition_is_tested kept_case kept_typed (tt, (tt, tt)) 0 kept_cases kept_refuted, refl, (λ h. true≢false (sym h.1.0)))
 
 pub successor_is_refuted : SuccessorIsRefuted
-successor_is_refuted = ((_, then_run (next_equation (_ ∷ []) _ []) no_step, constants_differ apart), zero_is_solved)
+successor_is_refuted = (record { reached = _; run = then_run (next_equation (_ ∷ []) _ []) no_step; refuted = constants_differ apart }, zero_is_solved)
   where
     apart : 1 ≡ zero → ⊥
     apart e = omega arith
 
-    zero_is_solved : Refutes Addition kept_zero → ⊥
-    zero_is_solved (t, r, f) = solved_not_never Addition addition_ok kept_zero kept_zero_after kept_zero_solved (run_refuted Addition addition_ok kept_zero_ready r f)
+    zero_is_solved : CanRefute Addition kept_zero → ⊥
+    zero_is_solved d = solved_not_never Addition addition_ok kept_zero kept_zero_after kept_zero_solved (run_refuted Addition addition_ok kept_zero_ready d.run d.refuted)
 
 plus_refuted : IsRefutedSplit Addition [] first_below_second plus_input_goal 1 (plus_zero_case ∷ plus_successor_case ∷ [])
 plus_refuted = record { answered = record { type = nat; at = (nat, refl, refl); is_free = refl; offers = plus_offers; are_offers = plus_are_offers; in_order = plus_in_order; listed = plus_listed }; refuted = refuted }
   where
-    refuted : (h : Offer) → Member h plus_offers → (K : Kind) → Some star ≡ Some K → Never Addition [] (split_store first_below_second 1 nat h.items h.moved h.head h.type K) → Refutes Addition (split_store first_below_second 1 nat h.items h.moved h.head h.type K)
+    refuted : (h : Offer) → Member h plus_offers → (K : Kind) → Some star ≡ Some K → Never Addition [] (split_store first_below_second 1 nat h.items h.moved h.head h.type K) → CanRefute Addition (split_store first_below_second 1 nat h.items h.moved h.head h.type K)
     refuted h (inl e) K k n = absurd (zero_has_unifier (subst (λ g. Never Addition [] (split_store first_below_second 1 nat g.items g.moved g.head g.type star)) e (subst (λ L. Never Addition [] (split_store first_below_second 1 nat h.items h.moved h.head h.type L)) (sym (some_kind k)) n)))
     refuted h (inr (inl e)) K k n = absurd (successor_has_unifier (subst (λ g. Never Addition [] (split_store first_below_second 1 nat g.items g.moved g.head g.type star)) e (subst (λ L. Never Addition [] (split_store first_below_second 1 nat h.items h.moved h.head h.type L)) (sym (some_kind k)) n)))
     refuted h (inr (inr e)) K k n = absurd e

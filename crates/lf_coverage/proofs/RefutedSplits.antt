@@ -16,7 +16,7 @@ use Rattle.lf_unification.specs.Dependency.{IsDependencyOrder, ListedMetavariabl
 use Rattle.lf_unification.specs.OpenTyping.{OpenHasType, OpenHeadHasType, OpenIsType, skeletons_of}
 use Rattle.lf_unification.specs.PartialInstance.{IsFilling}
 use Rattle.lf_unification.specs.Solving.{IsWellFormed, Solved, ValuesAreBindings}
-use Rattle.lf_unification.specs.Steps.{Run, Step, bind, drop_equal, equal_heads, next_equation, no_step, open_lambdas, prune_both, prune_inside, put_bindings, renew, then_run}
+use Rattle.lf_unification.specs.Steps.{CanRefute, Run, Step, bind, drop_equal, equal_heads, next_equation, no_step, open_lambdas, prune_both, prune_inside, put_bindings, renew, then_run}
 use Rattle.lf_unification.specs.Unifiers.{Binding, BindingsAreTyped, Store}
 use Rattle.lf_unification.proofs.Runs.{run_form, run_keeps_unifiers, run_refuted}
 use Rattle.lf_cases.specs.Case.{Item, free_variable, block_variable, Case, items_context, IsGroundInstance}
@@ -30,7 +30,7 @@ use Rattle.lf_totality.proofs.After.{Extends-self}
 use Rattle.lf_coverage.specs.Calls.{AreCasesOf, HeadGives}
 use Rattle.lf_coverage.specs.HeadOrder.{Offer}
 use Rattle.lf_coverage.specs.Heads.{IsTypedCase, MakesHead, Keeps, GivesCase, GivesNone, HeadAnswer, IsHeadSplit, IsSplitAt, SplitsByHeads}
-use Rattle.lf_coverage.specs.RefutedSplits.{Refutes, IsRefutedSplit, RefutesEachHead, RunInExtension, RefutedGivesNone, SolvedGivesCaseBeside, RefutedSplitIsAnswer, RefutedRunCovers}
+use Rattle.lf_coverage.specs.RefutedSplits.{IsRefutedSplit, RefutesEachHead, RunInExtension, RefutedGivesNone, SolvedGivesCaseBeside, RefutedSplitIsAnswer, RefutedRunCovers}
 use Rattle.lf_coverage.specs.SplitStore.{AllFamiliesIn, split_store, answer_values, solved_case}
 use Rattle.lf_coverage.specs.Subordinate.{AllQuantifiersAreBelow}
 use Rattle.lf_coverage.specs.UnifiedSplit.{HeadIsSolved}
@@ -167,8 +167,8 @@ module _ (Σ : Signature) (ok : IsSignature Σ) (W : List Block) (typed : AreTyp
     ready : IsWellFormed Σ' (split_store below x X J n h A K)
     ready = split_ready Σ' e.ok V blocks below C.items items x X at J n h A head_there K (e.kinds_stay (target X) K kind)
 
-    none : Refutes Σ (split_store below x X J n h A K) → ⊥
-    none (t, r, f) = never_gives_none Σ' e.ok V blocks below T (all_declared Σ' e.ok V blocks) C.items items x X at J n h A K head_there split_there declared (run_refuted Σ' e.ok ready (run_extended S Σ Σ' e r) f) Σ' (Extends-self T Σ' e.ok) G whole τ made
+    none : CanRefute Σ (split_store below x X J n h A K) → ⊥
+    none d = never_gives_none Σ' e.ok V blocks below T (all_declared Σ' e.ok V blocks) C.items items x X at J n h A K head_there split_there declared (run_refuted Σ' e.ok ready (run_extended S Σ Σ' e d.run) d.refuted) Σ' (Extends-self T Σ' e.ok) G whole τ made
 
     module _ (after : Store) (s : Solved Σ (split_store below x X J n h A K) after) where
       abbrev O : List LfType
@@ -192,7 +192,7 @@ module _ (Σ : Signature) (ok : IsSignature Σ) (W : List Block) (typed : AreTyp
             same = kept_there.same;
           }
 
-  pub gives_none : Refutes Σ (split_store below x X J n h A K) → GivesNone Σ W S below x X J n h A
+  pub gives_none : CanRefute Σ (split_store below x X J n h A K) → GivesNone Σ W S below x X J n h A
   gives_none f Σ' e G w τ m = none Σ' e G w τ m f
 
   pub gives_case : (after : Store) (s : Solved Σ (split_store below x X J n h A K) after) → GivesCase Σ W S below C x X J n h A (solved_case C (n + arguments_count A) after s.well_formed.order)

@@ -2,6 +2,7 @@
 use Rattle.std.specs.Prelude.{◌≡◌, List, [], ◌∷◌, Some, None}
 use Rattle.lf.specs.Syntax.{constant, star}
 use Rattle.lf.specs.Variables.{same_number, FamiliesIn}
+use Rattle.lf_unification.specs.Steps.{CanRefute}
 use Rattle.lf_cases.specs.Candidates.{case_candidates}
 use Rattle.lf_cases.specs.Case.{Item, free_variable, Case, items_context}
 use Rattle.lf_cases.specs.Split.{Ends}
@@ -16,7 +17,7 @@ use Rattle.lf_coverage.specs.ExamplesSubordinate.{of_sum}
 use Rattle.lf_coverage.specs.ExamplesTyped.{plus_s_head}
 use Rattle.lf_coverage.specs.Subordinate.{AllQuantifiersAreBelow}
 use Rattle.lf_coverage.specs.Leaf.{IsInstanceLeaf}
-use Rattle.lf_coverage.specs.RefutedSplits.{Refutes, IsRefutedSplit}
+use Rattle.lf_coverage.specs.RefutedSplits.{IsRefutedSplit}
 use Rattle.lf_coverage.specs.SplitStore.{AllFamiliesIn, split_store}
 
 -- V : plus z z z is given, and N : nat is an output
@@ -38,7 +39,7 @@ KeptIsSplit = IsRefutedSplit Addition [] first_below_second kept_case 0 (kept_ze
 
 -- s X = z stands second; one step takes it first, and its heads differ. The store of N = z is never refuted: it is solved.
 abbrev pub SuccessorIsRefuted : Type 0
-SuccessorIsRefuted = Refutes Numbered (split_store first_below_second 0 (on_one 2 (successor (var 1))) successor_items 0 (constant 2) a_z.type one_kind) × (Refutes Addition (split_store first_below_second 0 nat kept_items 0 (constant 0) nat star) → ⊥)
+SuccessorIsRefuted = CanRefute Numbered (split_store first_below_second 0 (on_one 2 (successor (var 1))) successor_items 0 (constant 2) a_z.type one_kind) × (CanRefute Addition (split_store first_below_second 0 nat kept_items 0 (constant 0) nat star) → ⊥)
 
 -- X is a candidate of plus X Y _ for plus-z, and Y isn't. The run that splits X ends at instances of plus-z and plus-s.
 abbrev pub PlusRunIsAtCandidate : Type 0

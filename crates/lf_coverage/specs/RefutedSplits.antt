@@ -7,7 +7,7 @@ use Rattle.lf.specs.Variables.{target, FamiliesIn}
 use Rattle.lf.specs.Subordination.{Block, Member, AreTypedBlocks, IsBelowTest}
 use Rattle.lf.specs.Extension.{Extends}
 use Rattle.lf_unification.specs.Solving.{Never, Solved}
-use Rattle.lf_unification.specs.Steps.{IsRefuted, Run}
+use Rattle.lf_unification.specs.Steps.{CanRefute, Run}
 use Rattle.lf_unification.specs.Unifiers.{Store}
 use Rattle.lf_cases.specs.Case.{Item, Case, items_context}
 use Rattle.lf_cases.specs.Pattern.{Pattern}
@@ -21,15 +21,10 @@ use Rattle.lf_coverage.specs.SplitStore.{split_store, solved_case}
 use Rattle.lf_coverage.specs.Subordinate.{AllQuantifiersAreBelow}
 use Rattle.lf_coverage.specs.UnifiedSplit.{IsAnsweredSplit}
 
--- Steps lead from the store to one whose first equation is refuted. So it is with a store that has the equation z = s X'; not with
--- X = s X', which is solved.
-abbrev pub Refutes : Signature → Store → Type 0
-Refutes Σ before = (after : Store) × Run Σ before after × IsRefuted after
-
 -- A split of the free variable x of C at each head of which unification answers, and steps refute each store that is never solved.
 pub record IsRefutedSplit (Σ : Signature) (W : List Block) (below : ℕ → ℕ → Bool) (C : Case) (x : ℕ) (Cs : List Case) : Type 0 where
   pub answered : IsAnsweredSplit Σ W below C x Cs
-  pub refuted : (h : Offer) → Member h answered.offers → (K : Kind) → Σ.kinds (target answered.type) ≡ Some K → Never Σ [] (split_store below x answered.type h.items h.moved h.head h.type K) → Refutes Σ (split_store below x answered.type h.items h.moved h.head h.type K)
+  pub refuted : (h : Offer) → Member h answered.offers → (K : Kind) → Σ.kinds (target answered.type) ≡ Some K → Never Σ [] (split_store below x answered.type h.items h.moved h.head h.type K) → CanRefute Σ (split_store below x answered.type h.items h.moved h.head h.type K)
 
 -- A case is split so at one of its variables, whose type has its families in each set beside which the goal is to be covered.
 abbrev pub RefutesEachHead : Signature → List Block → (ℕ → ℕ → Bool) → Case → Case → List Case → Type 0
@@ -41,7 +36,7 @@ RunInExtension = (S : ℕ → Bool) (Σ Σ' : Signature) → Extends S Σ Σ' �
 
 -- What is refuted gives no case, beside whatever set: in no extension over it, and no context of W beside it, anything makes the variable that head.
 abbrev pub RefutedGivesNone : Type 0
-RefutedGivesNone = (Σ : Signature) → IsSignature Σ → (W : List Block) → AreTypedBlocks Σ W → (below : ℕ → ℕ → Bool) (S : ℕ → Bool) (C : Case) → IsTypedCase Σ W C → (x : ℕ) (X : LfType) → TypeAt (items_context C.items) x X → (J : List Item) (n : ℕ) (h : Head) (A : LfType) → SplitHead Σ W C.items X J n h A → HasNoBlockVariable J → (K : Kind) → Σ.kinds (target X) ≡ Some K → Refutes Σ (split_store below x X J n h A K) → GivesNone Σ W S below x X J n h A
+RefutedGivesNone = (Σ : Signature) → IsSignature Σ → (W : List Block) → AreTypedBlocks Σ W → (below : ℕ → ℕ → Bool) (S : ℕ → Bool) (C : Case) → IsTypedCase Σ W C → (x : ℕ) (X : LfType) → TypeAt (items_context C.items) x X → (J : List Item) (n : ℕ) (h : Head) (A : LfType) → SplitHead Σ W C.items X J n h A → HasNoBlockVariable J → (K : Kind) → Σ.kinds (target X) ≡ Some K → CanRefute Σ (split_store below x X J n h A K) → GivesNone Σ W S below x X J n h A
 
 -- And what is solved gives a case, beside whatever set.
 abbrev pub SolvedGivesCaseBeside : Type 0

@@ -85,3 +85,10 @@ pub data IsRefuted : Store → Type 0 where
   occurs_inside : {Ψ : ℕ → Option LfType} {bs : List Binding} {es : List Equation} {A : LfType} (side : Side) (D : List LfType) (m : ℕ) (xs : List ℕ) (N : Term) (C : LfType) →
       Ψ m ≡ Some A → IsPattern D (skeletons_of Ψ m) xs → (IsLambda N → ⊥) → OccursRigid Ψ D m xs N →
       IsRefuted (store_at side Ψ bs es D (on_pattern Ψ m xs) N C)
+
+-- Steps lead from the store to one whose first equation is refuted. So it is with a store that has the equation z = s X; not with
+-- Y = s X, which is solved.
+pub record CanRefute (Σ : Signature) (s : Store) : Type 0 where
+  pub reached : Store
+  pub run : Run Σ s reached
+  pub refuted : IsRefuted reached

@@ -4,6 +4,7 @@ use Rattle.std.specs.Option.{MatchOption}
 use Rattle.lf.specs.Typing.{IsSignature, Signature}
 use Rattle.lf_unification.specs.Solving as solving
 use Rattle.lf_unification.specs.ReachedRuns.{ReachedRun}
+use Rattle.lf_unification.specs.Steps.{CanRefute}
 use Rattle.lf_unification.specs.Unifiers.{Equation, Store}
 use Rattle.lf_unification.proofs.Runs.{run_left, run_refuted, run_solved}
 use Rattle.lf_unification.proofs.Sides.{run_origin}
@@ -11,7 +12,7 @@ use Rattle.tw_metas.specs.State.{State, Story}
 use Rattle.tw_metas.specs.View.{equation_of}
 use Rattle.tw_metas.specs.declared.equation.Equation.{Equation as RustEquation}
 use Rattle.tw_unify.specs.Answers.{Answers, KeepsSides, RenewsOnlyReached, RestIs, StaysReady}
-use Rattle.tw_unify.specs.Outcomes.{CanRefute, Explains}
+use Rattle.tw_unify.specs.Outcomes.{Explains}
 use Rattle.tw_putting.specs.Ready.{IsReady}
 use Rattle.tw_unify.specs.Sides.{AllLeft}
 use Rattle.tw_putting.specs.Whole.{IsConsistent, whole}
@@ -54,7 +55,7 @@ module _ (Σ : Signature) (ok : IsSignature Σ) (given : List Equation) (s t : S
 
     rest_renews : (a : Unified) → RestIs a t.equations → RenewsOnlyReached a Σ (whole given s) (whole [] t)
     rest_renews Solved e = arrived
-    rest_renews Never e = tt
+    rest_renews Never e = absurd e
     rest_renews Left n = arrived
 
     -- in the store as the call leaves it
@@ -64,8 +65,11 @@ module _ (Σ : Signature) (ok : IsSignature Σ) (given : List Equation) (s t : S
         (subst (λ (u : State). Answers a Σ (whole given s) (whole [] u)) (sym e) (rest_answers a h'), subst (λ (u : State). StaysReady a Σ u) (sym e) (rest_ready a h'), subst (λ (u : State). KeepsSides a (whole given s) (whole [] u)) (sym e) (rest_sides a h'), subst (λ (u : State). RenewsOnlyReached a Σ (whole given s) (whole [] u)) (sym e) (rest_renews a h'))
 
   -- it is refuted
+  pub refuted_from : (es : List Equation) → ReachedRun Σ (whole given s) (whole es t) → CanRefute Σ (whole es t) → CanRefute Σ (whole given s)
+  refuted_from es p q = record { reached = q.reached; run = both_runs Σ p.run q.run; refuted = q.refuted }
+
   pub refuted_answers : (es : List Equation) → ReachedRun Σ (whole given s) (whole es t) → CanRefute Σ (whole es t) → solving.Never Σ [] (whole given s)
-  refuted_answers es p q = run_refuted Σ ok r.well_formed (both_runs Σ p.run q.run) q.refuted
+  refuted_answers es p q = let u = refuted_from es p q in run_refuted Σ ok r.well_formed u.run u.refuted
 
 -- what comes next, where nothing does, and where an equation does
 module _ (Σ : Signature) (es : List Equation) (old new : Story) (o : Option RustEquation) (fs : List Equation) where

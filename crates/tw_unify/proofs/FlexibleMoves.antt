@@ -14,7 +14,7 @@ use Rattle.lf_unification.specs.Putting.{Unbound}
 use Rattle.lf_unification.specs.Skeletons.{skeleton_or_default}
 use Rattle.lf_unification.specs.ReachedRuns.{ReachedRun}
 use Rattle.lf_unification.specs.Renewing.{renewed_store}
-use Rattle.lf_unification.specs.Steps.{IsRefuted, bind, drop_equal, no_step, prune_both, prune_inside, renew}
+use Rattle.lf_unification.specs.Steps.{CanRefute, IsRefuted, bind, drop_equal, no_step, prune_both, prune_inside, renew}
 use Rattle.lf_unification.specs.Unifiers.{Binding, Equation, Side, Store, equation_on, on_left, on_right}
 use Rattle.tw_metas.specs.State.{IsUnbound, State, with_declared, with_equation, with_value}
 use Rattle.tw_terms.specs.OpenView.{open_spine_of, open_term_of, open_type_of}
@@ -25,7 +25,6 @@ use Rattle.tw_putting.specs.Stores.{bindings_of, types_of}
 use Rattle.tw_putting.specs.Ready.{AllScoped}
 use Rattle.tw_unify.specs.Flexible.{AllowsMove, far, near, pruned_state, pruned_value}
 use Rattle.tw_unify.specs.Moving.{AgainstFits, GivesPruned, IsMove, IsRenewal, LosesInBoth, LosesInside, NeedsRenewal, on_pattern}
-use Rattle.tw_unify.specs.Outcomes.{CanRefute}
 use Rattle.tw_putting.specs.Whole.{IsConsistent, whole}
 use Rattle.tw_unify.specs.declared.moves.Move.TheVariants.{Bind, Lose, Refute}
 use Rattle.tw_putting.proofs.Changes.{bindings_with_declared, bindings_with_value, consistent_with_declared, is_unbound, still_unbound, types_with_declared}

@@ -12,7 +12,7 @@ use Rattle.lf_unification.specs.Patterns.{local_skeletons}
 use Rattle.lf_unification.specs.Putting.{IsRigidHead, binders, put_nothing}
 use Rattle.lf_unification.specs.DeepEquations.{EquationsReach, IsDeepType, deep_equation, deep_type, from_left, from_right}
 use Rattle.lf_unification.specs.ReachedRuns.{ReachedRun}
-use Rattle.lf_unification.specs.Steps.{constant_or_variable, constants_differ, equal_heads, no_step, open_lambdas, put_bindings, variables_differ}
+use Rattle.lf_unification.specs.Steps.{CanRefute, constant_or_variable, constants_differ, equal_heads, no_step, open_lambdas, put_bindings, variables_differ}
 use Rattle.lf_unification.specs.Unifiers.{Equation, Store, on_left, on_right}
 use Rattle.lf_unification.proofs.Putting.{put_some, put_unbound}
 use Rattle.tw_metas.specs.State.{State}
@@ -22,7 +22,7 @@ use Rattle.tw_putting.specs.Stores.{PutsDeepType, bindings_of, types_of}
 use Rattle.tw_putting.specs.Unfolding.{HeadStays}
 use Rattle.tw_unify.specs.Flexible.{AllowsMove, BlamesReached, BothHeadsFit, FlexibleFits, IsReachedFrom, MoveFits}
 use Rattle.tw_unify.specs.Moving.{HeadsFit, SidesFit}
-use Rattle.tw_unify.specs.Outcomes.{Advances, CanRefute, Explains}
+use Rattle.tw_unify.specs.Outcomes.{Advances, Explains}
 use Rattle.tw_putting.specs.Ready.{IsReady}
 use Rattle.tw_unify.specs.Rigid.{AreLambdas, BlamesArguments, Decomposes, IsPi, LeftFits, Opens}
 use Rattle.tw_unify.specs.Sides.{BecomeApart, BlamesDepth, BlamesSide, BlamesUnfolding, EquationFits, HaveShape, HeadsStay, IsFlexibleEquation, PutsAll, PutsBoth, RootsHaveShape, SidesUnbound, UnfoldsBoth, with_sides}

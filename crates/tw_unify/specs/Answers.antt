@@ -5,6 +5,7 @@ use Rattle.lf.specs.Typing.{Signature}
 use Rattle.lf_unification.specs.Origins.{ComesFrom}
 use Rattle.lf_unification.specs.ReachedRuns.{ReachedRun}
 use Rattle.lf_unification.specs.Solving as solving
+use Rattle.lf_unification.specs.Steps.{CanRefute}
 use Rattle.lf_unification.specs.Unifiers.{Equation, Store}
 use Rattle.tw_metas.specs.State.{State}
 use Rattle.tw_putting.specs.Ready.{IsReady}
@@ -17,10 +18,10 @@ Answers Solved Σ before after = solving.Solved Σ before after
 Answers Never Σ before after = solving.Never Σ [] before
 Answers Left Σ before after = solving.Left Σ before after
 
--- where there may be a typed unifier, steps led there that renewed only metavariables that are reached from the equations
+-- where there may be a typed unifier, steps led there that renewed only metavariables that are reached from the equations; where there is none, steps refute the store
 abbrev pub RenewsOnlyReached : Unified → Signature → Store → Store → Type 0
 RenewsOnlyReached Solved Σ before after = ReachedRun Σ before after
-RenewsOnlyReached Never Σ before after = Unit {0}
+RenewsOnlyReached Never Σ before after = CanRefute Σ before
 RenewsOnlyReached Left Σ before after = ReachedRun Σ before after
 
 -- each equation that is left comes from one that was there or was given, the left side from the left one

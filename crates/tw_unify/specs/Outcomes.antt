@@ -4,7 +4,7 @@ use Rattle.lf.specs.Depth.{depth_limit}
 use Rattle.lf.specs.Typing.{Signature}
 use Rattle.lf_unification.specs.DeepEquations.{AreDeep}
 use Rattle.lf_unification.specs.ReachedRuns.{ReachedRun}
-use Rattle.lf_unification.specs.Steps.{IsRefuted, Run}
+use Rattle.lf_unification.specs.Steps.{CanRefute}
 use Rattle.lf_unification.specs.Unifiers as unifiers
 use Rattle.tw_metas.specs.View.{equation_of}
 use Rattle.tw_metas.specs.declared.equation.Equation.{Equation}
@@ -16,12 +16,6 @@ use Rattle.tw_unify.specs.declared.work.Advance.TheVariants.{Went, Bound, Postpo
 -- a stack of equations, the last one first
 abbrev pub stacked : List Equation → List unifiers.Equation
 stacked es = reverse (map equation_of es)
-
--- steps lead to a store that is refuted
-pub record CanRefute (Σ : Signature) (s : unifiers.Store) : Type 0 where
-  pub reached : unifiers.Store
-  pub run : Run Σ s reached
-  pub refuted : IsRefuted reached
 
 -- steps were made, which renewed only what is reached, or the store can be refuted
 abbrev pub Advances : Advance → Signature → unifiers.Store → unifiers.Store → Type 0

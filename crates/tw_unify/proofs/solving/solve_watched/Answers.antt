@@ -2,14 +2,15 @@ use Rattle.std.proofs.Common.{◌≡◌, ◌∷◌, List, Err, map, refl, sym, s
 use Rattle.lf.specs.Entries.{signature_of}
 use Rattle.lf.proofs.Entries.{canonical_is_signature}
 use Rattle.lf_unification.specs.ReachedRuns.{ReachedRun}
+use Rattle.lf_unification.specs.Steps.{CanRefute}
 use Rattle.lf_unification.specs.Unifiers as unifiers
 use Rattle.tw_metas.specs.View.{equation_of}
-use Rattle.tw_unify.specs.Outcomes.{Advances, CanRefute, stacked}
+use Rattle.tw_unify.specs.Outcomes.{Advances, stacked}
 use Rattle.tw_putting.specs.Stores.{bindings_of, types_of}
 use Rattle.tw_putting.specs.Whole.{whole}
 use Rattle.tw_unify.specs.Reaching.{marking_of}
 use Rattle.tw_unify.proofs.Changed.{closed_kept}
-use Rattle.tw_unify.proofs.Endings.{explains_after, none_next, refuted_answers, rest_told, some_next}
+use Rattle.tw_unify.proofs.Endings.{explains_after, none_next, refuted_answers, refuted_from, rest_told, some_next}
 use Rattle.tw_unify.proofs.Orders.{both_reached, none_made}
 use Rattle.tw_putting.proofs.Readiness.{ready_after}
 use Rattle.tw_unify.proofs.Reaching.{none_marked, nothing_closed, nothing_in}
@@ -111,6 +112,16 @@ returns-in-Refuted-clause-answer c =
     let next : ReachedRun Σ (whole (stacked c.loop.work.items) c.loop.store.now) (whole (e ∷ es) c.next_equation.new.store.now) = some_next Σ (stacked c.loop.work.items) c.loop.store c.next_equation.new.store c.in_ok-next.next es c.in-Some.equation c.in-Some.is c.in_ok-next.ensures.next in
     let refuted : CanRefute Σ (whole (e ∷ es) c.next_equation.new.store.now) = subst (λ a. Advances a Σ (whole (e ∷ es) c.next_equation.new.store.now) (whole (stacked c.advance.new.work.items) c.advance.new.store.now)) c.in-Refuted.is c.in_ok-outcome-in-Some.ensures.done in
     refuted_answers Σ (canonical_is_signature c.args.signature.now c.is_canonical.ensures) given c.args.store.now.now c.next_equation.new.store.now c.requires.ready c.next_equation.ensures.consistent (e ∷ es) (both_reached Σ c.loop.invariant.run next) refuted
+
+pub returns-in-Refuted-clause-renews : goal.returns-in-Refuted-clause-renews
+returns-in-Refuted-clause-renews c =
+    let Σ = signature_of c.args.signature.now in
+    let given = map equation_of c.args.equations.items in
+    let e = equation_of c.in-Some.equation in
+    let es = stacked c.next_equation.new.work.items in
+    let next : ReachedRun Σ (whole (stacked c.loop.work.items) c.loop.store.now) (whole (e ∷ es) c.next_equation.new.store.now) = some_next Σ (stacked c.loop.work.items) c.loop.store c.next_equation.new.store c.in_ok-next.next es c.in-Some.equation c.in-Some.is c.in_ok-next.ensures.next in
+    let refuted : CanRefute Σ (whole (e ∷ es) c.next_equation.new.store.now) = subst (λ a. Advances a Σ (whole (e ∷ es) c.next_equation.new.store.now) (whole (stacked c.advance.new.work.items) c.advance.new.store.now)) c.in-Refuted.is c.in_ok-outcome-in-Some.ensures.done in
+    refuted_from Σ (canonical_is_signature c.args.signature.now c.is_canonical.ensures) given c.args.store.now.now c.next_equation.new.store.now c.requires.ready c.next_equation.ensures.consistent (e ∷ es) (both_reached Σ c.loop.invariant.run next) refuted
 
 pub returns-in-Refuted-clause-story : goal.returns-in-Refuted-clause-story
 returns-in-Refuted-clause-story c =
