@@ -63,7 +63,7 @@ impl Model for Mark {
 }
 
 impl Store {
-    ghost use Rattle.std.specs.Prelude.{◌≡◌, ◌<◌, ◌≤◌, ◌∷◌, ◌-◌, length, drop, map, OnOk, OnErr, IfOk, option_map, slice_get};
+    ghost use Rattle.std.specs.Prelude.{◌≡◌, ◌<◌, ◌≤◌, ◌∷◌, ◌-◌, length, drop, map, nat_eq, OnOk, OnErr, IfOk, option_map, slice_get};
     ghost use Rattle.tw_terms.specs.OpenView.{open_term_of, open_type_of};
     ghost use Rattle.tw_metas.specs.State.{empty_story, changed, states, with_declared, with_value, with_equation, without_equation, value_of, IsUnbound};
     ghost use Rattle.tw_metas.specs.View.{equation_of, kept_equation_of};
@@ -103,6 +103,13 @@ impl Store {
         Mark {
             changes: self.trail.len(),
         }
+    }
+
+    /// Whether the store is at this moment, so that to go back to it takes nothing back.
+    pub fn is_at(&self, mark: &Mark) -> bool
+        ensures { result ≡ nat_eq (length self.now.before) mark.now }
+    {
+        self.trail.len() == mark.changes
     }
 
     /// The context and the type of a metavariable, as they were handed to `fresh`.
