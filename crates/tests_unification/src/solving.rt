@@ -20,7 +20,9 @@ use tw_fixity::Name;
 use tw_metas::{Equation, LeftEquation, Store};
 use tw_signature::Signature;
 use tw_terms::{MetaId, OpenContext, OpenHead};
-use tw_unify::{Unified, UnifyFault, all_left_over_are_left, left_equation, solve, solve_more};
+use tw_unify::{
+    Unified, UnifyFault, Walk, all_left_over_are_left, left_equation, solve, solve_more,
+};
 
 /// What is asked for isn't typed in a way that can be told.
 pub(crate) const NOT_ASKED: &str = "can't be asked";
@@ -115,10 +117,11 @@ fn solve_twice(
     requires ready { IsReady (signature_of signature.now) (map equation_of equations.items) store.old.now }
     ensures { IfOk result (λ a. StaysReady a (signature_of signature.now) store.new.now) }
 {
-    match solve_more(alloc, store, signature, equations)? {
+    let mut met = Walk::new(alloc);
+    match solve_more(alloc, store, signature, equations, &mut met)? {
         Unified::Left => {
             all_left_over_are_left();
-            solve_more(alloc, store, signature, Vec::new(alloc))
+            solve_more(alloc, store, signature, Vec::new(alloc), &mut met)
         }
         other => Ok(other),
     }

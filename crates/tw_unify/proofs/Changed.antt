@@ -1,18 +1,18 @@
 -- What a binding, a loss and a renewal make of the store.
-use Rattle.std.proofs.Common.{◌≡◌, ℕ, zero, suc, List, [], ◌∷◌, ◌++◌, length, Some, refl, sym, ap, ◌∙◌, subst}
+use Rattle.std.proofs.Common.{◌≡◌, ℕ, zero, suc, List, [], ◌∷◌, ◌++◌, length, Option, Some, refl, sym, ap, ◌∙◌, subst}
 use Rattle.std.specs.Prelude.{slice_get}
 use Rattle.std.specs.Option.{option_map}
 use Rattle.lf.specs.Syntax.{LfType, Spine, Term}
-use Rattle.lf_unification.specs.OpenTyping.{MetavariablesIn}
+use Rattle.lf_unification.specs.OpenTyping.{Declares, MetavariablesIn}
 use Rattle.tw_metas.specs.State.{Declaration, IsUnbound, State, with_declared, with_value}
 use Rattle.tw_terms.specs.declared.canonical.MetaId.{MetaId}
 use Rattle.tw_putting.specs.Stores.{bindings_of, types_of}
 use Rattle.tw_putting.specs.Whole.{IsConsistent}
 use Rattle.tw_putting.proofs.Changes.{bindings_with_declared, bindings_with_value, consistent_with_declared, still_unbound}
 use Rattle.tw_unify.specs.Flexible.{pruned_state, pruned_value}
-use Rattle.tw_unify.specs.Reaching.{IsClosed, IsMarked, Marking}
+use Rattle.tw_unify.specs.Reaching.{IsClosed, IsKnown, IsMarked, Marking}
 use Rattle.tw_unify.specs.Watching.{BindsOne, KeepsBindings}
-use Rattle.tw_unify.proofs.Reaching.{closed_bound}
+use Rattle.tw_unify.proofs.Reaching.{closed_bound, nothing_closed}
 
 -- a metavariable is bound
 pub binds_value : (s : State) → IsConsistent s → (m : MetaId) (N : Term) → IsUnbound s m.0 → (t : State) → t ≡ with_value s m.0 N → BindsOne s m t
@@ -41,3 +41,10 @@ closed_value s c m N u w k i = subst (λ bs. IsClosed (types_of s) bs w) (sym (b
 -- and where the metavariables and the bindings stay
 pub closed_kept : (s t : State) (w : Marking) → KeepsBindings s t → IsClosed (types_of s) (bindings_of s) w → IsClosed (types_of t) (bindings_of t) w
 closed_kept s t w (p, q) c = subst (λ Ψ. IsClosed Ψ (bindings_of t) w) (sym p) (subst (λ bs. IsClosed (types_of s) bs w) (sym q) c)
+
+pub known_kept : (s t : State) (w : Marking) → KeepsBindings s t → IsKnown s w → IsKnown t w
+known_kept s t w (p, q) d = record { closed = closed_kept s t w (p, q) d.closed; declared = λ k h. subst (λ (Ψ : ℕ → Option LfType). Declares Ψ k) (sym p) (d.declared k h) }
+
+-- of nothing nothing is known
+pub nothing_known : (s : State) (w : Marking) → ((k : ℕ) → IsMarked w k → ⊥) → w.due ≡ [] → IsKnown s w
+nothing_known s w none e = record { closed = nothing_closed (types_of s) (bindings_of s) w none e; declared = λ k h. absurd (none k h) }

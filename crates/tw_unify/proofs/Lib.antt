@@ -9,6 +9,7 @@ pub mod Moving
 pub mod FlexibleMoves
 pub mod Stories
 pub mod Changed
+pub mod Knowing
 pub mod Variables
 pub mod Fitting
 pub mod Working

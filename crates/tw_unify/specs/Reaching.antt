@@ -3,10 +3,12 @@ use Rattle.std.specs.Prelude.{◌≡◌, ℕ, ◌+◌, ◌≤◌, List, [], leng
 use Rattle.std.specs.HashSet.{contains, hash_set_len}
 use Rattle.lf.specs.Subordination.{Member}
 use Rattle.lf.specs.Syntax.{Term, LfType}
-use Rattle.lf_unification.specs.OpenTyping.{MetavariablesIn, MetavariablesInType}
+use Rattle.lf_unification.specs.OpenTyping.{Declares, MetavariablesIn, MetavariablesInType}
 use Rattle.lf_unification.specs.Outside.{Avoids, Holds}
 use Rattle.lf_unification.specs.Reach.{Mentions, TypeMentions}
 use Rattle.lf_unification.specs.Unifiers.{Binding}
+use Rattle.tw_metas.specs.State.{State}
+use Rattle.tw_putting.specs.Stores.{bindings_of, types_of}
 use Rattle.tw_unify.specs.declared.reach.Walk.{Walk}
 
 -- Which metavariables were met, how many, and those of them whose types and values are still to be walked.
@@ -59,3 +61,8 @@ pub record IsAvoided (Ψ : ℕ → Option LfType) (bs : List Binding) (N : Term)
   pub reached : ℕ → Bool
   pub avoids : Avoids Ψ bs m (λ k. Holds (reached k))
   pub within : MetavariablesIn (λ k. Holds (reached k)) N
+
+-- What may be kept of a store's walks: it is closed, and each metavariable that was met is declared, so that nothing is known of one that comes later.
+pub record IsKnown (s : State) (w : Marking) : Type 0 where
+  pub closed : IsClosed (types_of s) (bindings_of s) w
+  pub declared : (k : ℕ) → IsMarked w k → Declares (types_of s) k

@@ -48,4 +48,5 @@ mod work;
 pub use fault::UnifyFault;
 pub use laws::all_left_over_are_left;
 pub use left::left_equation;
+pub use reach::Walk;
 pub use solving::{Unified, solve, solve_more};

@@ -3,17 +3,18 @@ ghost use Rattle.std.specs.Prelude.{◌≡◌, ℕ, ◌⊎◌, [], OnOk, IfOk, M
 ghost use Rattle.std.specs.HashSet.{IsEmpty};
 ghost use Rattle.lf_unification.specs.OpenTyping.{MetavariablesIn, MetavariablesInSpine, MetavariablesInType};
 ghost use Rattle.lf_unification.specs.Reach.{Mentions, SpineMentions, TypeMentions, IsReached};
+ghost use Rattle.tw_metas.specs.State.{State};
 ghost use Rattle.tw_terms.specs.OpenView.{open_term_of, open_spine_of, open_type_of};
 ghost use Rattle.tw_putting.specs.Stores.{types_of, bindings_of};
 ghost use Rattle.tw_putting.specs.Whole.{IsConsistent};
-ghost use Rattle.tw_unify.specs.Reaching.{marking_of, IsClosed, IsMarked, Spreads, StandsInType, StandsInValue, TypeIsMet, ValueIsMet, IsAvoided};
+ghost use Rattle.tw_unify.specs.Reaching.{marking_of, IsClosed, IsKnown, IsMarked, Spreads, StandsInType, StandsInValue, TypeIsMet, ValueIsMet, IsAvoided};
 
 use std::alloc::{AllocError, Global};
 use std::collections::HashSet;
 use tw_metas::Store;
 use tw_terms::{MetaId, Open, OpenHead, OpenSpine, OpenTy};
 
-/// The metavariables that were met, and those of them whose types and values are still to be walked.
+/// The metavariables that were met, and those of them whose types and values are still to be walked. It may be kept from call to call for as long as nothing is taken back in the store.
 #[derive(Drop)]
 pub struct Walk {
     pub marks: HashSet<u64>,
@@ -49,6 +50,7 @@ pub fn is_reached_now(
     ensures reached { IfOk result (λ b. MatchBool b (IsReached (types_of store.now.now) (bindings_of store.now.now) (open_term_of term.now) meta.0) (IsAvoided (types_of store.now.now) (bindings_of store.now.now) (open_term_of term.now) meta.0)) }
     ensures closed { OnOk result (IsClosed (types_of store.now.now) (bindings_of store.now.now) (marking_of met.new)) }
     ensures met { OnOk result (MetavariablesIn (IsMarked (marking_of met.new)) (open_term_of term.now)) }
+    ensures spread { OnOk result ((k : ℕ) → IsMarked (marking_of met.new) k → IsMarked (marking_of met.old) k ⊎ IsReached (types_of store.now.now) (bindings_of store.now.now) (open_term_of term.now) k) }
 {
     let known = met.is_marked(meta);
     met.go_from(store, term)?;
@@ -64,6 +66,7 @@ impl Walk {
     pub fn new(alloc: Global) -> Walk
         ensures marks { IsEmpty result.marks }
         ensures due { result.due.items ≡ [] }
+        ensures known { (s : State) → IsKnown s (marking_of result) }
     {
         Walk {
             marks: HashSet::new(alloc),
@@ -90,7 +93,7 @@ impl Walk {
     }
 
     /// Whether the metavariable was met.
-    fn is_marked(&self, meta: MetaId) -> bool
+    pub fn is_marked(&self, meta: MetaId) -> bool
         ensures { MatchBool result (IsMarked (marking_of self.now) meta.0) (IsMarked (marking_of self.now) meta.0 → ⊥) }
     {
         self.marks.contains(&meta.0)

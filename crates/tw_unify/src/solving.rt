@@ -1,10 +1,11 @@
 //! Solving: steps of unification until nothing is left, no step is possible, or there is no typed unifier.
-ghost use Rattle.std.specs.Prelude.{◌≡◌, [], ◌∷◌, map, IfOk, MatchOption, MatchResult};
+ghost use Rattle.std.specs.Prelude.{◌≡◌, [], ◌∷◌, map, IfOk, OnOk, MatchOption, MatchResult};
 ghost use Rattle.lf.specs.Entries.{signature_of, IsCanonicalSignature};
 ghost use Rattle.tw_metas.specs.View.{equation_of};
 ghost use Rattle.tw_putting.specs.Whole.{IsConsistent, whole};
 ghost use Rattle.tw_putting.specs.Ready.{IsLater, IsReady};
 ghost use Rattle.tw_unify.specs.Outcomes.{Explains, stacked};
+ghost use Rattle.tw_unify.specs.Reaching.{IsKnown, marking_of};
 ghost use Rattle.tw_unify.specs.Answers.{Answers, KeepsSides, RenewsOnlyReached, RestIs, StaysReady};
 ghost use Rattle.tw_unify.specs.Sides.{AllLeft};
 ghost use Rattle.tw_unify.specs.Watching.{KeepsBindings, Watches, diary_of};
@@ -49,27 +50,32 @@ pub fn solve(
     ensures story { IsLater store.old store.new }
 {
     let mut watch = Watch::new(alloc, store.equations(), None)?;
-    solve_watched(alloc, store, signature, equations, &mut watch)
+    let mut met = Walk::new(alloc);
+    solve_watched(alloc, store, signature, equations, &mut watch, &mut met)
 }
 
-/// The same where all equations that are postponed in the store are left, as `solve` leaves them. Of these it looks only at such as hang on a metavariable that it binds.
+/// The same where all equations that are postponed in the store are left, as `solve` leaves them. Of these it looks only at such as hang on a metavariable that it binds. What the occurs check
+/// met in earlier calls it doesn't walk again, as long as steps only bind metavariables; after a fault what it met may be of no more use.
 pub fn solve_more(
     alloc: Global,
     store: &mut Store,
     signature: &Signature,
     equations: Vec<Equation>,
+    met: &mut Walk,
 ) -> Result<Unified, UnifyFault>
     requires ready { IsReady (signature_of signature.now) (map equation_of equations.items) store.old.now }
     requires left { AllLeft store.old.now store.old.now.equations }
+    requires known { IsKnown store.old.now (marking_of met.old) }
     ensures answer { MatchResult result (λ a. Answers a (signature_of signature.now) (whole (map equation_of equations.items) store.old.now) (whole [] store.new.now)) (λ f. Explains f (signature_of signature.now) (whole (map equation_of equations.items) store.old.now)) }
     ensures renews { IfOk result (λ a. RenewsOnlyReached a (signature_of signature.now) (whole (map equation_of equations.items) store.old.now) (whole [] store.new.now)) }
     ensures sides { IfOk result (λ a. KeepsSides a (whole (map equation_of equations.items) store.old.now) (whole [] store.new.now)) }
     ensures ready { IfOk result (λ a. StaysReady a (signature_of signature.now) store.new.now) }
     ensures consistent { IsConsistent store.new.now }
     ensures story { IsLater store.old store.new }
+    ensures known { OnOk result (IsKnown store.new.now (marking_of met.new)) }
 {
     let mut watch = Watch::new(alloc, store.equations(), Some(0))?;
-    solve_watched(alloc, store, signature, equations, &mut watch)
+    solve_watched(alloc, store, signature, equations, &mut watch, met)
 }
 
 /// The same with what is known of the postponed equations.
@@ -79,21 +85,23 @@ fn solve_watched(
     signature: &Signature,
     equations: Vec<Equation>,
     watch: &mut Watch,
+    met: &mut Walk,
 ) -> Result<Unified, UnifyFault>
     requires ready { IsReady (signature_of signature.now) (map equation_of equations.items) store.old.now }
     requires watches { Watches store.old.now (diary_of watch.old) }
+    requires known { IsKnown store.old.now (marking_of met.old) }
     ensures answer { MatchResult result (λ a. Answers a (signature_of signature.now) (whole (map equation_of equations.items) store.old.now) (whole [] store.new.now)) (λ f. Explains f (signature_of signature.now) (whole (map equation_of equations.items) store.old.now)) }
     ensures renews { IfOk result (λ a. RenewsOnlyReached a (signature_of signature.now) (whole (map equation_of equations.items) store.old.now) (whole [] store.new.now)) }
     ensures sides { IfOk result (λ a. KeepsSides a (whole (map equation_of equations.items) store.old.now) (whole [] store.new.now)) }
     ensures ready { IfOk result (λ a. StaysReady a (signature_of signature.now) store.new.now) }
     ensures consistent { IsConsistent store.new.now }
     ensures story { IsLater store.old store.new }
+    ensures known { OnOk result (IsKnown store.new.now (marking_of met.new)) }
 {
     signature.is_canonical();
     let mut work = equations;
     work.reverse();
     let mut fresh = work.len();
-    let mut met = Walk::new(alloc);
     for _ in 0..u64::MAX {
         let next = next_equation(alloc, store, signature, &mut work, watch)?;
         match next {
@@ -101,9 +109,7 @@ fn solve_watched(
             Some(equation) => {
                 let is_fresh = work.len() < fresh;
                 fresh = fresh.min(work.len());
-                let outcome = advance(
-                    alloc, store, signature, &mut work, &mut met, equation, is_fresh,
-                )?;
+                let outcome = advance(alloc, store, signature, &mut work, met, equation, is_fresh)?;
                 match outcome {
                     Advance::Refuted => return Ok(Unified::Never),
                     came => watch.note(came)?,

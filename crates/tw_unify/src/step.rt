@@ -5,8 +5,7 @@ ghost use Rattle.tw_metas.specs.View.{equation_of};
 ghost use Rattle.tw_putting.specs.Ready.{IsLater, IsReady};
 ghost use Rattle.tw_putting.specs.Whole.{IsConsistent, whole};
 ghost use Rattle.tw_unify.specs.Outcomes.{Advances, Explains, stacked};
-ghost use Rattle.tw_putting.specs.Stores.{bindings_of, types_of};
-ghost use Rattle.tw_unify.specs.Reaching.{IsClosed, marking_of};
+ghost use Rattle.tw_unify.specs.Reaching.{IsKnown, marking_of};
 ghost use Rattle.tw_unify.specs.Sides.{HeadsStay, IsFlexibleEquation};
 ghost use Rattle.tw_unify.specs.Watching.{Changes};
 
@@ -33,10 +32,10 @@ pub fn advance(
 ) -> Result<Advance, UnifyFault>
     requires canonical { IsCanonicalSignature signature.now }
     requires ready { IsReady (signature_of signature.now) (equation_of equation ∷ stacked work.old.items) store.old.now }
-    requires closed { IsClosed (types_of store.old.now) (bindings_of store.old.now) (marking_of met.old) }
+    requires known { IsKnown store.old.now (marking_of met.old) }
     ensures done { MatchResult result (λ a. Advances a (signature_of signature.now) (whole (equation_of equation ∷ stacked work.old.items) store.old.now) (whole (stacked work.new.items) store.new.now)) (λ f. Explains f (signature_of signature.now) (whole (equation_of equation ∷ stacked work.old.items) store.old.now)) }
     ensures change { IfOk result (λ a. Changes a store.old.now store.new.now) }
-    ensures closed { OnOk result (IsClosed (types_of store.new.now) (bindings_of store.new.now) (marking_of met.new)) }
+    ensures known { OnOk result (IsKnown store.new.now (marking_of met.new)) }
     ensures consistent { IsConsistent store.new.now }
     ensures story { IsLater store.old store.new }
 {
@@ -62,10 +61,10 @@ fn make_steps(
     requires canonical { IsCanonicalSignature signature.now }
     requires ready { IsReady (signature_of signature.now) (equation_of equation ∷ stacked work.old.items) store.old.now }
     requires stay { HeadsStay store.old.now (equation_of equation) }
-    requires closed { IsClosed (types_of store.old.now) (bindings_of store.old.now) (marking_of met.old) }
+    requires known { IsKnown store.old.now (marking_of met.old) }
     ensures done { MatchResult result (λ a. Advances a (signature_of signature.now) (whole (equation_of equation ∷ stacked work.old.items) store.old.now) (whole (stacked work.new.items) store.new.now)) (λ f. Explains f (signature_of signature.now) (whole (equation_of equation ∷ stacked work.old.items) store.old.now)) }
     ensures change { IfOk result (λ a. Changes a store.old.now store.new.now) }
-    ensures closed { OnOk result (IsClosed (types_of store.new.now) (bindings_of store.new.now) (marking_of met.new)) }
+    ensures known { OnOk result (IsKnown store.new.now (marking_of met.new)) }
     ensures consistent { IsConsistent store.new.now }
     ensures story { IsLater store.old store.new }
 {
@@ -98,10 +97,10 @@ fn at_flexible(
     requires ready { IsReady (signature_of signature.now) (equation_of equation ∷ stacked work.old.items) store.old.now }
     requires stay { HeadsStay store.old.now (equation_of equation) }
     requires flexible { IsFlexibleEquation (equation_of equation) }
-    requires closed { IsClosed (types_of store.old.now) (bindings_of store.old.now) (marking_of met.old) }
+    requires known { IsKnown store.old.now (marking_of met.old) }
     ensures done { MatchResult result (λ a. Advances a (signature_of signature.now) (whole (equation_of equation ∷ stacked work.old.items) store.old.now) (whole (stacked work.new.items) store.new.now)) (λ f. Explains f (signature_of signature.now) (whole (equation_of equation ∷ stacked work.old.items) store.old.now)) }
     ensures change { IfOk result (λ a. Changes a store.old.now store.new.now) }
-    ensures closed { OnOk result (IsClosed (types_of store.new.now) (bindings_of store.new.now) (marking_of met.new)) }
+    ensures known { OnOk result (IsKnown store.new.now (marking_of met.new)) }
     ensures consistent { IsConsistent store.new.now }
     ensures story { IsLater store.old store.new }
 {

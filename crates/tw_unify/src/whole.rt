@@ -1,12 +1,13 @@
 //! Metavariables without arguments, bound to a whole side.
-ghost use Rattle.std.specs.Prelude.{[], IfOk, IfSome, OnOk};
+ghost use Rattle.std.specs.Prelude.{[], ℕ, ◌⊎◌, IfOk, IfSome, OnOk};
 ghost use Rattle.lf.specs.Typing.{Signature};
 ghost use Rattle.tw_terms.specs.OpenView.{open_term_of};
 ghost use Rattle.tw_metas.specs.View.{equation_of};
 ghost use Rattle.tw_putting.specs.Ready.{IsLater};
 ghost use Rattle.tw_putting.specs.Whole.{IsConsistent};
-ghost use Rattle.tw_unify.specs.Flexible.{BindsWhole, BothHeadsFit, IsTaken, TakenIsMet, TakesWhole};
+ghost use Rattle.tw_unify.specs.Flexible.{BindsWhole, BothHeadsFit, IsReachedFrom, IsTaken, TakenIsMet, TakesWhole};
 ghost use Rattle.lf_unification.specs.OpenTyping.{MetavariablesIn};
+ghost use Rattle.lf_unification.specs.Reach.{IsReached};
 ghost use Rattle.tw_putting.specs.Stores.{bindings_of, types_of};
 ghost use Rattle.tw_unify.specs.Moving.{HeadsFit};
 ghost use Rattle.tw_unify.specs.Reaching.{IsClosed, IsMarked, Marking, marking_of};
@@ -36,6 +37,7 @@ pub fn find_taker(
     ensures takes { IfOk result (λ r. IfSome r (λ t. TakesWhole store.now.now (equation_of equation.now) t)) }
     ensures met { IfOk result (λ r. IfSome r (λ t. TakenIsMet (marking_of met.new) (equation_of equation.now) t)) }
     ensures closed { OnOk result (IsClosed (types_of store.now.now) (bindings_of store.now.now) (marking_of met.new)) }
+    ensures spread { OnOk result ((k : ℕ) → IsMarked (marking_of met.new) k → IsMarked (marking_of met.old) k ⊎ IsReachedFrom store.now.now (equation_of equation.now).left (equation_of equation.now).right k) }
 {
     if equation.context.len() > 0 {
         return Ok(None);
@@ -62,6 +64,7 @@ fn takes_whole(
     ensures binds { IfOk result (λ r. IfSome r (λ m. BindsWhole store.now.now (open_term_of left.now) (open_term_of right.now) m)) }
     ensures met { IfOk result (λ r. IfSome r (λ m. MetavariablesIn (IsMarked (marking_of met.new)) (open_term_of right.now))) }
     ensures closed { OnOk result (IsClosed (types_of store.now.now) (bindings_of store.now.now) (marking_of met.new)) }
+    ensures spread { OnOk result ((k : ℕ) → IsMarked (marking_of met.new) k → IsMarked (marking_of met.old) k ⊎ IsReached (types_of store.now.now) (bindings_of store.now.now) (open_term_of right.now) k) }
 {
     match left {
         Open::Root(OpenHead::Meta(meta), spine) => {

@@ -6,14 +6,12 @@ use Rattle.lf_unification.specs.Steps.{CanRefute}
 use Rattle.lf_unification.specs.Unifiers as unifiers
 use Rattle.tw_metas.specs.View.{equation_of}
 use Rattle.tw_unify.specs.Outcomes.{Advances, stacked}
-use Rattle.tw_putting.specs.Stores.{bindings_of, types_of}
 use Rattle.tw_putting.specs.Whole.{whole}
 use Rattle.tw_unify.specs.Reaching.{marking_of}
-use Rattle.tw_unify.proofs.Changed.{closed_kept}
+use Rattle.tw_unify.proofs.Changed.{known_kept}
 use Rattle.tw_unify.proofs.Endings.{explains_after, none_next, refuted_answers, refuted_from, rest_told, some_next}
 use Rattle.tw_unify.proofs.Orders.{both_reached, none_made}
 use Rattle.tw_putting.proofs.Readiness.{ready_after}
-use Rattle.tw_unify.proofs.Reaching.{none_marked, nothing_closed, nothing_in}
 use Rattle.tw_unify.proofs.Stories.{later_nothing, later_then, stacked_reversed}
 use Rattle.tw_unify.proofs.Watching.{not_refuted}
 use Rattle.tw_unify.proofs.solving.solve_watched.Goals as goal
@@ -22,7 +20,7 @@ pub loop-init : goal.loop-init
 loop-init c = record {
   run = subst (λ (fs : List unifiers.Equation). ReachedRun (signature_of c.args.signature.now) (whole (map equation_of c.args.equations.items) c.args.store.now.now) (whole fs c.args.store.now.now)) (sym (stacked_reversed c.args.equations.items c.reverse.new.self.items c.reverse.ensures.items)) (none_made (signature_of c.args.signature.now));
   consistent = c.requires.ready.consistent;
-  closed = nothing_closed (types_of c.args.store.now.now) (bindings_of c.args.store.now.now) (marking_of c.new-met.result) (none_marked (marking_of c.new-met.result) (nothing_in c.new-met.result.marks c.new-met.ensures.marks)) c.new-met.ensures.due;
+  known = c.requires.known;
   watches = c.requires.watches;
   story = later_nothing c.args.store.now c.args.store.now refl;
 }
@@ -85,8 +83,11 @@ advance-requires-clause-ready c =
     let next : ReachedRun Σ (whole (stacked c.loop.work.items) c.loop.store.now) (whole (e ∷ es) c.next_equation.new.store.now) = some_next Σ (stacked c.loop.work.items) c.loop.store c.next_equation.new.store c.in_ok-next.next es c.in-Some.equation c.in-Some.is c.in_ok-next.ensures.next in
     ready_after Σ (canonical_is_signature c.args.signature.now c.is_canonical.ensures) given (e ∷ es) c.args.store.now.now c.next_equation.new.store.now c.requires.ready (both_reached Σ c.loop.invariant.run next).run c.next_equation.ensures.consistent
 
-pub advance-requires-clause-closed : goal.advance-requires-clause-closed
-advance-requires-clause-closed c = closed_kept c.loop.store.now c.next_equation.new.store.now (marking_of c.loop.met) c.in_ok-next.ensures.keeps c.loop.invariant.closed
+pub advance-requires-clause-known : goal.advance-requires-clause-known
+advance-requires-clause-known c = known_kept c.loop.store.now c.next_equation.new.store.now (marking_of c.loop.met) c.in_ok-next.ensures.keeps c.loop.invariant.known
+
+pub returns-in-None-clause-known : goal.returns-in-None-clause-known
+returns-in-None-clause-known c = known_kept c.loop.store.now c.next_equation.new.store.now (marking_of c.loop.met) c.in_ok-next.ensures.keeps c.loop.invariant.known
 
 pub returns-in_err-outcome-in-Some-clause-answer : goal.returns-in_err-outcome-in-Some-clause-answer
 returns-in_err-outcome-in-Some-clause-answer c =
@@ -139,7 +140,7 @@ loop-preserved c =
     record {
       run = both_reached Σ (both_reached Σ c.loop.invariant.run next) went;
       consistent = c.advance.ensures.consistent;
-      closed = c.in_ok-outcome-in-Some.ensures.closed;
+      known = c.in_ok-outcome-in-Some.ensures.known;
       watches = c.in_ok-note-in_default.ensures c.next_equation.new.store.now c.advance.new.store.now c.in_ok-next.ensures.watches c.in_ok-outcome-in-Some.ensures.change;
       story = later_then c.args.store.now c.next_equation.new.store c.advance.new.store (later_then c.args.store.now c.loop.store c.next_equation.new.store c.loop.invariant.story c.next_equation.ensures.story) c.advance.ensures.story;
     }
