@@ -35,7 +35,7 @@ call_gave_out es old new last out g leaves agenda w = out agenda w.at
 
 -- a search that is over stands nowhere
 pub over_stands : (es : List Entry) (s : Search) (e : End) → IsOver e s → (g : Goal) (leaves : List Node) (agenda : List Pending) → Stands es g s leaves agenda → ⊥
-over_stands es s e o g leaves agenda w = subst (λ p. PlaceStands es s.variables p s.store (frames_of s.frames) (choices_of s) agenda) o w.at
+over_stands es s e o g leaves agenda w = subst (λ p. PlaceStands es s.variables p s.store (frames_of s.frames) (choices_of s) agenda) o w.at.0
 
 -- and behind it there is a search again
 after_step : (es : List Entry) (g : Goal) (s : Step) (new : Search) (leaves : List Node) (agenda : List Pending) → StandsAfter es g s new leaves agenda → IsSearch es new

@@ -14,13 +14,15 @@ use Rattle.tw_putting.specs.Ready.{IsLater}
 use Rattle.tw_putting.specs.Whole.{whole}
 use Rattle.tw_terms.specs.View.{term_of}
 use Rattle.tw_terms.specs.declared.canonical.MetaId.{MetaId}
+use Rattle.tw_unify.specs.Reaching.{IsKnown, marking_of}
+use Rattle.tw_unify.specs.declared.reach.Walk.{Walk}
 use Rattle.tw_search.specs.Chains.{GoalsAre, IsFirst, IsGrown, frames_of}
 use Rattle.tw_search.specs.Choosing.{heads_left}
 use Rattle.tw_search.specs.Going.{Goes, GoesFrom, IsBelow}
 use Rattle.tw_search.specs.Goals.{IsOpened}
 use Rattle.tw_search.specs.Leaves.{IsLeaf, IsReadOff}
 use Rattle.tw_search.specs.Left.{ShowingIsDeep, ShowsFirst}
-use Rattle.tw_search.specs.Standing.{Came, ChoicesStand, GaveOut, IsAt, IsOver, IsTakenUp, NodeStands, PlaceStands, TriesHead, WentOn, asked_of, choices_of}
+use Rattle.tw_search.specs.Standing.{Came, ChoicesStand, GaveOut, IsAt, IsOver, IsTakenUp, KeepsMet, NodeStands, PlaceStands, TriesHead, WentOn, asked_of, choices_of}
 use Rattle.tw_search.specs.Tries.{GivesChild, NeverFits}
 use Rattle.tw_search.specs.declared.answer.Answer.{Answer}
 use Rattle.tw_search.specs.declared.frames.Frame.{Frame}
@@ -35,23 +37,27 @@ use Rattle.tw_search.proofs.Leaving.{answer_came, budget_came, deep_came, left_c
 use Rattle.tw_search.proofs.Standing as standing
 
 -- Where a search is.
-pub heads_here : (es : List Entry) (s : Search) (agenda : List Pending) → s.place ≡ place.Heads → ChoicesStand es s.variables s.store (frames_of s.frames) (choices_of s) agenda → IsAt es s agenda
-heads_here es s agenda e w = subst (λ p. PlaceStands es s.variables p s.store (frames_of s.frames) (choices_of s) agenda) (sym e) w
+pub heads_here : (es : List Entry) (s : Search) (agenda : List Pending) → s.place ≡ place.Heads → ChoicesStand es s.variables s.store (frames_of s.frames) (choices_of s) agenda → KeepsMet s → IsAt es s agenda
+heads_here es s agenda e w k = (subst (λ p. PlaceStands es s.variables p s.store (frames_of s.frames) (choices_of s) agenda) (sym e) w, k)
 
-pub node_here : (es : List Entry) (s : Search) (list : ℕ) (agenda : List Pending) → s.place ≡ place.Node list → NodeStands es s.variables list s.store (frames_of s.frames) (choices_of s) agenda → IsAt es s agenda
-node_here es s list agenda e w = subst (λ p. PlaceStands es s.variables p s.store (frames_of s.frames) (choices_of s) agenda) (sym e) w
+pub node_here : (es : List Entry) (s : Search) (list : ℕ) (agenda : List Pending) → s.place ≡ place.Node list → NodeStands es s.variables list s.store (frames_of s.frames) (choices_of s) agenda → KeepsMet s → IsAt es s agenda
+node_here es s list agenda e w k = (subst (λ p. PlaceStands es s.variables p s.store (frames_of s.frames) (choices_of s) agenda) (sym e) w, k)
 
 -- the choice points of a search that is at them
-pub heads_are : (es : List Entry) (s : Search) (n : ℕ) (cs : List Choice) (fs : List Frame) (y : Story) (agenda : List Pending) → s.place ≡ place.Heads → s.variables ≡ n → s.store ≡ y → frames_of s.frames ≡ fs → choices_of s ≡ cs → ChoicesStand es n y fs cs agenda → IsAt es s agenda
-heads_are es s n cs fs y agenda p v q f k w =
+pub heads_are : (es : List Entry) (s : Search) (n : ℕ) (cs : List Choice) (fs : List Frame) (y : Story) (agenda : List Pending) → s.place ≡ place.Heads → s.variables ≡ n → s.store ≡ y → frames_of s.frames ≡ fs → choices_of s ≡ cs → ChoicesStand es n y fs cs agenda → KeepsMet s → IsAt es s agenda
+heads_are es s n cs fs y agenda p v q f k w met =
     heads_here es s agenda p
     (subst (λ m. ChoicesStand es m s.store (frames_of s.frames) (choices_of s) agenda) (sym v)
     (subst (λ (z : Story). ChoicesStand es n z (frames_of s.frames) (choices_of s) agenda) (sym q)
     (subst (λ xs. ChoicesStand es n y xs (choices_of s) agenda) (sym f)
-    (subst (λ xs. ChoicesStand es n y fs xs agenda) (sym k) w))))
+    (subst (λ xs. ChoicesStand es n y fs xs agenda) (sym k) w)))) met
+
+-- what is known stays so with the store and what was met
+pub same_met : (old new : Search) → new.store ≡ old.store → new.met ≡ old.met → KeepsMet old → KeepsMet new
+same_met old new q m k = subst (λ (x : Walk). IsKnown new.store.now (marking_of x)) (sym m) (subst (λ (y : Story). IsKnown y.now (marking_of old.met)) (sym q) k)
 
 -- Tries.
-module _ (es : List Entry) (ok : IsCanonicalSignature es) (old new : Search) (c : Choice) (h : Head) (agenda : List Pending) (w : TriesHead es old c h agenda) (later : IsLater old.store new.store) (choices : choices_of new ≡ c ∷ choices_of old) (variables : new.variables ≡ old.variables) (same_goal : new.goal ≡ old.goal) (tries : new.tries ≡ old.tries + 1) where
+module _ (es : List Entry) (ok : IsCanonicalSignature es) (old new : Search) (c : Choice) (h : Head) (agenda : List Pending) (w : TriesHead es old c h agenda) (later : IsLater old.store new.store) (choices : choices_of new ≡ c ∷ choices_of old) (variables : new.variables ≡ old.variables) (same_goal : new.goal ≡ old.goal) (tries : new.tries ≡ old.tries + 1) (met : KeepsMet new) where
   pub none_tried : NeverFits (signature_of es) old.store.now c.goal h → IsGrown (frames_of old.frames) (frames_of new.frames) → new.place ≡ place.Heads → WentOn es old new agenda
   none_tried n f p = record {
     tries = 1;
@@ -60,7 +66,7 @@ module _ (es : List Entry) (ok : IsCanonicalSignature es) (old new : Search) (c 
     count = tries;
     variables = variables;
     same_goal = same_goal;
-    at = heads_are es new old.variables (c ∷ choices_of old) (frames_of new.frames) new.store _ p variables refl refl choices (standing.choice_after es ok old c h agenda w new.store later (frames_of new.frames) f);
+    at = heads_are es new old.variables (c ∷ choices_of old) (frames_of new.frames) new.store _ p variables refl refl choices (standing.choice_after es ok old c h agenda w new.store later (frames_of new.frames) f) met;
   }
 
   pub child_tried : (subgoals : List MetaId) → GivesChild (signature_of es) old.store.now c.goal h subgoals new.store.now → IsGrown (frames_of old.frames) (frames_of new.frames) →
@@ -75,7 +81,7 @@ module _ (es : List Entry) (ok : IsCanonicalSignature es) (old new : Search) (c 
     at = node_here es new list _ p
         (subst (λ m. NodeStands es m list new.store (frames_of new.frames) (choices_of new) (standing.after_child es ok old c h agenda w new.store later subgoals child)) (sym variables)
         (subst (λ xs. NodeStands es old.variables list new.store (frames_of new.frames) xs (standing.after_child es ok old c h agenda w new.store later subgoals child)) (sym choices)
-        (standing.node_after es ok old c h agenda w new.store later subgoals child (frames_of new.frames) list f gs)));
+        (standing.node_after es ok old c h agenda w new.store later subgoals child (frames_of new.frames) list f gs))) met;
   }
 
 -- Memory gave out behind a try.
@@ -96,14 +102,14 @@ module _ (es : List Entry) (old : Search) (c : Choice) (agenda : List Pending) (
     count = omega arith;
     variables = refl;
     same_goal = refl;
-    at = heads_here es old w.rest at_heads w.older;
+    at = heads_here es old w.rest at_heads w.older w.met;
   }
 
   pub budget_spent : (G : List LfType) (new : Search) (last : ℕ) (k : Head) (ks : List Head) → heads_left es c.goal.family.0 c.goal.locals c.local c.constant ≡ k ∷ ks → old.tries ≡ last → new.tries ≡ old.tries → new.variables ≡ old.variables → new.goal ≡ old.goal →
-      new.store ≡ old.store → frames_of new.frames ≡ frames_of old.frames → choices_of new ≡ c ∷ choices_of old → new.place ≡ place.Heads → Came es G old new agenda (last - old.tries) step.Budget
-  budget_spent G new last k ks e spent t v g q f cs p =
+      new.store ≡ old.store → frames_of new.frames ≡ frames_of old.frames → choices_of new ≡ c ∷ choices_of old → new.place ≡ place.Heads → new.met ≡ old.met → Came es G old new agenda (last - old.tries) step.Budget
+  budget_spent G new last k ks e spent t v g q f cs p m =
       budget_came es G old new agenda (standing.next_agenda es old c agenda w k ks e) (last - old.tries) (standing.up_to_head es old c agenda w k ks e) (standing.try_due es old c agenda w k ks e) (omega (arith, spent)) t v g
-      (heads_are es new old.variables (c ∷ choices_of old) (frames_of old.frames) old.store _ p v q f cs (standing.stays es old c agenda w k ks e))
+      (heads_are es new old.variables (c ∷ choices_of old) (frames_of old.frames) old.store _ p v q f cs (standing.stays es old c agenda w k ks e) (same_met old new q m w.met))
 
 -- What is come to later on, or from another record of the same search.
 pub goes_later : (es : List Entry) (last : ℕ) (old new : Search) (o : Option Step) (agenda agenda' : List Pending) → SearchesFrom es agenda [] 0 agenda' → GoesFrom es last old new o agenda' → GoesFrom es last old new o agenda
@@ -136,15 +142,15 @@ below_more steps steps' last new (Some s) h b = tt
 -- A goal that is chosen.
 module _ (es : List Entry) (old new : Search) (list : ℕ) (agenda : List Pending) (w : NodeStands es old.variables list old.store (frames_of old.frames) (choices_of old) agenda) where
   pub goal_chosen : (f : Frame) → IsFirst (frames_of old.frames) list (Some f) → (g : OpenGoal) → IsOpened old.store.now f.hole.0 g → (c : Choice) → c ≡ record { mark = length old.store.before; frames = length (frames_of old.frames); goal = g; rest = f.next; local = 0; constant = 0 } →
-      new.tries ≡ old.tries → new.variables ≡ old.variables → new.goal ≡ old.goal → new.store ≡ old.store → frames_of new.frames ≡ frames_of old.frames → choices_of new ≡ c ∷ choices_of old → new.place ≡ place.Heads → WentOn es old new agenda
-  goal_chosen f first g o c is t v same q e k p = record {
+      new.tries ≡ old.tries → new.variables ≡ old.variables → new.goal ≡ old.goal → new.store ≡ old.store → frames_of new.frames ≡ frames_of old.frames → choices_of new ≡ c ∷ choices_of old → new.place ≡ place.Heads → KeepsMet new → WentOn es old new agenda
+  goal_chosen f first g o c is t v same q e k p met = record {
     tries = 0;
     after = standing.chosen es old.variables list old.store (frames_of old.frames) (choices_of old) agenda w f first g o c is;
     run = standing.run_chosen es old.variables list old.store (frames_of old.frames) (choices_of old) agenda w f first g o c is;
     count = omega (arith, t);
     variables = v;
     same_goal = same;
-    at = heads_are es new old.variables (c ∷ choices_of old) (frames_of old.frames) old.store _ p v q e k (standing.chosen_stands es old.variables list old.store (frames_of old.frames) (choices_of old) agenda w f first g o c is);
+    at = heads_are es new old.variables (c ∷ choices_of old) (frames_of old.frames) old.store _ p v q e k (standing.chosen_stands es old.variables list old.store (frames_of old.frames) (choices_of old) agenda w f first g o c is) met;
   }
 
   -- A leaf.
@@ -153,9 +159,9 @@ module _ (es : List Entry) (old new : Search) (list : ℕ) (agenda : List Pendin
     is_leaf e = record { signature = signature_of es; is_signature = canonical_is_signature es ok; ready = w.kept.ready; none_left = e; declared = w.kept.declared; reached = w.kept.from_query }
 
     module _ (G : List LfType) (len : length G ≡ old.variables) (budget : ℕ) (tries : new.tries ≡ old.tries) (variables : new.variables ≡ old.variables) (same_goal : new.goal ≡ old.goal) where
-      module _ (store : new.store ≡ old.store) (frames : frames_of new.frames ≡ frames_of old.frames) (choices : choices_of new ≡ choices_of old) (heads : new.place ≡ place.Heads) where
+      module _ (store : new.store ≡ old.store) (frames : frames_of new.frames ≡ frames_of old.frames) (choices : choices_of new ≡ choices_of old) (heads : new.place ≡ place.Heads) (met : KeepsMet new) where
         behind : IsAt es new w.rest
-        behind = heads_are es new old.variables (choices_of old) (frames_of old.frames) old.store w.rest heads variables store frames choices w.choices
+        behind = heads_are es new old.variables (choices_of old) (frames_of old.frames) old.store w.rest heads variables store frames choices w.choices met
 
         pub answer_shown : old.store.now.equations ≡ [] → (a : Answer) → IsReadOff old.store.now old.variables a.free (reverse (map term_of a.values.items)) (term_of a.proof) → Came es G old new agenda budget (step.Answer a)
         answer_shown e a r = answer_came es ok old new list G len agenda budget w first tries variables same_goal e a r behind

@@ -33,10 +33,10 @@ use Rattle.tw_search.specs.declared.step.Step.TheVariants as step
 use Rattle.tw_search.proofs.Parts.{leaf_law}
 
 pub at_list : (es : List Entry) (s : Search) (list : ℕ) (agenda : List Pending) → s.place ≡ place.Node list → IsAt es s agenda → NodeStands es s.variables list s.store (frames_of s.frames) (choices_of s) agenda
-at_list es s list agenda e w = subst (λ p. PlaceStands es s.variables p s.store (frames_of s.frames) (choices_of s) agenda) e w
+at_list es s list agenda e w = subst (λ p. PlaceStands es s.variables p s.store (frames_of s.frames) (choices_of s) agenda) e w.0
 
 pub at_choices : (es : List Entry) (s : Search) (agenda : List Pending) → s.place ≡ place.Heads → IsAt es s agenda → ChoicesStand es s.variables s.store (frames_of s.frames) (choices_of s) agenda
-at_choices es s agenda e w = subst (λ p. PlaceStands es s.variables p s.store (frames_of s.frames) (choices_of s) agenda) e w
+at_choices es s agenda e w = subst (λ p. PlaceStands es s.variables p s.store (frames_of s.frames) (choices_of s) agenda) e w.0
 
 -- behind a leaf
 past_leaf : (es : List Entry) (agenda : List Pending) {l : Node} {k : ℕ} {rest : List Pending} → SearchesFrom es agenda [] k (at_node l ∷ rest) → l.goals ≡ [] → SearchesFrom es agenda (l ∷ []) k rest

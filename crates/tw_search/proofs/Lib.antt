@@ -17,5 +17,6 @@ pub mod Beginning
 pub mod Leaving
 pub mod Going
 pub mod Calling
+pub mod StillKnown
 pub mod StillLeft
 pub mod Naming

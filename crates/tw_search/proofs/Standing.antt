@@ -31,7 +31,7 @@ use Rattle.tw_unify.proofs.Stories.{later_then}
 use Rattle.tw_search.specs.Chains.{GoalsAre, IsFirst, IsGrown, frames_of}
 use Rattle.tw_search.specs.Choosing.{heads_left}
 use Rattle.tw_search.specs.Goals.{IsDeclared, IsHeadFor, IsOpened, IsUnreached, at_goal, child_node, goal_type, node_of}
-use Rattle.tw_search.specs.Standing.{AtChoice, Came, ChoicesStand, GaveOut, IsTakenUp, NodeStands, PassesLeaf, TriesHead, WentOn, choices_of, no_choice, one_choice}
+use Rattle.tw_search.specs.Standing.{AtChoice, Came, ChoicesStand, GaveOut, IsTakenUp, KeepsMet, NodeStands, PassesLeaf, TriesHead, WentOn, choices_of, no_choice, one_choice}
 use Rattle.tw_search.specs.Tries.{GivesChild, NeverFits}
 use Rattle.tw_search.specs.declared.frames.Frame.{Frame}
 use Rattle.tw_search.specs.declared.goal.OpenGoal.{OpenGoal}
@@ -98,8 +98,8 @@ can_go_back es n y fs c cs all agenda e w =
     omega (arith, h, m)
 
 pub taken_up : (es : List Entry) (y : Story) (fs : List Frame) (c : Choice) (cs all : List Choice) (agenda : List Pending) (s : Search) → all ≡ c ∷ cs → ChoicesStand es s.variables y fs all agenda →
-    states s.store ≡ drop (length y.before - c.mark) (states y) → frames_of s.frames ≡ take c.frames fs → choices_of s ≡ cs → IsTakenUp es s c agenda
-taken_up es y fs c cs all agenda s e w q f k =
+    states s.store ≡ drop (length y.before - c.mark) (states y) → frames_of s.frames ≡ take c.frames fs → choices_of s ≡ cs → KeepsMet s → IsTakenUp es s c agenda
+taken_up es y fs c cs all agenda s e w q f k met =
     let v = newest (subst (λ xs. ChoicesStand es s.variables y fs xs agenda) e w) in
     let b : s.store ≡ v.first = went_back v.first y s.store c.mark v.later v.at.mark q in
     let g : frames_of s.frames ≡ v.before = f ∙ first_taken v.before fs c.frames v.at.frames v.grown in
@@ -110,6 +110,7 @@ taken_up es y fs c cs all agenda s e w q f k =
       is = v.is ∙ ap (λ (z : Story). at_goal z.now c.goal v.goals v.heads v.rest) (sym b);
       at = subst (λ (z : Story). AtChoice es s.variables z (frames_of s.frames) c v.goals v.heads) (sym b) (subst (λ (xs : List Frame). AtChoice es s.variables v.first xs c v.goals v.heads) (sym g) v.at);
       older = subst (λ (z : Story). ChoicesStand es s.variables z (frames_of s.frames) (choices_of s) v.rest) (sym b) (subst (λ (xs : List Frame). ChoicesStand es s.variables v.first xs (choices_of s) v.rest) (sym g) (subst (λ (xs : List Choice). ChoicesStand es s.variables v.first v.before xs v.rest) (sym k) v.older));
+      met = met;
     }
 
 -- runs one after another
@@ -252,6 +253,7 @@ module _ (es : List Entry) (s : Search) (c : Choice) (agenda : List Pending) (w 
       at = record { mark = w.at.mark; frames = w.at.frames; kept = w.at.kept; stands = w.at.stands; goals_are = w.at.goals_are; declared = w.at.declared; holes = w.at.holes; offered = subst (AreOffered Σ c.goal.locals c.goal.family.0 reached.0) q reached.2 };
       older = w.older;
       head = head_is;
+      met = w.met;
     })
 
     pub try_due : TryIsDue Σ next_agenda

@@ -17,6 +17,7 @@ use Rattle.tw_metas.specs.State.{State, Story}
 use Rattle.tw_putting.specs.Ready.{IsLater, IsReady}
 use Rattle.tw_signature.specs.Goal.{Goal, goal_of}
 use Rattle.tw_terms.specs.View.{term_of}
+use Rattle.tw_unify.specs.Reaching.{IsKnown, marking_of}
 use Rattle.tw_search.specs.Chains.{GoalsAre, IsGrown, frames_of}
 use Rattle.tw_search.specs.Choosing.{heads_left}
 use Rattle.tw_search.specs.Goals.{AreLeft, IsDeclared, IsHeadFor, StandsAtGoal, at_goal, node_of}
@@ -84,9 +85,13 @@ PlaceStands es n (place.Over e) y fs cs agenda = ⊥
 abbrev pub choices_of : Search → List Choice
 choices_of s = reverse s.choices.items
 
+-- what a search keeps of its occurs checks is known of its store
+abbrev pub KeepsMet : Search → Type 0
+KeepsMet s = IsKnown s.store.now (marking_of s.met)
+
 -- the agenda at which the search is
 abbrev pub IsAt : List Entry → Search → List Pending → Type 0
-IsAt es s agenda = PlaceStands es s.variables s.place s.store (frames_of s.frames) (choices_of s) agenda
+IsAt es s agenda = PlaceStands es s.variables s.place s.store (frames_of s.frames) (choices_of s) agenda × KeepsMet s
 
 -- the goal of a search
 abbrev pub asked_of : Search → Goal
@@ -204,6 +209,7 @@ pub record TriesHead (es : List Entry) (old : Search) (c : Choice) (h : Head) (a
   pub at : AtChoice es old.variables old.store (frames_of old.frames) c goals later
   pub older : ChoicesStand es old.variables old.store (frames_of old.frames) (choices_of old) rest
   pub head : IsHeadFor (signature_of es) c.goal h
+  pub met : KeepsMet old
 
 -- The newest choice point is taken up, with the store and the frames as at its mark; the other ones are left.
 pub record IsTakenUp (es : List Entry) (old : Search) (c : Choice) (agenda : List Pending) : Type 0 where
@@ -213,3 +219,4 @@ pub record IsTakenUp (es : List Entry) (old : Search) (c : Choice) (agenda : Lis
   pub is : agenda ≡ at_goal old.store.now c.goal goals heads rest
   pub at : AtChoice es old.variables old.store (frames_of old.frames) c goals heads
   pub older : ChoicesStand es old.variables old.store (frames_of old.frames) (choices_of old) rest
+  pub met : KeepsMet old

@@ -1,9 +1,11 @@
 //! The steps of the engine: a goal is chosen, its heads are tried one after the other, and a leaf is shown.
-ghost use Rattle.std.specs.Prelude.{◌≡◌, ◌+◌, ◌≤◌, ◌<◌, ◌∷◌, [], ℕ, IfOk, List, MatchOption, None, OnErr, OnOk, Option, Some, length, reverse};
+ghost use Rattle.std.specs.Prelude.{◌≡◌, ◌+◌, ◌-◌, ◌≤◌, ◌<◌, ◌∷◌, [], ℕ, IfOk, List, MatchOption, None, OnErr, OnOk, Option, Some, drop, length, reverse};
 ghost use Rattle.lf.specs.Entries.{Entry};
 ghost use Rattle.lf.specs.Syntax.{LfType};
 ghost use Rattle.lf_unification.specs.Search.{Pending};
+ghost use Rattle.tw_metas.specs.State.{Story, states};
 ghost use Rattle.tw_terms.specs.View.{head_of};
+ghost use Rattle.tw_unify.specs.Reaching.{IsKnown, marking_of};
 ghost use Rattle.tw_search.specs.Chains.{IsFirst, frames_of};
 ghost use Rattle.tw_search.specs.Going.{GivesOut, GivesOutTrying, GivesOutUp, Goes, GoesUp, Nears, NearsBelow, Tried};
 ghost use Rattle.tw_search.specs.Standing.{Came, IsAt, IsTakenUp, TriesHead, WentOn};
@@ -19,9 +21,10 @@ use crate::step::{Choice, End, Place, Step};
 use crate::trying::attempt;
 use std::alloc::{AllocError, Global};
 use tw_hered::HeredFault;
+use tw_metas::{Mark, Store};
 use tw_signature::Signature;
 use tw_terms::Head;
-use tw_unify::UnifyFault;
+use tw_unify::{UnifyFault, Walk};
 
 impl Search {
     /// One step of the engine. None where there is nothing to show yet.
@@ -157,6 +160,7 @@ impl Search {
                 Ok(Some(Step::Exhausted))
             }
             Some(choice) => {
+                forget(alloc, &mut self.met, &self.store, &choice.mark);
                 self.store.undo_to(&choice.mark);
                 self.frames.shrink_to(choice.frames);
                 self.take_up(alloc, signature, last, choice)
@@ -215,7 +219,14 @@ impl Search {
         ensures nears { IfOk result (λ o. NearsBelow last self.old self.new o) }
     {
         signature.is_canonical();
-        match attempt(alloc, &mut self.store, signature, &choice.goal, head) {
+        match attempt(
+            alloc,
+            &mut self.store,
+            signature,
+            &mut self.met,
+            &choice.goal,
+            head,
+        ) {
             Ok(None) => {
                 self.tries += 1;
                 push_choice(&mut self.choices, choice)?;
@@ -234,6 +245,16 @@ impl Search {
             }
             Err(UnifyFault::NoMemory) => Err(AllocError),
         }
+    }
+}
+
+/// What was met is forgotten where something is to be taken back.
+fn forget(alloc: Global, met: &mut Walk, store: &Store, mark: &Mark)
+    requires { IsKnown store.now.now (marking_of met.old) }
+    ensures { (y : Story) → states y ≡ drop (length store.now.before - mark.now) (states store.now) → IsKnown y.now (marking_of met.new) }
+{
+    if !store.is_at(mark) {
+        *met = Walk::new(alloc);
     }
 }
 

@@ -17,6 +17,7 @@ use crate::step::{Choice, End, Place, Step};
 use std::alloc::{AllocError, Global};
 use tw_metas::Store;
 use tw_signature::{Goal, Signature};
+use tw_unify::Walk;
 
 /// A search for the proofs of a goal.
 #[derive(Drop)]
@@ -24,6 +25,8 @@ pub struct Search {
     pub(crate) store: Store,
     pub(crate) frames: Frames,
     pub(crate) choices: Vec<Choice>,
+    /// What occurs checks met since something was last taken back: no try goes through it again.
+    pub(crate) met: Walk,
     pub(crate) place: Place,
     /// How many variables the goal has: they are the first metavariables, and the hole of the proof is the next one.
     pub(crate) variables: u64,
@@ -49,6 +52,7 @@ impl Search {
             store,
             frames,
             choices,
+            met: Walk::new(alloc),
             place: Place::Node(root),
             variables,
             goal: asked,

@@ -4,9 +4,11 @@ use Rattle.lf.proofs.Entries.{canonical_is_signature}
 use Rattle.tw_metas.specs.View.{equation_of}
 use Rattle.tw_putting.specs.Whole.{whole}
 use Rattle.tw_terms.specs.View.{head_of}
+use Rattle.tw_unify.specs.Reaching.{marking_of}
 use Rattle.tw_unify.specs.Answers.{Answers, RenewsOnlyReached, StaysReady}
 use Rattle.tw_unify.proofs.Stories.{later_then}
 use Rattle.tw_search.proofs.OneTry.{left_gives, never_fits, solved_gives, tries_deep}
+use Rattle.tw_search.proofs.StillKnown.{still_known}
 use Rattle.tw_search.proofs.StillLeft.{offered_left}
 use Rattle.tw_search.proofs.trying.attempt.Goals as goal
 
@@ -41,6 +43,7 @@ returns-in-Solved c =
           (subst (λ a. RenewsOnlyReached a Σ (whole es c.offer.new.store.now) (whole [] c.solve_more.new.store.now)) c.in-Solved.is c.in_ok-solve_more.ensures.renews)
           (subst (λ a. StaysReady a Σ c.solve_more.new.store.now) c.in-Solved.is c.in_ok-solve_more.ensures.ready);
       story = later_then c.args.store.now c.offer.new.store c.solve_more.new.store c.in_ok-equations.ensures.story c.in_ok-solve_more.ensures.story;
+      known = c.in_ok-solve_more.ensures.known;
     }
 
 pub returns-in-Left : goal.returns-in-Left
@@ -53,7 +56,15 @@ returns-in-Left c =
           (subst (λ a. RenewsOnlyReached a Σ (whole es c.offer.new.store.now) (whole [] c.solve_more.new.store.now)) c.in-Left.is c.in_ok-solve_more.ensures.renews)
           (subst (λ a. StaysReady a Σ c.solve_more.new.store.now) c.in-Left.is c.in_ok-solve_more.ensures.ready);
       story = later_then c.args.store.now c.offer.new.store c.solve_more.new.store c.in_ok-equations.ensures.story c.in_ok-solve_more.ensures.story;
+      known = c.in_ok-solve_more.ensures.known;
     }
+
+pub solve_more-requires-clause-known : goal.solve_more-requires-clause-known
+solve_more-requires-clause-known c =
+    let Σ = signature_of c.args.signature.now in
+    let es = map equation_of c.in_ok-equations.field-0.equations.items in
+    let s = c.args.store.now.now in
+    still_known Σ s c.args.goal.now (head_of c.args.head) es c.in_ok-equations.field-0.subgoals.items c.offer.new.store.now c.requires.goal c.in_ok-equations.ensures.ok (marking_of c.pass_over.new.met) (c.pass_over.ensures.known s c.requires.known) c.pass_over.ensures.unmarked
 
 pub solve_more-requires-clause-left : goal.solve_more-requires-clause-left
 solve_more-requires-clause-left c =

@@ -10,4 +10,4 @@ returns-clause-went c = λ agenda w.
     let es = c.args.signature.now in
     let made = λ (m n : ℕ). let x : Choice = record { mark = m; frames = n; goal = c.in_ok-goal.goal; rest = c.args.frame.next; local = 0; constant = 0 } in x in
     goal_chosen es old _ c.args.list agenda (at_list es old c.args.list agenda c.requires.place w) c.args.frame c.requires.first c.in_ok-goal.goal c.in_ok-goal.ensures (made c.mark.result c.len.result) (ap₂ made c.mark.ensures c.len.ensures)
-    refl refl refl refl refl c.in_ok-push_choice.ensures refl
+    refl refl refl refl refl c.in_ok-push_choice.ensures refl w.1

@@ -42,7 +42,7 @@ pub returns-in-Ok-clause-came : goal.returns-in-Ok-clause-came
 returns-in-Ok-clause-came c = λ G len agenda w budget.
     let old = c.args.self.now in
     let es = c.args.signature.now in
-    left_shown es old _ c.args.list agenda (at_list es old c.args.list agenda c.requires.place w) c.is_canonical.ensures c.requires.first G len budget refl refl refl refl refl refl refl c.in-Ok.left c.in-Ok.ensures
+    left_shown es old _ c.args.list agenda (at_list es old c.args.list agenda c.requires.place w) c.is_canonical.ensures c.requires.first G len budget refl refl refl refl refl refl refl w.1 c.in-Ok.left c.in-Ok.ensures
 
 pub returns-in-Err-TooDeep-clause-came : goal.returns-in-Err-TooDeep-clause-came
 returns-in-Err-TooDeep-clause-came c = λ G len agenda w budget.
@@ -56,7 +56,7 @@ pub returns-in-Ok-read_answer-clause-came : goal.returns-in-Ok-read_answer-claus
 returns-in-Ok-read_answer-clause-came c = λ G len agenda w budget.
     let old = c.args.self.now in
     let es = c.args.signature.now in
-    answer_shown es old _ c.args.list agenda (at_list es old c.args.list agenda c.requires.place w) c.is_canonical.ensures c.requires.first G len budget refl refl refl refl refl refl refl
+    answer_shown es old _ c.args.list agenda (at_list es old c.args.list agenda c.requires.place w) c.is_canonical.ensures c.requires.first G len budget refl refl refl refl refl refl refl w.1
     (none_first c.equations.result.now old.store.now.equations c.equations.ensures c.in-None.ensures.value) c.in-Ok-read_answer.answer c.in-Ok-read_answer.ensures.read
 
 pub returns-in-Err-TooDeep-read_answer-clause-came : goal.returns-in-Err-TooDeep-read_answer-clause-came

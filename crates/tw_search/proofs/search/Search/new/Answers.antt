@@ -12,6 +12,9 @@ returns-clause-stands c = λ es ok g t. record {
   variables = c.len-variables.ensures;
   asked = c.in_ok-asked.ensures;
   run = begin_search;
-  at = root_stands es ok c.args.goal.now.variables (type_of c.args.goal.now.goal) g t c.declare_root.new.store c.in_ok-hole.ensures.root c.len-variables.result c.in_ok-root.root (frames_of c.push.new.self) _ _ c.len-variables.ensures
-      (c.in_ok-root.ensures.frames ∙ ap (λ xs. xs ++ record { hole = c.in_ok-hole.hole; next = 0 } ∷ []) c.new-frames.ensures) c.in_ok-hole.ensures.hole refl (c.in_ok-root.ensures.list ∙ ap (λ xs. length xs + 1) c.new-frames.ensures) (ap reverse c.new-choices.ensures.items);
+  at = (
+    root_stands es ok c.args.goal.now.variables (type_of c.args.goal.now.goal) g t c.declare_root.new.store c.in_ok-hole.ensures.root c.len-variables.result c.in_ok-root.root (frames_of c.push.new.self) _ _ c.len-variables.ensures
+        (c.in_ok-root.ensures.frames ∙ ap (λ xs. xs ++ record { hole = c.in_ok-hole.hole; next = 0 } ∷ []) c.new-frames.ensures) c.in_ok-hole.ensures.hole refl (c.in_ok-root.ensures.list ∙ ap (λ xs. length xs + 1) c.new-frames.ensures) (ap reverse c.new-choices.ensures.items),
+    c.new.ensures.known c.declare_root.new.store.now,
+  );
 }

@@ -21,8 +21,8 @@ take_up-requires-clause-up c =
     let old = c.args.self.now in
     let es = c.args.signature.now in
     let (agenda, w) = c.requires.at in
-    let back : Search = record { store = c.undo_to.new.self; frames = c.shrink_to.new.self; choices = c.pop_choice.new.choices; place = old.place; variables = old.variables; goal = old.goal; tries = old.tries } in
-    (agenda, taken_up es old.store (frames_of old.frames) c.in-Some.choice (reverse c.pop_choice.new.choices.items) (choices_of old) agenda back c.in-Some.ensures (at_choices es old agenda c.requires.place w) c.undo_to.ensures c.shrink_to.ensures refl)
+    let back : Search = record { store = c.undo_to.new.self; frames = c.shrink_to.new.self; choices = c.pop_choice.new.choices; met = c.forget.new.met; place = old.place; variables = old.variables; goal = old.goal; tries = old.tries } in
+    (agenda, taken_up es old.store (frames_of old.frames) c.in-Some.choice (reverse c.pop_choice.new.choices.items) (choices_of old) agenda back c.in-Some.ensures (at_choices es old agenda c.requires.place w) c.undo_to.ensures c.shrink_to.ensures refl (c.forget.ensures c.undo_to.new.self c.undo_to.ensures))
 
 pub returns-in-None-clause-goes : goal.returns-in-None-clause-goes
 returns-in-None-clause-goes c = λ agenda w G len.
@@ -35,10 +35,10 @@ returns-in-Some-clause-goes c =
     let old = c.args.self.now in
     let new = c.take_up.new.self in
     let es = c.args.signature.now in
-    let back : Search = record { store = c.undo_to.new.self; frames = c.shrink_to.new.self; choices = c.pop_choice.new.choices; place = old.place; variables = old.variables; goal = old.goal; tries = old.tries } in
+    let back : Search = record { store = c.undo_to.new.self; frames = c.shrink_to.new.self; choices = c.pop_choice.new.choices; met = c.forget.new.met; place = old.place; variables = old.variables; goal = old.goal; tries = old.tries } in
     IfOk-weaker c.take_up.result (λ o. GoesUp es c.args.last back new c.in-Some.choice o) (λ o. Goes es c.args.last old new o)
     (λ o up agenda w. goes_from_same es c.args.last old back new o agenda refl refl refl
-    (up agenda (taken_up es old.store (frames_of old.frames) c.in-Some.choice (reverse c.pop_choice.new.choices.items) (choices_of old) agenda back c.in-Some.ensures (at_choices es old agenda c.requires.place w) c.undo_to.ensures c.shrink_to.ensures refl)))
+    (up agenda (taken_up es old.store (frames_of old.frames) c.in-Some.choice (reverse c.pop_choice.new.choices.items) (choices_of old) agenda back c.in-Some.ensures (at_choices es old agenda c.requires.place w) c.undo_to.ensures c.shrink_to.ensures refl (c.forget.ensures c.undo_to.new.self c.undo_to.ensures))))
     c.take_up.ensures.goes
 
 pub returns-in-Some-clause-gave_out : goal.returns-in-Some-clause-gave_out
@@ -46,8 +46,11 @@ returns-in-Some-clause-gave_out c =
     let old = c.args.self.now in
     let new = c.take_up.new.self in
     let es = c.args.signature.now in
-    let back : Search = record { store = c.undo_to.new.self; frames = c.shrink_to.new.self; choices = c.pop_choice.new.choices; place = old.place; variables = old.variables; goal = old.goal; tries = old.tries } in
+    let back : Search = record { store = c.undo_to.new.self; frames = c.shrink_to.new.self; choices = c.pop_choice.new.choices; met = c.forget.new.met; place = old.place; variables = old.variables; goal = old.goal; tries = old.tries } in
     on_err_weaker c.take_up.result
     (λ up agenda w. gave_same es old back new new agenda c.args.last refl refl
-    (up agenda (taken_up es old.store (frames_of old.frames) c.in-Some.choice (reverse c.pop_choice.new.choices.items) (choices_of old) agenda back c.in-Some.ensures (at_choices es old agenda c.requires.place w) c.undo_to.ensures c.shrink_to.ensures refl)))
+    (up agenda (taken_up es old.store (frames_of old.frames) c.in-Some.choice (reverse c.pop_choice.new.choices.items) (choices_of old) agenda back c.in-Some.ensures (at_choices es old agenda c.requires.place w) c.undo_to.ensures c.shrink_to.ensures refl (c.forget.ensures c.undo_to.new.self c.undo_to.ensures))))
     c.take_up.ensures.gave_out
+
+pub forget-requires : goal.forget-requires
+forget-requires c = let (agenda, w) = c.requires.at in w.1

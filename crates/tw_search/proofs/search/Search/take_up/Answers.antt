@@ -8,7 +8,7 @@ use Rattle.tw_search.proofs.search.Search.take_up.Goals as goal
 
 pub returns-then-self-last-clause-goes : goal.returns-then-self-last-clause-goes
 returns-then-self-last-clause-goes c = λ agenda w G len.
-    budget_spent c.args.signature.now c.args.self.now c.args.choice agenda w c.requires.place G _ c.args.last (head_of c.in-Some.next.head) _ c.in-Some.ensures c.if-self-last.true refl refl refl refl refl c.in_ok-push_choice-in-Some.ensures c.requires.place
+    budget_spent c.args.signature.now c.args.self.now c.args.choice agenda w c.requires.place G _ c.args.last (head_of c.in-Some.next.head) _ c.in-Some.ensures c.if-self-last.true refl refl refl refl refl c.in_ok-push_choice-in-Some.ensures c.requires.place refl
 
 pub try_head-requires-clause-tries : goal.try_head-requires-clause-tries
 try_head-requires-clause-tries c =

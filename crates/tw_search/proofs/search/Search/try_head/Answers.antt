@@ -15,7 +15,7 @@ pub returns-in-Ok-None-clause-tried : goal.returns-in-Ok-None-clause-tried
 returns-in-Ok-None-clause-tried c = λ agenda w.
     let old = c.args.self.now in
     let es = c.args.signature.now in
-    none_tried es c.is_canonical.ensures old _ c.args.choice (head_of c.args.head) agenda w c.in-Ok-None.ensures.story c.in_ok-push_choice-in-Ok-None.ensures refl refl refl
+    none_tried es c.is_canonical.ensures old _ c.args.choice (head_of c.args.head) agenda w c.in-Ok-None.ensures.story c.in_ok-push_choice-in-Ok-None.ensures refl refl refl c.in-Ok-None.ensures.known
     (subst (λ t. IsTried (signature_of es) old.store.now c.args.choice.goal (head_of c.args.head) t c.attempt.new.store.now) c.in-Ok-None.field-0-is c.in-Ok-None.ensures.tried) (no_growth (frames_of old.frames)) c.requires.place
 
 pub returns-in-Ok-Some-clause-tried : goal.returns-in-Ok-Some-clause-tried
@@ -23,7 +23,7 @@ returns-in-Ok-Some-clause-tried c = λ agenda w.
     let old = c.args.self.now in
     let es = c.args.signature.now in
     let list = c.in_ok-list-in-Ok-Some.list in
-    child_tried es c.is_canonical.ensures old _ c.args.choice (head_of c.args.head) agenda w c.in-Ok-Some.ensures.story c.in_ok-push_choice-in-Ok-Some.ensures refl refl refl c.in-Ok-Some.subgoals.items
+    child_tried es c.is_canonical.ensures old _ c.args.choice (head_of c.args.head) agenda w c.in-Ok-Some.ensures.story c.in_ok-push_choice-in-Ok-Some.ensures refl refl refl c.in-Ok-Some.ensures.known c.in-Ok-Some.subgoals.items
     (subst (λ t. IsTried (signature_of es) old.store.now c.args.choice.goal (head_of c.args.head) t c.attempt.new.store.now) c.in-Ok-Some.field-0-is c.in-Ok-Some.ensures.tried) c.in_ok-list-in-Ok-Some.ensures.grown list
     (subst (λ (ms : List MetaId). (gs : List ℕ) → GoalsAre (frames_of old.frames) c.args.choice.rest gs → GoalsAre (frames_of c.push_all.new.self) list (followed (reverse (map (λ (m : MetaId). m.0) ms)) gs)) c.deref.ensures.value c.in_ok-list-in-Ok-Some.ensures.list) refl
 
