@@ -69,13 +69,20 @@ pub(crate) fn program_of(alloc: Global, kind: &str, size: u64) -> Result<String,
 pub(crate) fn goal_of(alloc: Global, kind: &str, size: u64) -> Result<String, AllocError> {
     match kind {
         "hanoi" => format!(in alloc; "(hanoi (repeat {size} t (s t) z) pa pb pc)"),
-        "nrev" => format!(in alloc; "(nrev (repeat {size} t (cons z t) nil) R)"),
+        "nrev" | "unread" => format!(in alloc; "(nrev (repeat {size} t (cons z t) nil) R)"),
         "loop" => format!(in alloc; "loop"),
         _ => format!(in alloc; "(hanoi (repeat 10 t (s t) z) pa pb pc)"),
     }
 }
 
-/// How many tries are made at most: the loop has no end.
+/// How many tries are made at most: the loop has no end, and an `unread` search stops before the last try of its answer.
 pub(crate) fn budget_of(kind: &str, size: u64) -> u64 {
-    if kind == "loop" { size } else { 1 << 40 }
+    match kind {
+        "loop" => size,
+        "unread" => {
+            let side = size.saturating_add(1);
+            side.saturating_mul(side).saturating_sub(1)
+        }
+        _ => 1 << 40,
+    }
 }
