@@ -25,7 +25,7 @@ def hanoi(disks, moves):
 # kind, what it is, its tries by the size, answers and end, what stands in the first column, sizes
 TABLES = [
     ("hanoi", "hanoi with N disks", lambda n: hanoi(n, 6), "1 Exhausted", "tries", (14, 15, 16, 17)),
-    ("nrev", "a list of N elements reversed by append", lambda n: (n + 1) * (n + 2), "1 Exhausted", "tries", (100, 200, 400)),
+    ("nrev", "a list of N elements reversed by append", lambda n: (n + 1) * (n + 2), "1 Exhausted", "tries", (50, 100, 200)),
     ("unread", "the same up to the try that gives the answer, whose proof has some N^3 nodes", lambda n: (n + 1) ** 2 - 1, "0 Budget", "tries", (200, 400, 800)),
     ("loop", "a loop of N calls without choice points", lambda n: n, "0 Budget", "tries", (10000, 40000, 160000)),
     ("clashes", "hanoi with 10 disks, and N more moves that clash", lambda n: hanoi(10, 6 + n), "1 Exhausted", "tries", (100, 400, 1600)),

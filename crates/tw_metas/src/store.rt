@@ -105,7 +105,7 @@ impl Store {
         }
     }
 
-    /// Whether the store is at this moment, so that to go back to it takes nothing back.
+    /// Whether as many changes stand as at the mark, so that to go back to it takes nothing back.
     pub fn is_at(&self, mark: &Mark) -> bool
         ensures { result ≡ nat_eq (length self.now.before) mark.now }
     {
