@@ -1,5 +1,5 @@
 -- A split at each head of which unification answers gives the cases that are to be answered; and a run of such splits covers its goal.
-use Rattle.std.proofs.Common.{ℕ, ◌+◌, List, [], ◌∷◌, inl, inr, refl, sym, ◌∙◌, subst}
+use Rattle.std.proofs.Common.{ℕ, ◌+◌, List, [], ◌∷◌, sym, ◌∙◌, subst}
 use Rattle.std.specs.Prelude.{Bool, true, false, Option, Some, None}
 use Rattle.lf.specs.Syntax.{LfType, Kind, kind_pi, star, lift_renaming, rename_type}
 use Rattle.lf.specs.Typing.{Signature, IsSignature}
@@ -11,12 +11,13 @@ use Rattle.lf_cases.specs.Reached.{SplitHead, arguments_count, split_items}
 use Rattle.lf_cases.specs.Split.{HasNoBlockVariable, HasOneBlockVariable}
 use Rattle.lf_coverage.specs.Calls.{AreCasesBesideAll, HeadGives, PlacesIn}
 use Rattle.lf_coverage.specs.HeadOrder.{Offer}
-use Rattle.lf_coverage.specs.Heads.{Listed, no_offer, with_case, without_case, IsSplitAt, IsHeadSplit, IsTypedCase}
+use Rattle.lf_coverage.specs.Heads.{IsSplitBelow, IsHeadSplit, IsTypedCase}
 use Rattle.lf_coverage.specs.RunLaws.{SolvedSplitIsUnified, SolvedSplitIsAnswer, SolvedRunCovers, SolvedRunCoversInputs}
 use Rattle.lf_coverage.specs.SplitStore.{split_store, AllFamiliesIn}
 use Rattle.lf_coverage.specs.UnifiedSplit.{HeadIsSolved, IsAnsweredSplit, IsSolvedSplit, IsUnifiedSplit, SolvesEachHead, SplitsByUnification, UnifierAnswer}
 use Rattle.lf_coverage.proofs.Families.{split_items_keep_families, solved_keeps_families, store_families}
-use Rattle.lf_coverage.proofs.HeadSplit.{head_of_case, heads_split, split_cases_typed}
+pub use Rattle.lf_coverage.proofs.HeadSplit.{listed_by}
+use Rattle.lf_coverage.proofs.HeadSplit.{answered_by, head_of_case, heads_split, split_cases_typed}
 use Rattle.lf_coverage.proofs.Leaves.{leaves_cover}
 use Rattle.lf_coverage.proofs.NoCase.{never_gives_no_case}
 use Rattle.lf_coverage.proofs.Runs.{other_run}
@@ -25,46 +26,20 @@ use Rattle.lf_coverage.proofs.TypedCases.{input_goal_is_typed_case, solved_is_sp
 use Rattle.lf_coverage.proofs.Unified.{unified_split}
 use Rattle.lf_coverage.proofs.Parts.{some_same}
 
--- other answers to the same heads
-pub listed_by : {A B : Offer → Option Case → Type 0} {hs : List Offer} {Cs : List Case} → ((h : Offer) (found : Option Case) → Member h hs → A h found → B h found) → Listed A hs Cs → Listed B hs Cs
-listed_by f no_offer = no_offer
-listed_by f (with_case {h = h} {D = D} a l) = with_case (f h (Some D) (inl refl) a) (listed_by (λ k z m. f k z (inr m)) l)
-listed_by f (without_case {h = h} a l) = without_case (f h None (inl refl) a) (listed_by (λ k z m. f k z (inr m)) l)
-
 module _ (Σ : Signature) (ok : IsSignature Σ) (W : List Block) (typed : AreTypedBlocks Σ W) (below : ℕ → ℕ → Bool) (C : Case) (tc : IsTypedCase Σ W C) (x : ℕ) (Cs : List Case) (sp : IsSolvedSplit Σ W below C x Cs) where
   abbrev s : IsAnsweredSplit Σ W below C x Cs
   s = sp.answered
+
+  -- the split, where something else is answered at its heads
+  abbrev below_by : (Answer : LfType → Offer → Option Case → Type 0) → ((h : Offer) (found : Option Case) → SplitHead Σ W C.items s.type h.items h.moved h.head h.type → HeadIsSolved Σ below C x s.type h found → Answer s.type h found) → IsSplitBelow Σ W below Answer C x Cs
+  below_by Answer one = record { answered = answered_by s (λ h found m a. one h found (s.are_offers.each h m) a); takes_below = sp.takes_below; arguments_below = sp.arguments_below }
 
   module _ (S : ℕ → Bool) (sc : SelfContained Σ W S) (fam : AllFamiliesIn S (items_context C.items)) where
     split_families : (h : Offer) → SplitHead Σ W C.items s.type h.items h.moved h.head h.type → HasNoBlockVariable h.items → AllFamiliesIn S (items_context (split_items below s.type h.items h.moved h.type))
     split_families h sh n = split_items_keep_families Σ W S sc below C.items fam x s.type s.at h.items h.moved h.head h.type sh n
 
-    -- the split, where something else is answered at its heads
-    answered_by : (Answer : LfType → Offer → Option Case → Type 0) → ((h : Offer) (found : Option Case) → SplitHead Σ W C.items s.type h.items h.moved h.head h.type → HeadIsSolved Σ below C x s.type h found → Answer s.type h found) → IsSplitAt Σ W S below Answer C x Cs
-    answered_by Answer one = record {
-      type = s.type;
-      at = s.at;
-      is_free = s.is_free;
-      families = families_at S (items_context C.items) fam x s.type s.at;
-      takes_below = sp.takes_below;
-      offers = s.offers;
-      are_offers = s.are_offers;
-      in_order = s.in_order;
-      arguments_below = sp.arguments_below;
-      listed = listed_by (λ h found m a. one h found (s.are_offers.each h m) a) s.listed;
-    }
-
     pub is_unified : IsUnifiedSplit Σ W S below C x Cs
-    is_unified = answered_by (UnifierAnswer Σ W S below C x) one
-      where
-        one : (h : Offer) (found : Option Case) → SplitHead Σ W C.items s.type h.items h.moved h.head h.type → HeadIsSolved Σ below C x s.type h found → UnifierAnswer Σ W S below C x s.type h found
-        one h found sh a = record {
-          kind = a.kind;
-          of_family = a.of_family;
-          no_block = a.no_block;
-          families = split_families h sh a.no_block;
-          finds = a.finds;
-        }
+    is_unified = record { split = below_by (UnifierAnswer Σ W S below C x) (λ h found sh a. record { answered = a; families = split_families h sh a.no_block }); families = families_at S (items_context C.items) fam x s.type s.at }
 
     case_families : (D : Case) → Member D Cs → AllFamiliesIn S (items_context D.items)
     case_families D m = let (h, k, a) = head_of_case s.listed D m in by h (s.are_offers.each h k) a
@@ -74,19 +49,17 @@ module _ (Σ : Signature) (ok : IsSignature Σ) (W : List Block) (typed : AreTyp
             let (after, z, e) = a.finds in
             subst (λ E. AllFamiliesIn S (items_context E.items)) (sym e) (solved_keeps_families Σ S (split_store below x s.type h.items h.moved h.head h.type a.kind) after (store_families S (items_context (split_items below s.type h.items h.moved h.type)) (split_families h sh a.no_block)) z C (h.moved + arguments_count h.type))
 
-    split_listed : IsSplitAt Σ W S below (HeadGives Σ W below C x) C x Cs
-    split_listed = answered_by (HeadGives Σ W below C x) one
-      where
-        one : (h : Offer) (found : Option Case) → SplitHead Σ W C.items s.type h.items h.moved h.head h.type → HeadIsSolved Σ below C x s.type h found → HeadGives Σ W below C x s.type h found
-        one h None sh a = never_gives_no_case Σ ok W typed below C tc x s.type s.at h.items h.moved h.head h.type sh a.no_block a.kind a.finds
-        one h (Some D) sh a =
-            let (after, z, e) = a.finds in
-            subst (Rattle.lf_cases.specs.Reached.IsSplitBy Σ W below C x s.type h.items h.moved h.head h.type) (sym e) (solved_is_split Σ ok W typed below C tc x s.type s.at h.items h.moved h.head h.type sh a.no_block a.kind after z)
+  split_listed : IsSplitBelow Σ W below (HeadGives Σ W below C x) C x Cs
+  split_listed = below_by (HeadGives Σ W below C x) one
+    where
+      one : (h : Offer) (found : Option Case) → SplitHead Σ W C.items s.type h.items h.moved h.head h.type → HeadIsSolved Σ below C x s.type h found → HeadGives Σ W below C x s.type h found
+      one h None sh a = never_gives_no_case Σ ok W typed below C tc x s.type s.at h.items h.moved h.head h.type sh a.no_block a.kind a.finds
+      one h (Some D) sh a =
+          let (after, z, e) = a.finds in
+          subst (Rattle.lf_cases.specs.Reached.IsSplitBy Σ W below C x s.type h.items h.moved h.head h.type) (sym e) (solved_is_split Σ ok W typed below C tc x s.type s.at h.items h.moved h.head h.type sh a.no_block a.kind after z)
 
   pub cases_of : IsSubordination Σ W below → AreCasesBesideAll Σ W below C x Cs
   cases_of sub = record {
-    type = s.type;
-    at = s.at;
     listed = split_listed;
     holds = λ S sc fam. heads_split Σ ok W typed below sub S sc C tc x Cs (unified_split Σ ok W typed below S sc C tc x Cs (is_unified S sc fam));
   }

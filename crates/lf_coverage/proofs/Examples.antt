@@ -138,16 +138,20 @@ plus_in_order = next_offered (0 ∷ 0 ∷ []) (0 ∷ 1 ∷ []) (constant_rank 0 
 
 pub plus_split : PlusIsSplitByHeads
 plus_split = record {
-  type = nat;
-  at = (nat, refl, refl);
-  is_free = refl;
+  split = record {
+    answered = record {
+      type = nat;
+      at = (nat, refl, refl);
+      is_free = refl;
+      offers = plus_offers;
+      are_offers = plus_are_offers;
+      in_order = plus_in_order;
+      listed = with_case zero_given (with_case successor_given no_offer);
+    };
+    takes_below = tt;
+    arguments_below = each_head (λ I n h A. ArgumentsAreBelow first_below_second A) tt (refl, tt);
+  };
   families = refl;
-  takes_below = tt;
-  arguments_below = each_head (λ I n h A. ArgumentsAreBelow first_below_second A) tt (refl, tt);
-  offers = plus_offers;
-  are_offers = plus_are_offers;
-  in_order = plus_in_order;
-  listed = with_case zero_given (with_case successor_given no_offer);
 }
 
 -- the premises

@@ -184,14 +184,18 @@ module _ (S : ℕ → Bool) where
 
   pub copy_split : S 0 ≡ true → IsHeadSplit Copying copy_worlds S first_below_second copy_goal 0 copy_cases
   copy_split z = record {
-    type = exp;
-    at = refl;
-    is_free = refl;
+    split = record {
+      answered = record {
+        type = exp;
+        at = refl;
+        is_free = refl;
+        offers = copy_offers;
+        are_offers = copy_heads_in_order.0;
+        in_order = copy_heads_in_order.1;
+        listed = with_case lam_given (with_case app_given (with_case entry_given no_offer));
+      };
+      takes_below = tt;
+      arguments_below = copy_below;
+    };
     families = z;
-    takes_below = tt;
-    offers = copy_offers;
-    are_offers = copy_heads_in_order.0;
-    in_order = copy_heads_in_order.1;
-    arguments_below = copy_below;
-    listed = with_case lam_given (with_case app_given (with_case entry_given no_offer));
   }

@@ -251,7 +251,7 @@ copy_reached C m = split_is_reached 0 goal_is_reached goal_none first_is (given 
     given (inr (inr (inr e))) = absurd e
 
 -- the leaves
-lam_leaf : IsInstanceLeaf Copying copy_worlds copy_heads cp_lam_case
+pub lam_leaf : IsInstanceLeaf Copying copy_worlds copy_heads cp_lam_case
 lam_leaf = record {
   typed = record { items = lam_items_typed; given = tt; arguments = ((base 0, typed_has_skeleton Copying (function ∷ []) (lam (applied_to 1 0)) exp lam_typed), tt) };
   pattern = copy_lam_head;
@@ -262,7 +262,7 @@ lam_leaf = record {
   is_instance = lam_is_instance;
 }
 
-app_leaf : IsInstanceLeaf Copying copy_worlds copy_heads copy_app_case
+pub app_leaf : IsInstanceLeaf Copying copy_worlds copy_heads copy_app_case
 app_leaf = record {
   typed = record { items = app_items_typed; given = tt; arguments = ((base 0, typed_has_skeleton Copying (exp ∷ exp ∷ []) (application (var 1) (var 0)) exp app_typed), tt) };
   pattern = copy_app_head;
@@ -273,7 +273,7 @@ app_leaf = record {
   is_instance = app_is_instance;
 }
 
-entry_leaf : IsInstanceLeaf Copying copy_worlds copy_heads block_case
+pub entry_leaf : IsInstanceLeaf Copying copy_worlds copy_heads block_case
 entry_leaf = record {
   typed = record { items = block_items_typed; given = tt; arguments = ((base 0, (base 0, refl, refl)), tt) };
   pattern = copy_entry_head;
@@ -283,6 +283,11 @@ entry_leaf = record {
   given_own = λ i e. absurd cc;
   is_instance = entry_stands (inl refl);
 }
+
+-- all of them of heads
+pub leaves_are_of_heads : (lam_leaf.pattern.at_first ≡ false) × (app_leaf.pattern.at_first ≡ false) × (entry_leaf.pattern.at_first ≡ false)
+unfolding lam_leaf app_leaf entry_leaf
+leaves_are_of_heads = (refl, refl, refl)
 
 -- the run, and what it covers
 module _ (S : ℕ → Bool) (sc : SelfContained Copying copy_worlds S) (z : S 0 ≡ true) where

@@ -127,19 +127,18 @@ entry_split = record {
 
 pub copy_answer : CopyCasesAreAnswer
 copy_answer = record {
-  type = exp;
-  at = refl;
-  listed = λ S sc z. record {
-    type = exp;
-    at = refl;
-    is_free = refl;
-    families = z;
+  listed = record {
+    answered = record {
+      type = exp;
+      at = refl;
+      is_free = refl;
+      offers = copy_offers;
+      are_offers = copy_heads_in_order.0;
+      in_order = copy_heads_in_order.1;
+      listed = with_case lam_split (with_case app_split (with_case entry_split no_offer));
+    };
     takes_below = tt;
-    offers = copy_offers;
-    are_offers = copy_heads_in_order.0;
-    in_order = copy_heads_in_order.1;
-    arguments_below = copy_below S;
-    listed = with_case lam_split (with_case app_split (with_case entry_split no_offer));
+    arguments_below = copy_below (λ a. true);
   };
   holds = λ S sc z. head_split_is_split Copying copying_ok copy_worlds copy_typed first_below_second copy_subordination S sc copy_goal goal_typed 0 copy_cases (copy_split S z);
 }

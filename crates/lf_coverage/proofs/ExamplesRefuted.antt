@@ -227,7 +227,7 @@ successor_is_refuted = (record { reached = _; run = then_run (next_equation (_ �
     zero_is_solved : CanRefute Addition kept_zero → ⊥
     zero_is_solved d = solved_not_never Addition addition_ok kept_zero kept_zero_after kept_zero_solved (run_refuted Addition addition_ok kept_zero_ready d.run d.refuted)
 
-plus_refuted : IsRefutedSplit Addition [] first_below_second plus_input_goal 1 (plus_zero_case ∷ plus_successor_case ∷ [])
+pub plus_refuted : IsRefutedSplit Addition [] first_below_second plus_input_goal 1 (plus_zero_case ∷ plus_successor_case ∷ [])
 plus_refuted = record { answered = record { type = nat; at = (nat, refl, refl); is_free = refl; offers = plus_offers; are_offers = plus_are_offers; in_order = plus_in_order; listed = plus_listed }; refuted = refuted }
   where
     refuted : (h : Offer) → Member h plus_offers → (K : Kind) → Some star ≡ Some K → Never Addition [] (split_store first_below_second 1 nat h.items h.moved h.head h.type K) → CanRefute Addition (split_store first_below_second 1 nat h.items h.moved h.head h.type K)

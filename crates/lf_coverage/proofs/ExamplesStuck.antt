@@ -36,7 +36,7 @@ patterns_stand = (refl, refl, λ h. true≢false (sym h))
 pub bound_is_taken : BoundIsTaken
 bound_is_taken = ((refl, ((refl, tt), tt)), λ h. true≢false (sym h.1.0.0))
 
-zeros_ok : IsSignature Zeros
+pub zeros_ok : IsSignature Zeros
 zeros_ok = record { types_ok = types; kinds_ok = kinds }
   where
     types : (c : ℕ) (A : LfType) → Zeros.types c ≡ Some A → IsType Zeros [] A

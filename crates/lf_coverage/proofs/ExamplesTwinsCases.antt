@@ -1,6 +1,6 @@
 -- The cases of two block variables are those that are to be answered, each by a most general typed instance.
 use Rattle.std.proofs.Common.{◌≡◌, ℕ, suc, List, [], ◌∷◌, ◌+◌, length, refl, sym, ap, ◌∙◌, subst, arith, inl, inr}
-use Rattle.std.specs.Prelude.{Bool, ◌⊎◌}
+use Rattle.std.specs.Prelude.{Bool, true, ◌⊎◌}
 use Rattle.lf.specs.Syntax.{Term, constant, variable, nil, app, LfType, base, skeleton}
 use Rattle.lf.specs.AtOnce.{in_front, shift_by}
 use Rattle.lf.specs.Substitution.{Image, keep, put, rename_image, apply_image, substitute, reduce, after}
@@ -185,8 +185,8 @@ holds_all S sc C t x Cs h = head_split_is_split Twins twins_ok twin_worlds twins
 
 pub twin_cases : TwinCasesAreAnswers
 twin_cases = (
-  record { type = exp; at = (exp, (exp, refl, refl), refl); listed = λ S sc z. record { type = exp; at = (exp, (exp, refl, refl), refl); is_free = refl; families = z; takes_below = tt; offers = new_offer twin_goal.items ∷ []; are_offers = goal_offers; in_order = goal_in_order; arguments_below = goal_below S; listed = with_case first_by no_offer }; holds = λ S sc z. holds_all S sc twin_goal goal_typed 2 (one_entry ∷ []) (goal_split S z) },
-  record { type = exp; at = (exp, refl, refl); listed = λ S sc z. record { type = exp; at = (exp, refl, refl); is_free = refl; families = z; takes_below = tt; offers = new_offer one_entry.items ∷ old_offer ∷ []; are_offers = entry_offers; in_order = entry_in_order; arguments_below = entry_below S; listed = with_case new_by (with_case old_by no_offer) }; holds = λ S sc z. holds_all S sc one_entry one_typed 1 (two_entries ∷ same_entry ∷ []) (entry_split S z) },
-  record { type = same (var 4) (var 2); at = refl; listed = λ S sc o. record { type = same (var 4) (var 2); at = refl; is_free = refl; families = o; takes_below = tt; offers = alike_offer two_entries.items ∷ []; are_offers = alike_offers two_entries.items (var 4) (var 2) none_same_two; in_order = alike_in_order two_entries.items (var 4) (var 2); arguments_below = alike_below S two_entries.items (var 4) (var 2) none_same_two; listed = without_case no_case_of_two no_offer }; holds = λ S sc o. holds_all S sc two_entries two_typed 0 [] (two_split S o) },
-  record { type = same (var 2) (var 2); at = refl; listed = λ S sc o. record { type = same (var 2) (var 2); at = refl; is_free = refl; families = o; takes_below = tt; offers = alike_offer same_entry.items ∷ []; are_offers = alike_offers same_entry.items (var 2) (var 2) none_same_one; in_order = alike_in_order same_entry.items (var 2) (var 2); arguments_below = alike_below S same_entry.items (var 2) (var 2) none_same_one; listed = with_case alike_by no_offer }; holds = λ S sc o. holds_all S sc same_entry same_typed 0 (entry_alike ∷ []) (alike_split S o) },
+  record { listed = record { answered = record { type = exp; at = (exp, (exp, refl, refl), refl); is_free = refl; offers = new_offer twin_goal.items ∷ []; are_offers = goal_offers; in_order = goal_in_order; listed = with_case first_by no_offer }; takes_below = tt; arguments_below = goal_below (λ a. true) }; holds = λ S sc z. holds_all S sc twin_goal goal_typed 2 (one_entry ∷ []) (goal_split S z) },
+  record { listed = record { answered = record { type = exp; at = (exp, refl, refl); is_free = refl; offers = new_offer one_entry.items ∷ old_offer ∷ []; are_offers = entry_offers; in_order = entry_in_order; listed = with_case new_by (with_case old_by no_offer) }; takes_below = tt; arguments_below = entry_below (λ a. true) }; holds = λ S sc z. holds_all S sc one_entry one_typed 1 (two_entries ∷ same_entry ∷ []) (entry_split S z) },
+  record { listed = record { answered = record { type = same (var 4) (var 2); at = refl; is_free = refl; offers = alike_offer two_entries.items ∷ []; are_offers = alike_offers two_entries.items (var 4) (var 2) none_same_two; in_order = alike_in_order two_entries.items (var 4) (var 2); listed = without_case no_case_of_two no_offer }; takes_below = tt; arguments_below = alike_below (λ a. true) two_entries.items (var 4) (var 2) none_same_two }; holds = λ S sc o. holds_all S sc two_entries two_typed 0 [] (two_split S o) },
+  record { listed = record { answered = record { type = same (var 2) (var 2); at = refl; is_free = refl; offers = alike_offer same_entry.items ∷ []; are_offers = alike_offers same_entry.items (var 2) (var 2) none_same_one; in_order = alike_in_order same_entry.items (var 2) (var 2); listed = with_case alike_by no_offer }; takes_below = tt; arguments_below = alike_below (λ a. true) same_entry.items (var 2) (var 2) none_same_one }; holds = λ S sc o. holds_all S sc same_entry same_typed 0 (entry_alike ∷ []) (alike_split S o) },
 )

@@ -1,11 +1,10 @@
 -- The strategy reaches the cases of two block variables.
-use Rattle.std.proofs.Common.{◌≡◌, ℕ, [], ◌∷◌, refl, sym, ap, ◌∙◌, subst, arith, inl, inr, true≢false}
+use Rattle.std.proofs.Common.{◌≡◌, ℕ, [], ◌∷◌, refl, sym, ap, ◌∙◌, subst, arith, inl, inr}
 use Rattle.lf.specs.Syntax.{Spine, nil, app, base}
 use Rattle.lf.specs.AtOnce.{in_front}
 use Rattle.lf.specs.Substitution.{Image, keep, put, apply_image, substitute, substitute_type, reduce}
-use Rattle.lf.specs.Variables.{everything, target_arguments}
+use Rattle.lf.specs.Variables.{target_arguments}
 use Rattle.lf.specs.Subordination.{Member}
-use Rattle.lf.specs.Worlds.{lift_over}
 use Rattle.lf_checks.specs.Marks.{SamePlaces}
 use Rattle.lf_cases.specs.Case.{Case, as_term, covered_places, entries_in_front, HasArguments}
 use Rattle.lf_cases.specs.Missing.{BlockAmong, CommonInstance, IsTypedInstance}
@@ -16,62 +15,17 @@ use Rattle.lf_coverage.specs.ExamplesTwins.{Twins, twin_block, twin_worlds, twin
 use Rattle.lf_coverage.specs.MeetStore.{IsOpen}
 use Rattle.lf_coverage.proofs.ExamplesTwins.{alike_type, whole}
 use Rattle.lf_coverage.proofs.ExamplesTwinsCases.{alike_by, first_by, is_variable, new_by, old_by}
-use Rattle.lf_coverage.proofs.ExamplesTwinsRun.{alike_tuple, entry_values, values_typed}
+use Rattle.lf_coverage.proofs.ExamplesTwinsRun.{shares_entry}
 
 -- what the goal and the cases share with u: check b.x b.x (alike b.x)
 goal_shares : CommonInstance Twins twin_worlds twin_goal twin_head
-goal_shares = record {
-  items = entry_alike.items;
-  typed_items = (tt, inl refl, record { typed = λ i A g u. absurd g; closed = λ i A g u. absurd g });
-  case_values = in_front (put (base 1) (alike (var 1))) (in_front (put (base 0) (var 1)) (in_front (put (base 0) (var 1)) keep));
-  is_instance = (alike (var 1), in_front (put (base 0) (var 1)) (in_front (put (base 0) (var 1)) keep), (var 1, in_front (put (base 0) (var 1)) keep, (var 1, keep, tt, (exp, (exp, refl, refl), refl), refl), (exp, (exp, refl, refl), refl), refl), (alike_type, refl, ((exp, (exp, refl, refl), refl), refl)), refl);
-  used = everything;
-  clause_values = entry_values;
-  typed_values = values_typed;
-  uses = ((refl, tt), ((refl, tt), (((refl, tt), tt), tt)));
-  terms = λ i o u. absurd (true≢false o);
-  given = λ i M e. absurd cc;
-  stands = (lift_over twin_block.entries keep, inl (refl, refl), λ k X g. refl);
-  tuple = alike_tuple;
-  of_case = (refl, (refl, (refl, tt)));
-  of_clause = (refl, (refl, (refl, tt)));
-}
+goal_shares = shares_entry twin_goal.items (var 2) (var 1) (var 0) (in_front (put (base 1) (alike (var 1))) (in_front (put (base 0) (var 1)) (in_front (put (base 0) (var 1)) keep))) (alike (var 1), in_front (put (base 0) (var 1)) (in_front (put (base 0) (var 1)) keep), (var 1, in_front (put (base 0) (var 1)) keep, (var 1, keep, tt, (exp, (exp, refl, refl), refl), refl), (exp, (exp, refl, refl), refl), refl), (alike_type, refl, ((exp, (exp, refl, refl), refl), refl)), refl) refl refl refl
 
 one_shares : CommonInstance Twins twin_worlds one_entry twin_head
-one_shares = record {
-  items = entry_alike.items;
-  typed_items = (tt, inl refl, record { typed = λ i A g u. absurd g; closed = λ i A g u. absurd g });
-  case_values = in_front (put (base 1) (alike (var 1))) (in_front (put (base 0) (var 1)) (entries_in_front twin_block.entries whole keep));
-  is_instance = (alike (var 1), in_front (put (base 0) (var 1)) (entries_in_front twin_block.entries whole keep), (var 1, entries_in_front twin_block.entries whole keep, (whole, keep, tt, inl (refl, refl), (λ i A g. absurd g), refl), (exp, (exp, refl, refl), refl), refl), (alike_type, refl, ((exp, (exp, refl, refl), refl), refl)), refl);
-  used = everything;
-  clause_values = entry_values;
-  typed_values = values_typed;
-  uses = ((refl, tt), ((refl, tt), (((refl, tt), tt), tt)));
-  terms = λ i o u. absurd (true≢false o);
-  given = λ i M e. absurd cc;
-  stands = (lift_over twin_block.entries keep, inl (refl, refl), λ k X g. refl);
-  tuple = alike_tuple;
-  of_case = (refl, (refl, (refl, tt)));
-  of_clause = (refl, (refl, (refl, tt)));
-}
+one_shares = shares_entry one_entry.items (var 3) (var 1) (var 0) (in_front (put (base 1) (alike (var 1))) (in_front (put (base 0) (var 1)) (entries_in_front twin_block.entries whole keep))) (alike (var 1), in_front (put (base 0) (var 1)) (entries_in_front twin_block.entries whole keep), (var 1, entries_in_front twin_block.entries whole keep, (whole, keep, tt, inl (refl, refl), (λ i A g. absurd g), refl), (exp, (exp, refl, refl), refl), refl), (alike_type, refl, ((exp, (exp, refl, refl), refl), refl)), refl) refl refl refl
 
 same_shares : CommonInstance Twins twin_worlds same_entry twin_head
-same_shares = record {
-  items = entry_alike.items;
-  typed_items = (tt, inl refl, record { typed = λ i A g u. absurd g; closed = λ i A g u. absurd g });
-  case_values = in_front (put (base 1) (alike (var 1))) (entries_in_front twin_block.entries whole keep);
-  is_instance = (alike (var 1), entries_in_front twin_block.entries whole keep, (whole, keep, tt, inl (refl, refl), (λ i A g. absurd g), refl), (alike_type, refl, ((exp, (exp, refl, refl), refl), refl)), refl);
-  used = everything;
-  clause_values = entry_values;
-  typed_values = values_typed;
-  uses = ((refl, tt), ((refl, tt), (((refl, tt), tt), tt)));
-  terms = λ i o u. absurd (true≢false o);
-  given = λ i M e. absurd cc;
-  stands = (lift_over twin_block.entries keep, inl (refl, refl), λ k X g. refl);
-  tuple = alike_tuple;
-  of_case = (refl, (refl, (refl, tt)));
-  of_clause = (refl, (refl, (refl, tt)));
-}
+same_shares = shares_entry same_entry.items (var 2) (var 2) (var 0) (in_front (put (base 1) (alike (var 1))) (entries_in_front twin_block.entries whole keep)) (alike (var 1), entries_in_front twin_block.entries whole keep, (whole, keep, tt, inl (refl, refl), (λ i A g. absurd g), refl), (alike_type, refl, ((exp, (exp, refl, refl), refl), refl)), refl) refl refl refl
 
 -- none of the three is an instance of u
 goal_none : IsInstanceOf Twins twin_worlds twin_goal twin_head → ⊥

@@ -11,9 +11,10 @@ use Rattle.lf.specs.Worlds.{World, no_variables, whole_instance, begin_instance,
 use Rattle.lf_checks.specs.Below.{IsSubordination}
 use Rattle.lf_checks.specs.Clause.{from_entry}
 use Rattle.lf_checks.specs.Marks.{SamePlaces}
-use Rattle.lf_cases.specs.Case.{Case, as_term, covered_places, entries_in_front, items_context, HasArguments, IsGroundInstance}
+use Rattle.lf_cases.specs.Case.{Item, Case, as_term, covered_places, entries_in_front, items_context, HasArguments, IsGroundInstance}
+use Rattle.lf_cases.specs.Cover.{AreTerms}
 use Rattle.lf_cases.specs.Missing.{CommonInstance, IsTypedInstance}
-use Rattle.lf_cases.specs.Pattern.{Holds}
+use Rattle.lf_cases.specs.Pattern.{HasGiven, Holds}
 use Rattle.lf_cases.specs.Reached.{IsInstanceOf, LeavesAll}
 use Rattle.lf_cases.specs.Split.{Ends, HoldsDistinctly, IsDistinct, IsInstanceCase, at_leaf, by_split, next_case, no_case}
 use Rattle.lf_totality.specs.Examples.{exp, var}
@@ -117,24 +118,38 @@ values_typed = record { typed = typed; closed = λ i A g u. Rattle.lf.proofs.Par
 abbrev pub alike_tuple : Spine
 alike_tuple = app (var 1) (app (var 1) (app (alike (var 1)) nil))
 
+-- a case of these arguments
+abbrev pub case_of_three : List Item → Term → Term → Term → Case
+case_of_three I M N P = record { items = I; given = []; local = []; family = 2; arguments = Some M ∷ Some N ∷ Some P ∷ [] }
+
+pub none_given : (σ θ : ℕ → Image) → HasGiven σ [] θ
+none_given σ θ i M e = absurd cc
+
+pub all_terms : (θ : ℕ → Image) → AreTerms twin_head.clause everything θ
+all_terms θ i o u = absurd (true≢false o)
+
+-- It shares the instance check b.x b.x (alike b.x) with u, where these values of its items make that of its arguments.
+abbrev pub shares_entry : (I : List Item) (M N P : Term) (σ : ℕ → Image) → IsTypedInstance Twins entry_alike.items I σ → var 1 ≡ substitute reduce σ M → var 1 ≡ substitute reduce σ N → alike (var 1) ≡ substitute reduce σ P → CommonInstance Twins twin_worlds (case_of_three I M N P) twin_head
+shares_entry I M N P σ g m n p = record {
+  items = entry_alike.items;
+  typed_items = (tt, inl refl, record { typed = λ i A g u. absurd g; closed = λ i A g u. absurd g });
+  case_values = σ;
+  is_instance = g;
+  used = everything;
+  clause_values = entry_values;
+  typed_values = values_typed;
+  uses = ((refl, tt), ((refl, tt), (((refl, tt), tt), tt)));
+  terms = all_terms entry_values;
+  given = none_given σ entry_values;
+  stands = (lift_over twin_block.entries keep, inl (refl, refl), λ k X g. refl);
+  tuple = alike_tuple;
+  of_case = (m, (n, (p, tt)));
+  of_clause = (refl, (refl, (refl, tt)));
+}
+
 entry_is_instance : IsInstanceOf Twins twin_worlds entry_alike twin_head
 entry_is_instance = (
-  record {
-    items = entry_alike.items;
-    typed_items = (tt, inl refl, record { typed = λ i A g u. absurd g; closed = λ i A g u. absurd g });
-    case_values = entries_in_front twin_block.entries (lift_over twin_block.entries keep) keep;
-    is_instance = (lift_over twin_block.entries keep, keep, tt, inl (refl, refl), (λ i A g. absurd g), refl);
-    used = everything;
-    clause_values = entry_values;
-    typed_values = values_typed;
-    uses = ((refl, tt), ((refl, tt), (((refl, tt), tt), tt)));
-    terms = λ i o u. absurd (true≢false o);
-    given = λ i M e. absurd cc;
-    stands = (lift_over twin_block.entries keep, inl (refl, refl), λ k X g. refl);
-    tuple = alike_tuple;
-    of_case = (refl, (refl, (refl, tt)));
-    of_clause = (refl, (refl, (refl, tt)));
-  },
+  shares_entry entry_alike.items (var 1) (var 1) (alike (var 1)) (entries_in_front twin_block.entries (lift_over twin_block.entries keep) keep) (lift_over twin_block.entries keep, keep, tt, inl (refl, refl), (λ i A g. absurd g), refl) refl refl refl,
   refl,
   all,
   ((refl, tt), ((refl, tt), (((refl, tt), tt), tt))),
@@ -158,7 +173,7 @@ leaf = record {
 
 -- the run, by its one leaf
 module _ (S : ℕ → Bool) (z : S 0 ≡ true) (o : S 1 ≡ true) (L : Case → Type 0) (l : L entry_alike) where
-  run : Ends L (SplitsByHeads Twins twin_worlds S up_to) twin_goal
+  pub run : Ends L (SplitsByHeads Twins twin_worlds S up_to) twin_goal
   run = by_split (one_entry ∷ []) (2, goal_split S z) (next_case (by_split (two_entries ∷ same_entry ∷ []) (1, entry_split S z) (next_case (by_split [] (0, two_split S o) no_case) (next_case (by_split (entry_alike ∷ []) (0, alike_split S o) (next_case (at_leaf l) no_case)) no_case))) no_case)
 
 -- the places are for exp and same
@@ -217,22 +232,7 @@ twins_one_instance = (world, held_by_two, not_distinctly, held_by_same)
 
 -- identified they share an instance with u
 shared : CommonInstance Twins twin_worlds two_entries twin_head
-shared = record {
-  items = entry_alike.items;
-  typed_items = (tt, inl refl, record { typed = λ i A g u. absurd g; closed = λ i A g u. absurd g });
-  case_values = in_front (put (base 1) (alike (var 1))) (entries_in_front twin_block.entries whole (entries_in_front twin_block.entries whole keep));
-  is_instance = (alike (var 1), entries_in_front twin_block.entries whole (entries_in_front twin_block.entries whole keep), (whole, entries_in_front twin_block.entries whole keep, (whole, keep, tt, inl (refl, refl), (λ i A g. absurd g), refl), inl (refl, refl), (λ i A g. absurd g), refl), (pi exp (same (var 0) (var 0)), refl, ((exp, (exp, refl, refl), refl), refl)), refl);
-  used = everything;
-  clause_values = entry_values;
-  typed_values = values_typed;
-  uses = ((refl, tt), ((refl, tt), (((refl, tt), tt), tt)));
-  terms = λ i o u. absurd (true≢false o);
-  given = λ i M e. absurd cc;
-  stands = (lift_over twin_block.entries keep, inl (refl, refl), λ k X g. refl);
-  tuple = alike_tuple;
-  of_case = (refl, (refl, (refl, tt)));
-  of_clause = (refl, (refl, (refl, tt)));
-}
+shared = shares_entry two_entries.items (var 4) (var 2) (var 0) (in_front (put (base 1) (alike (var 1))) (entries_in_front twin_block.entries whole (entries_in_front twin_block.entries whole keep))) (alike (var 1), entries_in_front twin_block.entries whole (entries_in_front twin_block.entries whole keep), (whole, entries_in_front twin_block.entries whole keep, (whole, keep, tt, inl (refl, refl), (λ i A g. absurd g), refl), inl (refl, refl), (λ i A g. absurd g), refl), (pi exp (same (var 0) (var 0)), refl, ((exp, (exp, refl, refl), refl), refl)), refl) refl refl refl
 
 -- but Z isn't alike b.x
 no_instance : IsInstanceOf Twins twin_worlds two_entries twin_head → ⊥

@@ -26,7 +26,7 @@ use Rattle.lf_cases.specs.Case.{Case}
 use Rattle.lf_coverage.specs.Heads.{ArgumentsAreBelow, IsTypedCase, Listed, with_case, no_offer}
 use Rattle.lf_coverage.specs.SplitStore.{split_store, context_metavariables}
 use Rattle.lf_coverage.specs.Examples.{PlusIsSplitByUnification, SuccessorGivesNone}
-use Rattle.lf_coverage.specs.UnifiedSplit.{HeadIsSolved, IsSolvedSplit}
+use Rattle.lf_coverage.specs.UnifiedSplit.{HeadIsSolved, IsSolvedSplit, UnifierFinds}
 use Rattle.lf_coverage.proofs.Examples.{plus_offers, plus_are_offers, plus_in_order, two, each_head, goal_typed}
 use Rattle.lf_coverage.proofs.NoCase.{never_gives_no_case}
 use Rattle.lf_coverage.specs.ExamplesRenumbering.{successor_store, unknown}
@@ -189,19 +189,23 @@ successor_solved = record { run = successor_run; keeps = run_keeps_unifiers Addi
 
 pub plus_unified : PlusIsSplitByUnification
 plus_unified = record {
-  type = nat;
-  at = (nat, refl, refl);
-  is_free = refl;
-  takes_below = tt;
-  arguments_below = each_head (λ I n h A. ArgumentsAreBelow first_below_second A) tt (refl, tt);
+  split = record {
+    answered = record {
+      type = nat;
+      at = (nat, refl, refl);
+      is_free = refl;
+      offers = plus_offers;
+      are_offers = plus_are_offers;
+      in_order = plus_in_order;
+      listed =
+          with_case
+          (record { answered = record { kind = star; of_family = refl; no_block = tt; finds = (after_zero, zero_solved, refl) }; families = (refl, (refl, tt)) })
+          (with_case (record { answered = record { kind = star; of_family = refl; no_block = tt; finds = (after_successor, successor_solved, refl) }; families = (refl, (refl, (refl, tt))) }) no_offer);
+    };
+    takes_below = tt;
+    arguments_below = each_head (λ I n h A. ArgumentsAreBelow first_below_second A) tt (refl, tt);
+  };
   families = refl;
-  offers = plus_offers;
-  are_offers = plus_are_offers;
-  in_order = plus_in_order;
-  listed =
-      with_case
-      (record { kind = star; of_family = refl; no_block = tt; families = (refl, (refl, tt)); finds = (after_zero, zero_solved, refl) })
-      (with_case (record { kind = star; of_family = refl; no_block = tt; families = (refl, (refl, (refl, tt))); finds = (after_successor, successor_solved, refl) }) no_offer);
 }
 
 pub plus_solved : IsSolvedSplit Addition [] first_below_second plus_input_goal 1 (plus_zero_case ∷ plus_successor_case ∷ [])
@@ -280,3 +284,7 @@ successor_has_unifier n = solved_not_never Addition addition_ok before_successor
 
 pub plus_listed : Listed (HeadIsSolved Addition first_below_second plus_input_goal 1 nat) plus_offers (plus_zero_case ∷ plus_successor_case ∷ [])
 plus_listed = with_case (record { kind = star; of_family = refl; no_block = tt; finds = (after_zero, zero_solved, refl) }) (with_case (record { kind = star; of_family = refl; no_block = tt; finds = (after_successor, successor_solved, refl) }) no_offer)
+
+-- what unification finds for X and s
+pub successor_found : UnifierFinds Addition first_below_second plus_input_goal 1 nat (record { items = two; moved = 0; head = constant 1; type = pi nat nat }) star (Some plus_successor_case)
+successor_found = (after_successor, successor_solved, refl)

@@ -114,3 +114,16 @@ module _ (Σ : Signature) (W : List Block) (below : ℕ → ℕ → Bool) (s : I
             (spine_low D G c h n S (instantiate_type A M B) a T (families_substituted Low reduce σ B fb) (below_substituted below σ B bb) (instance_is_type Σ' x.ok (onto D G) A M B c ta tb m) st (count_substituted σ B ∙ suc_same e)),
       )
   spine_low D G c h (suc n) (app M S) (atom b U) a T fa ba ta st e = absurd st
+
+  -- The same where it is not asked that the type is one.
+  pub spine_uses_low : (D G : List LfType) → AllTypesIn (onto D G) → (n : ℕ) (S : Spine) (A : LfType) (a : ℕ) (T : Spine) → FamiliesIn Low A → ArgumentsAreBelow below A → SpineType Σ' (onto D G) S A (atom a T) → arguments_count A ≡ n → LowPlaces below D (output_places (outputs n)) S (type_kind A)
+  spine_uses_low D G h zero S A a T fa ba st e = tt
+  spine_uses_low D G h (suc n) nil A a T fa ba st e = tt
+  spine_uses_low D G h (suc n) (app M S) (pi A B) a T (fa, fb) (ba, bb) (m, st) e =
+      let b : Low (target A) ≡ true = family_target Low A fa in
+      let g : ℕ = target A in
+      let σ : ℕ → Image = single (skeleton A) M in (
+        uses_within (low (part g) D) (low (below g) D) M (low_within g D) (uses_low Σ' x.ok W (part g) (SelfContained-extends Σ Σ' W (part g) (extension_over_less Low (part g) Σ Σ' (part_low g) x) (part_contained g b)) D G (h g b) M A (in_part g A fa ba) m),
+        subst (LowPlaces below D (output_places (outputs n)) S) (kind_substituted σ B) (spine_uses_low D G h n S (instantiate_type A M B) a T (families_substituted Low reduce σ B fb) (below_substituted below σ B bb) st (count_substituted σ B ∙ suc_same e)),
+      )
+  spine_uses_low D G h (suc n) (app M S) (atom b U) a T fa ba st e = absurd st

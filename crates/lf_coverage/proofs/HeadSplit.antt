@@ -25,7 +25,7 @@ use Rattle.lf_cases.proofs.OutputItems.{lifted}
 use Rattle.lf_cases.proofs.Split.{first_on}
 use Rattle.lf_cases.specs.Reached.{arguments_count, head_masks, taken, with_block, SplitHead, constant_head, bound_head, entry_head, new_entry_head, split_items}
 use Rattle.lf_coverage.specs.HeadOrder.{Offer}
-use Rattle.lf_coverage.specs.Heads.{Listed, no_offer, with_case, without_case, GivesCase, GivesNone, IsHeadSplit, HaveSkeletons, IsTypedCase}
+use Rattle.lf_coverage.specs.Heads.{Listed, no_offer, with_case, without_case, GivesCase, GivesNone, HeadsAreAnswered, IsHeadSplit, HaveSkeletons, IsTypedCase}
 use Rattle.lf_coverage.proofs.GroundTyped.{ground_typed, items_extended}
 use Rattle.lf_coverage.proofs.NewBlock.{moved_at}
 use Rattle.lf_coverage.proofs.SomeHead.{Made, some_head}
@@ -64,6 +64,15 @@ answer_of {Answer} {Cs = Cs} (with_case {D = D} {Cs = Ds} a l) h (inr m) = by (a
     by (inr a) = inr a
 answer_of (without_case a l) h (inr m) = answer_of l h m
 
+-- other answers to the same heads
+pub listed_by : {A B : Offer → Option Case → Type 0} {hs : List Offer} {Cs : List Case} → ((h : Offer) (found : Option Case) → Member h hs → A h found → B h found) → Listed A hs Cs → Listed B hs Cs
+listed_by f no_offer = no_offer
+listed_by f (with_case {h = h} {D = D} a l) = with_case (f h (Some D) (inl refl) a) (listed_by (λ k z m. f k z (inr m)) l)
+listed_by f (without_case {h = h} a l) = without_case (f h None (inl refl) a) (listed_by (λ k z m. f k z (inr m)) l)
+
+abbrev pub answered_by : {Σ : Signature} {W : List Block} {A B : LfType → Offer → Option Case → Type 0} {C : Case} {x : ℕ} {Cs : List Case} (a : HeadsAreAnswered Σ W A C x Cs) → ((h : Offer) (found : Option Case) → Member h a.offers → A a.type h found → B a.type h found) → HeadsAreAnswered Σ W B C x Cs
+answered_by a f = record { type = a.type; at = a.at; is_free = a.is_free; offers = a.offers; are_offers = a.are_offers; in_order = a.in_order; listed = listed_by f a.listed }
+
 pub head_of_case : {Answer : Offer → Option Case → Type 0} {hs : List Offer} {Cs : List Case} → Listed Answer hs Cs → (D : Case) → Member D Cs → (h : Offer) × Member h hs × Answer h (Some D)
 head_of_case no_offer D m = absurd m
 head_of_case {Answer} (with_case {h = h} a l) D (inl e) = (h, inl refl, subst (λ E. Answer h (Some E)) (sym e) a)
@@ -100,7 +109,7 @@ module _ (Σ : Signature) (ok : IsSignature Σ) (W : List Block) (S : ℕ → Bo
       }
 
   pub split_cases_typed : (x : ℕ) (Cs : List Case) → IsHeadSplit Σ W S below C x Cs → (D : Case) → Member D Cs → IsTypedCase Σ W D
-  split_cases_typed x Cs sp D l = let (h, k, a) = head_of_case sp.listed D l in given_case_typed x sp.type h.items h.moved h.head h.type (sp.are_offers.each h k) D a
+  split_cases_typed x Cs sp D l = let (h, k, a) = head_of_case sp.split.answered.listed D l in given_case_typed x sp.split.answered.type h.items h.moved h.head h.type (sp.split.answered.are_offers.each h k) D a
 
 module _ (Σ : Signature) (ok : IsSignature Σ) (W : List Block) (typed : AreTypedBlocks Σ W) (below : ℕ → ℕ → Bool) (s : IsSubordination Σ W below) (Low : ℕ → Bool) (sc : SelfContained Σ W Low) (C : Case) (tc : IsTypedCase Σ W C) (x : ℕ) (Cs : List Case) (sp : IsHeadSplit Σ W Low below C x Cs) where
   -- One of the cases has, under values of its items, the given terms and the arguments that C has.
@@ -118,17 +127,17 @@ module _ (Σ : Signature) (ok : IsSignature Σ) (W : List Block) (typed : AreTyp
     typed' : AreTypedBlocks Σ' W
     typed' B m = extension_keeps_contexts Low Σ Σ' ext (onto B.entries B.some) (typed B m)
 
-    made : Made Σ ok W typed below s Low sc C.items tc.items x sp.type sp.at sp.is_free sp.families sp.takes_below sp.arguments_below Σ' ext G w σ g d
-    made = some_head Σ ok W typed below s Low sc C.items tc.items x sp.type sp.at sp.is_free sp.families sp.takes_below sp.arguments_below Σ' ext G w σ g d
+    made : Made Σ ok W typed below s Low sc C.items tc.items x sp.split.answered.type sp.split.answered.at sp.split.answered.is_free sp.families sp.split.takes_below sp.split.arguments_below Σ' ext G w σ g d
+    made = some_head Σ ok W typed below s Low sc C.items tc.items x sp.split.answered.type sp.split.answered.at sp.split.answered.is_free sp.families sp.split.takes_below sp.split.arguments_below Σ' ext G w σ g d
 
-    by_case : (m : Made Σ ok W typed below s Low sc C.items tc.items x sp.type sp.at sp.is_free sp.families sp.takes_below sp.arguments_below Σ' ext G w σ g d) → ((D : Case) × Member D Cs × GivesCase Σ W Low below C x sp.type m.items m.number m.head m.type D) ⊎ GivesNone Σ W Low below x sp.type m.items m.number m.head m.type → Held
+    by_case : (m : Made Σ ok W typed below s Low sc C.items tc.items x sp.split.answered.type sp.split.answered.at sp.split.answered.is_free sp.families sp.split.takes_below sp.split.arguments_below Σ' ext G w σ g d) → ((D : Case) × Member D Cs × GivesCase Σ W Low below C x sp.split.answered.type m.items m.number m.head m.type D) ⊎ GivesNone Σ W Low below x sp.split.answered.type m.items m.number m.head m.type → Held
     by_case m (inr n) = absurd (n Σ' ext G w m.values m.makes)
     by_case m (inl (D, l, c)) =
-        let I : List Item = split_items below sp.type m.items m.number m.type in
+        let I : List Item = split_items below sp.split.answered.type m.items m.number m.type in
         let k = c.keeps Σ' ext G w m.values m.makes in
         let n : ℕ = m.number + arguments_count m.type in
         let values : ℕ → Image = λ i. c.values (i + n) in
-        let back : (i : ℕ) (t : Skeleton) → SkeletonAt (context_skeletons (items_context C.items)) i t → SkeletonAt (context_skeletons (items_context I)) (i + n) t = behind_split Σ W below C.items sp.type m.items m.number m.head m.type m.is_head in
+        let back : (i : ℕ) (t : Skeleton) → SkeletonAt (context_skeletons (items_context C.items)) i t → SkeletonAt (context_skeletons (items_context I)) (i + n) t = behind_split Σ W below C.items sp.split.answered.type m.items m.number m.head m.type m.is_head in
         let fits : SubstitutionBySkeletons (constant_skeletons Σ) (context_skeletons (items_context I)) (context_skeletons (items_context D.items)) c.values = instance_fits Σ ok W D.items c.typed_items I c.values c.is_instance in
         let fσ : SubstitutionBySkeletons (constant_skeletons Σ') (context_skeletons (items_context C.items)) (context_skeletons (items_context D.items)) values = fits_more Low Σ Σ' ext (context_skeletons (items_context C.items)) (context_skeletons (items_context D.items)) values (λ i t z. fits (i + n) t (back i t z)) in
         let gt : IsTypedSubstitution Σ' (items_context D.items) G k.new_values = ground_typed Σ' ext.ok W typed' w D.items k.new_values (items_extended Low Σ Σ' ext W D.items c.typed_items) k.is_ground in
@@ -146,7 +155,7 @@ module _ (Σ : Signature) (ok : IsSignature Σ) (W : List Block) (typed : AreTyp
         }
 
     held : Held
-    held = by_case made (answer_of sp.listed (record { items = made.items; moved = made.number; head = made.head; type = made.type }) (sp.are_offers.every made.items made.number made.head made.type made.is_head))
+    held = by_case made (answer_of sp.split.answered.listed (record { items = made.items; moved = made.number; head = made.head; type = made.type }) (sp.split.answered.are_offers.every made.items made.number made.head made.type made.is_head))
 
   one_holds : {Σ' : Signature} {G : List LfType} (w : World Σ' W Low G) (F : Known) (σ : ℕ → Image) (T : Spine) (D : Case) (Ds : List Case) → Member D Ds → HoldsDistinctly w D F σ T → OneHolds w Ds F σ T
   one_holds w F σ T D [] m h = absurd m
@@ -154,9 +163,9 @@ module _ (Σ : Signature) (ok : IsSignature Σ) (W : List Block) (typed : AreTyp
   one_holds w F σ T D (E ∷ Ds) (inr m) h = inr (one_holds w F σ T D Ds m h)
 
   like : (D : Case) → Member D Cs → IsLike C D
-  like D m = let (h, k, c) = head_of_case sp.listed D m in by h c
+  like D m = let (h, k, c) = head_of_case sp.split.answered.listed D m in by h c
     where
-      by : (h : Offer) → GivesCase Σ W Low below C x sp.type h.items h.moved h.head h.type D → IsLike C D
+      by : (h : Offer) → GivesCase Σ W Low below C x sp.split.answered.type h.items h.moved h.head h.type D → IsLike C D
       by h c = record {
         family = c.family;
         places = ap covered_places c.arguments ∙ places_put_in (lift_over C.local (λ i. c.values (i + (h.moved + arguments_count h.type)))) C.arguments;

@@ -1,75 +1,44 @@
 -- A case of inputs that is an instance of a clause: the values of the clause in the case, composed with those of a ground instance of the case,
 -- are values of the clause there.
-use Rattle.std.proofs.Common.{◌≡◌, ℕ, zero, suc, ◌+◌, ◌-◌, List, [], ◌∷◌, length, refl, sym, ap, ◌∙◌, subst, arith}
+use Rattle.std.proofs.Common.{◌≡◌, ℕ, zero, suc, List, [], ◌∷◌, length, refl, sym, ap, ◌∙◌, subst}
 use Rattle.std.specs.Prelude.{Bool, true, false, Option, Some, None}
-use Rattle.lf.specs.Syntax.{Term, Spine, lambda, nil, app, LfType, pi, atom, Skeleton, base, arrow, skeleton}
+use Rattle.lf.specs.Syntax.{Term, Spine, lambda, nil, app, LfType, pi, atom, Skeleton, base, arrow, skeleton, weaken}
 use Rattle.lf.specs.Substitution.{Image, keep, put, substitute, substitute_spine, substitute_image, substitute_type, reduce, after}
 use Rattle.lf.specs.SkeletonTyping.{HeadSkeletons, ImageSkeleton, TermSkeleton, SpineSkeleton, SubstitutionBySkeletons}
 use Rattle.lf.specs.Skeletons.{constant_skeletons, family_skeletons, context_skeletons}
-use Rattle.lf.specs.Typing.{Signature, TypeAt, ImageHasType, IsTypedSubstitution, IsType, IsContext, IsSignature}
-use Rattle.lf.specs.Entries.{quantifiers}
+use Rattle.lf.specs.Typing.{Signature, TypeAt, ImageHasType, IsTypedSubstitution, IsContext, IsSignature}
 use Rattle.lf.specs.Variables.{binders, onto, Uses, UsesType, Values, everything}
-use Rattle.lf.specs.Subordination.{Block, AreTypedBlocks}
 use Rattle.lf.specs.Eta.{lambdas}
-use Rattle.lf.specs.Worlds.{World, lift_over, under_all}
-use Rattle.lf.specs.Extension.{Extends}
+use Rattle.lf.specs.Worlds.{lift_over, under_all}
 use Rattle.lf.proofs.Agreement.{agree_on}
 use Rattle.lf.proofs.Composition.{substitutions_compose}
-use Rattle.lf.proofs.ExtensionTyping.{extension_keeps_contexts, extension_keeps_values}
 use Rattle.lf.proofs.Partial.{skeletons_beside, PartialSubstitution, SkeletonTypeBeside, ImageHasType-has_skeleton, type_by_skeletons_beside, partial_substitution_keeps_typing, uses_all}
-use Rattle.lf.proofs.Patch.{pick, patch, patch_same, patched}
+use Rattle.lf.proofs.Patch.{patch, patch_same, patched}
 use Rattle.lf.proofs.SkeletonTypes.{substitutions_compose_type, substitution_keeps_types_by_skeletons}
 use Rattle.lf.proofs.Renaming.{substitute_identity}
 use Rattle.lf.proofs.ToSkeletons.{typed_has_skeleton, skeleton_has_variable}
-use Rattle.lf.proofs.TypeLaws.{skeleton_renamed, skeleton_substituted, substitute_renamed_type}
+use Rattle.lf.proofs.TypeLaws.{skeleton_substituted}
 use Rattle.lf.proofs.Weakening.{declared_is_type}
-use Rattle.lf.proofs.Worlds.{world_is_context}
 use Rattle.lf_checks.specs.Clause.{Clause, scope, outside}
 use Rattle.lf_checks.specs.Marks.{SamePlaces, UsesPlaces}
 use Rattle.lf_checks.specs.Worlded.{IsTerm}
 use Rattle.lf_cases.specs.Cover.{AreTerms}
-use Rattle.lf_cases.specs.Case.{Item, items_context, as_term, IsGroundInstance, HasArguments, covered_places}
-use Rattle.lf_cases.specs.Missing.{AreTypedItems}
+use Rattle.lf_cases.specs.Case.{Item, items_context, as_term, HasArguments, covered_places}
 use Rattle.lf_cases.specs.Reached.{LeavesAll}
-use Rattle.lf_totality.proofs.Core.{out_index, outside_at}
+use Rattle.lf_totality.proofs.Core.{out_index}
 use Rattle.lf_cases.proofs.LongValues.{long_at}
 use Rattle.lf_totality.proofs.OutputCases.{in_covers}
-use Rattle.lf_totality.proofs.Theorem.{outside_from}
 use Rattle.lf_coverage.specs.Heads.{HaveSkeletons}
-use Rattle.lf_coverage.proofs.Carried.{carry, carry_same, beside_nothing, carried, long_term_same, like_type, like_term}
+use Rattle.lf_coverage.proofs.Carried.{carry, carry_same, beside_nothing, carried, long_term_same}
 use Rattle.lf_coverage.proofs.Composing.{composed}
+use Rattle.lf_coverage.proofs.EntryPatternsCarried.{whole_values, own_value, outer_value, whole_typed, whole_terms, whole_same}
 use Rattle.lf_coverage.proofs.Forms.{lambdas_substituted}
-use Rattle.lf_coverage.proofs.GroundTyped.{ground_typed, items_extended, long_equal}
-use Rattle.lf_coverage.proofs.ItemsContext.{items_are_context}
+use Rattle.lf_coverage.proofs.GroundTyped.{long_equal}
 use Rattle.lf_coverage.proofs.Standing.{Outer}
 use Rattle.lf_coverage.proofs.Transfer.{same_in}
 use Rattle.lf_coverage.proofs.Parts.{lambda_same}
-use mathlib.Core.Path.{fun_ext}
 
--- what stands outside a clause, counted from there
-out_sum : (A : LfType) (k : ℕ) → out_index A k ≡ k + quantifiers A
-out_sum (pi A B) k = out_sum B (suc k) ∙ next k (quantifiers B)
-  where
-    next : (k n : ℕ) → suc k + n ≡ k + suc n
-    next k n = omega arith
-out_sum (atom a S) k = none k
-  where
-    none : (k : ℕ) → k ≡ k + 0
-    none k = omega arith
-
-out_back : (A : LfType) (k : ℕ) → out_index A k - quantifiers A ≡ k
-out_back A k = ap (λ i. i - quantifiers A) (out_sum A k) ∙ back k (quantifiers A)
-  where
-    back : (k n : ℕ) → (k + n) - n ≡ k
-    back k n = omega arith
-
-out_type : (T : LfType) (O : List LfType) (k : ℕ) (A : LfType) → TypeAt (binders O T) (out_index T k) A → (X : LfType) × TypeAt O k X × (skeleton A ≡ skeleton X) × ((s : ℕ → Image) → substitute_type reduce s A ≡ substitute_type reduce (λ j. s (out_index T j)) X)
-out_type (pi B T) O k A h =
-    let (Y, (Z, z, q), e, f) = out_type T (B ∷ O) (suc k) A h in
-    (Z, z, e ∙ ap skeleton q ∙ skeleton_renamed suc Z, λ s. f s ∙ ap (substitute_type reduce (λ j. s (out_index T j))) q ∙ substitute_renamed_type reduce (λ j. s (out_index T j)) suc Z)
-out_type (atom a S) O k A h = (A, h, refl, λ s. refl)
-
-term_after : (f : ℕ → Image) (y : Image) → IsTerm y → IsTerm (substitute_image f y)
+pub term_after : (f : ℕ → Image) (y : Image) → IsTerm y → IsTerm (substitute_image f y)
 term_after f (keep j) t = absurd t
 term_after f (put a N) t = tt
 
@@ -78,28 +47,31 @@ pub lambdas_inside : (n : ℕ) (M : Term) → lambdas n (lambda M) ≡ lambda (l
 lambdas_inside zero M = refl
 lambdas_inside (suc n) M = ap lambda (lambdas_inside n M)
 
-same_under : (n : ℕ) {M N : Term} → lambdas n M ≡ lambdas n N → M ≡ N
+pub same_under : (n : ℕ) {M N : Term} → lambdas n M ≡ lambdas n N → M ≡ N
 same_under zero e = e
 same_under (suc n) e = same_under n (lambda_same e)
 
-abbrev arrows : List LfType → Skeleton → Skeleton
+abbrev pub arrows : List LfType → Skeleton → Skeleton
 arrows [] t = t
 arrows (A ∷ D) t = arrows D (arrow (skeleton A) t)
 
-lambdas_skeleton : (κ : HeadSkeletons) (D C : List LfType) (M : Term) (t : Skeleton) → TermSkeleton κ (context_skeletons (onto D C)) M t → TermSkeleton κ (context_skeletons C) (lambdas (length D) M) (arrows D t)
+pub lambdas_skeleton : (κ : HeadSkeletons) (D C : List LfType) (M : Term) (t : Skeleton) → TermSkeleton κ (context_skeletons (onto D C)) M t → TermSkeleton κ (context_skeletons C) (lambdas (length D) M) (arrows D t)
 lambdas_skeleton κ [] C M t m = m
 lambdas_skeleton κ (A ∷ D) C M t m = subst (λ N. TermSkeleton κ (context_skeletons C) N (arrows D (arrow (skeleton A) t))) (lambdas_inside (length D) M) (lambdas_skeleton κ D C (lambda M) (arrow (skeleton A) t) m)
 
-lambdas_use : (D : List LfType) (U : ℕ → Bool) (M : Term) → Uses (under_all D U) M → Uses U (lambdas (length D) M)
+pub lambdas_use : (D : List LfType) (U : ℕ → Bool) (M : Term) → Uses (under_all D U) M → Uses U (lambdas (length D) M)
 lambdas_use [] U M u = u
 lambdas_use (A ∷ D) U M u = subst (Uses U) (lambdas_inside (length D) M) (lambdas_use D U (lambda M) u)
 
-module _ (S : ℕ → Bool) (Σ Σ' : Signature) (x : Extends S Σ Σ') (ok : IsSignature Σ) (W : List Block) (typed : AreTypedBlocks Σ W) (G : List LfType) (w : World Σ' W S G) (I : List Item) (ti : AreTypedItems Σ W I) (σ : ℕ → Image) (g : IsGroundInstance w I σ) (c : Clause) (ct : IsContext Σ (scope c)) (U : ℕ → Bool) (τ : ℕ → Image) (tv : Values Σ U (scope c) (items_context I) τ) (outer : ℕ → Image) (out : Outer Σ' G c σ τ outer) where
-  abbrev κ : HeadSkeletons
-  κ = constant_skeletons Σ'
+-- what stands outside a clause is in its scope
+out_in : (T : LfType) (O : List LfType) (k : ℕ) (X : LfType) → TypeAt O k X → (A : LfType) × TypeAt (binders O T) (out_index T k) A
+out_in (pi A B) O k X g = out_in B (A ∷ O) (suc k) (weaken X) (X, g, refl)
+out_in (atom a S) O k X g = (X, g)
 
-  abbrev C : List LfType
-  C = items_context I
+-- The values τ of the variables in U of a clause, over the context C, composed with values σ of C in G.
+module _ (Σ : Signature) (ok : IsSignature Σ) (G : List LfType) (cg : IsContext Σ G) (C : List LfType) (ic : IsContext Σ C) (σ : ℕ → Image) (ground : IsTypedSubstitution Σ C G σ) (c : Clause) (ct : IsContext Σ (scope c)) (U : ℕ → Bool) (τ : ℕ → Image) (tv : Values Σ U (scope c) C τ) (outer : ℕ → Image) (out : Outer Σ G c σ τ outer) where
+  abbrev κ : HeadSkeletons
+  κ = constant_skeletons Σ
 
   abbrev O : List LfType
   O = scope c
@@ -110,32 +82,17 @@ module _ (S : ℕ → Bool) (Σ Σ' : Signature) (x : Extends S Σ Σ') (ok : Is
   abbrev Δ : List Skeleton
   Δ = skeletons_beside (skeletons_beside [] (scope c)) G
 
-  typed' : AreTypedBlocks Σ' W
-  typed' B m = extension_keeps_contexts S Σ Σ' x (onto B.entries B.some) (typed B m)
-
-  scope_typed : IsContext Σ' O
-  scope_typed = extension_keeps_contexts S Σ Σ' x O ct
-
-  items_typed : IsContext Σ' C
-  items_typed = items_are_context Σ' x.ok W typed' I (items_extended S Σ Σ' x W I ti)
-
-  ground : IsTypedSubstitution Σ' C G σ
-  ground = ground_typed Σ' x.ok W typed' w I σ (items_extended S Σ Σ' x W I ti) g
-
-  values' : Values Σ' U O C τ
-  values' = extension_keeps_values S Σ Σ' x U O C τ tv
-
   abbrev τ' : ℕ → Image
   τ' = patch U C τ
 
   abbrev σ' : ℕ → Image
   σ' = carry C G σ
 
-  of_clause : PartialSubstitution Σ' x.ok [] P U O C τ'
-  of_clause = patched Σ' x.ok U O C τ scope_typed items_typed values'
+  of_clause : PartialSubstitution Σ ok [] P U O C τ'
+  of_clause = patched Σ ok U O C τ ct ic tv
 
-  of_case : PartialSubstitution Σ' x.ok P P everything C G σ'
-  of_case = carried Σ' x.ok P C G σ items_typed (world_is_context w) ground
+  of_case : PartialSubstitution Σ ok P P everything C G σ'
+  of_case = carried Σ ok P C G σ ic cg ground
 
   abbrev ω : ℕ → Image
   ω = after σ' τ'
@@ -143,78 +100,50 @@ module _ (S : ℕ → Bool) (Σ Σ' : Signature) (x : Extends S Σ Σ') (ok : Is
   ω_fits_beside : SubstitutionBySkeletons κ P Δ ω
   ω_fits_beside = composed κ P (skeletons_beside P C) Δ τ' σ' of_clause.sk of_case.sk
 
-  ω_fits : SubstitutionBySkeletons κ (context_skeletons O) Δ ω
+  pub ω_fits : SubstitutionBySkeletons κ (context_skeletons O) Δ ω
   ω_fits = subst (λ Γ. SubstitutionBySkeletons κ Γ Δ ω) (beside_nothing O) ω_fits_beside
-
-  -- the values of the clause
-  abbrev pub v : ℕ → Image
-  v i = pick (outside c.type everything i) (outer (i - quantifiers c.type)) (ω i)
-
-  v_own : (i : ℕ) → outside c.type everything i ≡ false → v i ≡ ω i
-  v_own i e = ap (λ b. pick b (outer (i - quantifiers c.type)) (ω i)) e
-
-  pub v_out : (k : ℕ) → v (out_index c.type k) ≡ outer k
-  v_out k = ap (λ b. pick b (outer (out_index c.type k - quantifiers c.type)) (ω (out_index c.type k))) (outside_at c.type everything k) ∙ ap outer (out_back c.type k)
-
-  out_typed : (i : ℕ) (A : LfType) → TypeAt O i A → outside c.type everything i ≡ true → ImageHasType Σ' G (v i) (substitute_type reduce v A)
-  out_typed i A h e =
-      let (k, p, _) = outside_from c.type everything i e in
-      let (X, z, _, f) = out_type c.type c.outer k A (subst (λ j. TypeAt O j A) p h) in
-      subst (ImageHasType Σ' G (v i)) (sym (f v ∙ ap (λ s. substitute_type reduce s X) (fun_ext v_out))) (subst (λ y. ImageHasType Σ' G y (substitute_type reduce outer X)) (sym (ap v p ∙ v_out k)) (out.typed k X z))
-
-  v_fits : SubstitutionBySkeletons κ (context_skeletons O) Δ v
-  v_fits i t s = by (outside c.type everything i) refl
-    where
-      by : (b : Bool) → outside c.type everything i ≡ b → ImageSkeleton κ Δ (v i) t
-      by true e = let (A, h, q) = skeleton_has_variable O i t s in subst (ImageSkeleton κ Δ (v i)) (skeleton_substituted reduce v A ∙ q) (ImageHasType-has_skeleton Σ' x.ok P G (v i) (substitute_type reduce v A) (out_typed i A h e))
-      by false e = subst (λ y. ImageSkeleton κ Δ y t) (sym (v_own i e)) (ω_fits i t s)
 
   same_term : (N : Term) (t : Skeleton) → TermSkeleton κ (context_skeletons C) N t → substitute reduce σ' N ≡ substitute reduce σ N
   same_term N t m = same_in κ (context_skeletons C) σ' σ (λ i s q. let (A, h, e) = skeleton_has_variable C i s q in carry_same C G σ i (in_covers C i A h)) N t m
 
-  same_image : (y : Image) (Z : LfType) → ImageHasType Σ' C y Z → substitute_image σ' y ≡ substitute_image σ y
+  same_image : (y : Image) (Z : LfType) → ImageHasType Σ C y Z → substitute_image σ' y ≡ substitute_image σ y
   same_image (keep j) Z h = carry_same C G σ j (in_covers C j Z h)
-  same_image (put a N) Z (e, n) = ap (put a) (same_term N (skeleton Z) (typed_has_skeleton Σ' C N Z n))
+  same_image (put a N) Z (e, n) = ap (put a) (same_term N (skeleton Z) (typed_has_skeleton Σ C N Z n))
 
-  same_value : (i : ℕ) (X : LfType) → TypeAt O i X → U i ≡ true → as_term (skeleton X) (ω i) ≡ as_term (skeleton X) (v i)
-  same_value i X h u = by (outside c.type everything i) refl
-    where
-      by : (b : Bool) → outside c.type everything i ≡ b → as_term (skeleton X) (ω i) ≡ as_term (skeleton X) (v i)
-      by true e =
-          let (k, p, _) = outside_from c.type everything i e in
-          let (Y, z, q, _) = out_type c.type c.outer k X (subst (λ j. TypeAt O j X) p h) in
-          ap (as_term (skeleton X)) (ap (substitute_image σ') (sym (patch_same U C τ i u)) ∙ same_image (τ i) (substitute_type reduce τ X) (values'.typed i X h u) ∙ ap (λ j. substitute_image σ (τ j)) p)
-          ∙ ap (λ a. as_term a (substitute_image σ (τ (out_index c.type k)))) q
-          ∙ out.same k Y z
-          ∙ ap (λ a. as_term a (outer k)) (sym q)
-          ∙ ap (as_term (skeleton X)) (sym (ap v p ∙ v_out k))
-      by false e = ap (as_term (skeleton X)) (sym (v_own i e))
+  pub composed_is : (i : ℕ) (A : LfType) → TypeAt O i A → U i ≡ true → ω i ≡ substitute_image σ (τ i)
+  composed_is i A h u = ap (substitute_image σ') (sym (patch_same U C τ i u)) ∙ same_image (τ i) (substitute_type reduce τ A) (tv.typed i A h u)
 
-  image_after : (y : Image) (Z : LfType) → SkeletonTypeBeside Σ' x.ok P C Z → ImageHasType Σ' C y Z → ImageHasType Σ' G (substitute_image σ' y) (substitute_type reduce σ' Z)
+  image_after : (y : Image) (Z : LfType) → SkeletonTypeBeside Σ ok P C Z → ImageHasType Σ C y Z → ImageHasType Σ G (substitute_image σ' y) (substitute_type reduce σ' Z)
   image_after (keep j) Z t h = of_case.typed j Z h refl
-  image_after (put a N) Z t (e, n) = (skeleton_substituted reduce σ' Z ∙ e, partial_substitution_keeps_typing Σ' x.ok P P everything C G σ' N Z of_case t (uses_all everything N (λ i. refl)) n)
+  image_after (put a N) Z t (e, n) = (skeleton_substituted reduce σ' Z ∙ e, partial_substitution_keeps_typing Σ ok P P everything C G σ' N Z of_case t (uses_all everything N (λ i. refl)) n)
 
-  type_here : (i : ℕ) (A : LfType) → TypeAt O i A → IsType Σ' O A
-  type_here i A h = declared_is_type Σ' x.ok O i A scope_typed h
-
-  ω_typed : (i : ℕ) (A : LfType) → TypeAt O i A → U i ≡ true → ImageHasType Σ' G (ω i) (substitute_type reduce ω A)
+  pub ω_typed : (i : ℕ) (A : LfType) → TypeAt O i A → U i ≡ true → ImageHasType Σ G (ω i) (substitute_type reduce ω A)
   ω_typed i A h u =
-      let ta = type_by_skeletons_beside Σ' [] O A (type_here i A h) in
-      subst (ImageHasType Σ' G (ω i)) (substitutions_compose_type (family_skeletons Σ') κ P (skeletons_beside P C) Δ τ' σ' A of_clause.sk of_case.sk ta) (image_after (τ' i) (substitute_type reduce τ' A) (substitution_keeps_types_by_skeletons (family_skeletons Σ') κ P (skeletons_beside P C) τ' A of_clause.sk ta) (of_clause.typed i A h u))
+      let ta = type_by_skeletons_beside Σ [] O A (declared_is_type Σ ok O i A ct h) in
+      subst (ImageHasType Σ G (ω i)) (substitutions_compose_type (family_skeletons Σ) κ P (skeletons_beside P C) Δ τ' σ' A of_clause.sk of_case.sk ta) (image_after (τ' i) (substitute_type reduce τ' A) (substitution_keeps_types_by_skeletons (family_skeletons Σ) κ P (skeletons_beside P C) τ' A of_clause.sk ta) (of_clause.typed i A h u))
+
+  pub fit : (y : Image) (A : LfType) → ImageHasType Σ G y A → ImageSkeleton κ Δ y (skeleton A)
+  fit y A h = ImageHasType-has_skeleton Σ ok P G y A h
+
+  pub outer_same : (k : ℕ) (X : LfType) → TypeAt c.outer k X → U (out_index c.type k) ≡ true → as_term (skeleton X) (ω (out_index c.type k)) ≡ as_term (skeleton X) (outer k)
+  outer_same k X y u = let (A, h) = out_in c.type c.outer k X y in ap (as_term (skeleton X)) (composed_is (out_index c.type k) A h u) ∙ out.same k X y
+
+  -- the values of the clause
+  abbrev pub v : ℕ → Image
+  v = whole_values Σ ok G Δ fit c ct U tv.closed ω ω_fits ω_typed outer out.typed outer_same
+
+  pub v_out : (k : ℕ) → v (out_index c.type k) ≡ outer k
+  v_out = outer_value Σ ok G Δ fit c ct U tv.closed ω ω_fits ω_typed outer out.typed outer_same
+
+  pub value_is : (i : ℕ) (A : LfType) → TypeAt O i A → outside c.type everything i ≡ false → U i ≡ true → v i ≡ substitute_image σ (τ i)
+  value_is i A h o u = own_value Σ ok G Δ fit c ct U tv.closed ω ω_fits ω_typed outer out.typed outer_same i o ∙ composed_is i A h u
 
   -- They are typed, where the clause's own variables are of U.
-  pub v_typed : (V : ℕ → Bool) → ((i : ℕ) → outside c.type everything i ≡ false → V i ≡ true → U i ≡ true) → ((i : ℕ) (A : LfType) → TypeAt O i A → V i ≡ true → UsesType V A) → Values Σ' V O G v
-  v_typed V within closed = record {
-    typed = λ i A h u. by i A h u (outside c.type everything i) refl;
-    closed = closed;
-  }
-    where
-      by : (i : ℕ) (A : LfType) → TypeAt O i A → V i ≡ true → (b : Bool) → outside c.type everything i ≡ b → ImageHasType Σ' G (v i) (substitute_type reduce v A)
-      by i A h u true e = out_typed i A h e
-      by i A h u false e = subst (ImageHasType Σ' G (v i)) (like_type Σ' O Δ U ω v ω_fits v_fits same_value A (type_here i A h) (values'.closed i A h (within i e u))) (subst (λ y. ImageHasType Σ' G y (substitute_type reduce ω A)) (sym (v_own i e)) (ω_typed i A h (within i e u)))
+  pub v_typed : (V : ℕ → Bool) → ((i : ℕ) → outside c.type everything i ≡ false → V i ≡ true → U i ≡ true) → ((i : ℕ) (A : LfType) → TypeAt O i A → V i ≡ true → UsesType V A) → Values Σ V O G v
+  v_typed = whole_typed Σ ok G Δ fit c ct U tv.closed ω ω_fits ω_typed outer out.typed outer_same
 
   pub v_terms : (V : ℕ → Bool) → ((i : ℕ) → outside c.type everything i ≡ false → V i ≡ true → U i ≡ true) → AreTerms c U τ → AreTerms c V v
-  v_terms V within ts i e u = subst IsTerm (sym (v_own i e)) (term_after σ' (τ' i) (subst IsTerm (patch_same U C τ i (within i e u)) (ts i e (within i e u))))
+  v_terms V within ts = whole_terms Σ ok G Δ fit c ct U tv.closed ω ω_fits ω_typed outer out.typed outer_same V within (λ i o u. term_after σ' (τ' i) (subst IsTerm (patch_same U C τ i u) (ts i o u)))
 
   -- what a term of the clause is in the case, it is in the ground instance
   pub v_same : (Q : Term) (t : Skeleton) → TermSkeleton κ (context_skeletons O) Q t → Uses U Q → (M : Term) (s : Skeleton) → TermSkeleton κ (context_skeletons C) M s → M ≡ substitute reduce τ Q → substitute reduce σ M ≡ substitute reduce v Q
@@ -222,7 +151,7 @@ module _ (S : ℕ → Bool) (Σ Σ' : Signature) (x : Extends S Σ Σ') (ok : Is
       sym (same_term M s m)
       ∙ ap (substitute reduce σ') (e ∙ agree_on reduce U τ τ' Q (patch_same U C τ) u)
       ∙ substitutions_compose κ P (skeletons_beside P C) Δ τ' σ' Q t of_clause.sk of_case.sk (subst (λ Γ. TermSkeleton κ Γ Q t) (sym (beside_nothing O)) q)
-      ∙ like_term Σ' O Δ U ω v ω_fits v_fits same_value Q t q u
+      ∙ whole_same Σ ok G Δ fit c ct U tv.closed ω ω_fits ω_typed outer out.typed outer_same Q t q u
 
   -- under local variables too
   pub v_deep : (D L : List LfType) → length L ≡ length D → (Q : Term) (t : Skeleton) → TermSkeleton κ (context_skeletons (onto D O)) Q t → Uses (under_all D U) Q → (M : Term) (s : Skeleton) → TermSkeleton κ (context_skeletons (onto L C)) M s → M ≡ substitute reduce (lift_over D τ) Q → substitute reduce (lift_over L σ) M ≡ substitute reduce (lift_over D v) Q
@@ -236,7 +165,7 @@ module _ (S : ℕ → Bool) (Σ Σ' : Signature) (x : Extends S Σ Σ') (ok : Is
 
   -- a given term
   pub v_given : (i : ℕ) (a : Skeleton) (M : Term) (s : Skeleton) → outside c.type everything i ≡ false → U i ≡ true → TermSkeleton κ (context_skeletons C) M s → τ i ≡ put a M → v i ≡ put a (substitute reduce σ M)
-  v_given i a M s o u m e = v_own i o ∙ ap (substitute_image σ') (sym (patch_same U C τ i u) ∙ e) ∙ ap (put a) (same_term M s m)
+  v_given i a M s o u m e = own_value Σ ok G Δ fit c ct U tv.closed ω ω_fits ω_typed outer out.typed outer_same i o ∙ ap (substitute_image σ') (sym (patch_same U C τ i u) ∙ e) ∙ ap (put a) (same_term M s m)
 
   module _ (D L : List LfType) (l : length L ≡ length D) (ρ : ℕ → Image) (still : (M : Term) (t : Skeleton) → TermSkeleton κ (context_skeletons (onto L C)) M t → substitute reduce (lift_over L ρ) M ≡ M) where
     -- so it is in the places

@@ -5,15 +5,15 @@ use Rattle.lf.specs.Syntax.{Term, LfType, pi, atom, Skeleton, base, kind_skeleto
 use Rattle.lf.specs.Substitution.{Image, put, substitute, substitute_spine, reduce}
 use Rattle.lf.specs.SkeletonTyping.{HeadSkeletons, TermSkeleton, SpineSkeleton, SubstitutionBySkeletons}
 use Rattle.lf.specs.Skeletons.{constant_skeletons, context_skeletons}
-use Rattle.lf.specs.Typing.{TypeAt, IsType}
+use Rattle.lf.specs.Typing.{TypeAt, IsType, IsContext, IsTypedSubstitution}
 use Rattle.lf.specs.Variables.{target, target_arguments, binders, onto, UsesType, Values, everything}
 use Rattle.lf.specs.Worlds.{lift_over, under_all}
-use Rattle.lf.specs.Subordination.{Member}
+use Rattle.lf.specs.Subordination.{Member, AreTypedBlocks}
 use Rattle.lf_coverage.specs.Heads.{IsHeadSplit, IsTypedCase, SplitsByHeads}
 use Rattle.lf_coverage.specs.UnifiedSplit.{SplitsByUnification}
 use Rattle.lf_coverage.proofs.HeadSplit.{split_cases_typed}
 use Rattle.lf_cases.specs.Case.{Case}
-use Rattle.lf.proofs.ExtensionTyping.{extension_keeps_types}
+use Rattle.lf.proofs.ExtensionTyping.{extension_keeps_contexts, extension_keeps_types, extension_keeps_values}
 use Rattle.lf.proofs.Partial.{kind_spine_has_skeleton_beside}
 use Rattle.lf_checks.specs.Tests.{either}
 use Rattle.lf_checks.specs.Clause.{Clause, scope, outside}
@@ -21,7 +21,7 @@ use Rattle.lf_checks.specs.Marks.{SamePlaces, UsesPlaces}
 use Rattle.lf_checks.specs.Ground.{UsesGoal}
 use Rattle.lf_cases.specs.Case.{Item, items_context, covered_places}
 use Rattle.lf_cases.specs.Pattern.{Pattern, given_at, is_there, is_given}
-use Rattle.lf_cases.specs.Missing.{IsTypedInstance, StandsAmong}
+use Rattle.lf_cases.specs.Missing.{AreTypedItems, IsTypedInstance, StandsAmong}
 use Rattle.lf_cases.proofs.Assemble.{end_typed, binders_typed}
 use Rattle.lf_totality.proofs.Core.{outer_at}
 use Rattle.lf_cases.proofs.GroundTypes.{either_left, outside_types, clause_typed}
@@ -34,7 +34,10 @@ use Rattle.lf_checks.proofs.StrictTypes.{either_cases}
 use Rattle.lf_totality.proofs.GoalHolds.{arguments_under}
 use Rattle.lf_coverage.specs.Heads.{HaveSkeletons}
 use Rattle.lf_coverage.specs.Laws.{LeafIsInstanceCase, LeavesCover, HeadIsTypedPattern, SubgoalIsTypedPattern}
+use Rattle.lf.proofs.Worlds.{world_is_context}
 use Rattle.lf_coverage.proofs.Carried.{beside_nothing}
+use Rattle.lf_coverage.proofs.GroundTyped.{ground_typed, items_extended}
+use Rattle.lf_coverage.proofs.ItemsContext.{items_are_context}
 use Rattle.lf_coverage.proofs.FirstStands.{stands_for}
 use Rattle.lf_coverage.proofs.Leaf.{v, v_out, v_typed, v_terms, v_given, v_places, leaves_terms, leaves_deep}
 use Rattle.lf_coverage.proofs.Runs.{other_run, head_splits_cover}
@@ -43,7 +46,7 @@ use Rattle.lf_coverage.proofs.Unified.{unified_split}
 use Rattle.lf_coverage.proofs.Parts.{some_same}
 use Rattle.lf_coverage.proofs.Choices.{second_of}
 
-goal_places : (D : List LfType) (U : ℕ → Bool) (m : List Bool) (A : LfType) → UsesGoal (under_all D U) m A → UsesPlaces (under_all (binders D A) U) m (target_arguments A)
+pub goal_places : (D : List LfType) (U : ℕ → Bool) (m : List Bool) (A : LfType) → UsesGoal (under_all D U) m A → UsesPlaces (under_all (binders D A) U) m (target_arguments A)
 goal_places D U m (pi B A) u = goal_places (B ∷ D) U m A u.1
 goal_places D U m (atom a S) u = u
 
@@ -75,6 +78,12 @@ leaf_is_instance Σ ok W typed S ps C leaf Σ' x G w F σ0 T hd =
     let places : List Bool = covered_places C.arguments in
     let ct = leaf.pattern_typed.clause_typed in
     let tv : Values Σ s.used (scope c) (items_context I) s.clause_values = subst (λ J. Values Σ s.used (scope c) (items_context J) s.clause_values) e s.typed_values in
+    let more : AreTypedBlocks Σ' W = λ B m. extension_keeps_contexts S Σ Σ' x (onto B.entries B.some) (typed B m) in
+    let items' : AreTypedItems Σ' W I = items_extended S Σ Σ' x W I leaf.typed.items in
+    let case_context : IsContext Σ' (items_context I) = items_are_context Σ' x.ok W more I items' in
+    let ground : IsTypedSubstitution Σ' (items_context I) G h.values = ground_typed Σ' x.ok W more w I h.values items' h.is_ground in
+    let clause_context : IsContext Σ' (scope c) = extension_keeps_contexts S Σ Σ' x (scope c) ct in
+    let tv' : Values Σ' s.used (scope c) (items_context I) s.clause_values = extension_keeps_values S Σ Σ' x s.used (scope c) (items_context I) s.clause_values tv in
     let (it, sf) = here p s.items I e s.case_values s.is_instance s.clause_values s.stands in
     let (outer, stands, out) = stands_for Σ Σ' x.ok w I h.values h.is_ground c p.origin p.at_first s.case_values it l s.clause_values sf F h.first in
     let fr : SubstitutionBySkeletons (constant_skeletons Σ') Γ Γ s.case_values = fits_more S Σ Σ' x Γ Γ s.case_values (instance_fits Σ ok W I leaf.typed.items I s.case_values it) in
@@ -86,10 +95,10 @@ leaf_is_instance Σ ok W typed S ps C leaf Σ' x G w F σ0 T hd =
     let t' : IsType Σ' (scope c) A = extension_keeps_types S Σ Σ' x (scope c) A leaf.pattern_typed.type_typed in
     let (L, el, fit) = end_typed Σ' x.ok A (scope c) t' in
     let sp : SpineSkeleton (constant_skeletons Σ') (context_skeletons (onto D (scope c))) (target_arguments A) (kind_skeleton (target A) L) (base (target A)) = subst (λ O. SpineSkeleton (constant_skeletons Σ') (context_skeletons O) (target_arguments A) (kind_skeleton (target A) L) (base (target A))) (binders_over [] A (scope c)) (subst (λ Δ. SpineSkeleton (constant_skeletons Σ') Δ (target_arguments A) (kind_skeleton (target A) L) (base (target A))) (beside_nothing (binders (scope c) A)) (kind_spine_has_skeleton_beside Σ' [] (target A) (binders (scope c) A) (target_arguments A) L fit)) in
-    let v' : ℕ → Image = v S Σ Σ' x ok W typed G w I leaf.typed.items h.values h.is_ground c ct s.used s.clause_values tv outer out in
+    let v' : ℕ → Image = v Σ' x.ok G (world_is_context w) (items_context I) case_context h.values ground c clause_context s.used s.clause_values tv' outer out in
     let clause_same : SamePlaces places s.tuple (substitute_spine reduce (lift_over D s.clause_values) (target_arguments A)) = subst (SamePlaces places s.tuple) (arguments_under [] A s.clause_values) s.of_clause in
     let used : UsesPlaces (under_all D s.used) places (target_arguments A) = goal_places [] s.used places A s.uses in
-    let same : SamePlaces places T (substitute_spine reduce (lift_over D v') (target_arguments A)) = v_places S Σ Σ' x ok W typed G w I leaf.typed.items h.values h.is_ground c ct s.used s.clause_values tv outer out D C.local leaf.same_length s.case_values (leaves_deep Σ' I s.case_values fr l C.local) C.arguments T s.tuple (target_arguments A) (kind_skeleton (target A) L) (base (target A)) hm sp h.has_arguments s.of_case clause_same used in (
+    let same : SamePlaces places T (substitute_spine reduce (lift_over D v') (target_arguments A)) = v_places Σ' x.ok G (world_is_context w) (items_context I) case_context h.values ground c clause_context s.used s.clause_values tv' outer out D C.local leaf.same_length s.case_values (leaves_deep Σ' I s.case_values fr l C.local) C.arguments T s.tuple (target_arguments A) (kind_skeleton (target A) L) (base (target A)) hm sp h.has_arguments s.of_case clause_same used in (
       p,
       leaf.listed,
       record {
@@ -100,14 +109,14 @@ leaf_is_instance Σ ok W typed S ps C leaf Σ' x G w F σ0 T hd =
         uses = goal_within s.used V places A (λ j z. either_in (outside c.type everything j) z) s.uses;
         strict = leaf.is_instance.3;
         values = v';
-        typed = v_typed S Σ Σ' x ok W typed G w I leaf.typed.items h.values h.is_ground c ct s.used s.clause_values tv outer out V within closed;
-        agrees = λ k X y. outer_at c.type v' k ∙ v_out S Σ Σ' x ok W typed G w I leaf.typed.items h.values h.is_ground c ct s.used s.clause_values tv outer out k;
+        typed = v_typed Σ' x.ok G (world_is_context w) (items_context I) case_context h.values ground c clause_context s.used s.clause_values tv' outer out V within closed;
+        agrees = λ k X y. outer_at c.type v' k ∙ v_out Σ' x.ok G (world_is_context w) (items_context I) case_context h.values ground c clause_context s.used s.clause_values tv' outer out k;
         given = λ i M k q. let o = leaf.given_own i (given_is C.given i M q) in
             let (a, r) = s.given i M q in
             let (b, z) = h.given i M q in
             let (t, n) = given_skeleton (constant_skeletons Σ') Γ C.given i M hg q in
-            (a, b, substitute reduce h.values M, v_given S Σ Σ' x ok W typed G w I leaf.typed.items h.values h.is_ground c ct s.used s.clause_values tv outer out i a M t o (within i o k) n (r ∙ ap (put a) (leaves_terms Σ' I s.case_values fr l M t n)), z);
-        terms = v_terms S Σ Σ' x ok W typed G w I leaf.typed.items h.values h.is_ground c ct s.used s.clause_values tv outer out V within s.terms;
+            (a, b, substitute reduce h.values M, v_given Σ' x.ok G (world_is_context w) (items_context I) case_context h.values ground c clause_context s.used s.clause_values tv' outer out i a M t o (within i o k) n (r ∙ ap (put a) (leaves_terms Σ' I s.case_values fr l M t n)), z);
+        terms = v_terms Σ' x.ok G (world_is_context w) (items_context I) case_context h.values ground c clause_context s.used s.clause_values tv' outer out V within s.terms;
         same = subst (SamePlaces places T) (sym (arguments_under [] A v')) same;
       },
     )

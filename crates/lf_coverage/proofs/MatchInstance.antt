@@ -86,7 +86,7 @@ pub matching_decides : MatchingDecides
 matching_decides Σ ok W typed C p tp k tb own cl = (λ i. instance_matches Σ ok W typed C p tp k tb cl i, λ m. match_is_instance Σ ok W typed C tb.by_skeletons p k own m)
 
 -- What matching tests is decided.
-both_decided : {A B : Type 0} → Dec A → Dec B → Dec (A × B)
+pub both_decided : {A B : Type 0} → Dec A → Dec B → Dec (A × B)
 both_decided (yes a) (yes b) = yes (a, b)
 both_decided (yes a) (no n) = no (λ h. n h.1)
 both_decided (no n) d = no (λ h. n h.0)
@@ -117,11 +117,11 @@ places_decided U (b ∷ m) nil = yes tt
 places_decided U (true ∷ m) (app M S) = both_decided (uses_decided U M) (places_decided U m S)
 places_decided U (false ∷ m) (app M S) = places_decided U m S
 
-goal_decided : (U : ℕ → Bool) (m : List Bool) (A : LfType) → Dec (UsesGoal U m A)
+pub goal_decided : (U : ℕ → Bool) (m : List Bool) (A : LfType) → Dec (UsesGoal U m A)
 goal_decided U m (pi A B) = both_decided (type_uses_decided U A) (goal_decided (under U) m B)
 goal_decided U m (atom a S) = places_decided U m S
 
-same_decided : (Ms : List (Option Term)) (T : Spine) → Dec (ArePlaces Ms T)
+pub same_decided : (Ms : List (Option Term)) (T : Spine) → Dec (ArePlaces Ms T)
 same_decided [] nil = yes tt
 same_decided [] (app N T) = no (λ h. h)
 same_decided (Some M ∷ Ms) nil = no (λ h. h)
@@ -161,7 +161,7 @@ module _ (Σ : Signature) (C : Case) (p : Pattern) (k : IsConstants p.origin) (c
   abbrev V : ℕ → Bool
   V = ground_in p (covered_places C.arguments) C.given
 
-  terms_decided : Dec (AreTerms p.clause (ground_in p (covered_places C.arguments) C.given) (found_values C p))
+  pub terms_decided : Dec (AreTerms p.clause (ground_in p (covered_places C.arguments) C.given) (found_values C p))
   terms_decided = elim (all_decided (scope p.clause) (λ i A. V i ≡ true → IsTerm (found_values C p i)) (λ i A g. implied (is_true (V i)) (term_decided (found_values C p i)))) [ yes h ↦ yes (λ i o v. let (A, g) = own_type p.clause i o in h i A g v) | no n ↦ no (λ h. n (λ i A g v. h i (is_own p.origin k i A g) v)) ]
 
   typed_decided : Dec ((i : ℕ) (A : LfType) → TypeAt (scope p.clause) i A → ground_in p (covered_places C.arguments) C.given i ≡ true → ImageHasType Σ (items_context C.items) (found_values C p i) (substitute_type reduce (found_values C p) A))

@@ -80,7 +80,7 @@ one_shift l (Some (n, v)) = ap (λ i. Some (n, i)) (next v l)
     next : (v l : ℕ) → suc (v + l) ≡ v + suc l
     next v l = omega arith
 
-reading_shift : (first : ℕ) (Bs : List Block) (θ : ℕ → ℕ → Image) (X O : List LfType) (c : ℕ) → entry_reading first Bs θ (length (onto O X)) c ≡ rename_read (shift_by (length O)) (entry_reading first Bs θ (length X) c)
+pub reading_shift : (first : ℕ) (Bs : List Block) (θ : ℕ → ℕ → Image) (X O : List LfType) (c : ℕ) → entry_reading first Bs θ (length (onto O X)) c ≡ rename_read (shift_by (length O)) (entry_reading first Bs θ (length X) c)
 reading_shift first Bs θ X [] c = no_shift (entry_reading first Bs θ (length X) c)
 reading_shift first Bs θ X (A ∷ O) c = reading_next first Bs θ (length (onto O X)) c ∙ ap (rename_read suc) (reading_shift first Bs θ X O c) ∙ one_shift (length O) (entry_reading first Bs θ (length X) c)
 
@@ -132,7 +132,7 @@ module _ (Σ Σ' : Signature) (S : ℕ → Bool) (x : Extends S Σ Σ') (W : Lis
   last : (j : ℕ) → j ≡ length C.blocks → θ₂ j ≡ φ
   last j e = ap (λ b. cond b φ (θ j)) (ap (same_number j) (sym e) ∙ number_itself j)
 
-  agree : (m c : ℕ) (A : LfType) → Σ₁.types c ≡ Some A → f₂ m c ≡ f m c
+  pub agree : (m c : ℕ) (A : LfType) → Σ₁.types c ≡ Some A → f₂ m c ≡ f m c
   agree m c A e = ap (λ Ds. read_entry θ₂ m (entry_constant zero first Ds c)) blocks_are ∙ at (else_cases (Σ.types c) (entry_type (entry_constant zero first Bs c)) A e)
     where
       entry_at : (y : Option EntryConstant) → entry_constant zero first Bs c ≡ y → entry_type y ≡ Some A → read_entry θ₂ m (entry_constant zero first (Bs ++ B ∷ []) c) ≡ f m c

@@ -45,7 +45,7 @@ module _ (Σ : Signature) where
   constant_is_old c t (Some A) e q = (A, e)
 
   mutual
-    skeleton_only : (Γ : List Skeleton) (M : Term) (t : Skeleton) → TermSkeleton (constant_skeletons Σ) Γ M t → OnlyConstants (IsOld Σ) M
+    pub skeleton_only : (Γ : List Skeleton) (M : Term) (t : Skeleton) → TermSkeleton (constant_skeletons Σ) Γ M t → OnlyConstants (IsOld Σ) M
     skeleton_only Γ (lambda M) (arrow a b) m = skeleton_only (a ∷ Γ) M b m
     skeleton_only Γ (lambda M) (base d) m = absurd m
     skeleton_only Γ (root h S) (arrow a b) m = absurd m
@@ -59,20 +59,20 @@ module _ (Σ : Signature) where
     skeleton_spine_only Γ (app M S) (base d) u s = absurd s
 
 -- under a local context
-over_none : (D : List LfType) (f : ℕ → Option (ℕ × ℕ)) (c : ℕ) → f c ≡ None → read_over D f c ≡ None
+pub over_none : (D : List LfType) (f : ℕ → Option (ℕ × ℕ)) (c : ℕ) → f c ≡ None → read_over D f c ≡ None
 over_none [] f c e = e
 over_none (A ∷ D) f c e = ap weaken_read (over_none D f c e)
 
-over_instance : (D : List LfType) (δ : ℕ → Image) (f : ℕ → Option (ℕ × ℕ)) → read_over (instance D δ) f ≡ read_over D f
+pub over_instance : (D : List LfType) (δ : ℕ → Image) (f : ℕ → Option (ℕ × ℕ)) → read_over (instance D δ) f ≡ read_over D f
 over_instance [] δ f = refl
 over_instance (A ∷ D) δ f = ap (λ g c. weaken_read (g c)) (over_instance D δ f)
 
-over_images : (D : List LfType) (f : ℕ → Option (ℕ × ℕ)) (δ : ℕ → Image) (i : ℕ) → read_image (read_over D f) (lift_over D δ i) ≡ lift_over D (λ j. read_image f (δ j)) i
+pub over_images : (D : List LfType) (f : ℕ → Option (ℕ × ℕ)) (δ : ℕ → Image) (i : ℕ) → read_image (read_over D f) (lift_over D δ i) ≡ lift_over D (λ j. read_image f (δ j)) i
 over_images [] f δ i = refl
 over_images (A ∷ D) f δ zero = refl
 over_images (A ∷ D) f δ (suc i) = sym (image_read_under (read_over D f) (lift_over D δ i)) ∙ ap (rename_image suc) (over_images D f δ i)
 
-over_agree : (D C : List LfType) (σ τ : ℕ → Image) → ((i : ℕ) (A : LfType) → TypeAt C i A → as_term (skeleton A) (σ i) ≡ as_term (skeleton A) (τ i)) → (i : ℕ) (A : LfType) → TypeAt (onto D C) i A → as_term (skeleton A) (lift_over D σ i) ≡ as_term (skeleton A) (lift_over D τ i)
+pub over_agree : (D C : List LfType) (σ τ : ℕ → Image) → ((i : ℕ) (A : LfType) → TypeAt C i A → as_term (skeleton A) (σ i) ≡ as_term (skeleton A) (τ i)) → (i : ℕ) (A : LfType) → TypeAt (onto D C) i A → as_term (skeleton A) (lift_over D σ i) ≡ as_term (skeleton A) (lift_over D τ i)
 over_agree [] C σ τ h i A g = h i A g
 over_agree (B ∷ D) C σ τ h zero A g = refl
 over_agree (B ∷ D) C σ τ h (suc i) A (F, g, e) =
@@ -90,14 +90,14 @@ module _ (κ : HeadSkeletons) where
       argument e = cc
 
   -- values that are the same as terms
-  agreeing : (O : List LfType) (Δ Δ' : List Skeleton) (σ τ : ℕ → Image) (N : Term) (t : Skeleton) → SubstitutionBySkeletons κ (context_skeletons O) Δ σ → SubstitutionBySkeletons κ (context_skeletons O) Δ' τ → ((i : ℕ) (A : LfType) → TypeAt O i A → as_term (skeleton A) (σ i) ≡ as_term (skeleton A) (τ i)) → TermSkeleton κ (context_skeletons O) N t → substitute reduce σ N ≡ substitute reduce τ N
+  pub agreeing : (O : List LfType) (Δ Δ' : List Skeleton) (σ τ : ℕ → Image) (N : Term) (t : Skeleton) → SubstitutionBySkeletons κ (context_skeletons O) Δ σ → SubstitutionBySkeletons κ (context_skeletons O) Δ' τ → ((i : ℕ) (A : LfType) → TypeAt O i A → as_term (skeleton A) (σ i) ≡ as_term (skeleton A) (τ i)) → TermSkeleton κ (context_skeletons O) N t → substitute reduce σ N ≡ substitute reduce τ N
   agreeing O Δ Δ' σ τ N t s u h n =
       sym (long_term O Δ σ N t s n)
       ∙ same_in κ (context_skeletons O) (long_at O σ) (long_at O τ) (λ i v g. let (B, k, e) = skeleton_has_variable O i v g in long_equal O σ τ h i B k) N t n
       ∙ long_term O Δ' τ N t u n
 
 -- values of values
-twice : (Σ : Signature) (C J G : List LfType) (σ ρ : ℕ → Image) → SubstitutionBySkeletons (constant_skeletons Σ) (context_skeletons C) (context_skeletons J) σ → SubstitutionBySkeletons (constant_skeletons Σ) (context_skeletons J) (context_skeletons G) ρ → (D : List LfType) (M : Term) (t : Skeleton) → TermSkeleton (constant_skeletons Σ) (context_skeletons (onto D C)) M t → substitute reduce (lift_over D (after ρ σ)) M ≡ substitute reduce (lift_over D ρ) (substitute reduce (lift_over D σ) M)
+pub twice : (Σ : Signature) (C J G : List LfType) (σ ρ : ℕ → Image) → SubstitutionBySkeletons (constant_skeletons Σ) (context_skeletons C) (context_skeletons J) σ → SubstitutionBySkeletons (constant_skeletons Σ) (context_skeletons J) (context_skeletons G) ρ → (D : List LfType) (M : Term) (t : Skeleton) → TermSkeleton (constant_skeletons Σ) (context_skeletons (onto D C)) M t → substitute reduce (lift_over D (after ρ σ)) M ≡ substitute reduce (lift_over D ρ) (substitute reduce (lift_over D σ) M)
 twice Σ C J G σ ρ s r D M t m = sym (substitutions_compose (constant_skeletons Σ) (context_skeletons (onto D C)) (context_skeletons (onto (instance D σ) J)) (context_skeletons (onto (instance (instance D σ) ρ) G)) (lift_over D σ) (lift_over D ρ) M t (lifted Σ D C J σ s) (subst (SubstitutionBySkeletons (constant_skeletons Σ) (context_skeletons (onto (instance D σ) J)) (context_skeletons (onto (instance (instance D σ) ρ) G))) (lift_instance D σ ρ) (lifted Σ (instance D σ) J G ρ r)) m ∙ ap (λ f. substitute reduce f M) (after_over D σ ρ))
 
 module _ (Σ Σ' : Signature) (ok : IsSignature Σ) (S : ℕ → Bool) (x : Extends S Σ Σ') (W : List Block) (typed : AreTypedBlocks Σ W) (first : ℕ) (free : IsFreeFrom Σ first) (C : Case) (a : AreTypedItems Σ W C.items) {G : List LfType} (w : World Σ' W S G) (σ : ℕ → Image) (g : IsGroundInstance w C.items σ) (θ : ℕ → ℕ → Image) (ρ : ℕ → Image) (inst : IsNumberedInstance w first (numbered first C) θ ρ) (same : HasSameValues first C σ θ ρ) where
@@ -141,7 +141,7 @@ module _ (Σ Σ' : Signature) (ok : IsSignature Σ) (S : ℕ → Bool) (x : Exte
   agree i A k = same i A k ∙ ap (substitute reduce ρ) (read_as_term f (skeleton A) (δ i)) ∙ put_term κ' (context_skeletons (onto X G)) (context_skeletons G) ρ ρ_fits (skeleton A) (seen i) (seen_fits i (skeleton A) (variable_has_skeleton (items_context C.items) i A k))
 
   -- a term under a local context
-  under_same : (D : List LfType) (M : Term) (t : Skeleton) → TermSkeleton (constant_skeletons Σ) (context_skeletons (onto D (items_context C.items))) M t → substitute reduce (lift_over D σ) M ≡ substitute reduce (lift_over D ρ) (read (read_over D f) (substitute reduce (lift_over D δ) M))
+  pub under_same : (D : List LfType) (M : Term) (t : Skeleton) → TermSkeleton (constant_skeletons Σ) (context_skeletons (onto D (items_context C.items))) M t → substitute reduce (lift_over D σ) M ≡ substitute reduce (lift_over D ρ) (read (read_over D f) (substitute reduce (lift_over D δ) M))
   under_same D M t m =
       let O : List LfType = onto D (items_context C.items) in
       let m' : TermSkeleton κ' (context_skeletons (onto D (items_context C.items))) M t = term_more S Σ Σ' x (context_skeletons (onto D (items_context C.items))) M t m in

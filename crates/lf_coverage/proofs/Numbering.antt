@@ -28,14 +28,14 @@ use Rattle.lf_checks.specs.Tests.{choose}
 use Rattle.lf_checks.specs.ModeForms.{argument_count}
 use Rattle.lf_cases.specs.Pattern.{has_block_variable, FirstInstance}
 use Rattle.lf_cases.specs.Cover.{InstanceIn, place_of, before}
-use Rattle.lf_cases.specs.Case.{Item, free_variable, block_variable, items_context, entries_in_front, behind_entries, as_term, IsGroundInstance}
+use Rattle.lf_cases.specs.Case.{Item, free_variable, block_variable, items_context, entries_in_front, behind_entries, as_term, IsGroundInstance, Case}
 use Rattle.lf_cases.specs.Missing.{AreTypedItems}
 use Rattle.lf_cases.proofs.LongValues.{long_at, long_past, long_same}
 use Rattle.lf_totality.proofs.OutputCases.{in_context, in_covers, in_type}
 use Rattle.lf_coverage.specs.EntryConstants.{entry_among, entry_constant, entry_images, IsFreeFrom}
 use Rattle.lf_coverage.specs.EntryLaws.{NumberedHasSameInstances}
-use Rattle.lf_coverage.specs.NumberedCase.{some_spine, AreGroundValues, AreInstances}
-use Rattle.lf_coverage.specs.Numbering.{entries_of, own_spine, numbering}
+use Rattle.lf_coverage.specs.NumberedCase.{some_spine, AreGroundValues, AreInstances, IsNumberedInstance}
+use Rattle.lf_coverage.specs.Numbering.{entries_of, own_spine, numbering, numbered, HasSameValues}
 use Rattle.lf_coverage.specs.OwnTerms.{BlockVariable, blocks_of, rename_blocks}
 use Rattle.lf_coverage.specs.Reading.{read, read_spine, read_type, variable_past, read_entry, entry_reading}
 use Rattle.lf_coverage.proofs.Composing.{composed}
@@ -111,7 +111,7 @@ blocks_with [] b Cs = refl
 blocks_with (d ∷ bs) b Cs = ap (λ Bs. d.block ∷ Bs) (blocks_with bs b Cs)
 
 -- The instances in a ground instance are those of θ, by number.
-abbrev HasInstances : (ℕ → ℕ → Image) → ℕ → {Σ' : Signature} {W : List Block} {S : ℕ → Bool} {G : List LfType} (w : World Σ' W S G) (I : List Item) (σ : ℕ → Image) → IsGroundInstance w I σ → Type 0
+abbrev pub HasInstances : (ℕ → ℕ → Image) → ℕ → {Σ' : Signature} {W : List Block} {S : ℕ → Bool} {G : List LfType} (w : World Σ' W S G) (I : List Item) (σ : ℕ → Image) → IsGroundInstance w I σ → Type 0
 HasInstances θ first w [] σ g = Unit {0}
 HasInstances θ first w (free_variable A ∷ I) σ (N, τ, g, n, e) = HasInstances θ first w I τ g
 HasInstances θ first w (block_variable B υ ∷ I) σ (φ, τ, g, i, s, e) = (φ ≡ θ (zero + length (blocks_of (numbering first I).blocks))) × HasInstances θ first w I τ g
@@ -442,12 +442,12 @@ module _ (Σ Σ' : Signature) (ok : IsSignature Σ) (S : ℕ → Bool) (x : Exte
       r.agree i A g ∙ sym (ap (substitute reduce ρ) (read_as_term f (skeleton A) y) ∙ put_term (constant_skeletons Σ') (context_skeletons (onto (numbering first I).variables G)) (context_skeletons G) ρ (values_fit Σ' x.ok G first Bs θ (numbering first I).variables ρ r.values) (skeleton A) (read_image f y) (r.fits i (skeleton A) (variable_has_skeleton (items_context I) i A g)))
 
 -- The first block variable has the number 0.
-no_number : (first : ℕ) (I : List Item) → has_block_variable I ≡ false → length (blocks_of (numbering first I).blocks) ≡ 0
+pub no_number : (first : ℕ) (I : List Item) → has_block_variable I ≡ false → length (blocks_of (numbering first I).blocks) ≡ 0
 no_number first [] e = refl
 no_number first (free_variable A ∷ I) e = ap length (blocks_renamed suc (numbering first I).blocks) ∙ no_number first I e
 no_number first (block_variable B υ ∷ I) e = absurd cc
 
-first_is_zero : (θ : ℕ → ℕ → Image) (first : ℕ) {Σ' : Signature} {W : List Block} {S : ℕ → Bool} {G : List LfType} (w : World Σ' W S G) (I : List Item) (σ : ℕ → Image) (g : IsGroundInstance w I σ) → HasInstances θ first w I σ g → (B : Block) (φ : ℕ → Image) → FirstInstance w I σ g B φ → φ ≡ θ zero
+pub first_is_zero : (θ : ℕ → ℕ → Image) (first : ℕ) {Σ' : Signature} {W : List Block} {S : ℕ → Bool} {G : List LfType} (w : World Σ' W S G) (I : List Item) (σ : ℕ → Image) (g : IsGroundInstance w I σ) → HasInstances θ first w I σ g → (B : Block) (φ : ℕ → Image) → FirstInstance w I σ g B φ → φ ≡ θ zero
 first_is_zero θ first w [] σ g h B φ f = absurd f
 first_is_zero θ first w (free_variable A ∷ I) σ (N, τ, g, n, e) h B φ f = first_is_zero θ first w I τ g h B φ f
 first_is_zero θ first w (block_variable D υ ∷ I) σ (ψ, τ, g, i, s, e) (q, h) B φ f = by (λ k. first_is_zero θ first w I τ g h B φ k) (has_block_variable I) refl f
@@ -463,14 +463,24 @@ nothing_behind : (Bs : List Block) → Bs ≡ Bs ++ []
 nothing_behind [] = refl
 nothing_behind (B ∷ Bs) = ap (λ Cs. B ∷ Cs) (nothing_behind Bs)
 
+-- Each ground instance is one of the numbered form, and back, with the instances of block variables by number.
+module _ (Σ Σ' : Signature) (ok : IsSignature Σ) (S : ℕ → Bool) (x : Extends S Σ Σ') (W : List Block) (typed : AreTypedBlocks Σ W) (first : ℕ) (free : IsFreeFrom Σ first) (C : Case) (a : AreTypedItems Σ W C.items) {G : List LfType} (w : World Σ' W S G) where
+  abbrev Cs : List Block
+  Cs = blocks_of (numbering first C.items).blocks
+
+  pub to_number : (σ : ℕ → Image) (g : IsGroundInstance w C.items σ) → (θ : ℕ → ℕ → Image) × (ρ : ℕ → Image) × IsNumberedInstance w first (numbered first C) θ ρ × HasSameValues first C σ θ ρ × HasInstances θ first w C.items σ g
+  to_number σ g =
+      let θ : ℕ → ℕ → Image = instances_of first w C.items σ g in
+      let (ρ, r) = forward Σ Σ' ok S x W typed first free w Cs θ C.items a ([], nothing_behind Cs) σ g (instances_are first w C.items σ g) in
+      (θ, ρ, record { values = r.values; instances = r.instances }, same_values Σ Σ' ok S x W typed first free w Cs θ C.items a σ ρ r, instances_are first w C.items σ g)
+
+  pub from_number : (θ : ℕ → ℕ → Image) (ρ : ℕ → Image) → IsNumberedInstance w first (numbered first C) θ ρ → (σ : ℕ → Image) × (g : IsGroundInstance w C.items σ) × HasSameValues first C σ θ ρ × HasInstances θ first w C.items σ g
+  from_number θ ρ n =
+      let (σ, r) = backward Σ Σ' ok S x W typed first free w Cs θ C.items a ([], nothing_behind Cs) ρ n.values n.instances in
+      (σ, r.ground, same_values Σ Σ' ok S x W typed first free w Cs θ C.items a σ ρ r, r.numbers)
+
 pub numbered_has_same_instances : NumberedHasSameInstances
-numbered_has_same_instances Σ Σ' ok S x W typed first free C a G w =
-    let Bs : List Block = blocks_of (numbering first C.items).blocks in (
-      λ σ g.
-          let θ : ℕ → ℕ → Image = instances_of first w C.items σ g in
-          let (ρ, r) = forward Σ Σ' ok S x W typed first free w Bs θ C.items a ([], nothing_behind Bs) σ g (instances_are first w C.items σ g) in
-          (θ, ρ, record { values = r.values; instances = r.instances }, same_values Σ Σ' ok S x W typed first free w Bs θ C.items a σ ρ r, first_is_zero θ first w C.items σ g (instances_are first w C.items σ g)),
-      λ θ ρ n.
-          let (σ, r) = backward Σ Σ' ok S x W typed first free w Bs θ C.items a ([], nothing_behind Bs) ρ n.values n.instances in
-          (σ, r.ground, same_values Σ Σ' ok S x W typed first free w Bs θ C.items a σ ρ r, first_is_zero θ first w C.items σ r.ground r.numbers),
-    )
+numbered_has_same_instances Σ Σ' ok S x W typed first free C a G w = (
+  λ σ g. let (θ, ρ, n, v, h) = to_number Σ Σ' ok S x W typed first free C a w σ g in (θ, ρ, n, v, first_is_zero θ first w C.items σ g h),
+  λ θ ρ n. let (σ, g, v, h) = from_number Σ Σ' ok S x W typed first free C a w θ ρ n in (σ, g, v, first_is_zero θ first w C.items σ g h),
+)

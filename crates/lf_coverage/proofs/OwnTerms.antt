@@ -39,7 +39,7 @@ begins_substituted σ None S b = tt
 begins_substituted σ (Some U) S (T, e) = (substitute_spine reduce σ T, ap (substitute_spine reduce σ) e ∙ substitute_append σ U T)
 
 -- under a binder
-rename_under : (ρ : ℕ → ℕ) (u : Option Spine) → weaken_own (rename_own ρ u) ≡ rename_own (lift_renaming ρ) (weaken_own u)
+pub rename_under : (ρ : ℕ → ℕ) (u : Option Spine) → weaken_own (rename_own ρ u) ≡ rename_own (lift_renaming ρ) (weaken_own u)
 rename_under ρ None = refl
 rename_under ρ (Some U) = ap Some (renamings_compose_spine suc ρ U ∙ sym (renamings_compose_spine (lift_renaming ρ) suc U))
 
@@ -119,7 +119,7 @@ type_substituted o o' σ (pi A B) h v (a, b) = (type_substituted o o' σ A h v a
 type_substituted o o' σ (atom a S) h v s = spine_substituted o o' σ S h v s
 
 -- the own terms of block variables with values put in
-put_in_keeps : (σ : ℕ → Image) (bs : List BlockVariable) → blocks_of (put_in_blocks σ bs) ≡ blocks_of bs
+pub put_in_keeps : (σ : ℕ → Image) (bs : List BlockVariable) → blocks_of (put_in_blocks σ bs) ≡ blocks_of bs
 put_in_keeps σ [] = refl
 put_in_keeps σ (b ∷ bs) = ap (λ Bs. b.block ∷ Bs) (put_in_keeps σ bs)
 

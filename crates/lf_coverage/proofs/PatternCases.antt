@@ -196,7 +196,7 @@ pattern_case_has_patterns Σ W C nb tc h = all_have Σ (context_metavariables (i
         by (Some X) q e = all_free C.items nb j X (found_type (items_context C.items) j X q)
 
 -- the values of an order are its bindings
-values_bound : (Σ : Signature) (ok : IsSignature Σ) (Ψ : ℕ → Option LfType) (U : (ℕ → Option Term) → Type 0) (order : List ListedMetavariable) (io : IsDependencyOrder Σ Ψ U order) (bs : List Binding) → BindingsArePatterns Σ Ψ bs → (is : List ListedMetavariable) → IsDependencyOrder Σ Ψ U is → ValuesAreBindings bs is → ValuesArePatterns Σ ok Ψ U order io is
+pub values_bound : (Σ : Signature) (ok : IsSignature Σ) (Ψ : ℕ → Option LfType) (U : (ℕ → Option Term) → Type 0) (order : List ListedMetavariable) (io : IsDependencyOrder Σ Ψ U order) (bs : List Binding) → BindingsArePatterns Σ Ψ bs → (is : List ListedMetavariable) → IsDependencyOrder Σ Ψ U is → ValuesAreBindings bs is → ValuesArePatterns Σ ok Ψ U order io is
 values_bound Σ ok Ψ U order io bs h [] o v = tt
 values_bound Σ ok Ψ U order io bs h (it ∷ is) o (v, w) = ((λ N e. at N bs h (v N e)), values_bound Σ ok Ψ U order io bs h is o.0 w)
   where

@@ -73,7 +73,7 @@ falling_countdown (arrow a b) = (next (arity b), falling_countdown b)
     next : (n : ℕ) → n < suc n
     next n = omega arith
 
-over_distinct : (n : ℕ) → Injective (over n)
+pub over_distinct : (n : ℕ) → Injective (over n)
 over_distinct zero i j e = e
 over_distinct (suc n) i j e = over_distinct n i j (less e)
   where
@@ -272,11 +272,11 @@ pub under_binders : (G : List LfType) (X : LfType) → context_under (skeleton X
 under_binders G (pi A B) = under_binders (A ∷ G) B
 under_binders G (atom a S) = refl
 
-target_is : (X : LfType) → skeleton_target (skeleton X) ≡ target X
+pub target_is : (X : LfType) → skeleton_target (skeleton X) ≡ target X
 target_is (pi A B) = target_is B
 target_is (atom a S) = refl
 
-lift_low : (n : ℕ) (ρ : ℕ → ℕ) (j : ℕ) → j < n → lift_renaming_by n ρ j ≡ j
+pub lift_low : (n : ℕ) (ρ : ℕ → ℕ) (j : ℕ) → j < n → lift_renaming_by n ρ j ≡ j
 lift_low zero ρ j l = absurd (omega (arith, l))
 lift_low (suc n) ρ zero l = refl
 lift_low (suc n) ρ (suc j) l = ap suc (lift_low n ρ j (omega (arith, l)))

@@ -6,9 +6,10 @@ use Rattle.lf.specs.Skeletons.{family_skeleton}
 use Rattle.lf.specs.Subordination.{Block, Member, AreTypedBlocks, IsBelowTest, SelfContained}
 use Rattle.lf.specs.Syntax.{Head, Spine, nil, app, LfType, pi, atom, Kind, kind_pi, star, Skeleton, base, skeleton, lift_renaming, rename_type, weaken}
 use Rattle.lf.specs.Typing.{Signature, TypeAt, IsType, IsContext, IsSignature, SpineFitsKind}
-use Rattle.lf.specs.Variables.{FamiliesIn, target}
+use Rattle.lf.specs.Variables.{FamiliesIn, nothing, target}
 use Rattle.lf.proofs.TypeLaws.{skeleton_renamed}
 use Rattle.lf.proofs.Weakening.{declared_is_type}
+use Rattle.lf_checks.specs.Marks.{MentionChosenOnly}
 use Rattle.lf_cases.specs.Case.{Item, Case, chosen_count, free_variable, goal_arguments, goal_items, input_goal, items_context, past_place}
 use Rattle.lf_cases.specs.Reached.{SplitHead, arguments_count, split_items}
 use Rattle.lf_cases.specs.Split.{HasNoBlockVariable}
@@ -36,7 +37,7 @@ use Rattle.lf_coverage.proofs.Subordinate.{inputs_quantify_below}
 use Rattle.lf_coverage.proofs.SubordinateRuns.{run_quantifies_below}
 use Rattle.lf_coverage.proofs.TypedCases.{input_goal_is_typed_case}
 
-kind_one : {J K : Kind} → Some J ≡ Some K → J ≡ K
+pub kind_one : {J K : Kind} → Some J ≡ Some K → J ≡ K
 kind_one e = cc
 
 some_one : {A B : LfType} → Some A ≡ Some B → A ≡ B
@@ -52,7 +53,7 @@ module _ (Σ : Signature) (S : ℕ → Bool) (none : HaveNoIndices Σ S) where
       by nil s = (base a, ap (family_skeleton a) (none a f), refl)
       by (app M T) s = absurd s
 
-  plain_types : (G : List LfType) → IsSignature Σ → IsContext Σ G → AllFamiliesIn S G → TypesArePatterns Σ (context_metavariables G)
+  pub plain_types : (G : List LfType) → IsSignature Σ → IsContext Σ G → AllFamiliesIn S G → TypesArePatterns Σ (context_metavariables G)
   plain_types G ok c f m A e = by (type_in G m) refl e
     where
       by : (y : Option LfType) → type_in G m ≡ y → open_some y ≡ Some A → IsPatternType Σ (context_metavariables G) [] A
@@ -63,12 +64,12 @@ module _ (Σ : Signature) (ok : IsSignature Σ) (W : List Block) (typed : AreTyp
   abbrev Kept : Case → Type 0
   Kept C = AllFamiliesIn S (items_context C.items) × HasNoBlockVariable C.items × IsPatternCase Σ C
 
-  target_in : (X : LfType) → FamiliesIn S X → S (target X) ≡ true
+  pub target_in : (X : LfType) → FamiliesIn S X → S (target X) ≡ true
   target_in (pi A B) (a, b) = target_in B b
   target_in (atom a T) f = f
 
   -- the split store
-  split_store_is_pattern : (C : Case) → IsTypedCase Σ W C → (x : ℕ) (X : LfType) → TypeAt (items_context C.items) x X → (J : List Item) (n : ℕ) (h : Head) (A : LfType) → SplitHead Σ W C.items X J n h A → HasNoBlockVariable J → (K : Kind) → K ≡ star → IsPatternStore Σ (split_store below x X J n h A K)
+  pub split_store_is_pattern : (C : Case) → IsTypedCase Σ W C → (x : ℕ) (X : LfType) → TypeAt (items_context C.items) x X → (J : List Item) (n : ℕ) (h : Head) (A : LfType) → SplitHead Σ W C.items X J n h A → HasNoBlockVariable J → (K : Kind) → K ≡ star → IsPatternStore Σ (split_store below x X J n h A K)
   split_store_is_pattern C tc x X at J n h A sh nj K e =
       let c : ℕ = n + arguments_count A in
       let G : List LfType = items_context (split_items below X J n A) in
@@ -125,11 +126,14 @@ module _ (Σ : Signature) (ok : IsSignature Σ) (W : List Block) (typed : AreTyp
       none n = omega arith
   goal_patterns (false ∷ bs) (kind_pi A K) ρ I = goal_patterns bs K (past_place ρ) I
 
-pub input_run_has_patterns : InputRunHasPatterns
-input_run_has_patterns Σ ok W typed below test S sc none a m K e c f D r =
+-- What is kept along a run from the goal of inputs.
+pub input_run_kept : (Σ : Signature) → IsSignature Σ → (W : List Block) → AreTypedBlocks Σ W → (below : ℕ → ℕ → Bool) → ((f : ℕ) → IsBelowTest Σ W (below f) f) → (S : ℕ → Bool) → SelfContained Σ W S → HaveNoIndices Σ S → (a : ℕ) (m : List Bool) (K : Kind) → Σ.kinds a ≡ Some K → MentionChosenOnly nothing m K → AllFamiliesIn S (items_context (input_goal a m K).items) → (D : Case) → ComesBy (AnswersEachHead Σ W below) (input_goal a m K) D → IsTypedCase Σ W D × (AllFamiliesIn S (items_context D.items) × HasNoBlockVariable D.items × IsPatternCase Σ D)
+input_run_kept Σ ok W typed below test S sc none a m K e c f D r =
     let goal : Case = input_goal a m K in
     let (tg, hl, nb) = input_goal_is_typed_case Σ ok W typed a m K e c in
     let qg : AllQuantifiersAreBelow below (items_context goal.items) = inputs_quantify_below Σ W below test a m K e in
     let p : IsPatternCase Σ goal = record { no_local = refl; types = plain_types Σ S none (items_context goal.items) ok (items_are_context Σ ok W typed goal.items tg.items) f; arguments = goal_patterns Σ ok W typed m K (λ i. i) [] } in
-    let (fd, nd, pd) = comes_kept Σ ok W typed below test S sc none goal tg qg D (f, nb, p) r in
-    pattern_case_has_patterns Σ W D nd (run_quantifies_below Σ ok W typed below test goal tg qg D r).0 pd
+    ((run_quantifies_below Σ ok W typed below test goal tg qg D r).0, comes_kept Σ ok W typed below test S sc none goal tg qg D (f, nb, p) r)
+
+pub input_run_has_patterns : InputRunHasPatterns
+input_run_has_patterns Σ ok W typed below test S sc none a m K e c f D r = let (td, (fd, nd, pd)) = input_run_kept Σ ok W typed below test S sc none a m K e c f D r in pattern_case_has_patterns Σ W D nd td pd

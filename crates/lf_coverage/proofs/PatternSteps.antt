@@ -42,19 +42,19 @@ pub over_suc : (n i : ℕ) → over n (suc i) ≡ suc (over n i)
 over_suc zero i = refl
 over_suc (suc n) i = ap suc (over_suc n i)
 
-past_is : (k i : ℕ) → past_binders k i ≡ over k i
+pub past_is : (k i : ℕ) → past_binders k i ≡ over k i
 past_is zero i = refl
 past_is (suc k) i = past_is k (suc i) ∙ over_suc k i
 
-length_local : (D : List LfType) → length (local_skeletons D []) ≡ binders D
+pub length_local : (D : List LfType) → length (local_skeletons D []) ≡ binders D
 length_local [] = refl
 length_local (A ∷ D) = ap suc (length_local D)
 
-beyond_is : (D : List LfType) (i : ℕ) → beyond D i ≡ over (length (local_skeletons D [])) i
+pub beyond_is : (D : List LfType) (i : ℕ) → beyond D i ≡ over (length (local_skeletons D [])) i
 beyond_is [] i = refl
 beyond_is (A ∷ D) i = ap suc (beyond_is D i)
 
-past_over : (t : Skeleton) (Γ : List Skeleton) (i : ℕ) → past t (over (length Γ) i) ≡ over (length (context_under t Γ)) i
+pub past_over : (t : Skeleton) (Γ : List Skeleton) (i : ℕ) → past t (over (length Γ) i) ≡ over (length (context_under t Γ)) i
 past_over (base c) Γ i = refl
 past_over (arrow a b) Γ i = past_over b (a ∷ Γ) i
 
@@ -88,7 +88,7 @@ module _ (Σ : Signature) (Ψ : ℕ → Option LfType) where
       let e : reduce t (rename (over (length Γ)) V) (pattern t xs) ≡ rename (pattern_renaming t xs (over (length Γ))) W = ap (λ X. reduce t (rename (over (length Γ)) X) (pattern t xs)) w ∙ apply_pattern (total_skeletons Σ (skeletons_of Ψ)) t [] Γ (over (length Γ)) xs W none p (term_has Σ Ψ [] (lambdas_of t W) t v') in
       subst (λ X. IsPatternTerm Σ Ψ Γ X (base (skeleton_target t))) (sym e) (term_renamed Σ Ψ (context_under t []) Γ (pattern_renaming t xs (over (length Γ))) W (base (skeleton_target t)) (pattern_moves Γ t xs p d) (RenamingBySkeletons-pattern [] Γ t xs (over (length Γ)) none p) (under t [] W v'))
 
-  value_at : (bs : List Binding) → BindingsArePatterns Σ Ψ bs → (b : Binding) → Member b bs → (A : LfType) × (Ψ b.of ≡ Some A) × IsPatternTerm Σ Ψ [] b.value (skeleton A)
+  pub value_at : (bs : List Binding) → BindingsArePatterns Σ Ψ bs → (b : Binding) → Member b bs → (A : LfType) × (Ψ b.of ≡ Some A) × IsPatternTerm Σ Ψ [] b.value (skeleton A)
   value_at [] h b m = absurd m
   value_at (c ∷ bs) (x, h) b (inl e) = subst (λ (y : Binding). (A : LfType) × (Ψ y.of ≡ Some A) × IsPatternTerm Σ Ψ [] y.value (skeleton A)) (sym e) x
   value_at (c ∷ bs) (x, h) b (inr m) = value_at bs h b m
@@ -103,7 +103,7 @@ module _ (Σ : Signature) (Ψ : ℕ → Option LfType) where
     plain_same (some_in_arguments (metavariable m) s) (x, v) = absurd x
     plain_same (some_at_bound b m s r q) (x, v) = absurd x
 
-    plain_same_spine : {bs : List Binding} {k : ℕ} {S S' : Spine} → PutsSomeSpine Ψ bs k S S' → MetavariablesInSpine (λ m. ⊥) S → S' ≡ S
+    pub plain_same_spine : {bs : List Binding} {k : ℕ} {S S' : Spine} → PutsSomeSpine Ψ bs k S S' → MetavariablesInSpine (λ m. ⊥) S → S' ≡ S
     plain_same_spine some_nowhere v = refl
     plain_same_spine (some_in_argument p s) (v, w) = ap₂ app (plain_same p v) (plain_same_spine s w)
 
@@ -114,7 +114,7 @@ module _ (Σ : Signature) (Ψ : ℕ → Option LfType) where
   some_one e = cc
 
   module _ (bs : List Binding) (h : BindingsArePatterns Σ Ψ bs) where
-    at_bound : (k : ℕ) (Γ : List Skeleton) (c : ℕ) (b : Binding) (S S' : Spine) (R : Term) → length Γ ≡ k → Member b bs → PutsSomeSpine Ψ bs k S S' → Reduces (skeletons_of Ψ b.of) (rename (past_binders k) b.value) S' R → IsPatternTerm Σ Ψ Γ (root (metavariable b.of) S) (base c) → IsPatternTerm Σ Ψ Γ R (base c)
+    pub at_bound : (k : ℕ) (Γ : List Skeleton) (c : ℕ) (b : Binding) (S S' : Spine) (R : Term) → length Γ ≡ k → Member b bs → PutsSomeSpine Ψ bs k S S' → Reduces (skeletons_of Ψ b.of) (rename (past_binders k) b.value) S' R → IsPatternTerm Σ Ψ Γ (root (metavariable b.of) S) (base c) → IsPatternTerm Σ Ψ Γ R (base c)
     at_bound k Γ c b S S' R l m s r (A, e, q, d) =
         let (B, f, v) = value_at bs h b m in
         let t : Skeleton = skeleton A in
@@ -168,7 +168,7 @@ module _ (Σ : Signature) (Ψ : ℕ → Option LfType) where
       ((m, n), arguments_sides D (instantiate_type A M B) S T u (subst (λ v. ArePatternArguments Σ Ψ (local_skeletons D []) S v u) e s) (subst (λ v. ArePatternArguments Σ Ψ (local_skeletons D []) T v u) e t))
   arguments_sides D (atom a I) S T u s t = tt
 
-  local_at : (D : List LfType) (i : ℕ) (A : LfType) → TypeAt (onto D []) i A → SkeletonAt (local_skeletons D []) i (skeleton A)
+  pub local_at : (D : List LfType) (i : ℕ) (A : LfType) → TypeAt (onto D []) i A → SkeletonAt (local_skeletons D []) i (skeleton A)
   local_at [] i A g = absurd g
   local_at (B ∷ D) zero A e = sym (ap skeleton e ∙ skeleton_renamed suc B)
   local_at (B ∷ D) (suc i) A (C, g, e) = subst (SkeletonAt (local_skeletons D []) i) (sym (ap skeleton e ∙ skeleton_renamed suc C)) (local_at D i C g)
@@ -185,7 +185,7 @@ module _ (Σ : Signature) (Ψ : ℕ → Option LfType) where
       let one : (x : Skeleton) → SkeletonAt (local_skeletons D []) i x → x ≡ skeleton A = λ x g. SkeletonAt-once (local_skeletons D []) i x (skeleton A) g (local_at D i A t) in
       arguments_sides D A S T (base a) (subst (λ x. ArePatternArguments Σ Ψ (local_skeletons D []) S x (base a)) (one u e) s) (subst (λ x. ArePatternArguments Σ Ψ (local_skeletons D []) T x (base a)) (one v f) w)
 
-  of_side : (side : Side) (D : List LfType) (M N : Term) (C : LfType) (es : List Equation) → SidesArePatterns Σ Ψ (equation_on side D M N C ∷ es) → IsPatternTerm Σ Ψ (local_skeletons D []) M (skeleton C) × IsPatternTerm Σ Ψ (local_skeletons D []) N (skeleton C) × SidesArePatterns Σ Ψ es
+  pub of_side : (side : Side) (D : List LfType) (M N : Term) (C : LfType) (es : List Equation) → SidesArePatterns Σ Ψ (equation_on side D M N C ∷ es) → IsPatternTerm Σ Ψ (local_skeletons D []) M (skeleton C) × IsPatternTerm Σ Ψ (local_skeletons D []) N (skeleton C) × SidesArePatterns Σ Ψ es
   of_side on_left D M N C es ((p, q), h) = (p, q, h)
   of_side on_right D M N C es ((q, p), h) = (p, q, h)
 
@@ -246,7 +246,7 @@ pub past_suc : (t : Skeleton) (i : ℕ) → past t (suc i) ≡ suc (past t i)
 past_suc (base c) i = refl
 past_suc (arrow a b) i = past_suc b (suc i)
 
-past_zero : (t : Skeleton) → past t zero ≡ arity t
+pub past_zero : (t : Skeleton) → past t zero ≡ arity t
 past_zero (base c) = refl
 past_zero (arrow a b) = past_suc b zero ∙ ap suc (past_zero b)
 
@@ -266,7 +266,7 @@ next_past : (a b : Skeleton) (i : ℕ) → extend_renaming (arity b) (past (arro
 next_past a b zero = sym (past_zero b)
 next_past a b (suc i) = refl
 
-counted : (t : Skeleton) (i : ℕ) → pattern_renaming t (countdown t) (past t) i ≡ i
+pub counted : (t : Skeleton) (i : ℕ) → pattern_renaming t (countdown t) (past t) i ≡ i
 counted (base c) i = refl
 counted (arrow a b) i = ap (λ τ. pattern_renaming b (countdown b) τ i) (fun_ext (next_past a b)) ∙ counted b i
 
@@ -289,7 +289,7 @@ eta_is_pattern Σ Ψ n A e =
     at t i = ap (λ τ. pattern_renaming t (countdown t) τ i) (fun_ext (λ j. sym (past_over t [] j))) ∙ counted t i
 
 -- what is pruned
-over_under : (L : List LfType) (P : LfType) (Γ : List Skeleton) → context_under (skeleton (pi_over L P)) Γ ≡ context_under (skeleton P) (local_skeletons L Γ)
+pub over_under : (L : List LfType) (P : LfType) (Γ : List Skeleton) → context_under (skeleton (pi_over L P)) Γ ≡ context_under (skeleton P) (local_skeletons L Γ)
 over_under [] P Γ = refl
 over_under (A ∷ L) P Γ = over_under L (pi A P) Γ
 

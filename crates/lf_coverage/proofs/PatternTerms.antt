@@ -26,7 +26,7 @@ pattern_renamed ρ (base c) xs = refl
 pattern_renamed ρ (arrow a b) [] = refl
 pattern_renamed ρ (arrow a b) (x ∷ xs) = ap₂ app (rename_eta_expand ρ a (variable x) nil) (pattern_renamed ρ b xs)
 
-fits_renamed : (Γ Δ : List Skeleton) (ρ : ℕ → ℕ) (t : Skeleton) (xs : List ℕ) → RenamingBySkeletons Γ Δ ρ → PatternFits Γ t xs → PatternFits Δ t (renamed_all ρ xs)
+pub fits_renamed : (Γ Δ : List Skeleton) (ρ : ℕ → ℕ) (t : Skeleton) (xs : List ℕ) → RenamingBySkeletons Γ Δ ρ → PatternFits Γ t xs → PatternFits Δ t (renamed_all ρ xs)
 fits_renamed Γ Δ ρ (base c) [] g p = tt
 fits_renamed Γ Δ ρ (base c) (x ∷ xs) g p = absurd p
 fits_renamed Γ Δ ρ (arrow a b) [] g p = absurd p
@@ -42,7 +42,7 @@ extended : (ρ : ℕ → ℕ) (x : ℕ) (τ υ : ℕ → ℕ) → ((i : ℕ) →
 extended ρ x τ υ h zero = refl
 extended ρ x τ υ h (suc i) = h i
 
-renaming_renamed : (ρ : ℕ → ℕ) (t : Skeleton) (xs : List ℕ) (τ υ : ℕ → ℕ) → ((i : ℕ) → υ i ≡ ρ (τ i)) → (i : ℕ) → pattern_renaming t (renamed_all ρ xs) υ i ≡ ρ (pattern_renaming t xs τ i)
+pub renaming_renamed : (ρ : ℕ → ℕ) (t : Skeleton) (xs : List ℕ) (τ υ : ℕ → ℕ) → ((i : ℕ) → υ i ≡ ρ (τ i)) → (i : ℕ) → pattern_renaming t (renamed_all ρ xs) υ i ≡ ρ (pattern_renaming t xs τ i)
 renaming_renamed ρ (base c) xs τ υ h i = h i
 renaming_renamed ρ (arrow a b) [] τ υ h i = h i
 renaming_renamed ρ (arrow a b) (x ∷ xs) τ υ h i = renaming_renamed ρ b xs (extend_renaming x τ) (extend_renaming (ρ x) υ) (extended ρ x τ υ h) i
@@ -68,11 +68,11 @@ distinct_renamed Γ Δ ρ t S m g d = record {
 }
 
 -- an eta-long variable that comes by renaming comes from one
-head_in : (P : ℕ → Type 0) (a : Skeleton) (x : ℕ) (S : Spine) → FreeVariablesIn P (eta_expand a (variable x) S) → P x
+pub head_in : (P : ℕ → Type 0) (a : Skeleton) (x : ℕ) (S : Spine) → FreeVariablesIn P (eta_expand a (variable x) S) → P x
 head_in P (base c) x S o = o.0
 head_in P (arrow a b) x S o = head_in (LiftedSet P) b (suc x) _ o
 
-variable_back : (ρ : ℕ → ℕ) → Injective ρ → (a : Skeleton) (x : ℕ) (M : Term) → rename ρ M ≡ eta_variable a x → (y : ℕ) × (ρ y ≡ x) × (M ≡ eta_variable a y)
+pub variable_back : (ρ : ℕ → ℕ) → Injective ρ → (a : Skeleton) (x : ℕ) (M : Term) → rename ρ M ≡ eta_variable a x → (y : ℕ) × (ρ y ≡ x) × (M ≡ eta_variable a y)
 variable_back ρ inj a x M e =
     let (y, q) = head_in (InImage ρ) a x nil (subst (FreeVariablesIn (InImage ρ)) e (only_rename ρ M)) in
     (y, q, rename_injective ρ inj M (eta_variable a y) (e ∙ ap (eta_variable a) (sym q) ∙ sym (rename_eta_expand ρ a (variable y) nil)))

@@ -55,11 +55,11 @@ new_next zero (app M S) N e h = absurd cc
 new_next (suc n) nil N e h = absurd cc
 new_next (suc n) (app M S) N e h = both_of (eta_at zero (suc n) (rename suc M)) (new_arguments (suc n) (add_last (rename_spine suc S) N)) (eta_renamed zero n suc M (none_fixed suc) (both_l (eta_at zero n M) (new_arguments n S) e)) (new_next n S N (both_r (eta_at zero n M) (new_arguments n S) e) h)
 
-eta_passes : (a : Skeleton) (n y : ℕ) (S : Spine) → new_arguments n S ≡ true → eta_at n y (eta_expand a (variable y) S) ≡ true
+pub eta_passes : (a : Skeleton) (n y : ℕ) (S : Spine) → new_arguments n S ≡ true → eta_at n y (eta_expand a (variable y) S) ≡ true
 eta_passes (base c) n y S e = both_of (same_number y y) (new_arguments n S) (number_itself y) e
 eta_passes (arrow a b) n y S e = eta_passes b (suc n) (suc y) (add_last (rename_spine suc S) (eta_expand a (variable zero) nil)) (new_next n S (eta_expand a (variable zero) nil) e (eta_passes a zero zero nil refl))
 
-eta_head : (a : Skeleton) (n i : ℕ) (S : Spine) → head_variable n (eta_expand a (variable i) S) ≡ lower n i
+pub eta_head : (a : Skeleton) (n i : ℕ) (S : Spine) → head_variable n (eta_expand a (variable i) S) ≡ lower n i
 eta_head (base c) n i S = refl
 eta_head (arrow a b) n i S = eta_head b (suc n) (suc i) _
 

@@ -82,8 +82,9 @@ module _ (Σ : Signature) (Ψ Φ : ℕ → Option LfType) (Δ : List Skeleton) (
   abbrev μ : ℕ → Skeleton
   μ = skeletons_of Ψ
 
-  at_metavariable : (Γ : List Skeleton) (m : ℕ) (A : LfType) (S : Spine) (c : ℕ) → V m → Ψ m ≡ Some A → skeleton_target (skeleton A) ≡ c → AreDistinct Γ (skeleton A) S → IsPatternTerm Σ Φ Γ (open_term (length Γ) (fill μ (moved (over (length Γ)) β) (root (metavariable m) S))) (base c)
-  at_metavariable Γ m A S c v e q d =
+  -- a value on distinct bound variables is a term on these
+  pub on_variables : (Γ : List Skeleton) (m : ℕ) (A : LfType) (S : Spine) → V m → Ψ m ≡ Some A → (d : AreDistinct Γ (skeleton A) S) → (W : Term) × (open_term (length Γ) (fill μ (moved (over (length Γ)) β) (root (metavariable m) S)) ≡ rename (pattern_renaming (skeleton A) d.variables (over (length Γ))) W) × IsPatternTerm Σ Φ (context_under (skeleton A) []) W (base (skeleton_target (skeleton A)))
+  on_variables Γ m A S v e d =
       let t : Skeleton = skeleton A in
       let k : ℕ = length Γ in
       let xs : List ℕ = d.variables in
@@ -91,12 +92,19 @@ module _ (Σ : Signature) (Ψ Φ : ℕ → Option LfType) (Δ : List Skeleton) (
       let (W, w) = body κ Δ t N (value_fits m A N v e f) in
       let ρ : ℕ → ℕ = pattern_renaming t xs (over k) in
       let n' : IsPatternTerm Σ Φ [] (lambdas_of t (open_term (length (context_under t [])) W)) t = subst (λ X. IsPatternTerm Σ Φ [] X t) (ap (open_term zero) w ∙ open_lambdas_of t [] W) n in
-      let p : IsPatternTerm Σ Φ Γ (rename ρ (open_term (length (context_under t [])) W)) (base (skeleton_target t)) = term_renamed Σ Φ (context_under t []) Γ ρ (open_term (length (context_under t [])) W) (base (skeleton_target t)) (pattern_moves Γ t xs d.places d.distinct) (RenamingBySkeletons-pattern [] Γ t xs (over k) (λ i u h. absurd h) d.places) (under Σ Φ t [] (open_term (length (context_under t [])) W) n') in
       let is : fill μ (moved (over k) β) (root (metavariable m) S) ≡ rename ρ W =
       ap₂ (λ a T. fill_metavariable a m (rename_value (over k) (β m)) T) (ap skeleton_or_default e) (ap (fill_spine μ (moved (over k) β)) d.same ∙ fill_pattern μ t (moved (over k) β) xs)
       ∙ ap (λ y. fill_metavariable t m (rename_value (over k) y) (pattern t xs)) (f ∙ ap Some w)
       ∙ apply_pattern κ t Δ (Γ ++ Δ) (over k) xs W (outside Γ Δ) (fits_inside Γ Δ t xs d.places) (subst (λ X. TermSkeleton (as_head_skeletons κ) Δ X t) w (value_fits m A N v e f)) in
-      subst (λ X. IsPatternTerm Σ Φ Γ X (base c)) (sym (ap (open_term k) is ∙ open_renamed (length (context_under t [])) k ρ (pattern_opens Γ [] t xs (over k) d.places (outer_opens k)) W)) (subst (λ b. IsPatternTerm Σ Φ Γ (rename ρ (open_term (length (context_under t [])) W)) (base b)) q p)
+      (open_term (length (context_under t [])) W, ap (open_term k) is ∙ open_renamed (length (context_under t [])) k ρ (pattern_opens Γ [] t xs (over k) d.places (outer_opens k)) W, under Σ Φ t [] (open_term (length (context_under t [])) W) n')
+
+  at_metavariable : (Γ : List Skeleton) (m : ℕ) (A : LfType) (S : Spine) (c : ℕ) → V m → Ψ m ≡ Some A → skeleton_target (skeleton A) ≡ c → AreDistinct Γ (skeleton A) S → IsPatternTerm Σ Φ Γ (open_term (length Γ) (fill μ (moved (over (length Γ)) β) (root (metavariable m) S))) (base c)
+  at_metavariable Γ m A S c v e q d =
+      let t : Skeleton = skeleton A in
+      let ρ : ℕ → ℕ = pattern_renaming t d.variables (over (length Γ)) in
+      let (W, is, w) = on_variables Γ m A S v e d in
+      let p : IsPatternTerm Σ Φ Γ (rename ρ W) (base (skeleton_target t)) = term_renamed Σ Φ (context_under t []) Γ ρ W (base (skeleton_target t)) (pattern_moves Γ t d.variables d.places d.distinct) (RenamingBySkeletons-pattern [] Γ t d.variables (over (length Γ)) (λ i u h. absurd h) d.places) w in
+      subst (λ X. IsPatternTerm Σ Φ Γ X (base c)) (sym is) (subst (λ b. IsPatternTerm Σ Φ Γ (rename ρ W) (base b)) q p)
 
   mutual
     pub filled : (Γ : List Skeleton) (M : Term) (t : Skeleton) → MetavariablesIn V M → IsPatternTerm Σ Ψ Γ M t → IsPatternTerm Σ Φ Γ (open_term (length Γ) (fill μ (moved (over (length Γ)) β) M)) t
@@ -147,7 +155,7 @@ module _ (Σ : Signature) (ok : IsSignature Σ) (Ψ : ℕ → Option LfType) (U 
   abbrev κ1 : TotalSkeletons
   κ1 = total_skeletons Σ (skeletons_of Ψ)
 
-  fills : (m : ℕ) (A : LfType) (N : Term) → Ψ m ≡ Some A → γ m ≡ Some N → TermSkeleton (as_head_skeletons κ1) (context_skeletons F) N (skeleton A)
+  pub fills : (m : ℕ) (A : LfType) (N : Term) → Ψ m ≡ Some A → γ m ≡ Some N → TermSkeleton (as_head_skeletons κ1) (context_skeletons F) N (skeleton A)
   fills m A N e f = subst (TermSkeleton (as_head_skeletons κ1) (context_skeletons F) N) (ap skeleton_or_default e) (subst (λ y. ValueHasSkeleton κ1 (context_skeletons F) y (skeletons_of Ψ m)) f ((stage Σ (skeletons_of Ψ) ok Ψ U order is_order).by_skeletons m))
 
   pub have_values : (is : List ListedMetavariable) → IsDependencyOrder Σ Ψ U is → Facts Σ (skeletons_of Ψ) ok Ψ U F γ is → ValuesArePatterns is → Have is

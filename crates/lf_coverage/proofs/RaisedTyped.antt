@@ -38,11 +38,11 @@ use Rattle.lf_coverage.proofs.SolvedCase.{behind_types}
 use Rattle.lf_coverage.proofs.Parts.{suc_same}
 use mathlib.Core.Path.{fun_ext}
 
-abbrev but_newest : ℕ → Bool
+abbrev pub but_newest : ℕ → Bool
 but_newest = hide everything
 
 -- what doesn't use the newest variable comes back from where it is left out
-out_and_back : (B : LfType) → UsesType but_newest B → weaken (rename_type (at_variable zero) B) ≡ B
+pub out_and_back : (B : LfType) → UsesType but_newest B → weaken (rename_type (at_variable zero) B) ≡ B
 out_and_back B u =
     renamings_compose_type suc (at_variable zero) B
     ∙ sym (substitution_as_renaming_type reduce (λ i. suc (at_variable zero i)) B)

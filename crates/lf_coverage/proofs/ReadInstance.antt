@@ -193,7 +193,7 @@ module _ (Σ Σ' : Signature) (ok : IsSignature Σ) (S : ℕ → Bool) (x : Exte
     terms_count : argument_count U ≡ length B.some
     terms_count = ap argument_count ue ∙ count_some B.some υ
 
-    long_at_entry : (later : List LfType) (E : LfType) (es : List LfType) → onto later (E ∷ es) ≡ B.entries → (u : ℕ) → θ k (place_of later) ≡ keep u → read f (eta_expand (skeleton E) (constant (m + length es)) U) ≡ eta_long (skeleton E) (variable (u + length X))
+    pub long_at_entry : (later : List LfType) (E : LfType) (es : List LfType) → onto later (E ∷ es) ≡ B.entries → (u : ℕ) → θ k (place_of later) ≡ keep u → read f (eta_expand (skeleton E) (constant (m + length es)) U) ≡ eta_long (skeleton E) (variable (u + length X))
     long_at_entry later E es e u q = read_entry_long f (skeleton E) (m + length es) (u + length X) U (read_at later E es e u q ∙ ap (λ n. Some (n, u + length X)) (sym terms_count))
 
     -- the next entry before
@@ -205,7 +205,7 @@ module _ (Σ Σ' : Signature) (ok : IsSignature Σ) (S : ℕ → Bool) (x : Exte
     images es i = read_image f (entry_images m U es υ i)
 
     module _ (heads : Reads (constant_skeletons Σ₁) κ' (λ j t e. none_some e) Θ f o) where
-      some_fits : SubstitutionBySkeletons κ' (context_skeletons B.some) Θ (λ i. read_image f (υ i))
+      pub some_fits : SubstitutionBySkeletons κ' (context_skeletons B.some) Θ (λ i. read_image f (υ i))
       some_fits i t g =
           let (A, h, e) = skeleton_has_variable B.some i t g in
           by (υ i) (typed_substitution_by_skeletons Σ₁ ok₁ B.some X υ ut i t g) (subst (λ a. OnOwnTerms o (as_term a (υ i))) e (some_own o B.some υ (subst (SpineOnOwnTerms o) ue uo) i A h))
@@ -225,10 +225,10 @@ module _ (Σ Σ' : Signature) (ok : IsSignature Σ) (S : ℕ → Bool) (x : Exte
           front ih (suc i) t g = ih i t g
 
       -- under the values they are the instance
-      some_agree : (i : ℕ) (A : LfType) → TypeAt B.some i A → as_term (skeleton A) (substitute_image σ (read_image f (υ i))) ≡ as_term (skeleton A) (behind_entries B.entries (θ k) i)
+      pub some_agree : (i : ℕ) (A : LfType) → TypeAt B.some i A → as_term (skeleton A) (substitute_image σ (read_image f (υ i))) ≡ as_term (skeleton A) (behind_entries B.entries (θ k) i)
       some_agree i A g = some_terms_same B.some (after σ (λ j. read_image f (υ j))) (behind_entries B.entries (θ k)) (sym (same ∙ ap (λ V. substitute_spine reduce σ (read_spine f V)) ue ∙ ap (substitute_spine reduce σ) (read_some f B.some υ) ∙ put_some κ' B.some Θ (context_skeletons G) (λ j. read_image f (υ j)) σ some_fits fits)) i A g
 
-      images_agree : (later : List LfType) (E : LfType) (es : List LfType) → onto later (E ∷ es) ≡ B.entries → (i : ℕ) (A : LfType) → TypeAt (onto es B.some) i A → as_term (skeleton A) (substitute_image σ (images es i)) ≡ as_term (skeleton A) (before later (θ k) i)
+      pub images_agree : (later : List LfType) (E : LfType) (es : List LfType) → onto later (E ∷ es) ≡ B.entries → (i : ℕ) (A : LfType) → TypeAt (onto es B.some) i A → as_term (skeleton A) (substitute_image σ (images es i)) ≡ as_term (skeleton A) (before later (θ k) i)
       images_agree later E [] e i A g = some_agree i A g ∙ ap (as_term (skeleton A)) (ap (λ ds. behind_entries ds (θ k) i) (sym e) ∙ before_some later E (θ k) i)
       images_agree later E (D ∷ ds) e zero A g =
           let l : List LfType = onto later (E ∷ []) in

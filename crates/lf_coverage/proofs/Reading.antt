@@ -72,7 +72,7 @@ TypeOnlyConstants P (pi A B) = TypeOnlyConstants P A × TypeOnlyConstants P B
 TypeOnlyConstants P (atom a S) = SpineOnlyConstants P S
 
 mutual
-  any_constants : (M : Term) → OnlyConstants (λ c. Unit {0}) M
+  pub any_constants : (M : Term) → OnlyConstants (λ c. Unit {0}) M
   any_constants (lambda M) = any_constants M
   any_constants (root (constant c) S) = (tt, any_spine S)
   any_constants (root (variable i) S) = any_spine S
@@ -142,7 +142,7 @@ FollowsRead σ None (Some y) = ⊥
 FollowsRead σ (Some x) None = ⊥
 FollowsRead σ (Some (n, v)) (Some (m, u)) = (n ≡ m) × (σ v ≡ keep u)
 
-follows_under : (σ : ℕ → Image) (x y : Option (ℕ × ℕ)) → FollowsRead σ x y → FollowsRead (lift σ) (weaken_read x) (weaken_read y)
+pub follows_under : (σ : ℕ → Image) (x y : Option (ℕ × ℕ)) → FollowsRead σ x y → FollowsRead (lift σ) (weaken_read x) (weaken_read y)
 follows_under σ None None h = tt
 follows_under σ None (Some y) h = absurd h
 follows_under σ (Some x) None h = absurd h

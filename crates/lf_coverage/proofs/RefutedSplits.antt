@@ -29,7 +29,7 @@ use Rattle.lf_cases.proofs.Subordinate.{below_is_subordination}
 use Rattle.lf_totality.proofs.After.{Extends-self}
 use Rattle.lf_coverage.specs.Calls.{AreCasesOf, HeadGives}
 use Rattle.lf_coverage.specs.HeadOrder.{Offer}
-use Rattle.lf_coverage.specs.Heads.{IsTypedCase, MakesHead, Keeps, GivesCase, GivesNone, HeadAnswer, IsHeadSplit, IsSplitAt, SplitsByHeads}
+use Rattle.lf_coverage.specs.Heads.{IsTypedCase, MakesHead, Keeps, GivesCase, GivesNone, HeadAnswer, IsHeadSplit, IsSplitBelow, SplitsByHeads}
 use Rattle.lf_coverage.specs.RefutedSplits.{IsRefutedSplit, RefutesEachHead, RunInExtension, RefutedGivesNone, SolvedGivesCaseBeside, RefutedSplitIsAnswer, RefutedRunCovers}
 use Rattle.lf_coverage.specs.SplitStore.{AllFamiliesIn, split_store, answer_values, solved_case}
 use Rattle.lf_coverage.specs.Subordinate.{AllQuantifiersAreBelow}
@@ -39,8 +39,7 @@ use Rattle.lf_coverage.proofs.ItemsContext.{items_are_context}
 use Rattle.lf_coverage.proofs.NoCase.{families, all_declared, context_declared, whole_block, with_whole, whole_world, in_all_worlds, head_in_all_worlds, none_of_items, never_gives_no_case}
 use Rattle.lf_coverage.proofs.SolvedCase.{answer, free_typed, free_without, heads_without, kept, never_gives_none, no_first, typed_instance, value_typed}
 use Rattle.lf_coverage.proofs.SplitReady.{split_items_typed, split_ready}
-use Rattle.lf_coverage.proofs.CasesOf.{listed_by}
-use Rattle.lf_coverage.proofs.HeadSplit.{heads_split, split_cases_typed}
+use Rattle.lf_coverage.proofs.HeadSplit.{answered_by, heads_split, split_cases_typed}
 use Rattle.lf_coverage.proofs.Leaves.{leaf_is_instance}
 use Rattle.lf_coverage.proofs.Runs.{head_splits_cover, other_run}
 use Rattle.lf_coverage.proofs.SubordinateRuns.{answered_arguments_below, answered_split_is_solved}
@@ -225,22 +224,11 @@ module _ (Σ : Signature) (ok : IsSignature Σ) (W : List Block) (typed : AreTyp
   abbrev X : LfType
   X = sp.answered.type
 
-  split_with : (S : ℕ → Bool) → FamiliesIn S X → (B : LfType → Offer → Option Case → Type 0) → ((h : Offer) (found : Option Case) → Member h sp.answered.offers → HeadIsSolved Σ below C x X h found → B X h found) → IsSplitAt Σ W S below B C x Cs
-  split_with S f B g = record {
-    type = X;
-    at = sp.answered.at;
-    is_free = sp.answered.is_free;
-    families = f;
-    takes_below = (answered_arguments_below Σ ok W typed below test C tc q x Cs sp.answered).0;
-    offers = sp.answered.offers;
-    are_offers = sp.answered.are_offers;
-    in_order = sp.answered.in_order;
-    arguments_below = (answered_arguments_below Σ ok W typed below test C tc q x Cs sp.answered).1;
-    listed = listed_by g sp.answered.listed;
-  }
+  abbrev split_with : (B : LfType → Offer → Option Case → Type 0) → ((h : Offer) (found : Option Case) → Member h sp.answered.offers → HeadIsSolved Σ below C x X h found → B X h found) → IsSplitBelow Σ W below B C x Cs
+  split_with B g = record { answered = answered_by sp.answered g; takes_below = (answered_arguments_below Σ ok W typed below test C tc q x Cs sp.answered).0; arguments_below = (answered_arguments_below Σ ok W typed below test C tc q x Cs sp.answered).1 }
 
   pub head_split : (S : ℕ → Bool) → FamiliesIn S X → IsHeadSplit Σ W S below C x Cs
-  head_split S f = split_with S f (HeadAnswer Σ W S below C x) one
+  head_split S f = record { split = split_with (HeadAnswer Σ W S below C x) one; families = f }
     where
       one : (h : Offer) (found : Option Case) → Member h sp.answered.offers → HeadIsSolved Σ below C x X h found → HeadAnswer Σ W S below C x X h found
       one h None m a = gives_none Σ ok W typed below S C tc x X sp.answered.at h.items h.moved h.head h.type (sp.answered.are_offers.each h m) a.no_block a.kind a.of_family (sp.refuted h m a.kind a.of_family a.finds)
@@ -248,20 +236,15 @@ module _ (Σ : Signature) (ok : IsSignature Σ) (W : List Block) (typed : AreTyp
           let (after, s, e) = a.finds in
           subst (GivesCase Σ W S below C x X h.items h.moved h.head h.type) (sym e) (gives_case Σ ok W typed below S C tc x X sp.answered.at h.items h.moved h.head h.type (sp.answered.are_offers.each h m) a.no_block a.kind a.of_family after s)
 
-  split_listed : (S : ℕ → Bool) → FamiliesIn S X → IsSplitAt Σ W S below (HeadGives Σ W below C x) C x Cs
-  split_listed S f = split_with S f (HeadGives Σ W below C x) one
-    where
-      one : (h : Offer) (found : Option Case) → Member h sp.answered.offers → HeadIsSolved Σ below C x X h found → HeadGives Σ W below C x X h found
-      one h None m a = never_gives_no_case Σ ok W typed below C tc x X sp.answered.at h.items h.moved h.head h.type (sp.answered.are_offers.each h m) a.no_block a.kind a.finds
-      one h (Some D) m a =
-          let (after, s, e) = a.finds in
-          subst (IsSplitBy Σ W below C x X h.items h.moved h.head h.type) (sym e) (solved_is_split Σ ok W typed below C tc x X sp.answered.at h.items h.moved h.head h.type (sp.answered.are_offers.each h m) a.no_block a.kind after s)
+  given_by : (h : Offer) (found : Option Case) → Member h sp.answered.offers → HeadIsSolved Σ below C x X h found → HeadGives Σ W below C x X h found
+  given_by h None m a = never_gives_no_case Σ ok W typed below C tc x X sp.answered.at h.items h.moved h.head h.type (sp.answered.are_offers.each h m) a.no_block a.kind a.finds
+  given_by h (Some D) m a =
+      let (after, s, e) = a.finds in
+      subst (IsSplitBy Σ W below C x X h.items h.moved h.head h.type) (sym e) (solved_is_split Σ ok W typed below C tc x X sp.answered.at h.items h.moved h.head h.type (sp.answered.are_offers.each h m) a.no_block a.kind after s)
 
   pub refuted_cases : AreCasesOf Σ W below C x Cs
   refuted_cases = record {
-    type = X;
-    at = sp.answered.at;
-    listed = λ S sc f. split_listed S f;
+    listed = split_with (HeadGives Σ W below C x) given_by;
     holds = λ S sc f. heads_split Σ ok W typed below (below_is_subordination Σ ok W typed below test) S sc C tc x Cs (head_split S f);
   }
 

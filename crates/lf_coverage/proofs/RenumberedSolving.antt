@@ -6,6 +6,7 @@ use mathlib.Core.Path.{fun_ext}
 use Rattle.lf.specs.Substitution.{Image}
 use Rattle.lf.specs.Syntax.{Term, LfType, variable, nil, skeleton}
 use Rattle.lf.specs.Typing.{Signature, IsSignature, IsContext, HasType}
+use Rattle.lf.specs.Worlds.{instance, lift_over}
 use Rattle.lf_unification.specs.Dependency.{ListedMetavariable, add_free, add_value, free_context, values}
 use Rattle.lf_unification.specs.Filling.{fill_type, moved}
 use Rattle.lf_unification.specs.OpenTyping.{ValueHasType, set_at, skeletons_of}
@@ -18,9 +19,11 @@ use Rattle.lf_unification.proofs.Runs.{run_left, run_solved}
 use Rattle.lf_unification.proofs.Scope.{in_typed, in_typed_type}
 use Rattle.lf_unification.proofs.Solving.{well_formed_answer}
 use Rattle.lf_cases.specs.Case.{Case}
+use Rattle.lf_cases.specs.Missing.{put_in}
+use Rattle.lf_cases.specs.OutputGoal.{free_variables}
 use Rattle.lf_coverage.specs.Renumbering.{Renumbering, renumbered, renumbered_type, renumbered_locals, renumbered_equations, renumbered_order, renumbered_types, renumbered_store}
-use Rattle.lf_coverage.specs.RenumberingLaws.{LeftUnderNumbers, SolvedUnderNumbers, solved_case_at}
-use Rattle.lf_coverage.specs.SplitStore.{answer_image, answer_values, solved_case}
+use Rattle.lf_coverage.specs.RenumberingLaws.{LeftUnderNumbers, SolvedUnderNumbers}
+use Rattle.lf_coverage.specs.SplitStore.{answer_image, answer_values, solved_case, solved_case_at}
 use Rattle.lf_coverage.proofs.RenumberedLeft.{all_left_over}
 use Rattle.lf_coverage.proofs.RenumberedRuns.{run_under}
 use Rattle.lf_coverage.proofs.RenumberedStores.{injective, order_same, well_formed}
@@ -94,15 +97,12 @@ module _ (Σ : Signature) (ok : IsSignature Σ) (π : Renumbering) (s : Store) (
   pub same_items : free_context (skeletons_of (renumbered_types π s.metavariables)) (renumbered_order π.to w.order) ≡ free_context (skeletons_of s.metavariables) w.order
   same_items = sym (free_same π s.metavariables w.order) ∙ plain_context Σ π.to (free_context (skeletons_of s.metavariables) w.order) answered.0.context
 
-  -- so the case is the same
-  pub same_case : (C : Case) (k : ℕ) → solved_case C k (renumbered_store π s) (renumbered_order π.to w.order) ≡ solved_case_at C (λ i. π.back (i + k)) s w.order
-  same_case C k = ap₂ (λ O σ. case O σ) same_items (fun_ext (λ i. same_answer (i + k)))
+  -- so the case is the same, where variable i is metavariable f i
+  pub same_read : (C : Case) (f : ℕ → ℕ) → solved_case_at C f (renumbered_store π s) (renumbered_order π.to w.order) ≡ solved_case_at C (λ i. π.back (f i)) s w.order
+  same_read C f = ap₂ (λ O σ. case O σ) same_items (fun_ext (λ i. same_answer (f i)))
     where
       case : List LfType → (ℕ → Image) → Case
-      case O σ = record {
-        items = Rattle.lf_cases.specs.OutputGoal.free_variables O;
-        given = Rattle.lf_cases.specs.Missing.put_in σ C.given;
-        local = Rattle.lf.specs.Worlds.instance C.local σ;
-        family = C.family;
-        arguments = Rattle.lf_cases.specs.Missing.put_in (Rattle.lf.specs.Worlds.lift_over C.local σ) C.arguments;
-      }
+      case O σ = record { items = free_variables O; given = put_in σ C.given; local = instance C.local σ; family = C.family; arguments = put_in (lift_over C.local σ) C.arguments }
+
+  pub same_case : (C : Case) (k : ℕ) → solved_case C k (renumbered_store π s) (renumbered_order π.to w.order) ≡ solved_case_at C (λ i. π.back (i + k)) s w.order
+  same_case C k = same_read C (λ i. i + k)

@@ -85,7 +85,7 @@ module _ (Σ : Signature) (W : List Block) (C : Case) (tc : IsTypedCase Σ W C) 
   terms_alike Γ σ τ h (Some M ∷ Ms) ((t, m), k) = ap₂ (λ N Ns. Some N ∷ Ns) (same_in (constant_skeletons Σ) (context_skeletons Γ) σ τ (λ i u z. let (B, b, e) = skeleton_has_variable Γ i u z in h i B b) M t m) (terms_alike Γ σ τ h Ms k)
   terms_alike Γ σ τ h (None ∷ Ms) k = ap (λ Ns. None ∷ Ns) (terms_alike Γ σ τ h Ms k)
 
-  read_alike : (s : Store) (order : List ListedMetavariable) (f g : ℕ → ℕ) → ((i : ℕ) (B : LfType) → TypeAt (items_context C.items) i B → f i ≡ g i) → solved_case_at C f s order ≡ solved_case_at C g s order
+  pub read_alike : (s : Store) (order : List ListedMetavariable) (f g : ℕ → ℕ) → ((i : ℕ) (B : LfType) → TypeAt (items_context C.items) i B → f i ≡ g i) → solved_case_at C f s order ≡ solved_case_at C g s order
   read_alike s order f g h = ap₂ (λ Ms L. with_given Ms L (put_in (lift_over C.local σ) C.arguments)) (terms_alike (items_context C.items) σ τ agrees C.given tc.given) locals.0 ∙ ap (with_given (put_in τ C.given) (instance C.local τ)) (terms_alike (onto C.local (items_context C.items)) (lift_over C.local σ) (lift_over C.local τ) locals.1 C.arguments tc.arguments)
     where
       σ : ℕ → Image
@@ -104,7 +104,7 @@ module _ (Σ : Signature) (W : List Block) (C : Case) (tc : IsTypedCase Σ W C) 
       with_given Ms L Ns = record { items = free_variables (free_context (skeletons_of s.metavariables) order); given = Ms; local = L; family = C.family; arguments = Ns }
 
 -- The variables of a case are metavariables of its store.
-declared_there : (Σ : Signature) (W : List Block) (below : ℕ → ℕ → Bool) (I : List Item) (X : LfType) (J : List Item) (n : ℕ) (h : Head) (A : LfType) → SplitHead Σ W I X J n h A → HasNoBlockVariable J → (i : ℕ) (B : LfType) → TypeAt (items_context I) i B → (Y : LfType) × (context_metavariables (items_context (split_items below X J n A)) (i + (n + arguments_count A)) ≡ Some Y)
+pub declared_there : (Σ : Signature) (W : List Block) (below : ℕ → ℕ → Bool) (I : List Item) (X : LfType) (J : List Item) (n : ℕ) (h : Head) (A : LfType) → SplitHead Σ W I X J n h A → HasNoBlockVariable J → (i : ℕ) (B : LfType) → TypeAt (items_context I) i B → (Y : LfType) × (context_metavariables (items_context (split_items below X J n A)) (i + (n + arguments_count A)) ≡ Some Y)
 declared_there Σ W below I X J n h A sh nj i B b = by sh nj
   where
     at : (ks : List (List Bool)) (D : List LfType) (A : LfType) → (Y : LfType) × (context_metavariables (items_context (head_items ks D (arguments_count A) A I)) (i + arguments_count A) ≡ Some Y)

@@ -91,7 +91,7 @@ module _ (Σ : Signature) (ok : IsSignature Σ) (π : Renumbering) where
   between {s} {s'} {t} {t'} p q r = subst (λ x. Step Σ x s') (sym p) (subst (Step Σ t) (sym q) r)
 
   -- the equations with m on a pattern in front
-  at_pattern : (Ψ : ℕ → Option LfType) (es : List Equation) (side : Side) (D : List LfType) (m : ℕ) (xs : List ℕ) (N : Term) (C : LfType) → renumbered_equations π.to (equation_on side D (on_pattern Ψ m xs) N C ∷ es) ≡ equation_on side (renumbered_locals π.to D) (on_pattern (renumbered_types π Ψ) (π.to m) xs) (renumbered π.to N) (renumbered_type π.to C) ∷ renumbered_equations π.to es
+  pub at_pattern : (Ψ : ℕ → Option LfType) (es : List Equation) (side : Side) (D : List LfType) (m : ℕ) (xs : List ℕ) (N : Term) (C : LfType) → renumbered_equations π.to (equation_on side D (on_pattern Ψ m xs) N C ∷ es) ≡ equation_on side (renumbered_locals π.to D) (on_pattern (renumbered_types π Ψ) (π.to m) xs) (renumbered π.to N) (renumbered_type π.to C) ∷ renumbered_equations π.to es
   at_pattern Ψ es side D m xs N C = ap (λ e. e ∷ renumbered_equations π.to es) (side_same π.to side D (on_pattern Ψ m xs) N C ∙ ap (λ M. equation_on side (renumbered_locals π.to D) M (renumbered π.to N) (renumbered_type π.to C)) (pattern_is π Ψ m xs))
 
   pub step_moved : {s s' : Store} (p : Step Σ s s') → NewIsFree π p → Step Σ (renumbered_store π s) (renumbered_store π s')

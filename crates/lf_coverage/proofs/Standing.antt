@@ -68,7 +68,7 @@ index_type (D ∷ ds) E C k X g = let (Y, h, e) = index_type ds E C k X g in (we
 behind_one : (Σ : Signature) (C G : List LfType) (X : LfType) (θ : ℕ → Image) → IsTypedSubstitution Σ (X ∷ C) G θ → IsTypedSubstitution Σ C G (λ i. θ (suc i))
 behind_one Σ C G X θ t i A g = subst (ImageHasType Σ G (θ (suc i))) (substitute_renamed_type reduce θ suc A) (t (suc i) (weaken A) (A, g, refl))
 
-before_typed : (Σ : Signature) (G later : List LfType) (E : LfType) (C : List LfType) (θ : ℕ → Image) → IsTypedSubstitution Σ (onto later (E ∷ C)) G θ → IsTypedSubstitution Σ C G (before later θ)
+pub before_typed : (Σ : Signature) (G later : List LfType) (E : LfType) (C : List LfType) (θ : ℕ → Image) → IsTypedSubstitution Σ (onto later (E ∷ C)) G θ → IsTypedSubstitution Σ C G (before later θ)
 before_typed Σ G [] E C θ t = behind_one Σ C G E θ t
 before_typed Σ G (D ∷ ds) E C θ t = before_typed Σ G ds E C (λ i. θ (suc i)) (behind_one Σ (onto ds (E ∷ C)) G D θ t)
 
@@ -77,13 +77,12 @@ pub record Outer (Σ : Signature) (G : List LfType) (c : Clause) (σ τ outer : 
   pub typed : IsTypedSubstitution Σ c.outer G outer
   pub same : (k : ℕ) (X : LfType) → TypeAt c.outer k X → as_term (skeleton X) (substitute_image σ (τ (out_index c.type k))) ≡ as_term (skeleton X) (outer k)
 
--- before an entry
-pub entry_outer : (Σ : Signature) → IsSignature Σ → {W : List Block} {S : ℕ → Bool} {G : List LfType} (w : World Σ W S G) (B : Block) (later : List LfType) (E : LfType) (es : List LfType) → onto later (E ∷ es) ≡ B.entries → (σ τ θ φ : ℕ → Image) → InstanceIn w B φ → ((k : ℕ) (X : LfType) → TypeAt (onto B.entries B.some) k X → as_term (skeleton X) (φ k) ≡ as_term (skeleton X) (after σ θ k)) → AgreesOutside (entry_clause B es E) τ (before later θ) → Outer Σ G (entry_clause B es E) σ τ (before later φ)
-entry_outer Σ ok {G = G} w B later E es q σ τ θ φ i h agrees =
-    let begun = instance_typed Σ ok w B φ i in
+-- before an entry, of images of its block
+pub entry_outer_of : (Σ : Signature) (G : List LfType) (B : Block) (later : List LfType) (E : LfType) (es : List LfType) → onto later (E ∷ es) ≡ B.entries → (σ τ θ φ : ℕ → Image) → IsTypedSubstitution Σ (onto B.entries B.some) G φ → ((k : ℕ) (X : LfType) → TypeAt (onto B.entries B.some) k X → as_term (skeleton X) (φ k) ≡ as_term (skeleton X) (after σ θ k)) → AgreesOutside (entry_clause B es E) τ (before later θ) → Outer Σ G (entry_clause B es E) σ τ (before later φ)
+entry_outer_of Σ G B later E es q σ τ θ φ t h agrees =
     let shape : onto B.entries B.some ≡ onto later (E ∷ onto es B.some) = ap (λ D. onto D B.some) (sym q) ∙ onto_onto later (E ∷ es) B.some in
     record {
-      typed = before_typed Σ G later E (onto es B.some) φ (subst (λ C. IsTypedSubstitution Σ C G φ) shape (λ k X t. begun.typed.typed k X t refl));
+      typed = before_typed Σ G later E (onto es B.some) φ (subst (λ C. IsTypedSubstitution Σ C G φ) shape t);
       same = λ k X t. let (Y, y, f) = index_type later E (onto es B.some) k X t in
           ap (λ z. as_term (skeleton X) (substitute_image σ z)) (sym (outer_at E τ k) ∙ agrees k X t ∙ before_is later θ k)
           ∙ ap (λ a. as_term a (after σ θ (entry_index later k))) (sym f)
@@ -91,3 +90,7 @@ entry_outer Σ ok {G = G} w B later E es q σ τ θ φ i h agrees =
           ∙ ap (λ a. as_term a (φ (entry_index later k))) f
           ∙ ap (as_term (skeleton X)) (sym (before_is later φ k));
     }
+
+-- of an instance of the block in a context
+pub entry_outer : (Σ : Signature) → IsSignature Σ → {W : List Block} {S : ℕ → Bool} {G : List LfType} (w : World Σ W S G) (B : Block) (later : List LfType) (E : LfType) (es : List LfType) → onto later (E ∷ es) ≡ B.entries → (σ τ θ φ : ℕ → Image) → InstanceIn w B φ → ((k : ℕ) (X : LfType) → TypeAt (onto B.entries B.some) k X → as_term (skeleton X) (φ k) ≡ as_term (skeleton X) (after σ θ k)) → AgreesOutside (entry_clause B es E) τ (before later θ) → Outer Σ G (entry_clause B es E) σ τ (before later φ)
+entry_outer Σ ok {G = G} w B later E es q σ τ θ φ i h agrees = entry_outer_of Σ G B later E es q σ τ θ φ (λ k X t. (instance_typed Σ ok w B φ i).typed.typed k X t refl) h agrees

@@ -47,7 +47,7 @@ module _ (Σ : Signature) (Ψ : ℕ → Option LfType) where
   next_spine : (Δ : List Skeleton) (A : LfType) (M : Term) (K : Kind) (S : Spine) → SpineSkeleton (declared_in Σ Ψ) Δ S (kind_skeleton 0 K) (base 0) → SpineSkeleton (declared_in Σ Ψ) Δ S (kind_skeleton 0 (instantiate_kind A M K)) (base 0)
   next_spine Δ A M K S s = subst (λ t. SpineSkeleton (declared_in Σ Ψ) Δ S t (base 0)) (sym (kind_skeleton_substituted 0 reduce (single (skeleton A) M) K)) s
 
-  spine_have : (D : List LfType) → LocalsHaveSkeletons Σ Ψ D → (K : Kind) (S T : Spine) → KindBySkeletons (family_skeletons Σ) (declared_in Σ Ψ) (local_skeletons D []) K → SpineSkeleton (declared_in Σ Ψ) (local_skeletons D []) S (kind_skeleton 0 K) (base 0) → TypesHaveSkeletons Σ Ψ (spine_equations D K S T)
+  pub spine_have : (D : List LfType) → LocalsHaveSkeletons Σ Ψ D → (K : Kind) (S T : Spine) → KindBySkeletons (family_skeletons Σ) (declared_in Σ Ψ) (local_skeletons D []) K → SpineSkeleton (declared_in Σ Ψ) (local_skeletons D []) S (kind_skeleton 0 K) (base 0) → TypesHaveSkeletons Σ Ψ (spine_equations D K S T)
   spine_have D l star S T k s = tt
   spine_have D l (kind_pi A K) nil T k s = tt
   spine_have D l (kind_pi A K) (app M S) nil k s = tt
@@ -71,17 +71,17 @@ module _ (Σ : Signature) (ok : IsSignature Σ) (X : List LfType) (cx : IsContex
   declared : (i : ℕ) (A : LfType) → TypeAt X i A → type_skeleton (context_metavariables X i) ≡ Some (skeleton A)
   declared i A h = ap (λ y. type_skeleton (open_some y)) (looked_up X i A h) ∙ ap Some (skeleton_open zero A)
 
-  type_has : (L : List LfType) (A : LfType) → TypeBySkeletons (family_skeletons Σ) (Rattle.lf.specs.Skeletons.constant_skeletons Σ) (context_skeletons (onto L X)) A → TypeBySkeletons (family_skeletons Σ) κ (local_skeletons (open_locals L) []) (open_type (length L) A)
+  pub type_has : (L : List LfType) (A : LfType) → TypeBySkeletons (family_skeletons Σ) (Rattle.lf.specs.Skeletons.constant_skeletons Σ) (context_skeletons (onto L X)) A → TypeBySkeletons (family_skeletons Σ) κ (local_skeletons (open_locals L) []) (open_type (length L) A)
   type_has L A k = type_opened_by Σ X κ (λ c. refl) declared L [] A k
 
-  locals_have : (L : List LfType) → IsContext Σ (onto L X) → LocalsHaveSkeletons Σ Ψ (open_locals L)
+  pub locals_have : (L : List LfType) → IsContext Σ (onto L X) → LocalsHaveSkeletons Σ Ψ (open_locals L)
   locals_have [] c = tt
   locals_have (A ∷ L) (c, t) = (locals_have L c, type_has L A (type_by_skeletons Σ (onto L X) A t))
 
-  kind_has : (L : List LfType) (a : ℕ) (K : Kind) → Σ.kinds a ≡ Some K → KindBySkeletons (family_skeletons Σ) κ (local_skeletons (open_locals L) []) K
+  pub kind_has : (L : List LfType) (a : ℕ) (K : Kind) → Σ.kinds a ≡ Some K → KindBySkeletons (family_skeletons Σ) κ (local_skeletons (open_locals L) []) K
   kind_has L a K e = subst (KindBySkeletons (family_skeletons Σ) κ (local_skeletons (open_locals L) [])) (family_open Σ ok X (λ β. Unit {0}) (length L) a K e) (kind_opened_by Σ X κ (λ c. refl) declared L [] K (kind_by_skeletons Σ (onto L X) K (family_kind Σ ok (onto L X) a K e)))
 
-  spine_has : (L : List LfType) (S : Spine) (K : Kind) → SpineFitsKind Σ (onto L X) S K → SpineSkeleton κ (local_skeletons (open_locals L) []) (open_spine (length L) S) (kind_skeleton 0 K) (base 0)
+  pub spine_has : (L : List LfType) (S : Spine) (K : Kind) → SpineFitsKind Σ (onto L X) S K → SpineSkeleton κ (local_skeletons (open_locals L) []) (open_spine (length L) S) (kind_skeleton 0 K) (base 0)
   spine_has L S K s = spine_opened_by Σ X κ (λ c. refl) declared L [] S (kind_skeleton 0 K) (base 0) (kind_spine_has_skeleton Σ 0 (onto L X) S K s)
 
   givens_have : (k : ℕ) (Ms : List (Option Term)) → TypesHaveSkeletons Σ Ψ (given_equations X k Ms)

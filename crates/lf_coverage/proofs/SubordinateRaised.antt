@@ -57,7 +57,7 @@ occurs_type_renamed : (ρ : ℕ → ℕ) (x : ℕ) (A : LfType) → occurs_type 
 occurs_type_renamed ρ x (pi A B) e = one_of {a = occurs_type x A} (occurs_type_renamed ρ x A) (occurs_type_renamed (lift_renaming ρ) (suc x) B) e
 occurs_type_renamed ρ x (atom a S) e = occurs_spine_renamed ρ x S e
 
-target_declared : (Σ : Signature) (G : List LfType) (A : LfType) → IsType Σ G A → IsDeclared Σ (target A)
+pub target_declared : (Σ : Signature) (G : List LfType) (A : LfType) → IsType Σ G A → IsDeclared Σ (target A)
 target_declared Σ G (pi A B) (a, b) = target_declared Σ (A ∷ G) B b
 target_declared Σ G (atom a S) (K, e, s) = (K, e)
 

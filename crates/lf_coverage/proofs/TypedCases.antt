@@ -40,12 +40,12 @@ pub instance_stays_typed : InstanceStaysTyped
 instance_stays_typed Σ ok W typed C D p tp tb n i = stays_typed Σ ok W typed C D p tp tb i.typed_items i.values (instance_is_typed Σ ok W typed D.items C.items i.values n i.is_instance) i.same_family i.same_given i.same_local i.same_arguments
 
 pub split_cases_stay_typed : SplitCasesStayTyped
-split_cases_stay_typed Σ ok W typed below S C p tp tb n x Cs sp D l = let (h, k, a) = head_of_case sp.listed D l in by h.items h.moved h.head h.type (sp.are_offers.each h k) a
+split_cases_stay_typed Σ ok W typed below S C p tp tb n x Cs sp D l = let (h, k, a) = head_of_case sp.split.answered.listed D l in by h.items h.moved h.head h.type (sp.split.answered.are_offers.each h k) a
   where
-    by : (J : List Item) (m : ℕ) (h : Head) (A : LfType) → SplitHead Σ W C.items sp.type J m h A → GivesCase Σ W S below C x sp.type J m h A D → IsTypedBeside Σ W D p
+    by : (J : List Item) (m : ℕ) (h : Head) (A : LfType) → SplitHead Σ W C.items sp.split.answered.type J m h A → GivesCase Σ W S below C x sp.split.answered.type J m h A D → IsTypedBeside Σ W D p
     by J m h A sh c =
         let σ : ℕ → Image = λ i. c.values (i + (m + arguments_count A)) in
-        let i : IsTypedInstance Σ D.items C.items σ = behind_all Σ D.items W below C.items sp.type J m h A sh c.values c.is_instance in
+        let i : IsTypedInstance Σ D.items C.items σ = behind_all Σ D.items W below C.items sp.split.answered.type J m h A sh c.values c.is_instance in
         stays_typed Σ ok W typed C D p tp tb c.typed_items σ (instance_is_typed Σ ok W typed D.items C.items σ n i) c.family c.given c.local c.arguments
 
 pub reached_stays_typed : ReachedStaysTyped

@@ -51,7 +51,7 @@ module _ (Σ : Signature) where
   known_under Γ a o σ v (suc i) t g = image_under o (σ i) (v i t g)
 
   mutual
-    put_known : (Γ : List Skeleton) (o : ℕ → Option Spine) (σ : ℕ → Image) (M : Term) (t : Skeleton) → ((c : ℕ) → IsOld Σ c → o c ≡ None) → ((i : ℕ) (u : Skeleton) → SkeletonAt Γ i u → ImageOnOwnTerms o (σ i)) → TermSkeleton (constant_skeletons Σ) Γ M t → OnOwnTerms o (substitute reduce σ M)
+    pub put_known : (Γ : List Skeleton) (o : ℕ → Option Spine) (σ : ℕ → Image) (M : Term) (t : Skeleton) → ((c : ℕ) → IsOld Σ c → o c ≡ None) → ((i : ℕ) (u : Skeleton) → SkeletonAt Γ i u → ImageOnOwnTerms o (σ i)) → TermSkeleton (constant_skeletons Σ) Γ M t → OnOwnTerms o (substitute reduce σ M)
     put_known Γ o σ (lambda M) (arrow a b) h v m = put_known (a ∷ Γ) (λ c. weaken_own (o c)) (lift σ) M b (λ c p. ap weaken_own (h c p)) (known_under Γ a o σ v) m
     put_known Γ o σ (lambda M) (base d) h v m = absurd m
     put_known Γ o σ (root k S) (arrow a b) h v m = absurd m
@@ -88,7 +88,7 @@ module _ (Σ : Signature) (ok : IsSignature Σ) (W : List Block) (typed : AreTyp
   fits : SubstitutionBySkeletons (constant_skeletons Σ₁) (context_skeletons (items_context C.items)) (context_skeletons (numbering first C.items).variables) (numbering first C.items).images
   fits = typed_substitution_by_skeletons Σ₁ ok₁ (items_context C.items) n.variables n.images r.images
 
-  extends : Extends nothing Σ Σ₁
+  pub extends : Extends nothing Σ Σ₁
   extends = record { ok = ok₁; types_stay = entries_kept Σ first (blocks_of n.blocks); kinds_stay = λ a K e. e; no_new = λ c A e s. absurd cc }
 
   put_all : (Γ Δ : List Skeleton) (σ : ℕ → Image) → SubstitutionBySkeletons (constant_skeletons Σ₁) Γ Δ σ → (Ms : List (Option Term)) → HaveSkeletons (constant_skeletons Σ) Γ Ms → HaveSkeletons (constant_skeletons Σ₁) Δ (put_in σ Ms)

@@ -1,9 +1,10 @@
 -- What the calls of coverage are to answer: the contracts that `instance_of`, `split`, `cover`, `input_goal` and `output_goal` will carry. A case
--- stands here for what the program keeps of it. The own block variable of an entry is here the last of the items. A split by an entry of a new block
--- variable may put it before that one: such splits have no answer until block variables have numbers (`NumberedCase`).
+-- stands here for what the program keeps of it. The own block variable of an entry is here the last of the items, so a split by an entry of a new block
+-- variable, which may put it before that one, has no answer here: by number it is that of number 0 (`EntryPatternsOutputs`), a split is answered as
+-- `IsNumberedSplit` says, beside the sets that `AnsweredByNumberIsSplit` names, and a run covers as `AnsweredByNumberCovers` says.
 use Rattle.std.specs.Prelude.{◌≡◌, ℕ, List, [], ◌∷◌, Bool, true, false, Option, Some, None}
 use Rattle.lf.specs.Syntax.{LfType, Kind, kind_pi, star}
-use Rattle.lf.specs.Typing.{Signature, TypeAt}
+use Rattle.lf.specs.Typing.{Signature}
 use Rattle.lf.specs.Variables.{target, FamiliesIn}
 use Rattle.lf.specs.Subordination.{Block, SelfContained}
 use Rattle.lf_unification.specs.Unifiers.{Equation}
@@ -17,7 +18,7 @@ use Rattle.lf_cases.specs.OutputGoal.{output_goal}
 use Rattle.lf_cases.specs.Reached.{GivesNoCase, IsApart, IsInstanceOf, IsSplitBy, IsUnsplit, Meets, Reached}
 use Rattle.lf_cases.specs.Split.{IsSplit}
 use Rattle.lf_coverage.specs.HeadOrder.{Offer}
-use Rattle.lf_coverage.specs.Heads.{IsSplitAt}
+use Rattle.lf_coverage.specs.Heads.{IsSplitBelow}
 use Rattle.lf_coverage.specs.MeetStore.{IsOpen}
 use Rattle.lf_coverage.specs.Outside.{RunLeaves, SplitLeaves}
 use Rattle.lf_coverage.specs.SplitStore.{AllFamiliesIn}
@@ -52,10 +53,8 @@ HeadGives Σ W below C x X h None = GivesNoCase Σ W below x X h.items h.moved h
 -- The listed cases are what the heads give, in their order; and beside each of these self-contained sets one of them holds each tuple that the case
 -- holds with different instances for different block variables.
 pub record AreCasesBeside (Σ : Signature) (W : List Block) (below : ℕ → ℕ → Bool) (C : Case) (x : ℕ) (Cs : List Case) (These : (ℕ → Bool) → LfType → Type 0) : Type 0 where
-  pub type : LfType
-  pub at : TypeAt (items_context C.items) x type
-  pub listed : (S : ℕ → Bool) → SelfContained Σ W S → These S type → IsSplitAt Σ W S below (HeadGives Σ W below C x) C x Cs
-  pub holds : (S : ℕ → Bool) → SelfContained Σ W S → These S type → IsSplit Σ W S C Cs
+  pub listed : IsSplitBelow Σ W below (HeadGives Σ W below C x) C x Cs
+  pub holds : (S : ℕ → Bool) → SelfContained Σ W S → These S listed.answered.type → IsSplit Σ W S C Cs
 
 -- So it is beside those that hold the families of the variable's type.
 abbrev pub AreCasesOf : Signature → List Block → (ℕ → ℕ → Bool) → Case → ℕ → List Case → Type 0

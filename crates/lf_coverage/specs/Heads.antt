@@ -79,18 +79,26 @@ pub data Listed (Answer : Offer → Option Case → Type 0) : List Offer → Lis
   with_case : {h : Offer} {D : Case} {hs : List Offer} {Cs : List Case} → Answer h (Some D) → Listed Answer hs Cs → Listed Answer (h ∷ hs) (D ∷ Cs)
   without_case : {h : Offer} {hs : List Offer} {Cs : List Case} → Answer h None → Listed Answer hs Cs → Listed Answer (h ∷ hs) Cs
 
--- A split of the free variable x of C: each head of its family is offered, in order, and the answers make the list of cases.
-pub record IsSplitAt (Σ : Signature) (W : List Block) (S : ℕ → Bool) (below : ℕ → ℕ → Bool) (Answer : LfType → Offer → Option Case → Type 0) (C : Case) (x : ℕ) (Cs : List Case) : Type 0 where
+-- Each head for the free variable x of C is offered, in order, and the answers make the list of cases.
+pub record HeadsAreAnswered (Σ : Signature) (W : List Block) (Answer : LfType → Offer → Option Case → Type 0) (C : Case) (x : ℕ) (Cs : List Case) : Type 0 where
   pub type : LfType
   pub at : TypeAt (items_context C.items) x type
   pub is_free : free_among C.items x ≡ true
-  pub families : FamiliesIn S type
-  pub takes_below : ArgumentsAreBelow below type
   pub offers : List Offer
   pub are_offers : AreOffers Σ W C.items type offers
   pub in_order : AreInOrder W C.items type offers
-  pub arguments_below : (J : List Item) (n : ℕ) (h : Head) (A : LfType) → SplitHead Σ W C.items type J n h A → ArgumentsAreBelow below A
   pub listed : Listed (Answer type) offers Cs
+
+-- And the families in the types of the arguments that x and the heads take are below their own.
+pub record IsSplitBelow (Σ : Signature) (W : List Block) (below : ℕ → ℕ → Bool) (Answer : LfType → Offer → Option Case → Type 0) (C : Case) (x : ℕ) (Cs : List Case) : Type 0 where
+  pub answered : HeadsAreAnswered Σ W Answer C x Cs
+  pub takes_below : ArgumentsAreBelow below answered.type
+  pub arguments_below : (J : List Item) (n : ℕ) (h : Head) (A : LfType) → SplitHead Σ W C.items answered.type J n h A → ArgumentsAreBelow below A
+
+-- A split of x, whose type has its families in S.
+pub record IsSplitAt (Σ : Signature) (W : List Block) (S : ℕ → Bool) (below : ℕ → ℕ → Bool) (Answer : LfType → Offer → Option Case → Type 0) (C : Case) (x : ℕ) (Cs : List Case) : Type 0 where
+  pub split : IsSplitBelow Σ W below Answer C x Cs
+  pub families : FamiliesIn S split.answered.type
 
 -- a head gives a case, or none
 abbrev pub HeadAnswer : Signature → List Block → (ℕ → Bool) → (ℕ → ℕ → Bool) → Case → ℕ → LfType → Offer → Option Case → Type 0

@@ -5,16 +5,12 @@ use Rattle.lf.specs.Subordination.{Block, AreTypedBlocks, Member}
 use Rattle.lf.specs.Syntax.{Head, LfType, Kind}
 use Rattle.lf.specs.Typing.{Signature, IsSignature, TypeAt}
 use Rattle.lf.specs.Variables.{target}
-use Rattle.lf.specs.Worlds.{lift_over, instance}
 use Rattle.lf_unification.specs.DeepEquations.{AreDeep}
-use Rattle.lf_unification.specs.Dependency.{ListedMetavariable, free_context}
-use Rattle.lf_unification.specs.OpenTyping.{skeletons_of}
 use Rattle.lf_unification.specs.Solving.{IsWellFormed, Left, LeftOver, Never, Solved}
 use Rattle.lf_unification.specs.Steps.{Step}
 use Rattle.lf_unification.specs.Unifiers.{Equation, Store}
 use Rattle.lf_cases.specs.Case.{Item, Case, items_context}
-use Rattle.lf_cases.specs.Missing.{CommonInstance, put_in}
-use Rattle.lf_cases.specs.OutputGoal.{free_variables}
+use Rattle.lf_cases.specs.Missing.{CommonInstance}
 use Rattle.lf_cases.specs.Pattern.{Pattern}
 use Rattle.lf_cases.specs.Reached.{arguments_count, GivesNoCase, IsApart, IsSplitBy, SplitHead}
 use Rattle.lf_cases.specs.Split.{HasNoBlockVariable}
@@ -24,7 +20,8 @@ use Rattle.lf_coverage.specs.Leaf.{IsTypedPattern}
 use Rattle.lf_coverage.specs.MeetStore.{IsConstants, IsOpen, meet_store}
 use Rattle.lf_coverage.specs.Outside.{SplitLeaves}
 use Rattle.lf_coverage.specs.Renumbering.{AgreeOn, HasNumbers, Renumbering, renumbered_equation, renumbered_order, renumbered_store, undone}
-use Rattle.lf_coverage.specs.SplitStore.{answer_values, split_store}
+pub use Rattle.lf_coverage.specs.SplitStore.{solved_case_at}
+use Rattle.lf_coverage.specs.SplitStore.{split_store}
 use Rattle.lf_coverage.specs.StoreSkeletons.{StoreHasSkeletons}
 use Rattle.lf_coverage.specs.TooDeep.{SplitIsTooDeep}
 use Rattle.lf_coverage.specs.TypedCase.{IsTypedBeside}
@@ -71,16 +68,6 @@ abbrev pub DeepUnderNumbers : Type 0
 DeepUnderNumbers = (limit : ℕ) (Σ : Signature) → IsSignature Σ → (π : Renumbering) (s : Store) → (AreDeep limit Σ s → AreDeep limit Σ (renumbered_store π s)) × (AreDeep limit Σ (renumbered_store π s) → AreDeep limit Σ s)
 
 -- So unification of a case may be done under any numbers of its metavariables.
-
--- The case that a solved store gives, where variable i of C is metavariable f i.
-abbrev pub solved_case_at : Case → (ℕ → ℕ) → Store → List ListedMetavariable → Case
-solved_case_at C f s order = record {
-  items = free_variables (free_context (skeletons_of s.metavariables) order);
-  given = put_in (λ i. answer_values s order (f i)) C.given;
-  local = instance C.local (λ i. answer_values s order (f i));
-  family = C.family;
-  arguments = put_in (lift_over C.local (λ i. answer_values s order (f i))) C.arguments;
-}
 
 -- What unification finds for a head under any numbers, it finds: none, or the case that is read off at these numbers. So the laws of a solved split hold
 -- whatever the numbers are.

@@ -90,13 +90,17 @@ answer_image a (Some N) = put a N
 abbrev pub answer_values : Store → List ListedMetavariable → ℕ → Image
 answer_values s order i = answer_image (skeletons_of s.metavariables i) (values (skeletons_of s.metavariables) order i)
 
--- The case that a solved store gives: its items are the metavariables that stay free, in the order of dependency, and the values are put into
--- what C has, of which the variables have moved by k.
-abbrev pub solved_case : Case → ℕ → Store → List ListedMetavariable → Case
-solved_case C k s order = record {
+-- The case that a solved store gives, where variable i of C is metavariable f i: its items are the metavariables that stay free, in the order of
+-- dependency, and the values are put into what C has.
+abbrev pub solved_case_at : Case → (ℕ → ℕ) → Store → List ListedMetavariable → Case
+solved_case_at C f s order = record {
   items = free_variables (free_context (skeletons_of s.metavariables) order);
-  given = put_in (λ i. answer_values s order (i + k)) C.given;
-  local = instance C.local (λ i. answer_values s order (i + k));
+  given = put_in (λ i. answer_values s order (f i)) C.given;
+  local = instance C.local (λ i. answer_values s order (f i));
   family = C.family;
-  arguments = put_in (lift_over C.local (λ i. answer_values s order (i + k))) C.arguments;
+  arguments = put_in (lift_over C.local (λ i. answer_values s order (f i))) C.arguments;
 }
+
+-- So it is where the variables of C have moved by k.
+abbrev pub solved_case : Case → ℕ → Store → List ListedMetavariable → Case
+solved_case C k s order = solved_case_at C (λ i. i + k) s order

@@ -958,3 +958,391 @@ pub fn splits_by_patterns_keep_them()
     ensures inputs { InputSplitsHavePatterns }
     ensures never_stuck { InputSplitsAreNeverStuck }
 {}
+
+ghost use Rattle.lf_coverage.specs.RefutingNumbers.{RunUnderNumbers, RefutedUnderNumbers, RefutedGivesNoneUnderNumbers, RefutedIsApartUnderNumbers, FoundSplitIsRefuted, RefutedSplitIsFound, FoundSplitIsAnswer, FoundRunIsRefuted};
+ghost use Rattle.lf_coverage.specs.RefutingNumbersStores.{NumberedStoreIsFound};
+ghost use Rattle.lf_coverage.specs.CoveredOutputRuns.{OutputGoalIsBeside, OutputPlacesAreBelow, CandidateRunGivesOutputs, CandidateRunGivesOwnOutputs, FoundRunGivesOutputs};
+
+/// Steps refute a store whatever numbers its metavariables have.
+pub fn refuted_under_numbers()
+    ensures run { RunUnderNumbers }
+    ensures store { RefutedUnderNumbers }
+    ensures none { RefutedGivesNoneUnderNumbers }
+    ensures apart { RefutedIsApartUnderNumbers }
+{}
+
+/// So a split is one at each head of which unification answers or refutes, where solving the stores in numbers of their own says so; and a run is.
+pub fn found_split_is_refuted()
+    ensures split { FoundSplitIsRefuted }
+    ensures any_numbers { RefutedSplitIsFound }
+    ensures own_numbers { NumberedStoreIsFound }
+    ensures answer { FoundSplitIsAnswer }
+    ensures run { FoundRunIsRefuted }
+{}
+
+/// A run at candidates from the goal of a constant's outputs to instances of the subgoal gives what totality asks of it.
+pub fn candidate_run_gives_outputs()
+    ensures beside { OutputGoalIsBeside }
+    ensures places { OutputPlacesAreBelow }
+    ensures constant { CandidateRunGivesOutputs }
+    ensures own { CandidateRunGivesOwnOutputs }
+    ensures found { FoundRunGivesOutputs }
+{}
+
+ghost use Rattle.lf_coverage.specs.ExamplesMeetings.{MeetingsAreAnswered, SuccessorIsApart};
+ghost use Rattle.lf_coverage.specs.ExamplesHeadPatterns.{HeadsHavePatterns};
+
+/// Unification answers for eq (s X) Y, eq z Y and eq z (F z) with eq z z: never, solved, and open.
+pub fn meetings_are_answered()
+    ensures answered { MeetingsAreAnswered }
+    ensures apart { SuccessorIsApart }
+{}
+
+/// The head s has patterns, and {x:nat} a (F x) has none.
+pub fn heads_have_patterns()
+    ensures { HeadsHavePatterns }
+{}
+
+ghost use Rattle.lf_coverage.specs.ExamplesRefutingNumbers.{SuccessorHasNumbers, NumberedIsFound, SuccessorIsFound, ClashIsRefuted, PlusIsFound};
+ghost use Rattle.lf_coverage.specs.ExamplesCoveredOutputRuns.{PlusGoalIsBeside, PlusCandidateRunGives, OpenGoalIsTypedCase};
+ghost use Rattle.lf_coverage.specs.OwnStores.{NumberedStoreIsReady, NumberedStoreHasSkeletons, FillingsStayOnOwnTerms, NumberedSplitStaysTyped, NewBlockStaysTyped, NumberedRunStaysTyped};
+ghost use Rattle.lf_coverage.specs.OwnStoresExamples.{EntryIsOffered, StoreIsOnOwnTerms, CaseIsReadOff, OwnEntryIsSplit};
+ghost use Rattle.lf_coverage.specs.ExamplesIndices.{UsualFamiliesHavePatterns, NestedHasNone, NestedIsNoPattern, TypeHoldsEquation, VectorsAreLayers};
+ghost use Rattle.lf_coverage.specs.IndicesRuns.{IndexedRunSplitsByPatterns, IndexedRunHasPatterns, IndexedRunIsNeverStuck, IndexedRunProceeds};
+ghost use Rattle.lf_coverage.specs.IndicesLeft.{SplitIsHeldByTypes, IndexedRunIsHeldByTypes};
+ghost use Rattle.lf_coverage.specs.IndicesNever.{RunNeverLeaves};
+ghost use Rattle.lf_coverage.specs.IndicesLayers.{LayeredRunNeverLeaves};
+ghost use Rattle.lf_coverage.specs.EntryPatternsLaws.{NumberedLeafIsCovered, NumberedRunCovers, NumberedCoversCase, NumberedRunCoversCase, SplitIsNumberedSplit, HeadRunIsByNumber, VariableIsTyped, LeafIsNumberedLeaf};
+ghost use Rattle.lf_coverage.specs.EntryPatternsExamples.{CopyIsInstance, LaterIsLeaf, TwinRunByNumber, CopyRunByNumber, CasesArePutIn, EntriesAreMatched, LaterIsCovered};
+ghost use Rattle.lf_coverage.specs.EntryPatternsOutputs.{NumberedOutputGoalIsTyped, OwnBlockHasNumberZero, NumberedRunCoversOutputs, NumberedRunsGiveOutputs, NumberedRunAnswers};
+ghost use Rattle.lf_coverage.specs.EntryPatternsMatching.{NumberedInstanceIsFound, NumberedInstanceMatches, NumberedHeadMatchingDecides, NumberedValueIsFound, FoundValuesMakeInstance};
+ghost use Rattle.lf_coverage.specs.EntryPatternsSplits.{InstancesMakeSplit, PutInHoldsAs, NewBlockHoldsAs};
+ghost use Rattle.lf_coverage.specs.OwnValues.{NewValuesAreOnOwnTerms, OwnTermsExtend, SolvedComesOnOwnTerms, AnswerKeepsOwnTerms};
+ghost use Rattle.lf_coverage.specs.OwnValuesExamples.{PrunedStaysOnOwnTerms, EntryIsReadBack};
+ghost use Rattle.lf_coverage.specs.OwnValuesAnswer.{AnswerIsInstance};
+ghost use Rattle.lf_coverage.specs.OwnValuesTuples.{TupleIsOfAnswer};
+ghost use Rattle.lf_coverage.specs.OwnValuesExamplesAnswer.{EntryAnswerIsInstance};
+ghost use Rattle.lf_coverage.specs.OwnValuesReading.{ReadBackIsTyped, ReadBackIsGround, SolvedIsReadBack, InstancesAreReadBack};
+ghost use Rattle.lf_coverage.specs.WritingLaws.{EntriesExtend, InstanceIsWritten, ValuesAreWritten, WrittenIsReadBack, WrittenValuesAreTyped, ReadingBackKeepsTyping};
+ghost use Rattle.lf_coverage.specs.ExamplesWriting.{CopyIsWritten, HeadIsOnOtherTerms, EntryIsReadAs, RoomIsFree, CopyHasValues};
+ghost use Rattle.lf_coverage.specs.WritingHeads.{WrittenHeadIsMade, NumberedRefutedGivesNone, HeadIsReadAs, WrittenHeadIsKept};
+ghost use Rattle.lf_coverage.specs.WritingRoom.{RoomIsMade, NumberedGivesNone, RoomIsLeft};
+ghost use Rattle.lf_coverage.specs.WritingInstances.{ReadBackIsInstance};
+ghost use Rattle.lf_coverage.specs.WritingSolved.{ReadOffHasInstance};
+
+/// X = s X' where X has the number 1, which is solved, and s X = z where X has 0, which is refuted; and a split of plus X Y _ in such numbers.
+pub fn plus_is_found()
+    ensures numbers { SuccessorHasNumbers }
+    ensures own_numbers { NumberedIsFound }
+    ensures solved { SuccessorIsFound }
+    ensures refuted { ClashIsRefuted }
+    ensures split { PlusIsFound }
+{}
+
+/// The sets beside which plus-s's outputs are to be covered, and the run at candidates that covers them; and a goal that is typed by itself alone.
+pub fn plus_goal_is_beside()
+    ensures beside { PlusGoalIsBeside }
+    ensures covered { PlusCandidateRunGives }
+    ensures alone { OpenGoalIsTypedCase }
+{}
+
+/// The split store of a typed case by number and a head that is offered, an entry's constant on its own terms too, is well formed, and skeletons type what
+/// its equations stand in.
+pub fn numbered_store_is_ready()
+    ensures form { NumberedStoreIsReady }
+    ensures skeletons { NumberedStoreHasSkeletons }
+{}
+
+/// After each run from it, a typed unifier on own terms at what is unbound is on own terms at all metavariables, with their types.
+pub fn fillings_stay_on_own_terms()
+    ensures { FillingsStayOnOwnTerms }
+{}
+
+/// Where unification solves it, the case that is read off is typed and on own terms; so is a case with one more block variable, and each that comes by both.
+pub fn numbered_split_stays_typed()
+    ensures split { NumberedSplitStaysTyped }
+    ensures block { NewBlockStaysTyped }
+    ensures run { NumberedRunStaysTyped }
+{}
+
+/// An entry is offered on the own terms of its block variable alone: its store has no new variable for these; it is solved, and the case
+/// that is read off is typed.
+pub fn entry_is_offered()
+    ensures offered { EntryIsOffered }
+    ensures store { StoreIsOnOwnTerms }
+    ensures read { CaseIsReadOff }
+    ensures split { OwnEntryIsSplit }
+{}
+
+/// The constants of vectors, of a typed language and of its derivations have patterns; not a constant that stands on an existential variable.
+pub fn usual_families_have_patterns()
+    ensures usual { UsualFamiliesHavePatterns }
+    ensures nested { NestedHasNone }
+    ensures case { NestedIsNoPattern }
+{}
+
+/// Where the types of the constants of the families that are split have patterns, each split of a run by unification from the goal of inputs keeps
+/// them, over families with indices too; so the run is never stuck.
+pub fn indexed_run_has_patterns()
+    ensures splits { IndexedRunSplitsByPatterns }
+    ensures cases { IndexedRunHasPatterns }
+    ensures never_stuck { IndexedRunIsNeverStuck }
+    ensures proceeds { IndexedRunProceeds }
+{}
+
+/// What a split by a head of patterns leaves over is held by types alone: by a circle through a type, or by one that doesn't let go an argument.
+pub fn split_is_held_by_types()
+    ensures split { SplitIsHeldByTypes }
+    ensures run { IndexedRunIsHeldByTypes }
+    ensures example { TypeHoldsEquation }
+{}
+
+/// Over families without indices no split of a run from the goal of inputs leaves an equation outside the pattern fragment; nor over families whose indices
+/// are of such, where the types of the constants have patterns.
+pub fn run_never_leaves()
+    ensures plain { RunNeverLeaves }
+    ensures layered { LayeredRunNeverLeaves }
+    ensures example { VectorsAreLayers }
+{}
+
+/// What a case with block variables by number holds that is an instance of a pattern, also of a block's entry, the pattern covers.
+pub fn numbered_leaf_is_covered()
+    ensures { NumberedLeafIsCovered }
+{}
+
+/// A run of such cases that ends at instances of patterns covers its goal.
+pub fn numbered_run_covers()
+    ensures { NumberedRunCovers }
+{}
+
+/// A case is covered where its numbered form is.
+pub fn numbered_covers_case()
+    ensures { NumberedCoversCase }
+{}
+
+/// A run of its numbered form covers a case.
+pub fn numbered_run_covers_case()
+    ensures { NumberedRunCoversCase }
+{}
+
+/// A split of a case is one of its numbered form.
+pub fn split_is_numbered_split()
+    ensures { SplitIsNumberedSplit }
+{}
+
+/// A worked case: cp b.x b.x is an instance of the entry of b's block, and cp b.x c.x isn't.
+pub fn copy_is_instance()
+    ensures { CopyIsInstance }
+{}
+
+/// A worked case: the goal of an entry's outputs, whose own block variable comes to stand on the entry of a newer one and keeps the number 0.
+pub fn later_is_leaf()
+    ensures { LaterIsLeaf }
+{}
+
+/// The goal of a subgoal's outputs by number is typed, for a constant's and for an entry's; the entry's own block variable has the number 0.
+pub fn numbered_output_goal_is_typed()
+    ensures typed { NumberedOutputGoalIsTyped }
+    ensures zeroth { OwnBlockHasNumberZero }
+{}
+
+/// A run by number from it covers the goal.
+pub fn numbered_run_covers_outputs()
+    ensures { NumberedRunCoversOutputs }
+{}
+
+/// Over the entries of its block variables a case that is an instance of a constant's pattern has the values that matching finds, so it matches by terms.
+pub fn numbered_instance_matches()
+    ensures found { NumberedInstanceIsFound }
+    ensures matches { NumberedInstanceMatches }
+{}
+
+/// Matching by terms decides whether such a case is an instance of the head of a constant's clause.
+pub fn numbered_head_matching_decides()
+    ensures { NumberedHeadMatchingDecides }
+{}
+
+/// Cases among which each ground instance of a case is held, with block variables apart, are a split of it.
+pub fn instances_make_split()
+    ensures { InstancesMakeSplit }
+{}
+
+/// A ground instance of a case that is read off, with the same values, holds what the old case holds; so does one of the case with a new block variable.
+pub fn put_in_holds_as()
+    ensures values { PutInHoldsAs }
+    ensures block { NewBlockHoldsAs }
+{}
+
+/// A run by heads is one by number.
+pub fn head_run_is_by_number()
+    ensures { HeadRunIsByNumber }
+{}
+
+/// A worked run by number, with two block variables that may be one instance.
+pub fn twin_run_by_number()
+    ensures { TwinRunByNumber }
+{}
+
+/// So the outputs of an entry's subgoal, and of a constant's, are covered where such runs end at instances of the subgoal.
+pub fn numbered_runs_give_outputs()
+    ensures { NumberedRunsGiveOutputs }
+{}
+
+/// And runs by number from a typed goal answer that it is covered.
+pub fn numbered_run_answers()
+    ensures { NumberedRunAnswers }
+{}
+
+/// What a block variable gives the variables of its block is typed, and on own terms.
+pub fn variable_is_typed()
+    ensures { VariableIsTyped }
+{}
+
+/// A leaf by items, of the head of a clause, is one by number.
+pub fn leaf_is_numbered_leaf()
+    ensures { LeafIsNumberedLeaf }
+{}
+
+/// A worked run by number: copying.
+pub fn copy_run_by_number()
+    ensures { CopyRunByNumber }
+{}
+
+/// Worked values that are put into cases by number, and that matching finds in them.
+pub fn cases_are_put_in()
+    ensures values { CasesArePutIn }
+    ensures matched { EntriesAreMatched }
+{}
+
+/// A worked case: the goal of an entry's outputs, whose type mentions a `some` variable, is covered by the entry's subgoal.
+pub fn later_is_covered()
+    ensures { LaterIsCovered }
+{}
+
+/// Matching finds the values of an instance by number of any pattern, of an entry too.
+pub fn numbered_value_is_found()
+    ensures { NumberedValueIsFound }
+{}
+
+/// A case by number is an instance of a pattern just where the values that matching finds make it one.
+pub fn found_values_make_instance()
+    ensures { FoundValuesMakeInstance }
+{}
+
+/// Along a run of steps the values of new metavariables stand on own terms where the old ones' do; so a typed unifier on own terms extends to one, and
+/// where the run solves it comes from the answer by such terms.
+pub fn values_stay_on_own_terms()
+    ensures new { NewValuesAreOnOwnTerms }
+    ensures extend { OwnTermsExtend }
+    ensures solved { SolvedComesOnOwnTerms }
+    ensures answer { AnswerKeepsOwnTerms }
+{}
+
+/// A metavariable that is pruned over an entry's constant: the new one's value stands on own terms.
+pub fn pruned_stays_on_own_terms()
+    ensures { PrunedStaysOnOwnTerms }
+{}
+
+/// A term on own terms over the constants of entries, read back into a context that has the entries as variables, has its type there, read back; and
+/// values of free variables are read back as ground values. So where unification solves, each typed unifier on own terms is.
+pub fn values_are_read_back()
+    ensures typed { ReadBackIsTyped }
+    ensures ground { ReadBackIsGround }
+    ensures solved { SolvedIsReadBack }
+    ensures instances { InstancesAreReadBack }
+{}
+
+/// Under a bound variable the constant of an entry on its own terms is read back as the entry.
+pub fn entry_is_read_back()
+    ensures { EntryIsReadBack }
+{}
+
+/// So where unification over the entries solves, a typed unifier on own terms is, read back, a ground instance of each case that has the answer's free
+/// variables and block variables; and this holds the tuples of the case that was split.
+pub fn answer_is_instance()
+    ensures instance { AnswerIsInstance }
+    ensures tuples { TupleIsOfAnswer }
+{}
+
+/// A split by an entry's constant: where its answer is read off, the unifier is a ground instance of the case.
+pub fn entry_answer_is_instance()
+    ensures { EntryAnswerIsInstance }
+{}
+
+/// A ground instance with block variables apart is written over the constants of its entries, in a signature that extends the case's.
+pub fn instance_is_written()
+    ensures extends { EntriesExtend }
+    ensures written { InstanceIsWritten }
+{}
+
+/// The written values are typed values of the case's free variables, on own terms, and under them a term of the case is what it is under the instance,
+/// written.
+pub fn values_are_written()
+    ensures values { ValuesAreWritten }
+    ensures typed { WrittenValuesAreTyped }
+{}
+
+/// What is written is read back as it was.
+pub fn written_is_read_back()
+    ensures { WrittenIsReadBack }
+{}
+
+/// In {x:exp} {u:cp x x} {y:exp}, where b stands for x and u, x is written as b.x and u as b.u, and y stays.
+pub fn copy_is_written()
+    ensures { CopyIsWritten }
+{}
+
+/// What is typed over entry constants, on own terms, is typed when it is read back.
+pub fn reading_back_keeps_typing()
+    ensures { ReadingBackKeepsTyping }
+{}
+
+/// A ground instance in whatever extension is moved into one that leaves the numbers of the entry constants free.
+pub fn room_is_made()
+    ensures { RoomIsMade }
+{}
+
+/// A ground instance that makes a variable a head does so when it is written; so where steps refute the head over the signature with entries, no ground
+/// instance with block variables apart makes the variable that head.
+pub fn numbered_gives_none()
+    ensures made { WrittenHeadIsMade }
+    ensures refuted { NumberedRefutedGivesNone }
+    ensures none { NumberedGivesNone }
+{}
+
+/// The constant of an entry, offered as a head, may be solved on terms that aren't its block variable's: b.x (s z) for b on z.
+pub fn head_is_on_other_terms()
+    ensures { HeadIsOnOtherTerms }
+{}
+
+/// Values over the written context, read back, are a ground instance, and each term is there what it is under them, read back.
+pub fn read_back_is_instance()
+    ensures { ReadBackIsInstance }
+{}
+
+/// A ground instance over an extension with room is moved back.
+pub fn room_is_left()
+    ensures { RoomIsLeft }
+{}
+
+/// Each head over the entries of a case that a ground instance makes a variable is what a head over the signature with entries is read as.
+pub fn head_is_read_as()
+    ensures { HeadIsReadAs }
+{}
+
+/// In the context of copy_is_written b.x is read as x and not as y; room for two entries from 4 on moves 4 to 6; and cp b.x _ is typed over what is written.
+pub fn entry_is_read_as()
+    ensures head { EntryIsReadAs }
+    ensures room { RoomIsFree }
+    ensures values { CopyHasValues }
+{}
+
+/// Where steps solve the head over the signature with entries, the case that solving gives has the written instance.
+pub fn written_head_is_kept()
+    ensures { WrittenHeadIsKept }
+{}
+
+/// The numbered case that is read off has the instance that was written, where the values are on own terms, and terms are there what they were.
+pub fn read_off_has_instance()
+    ensures { ReadOffHasInstance }
+{}
