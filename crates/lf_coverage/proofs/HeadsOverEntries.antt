@@ -41,16 +41,16 @@ module _ (Σ : Signature) (first : ℕ) (free : IsFreeFrom Σ first) (C : Number
   abbrev c : ℕ
   c = (first + entries_of (blocks_of C.blocks)) + length es
 
-  found : entry_constant zero first Bs₂ c ≡ Some (record { number = zero + length Bs; block = B; from = first + entries_of Bs; place = place_of later; entry = E; before = es })
+  pub found : entry_constant zero first Bs₂ c ≡ Some (record { number = zero + length Bs; block = B; from = first + entries_of Bs; place = place_of later; entry = E; before = es })
   found = ap (λ Ds. entry_constant zero first Ds c) (new_blocks_are B C) ∙ entry_behind zero first Bs B [] later E es q
 
-  of_type : (with_entries Σ first Bs₂).types c ≡ Some (entry_constant_type (first + entries_of Bs) B.some es E)
+  pub of_type : (with_entries Σ first Bs₂).types c ≡ Some (entry_constant_type (first + entries_of Bs) B.some es E)
   of_type = ap (λ z. or_else z (entry_type (entry_constant zero first Bs₂ c))) (free.types_free c (behind_first first (entries_of Bs) (length es))) ∙ ap entry_type found
 
   last : θ₂ (zero + length Bs) ≡ φ
   last = ap θ₂ (left_zero (length Bs) ∙ as_many C.blocks) ∙ ap (λ b. cond b φ (θ (length C.blocks))) (number_itself (length C.blocks))
 
-  reads : entry_reading first Bs₂ θ₂ n c ≡ Some (length B.some, v + n)
+  pub reads : entry_reading first Bs₂ θ₂ n c ≡ Some (length B.some, v + n)
   reads = ap (read_entry θ₂ n) found ∙ ap (λ z. Some (length B.some, variable_past n z)) (ap (λ ψ. ψ (place_of later)) last ∙ k)
 
   new_head : IsNumberedHead Σ first (with_new_block B C) θ₂ n a (variable (v + n))

@@ -282,3 +282,17 @@ pub mod WritingSolved
 pub mod WritingGap
 pub mod WritingRoots
 pub mod WritingBefore
+pub mod NumberedSplits
+pub mod NumberedSplitsAnswers
+pub mod NumberedSplitsExamples
+pub mod NumberedSplitsExamplesRun
+pub mod NumberedSplitsHeads
+pub mod NumberedSplitsHeld
+pub mod NumberedSplitsMade
+pub mod NumberedSplitsMoved
+pub mod NumberedSplitsOffers
+pub mod NumberedSplitsOwn
+pub mod NumberedSplitsReady
+pub mod NumberedSplitsRuns
+pub mod NumberedSplitsSolution
+pub mod NumberedSplitsValues

@@ -33,7 +33,7 @@ use Rattle.lf_coverage.proofs.SameInstance.{find_entry, instance_unique}
 use Rattle.lf_coverage.proofs.Parts.{some_same}
 
 -- a value of a free variable is a term
-value_is_term : (Σ : Signature) (G : List LfType) (f : ℕ → ℕ → Option (ℕ × ℕ)) (X : List LfType) (σ : ℕ → Image) → AreGroundValues Σ G f X σ → (x : ℕ) (A : LfType) → TypeAt X x A → (N : Term) × (σ x ≡ put (skeleton A) N)
+pub value_is_term : (Σ : Signature) (G : List LfType) (f : ℕ → ℕ → Option (ℕ × ℕ)) (X : List LfType) (σ : ℕ → Image) → AreGroundValues Σ G f X σ → (x : ℕ) (A : LfType) → TypeAt X x A → (N : Term) × (σ x ≡ put (skeleton A) N)
 value_is_term Σ G f [] σ v x A g = absurd g
 value_is_term Σ G f (B ∷ X) σ (N, τ, v, n, e) zero A g = (N, ap (λ k. k 0) e ∙ ap (λ a. put a N) (sym (ap skeleton g ∙ skeleton_renamed suc B)))
 value_is_term Σ G f (B ∷ X) σ (N, τ, v, n, e) (suc x) A (C, g, r) = let (M, q) = value_is_term Σ G f X τ v x C g in (M, ap (λ k. k (suc x)) e ∙ q ∙ ap (λ a. put a M) (sym (ap skeleton r ∙ skeleton_renamed suc C)))

@@ -52,7 +52,7 @@ at_own o V [] v l i Y g = v i Y g
 at_own o V (A ∷ D) v (l, a) zero Y e = subst (TypeOnOwnTerms (λ c. weaken_own (own_over D o c))) (sym e) (type_renamed (own_over D o) (λ c. weaken_own (own_over D o c)) suc A (λ c. own_as_renamed (own_over D o c)) a)
 at_own o V (A ∷ D) v (l, a) (suc i) Y (B, g, e) = subst (TypeOnOwnTerms (λ c. weaken_own (own_over D o c))) (sym e) (type_renamed (own_over D o) (λ c. weaken_own (own_over D o c)) suc B (λ c. own_as_renamed (own_over D o c)) (at_own o V D v l i B g))
 
-spine_then : (Σ : Signature) (G : List LfType) (U S : Spine) (A B C : LfType) → SpineType Σ G U A B → SpineType Σ G S B C → SpineType Σ G (append U S) A C
+pub spine_then : (Σ : Signature) (G : List LfType) (U S : Spine) (A B C : LfType) → SpineType Σ G U A B → SpineType Σ G S B C → SpineType Σ G (append U S) A C
 spine_then Σ G nil S A B C e s = subst (λ Z. SpineType Σ G S Z C) (sym e) s
 spine_then Σ G (app M U) S (pi A A') B C (m, u) s = (m, spine_then Σ G U S (instantiate_type A M A') B C u s)
 spine_then Σ G (app M U) S (atom a T) B C u s = absurd u

@@ -176,7 +176,7 @@ module _ (Σ : Signature) (ok : IsSignature Σ) (W : List Block) (typed : AreTyp
           ∙ ap (λ Z. fill_type (skeletons_of Ψ) β (open_type zero Z)) (sym second_form),
     )
 
-    term_is_type : IsType Σ C (term_type below X n A)
+    pub term_is_type : IsType Σ C (term_type below X n A)
     term_is_type = closed_over D R result_typed applied_under
       where
         closed_over : (L : List LfType) (B : LfType) → IsType Σ (onto L C) B → IsContext Σ (onto L C) → IsType Σ C (pi_over L B)

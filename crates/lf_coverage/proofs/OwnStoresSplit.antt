@@ -100,7 +100,7 @@ module _ (Σ : Signature) (ok : IsSignature Σ) (W : List Block) (typed : AreTyp
   items_known : IsContext Σ₁ Cc
   items_known = numbered_context Σ ok W typed first free below C tc.variables x X at h U A offer K of_family
 
-  declared : (i : ℕ) (B : LfType) → TypeAt Cc i B → finish.metavariables i ≡ Some (open_type zero B)
+  pub declared : (i : ℕ) (B : LfType) → TypeAt Cc i B → finish.metavariables i ≡ Some (open_type zero B)
   declared i B g = s.keeps.grows i (open_type zero B) (ap open_some (looked_up Cc i B g))
 
   -- the variables of the case stand behind those of the head
@@ -152,7 +152,7 @@ module _ (Σ : Signature) (ok : IsSignature Σ) (W : List Block) (typed : AreTyp
   local : IsContext Σ₁ (onto (instance C.local σ') O) × IsTypedSubstitution Σ₁ (onto C.local V) (onto (instance C.local σ') O) (lift_over C.local σ')
   local = local_typed Σ₁ okE V O σ' tc.variables.variables context values_typed C.local tc.local
 
-  shown : SubstitutionBySkeletons (constant_skeletons Σ₁) (context_skeletons V) (context_skeletons O) σ'
+  pub shown : SubstitutionBySkeletons (constant_skeletons Σ₁) (context_skeletons V) (context_skeletons O) σ'
   shown = typed_substitution_by_skeletons Σ₁ okE V O σ' values_typed
 
   -- The lemma

@@ -135,7 +135,7 @@ more_behind zero (arrow c d) a b e = cc
 more_behind (suc n) (base c) a b e = absurd cc
 more_behind (suc n) (arrow c d) a b e = more_behind n d a b e
 
-behind_pis : (O : List LfType) (T : LfType) → behind_arguments (length O) (skeleton (pi_over O T)) ≡ skeleton T
+pub behind_pis : (O : List LfType) (T : LfType) → behind_arguments (length O) (skeleton (pi_over O T)) ≡ skeleton T
 behind_pis [] T = refl
 behind_pis (A ∷ O) T = more_behind (length O) (skeleton (pi_over O (pi A T))) (skeleton A) (skeleton T) (behind_pis O (pi A T))
 

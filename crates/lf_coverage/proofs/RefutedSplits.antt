@@ -62,7 +62,7 @@ step_extended S Σ Σ' x (prune_inside side D m xs N C d p c u n y) = prune_insi
 step_extended S Σ Σ' x (prune_both side D m xs N C d p c u n y) = prune_both side D m xs N C d p c u n y
 step_extended S Σ Σ' x (renew m A A' d u b p n y) = renew m A A' d u b p n y
 
-run_extended : (S : ℕ → Bool) (Σ Σ' : Signature) → Extends S Σ Σ' → {s t : Store} → Run Σ s t → Run Σ' s t
+pub run_extended : (S : ℕ → Bool) (Σ Σ' : Signature) → Extends S Σ Σ' → {s t : Store} → Run Σ s t → Run Σ' s t
 run_extended S Σ Σ' x no_step = no_step
 run_extended S Σ Σ' x (then_run p r) = then_run (step_extended S Σ Σ' x p) (run_extended S Σ Σ' x r)
 
@@ -76,7 +76,7 @@ module _ (Σ Σ' : Signature) (Ψ : ℕ → Option LfType) (U V : (ℕ → Optio
   value_at (c ∷ cs) ((A, e, t), b) m N (inl k) = (A, ap Ψ (ap (λ d. d.of) k) ∙ e, subst (λ M. OpenHasType Σ' [] Ψ V [] M A) (sym (ap (λ d. d.value) k)) t)
   value_at (c ∷ cs) (t, b) m N (inr k) = value_at cs b m N k
 
-  order_extended : (is : List ListedMetavariable) → ValuesAreBindings bs is → IsDependencyOrder Σ Ψ U is → IsDependencyOrder Σ' Ψ V is
+  pub order_extended : (is : List ListedMetavariable) → ValuesAreBindings bs is → IsDependencyOrder Σ Ψ U is → IsDependencyOrder Σ' Ψ V is
   order_extended [] v o = tt
   order_extended (it ∷ is) (f, v) (o, e, n, m, t, c, w) = (order_extended is v o, e, n, m, types it.of it.of_type e, c, value it.value f w)
     where
@@ -90,7 +90,7 @@ module _ (Σ Σ' : Signature) (Ψ : ℕ → Option LfType) (U V : (ℕ → Optio
           (i, subst (OpenHasType Σ' [] Ψ V [] N) (some_same (sym k ∙ e)) q, r)
 
 -- So what is solved is solved in an extension, where the store is well formed there, by the same order.
-well_formed_extended : (Σ Σ' : Signature) (t : Store) (w : IsWellFormed Σ t) → IsWellFormed Σ' t → IsWellFormed Σ' t
+unfoldable pub well_formed_extended : (Σ Σ' : Signature) (t : Store) (w : IsWellFormed Σ t) → IsWellFormed Σ' t → IsWellFormed Σ' t
 well_formed_extended Σ Σ' t w v = record {
   order = w.order;
   is_order = order_extended Σ Σ' t.metavariables (IsFilling Σ [] t) (IsFilling Σ' [] t) t.bindings v.typed.declarations_typed.metavariables_typed v.typed.bindings_typed w.order w.values_bound w.is_order;
@@ -100,7 +100,7 @@ well_formed_extended Σ Σ' t w v = record {
   typed = v.typed;
 }
 
-solved_extended : (S : ℕ → Bool) (Σ Σ' : Signature) (x : Extends S Σ Σ') (s t : Store) → Solved Σ s t → IsWellFormed Σ' s → Solved Σ' s t
+unfoldable pub solved_extended : (S : ℕ → Bool) (Σ Σ' : Signature) (x : Extends S Σ Σ') (s t : Store) → Solved Σ s t → IsWellFormed Σ' s → Solved Σ' s t
 solved_extended S Σ Σ' x s t d f =
     let r : Run Σ' s t = run_extended S Σ Σ' x d.run in
     record { run = r; keeps = run_keeps_unifiers Σ' x.ok f r; well_formed = well_formed_extended Σ Σ' t d.well_formed (run_form Σ' x.ok f r); none_left = d.none_left }

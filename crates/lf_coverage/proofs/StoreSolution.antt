@@ -72,14 +72,14 @@ open_pis D a S = by D (atom a S)
     by [] P = refl
     by (A ∷ D) P = by D (pi A P)
 
-pis_same : (E : List LfType) (P Q : LfType) → pi_over E P ≡ pi_over E Q → P ≡ Q
+pub pis_same : (E : List LfType) (P Q : LfType) → pi_over E P ≡ pi_over E Q → P ≡ Q
 pis_same [] P Q e = e
 pis_same (A ∷ E) P Q e = second (pis_same E (pi A P) (pi A Q) e)
   where
     second : pi A P ≡ pi A Q → P ≡ Q
     second e = cc
 
-atom_same : (a : ℕ) (S T : Spine) → atom a S ≡ atom a T → S ≡ T
+pub atom_same : (a : ℕ) (S T : Spine) → atom a S ≡ atom a T → S ≡ T
 atom_same a S T e = cc
 
 pis_by_skeletons : (φ : ℕ → Option Skeleton) (κ : HeadSkeletons) (C D : List LfType) (P Q : LfType) → TypeBySkeletons φ κ (context_skeletons C) (pi_over D P) → TypeBySkeletons φ κ (context_skeletons (onto D C)) Q → TypeBySkeletons φ κ (context_skeletons C) (pi_over D Q)

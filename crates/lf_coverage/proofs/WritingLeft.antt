@@ -37,7 +37,7 @@ types_twice : (γ δ : ℕ → ℕ) (G : List LfType) → ((c : ℕ) → δ (γ 
 types_twice γ δ [] h = refl
 types_twice γ δ (A ∷ G) h = ap₂ (λ B D. B ∷ D) (type_twice γ δ A h) (types_twice γ δ G h)
 
-reading_moved : (γ : ℕ → ℕ) (first : ℕ) (Bs : List Block) (θ : ℕ → ℕ → Image) (m c : ℕ) → entry_reading first Bs (λ k i. move_image γ (θ k i)) m c ≡ entry_reading first Bs θ m c
+pub reading_moved : (γ : ℕ → ℕ) (first : ℕ) (Bs : List Block) (θ : ℕ → ℕ → Image) (m c : ℕ) → entry_reading first Bs (λ k i. move_image γ (θ k i)) m c ≡ entry_reading first Bs θ m c
 reading_moved γ first Bs θ m c = by (entry_constant zero first Bs c)
   where
     past : (y : Image) → variable_past m (move_image γ y) ≡ variable_past m y

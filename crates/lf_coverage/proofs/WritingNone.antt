@@ -90,13 +90,13 @@ module _ (Σ Σ' : Signature) {W : List Block} {S : ℕ → Bool} {G : List LfTy
   abbrev Γ : List Skeleton
   Γ = context_skeletons (taken X)
 
-  type_skeleton_is : skeleton (type_in first C θ σ X) ≡ skeleton X
+  pub type_skeleton_is : skeleton (type_in first C θ σ X) ≡ skeleton X
   type_skeleton_is = skeleton_substituted reduce σ (read_type (entry_reading first (blocks_of C.blocks) θ (length C.variables)) X) ∙ skeleton_read (entry_reading first (blocks_of C.blocks) θ (length C.variables)) X
 
-  locals_are : context_skeletons (binders [] (type_in first C θ σ X)) ≡ context_skeletons (taken X)
+  pub locals_are : context_skeletons (binders [] (type_in first C θ σ X)) ≡ context_skeletons (taken X)
   locals_are = locals_same (type_in first C θ σ X) X [] [] type_skeleton_is refl
 
-  written_locals : context_skeletons (instance (taken X) (after ρ σ)) ≡ context_skeletons (taken X)
+  pub written_locals : context_skeletons (instance (taken X) (after ρ σ)) ≡ context_skeletons (taken X)
   written_locals = ap context_skeletons (taken_same (substitute_type reduce (after ρ σ) X) (after ρ σ) zero (after ρ σ) (λ k. same k) (after ρ σ) X) ∙ locals_same (substitute_type reduce (after ρ σ) X) X [] [] (skeleton_substituted reduce (after ρ σ) X) refl
     where
       same : (k : ℕ) → after ρ σ (k + 0) ≡ after ρ σ k
@@ -105,62 +105,62 @@ module _ (Σ Σ' : Signature) {W : List Block} {S : ℕ → Bool} {G : List LfTy
           none : (k : ℕ) → k + 0 ≡ k
           none k = omega arith
 
-  locals_length : length (binders [] (type_in first C θ σ X)) ≡ length (taken X)
+  pub locals_length : length (binders [] (type_in first C θ σ X)) ≡ length (taken X)
   locals_length = sym (skeletons_length E) ∙ ap length locals_are ∙ skeletons_length (taken X)
 
-  value_type : HasType Σ' G (lambdas (length (taken X)) (root h0 T)) (type_in first C θ σ X)
+  pub value_type : HasType Σ' G (lambdas (length (taken X)) (root h0 T)) (type_in first C θ σ X)
   value_type = (subst (λ y. ImageHasType Σ' G y Y0) e (values_typed Σ' r.extends.ok G first (blocks_of C.blocks) θ C.variables σ r.is_instance.values x X at)).1
 
-  root_typed : HasType Σ' (onto (binders [] (type_in first C θ σ X)) G) (root h0 T) (atom (target (type_in first C θ σ X)) (target_arguments (type_in first C θ σ X)))
+  pub root_typed : HasType Σ' (onto (binders [] (type_in first C θ σ X)) G) (root h0 T) (atom (target (type_in first C θ σ X)) (target_arguments (type_in first C θ σ X)))
   root_typed = subst (λ D. HasType Σ' D (root h0 T) (atom (target Y0) (target_arguments Y0))) (binders_over [] Y0 G) (root_of Σ' G Y0 (length (taken X)) h0 T locals_length value_type)
 
-  families : FamiliesIn S (type_in first C θ σ X)
+  pub families : FamiliesIn S (type_in first C θ σ X)
   families = families_same S X Y0 (sym type_skeleton_is) fams
 
-  types_in : AllTypesIn Σ W below s S sc Σ' r.extends (onto (binders [] (type_in first C θ σ X)) G)
+  pub types_in : AllTypesIn Σ W below s S sc Σ' r.extends (onto (binders [] (type_in first C θ σ X)) G)
   types_in = subst (AllTypesIn Σ W below s S sc Σ' r.extends) (binders_over [] Y0 G) (local_types Σ W below s S sc Σ' r.extends Y0 G families (below_same below X Y0 (sym type_skeleton_is) args) (context_types Σ W below s S sc Σ' r.extends w))
 
-  in_set : S (target (type_in first C θ σ X)) ≡ true
+  pub in_set : S (target (type_in first C θ σ X)) ≡ true
   in_set = family_target S Y0 families
 
   -- the type of the head in the context
   module _ (Z : LfType) (hz : HeadHasType Σ' (onto (binders [] (type_in first C θ σ X)) G) h0 Z) (st : SpineType Σ' (onto (binders [] (type_in first C θ σ X)) G) T Z (atom (target (type_in first C θ σ X)) (target_arguments (type_in first C θ σ X)))) where
-    target_same : target Z ≡ target Y0
+    pub target_same : target Z ≡ target Y0
     target_same = spine_target Σ' (onto E G) T Z (atom (target Y0) (target_arguments Y0)) st
 
-    head_families : (h : Head) → HeadHasType Σ' (onto (binders [] (type_in first C θ σ X)) G) h Z → FamiliesIn S Z
+    pub head_families : (h : Head) → HeadHasType Σ' (onto (binders [] (type_in first C θ σ X)) G) h Z → FamiliesIn S Z
     head_families (constant k) q = sc.types_in k Z (r.extends.no_new k Z q (ap S target_same ∙ in_set)) (ap S target_same ∙ in_set)
     head_families (variable i) q =
         let g : ℕ = target Y0 in
         families_within (part Σ W below s S sc Σ' r.extends g) S (part_low Σ W below s S sc Σ' r.extends g) Z (types_in g in_set i Z q (ap (part Σ W below s S sc Σ' r.extends g) target_same ∙ part_itself Σ W below s S sc Σ' r.extends g in_set))
     head_families (metavariable m) q = absurd q
 
-    low_arguments : ArgumentsAreBelow below Z → LowBy below (context_skeletons (taken X)) (skeleton Z) T
+    pub low_arguments : ArgumentsAreBelow below Z → LowBy below (context_skeletons (taken X)) (skeleton Z) T
     low_arguments b = subst (λ Δ. LowBy below Δ (skeleton Z) T) locals_are (low_places_by below E (arguments_count Z) Z T refl (spine_uses_low Σ W below s S sc Σ' r.extends E G types_in (arguments_count Z) T Z (target Y0) (target_arguments Y0) (head_families h0 hz) b st refl))
 
-    put_low : ArgumentsAreBelow below Z → LowBy below (context_skeletons (taken X)) (skeleton Z) (substitute_spine reduce (lift_over (taken X) ρ) T)
+    pub put_low : ArgumentsAreBelow below Z → LowBy below (context_skeletons (taken X)) (skeleton Z) (substitute_spine reduce (lift_over (taken X) ρ) T)
     put_low b = low_put below (taken X) ρ (skeleton Z) T (low_arguments b)
 
-    put_skeleton : SpineSkeleton (constant_skeletons Σe) (context_skeletons (onto E F)) (substitute_spine reduce (lift_over (taken X) ρ) T) (skeleton Z) (skeleton (atom (target Y0) (target_arguments Y0)))
+    pub put_skeleton : SpineSkeleton (constant_skeletons Σe) (context_skeletons (onto E F)) (substitute_spine reduce (lift_over (taken X) ρ) T) (skeleton Z) (skeleton (atom (target Y0) (target_arguments Y0)))
     put_skeleton = subst (λ f. SpineSkeleton (constant_skeletons Σe) (context_skeletons (onto E F)) (substitute_spine reduce f T) (skeleton Z) (skeleton (atom (target Y0) (target_arguments Y0)))) (lift_same E (taken X) ρ locals_length) (substitution_keeps_spine_skeletons (constant_skeletons Σe) (context_skeletons (onto E G)) (context_skeletons (onto E F)) (lift_over E ρ) T (skeleton Z) (skeleton (atom (target Y0) (target_arguments Y0))) (over_fits (constant_skeletons Σe) E G F ρ (writing_fits Σ Σ' w first C θ σ r F ρ back hw)) (spine_more Σ' Σe (own_types Σ Σ' w first C θ σ r) (context_skeletons (onto E G)) T (skeleton Z) (skeleton (atom (target Y0) (target_arguments Y0))) (typed_spine_has_skeleton Σ' (onto E G) T Z (atom (target Y0) (target_arguments Y0)) st)))
 
   -- The written context
   abbrev I : List Item
   I = free_variables C.variables
 
-  here : TypeAt (items_context (free_variables C.variables)) x X
+  pub here : TypeAt (items_context (free_variables C.variables)) x X
   here = subst (λ D. TypeAt D x X) (sym (free_context_is C.variables)) at
 
-  items_typed : AreTypedItems Σ₁ [] (free_variables C.variables)
+  pub items_typed : AreTypedItems Σ₁ [] (free_variables C.variables)
   items_typed = free_typed Σ₁ [] C.variables r.variables.variables
 
-  items_written : AreTypedItems Σe [] (free_variables C.variables)
+  pub items_written : AreTypedItems Σe [] (free_variables C.variables)
   items_written = free_typed Σe [] C.variables (Rattle.lf_coverage.proofs.EntrySignature.grown_contexts Σ₁ Σe (types_more Σ Σ' w first C θ σ r) r.extends.kinds_stay C.variables r.variables.variables)
 
-  v : World (with_entries Σ' first (blocks_of C.blocks)) [] nothing F
+  pub v : World (with_entries Σ' first (blocks_of C.blocks)) [] nothing F
   v = alone Σe F hw.context
 
-  values_put : (i : ℕ) (A : LfType) → TypeAt C.variables i A → (N : Term) × (after ρ σ i ≡ put (skeleton A) N) × HasType Σe F N (substitute_type reduce (after ρ σ) A)
+  pub values_put : (i : ℕ) (A : LfType) → TypeAt C.variables i A → (N : Term) × (after ρ σ i ≡ put (skeleton A) N) × HasType Σe F N (substitute_type reduce (after ρ σ) A)
   values_put i A g = by (σ i) refl (value_is Σ' G (entry_reading first (blocks_of C.blocks) θ) C.variables σ r.is_instance.values i A g)
     where
       value_is : (Σ : Signature) (G : List LfType) (f : ℕ → ℕ → Option (ℕ × ℕ)) (X : List LfType) (σ : ℕ → Image) → Rattle.lf_coverage.specs.NumberedCase.AreGroundValues Σ G f X σ → (x : ℕ) (A : LfType) → TypeAt X x A → (N : Term) × (σ x ≡ put (skeleton A) N)
@@ -171,10 +171,10 @@ module _ (Σ Σ' : Signature) {W : List Block} {S : ℕ → Bool} {G : List LfTy
       by : (y : Image) → σ i ≡ y → (N : Term) × (σ i ≡ put (skeleton A) N) → (N : Term) × (after ρ σ i ≡ put (skeleton A) N) × HasType Σe F N (substitute_type reduce (after ρ σ) A)
       by y q (N, p) = (substitute reduce ρ N, ap (substitute_image ρ) p, (subst (λ z. ImageHasType Σe F z (substitute_type reduce (after ρ σ) A)) (ap (substitute_image ρ) p) (values_are_typed Σ Σ' w first C θ σ r F ρ back hw i A g)).1)
 
-  ground : IsGroundInstance v (free_variables C.variables) (after ρ σ)
+  pub ground : IsGroundInstance v (free_variables C.variables) (after ρ σ)
   ground = ground_of v C.variables (after ρ σ) values_put
 
-  distinct : IsDistinct v (free_variables C.variables) (after ρ σ) ground
+  pub distinct : IsDistinct v (free_variables C.variables) (after ρ σ) ground
   distinct = distinct_without v (free_variables C.variables) (after ρ σ) ground (free_without C.variables)
 
   -- the head, and its arguments, written

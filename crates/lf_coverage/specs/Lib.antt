@@ -97,3 +97,6 @@ pub mod WritingHeads
 pub mod WritingRoom
 pub mod WritingInstances
 pub mod WritingSolved
+pub mod NumberedSplits
+pub mod NumberedSplitsExamples
+pub mod NumberedSplitsRuns

@@ -1029,6 +1029,9 @@ ghost use Rattle.lf_coverage.specs.WritingHeads.{WrittenHeadIsMade, NumberedRefu
 ghost use Rattle.lf_coverage.specs.WritingRoom.{RoomIsMade, NumberedGivesNone, RoomIsLeft};
 ghost use Rattle.lf_coverage.specs.WritingInstances.{ReadBackIsInstance};
 ghost use Rattle.lf_coverage.specs.WritingSolved.{ReadOffHasInstance};
+ghost use Rattle.lf_coverage.specs.NumberedSplits.{AnsweredByNumberIsSplit};
+ghost use Rattle.lf_coverage.specs.NumberedSplitsExamples.{OpenIsSplitByEntry, OpenIsCovered};
+ghost use Rattle.lf_coverage.specs.NumberedSplitsRuns.{AnsweredByNumberStaysTyped, AnsweredByNumberCovers, AnsweredByNumberCoversCase, AnsweredByNumberIsAnswer, AnsweredByNumberGivesOutputs};
 
 /// X = s X' where X has the number 1, which is solved, and s X = z where X has 0, which is refuted; and a split of plus X Y _ in such numbers.
 pub fn plus_is_found()
@@ -1345,4 +1348,25 @@ pub fn written_head_is_kept()
 /// The numbered case that is read off has the instance that was written, where the values are on own terms, and terms are there what they were.
 pub fn read_off_has_instance()
     ensures { ReadOffHasInstance }
+{}
+
+/// A split at each head of which unification over the signature with entries answers, of a case whose block variables have numbers, is a split.
+pub fn answered_by_number_is_split()
+    ensures { AnsweredByNumberIsSplit }
+{}
+
+/// Each case of such a split is typed; and a run of such splits that ends at instances of patterns covers its goal, the numbered form of a case too. So it
+/// answers that a goal is covered, and that the outputs of a subgoal are, an entry's too.
+pub fn answered_by_number_covers()
+    ensures typed { AnsweredByNumberStaysTyped }
+    ensures run { AnsweredByNumberCovers }
+    ensures case { AnsweredByNumberCoversCase }
+    ensures answer { AnsweredByNumberIsAnswer }
+    ensures outputs { AnsweredByNumberGivesOutputs }
+{}
+
+/// In the worlds of {x:exp} {u:p x} a variable of exp, which has no constant, is split by the entry x of a new block variable; and u covers p X.
+pub fn open_is_split_by_entry()
+    ensures split { OpenIsSplitByEntry }
+    ensures run { OpenIsCovered }
 {}
