@@ -276,9 +276,6 @@ pub mod WritingRoom
 pub mod WritingBackTyped
 pub mod WritingInstances
 pub mod WritingLeft
-pub mod WritingReadAs
-pub mod WritingKept
-pub mod WritingSolved
 pub mod WritingGap
 pub mod WritingRoots
 pub mod WritingBefore

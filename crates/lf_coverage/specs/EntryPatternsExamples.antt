@@ -80,7 +80,7 @@ ground_before (suc (suc n)) = true
 abbrev pub asked_goal : NumberedCase
 asked_goal = record { blocks = record { block = asking_block; terms = app (var 1) nil } ∷ []; variables = on_one 1 (var 0) ∷ exp ∷ []; given = None ∷ None ∷ []; local = []; family = 2; arguments = None ∷ Some (var 0) ∷ [] }
 
--- D is split by the entry w of a new block variable b: q b.x b.w, where a is on b.x. So a stands on the entry of the newer b, and among items it would come
+-- With the values of a split of D by the entry w of a new block variable b put in it is q b.x b.w, where a is on b.x. So a stands on the entry of the newer b, and among items it would come
 -- behind it; it keeps the number 0. b.x = 5, b.w = 6.
 abbrev pub answered_case : NumberedCase
 answered_case = record { blocks = record { block = asking_block; terms = app (root (constant 5) nil) nil } ∷ record { block = answering_block; terms = nil } ∷ []; variables = []; given = None ∷ None ∷ []; local = []; family = 2; arguments = None ∷ Some (root (constant 6) nil) ∷ [] }
@@ -107,7 +107,7 @@ answered_values = in_front (put (base 1) (root (constant 6) nil)) (in_front (put
 abbrev pub CasesArePutIn : Type 0
 CasesArePutIn = IsPutIn (numbered 3 same_entry) (numbered 3 entry_alike) alike_values × IsPutIn (with_new_block answering_block asked_goal) answered_case answered_values
 
--- cp (app b.x b.x) _ matches the head of cp-app by terms: E1 and E2 are b.x. In q b.x b.w, beside the entry's subgoal q n D, matching finds b.w for D.
+-- cp (app b.x b.x) _ matches the head of cp-app by terms: E1 is b.x. In q b.x b.w, beside the entry's subgoal q n D, matching finds b.w for D.
 abbrev pub applied_copy : NumberedCase
 applied_copy = record { blocks = record { block = copy_block; terms = nil } ∷ []; variables = []; given = []; local = []; family = 1; arguments = Some (application (root (constant 4) nil) (root (constant 4) nil)) ∷ None ∷ [] }
 

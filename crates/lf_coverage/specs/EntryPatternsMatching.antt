@@ -61,6 +61,7 @@ NumberedValueIsFound = (Σ : Signature) → IsSignature Σ → (W : List Block) 
 abbrev pub placed_values : NumberedCase → Pattern → (ℕ → Image) → ℕ → Image
 placed_values C p φ i = cond (outside p.clause.type everything i) (φ (i - quantifiers p.clause.type)) (as_image i (type_at (scope p.clause) i) (found_placed C p φ i))
 
--- So a case is an instance of a pattern, of an entry too, just where these make it one, for one of its block variables: no other values need be tried.
+-- So a case is an instance of a pattern, of an entry too, just where these make it one, for one of its block variables, where
+-- what is ground holds the variables in its types: no other values need be tried.
 abbrev pub FoundValuesMakeInstance : Type 0
 FoundValuesMakeInstance = (Σ : Signature) → IsSignature Σ → (W : List Block) → AreTypedBlocks Σ W → (first : ℕ) → IsFreeFrom Σ first → (C : NumberedCase) → IsTypedNumberedCase Σ first W C → (p : Pattern) → IsTypedPattern Σ p → (h : IsInstanceOfPattern Σ first C p) → HoldsTypes (ground_in p (covered_places C.arguments) C.given) (scope p.clause) → (m : IsInstanceOfPattern Σ first C p) × (m.values ≡ placed_values C p (outside_given first C p.origin p.at_first h.values h.stands))

@@ -96,7 +96,6 @@ pub mod ExamplesWriting
 pub mod WritingHeads
 pub mod WritingRoom
 pub mod WritingInstances
-pub mod WritingSolved
 pub mod NumberedSplits
 pub mod NumberedSplitsExamples
 pub mod NumberedSplitsRuns

@@ -1,6 +1,6 @@
 -- A split of a case whose block variables have numbers, by unification in the empty world over the signature with entries: a free variable is unified
 -- with a head. The constant of an entry is offered already applied to the `some` terms of its block variable, so that only the entry's own quantifiers
--- become new variables, and none stands for a `some` variable.
+-- become new variables: those for `some` variables come once, with a new block variable.
 use Rattle.std.specs.Prelude.{◌≡◌, ℕ, zero, ◌+◌, ◌<◌, List, [], ◌∷◌, length, Bool, Option, Some, None}
 use Rattle.lf.specs.Syntax.{Head, constant, variable, Term, Spine, root, nil, app, LfType, Kind, pi, atom, Skeleton, skeleton, rename_head, rename_spine, rename_type}
 use Rattle.lf.specs.AtOnce.{shift_by, lift_renaming_by}

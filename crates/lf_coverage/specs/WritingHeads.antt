@@ -34,10 +34,6 @@ pub data IsReadAs (Σ : Signature) (first : ℕ) (C : NumberedCase) (θ : ℕ �
   taken_is : (j : ℕ) (A : LfType) → j < length (taken X) → TypeAt (binders C.variables X) j A → target A ≡ target X → IsReadAs Σ first C θ X (variable j) A (variable j)
   entry_is : (c m v : ℕ) (A : LfType) → (with_entries Σ first (blocks_of C.blocks)).types c ≡ Some A → target A ≡ target X → entry_reading first (blocks_of C.blocks) θ (length (taken X)) c ≡ Some (m, v) → IsReadAs Σ first C θ X (constant c) A (variable v)
 
--- Each head that a ground instance makes a free variable, and that is one over the entries of its block variables, is what such a head is read as.
-abbrev pub HeadIsReadAs : Type 0
-HeadIsReadAs = (Σ Σ' : Signature) → IsSignature Σ → (S : ℕ → Bool) → Extends S Σ Σ' → (W : List Block) → AreTypedBlocks Σ W → (first : ℕ) → IsFreeFrom Σ first → (C : NumberedCase) → AreTypedVariables Σ first W C → (G : List LfType) (w : World Σ' W S G) (θ : ℕ → ℕ → Image) (σ : ℕ → Image) → IsNumberedInstance w first C θ σ → (x : ℕ) (X : LfType) → TypeAt C.variables x X → (h0 : Head) (T : Spine) → σ x ≡ put (skeleton X) (lambdas (length (taken X)) (root h0 T)) → IsNumberedHead Σ first C θ (length (taken X)) (target X) h0 → (h : Head) × (A : LfType) × IsReadAs Σ first C θ X h A h0
-
 -- Where the value of x has such a head, the written values of the case and values of the head's arguments make x the head over the written context, which is
 -- one of the empty world.
 abbrev pub WrittenHeadIsMade : Type 0
@@ -46,8 +42,3 @@ WrittenHeadIsMade = (Σ Σ' : Signature) (W : List Block) (S : ℕ → Bool) (G 
 -- So where steps refute the head over the signature of the case, no ground instance with block variables apart makes x that head.
 abbrev pub NumberedRefutedGivesNone : Type 0
 NumberedRefutedGivesNone = (Σ Σ' : Signature) (W : List Block) (S : ℕ → Bool) (G : List LfType) (w : World Σ' W S G) (first : ℕ) (C : NumberedCase) (θ : ℕ → ℕ → Image) (σ : ℕ → Image) → IsInstanceWithRoom Σ w first C θ σ → AreApart C θ → SelfContained Σ W S → (below : ℕ → ℕ → Bool) → IsSubordination Σ W below → (x : ℕ) (X : LfType) → TypeAt C.variables x X → FamiliesIn S X → ArgumentsAreBelow below X → (h : Head) (A : LfType) (h0 : Head) → IsReadAs Σ first C θ X h A h0 → ArgumentsAreBelow below A → (K : Kind) → Σ.kinds (target X) ≡ Some K → CanRefute (with_entries Σ first (blocks_of C.blocks)) (split_store below x X (free_variables C.variables) zero h A K) → (T : Spine) → σ x ≡ put (skeleton X) (lambdas (length (taken X)) (root h0 T)) → ⊥
-
--- And where steps solve it, the case that solving gives, read over the signature with entries as one of the empty world, has the written instance: values of
--- its items over the written context make the solution's values those of the instance.
-abbrev pub WrittenHeadIsKept : Type 0
-WrittenHeadIsKept = (Σ Σ' : Signature) (W : List Block) (S : ℕ → Bool) (G : List LfType) (w : World Σ' W S G) (first : ℕ) (C : NumberedCase) (θ : ℕ → ℕ → Image) (σ : ℕ → Image) → IsInstanceWithRoom Σ w first C θ σ → (F : List LfType) (ρ : ℕ → Image) (back : ℕ → ℕ) → IsWriting Σ' first (blocks_of C.blocks) θ G F ρ back → SelfContained Σ W S → (below : ℕ → ℕ → Bool) → IsSubordination Σ W below → (x : ℕ) (X : LfType) → TypeAt C.variables x X → FamiliesIn S X → ArgumentsAreBelow below X → (h : Head) (A : LfType) (h0 : Head) → IsReadAs Σ first C θ X h A h0 → ArgumentsAreBelow below A → (T : Spine) → σ x ≡ put (skeleton X) (lambdas (length (taken X)) (root h0 T)) → (given : List (Option Term)) (local : List LfType) (a : ℕ) (arguments : List (Option Term)) → IsTypedCase (with_entries Σ first (blocks_of C.blocks)) [] (record { items = free_variables C.variables; given = given; local = local; family = a; arguments = arguments }) → (K : Kind) → Σ.kinds (target X) ≡ Some K → (solution : Store) (s : Solved (with_entries Σ first (blocks_of C.blocks)) (split_store below x X (free_variables C.variables) zero h A K) solution) → (g : GivesCase (with_entries Σ first (blocks_of C.blocks)) [] nothing below (record { items = free_variables C.variables; given = given; local = local; family = a; arguments = arguments }) x X (free_variables C.variables) zero h A (solved_case (record { items = free_variables C.variables; given = given; local = local; family = a; arguments = arguments }) (zero + arguments_count A) solution s.well_formed.order)) × (v : World (with_entries Σ' first (blocks_of C.blocks)) [] nothing F) × (υ : ℕ → Image) × IsGroundInstance v (solved_case (record { items = free_variables C.variables; given = given; local = local; family = a; arguments = arguments }) (zero + arguments_count A) solution s.well_formed.order).items υ × ((i : ℕ) (B : LfType) → TypeAt C.variables i B → after ρ σ i ≡ after υ g.values (i + (zero + arguments_count A)))

@@ -1025,10 +1025,9 @@ ghost use Rattle.lf_coverage.specs.OwnValuesExamplesAnswer.{EntryAnswerIsInstanc
 ghost use Rattle.lf_coverage.specs.OwnValuesReading.{ReadBackIsTyped, ReadBackIsGround, SolvedIsReadBack, InstancesAreReadBack};
 ghost use Rattle.lf_coverage.specs.WritingLaws.{EntriesExtend, InstanceIsWritten, ValuesAreWritten, WrittenIsReadBack, WrittenValuesAreTyped, ReadingBackKeepsTyping};
 ghost use Rattle.lf_coverage.specs.ExamplesWriting.{CopyIsWritten, HeadIsOnOtherTerms, EntryIsReadAs, RoomIsFree, CopyHasValues};
-ghost use Rattle.lf_coverage.specs.WritingHeads.{WrittenHeadIsMade, NumberedRefutedGivesNone, HeadIsReadAs, WrittenHeadIsKept};
+ghost use Rattle.lf_coverage.specs.WritingHeads.{WrittenHeadIsMade, NumberedRefutedGivesNone};
 ghost use Rattle.lf_coverage.specs.WritingRoom.{RoomIsMade, NumberedGivesNone, RoomIsLeft};
 ghost use Rattle.lf_coverage.specs.WritingInstances.{ReadBackIsInstance};
-ghost use Rattle.lf_coverage.specs.WritingSolved.{ReadOffHasInstance};
 ghost use Rattle.lf_coverage.specs.NumberedSplits.{AnsweredByNumberIsSplit};
 ghost use Rattle.lf_coverage.specs.NumberedSplitsExamples.{OpenIsSplitByEntry, OpenIsCovered};
 ghost use Rattle.lf_coverage.specs.NumberedSplitsRuns.{AnsweredByNumberStaysTyped, AnsweredByNumberCovers, AnsweredByNumberCoversCase, AnsweredByNumberIsAnswer, AnsweredByNumberGivesOutputs};
@@ -1328,26 +1327,11 @@ pub fn room_is_left()
     ensures { RoomIsLeft }
 {}
 
-/// Each head over the entries of a case that a ground instance makes a variable is what a head over the signature with entries is read as.
-pub fn head_is_read_as()
-    ensures { HeadIsReadAs }
-{}
-
 /// In the context of copy_is_written b.x is read as x and not as y; room for two entries from 4 on moves 4 to 6; and cp b.x _ is typed over what is written.
 pub fn entry_is_read_as()
     ensures head { EntryIsReadAs }
     ensures room { RoomIsFree }
     ensures values { CopyHasValues }
-{}
-
-/// Where steps solve the head over the signature with entries, the case that solving gives has the written instance.
-pub fn written_head_is_kept()
-    ensures { WrittenHeadIsKept }
-{}
-
-/// The numbered case that is read off has the instance that was written, where the values are on own terms, and terms are there what they were.
-pub fn read_off_has_instance()
-    ensures { ReadOffHasInstance }
 {}
 
 /// A split at each head of which unification over the signature with entries answers, of a case whose block variables have numbers, is a split.

@@ -25,7 +25,7 @@ pub struct Search {
     pub(crate) store: Store,
     pub(crate) frames: Frames,
     pub(crate) choices: Vec<Choice>,
-    /// What occurs checks met since something was last taken back: no try goes through it again.
+    /// What occurs checks met and still know: it is forgotten where something is taken back, where a hole of it is bound, or where an equation isn't a whole binding.
     pub(crate) met: Walk,
     pub(crate) place: Place,
     /// How many variables the goal has: they are the first metavariables, and the hole of the proof is the next one.

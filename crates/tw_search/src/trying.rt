@@ -19,7 +19,7 @@ use tw_terms::{Head, MetaId};
 use tw_unify::{Unified, UnifyFault, Walk, all_left_over_are_left, solve_more};
 
 /// Tries the head at the goal. None where it gives no child; else the holes of its subgoals, in the order of the head's quantifiers. Heads that clash are found out without an
-/// allocation. Of the equations that were postponed it looks only at such as hang on a metavariable that it binds; what the occurs check met before isn't walked again. Answers `TooDeep` only where the equations of the store with those of the head are deep.
+/// allocation. Of the equations that were postponed it looks only at such as hang on a metavariable that it binds; what the occurs check met before isn't walked again, unless what is to be bound is of it. Answers `TooDeep` only where the equations of the store with those of the head are deep.
 pub(crate) fn attempt(
     alloc: Global,
     store: &mut Store,

@@ -14,7 +14,7 @@ use std::collections::HashSet;
 use tw_metas::Store;
 use tw_terms::{MetaId, Open, OpenHead, OpenSpine, OpenTy};
 
-/// The metavariables that were met, and those of them whose types and values are still to be walked. It may be kept from call to call for as long as nothing is taken back in the store.
+/// The metavariables that were met, and those of them whose types and values are still to be walked. It may be kept from call to call for as long as nothing is taken back in the store, and no metavariable that was met is bound to what wasn't met.
 #[derive(Drop)]
 pub struct Walk {
     pub marks: HashSet<u64>,

@@ -55,7 +55,7 @@ pub fn solve(
 }
 
 /// The same where all equations that are postponed in the store are left, as `solve` leaves them. Of these it looks only at such as hang on a metavariable that it binds. What the occurs check
-/// met in earlier calls it doesn't walk again, as long as steps only bind metavariables; after a fault what it met may be of no more use.
+/// met in earlier calls it doesn't walk again, until an equation comes at which no side takes the other whole, and unless what is bound is of it; after a fault what it met is of no more use.
 pub fn solve_more(
     alloc: Global,
     store: &mut Store,
