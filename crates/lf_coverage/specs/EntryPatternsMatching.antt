@@ -12,8 +12,7 @@ use Rattle.lf.specs.Entries.{quantifiers}
 use Rattle.lf_checks.specs.Parts.{type_at}
 use Rattle.lf_cases.specs.Cover.{before}
 use Rattle.lf_checks.specs.Marks.{MentionChosenOnly, TypedPlaces}
-use Rattle.lf_cases.specs.Case.{Case, covered_places}
-use Rattle.lf_cases.specs.OutputGoal.{free_variables}
+use Rattle.lf_cases.specs.Case.{covered_places}
 use Rattle.lf_cases.specs.Pattern.{Origin, of_constant, of_entry, Pattern, given_at, ground_in, head_pattern, origin}
 use Rattle.lf_coverage.specs.EntryConstants.{or_else, with_entries, IsFreeFrom}
 use Rattle.lf_coverage.specs.EntryPatterns.{variable_images, StandsByNumber, IsInstanceOfPattern}

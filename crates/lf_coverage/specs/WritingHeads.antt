@@ -1,29 +1,24 @@
 -- A ground instance that makes a variable a head over entry constants does so when it is written: in a context of the empty world, over the signature
 -- with entries. There what unification finds for the head holds.
-use Rattle.std.specs.Prelude.{◌≡◌, ℕ, zero, ◌+◌, ◌<◌, List, [], length, Bool, Option, Some}
-use Rattle.lf.specs.Syntax.{Head, constant, variable, Term, Spine, root, LfType, Kind, skeleton}
+use Rattle.std.specs.Prelude.{◌≡◌, ℕ, zero, ◌+◌, ◌<◌, List, [], length, Bool, Some}
+use Rattle.lf.specs.Syntax.{Head, constant, variable, Spine, root, LfType, Kind, skeleton}
 use Rattle.lf.specs.Substitution.{Image, put, after}
 use Rattle.lf.specs.Eta.{lambdas}
-use Rattle.lf.specs.Typing.{Signature, TypeAt, IsSignature}
+use Rattle.lf.specs.Typing.{Signature, TypeAt}
 use Rattle.lf.specs.Variables.{target, binders, FamiliesIn, nothing}
-use Rattle.lf.specs.Subordination.{Block, AreTypedBlocks, SelfContained}
+use Rattle.lf.specs.Subordination.{Block, SelfContained}
 use Rattle.lf.specs.Worlds.{World}
-use Rattle.lf.specs.Extension.{Extends}
 use Rattle.lf_checks.specs.Below.{IsSubordination}
-use Rattle.lf_unification.specs.Solving.{Solved}
 use Rattle.lf_unification.specs.Steps.{CanRefute}
-use Rattle.lf_unification.specs.Unifiers.{Store}
-use Rattle.lf_cases.specs.Case.{IsGroundInstance}
 use Rattle.lf_cases.specs.OutputGoal.{free_variables}
 use Rattle.lf_cases.specs.Reached.{arguments_count, taken}
-use Rattle.lf_coverage.specs.EntryConstants.{with_entries, IsFreeFrom}
-use Rattle.lf_coverage.specs.Heads.{ArgumentsAreBelow, MakesHead, GivesCase, IsTypedCase}
+use Rattle.lf_coverage.specs.EntryConstants.{with_entries}
+use Rattle.lf_coverage.specs.Heads.{ArgumentsAreBelow, MakesHead}
 use Rattle.lf_coverage.specs.NewInstance.{AreApart}
-use Rattle.lf_coverage.specs.NumberedCase.{NumberedCase, AreTypedVariables, IsNumberedInstance}
-use Rattle.lf_coverage.specs.NumberedHeads.{IsNumberedHead}
+use Rattle.lf_coverage.specs.NumberedCase.{NumberedCase}
 use Rattle.lf_coverage.specs.OwnTerms.{blocks_of}
 use Rattle.lf_coverage.specs.Reading.{entry_reading}
-use Rattle.lf_coverage.specs.SplitStore.{split_store, solved_case}
+use Rattle.lf_coverage.specs.SplitStore.{split_store}
 use Rattle.lf_coverage.specs.Writing.{IsWriting}
 use Rattle.lf_coverage.specs.WritingLaws.{IsInstanceWithRoom}
 
