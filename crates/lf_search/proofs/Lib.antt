@@ -14,3 +14,5 @@ pub mod HolesStay
 pub mod ExamplesSubgoals
 pub mod Calls
 pub mod RigidHeads
+pub mod AppliedHeads
+pub mod ExamplesAppliedHeads

@@ -6,3 +6,4 @@ pub mod Calls
 pub mod Heads
 pub mod Holes
 pub mod Laws
+pub mod AppliedHeads

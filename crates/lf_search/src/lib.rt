@@ -1,6 +1,7 @@
 //! The laws of a search for the proofs of a goal. They have no code: each function carries one law as its contract.
 #![tactic(auto)]
 
+ghost use Rattle.lf_search.specs.AppliedHeads.{NextHeadIsPutIn};
 ghost use Rattle.lf_search.specs.Laws.{QueryIsWellFormed, OfferIsThere, ClashIsNever, HeadsAreSkipped, ChildIsNode, HolesStayOpen, AnswerOfLeaf, ClosedIsFound, SearchesCompose, EndsAreDetermined, QueryStandsAtEnd, BudgetsAdd, CallsGiveRun};
 
 /// A typed goal has a query, whose root is a node with a well-formed store.
@@ -66,4 +67,9 @@ pub fn budgets_add()
 /// Calls of a search one after another give the run of a query.
 pub fn calls_give_run()
     ensures { CallsGiveRun }
+{}
+
+/// The eta-long form of the next metavariable, put in, is one head more among those that are put in at once.
+pub fn next_head_is_put_in()
+    ensures { NextHeadIsPutIn }
 {}
