@@ -29,7 +29,7 @@ use Rattle.tw_parse_queries.specs.Searches.{Searches, query, solve}
 use Rattle.tw_recon.specs.Queries.{IsGoalOf}
 use Rattle.tw_search.specs.declared.answer.Answer.{Answer}
 use Rattle.tw_signature.specs.Goal.{Goal}
-use Rattle.tw_decl.specs.Solutions.{AreHints, NamedBy, alone}
+use Rattle.tw_decl.specs.Solutions.{AreHints, NamedBy, solve_query}
 use Rattle.tw_parse.specs.Words.{Lexeme}
 use Rattle.tw_parse.specs.declared.decl.ExtName.{ExtName}
 use Rattle.tw_print.specs.Names.{Preferences}
@@ -198,7 +198,7 @@ solved_keeps v w words c at A report all r h o =
     let (n, b, free) = solved_named v.fixities words c at A all r in
     let k = h.found in
     let s = k.solution in
-    let good : AreGoodHints k.goal.names = goal_good v.signature (alone A) k.goal (free v.signature) k.runs.asked.reconstructs in
+    let good : AreGoodHints k.goal.names = goal_good v.signature (solve_query c A) k.goal (free v.signature) k.runs.asked.reconstructs in
     subst IsViewInOrder (sym h.keeps)
     (one_more v h.entry k.stands (subst IsName (sym s.name) n)
     (subst AreGoodHints (sym s.hints_are) (good_append s.named (fitted (quantifiers s.of_type) (hints A)) (hints_good k.goal k.answer s.order s.named good s.are_hints) (good_fitted (quantifiers s.of_type) (hints A) b))) o)

@@ -19,7 +19,7 @@ pub fn searched(
     names: &mut Names,
     case: &Case,
 ) -> Result<String, FormFault> {
-    case.has_only(&["context", "shown", "goal", "budgets"])?;
+    case.has_only(&["context", "shown", "proof", "goal", "budgets"])?;
     let goal = read_goal(alloc, signature, names, case)?;
     let mut search = begun(alloc, signature, &goal)?;
     let mut line = String::new(alloc);

@@ -30,7 +30,7 @@ pub(crate) fn show_step(
     write!(line, " @{tries}")
 }
 
-/// The free variables with their types, the values, and the proof.
+/// The free variables with their types, the values, and the proof, where it was read.
 fn show_answer(
     alloc: Global,
     names: &mut Names,
@@ -45,7 +45,10 @@ fn show_answer(
         show_closed_term(alloc, line, names, value)?;
         line.push_str("; ")?;
     }
-    show_closed_term(alloc, line, names, &answer.proof)?;
+    match &answer.proof {
+        Some(proof) => show_closed_term(alloc, line, names, proof)?,
+        None => line.push_str("unread")?,
+    }
     names.leave_scope(0);
     Ok(())
 }

@@ -25,7 +25,7 @@ shown_answers : (es : List Entry) (g : Goal) (ls : List Node) (xs : List Leaf) �
 shown_answers es g [] [] h = tt
 shown_answers es g [] (x ∷ xs) h = absurd h
 shown_answers es g (l ∷ ls) [] h = absurd h
-shown_answers es g (l ∷ ls) (leaf.Answer a ∷ xs) (v, h) = (v.is_answer, shown_answers es g ls xs h)
+shown_answers es g (l ∷ ls) (leaf.Answer a ∷ xs) (v, h) = (v.typed, shown_answers es g ls xs h)
 shown_answers es g (l ∷ ls) (leaf.Outside e ∷ xs) (v, h) = (tt, shown_answers es g ls xs h)
 
 pub run_answers : (es : List Entry) (g : Goal) (b : Bound) (n : ℕ) (xs : List Leaf) (end : QueryEnd) (tries : ℕ) → IsRunOf es g b n xs end tries → AreAnswers es g xs

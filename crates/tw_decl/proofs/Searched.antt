@@ -18,7 +18,7 @@ use Rattle.tw_search.specs.declared.answer.Answer.{Answer}
 use Rattle.tw_signature.specs.Goal.{Goal}
 use Rattle.tw_decl.specs.SearchSteps.{HasNoSolution, IsDeepEntry, IsUnexpected}
 use Rattle.tw_decl.specs.Searching.{IsAsked, bound_of, first_answer, first_left}
-use Rattle.tw_decl.specs.Solutions.{alone}
+use Rattle.tw_decl.specs.Solutions.{solve_query}
 use Rattle.tw_decl.specs.Steps.{IsRefusedFor, ShowsLeft}
 use Rattle.tw_decl.specs.Unanswered.{GoalFails, HasNoRun, IsNotAnswered, IsNotAsked, IsNotSolved}
 use Rattle.tw_decl.specs.View.{View}
@@ -115,7 +115,7 @@ module _ (v : View) (c : List ℕ) (A : Term) (first : Place) where
   solve_not_asked (refusals.NoAnswer place) h = absurd h
   solve_not_asked refusal h = h
 
-  module _ (g : Goal) (asked : IsAsked v.signature (alone A) g) where
+  module _ (g : Goal) (asked : IsAsked v.signature (solve_query c A) g) where
     pub solve_not_run : (refusal : Refusal) → HasNoRun v g (bounded.number 1) first refusal → IsNotSolved v c A first refusal
     solve_not_run refusals.Memory h = tt
     solve_not_run (refusals.TooDeep place) h = inr (inl (g, asked, h))

@@ -1,5 +1,6 @@
 -- The entry of an answer is canonical.
 use Rattle.std.proofs.Common.{◌≡◌, ℕ, zero, suc, ◌+◌, ◌<◌, List, [], ◌∷◌, ◌++◌, inl, inr, length, length-append, map, take, drop, get_or, Option, Some, None, Result, Ok, Err, IfOk, Bool, false, refl, sym, ap, ◌∙◌, subst, arith}
+use Rattle.std.specs.Option.{option_map}
 use Rattle.lf.specs.Depth.{depth_limit}
 use Rattle.lf.specs.Entries.{Body, BodyIsTyped, BodyIsWithin, Entry, IsCanonicalEntry, body_quantifiers, declare_constant, declare_definition, quantifiers}
 use Rattle.lf.specs.Subordination.{Member}
@@ -15,7 +16,6 @@ use Rattle.tw_abstract.proofs.Lists.{at_below, at_member, index_at, index_below}
 use Rattle.tw_names.specs.Texts.{hints}
 use Rattle.tw_parse.specs.Queries.{Query}
 use Rattle.tw_parse.specs.Syntax as written
-use Rattle.tw_query.specs.Runs.{values_of}
 use Rattle.tw_recon.specs.Hints.{fitted}
 use Rattle.tw_recon.proofs.Closed.{closed_typed}
 use Rattle.tw_recon.proofs.Principals.{fitted_length, quantifiers_over}
@@ -25,10 +25,11 @@ use Rattle.tw_reorder.proofs.Orders.{distinct, order_all, order_within}
 use Rattle.tw_reorder.proofs.Placing.{below_or_past}
 use Rattle.tw_reorder.proofs.Turns.{each_comes, each_within}
 use Rattle.tw_reorder.proofs.Typed.{first_within, reordered_typed}
+use Rattle.tw_search.specs.Answers.{HasProof, IsIfRead, values_of}
 use Rattle.tw_search.specs.declared.answer.Answer.{Answer}
 use Rattle.tw_signature.specs.Goal.{Goal}
 use Rattle.tw_terms.specs.View.{head_of, term_of}
-use Rattle.tw_decl.specs.Solutions.{AreHints, IsAlone, IsSolution, NamedBy, alone, answer_type}
+use Rattle.tw_decl.specs.Solutions.{AreHints, IsAlone, IsSolution, NamedBy, answer_type, solve_query}
 use Rattle.tw_decl.proofs.AnswerTypes.{answer_typed}
 use Rattle.std.specs.Prelude.{◌↔◌, IsTrue, map as each, slice_get}
 use Rattle.lf.specs.Eta.{eta_long}
@@ -95,9 +96,9 @@ hint_each g a [] (x ∷ hs) h = absurd h
 hint_each g a (f ∷ fs) [] h = absurd h
 hint_each g a (f ∷ fs) (x ∷ hs) (n, h) = ap suc (hint_each g a fs hs h)
 
-pub solution_canonical : (Σ : Signature) (c : List ℕ) (T : written.Term) (g : Goal) (a : Answer) (e : Entry) → AreWithin a.free (answer_type g a) (term_of a.proof) (each term_of a.values.items) → IsSolution c T g a e → BodyIsTyped Σ e.body → BodyIsWithin depth_limit e.body → IsCanonicalEntry Σ e
-solution_canonical Σ c T g a e w s t d =
-    let n : length s.order ≡ length s.context = order_length a.free (answer_type g a) (term_of a.proof) (each term_of a.values.items) s.order s.context s.of_type s.proof w s.reordered in
+pub solution_canonical : (Σ : Signature) (c : List ℕ) (T : written.Term) (g : Goal) (a : Answer) (e : Entry) (s : IsSolution c T g a e) → AreWithin a.free (answer_type g a) s.answer_proof (each term_of a.values.items) → BodyIsTyped Σ e.body → BodyIsWithin depth_limit e.body → IsCanonicalEntry Σ e
+solution_canonical Σ c T g a e s w t d =
+    let n : length s.order ≡ length s.context = order_length a.free (answer_type g a) s.answer_proof (each term_of a.values.items) s.order s.context s.of_type s.proof w s.reordered in
     let h : length s.named ≡ length s.order = hint_each g a s.order s.named s.are_hints in
     let q : body_quantifiers e.body ≡ quantifiers (pi_over s.context s.of_type) = ap body_quantifiers s.body in
     let k : quantifiers (pi_over s.context s.of_type) ≡ length s.context + quantifiers s.of_type = quantifiers_over s.context (declare_constant s.of_type) in
@@ -152,15 +153,19 @@ alone_by a i f A M E b g v e s = (λ t. (A, sym g, sym v ∙ ap Some (s.0 t ∙ 
         p ∙ ap (λ X. eta_long (skeleton X) (variable f)) (sym q) ∙ sym e
 
 -- a definition in the order of its free variables is typed, closed over them
-pub reordered_body : (Σ : Signature) (ok : IsSignature Σ) (g : Goal) (a : Answer) (order : List ℕ) (G : List LfType) (B : LfType) (N : Term) (b : Body) → IsContext Σ g.variables → IsType Σ g.variables g.goal → IsAnswerOf Σ g.variables g.goal a.free (values_of a) (term_of a.proof)
-    → AreReordered a.free (answer_type g a) (term_of a.proof) (each term_of a.values.items) order G B N → b ≡ body_over G (declare_definition N B false) → BodyIsTyped Σ b
-reordered_body Σ ok g a order G B N b c t h r e =
-    let (w, v, m) = reordered_typed Σ ok a.free (answer_type g a) (term_of a.proof) (each term_of a.values.items) order G B N r h.context (answer_typed Σ ok a.free g.variables (values_of a) g.goal (term_of a.proof) c t h) h.proves in
+pub reordered_body : (Σ : Signature) (ok : IsSignature Σ) (g : Goal) (a : Answer) (P : Term) (order : List ℕ) (G : List LfType) (B : LfType) (N : Term) (b : Body) → IsContext Σ g.variables → IsType Σ g.variables g.goal → IsAnswerOf Σ g.variables g.goal a.free (values_of a) P
+    → AreReordered a.free (answer_type g a) P (each term_of a.values.items) order G B N → b ≡ body_over G (declare_definition N B false) → BodyIsTyped Σ b
+reordered_body Σ ok g a P order G B N b c t h r e =
+    let (w, v, m) = reordered_typed Σ ok a.free (answer_type g a) P (each term_of a.values.items) order G B N r h.context (answer_typed Σ ok a.free g.variables (values_of a) g.goal P c t h) h.proves in
     closed_typed Σ G (declare_definition N B false) b e w (v, m)
 
--- a query that names no proof
-pub names_none : (q : Query) → q.proof ≡ None → q ≡ alone q.goal
-names_none q e = ap (λ x. record { proof = x; goal = q.goal }) e
+-- a query that names its proof
+pub names_proof : (c : List ℕ) (q : Query) → q.proof ≡ Some c → q ≡ solve_query c q.goal
+names_proof c q e = ap (λ x. record { proof = x; goal = q.goal }) e
+
+-- the proof that was read is the answer's
+pub same_proof : (a : Answer) (P : Term) (M : Term) → option_map term_of a.proof ≡ Some M → HasProof a P → M ≡ P
+same_proof a P M e h = subst (λ o. IsIfRead o P) e h
 
 -- two facts about what is answered
 pub both : {A E : Type 0} (r : Result A E) (P Q : A → Type 0) → IfOk r P → IfOk r Q → IfOk r (λ x. P x × Q x)

@@ -3,12 +3,11 @@ use Rattle.std.specs.Prelude.{◌≡◌, ◌≢◌, ℕ, List, [], ◌∷◌, No
 use Rattle.lf.specs.Entries.{Entry, signature_of}
 use Rattle.lf.specs.Syntax.{LfType, Term, atom, pi}
 use Rattle.lf.specs.Typing.{instantiate_type}
-use Rattle.lf_search.specs.Answers.{IsAnswerOf}
 use Rattle.tw_lexer.specs.declared.place.Place.{Place}
 use Rattle.tw_metas.specs.declared.left.LeftEquation.{LeftEquation}
 use Rattle.tw_parse_queries.specs.declared.search.ExtBound.{ExtBound}
 use Rattle.tw_parse_queries.specs.declared.search.ExtBound.TheVariants.{Number}
-use Rattle.tw_query.specs.Runs.{answers_in, values_of}
+use Rattle.tw_query.specs.Runs.{IsTypedAnswer, answers_in}
 use Rattle.tw_query.specs.declared.run.Leaf.{Leaf}
 use Rattle.tw_query.specs.declared.run.Leaf.TheVariants as leaf
 use Rattle.tw_query.specs.declared.run.QueryEnd.{QueryEnd}
@@ -17,7 +16,6 @@ use Rattle.tw_parse.specs.Syntax as written
 use Rattle.tw_recon.specs.Causes.{BodyReachesDeep}
 use Rattle.tw_search.specs.declared.answer.Answer.{Answer}
 use Rattle.tw_signature.specs.Goal.{Goal}
-use Rattle.tw_terms.specs.View.{term_of}
 use Rattle.tw_decl.specs.Equations.{left_text}
 use Rattle.tw_decl.specs.Searching.{first_left}
 use Rattle.tw_decl.specs.Solutions.{IsSolution}
@@ -27,7 +25,7 @@ use Rattle.tw_decl.specs.declared.refusal.Refusal.TheVariants as refusals
 
 -- an answer among the leaves is one of the goal
 abbrev pub IsAnswerLeaf : List Entry → Goal → Leaf → Type 0
-IsAnswerLeaf es g (leaf.Answer a) = IsAnswerOf (signature_of es) g.variables g.goal a.free (values_of a) (term_of a.proof)
+IsAnswerLeaf es g (leaf.Answer a) = IsTypedAnswer (signature_of es) g a
 IsAnswerLeaf es g (leaf.Outside left) = Unit {0}
 
 abbrev pub AreAnswers : List Entry → Goal → List Leaf → Type 0

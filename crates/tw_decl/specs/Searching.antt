@@ -1,5 +1,5 @@
 -- What `%query` and `%solve` ask for, what their search comes to, and the lines of a query.
-use Rattle.std.specs.Prelude.{◌≡◌, ◌≢◌, ℕ, ◌+◌, List, [], ◌∷◌, ◌++◌, map as each, Option, None, Some, codes, decimal}
+use Rattle.std.specs.Prelude.{◌≡◌, ◌≢◌, ℕ, ◌+◌, List, [], ◌∷◌, ◌++◌, map as each, option_map, Option, None, Some, codes, decimal}
 use Rattle.lf.specs.Entries.{Entry, signature_of}
 use Rattle.lf_search.specs.Bounded as bounded
 use Rattle.lf_search.specs.Bounded.{Bound}
@@ -63,7 +63,7 @@ query_heading e t = codes "%query " ++ bound_word e ++ codes " " ++ bound_word t
 
 -- the lines of a leaf, where n answers come with it: those of the answer, or the equation that is left
 abbrev pub leaf_lines : View → Goal → ℕ → Leaf → List ℕ
-leaf_lines v g n (leaf.Answer a) = answer_text (scene_of v) g n a.free (each term_of a.values.items) (term_of a.proof) ++ codes "\n"
+leaf_lines v g n (leaf.Answer a) = answer_text (scene_of v) g n a.free (each term_of a.values.items) (option_map term_of a.proof) ++ codes "\n"
 leaf_lines v g n (leaf.Outside left) = codes "outside " ++ left_text v left ++ codes "\n"
 
 -- the number of the answer that comes next

@@ -1,5 +1,5 @@
 -- The definition that `%solve` keeps of an answer.
-use Rattle.std.specs.Prelude.{◌≡◌, ℕ, List, [], ◌∷◌, ◌++◌, length, map as each, Option, None, Some, ◌⊎◌, false, slice_get}
+use Rattle.std.specs.Prelude.{◌≡◌, ℕ, List, [], ◌∷◌, ◌++◌, length, map as each, Option, None, Some, ◌⊎◌, false, option_map, slice_get}
 use Rattle.lf.specs.Entries.{Entry, IsCanonicalEntry, declare_definition, quantifiers, signature_of}
 use Rattle.lf.specs.Eta.{eta_long}
 use Rattle.lf.specs.Syntax.{LfType, Term, skeleton, variable}
@@ -10,20 +10,20 @@ use Rattle.tw_metas.specs.State.{joined}
 use Rattle.tw_names.specs.Texts.{hints}
 use Rattle.tw_parse.specs.Queries.{Query}
 use Rattle.tw_parse.specs.Syntax as written
-use Rattle.tw_query.specs.Runs.{values_of}
 use Rattle.tw_query.specs.declared.run.Leaf.{Leaf}
 use Rattle.tw_query.specs.declared.run.QueryEnd.{QueryEnd}
 use Rattle.tw_recon.specs.Hints.{fitted}
 use Rattle.tw_reorder.specs.Reordered.{AreReordered}
+use Rattle.tw_search.specs.Answers.{values_of}
 use Rattle.tw_search.specs.declared.answer.Answer.{Answer}
 use Rattle.tw_signature.specs.Goal.{Goal}
 use Rattle.tw_terms.specs.View.{term_of}
 use Rattle.tw_decl.specs.Searching.{Runs, first_answer}
 use Rattle.tw_decl.specs.View.{View}
 
--- the query of a goal, which names no proof
-abbrev pub alone : written.Term → Query
-alone A = record { proof = None; goal = A }
+-- the query of `%solve c : A`: the proof of A has the name c, so it is read
+abbrev pub solve_query : List ℕ → written.Term → Query
+solve_query c A = record { proof = Some c; goal = A }
 
 -- the goal with the answer's values put in
 abbrev pub answer_type : Goal → Answer → LfType
@@ -49,11 +49,13 @@ AreHints g a (f ∷ fs) (h ∷ hs) = NamedBy g a g.shown f h × AreHints g a fs 
 -- answer's type, in its proof, in the values of the query's variables, and in the types of the variables so far. `%solve two : plus (s z) (s z) X.` keeps `two : plus (s z) (s z) (s (s z)) =
 -- plus-s plus-z.`; behind the implicit quantifiers stand those of the goal, with the names of their binders.
 pub record IsSolution (c : List ℕ) (A : written.Term) (g : Goal) (a : Answer) (e : Entry) : Type 0 where
+  pub answer_proof : Term
+  pub is_read : option_map term_of a.proof ≡ Some answer_proof
   pub order : List ℕ
   pub context : List LfType
   pub of_type : LfType
   pub proof : Term
-  pub reordered : AreReordered a.free (answer_type g a) (term_of a.proof) (each term_of a.values.items) order context of_type proof
+  pub reordered : AreReordered a.free (answer_type g a) answer_proof (each term_of a.values.items) order context of_type proof
   pub named : List (Option (List ℕ))
   pub are_hints : AreHints g a order named
   pub name : e.name ≡ c
@@ -67,7 +69,7 @@ pub record IsFound (v : View) (c : List ℕ) (A : written.Term) (e : Entry) : Ty
   pub leaves : List Leaf
   pub end : QueryEnd
   pub tries : ℕ
-  pub runs : Runs v (alone A) (bounded.number 1) goal leaves end tries
+  pub runs : Runs v (solve_query c A) (bounded.number 1) goal leaves end tries
   pub answer : Answer
   pub is_first : first_answer leaves ≡ Some answer
   pub solution : IsSolution c A goal answer e

@@ -21,7 +21,7 @@ use Rattle.tw_search.specs.declared.answer.Answer.{Answer}
 use Rattle.tw_signature.specs.Goal.{Goal}
 use Rattle.tw_decl.specs.Equations.{left_text}
 use Rattle.tw_decl.specs.Searching.{IsAsked, Runs, bound_of, first_answer, first_left}
-use Rattle.tw_decl.specs.Solutions.{IsSolution, alone}
+use Rattle.tw_decl.specs.Solutions.{IsSolution, solve_query}
 use Rattle.tw_decl.specs.View.{View}
 use Rattle.tw_decl.specs.declared.refusal.Refusal.{Refusal}
 use Rattle.tw_decl.specs.declared.refusal.Refusal.TheVariants as refusals
@@ -91,11 +91,11 @@ IsNotAnswered v e t q first (refusals.Budget place tries) = RunFails v q (bound_
 IsNotAnswered v e t q first refusal = IsNotAsked v q.goal first refusal
 
 -- the search came to its end without an answer, and no leaf was left over
-pub record HasNoAnswer (v : View) (A : Term) : Type 0 where
+pub record HasNoAnswer (v : View) (c : List ℕ) (A : Term) : Type 0 where
   pub goal : Goal
   pub leaves : List Leaf
   pub tries : ℕ
-  pub runs : Runs v (alone A) (bounded.number 1) goal leaves ends.Exhausted tries
+  pub runs : Runs v (solve_query c A) (bounded.number 1) goal leaves ends.Exhausted tries
 
 -- the definition that the first answer gives is deep
 pub record IsDeepSolution (v : View) (c : List ℕ) (A : Term) : Type 0 where
@@ -103,7 +103,7 @@ pub record IsDeepSolution (v : View) (c : List ℕ) (A : Term) : Type 0 where
   pub leaves : List Leaf
   pub end : QueryEnd
   pub tries : ℕ
-  pub runs : Runs v (alone A) (bounded.number 1) goal leaves end tries
+  pub runs : Runs v (solve_query c A) (bounded.number 1) goal leaves end tries
   pub answer : Answer
   pub is_first : first_answer leaves ≡ Some answer
   pub entry : Entry
@@ -113,9 +113,9 @@ pub record IsDeepSolution (v : View) (c : List ℕ) (A : Term) : Type 0 where
 -- Why `%solve` keeps nothing: its goal can't be asked; its search doesn't end, or ends without an answer; or the definition is deep.
 abbrev pub IsNotSolved : View → List ℕ → Term → Place → Refusal → Type 0
 IsNotSolved v c A first refusals.Memory = Unit {0}
-IsNotSolved v c A first (refusals.Leftover place text) = IsNotAsked v A first (refusals.Leftover place text) ⊎ (LeavesOver v (alone A) (bounded.number 1) text.items × (place ≡ first))
+IsNotSolved v c A first (refusals.Leftover place text) = IsNotAsked v A first (refusals.Leftover place text) ⊎ (LeavesOver v (solve_query c A) (bounded.number 1) text.items × (place ≡ first))
 IsNotSolved v c A first (refusals.TooDeep place) =
-    IsNotAsked v A first (refusals.TooDeep place) ⊎ RunFails v (alone A) (bounded.number 1) first (refusals.TooDeep place) ⊎ (IsDeepSolution v c A × (place ≡ first))
-IsNotSolved v c A first (refusals.Budget place tries) = RunFails v (alone A) (bounded.number 1) first (refusals.Budget place tries)
-IsNotSolved v c A first (refusals.NoAnswer place) = HasNoAnswer v A × (place ≡ first)
+    IsNotAsked v A first (refusals.TooDeep place) ⊎ RunFails v (solve_query c A) (bounded.number 1) first (refusals.TooDeep place) ⊎ (IsDeepSolution v c A × (place ≡ first))
+IsNotSolved v c A first (refusals.Budget place tries) = RunFails v (solve_query c A) (bounded.number 1) first (refusals.Budget place tries)
+IsNotSolved v c A first (refusals.NoAnswer place) = HasNoAnswer v c A × (place ≡ first)
 IsNotSolved v c A first refusal = IsNotAsked v A first refusal

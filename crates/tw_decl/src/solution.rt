@@ -1,19 +1,19 @@
 //! The definition that an answer gives.
-ghost use Rattle.std.specs.Prelude.{◌≡◌, ◌↔◌, ◌+◌, ◌++◌, ◌∷◌, ℕ, List, Bool, false, true, IfOk, IsTrue, length, map, option_map, reverse, slice_get};
+ghost use Rattle.std.specs.Prelude.{◌≡◌, ◌↔◌, ◌+◌, ◌++◌, ◌∷◌, ℕ, List, Bool, Some, false, true, IfOk, IsSome, IsTrue, length, map, option_map, reverse, slice_get};
 ghost use Rattle.lf.specs.Depth.{depth_limit};
 ghost use Rattle.lf.specs.Entries.{declare_definition, signature_of, quantifiers, BodyIsTyped, BodyIsWithin};
 ghost use Rattle.lf.specs.Syntax.{LfType, Term as LfTerm};
 ghost use Rattle.lf.specs.Typing.{HasType, IsContext, IsType, Signature as Theory};
 ghost use Rattle.lf_elaboration.specs.Principal.{body_over};
-ghost use Rattle.lf_search.specs.Answers.{IsAnswerOf};
 ghost use Rattle.lf_unification.specs.Offering.{pi_over};
 ghost use Rattle.tw_metas.specs.State.{joined};
 ghost use Rattle.tw_parse.specs.View.{term_of as written_of};
 ghost use Rattle.tw_query.specs.Rows.{FitAlong};
-ghost use Rattle.tw_query.specs.Runs.{values_of};
+ghost use Rattle.tw_query.specs.Runs.{IsTypedAnswer};
 ghost use Rattle.tw_recon.specs.Causes.{BodyReachesDeep};
 ghost use Rattle.tw_recon.specs.Hints.{fitted};
 ghost use Rattle.tw_reorder.specs.Reordered.{AreReordered};
+ghost use Rattle.tw_search.specs.Answers.{values_of};
 ghost use Rattle.tw_signature.specs.Goal.{goal_of};
 ghost use Rattle.tw_signature.specs.View.{body_of, entry_of};
 ghost use Rattle.tw_terms.specs.View.{term_of, type_of};
@@ -61,7 +61,7 @@ fn answer_type(
 ) -> Result<Ty, AllocError>
     requires context { IsContext (signature_of signature.now) goal.now.variables }
     requires goal { IsType (signature_of signature.now) goal.now.variables (type_of goal.now.goal) }
-    requires answer { IsAnswerOf (signature_of signature.now) goal.now.variables (type_of goal.now.goal) answer.now.free (values_of answer.now) (term_of answer.now.proof) }
+    requires answer { IsTypedAnswer (signature_of signature.now) (goal_of goal.now) answer.now }
     ensures { IfOk result (λ a. type_of a ≡ answer_type (goal_of goal.now) answer.now) }
 {
     signature.is_canonical();
@@ -187,7 +187,7 @@ fn closed(
     answer: &Answer,
     parts: Reordered,
 ) -> Result<Entry, AllocError>
-    requires { AreReordered answer.now.free (answer_type (goal_of goal.now) answer.now) (term_of answer.now.proof) (map term_of answer.now.values.items) parts.order parts.context (type_of parts.ty) (term_of parts.term) }
+    requires { (M : LfTerm) × (option_map term_of answer.now.proof ≡ Some M) × AreReordered answer.now.free (answer_type (goal_of goal.now) answer.now) M (map term_of answer.now.values.items) parts.order parts.context (type_of parts.ty) (term_of parts.term) }
     ensures solution { IfOk result (λ e. IsSolution name (written_of text.now) (goal_of goal.now) answer.now (entry_of e)) }
     ensures body { IfOk result (λ e. body_of e.body ≡ body_over parts.context (declare_definition (term_of parts.term) (type_of parts.ty) false)) }
 {
@@ -216,7 +216,7 @@ fn closed(
     })
 }
 
-/// The entry of an answer of a goal. Fails only for want of memory.
+/// The entry of an answer of a goal that names its proof. Fails only for want of memory.
 pub fn solution(
     alloc: Global,
     signature: &Signature,
@@ -227,14 +227,20 @@ pub fn solution(
 ) -> Result<Entry, AllocError>
     requires context { IsContext (signature_of signature.now) goal.now.variables }
     requires goal { IsType (signature_of signature.now) goal.now.variables (type_of goal.now.goal) }
-    requires answer { IsAnswerOf (signature_of signature.now) goal.now.variables (type_of goal.now.goal) answer.now.free (values_of answer.now) (term_of answer.now.proof) }
+    requires named { IsSome goal.now.proof }
+    requires answer { IsTypedAnswer (signature_of signature.now) (goal_of goal.now) answer.now }
     ensures solution { IfOk result (λ e. IsSolution name (written_of text.now) (goal_of goal.now) answer.now (entry_of e)) }
     ensures typed { IfOk result (λ e. BodyIsTyped (signature_of signature.now) (body_of e.body)) }
 {
     signature.is_canonical();
     let ty = answer_type(alloc, signature, goal, answer)?;
-    let parts = reorder(alloc, &answer.free, &ty, &answer.proof, &answer.values)?;
-    closed(alloc, name, text, goal, answer, parts)
+    match &answer.proof {
+        Some(proof) => {
+            let parts = reorder(alloc, &answer.free, &ty, proof, &answer.values)?;
+            closed(alloc, name, text, goal, answer, parts)
+        }
+        None => unreachable!(),
+    }
 }
 
 // What the kernel says of a judgement that holds.

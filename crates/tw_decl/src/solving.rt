@@ -1,12 +1,11 @@
 //! `%solve`: the first answer of a goal is kept as a definition.
-ghost use Rattle.std.specs.Prelude.{◌≡◌, IfErr, IfOk, IsSome, None, OnErr, OnOk, option_map};
+ghost use Rattle.std.specs.Prelude.{◌≡◌, IfErr, IfOk, IsSome, OnErr, OnOk, Some, option_map};
 ghost use Rattle.lf.specs.Entries.{signature_of, IsCanonicalEntry};
 ghost use Rattle.lf.specs.Typing.{IsContext, IsType};
-ghost use Rattle.lf_search.specs.Answers.{IsAnswerOf};
 ghost use Rattle.lf_search.specs.Bounded as bounded;
 ghost use Rattle.tw_parse.specs.Queries.{query_of};
 ghost use Rattle.tw_parse.specs.View.{term_of as written_of};
-ghost use Rattle.tw_query.specs.Runs.{IsRunOf, values_of};
+ghost use Rattle.tw_query.specs.Runs.{IsRunOf, IsTypedAnswer};
 ghost use Rattle.tw_signature.specs.Goal.{goal_of};
 ghost use Rattle.tw_signature.specs.View.{entry_of};
 ghost use Rattle.tw_terms.specs.View.{term_of, type_of};
@@ -14,7 +13,7 @@ ghost use Rattle.tw_decl.specs.Declaration.{KeepsAnswer, entry_report};
 ghost use Rattle.tw_decl.specs.Reports.{reported};
 ghost use Rattle.tw_decl.specs.SearchSteps.{HasNoSolution, IsDeepEntry};
 ghost use Rattle.tw_decl.specs.Searching.{first_answer, first_left};
-ghost use Rattle.tw_decl.specs.Solutions.{IsFound, IsSolution};
+ghost use Rattle.tw_decl.specs.Solutions.{IsFound, IsSolution, solve_query};
 ghost use Rattle.tw_decl.specs.Unanswered.{IsNotSolved};
 ghost use Rattle.tw_decl.specs.View.{with_entry};
 
@@ -66,7 +65,8 @@ fn solved(
 ) -> Result<Entry, Refusal>
     requires context { IsContext (signature_of session.now.signature) goal.now.variables }
     requires goal { IsType (signature_of session.now.signature) goal.now.variables (type_of goal.now.goal) }
-    requires answer { IsAnswerOf (signature_of session.now.signature) goal.now.variables (type_of goal.now.goal) answer.now.free (values_of answer.now) (term_of answer.now.proof) }
+    requires named { IsSome goal.now.proof }
+    requires answer { IsTypedAnswer (signature_of session.now.signature) (goal_of goal.now) answer.now }
     ensures solution { IfOk result (λ e. IsSolution name (written_of text.now) (goal_of goal.now) answer.now (entry_of e)) }
     ensures stands { IfOk result (λ e. IsCanonicalEntry (signature_of session.now.signature) (entry_of e)) }
     ensures cause { IfErr result (IsDeepEntry session.now name (written_of text.now) (goal_of goal.now) answer.now first) }
@@ -104,7 +104,7 @@ fn found(
     name: Name,
     query: &ExtQuery,
 ) -> Result<Entry, Refusal>
-    requires { (query_of query.now).proof ≡ None }
+    requires { (query_of query.now).proof ≡ Some name }
     ensures ok { IfOk result (λ e. IsFound session.now name (query_of query.now).goal (entry_of e)) }
     ensures cause { IfErr result (IsNotSolved session.now name (query_of query.now).goal first) }
 {
@@ -122,6 +122,14 @@ fn found(
     }
 }
 
+// The query of a goal whose proof has this name.
+fn solve_query(alloc: Global, name: &Name, goal: ExtTerm) -> Result<ExtQuery, AllocError>
+    ensures { IfOk result (λ q. query_of q ≡ solve_query name.now (written_of goal)) }
+{
+    let proof = Some(name.copy(alloc)?);
+    Ok(ExtQuery { proof, goal })
+}
+
 /// Keeps the first answer of a goal. After a refusal nothing has changed.
 pub fn solve(
     alloc: Global,
@@ -134,7 +142,10 @@ pub fn solve(
     ensures err { OnErr result (session.new ≡ session.old) }
     ensures cause { IfErr result (IsNotSolved session.old name (written_of goal) first) }
 {
-    let query = ExtQuery { proof: None, goal };
+    let query = match solve_query(alloc, &name, goal) {
+        Ok(query) => query,
+        Err(_) => return Err(Refusal::Memory),
+    };
     let entry = match found(alloc, session, first, name, &query) {
         Ok(entry) => entry,
         Err(refusal) => return Err(refusal),

@@ -18,14 +18,14 @@ use Rattle.lf_search.proofs.Calls.{after_answer, after_budget, after_deep, after
 use Rattle.lf_search.proofs.LeafAnswer.{closed_is_found, leaf_answer}
 use Rattle.lf_search.proofs.QueryForm.{is_query, the_query}
 use Rattle.tw_metas.specs.declared.left.LeftEquation.{LeftEquation}
+use Rattle.tw_search.specs.Answers.{values_of}
 use Rattle.tw_search.specs.Standing.{IsDeepLeaf, Stands, StepIs, tries_of}
 use Rattle.tw_search.specs.declared.answer.Answer.{Answer}
 use Rattle.tw_search.specs.declared.search.Search.{Search}
 use Rattle.tw_search.specs.declared.step.Step.{Step}
 use Rattle.tw_search.specs.declared.step.Step.TheVariants as step
 use Rattle.tw_signature.specs.Goal.{Goal}
-use Rattle.tw_terms.specs.View.{term_of}
-use Rattle.tw_query.specs.Runs.{AllAreFound, AreShownAs, HasCause, IsRunOf, answers_in, at_leaf, end_in, in_search, values_of}
+use Rattle.tw_query.specs.Runs.{AllAreFound, AreShownAs, HasCause, IsRunOf, answers_in, at_leaf, end_in, in_search}
 use Rattle.tw_query.specs.UnderWay.{GoesOn, IsUnderWay}
 use Rattle.tw_query.specs.View.{end_of}
 use Rattle.tw_query.specs.declared.run.Leaf.TheVariants as leaf
@@ -122,7 +122,7 @@ module _ (es : List Entry) (ok : IsCanonicalSignature es) (g : Goal) (b : Bound)
       let at = answer_at es g u.nodes old.leaves.items u.shown e in
       let (l, i, each) = closed_is_found es ok g.variables g.goal u.stands.context u.stands.goal u.nodes (k + m) (ended_at_root m after c) (λ l i. (at l i).2.none_left) values proof a in
       let (given, j, w) = at l i in
-      record { given = given; is_given = j; instance = each given.free (values_of given) (term_of given.proof) w.read }
+      record { given = given; is_given = j; given_proof = w.typed.proof; has_proof = w.typed.has_proof; instance = each given.free (values_of given) w.typed.proof w.read }
 
   pub at_end : StepIs es g old.search s u.nodes u.agenda (n - k) step.Exhausted → IsRunOf es g b n old.leaves.items (end_in old.leaves.items) (tries_of s)
   at_end st =
@@ -172,8 +172,8 @@ module _ (es : List Entry) (ok : IsCanonicalSignature es) (g : Goal) (b : Bound)
   at_answer a st new ls more same =
       let F = a.free in
       let Ms = values_of a in
-      let P = term_of a.proof in
-      let c = comes_so (step.Answer a) st (answer F Ms P) st.shows in
+      let (P, has, seen) = st.shows in
+      let c = comes_so (step.Answer a) st (answer F Ms P) seen in
       let w : AfterAnswer es g.variables u.query n u.nodes k F Ms P st.tries st.after = after_answer es depth_limit g.variables u.query n u.nodes k (n - k) u.agenda run budget_is F Ms P st.tries st.after c in
       let (l, is, stood) = st.then_stands in
       let nodes = followed u.nodes (w.leaf ∷ []) in
@@ -187,7 +187,7 @@ module _ (es : List Entry) (ok : IsCanonicalSignature es) (g : Goal) (b : Bound)
           nodes = nodes;
           agenda = st.after;
           stands = subst (λ x. Stands es g x nodes st.after) (sym same) (stands_at (followed u.nodes (l ∷ [])) nodes st.tries st.after stood st.count w.run);
-          shown = subst (AreShownAs es g nodes) (sym ls) (shown_then es g u.nodes old.leaves.items w.leaf (leaf.Answer a) u.shown (record { none_left = w.no_equations; read = w.read; is_answer = is_answer }));
+          shown = subst (AreShownAs es g nodes) (sym ls) (shown_then es g u.nodes old.leaves.items w.leaf (leaf.Answer a) u.shown (record { none_left = w.no_equations; typed = record { named = is.named; proof = P; has_proof = has; is_answer = is_answer }; read = w.read }));
           within = let h = w.within in omega (arith, counted, h);
           count = one ∙ ap suc u.count ∙ sym (more_answers old.leaves.items a) ∙ ap answers_in (sym ls);
           bounded = bounded_then b fewer u.query nodes st.tries new one

@@ -1,6 +1,6 @@
 -- The values of an answer fit along the type of its goal, under a quantifier for each variable; so each line can be shown.
 use Rattle.std.proofs.Common.{◌≡◌, ℕ, zero, suc, List, [], ◌∷◌, ◌++◌, length, reverse, Option, Some, None, refl, sym, ap, ◌∙◌, subst}
-use Rattle.std.proofs.lemmas.List.{append-nil, append_assoc, reverse-append, reverse-reverse}
+use Rattle.std.proofs.lemmas.List.{append-nil, append_assoc, length-reverse, reverse-append, reverse-reverse}
 use Rattle.std.specs.List.{slice_get}
 use Rattle.lf.specs.Skeletons.{constant_skeletons, context_skeletons, family_skeletons}
 use Rattle.lf.specs.SkeletonTyping.{TermSkeleton, TypeBySkeletons}
@@ -17,6 +17,7 @@ use Rattle.lf_unification.specs.Offering.{pi_over}
 use Rattle.tw_hered.specs.Fits.{TypeFits}
 use Rattle.tw_metas.specs.State.{joined}
 use Rattle.tw_print.specs.Showable.{HasSkeleton, IsShowableType}
+use Rattle.tw_search.specs.Answers.{IsIfRead}
 use Rattle.tw_search.specs.Names.{place_of}
 use Rattle.tw_signature.specs.Goal.{Goal}
 use Rattle.tw_query.specs.Rows.{AreShowable, FitAlong}
@@ -57,19 +58,27 @@ module _ (Σ : Signature) (F : List LfType) where
   abbrev pub CanBeShown : Term → LfType → Type 0
   CanBeShown M A = IsShowableType Σ F A × HasSkeleton Σ F M (skeleton A)
 
-  some_same : {A : Type 0} {x y : A} → Some x ≡ Some y → x ≡ y
+  pub some_same : {A : Type 0} {x y : A} → Some x ≡ Some y → x ≡ y
   some_same e = cc
 
-  none_behind : (i : ℕ) (x y : Term) → slice_get (x ∷ []) (suc i) ≡ Some y → ⊥
-  none_behind i x y e = cc
+  pub shown_at : (Ms : List Term) (T : LfType) → FitAlong Σ F T Ms → (i : ℕ) (M : Term) (A : LfType) → slice_get Ms i ≡ Some M → slice_get (types_along T Ms) i ≡ Some A → CanBeShown M A
+  shown_at [] T f i M A e d = absurd cc
+  shown_at (N ∷ Ms) (pi B C) (b, n, g, f) zero M A e d = (subst (IsShowableType Σ F) (some_same d) b, subst (λ X. HasSkeleton Σ F X (skeleton A)) (some_same e) (subst (λ X. HasSkeleton Σ F N (skeleton X)) (some_same d) n))
+  shown_at (N ∷ Ms) (pi B C) (b, n, g, f) (suc i) M A e d = shown_at Ms (instantiate_type B N C) f i M A e d
+  shown_at (N ∷ Ms) (atom c S) f i M A e d = absurd f
 
-  pub shown_at : (Ms : List Term) (T : LfType) (P : Term) (t : Skeleton) → FitAlong Σ F T Ms → HaveSkeletons Ms (skeleton T) t → HasSkeleton Σ F P t → (i : ℕ) (M : Term) (A : LfType) →
-      slice_get (Ms ++ P ∷ []) i ≡ Some M → slice_get (types_along T Ms) i ≡ Some A → CanBeShown M A
-  shown_at [] T P t f h p zero M A e d = (subst (IsShowableType Σ F) (some_same d) f, subst (λ X. HasSkeleton Σ F X (skeleton A)) (some_same e) (subst (HasSkeleton Σ F P) (sym h ∙ ap skeleton (some_same d)) p))
-  shown_at [] T P t f h p (suc i) M A e d = absurd (none_behind i P M e)
-  shown_at (N ∷ Ms) (pi B C) P t (b, n, g, f) (m, h) p zero M A e d = (subst (IsShowableType Σ F) (some_same d) b, subst (λ X. HasSkeleton Σ F X (skeleton A)) (some_same e) (subst (λ X. HasSkeleton Σ F N (skeleton X)) (some_same d) n))
-  shown_at (N ∷ Ms) (pi B C) P t (b, n, g, f) (m, h) p (suc i) M A e d = shown_at Ms (instantiate_type B N C) P t f (left_of Ms B N C t h) p i M A e d
-  shown_at (N ∷ Ms) (atom c S) P t f h p i M A e d = absurd f
+  -- the type that is left of a term with its skeleton
+  pub shown_behind : (Ms : List Term) (T : LfType) (P : Term) (t : Skeleton) → FitAlong Σ F T Ms → HaveSkeletons Ms (skeleton T) t → HasSkeleton Σ F P t → (A : LfType) → slice_get (types_along T Ms) (length Ms) ≡ Some A → CanBeShown P A
+  shown_behind [] T P t f h p A d = (subst (IsShowableType Σ F) (some_same d) f, subst (HasSkeleton Σ F P) (sym h ∙ ap skeleton (some_same d)) p)
+  shown_behind (N ∷ Ms) (pi B C) P t (b, n, g, f) (m, h) p A d = shown_behind Ms (instantiate_type B N C) P t f (left_of Ms B N C t h) p A d
+  shown_behind (N ∷ Ms) (atom c S) P t f h p A d = absurd f
+
+  -- one value for each variable
+  pub values_count : (G : List LfType) (Ms : List Term) → AreTypedValues Σ F G Ms → length Ms ≡ length G
+  values_count [] [] v = refl
+  values_count [] (M ∷ Ms) v = absurd v
+  values_count (A ∷ G) [] v = absurd v
+  values_count (A ∷ G) (M ∷ Ms) (v, m) = ap suc (values_count G Ms v)
 
   -- the values, the outermost variable's first, in front of others
   pub values_have : (G : List LfType) (Ms rest : List Term) (T : LfType) (t : Skeleton) → AreTypedValues Σ F G Ms → HaveSkeletons rest (skeleton T) t → HaveSkeletons (reverse Ms ++ rest) (skeleton (pi_over G T)) t
@@ -110,14 +119,22 @@ module _ (Σ : Signature) (g : Goal) (F : List LfType) (Ms : List Term) (P : Ter
   rows_then [] ys h k = k
   rows_then (x ∷ xs) ys (s, h) k = (s, rows_then xs ys h k)
 
-  each_at : (place : Option ℕ) (M : Term) (A : LfType) → at (Ms ++ P ∷ []) place ≡ Some M → at (types_along (pi_over g.variables g.goal) Ms) place ≡ Some A → CanBeShown Σ F M A
-  each_at (Some i) M A e d = shown_at Σ F Ms (pi_over g.variables g.goal) P (skeleton g.goal) answer_fits have proof_has i M A e d
+  each_at : (place : Option ℕ) (M : Term) (A : LfType) → at Ms place ≡ Some M → at (types_along (pi_over g.variables g.goal) Ms) place ≡ Some A → CanBeShown Σ F M A
+  each_at (Some i) M A e d = shown_at Σ F Ms (pi_over g.variables g.goal) answer_fits i M A e d
   each_at None M A e d = absurd cc
 
-  these : (is : List ℕ) → AreShowable Σ F (rows_for g (Ms ++ P ∷ []) (types_along (pi_over g.variables g.goal) Ms) is)
+  these : (is : List ℕ) → AreShowable Σ F (rows_for g Ms (types_along (pi_over g.variables g.goal) Ms) is)
   these [] = tt
-  these (i ∷ is) = rows_then _ _ (one_row (joined (slice_get g.names i)) (at (Ms ++ P ∷ []) (place_of g.variables i)) (at (types_along (pi_over g.variables g.goal) Ms) (place_of g.variables i)) (each_at (place_of g.variables i))) (these is)
+  these (i ∷ is) = rows_then _ _ (one_row (joined (slice_get g.names i)) (at Ms (place_of g.variables i)) (at (types_along (pi_over g.variables g.goal) Ms) (place_of g.variables i)) (each_at (place_of g.variables i))) (these is)
 
-  pub rows_shown : AreShowable Σ F (rows_of g Ms P)
-  rows_shown = rows_then _ _ (these g.shown)
-      (one_row g.proof (slice_get (Ms ++ P ∷ []) (length g.variables)) (slice_get (types_along (pi_over g.variables g.goal) Ms) (length g.variables)) (each_at (Some (length g.variables))))
+  count : length Ms ≡ length g.variables
+  count = sym (length-reverse Ms) ∙ values_count Σ F g.variables (reverse Ms) a.values_typed
+
+  proof_at : (o : Option Term) → IsIfRead o P → (M : Term) (A : LfType) → o ≡ Some M → slice_get (types_along (pi_over g.variables g.goal) Ms) (length g.variables) ≡ Some A → CanBeShown Σ F M A
+  proof_at (Some N) is M A e d =
+      subst (λ X. CanBeShown Σ F X A) (sym is ∙ some_same Σ F e)
+      (shown_behind Σ F Ms (pi_over g.variables g.goal) P (skeleton g.goal) answer_fits have proof_has A (ap (slice_get (types_along (pi_over g.variables g.goal) Ms)) count ∙ d))
+  proof_at None is M A e d = absurd cc
+
+  pub rows_shown : (o : Option Term) → IsIfRead o P → AreShowable Σ F (rows_of g Ms o)
+  rows_shown o is = rows_then _ _ (these g.shown) (one_row g.proof o (slice_get (types_along (pi_over g.variables g.goal) Ms) (length g.variables)) (proof_at o is))

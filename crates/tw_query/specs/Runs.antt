@@ -1,5 +1,5 @@
 -- The run of a query: its leaves in order, how it ended and its tries; and why there is none.
-use Rattle.std.specs.Prelude.{◌≡◌, ℕ, zero, suc, ◌≤◌, List, [], ◌∷◌, map, reverse}
+use Rattle.std.specs.Prelude.{◌≡◌, ℕ, zero, suc, ◌≤◌, List, [], ◌∷◌, is_some}
 use Rattle.lf.specs.Depth.{depth_limit}
 use Rattle.lf.specs.Entries.{Entry, signature_of}
 use Rattle.lf.specs.Subordination.{Member}
@@ -11,10 +11,10 @@ use Rattle.lf_unification.specs.Search.{Node, Pending}
 use Rattle.lf_search.specs.Answers.{IsAnswerOf, IsInstanceOfAnswer, IsReadOffLeaf}
 use Rattle.lf_search.specs.Bounded.{Bound, FewerThan, QueryRuns, RunsDeep, RunsOut, answers_among}
 use Rattle.lf_search.specs.Goals.{IsQueryOf}
+use Rattle.tw_search.specs.Answers.{HasProof, values_of}
 use Rattle.tw_search.specs.Left.{IsDeepAt, IsLeftAt}
 use Rattle.tw_search.specs.declared.answer.Answer.{Answer}
 use Rattle.tw_signature.specs.Goal.{Goal}
-use Rattle.tw_terms.specs.View.{term_of}
 use Rattle.tw_query.specs.View.{end_of}
 use Rattle.tw_query.specs.declared.run.Leaf.{Leaf}
 use Rattle.tw_query.specs.declared.run.Leaf.TheVariants as leaf
@@ -23,15 +23,18 @@ use Rattle.tw_query.specs.declared.run.QueryEnd.TheVariants as ends
 use Rattle.tw_query.specs.declared.run.QueryFault.{QueryFault}
 use Rattle.tw_query.specs.declared.run.QueryFault.TheVariants as fault
 
--- the values of the goal's variables, the newest in front
-abbrev pub values_of : Answer → List Term
-values_of a = reverse (map term_of a.values.items)
+-- The values are typed, and so is a proof: the one that was read, or one that wasn't. Its proof is read where the goal names it.
+pub record IsTypedAnswer (Σ : Signature) (g : Goal) (a : Answer) : Type 0 where
+  pub named : is_some a.proof ≡ is_some g.proof
+  pub proof : Term
+  pub has_proof : HasProof a proof
+  pub is_answer : IsAnswerOf Σ g.variables g.goal a.free (values_of a) proof
 
 -- The leaf has no equation, the answer is read off it, and it is one of the goal: typed, with a proof.
 pub record IsAnswerAt (es : List Entry) (g : Goal) (l : Node) (a : Answer) : Type 0 where
   pub none_left : l.store.equations ≡ []
-  pub read : IsReadOffLeaf (signature_of es) g.variables l a.free (values_of a) (term_of a.proof)
-  pub is_answer : IsAnswerOf (signature_of es) g.variables g.goal a.free (values_of a) (term_of a.proof)
+  pub typed : IsTypedAnswer (signature_of es) g a
+  pub read : IsReadOffLeaf (signature_of es) g.variables l a.free (values_of a) typed.proof
 
 -- what is shown of a leaf
 abbrev pub IsShownAs : List Entry → Goal → Node → Leaf → Type 0
@@ -61,7 +64,9 @@ end_in (leaf.Outside e ∷ xs) = ends.Incomplete
 pub record IsFoundIn (Σ : Signature) (leaves : List Leaf) (values : List Term) (proof : Term) : Type 0 where
   pub given : Answer
   pub is_given : Member (leaf.Answer given) leaves
-  pub instance : IsInstanceOfAnswer Σ given.free (values_of given) (term_of given.proof) values proof
+  pub given_proof : Term
+  pub has_proof : HasProof given given_proof
+  pub instance : IsInstanceOfAnswer Σ given.free (values_of given) given_proof values proof
 
 -- each closed answer of the goal is an instance of one that was given
 abbrev pub AllAreFound : List Entry → Goal → List Leaf → Type 0

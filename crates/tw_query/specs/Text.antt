@@ -39,18 +39,16 @@ abbrev pub at : {A : Type 0} → List A → Option ℕ → Option A
 at xs (Some i) = slice_get xs i
 at xs None = None
 
--- Lines for these variables, where `terms` are the values, the outermost variable's first, with the proof behind them, and `types` their types.
+-- Lines for these variables, where `values` has the outermost variable's first, and `types` are their types.
 abbrev pub rows_for : Goal → List Term → List LfType → List ℕ → List Row
-rows_for g terms types [] = []
-rows_for g terms types (i ∷ is) = let place = place_of g.variables i in row_in (joined (slice_get g.names i)) (at terms place) (at types place) ++ rows_for g terms types is
+rows_for g values types [] = []
+rows_for g values types (i ∷ is) = let place = place_of g.variables i in row_in (joined (slice_get g.names i)) (at values place) (at types place) ++ rows_for g values types is
 
 -- The lines of an answer: one for each variable that is shown, in the order of the text, and one for the proof, if it has a name. `values` has the outermost variable's first.
-abbrev pub rows_of : Goal → List Term → Term → List Row
+abbrev pub rows_of : Goal → List Term → Option Term → List Row
 rows_of g values proof =
-    let terms = values ++ proof ∷ [] in
     let types = types_along (pi_over g.variables g.goal) values in
-    let place = length g.variables in
-    rows_for g terms types g.shown ++ row_in g.proof (slice_get terms place) (slice_get types place)
+    rows_for g values types g.shown ++ row_in g.proof proof (slice_get types (length g.variables))
 
 -- the names with this one for a variable, unless it has one
 abbrev pub with_given : Option ℕ → List ℕ → Scope → Scope
@@ -86,7 +84,7 @@ lines_or_empty s F names (r ∷ rs) = lines_of s F names (r ∷ rs)
 
 -- The text of the n-th answer, over the free variables F, without a line feed at its end: `solution n`, and a line for each variable that is shown and then for the proof, or that
 -- there is none. Of `plus X Y Z` the first answer is `solution 1`, `X = z`, `Y = Y`, `Z = Y`.
-abbrev pub answer_text : Scene → Goal → ℕ → List LfType → List Term → Term → List ℕ
+abbrev pub answer_text : Scene → Goal → ℕ → List LfType → List Term → Option Term → List ℕ
 answer_text s g n F values proof =
     let rows = rows_of g values proof in
     codes "solution " ++ (decimal n ++ lines_or_empty s F (free_names s g F rows) rows)

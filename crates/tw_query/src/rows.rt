@@ -1,5 +1,5 @@
 //! The lines of an answer: the variables that are shown, with their values and the types of these.
-ghost use Rattle.std.specs.Prelude.{◌≡◌, ◌++◌, ◌∷◌, [], List, IfOk, OnOk, map, option_map, slice_get};
+ghost use Rattle.std.specs.Prelude.{◌≡◌, ◌++◌, List, IfOk, OnOk, map, option_map, slice_get};
 ghost use Rattle.lf.specs.Syntax.{LfType};
 ghost use Rattle.lf.specs.Typing.{Signature};
 ghost use Rattle.lf_unification.specs.Offering.{pi_over};
@@ -31,7 +31,7 @@ pub(crate) fn rows<'a>(
     answer: &'a Answer,
 ) -> Result<Vec<Row<'a>>, AllocError>
     requires { (Σ : Signature) × (F : List LfType) × FitAlong Σ F (pi_over goal.now.variables (type_of goal.now.goal)) (map term_of answer.now.values.items) }
-    ensures { IfOk result (λ v. map row_of v.items ≡ rows_of (goal_of goal.now) (map term_of answer.now.values.items) (term_of answer.now.proof)) }
+    ensures { IfOk result (λ v. map row_of v.items ≡ rows_of (goal_of goal.now) (map term_of answer.now.values.items) (option_map term_of answer.now.proof)) }
 {
     let over = type_over(alloc, &goal.variables, goal.goal.copy(alloc)?)?;
     let types = types_along(alloc, over, &answer.values)?;
@@ -41,7 +41,7 @@ pub(crate) fn rows<'a>(
         let row = line(
             alloc,
             name_of(goal, *variable),
-            term_at(answer, place),
+            value_at(&answer.values, place),
             type_at(&types, place),
         )?;
         add(&mut rows, row)?;
@@ -50,7 +50,7 @@ pub(crate) fn rows<'a>(
     let row = line(
         alloc,
         name_in(&goal.proof),
-        term_at(answer, place),
+        proof_in(&answer.proof),
         type_at(&types, place),
     )?;
     add(&mut rows, row)?;
@@ -114,18 +114,20 @@ fn name_in(name: &Option<Name>) -> Option<&Name>
     }
 }
 
-/// The value at a place, the outermost variable's first; the proof is behind them.
-fn term_at(answer: &Answer, place: Option<u64>) -> Option<&Term>
-    ensures { option_map (λ t. term_of t.now) result ≡ at (map term_of answer.now.values.items ++ term_of answer.now.proof ∷ []) place }
+/// The value at a place, the outermost variable's first.
+fn value_at(values: &[Term], place: Option<u64>) -> Option<&Term>
+    ensures { option_map (λ t. term_of t.now) result ≡ at (map term_of values.now) place }
 {
-    let place = place?;
-    let count = answer.values.len() as u64;
-    if place < count {
-        Some(&answer.values[place as usize])
-    } else if place == count {
-        Some(&answer.proof)
-    } else {
-        None
+    values.get(place? as usize)
+}
+
+/// The proof, where it was read.
+fn proof_in(proof: &Option<Term>) -> Option<&Term>
+    ensures { option_map (λ t. term_of t.now) result ≡ option_map term_of proof.now }
+{
+    match proof {
+        Some(proof) => Some(proof),
+        None => None,
     }
 }
 

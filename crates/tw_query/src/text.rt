@@ -1,14 +1,13 @@
 //! The text of an answer.
-ghost use Rattle.std.specs.Prelude.{◌≡◌, ◌++◌, ◌∷◌, [], IfOk, OnOk, codes, decimal, map};
+ghost use Rattle.std.specs.Prelude.{◌≡◌, ◌++◌, ◌∷◌, [], IfOk, OnOk, codes, decimal, map, option_map};
 ghost use Rattle.lf.specs.Entries.{signature_of};
 ghost use Rattle.lf.specs.Typing.{IsContext, IsType};
-ghost use Rattle.lf_search.specs.Answers.{IsAnswerOf};
 ghost use Rattle.tw_print.specs.ShowEnv.{scene_of};
 ghost use Rattle.tw_print.specs.Showable.{IsShowableContext};
 ghost use Rattle.tw_signature.specs.Goal.{goal_of};
 ghost use Rattle.tw_terms.specs.View.{term_of, type_of};
 ghost use Rattle.tw_query.specs.Rows.{AreShowable, row_of};
-ghost use Rattle.tw_query.specs.Runs.{values_of};
+ghost use Rattle.tw_query.specs.Runs.{IsTypedAnswer};
 ghost use Rattle.tw_query.specs.Text.{answer_text, lines_of, lines_or_empty};
 
 use crate::free::{free_names, scope_of};
@@ -31,8 +30,8 @@ pub fn show_answer(
 ) -> Result<Vec<u8>, AllocError>
     requires context { IsContext (signature_of env.now.sig.now) goal.now.variables }
     requires goal { IsType (signature_of env.now.sig.now) goal.now.variables (type_of goal.now.goal) }
-    requires answer { IsAnswerOf (signature_of env.now.sig.now) goal.now.variables (type_of goal.now.goal) answer.now.free (values_of answer.now) (term_of answer.now.proof) }
-    ensures { IfOk result (λ t. t.items ≡ answer_text (scene_of env.now) (goal_of goal.now) number answer.now.free (map term_of answer.now.values.items) (term_of answer.now.proof)) }
+    requires answer { IsTypedAnswer (signature_of env.now.sig.now) (goal_of goal.now) answer.now }
+    ensures { IfOk result (λ t. t.items ≡ answer_text (scene_of env.now) (goal_of goal.now) number answer.now.free (map term_of answer.now.values.items) (option_map term_of answer.now.proof)) }
 {
     env.sig.is_canonical();
     let rows = rows(alloc, goal, answer)?;

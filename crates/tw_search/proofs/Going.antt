@@ -1,5 +1,6 @@
 -- What the steps of the engine come to.
-use Rattle.std.proofs.Common.{◌≡◌, ℕ, ◌+◌, ◌-◌, ◌<◌, ◌≤◌, List, [], ◌∷◌, length, map, reverse, Option, Some, None, refl, sym, ap, ◌∙◌, subst, arith}
+use Rattle.std.proofs.Common.{◌≡◌, ℕ, ◌+◌, ◌-◌, ◌<◌, ◌≤◌, List, [], ◌∷◌, length, map, reverse, Option, Some, None, is_some, refl, sym, ap, ◌∙◌, subst, arith}
+use Rattle.std.specs.Option.{option_map}
 use Rattle.lf.specs.Depth.{depth_limit}
 use Rattle.lf.specs.Entries.{Entry, IsCanonicalSignature, signature_of}
 use Rattle.lf.specs.Syntax.{Head, LfType}
@@ -16,6 +17,7 @@ use Rattle.tw_terms.specs.View.{term_of}
 use Rattle.tw_terms.specs.declared.canonical.MetaId.{MetaId}
 use Rattle.tw_unify.specs.Reaching.{IsKnown, marking_of}
 use Rattle.tw_unify.specs.declared.reach.Walk.{Walk}
+use Rattle.tw_search.specs.Answers.{values_of}
 use Rattle.tw_search.specs.Chains.{GoalsAre, IsFirst, IsGrown, frames_of}
 use Rattle.tw_search.specs.Choosing.{heads_left}
 use Rattle.tw_search.specs.Going.{Goes, GoesFrom, IsBelow}
@@ -163,8 +165,8 @@ module _ (es : List Entry) (old new : Search) (list : ℕ) (agenda : List Pendin
         behind : IsAt es new w.rest
         behind = heads_are es new old.variables (choices_of old) (frames_of old.frames) old.store w.rest heads variables store frames choices w.choices met
 
-        pub answer_shown : old.store.now.equations ≡ [] → (a : Answer) → IsReadOff old.store.now old.variables a.free (reverse (map term_of a.values.items)) (term_of a.proof) → Came es G old new agenda budget (step.Answer a)
-        answer_shown e a r = answer_came es ok old new list G len agenda budget w first tries variables same_goal e a r behind
+        pub answer_shown : old.store.now.equations ≡ [] → (a : Answer) → is_some a.proof ≡ is_some (asked_of old).proof → IsReadOff old.store.now old.variables a.free (values_of a) (option_map term_of a.proof) → Came es G old new agenda budget (step.Answer a)
+        answer_shown e a named r = answer_came es ok old new list G len agenda budget w first tries variables same_goal e a named r behind
 
         pub left_shown : (left : LeftEquation) → ShowsFirst old.store.now (asked_of old) left → Came es G old new agenda budget (step.Leftover left)
         left_shown left s = left_came es ok old new list G len agenda budget w first tries variables same_goal left s behind

@@ -39,8 +39,9 @@ use Rattle.tw_terms.specs.declared.canonical.Term.{Term as ClosedTerm}
 use Rattle.tw_putting.proofs.ForCallers.{deep_term, deep_type}
 use Rattle.tw_putting.proofs.HeadValues.{stays_unbound}
 use Rattle.tw_putting.proofs.Views.{binding_of_value}
+use Rattle.tw_search.specs.Answers.{IsIfRead}
 use Rattle.tw_search.specs.Goals.{IsDeclared, node_of}
-use Rattle.tw_search.specs.Leaves.{AreValuesRead, IsFromQuery, IsLeaf, IsValueRead, ValueIsDeep, ValueIsRead, below, sites_of}
+use Rattle.tw_search.specs.Leaves.{AreValuesRead, IsFromQuery, IsLeaf, IsProofRead, IsValueRead, ValueIsDeep, ValueIsRead, below, sites_of}
 
 -- no metavariable stands in an eta-long variable
 plain_head : (ρ : ℕ → ℕ) (h : Head) → is_metavariable (rename_head ρ h) ≡ is_metavariable h
@@ -122,9 +123,13 @@ module _ (s : State) (n : ℕ) (l : IsLeaf s n) where
       go f (inl j) = let h = f j in omega (arith, h)
       go f (inr e) = omega (arith, e)
 
-  pub quantifiers_deep : (G : List LfType) → length G ≡ n → (sites : List ℕ) → sites ≡ sites_of n → BlamesQuantifiers TooDeep s sites → AnswerIsDeep depth_limit G (whole [] s)
-  quantifiers_deep G c sites q (inl (m, N, i, e, d)) = value_deep G c m (let h : m < suc n = below_within (suc n) m (subst (Member m) q i) in omega (arith, h)) (N, e, d)
-  quantifiers_deep G c sites q (inr (found, f, (m, A, i, e, d))) = go (l.reached m (A, e))
+  site_within : (b : Bool) (m : ℕ) → Member m (sites_of n b) → m ≤ n
+  site_within true m i = let h : m < suc n = below_within (suc n) m i in omega (arith, h)
+  site_within false m i = let h : m < n = below_within n m i in omega (arith, h)
+
+  pub quantifiers_deep : (G : List LfType) → length G ≡ n → (sites : List ℕ) (b : Bool) → sites ≡ sites_of n b → BlamesQuantifiers TooDeep s sites → AnswerIsDeep depth_limit G (whole [] s)
+  quantifiers_deep G c sites b q (inl (m, N, i, e, d)) = value_deep G c m (site_within b m (subst (Member m) q i)) (N, e, d)
+  quantifiers_deep G c sites b q (inr (found, f, (m, A, i, e, d))) = go (l.reached m (A, e))
     where
       free : Unbound (bindings_of s) m
       free = found_unbound s sites found f m i
@@ -134,9 +139,9 @@ module _ (s : State) (n : ℕ) (l : IsLeaf s n) where
       go (inr (b, j, h, r)) = deep_free b m A j (subst (λ k. b.of ≤ k) (sym c) h) r free e (deep_type s 0 A d)
 
   -- what is read off
-  module _ (ms : List ℕ) (F : List LfType) (qs : AreQuantifiers s (sites_of n) ms F) where
+  module _ (sites ms : List ℕ) (F : List LfType) (qs : AreQuantifiers s sites ms F) where
     pub order : (ρ ρ' : ℕ → ℕ) × principal.IsReordering (free_context (skeletons_of (types_of s)) l.ready.well_formed.order) F ρ ρ' × TakesIndices (index (free_metavariables l.ready.well_formed.order)) (index ms) ρ
-    order = quantifiers_law l.signature l.is_signature s l.ready l.ready.well_formed (sites_of n) ms F qs
+    order = quantifiers_law l.signature l.is_signature s l.ready l.ready.well_formed sites ms F qs
 
     -- a free metavariable has a variable
     pub has_index : (m : ℕ) → IsDeclared s m → value_of s m ≡ None → (i : ℕ) × (index ms m ≡ Some (order.0 i)) × (values (skeletons_of (types_of s)) l.ready.well_formed.order m ≡ Some (eta_variable (skeletons_of (types_of s) m) i))
@@ -195,8 +200,21 @@ module _ (s : State) (n : ℕ) (l : IsLeaf s n) where
             let same : it.value ≡ Some b.value = ap (λ (x : ListedMetavariable). x.value) (listed_once l.signature (types_of s) (IsFilling l.signature [] (whole [] s)) l.ready.well_formed.order l.ready.well_formed.is_order it (record { of = b.of; of_type = X; value = Some b.value }) (h it (inl refl)) j e) in
             (let no : None ≡ Some b.value = sym q ∙ same in absurd cc)
 
+    -- the theory has a value for each metavariable, read or not
+    has_value : (m : ℕ) → IsDeclared s m → (v : Option Term) → value_of s m ≡ v → (M : Term) × (moved order.0 (values (skeletons_of (types_of s)) l.ready.well_formed.order) m ≡ Some M)
+    has_value m d (Some N) e =
+        (rename order.0 (fill (skeletons_of (types_of s)) (values (skeletons_of (types_of s)) l.ready.well_formed.order) N), ap (rename_value order.0) (respected (bindings_of s) respects (record { of = m; value = N }) (is_bound m N e)))
+    has_value m d None e =
+        let (i, y, v) = has_index m d e in
+        (rename order.0 (eta_variable (skeletons_of (types_of s) m) i), ap (rename_value order.0) v)
+
+    -- the proof: the one that was read, if it was
+    pub proof_there : (o : Option Term) → IsProofRead s ms n o → (M : Term) × IsIfRead o M × (moved order.0 (values (skeletons_of (types_of s)) l.ready.well_formed.order) n ≡ Some M)
+    proof_there (Some M) r = (M, refl, value_is n (l.declared n (omega arith)) (value_of s n) refl M r)
+    proof_there None r = let (M, e) = has_value n (l.declared n (omega arith)) (value_of s n) refl in (M, tt, e)
+
     -- THE theorem
-    pub is_read_off : (G : List LfType) (gs : List ℕ) (Ms : List Term) (proof : Term) → length G ≡ n → length Ms ≡ n → AreValuesRead s ms Ms → IsValueRead s ms n proof → IsReadOffLeaf l.signature G (node_of s gs) F Ms proof
+    pub is_read_off : (G : List LfType) (gs : List ℕ) (Ms : List Term) (proof : Term) → length G ≡ n → length Ms ≡ n → AreValuesRead s ms Ms → moved order.0 (values (skeletons_of (types_of s)) l.ready.well_formed.order) n ≡ Some proof → IsReadOffLeaf l.signature G (node_of s gs) F Ms proof
     is_read_off G gs Ms proof c k r p = record {
       order = l.ready.well_formed.order;
       is_order = l.ready.well_formed.is_order;
@@ -207,7 +225,7 @@ module _ (s : State) (n : ℕ) (l : IsLeaf s n) where
       back = order.1;
       reordered = record { there = order.2.there; back = order.2.back; there_and_back = order.2.there_and_back; back_and_there = order.2.back_and_there };
       values_of = values_are G Ms (k ∙ sym c) (subst (λ j. j ≤ n) (sym c) (omega arith)) r;
-      proof_of = value_is (length G) (l.declared (length G) (subst (λ j. j ≤ n) (sym c) (omega arith))) (value_of s (length G)) refl proof (subst (λ m. IsValueRead s ms m proof) (sym c) p);
+      proof_of = ap (moved order.0 (values (skeletons_of (types_of s)) l.ready.well_formed.order)) c ∙ p;
     }
 
 -- an eta-long variable is closed

@@ -1,5 +1,6 @@
 -- What a search comes to: at a leaf, at its end, at the end of a budget, and at something deep.
-use Rattle.std.proofs.Common.{◌≡◌, ℕ, suc, ◌+◌, ◌-◌, ◌<◌, ◌≤◌, List, [], ◌∷◌, length, map, reverse, None, refl, sym, ap, ◌∙◌, subst, arith, inl, inr}
+use Rattle.std.proofs.Common.{◌≡◌, ℕ, suc, ◌+◌, ◌-◌, ◌<◌, ◌≤◌, List, [], ◌∷◌, length, None, is_some, refl, sym, ap, ◌∙◌, subst, arith, inl, inr}
+use Rattle.std.specs.Option.{option_map}
 use Rattle.lf.specs.Depth.{depth_limit}
 use Rattle.lf.specs.Entries.{Entry, IsCanonicalSignature, signature_of}
 use Rattle.lf.specs.Syntax.{Head, LfType}
@@ -7,7 +8,6 @@ use Rattle.lf.proofs.Entries.{canonical_is_signature}
 use Rattle.lf_unification.specs.Lists.{followed}
 use Rattle.lf_unification.specs.Search.{Node, Offer, Pending, SearchesFrom, TryIsDue, at_node, begin_search, declared_constants, take_leaf}
 use Rattle.lf_unification.specs.Unifiers.{Equation}
-use Rattle.lf_search.specs.Answers.{IsReadOffLeaf}
 use Rattle.lf_search.specs.Coming.{AnswerIsDeep, Comes, IsDeepNext, Seen, answer, deep_answer, deep_offer, exhausted, left_over, out_of_budget, to_answer, to_budget, to_deep, to_end, to_left_over, too_deep}
 use Rattle.lf_search.specs.Goals.{root_of}
 use Rattle.lf_search.proofs.Ends.{followed_none, one_step, search_then}
@@ -17,11 +17,12 @@ use Rattle.tw_signature.specs.Goal.{Goal, goal_of}
 use Rattle.tw_signature.specs.declared.goal.Goal.{Goal as Asked}
 use Rattle.tw_terms.specs.OpenView.{open_spine_of}
 use Rattle.tw_terms.specs.View.{term_of}
+use Rattle.tw_search.specs.Answers.{values_of}
 use Rattle.tw_search.specs.Chains.{IsFirst, frames_of}
 use Rattle.tw_search.specs.Goals.{at_goal, node_of}
 use Rattle.tw_search.specs.Leaves.{AllFromQuery, IsLeaf, IsReadOff}
 use Rattle.tw_search.specs.Left.{IsLeftAt, IsStoreOf, ShowingIsDeep, ShowsFirst}
-use Rattle.tw_search.specs.Standing.{Came, ChoicesStand, IsAt, IsOver, NodeStands, PlaceStands, Shows, Stands, StandsAfter, StepIs, TriesHead, asked_of, choices_of}
+use Rattle.tw_search.specs.Standing.{Came, ChoicesStand, IsAnswerOfLeaf, IsAt, IsOver, NodeStands, PlaceStands, Shows, Stands, StandsAfter, StepIs, TriesHead, asked_of, choices_of}
 use Rattle.tw_search.specs.Tries.{OfferIsDeep}
 use Rattle.tw_search.specs.declared.answer.Answer.{Answer}
 use Rattle.tw_search.specs.declared.search.Search.{Search}
@@ -56,8 +57,8 @@ module _ (es : List Entry) (ok : IsCanonicalSignature es) (old new : Search) (li
   is_store : IsStoreOf es (node_of old.store.now w.goals) old.store.now
   is_store = record { store = refl; ready = w.kept.ready }
 
-  pub answer_came : old.store.now.equations ≡ [] → (a : Answer) → IsReadOff old.store.now old.variables a.free (reverse (map term_of a.values.items)) (term_of a.proof) → IsAt es new w.rest → Came es G old new agenda budget (step.Answer a)
-  answer_came e a r at =
+  pub answer_came : old.store.now.equations ≡ [] → (a : Answer) → is_some a.proof ≡ is_some (asked_of old).proof → IsReadOff old.store.now old.variables a.free (values_of a) (option_map term_of a.proof) → IsAt es new w.rest → Came es G old new agenda budget (step.Answer a)
+  answer_came e a named r at =
       let leaf : IsLeaf old.store.now (length G) = record {
         signature = signature_of es;
         is_signature = canonical_is_signature es ok;
@@ -66,15 +67,14 @@ module _ (es : List Entry) (ok : IsCanonicalSignature es) (old new : Search) (li
         declared = λ m h. w.kept.declared m (subst (λ n. m ≤ n) len h);
         reached = subst (λ n. AllFromQuery old.store.now n) (sym len) w.kept.from_query;
       } in
-      let read : IsReadOffLeaf (signature_of es) G (node_of old.store.now w.goals) a.free (reverse (map term_of a.values.items)) (term_of a.proof) =
-      leaf_law old.store.now G leaf w.goals a.free (reverse (map term_of a.values.items)) (term_of a.proof) (subst (λ n. IsReadOff old.store.now n a.free (reverse (map term_of a.values.items)) (term_of a.proof)) (sym len) r) in
+      let (proof, has, read) = leaf_law old.store.now G leaf w.goals a.free (values_of a) (option_map term_of a.proof) (subst (λ n. IsReadOff old.store.now n a.free (values_of a) (option_map term_of a.proof)) (sym len) r) in
       record {
-        seen = answer a.free (reverse (map term_of a.values.items)) (term_of a.proof);
+        seen = answer a.free (values_of a) proof;
         tries = 0;
         after = w.rest;
         comes = to_answer here (omega arith) no_goals e read;
-        shows = refl;
-        passes = (node_of old.store.now w.goals, record { none_left = e; read = read }, behind_leaf);
+        shows = (proof, has, refl);
+        passes = (node_of old.store.now w.goals, record { none_left = e; named = named ∙ sym (ap (λ (x : Asked). is_some (goal_of x).proof) same_goal); proof = proof; has_proof = has; read = read }, behind_leaf);
         count = omega (arith, tries);
         variables = variables;
         same_goal = same_goal;
@@ -203,7 +203,7 @@ module _ (es : List Entry) (g : Goal) (agenda : List Pending) (budget : ℕ) whe
     }
 
     then_stands : (s : Step) (v : Came es g.variables old new agenda budget s) → StandsAfter es g s new leaves v.after
-    then_stands (step.Answer a) v = let (l, shown, r) = v.passes in (l, shown, stands_behind (l ∷ []) v.tries v.after r v.count v.variables v.same_goal v.then_is)
+    then_stands (step.Answer a) v = let (l, shown, r) = v.passes in (l, subst (λ x. IsAnswerOfLeaf es g.variables x.proof a l) (asked v.same_goal) shown, stands_behind (l ∷ []) v.tries v.after r v.count v.variables v.same_goal v.then_is)
     then_stands (step.Leftover left) v = let (l, shown, r) = v.passes in (l, subst (λ x. IsLeftAt es x l left) (asked v.same_goal) shown, stands_behind (l ∷ []) v.tries v.after r v.count v.variables v.same_goal v.then_is)
     then_stands step.Exhausted v = v.then_is
     then_stands step.Budget v = subst (λ ls. Stands es g new ls v.after) (followed_none leaves) (stands_behind [] v.tries v.after (none_found v.seen v.tries v.after v.comes v.shows) v.count v.variables v.same_goal v.then_is)

@@ -20,3 +20,4 @@ pub mod Calling
 pub mod StillKnown
 pub mod StillLeft
 pub mod Naming
+pub mod Applied

@@ -1,12 +1,20 @@
 -- New metavariables, step by step.
-use Rattle.std.proofs.Common.{◌≡◌, ℕ, suc, ◌<◌, List, [], ◌∷◌, ◌++◌, length, map, Some, refl, sym, ap, ap₂, ◌∙◌, subst, arith}
+use Rattle.std.proofs.Common.{◌≡◌, ℕ, suc, List, [], ◌∷◌, ◌++◌, length, map, Some, refl, sym, ap, ap₂, ◌∙◌, subst, Option}
 use Rattle.lf.specs.Eta.{append}
+use Rattle.lf.specs.SkeletonTyping.{HeadSkeletons, TermSkeleton, TypeBySkeletons}
+use Rattle.lf.specs.Skeletons.{family_skeletons}
 use Rattle.lf.specs.Substitution.{Image, lift, reduce, single, substitute_type}
 use Rattle.lf.specs.Syntax.{LfType, Skeleton, Spine, Term, app, atom, nil, pi, skeleton}
 use Rattle.lf.specs.Typing.{instantiate_type}
-use Rattle.lf_elaboration.specs.State.{State}
-use Rattle.lf_unification.specs.Offering.{AppliesToNew, applied_to_all, applied_to_next, pi_over, raised}
+use Rattle.lf_elaboration.specs.Skeletons.{heads_of}
+use Rattle.lf_elaboration.specs.State.{State, with_metavariable}
+use Rattle.lf_elaboration.proofs.Adds.{adds_metavariable}
+use Rattle.lf_elaboration.proofs.Skeletons.{raised_skeleton, type_grows}
+use Rattle.lf_search.specs.AppliedHeads.{AppliedHead, taken_heads, type_with_applied, under_applied}
+use Rattle.lf_search.proofs.AppliedHeads.{bare_stays_type, next_taken}
+use Rattle.lf_unification.specs.Offering.{AppliesToNew, applied_to_all, applied_to_next, local_arguments, pi_over, raised}
 use Rattle.lf_unification.specs.OpenTyping.{set_at}
+use Rattle.lf_unification.specs.Patterns.{local_skeletons}
 use Rattle.tw_metas.specs.State as metas
 use Rattle.tw_putting.specs.Stores.{types_of}
 use Rattle.tw_terms.specs.OpenView.{open_args_of, open_term_of}
@@ -14,10 +22,68 @@ use Rattle.tw_terms.specs.declared.canonical.MetaId.{MetaId}
 use Rattle.tw_terms.specs.declared.open_terms.Open.{Open}
 use Rattle.tw_prune.proofs.Walking.{append-nil}
 use Rattle.tw_open.specs.Fits.{TypeStands}
+use Rattle.tw_open.specs.Fresh.{IsNew}
 use Rattle.tw_open.specs.View.{made_with}
 use Rattle.tw_open.proofs.NewTerms.{longer}
 use Rattle.tw_open.proofs.Standing.{rest_stands}
+use Rattle.tw_search.specs.Applied.{taken_at}
 use Rattle.tw_search.specs.Taking.{TakesAll, TakesOne, numbers_from}
+
+-- Below, the type that is left is seen with the metavariables put in that were taken before.
+types_after : (D : List LfType) (s : State) (A B : LfType) (f : TypeStands s D (pi A B)) → TypeBySkeletons (family_skeletons f.signature) (heads_of f.signature (with_metavariable D A s)) (skeleton A ∷ local_skeletons D []) B
+types_after D s A B f = (type_grows f.signature f.typed_signature s (with_metavariable D A s) (adds_metavariable D A s f.numbered) D (pi A B) f.of_type).1
+
+one_number_more : (ms : List MetaId) (m : MetaId) → map (λ (k : MetaId). k.0) (ms ++ m ∷ []) ≡ map (λ (k : MetaId). k.0) ms ++ m.0 ∷ []
+one_number_more [] m = refl
+one_number_more (k ∷ ms) m = ap (λ l. k.0 ∷ l) (one_number_more ms m)
+
+-- the next one put in is the next one in front
+pub takes_next : (D : List LfType) (L : Spine) (ms us : List MetaId) (m : MetaId) (T A B : LfType) (M : Term) (a b : metas.State) → L ≡ local_arguments D → us ≡ ms ++ m ∷ [] → m.0 ≡ length a.declared → T ≡ pi A B →
+    TypeStands (made_with [] a) D (type_with_applied (taken_at L ms 0) T) → IsNew D (type_with_applied (taken_at L ms 0) A) M a b → TakesOne D (type_with_applied (taken_at L ms 0) T) M (type_with_applied (taken_at L us 0) B) a b
+unfolding taken_at
+takes_next D L ms us m T A B M a b l u n t f new = record {
+  domain = A';
+  range = B';
+  is = ap (type_with_applied p) t;
+  fresh = new;
+  left_over = sym (ap (λ N. instantiate_type A' N B') (new.term ∙ ap (raised D A') (sym n)) ∙ step ∙ ap (λ x. type_with_applied x B) same);
+}
+  where
+    p : ℕ → AppliedHead
+    p = taken_heads L (map (λ (k : MetaId). k.0) ms)
+
+    A' : LfType
+    A' = type_with_applied p A
+
+    B' : LfType
+    B' = type_with_applied (under_applied p) B
+
+    g : TypeStands (made_with [] a) D (pi A' B')
+    g = subst (TypeStands (made_with [] a) D) (ap (type_with_applied p) t) f
+
+    κ : HeadSkeletons
+    κ = heads_of g.signature (with_metavariable D A' (made_with [] a))
+
+    φ : ℕ → Option Skeleton
+    φ = family_skeletons g.signature
+
+    Γ : List Skeleton
+    Γ = local_skeletons D []
+
+    typed : TermSkeleton κ Γ (raised D A' m.0) (skeleton A')
+    typed = subst (λ k. TermSkeleton κ Γ (raised D A' k) (skeleton A')) (sym n) (raised_skeleton g.signature g.typed_signature D A' (made_with [] a))
+
+    step : instantiate_type A' (raised D A' m.0) B' ≡ type_with_applied (taken_heads (local_arguments D) (map (λ (k : MetaId). k.0) ms ++ m.0 ∷ [])) B
+    step = ap (λ (K : Spine). instantiate_type A' (raised D A' m.0) (type_with_applied (under_applied (taken_heads K (map (λ (k : MetaId). k.0) ms))) B)) l
+        ∙ next_taken κ φ Γ D (map (λ (k : MetaId). k.0) ms) m.0 A' B typed (subst (λ (K : Spine). TypeBySkeletons φ κ (skeleton A' ∷ Γ) (type_with_applied (under_applied (taken_heads K (map (λ (k : MetaId). k.0) ms))) B)) l (types_after D (made_with [] a) A' B' g))
+
+    same : taken_heads (local_arguments D) (map (λ (k : MetaId). k.0) ms ++ m.0 ∷ []) ≡ taken_heads L (map (λ (k : MetaId). k.0) us)
+    same = ap₂ taken_heads (sym l) (sym (one_number_more ms m) ∙ ap (map (λ (k : MetaId). k.0)) (sym u))
+
+-- with none put in, the type is itself
+pub none_taken : (L : Spine) (ms : List MetaId) (A : LfType) → ms ≡ [] → A ≡ type_with_applied (taken_at L ms 0) A
+unfolding taken_at taken_heads
+none_taken L ms A e = sym (ap (λ (l : List MetaId). type_with_applied (taken_at L l 0) A) e ∙ bare_stays_type A)
 
 -- what stands after one
 pub stands_after : (D : List LfType) (X Y : LfType) (M : Term) (a b : metas.State) → TakesOne D X M Y a b → TypeStands (made_with [] a) D X → TypeStands (made_with [] b) D Y
@@ -60,18 +126,6 @@ takes_end D A B s t ts S a T e q f = subst (λ R. TakesAll D A s t R a T) (appen
 numbers_substituted : (r : Skeleton → Term → Spine → Term) (σ : ℕ → Image) (n : ℕ) (A : LfType) → numbers_from n (substitute_type r σ A) ≡ numbers_from n A
 numbers_substituted r σ n (pi A B) = ap (λ l. n ∷ l) (numbers_substituted r (lift σ) (suc n) B)
 numbers_substituted r σ n (atom a S) = refl
-
--- an argument less is left
-pub fewer_left : (D : List LfType) (A B Y : LfType) (M : Term) (a b : metas.State) → TakesOne D (pi A B) M Y a b → length (numbers_from 0 Y) < length (numbers_from 0 (pi A B))
-fewer_left D A B Y M a b o =
-    let e : B ≡ o.range = (let p : pi A B ≡ pi o.domain o.range = o.is in cc) in
-    let y : numbers_from 0 Y ≡ numbers_from 0 B = ap (numbers_from 0) o.left_over ∙ numbers_substituted reduce (single (skeleton o.domain) M) 0 o.range ∙ sym (ap (numbers_from 0) e) in
-    let n : length (numbers_from 0 Y) ≡ length (numbers_from 1 B) = ap length y ∙ same_count 0 1 B in
-    omega (arith, n)
-  where
-    same_count : (i j : ℕ) (Z : LfType) → length (numbers_from i Z) ≡ length (numbers_from j Z)
-    same_count i j (atom c S) = refl
-    same_count i j (pi Z W) = let h = same_count (suc i) (suc j) W in omega (arith, h)
 
 pub numbers_start : (A : LfType) (s : metas.State) → numbers_from (length s.declared) A ≡ map (λ (m : MetaId). m.0) [] ++ numbers_from (length s.declared) A
 numbers_start A s = refl

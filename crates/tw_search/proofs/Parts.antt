@@ -22,13 +22,14 @@ use Rattle.tw_putting.specs.Whole.{whole}
 use Rattle.tw_putting.proofs.Changes.{past_end}
 use Rattle.tw_terms.specs.OpenView.{open_spine_of}
 use Rattle.tw_terms.specs.declared.canonical.MetaId.{MetaId}
+use Rattle.tw_search.specs.Answers.{IsIfRead}
 use Rattle.tw_search.specs.Goals.{IsDeclared, StandsAtGoal, at_goal, child_node, goal_type, node_of}
 use Rattle.tw_search.specs.Leaves.{AllFromQuery, IsFromQuery, IsLeaf, IsReadOff}
 use Rattle.tw_search.specs.Roots.{IsRoot}
 use Rattle.tw_search.specs.Tries.{GivesChild, NeverFits}
 use Rattle.tw_search.specs.declared.goal.OpenGoal.{OpenGoal}
 use Rattle.tw_search.proofs.FromQuery.{AllCome, ComesFrom, comes_by_value, comes_more, mentions_over, mentions_root, new_in_spine, run_comes}
-use Rattle.tw_search.proofs.LeafReading.{is_read_off}
+use Rattle.tw_search.proofs.LeafReading.{is_read_off, proof_there}
 
 -- the root
 module _ (Σ : Signature) (ok : IsSignature Σ) (G : List LfType) (A : LfType) (g : IsContext Σ G) (t : IsType Σ G A) (s : State) (r : IsRoot G A s) where
@@ -110,5 +111,7 @@ pub child_law : (Σ : Signature) (s : State) (g : OpenGoal) (h : Head) (subgoals
 child_law Σ s g h subgoals new n w c all = child_comes Σ s g h n w subgoals new c all
 
 -- what is read off a leaf is what the theory reads off it
-pub leaf_law : (s : State) (G : List LfType) (l : IsLeaf s (length G)) (gs : List ℕ) (F : List LfType) (Ms : List Term) (proof : Term) → IsReadOff s (length G) F Ms proof → IsReadOffLeaf l.signature G (node_of s gs) F Ms proof
-leaf_law s G l gs F Ms proof r = is_read_off s (length G) l r.quantifiers F r.are_quantifiers G gs Ms proof refl r.count r.values_read r.proof_read
+pub leaf_law : (s : State) (G : List LfType) (l : IsLeaf s (length G)) (gs : List ℕ) (F : List LfType) (Ms : List Term) (o : Option Term) → IsReadOff s (length G) F Ms o → (proof : Term) × IsIfRead o proof × IsReadOffLeaf l.signature G (node_of s gs) F Ms proof
+leaf_law s G l gs F Ms o r =
+    let (proof, is, there) = proof_there s (length G) l r.sites r.quantifiers F r.are_quantifiers o r.proof_read in
+    (proof, is, is_read_off s (length G) l r.sites r.quantifiers F r.are_quantifiers G gs Ms proof refl r.count r.values_read there)

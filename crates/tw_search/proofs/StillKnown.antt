@@ -1,5 +1,5 @@
 -- What is known of a store stays known when a head is offered, where the hole that is bound isn't of it: the new metavariables weren't declared.
-use Rattle.std.proofs.Common.{◌≡◌, ℕ, List, ◌∷◌, Option, Some, inl, inr, sym, ap, ◌∙◌, subst}
+use Rattle.std.proofs.Common.{◌≡◌, ℕ, List, ◌∷◌, Some, inl, inr, sym, ap, ◌∙◌, subst}
 use Rattle.lf.specs.Subordination.{Member}
 use Rattle.lf.specs.Syntax.{Head, LfType, root}
 use Rattle.lf.specs.Typing.{Signature}

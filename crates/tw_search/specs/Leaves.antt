@@ -1,5 +1,5 @@
 -- What is read off a leaf without equations, from a state of the store.
-use Rattle.std.specs.Prelude.{◌≡◌, ℕ, zero, suc, ◌≤◌, List, [], ◌∷◌, ◌++◌, Option, Some, None, length, ◌⊎◌}
+use Rattle.std.specs.Prelude.{◌≡◌, ℕ, zero, suc, ◌≤◌, List, [], ◌∷◌, ◌++◌, Option, Some, None, length, ◌⊎◌, Bool, false, true}
 use Rattle.lf.specs.Subordination.{Member}
 use Rattle.lf.specs.Syntax.{LfType, Term, skeleton}
 use Rattle.lf.specs.Typing.{IsSignature, Signature}
@@ -31,13 +31,15 @@ pub record IsLeaf (s : State) (n : ℕ) : Type 0 where
   pub declared : (m : ℕ) → m ≤ n → IsDeclared s m
   pub reached : AllFromQuery s n
 
--- the numbers below n, and n
+-- the numbers below n
 abbrev pub below : ℕ → List ℕ
 below zero = []
 below (suc n) = below n ++ n ∷ []
 
-abbrev pub sites_of : ℕ → List ℕ
-sites_of n = below n ++ n ∷ []
+-- Where it is looked for free metavariables first, in this order: at the values of the variables, and at the proof, where it is read.
+abbrev pub sites_of : ℕ → Bool → List ℕ
+sites_of n true = below n ++ n ∷ []
+sites_of n false = below n
 
 -- the term is the value of a metavariable, with the variables of the quantifiers ms for what is free; one that is free is the variable itself
 abbrev pub ValueIsRead : State → List ℕ → ℕ → Option Term → Term → Type 0
@@ -52,13 +54,19 @@ abbrev pub AreValuesRead : State → List ℕ → List Term → Type 0
 AreValuesRead s ms [] = Unit {0}
 AreValuesRead s ms (M ∷ Ms) = IsValueRead s ms (length Ms) M × AreValuesRead s ms Ms
 
--- The context F of the free metavariables, the values of the variables with the newest in front, and the proof.
-pub record IsReadOff (s : State) (n : ℕ) (F : List LfType) (values : List Term) (proof : Term) : Type 0 where
+-- the proof, which is the value of the metavariable n, where it was read
+abbrev pub IsProofRead : State → List ℕ → ℕ → Option Term → Type 0
+IsProofRead s ms n (Some M) = IsValueRead s ms n M
+IsProofRead s ms n None = Unit {0}
+
+-- The context F of the free metavariables, the values of the variables with the newest in front, and the proof, where it was read.
+pub record IsReadOff (s : State) (n : ℕ) (F : List LfType) (values : List Term) (proof : Option Term) : Type 0 where
+  pub sites : List ℕ
   pub quantifiers : List ℕ
-  pub are_quantifiers : AreQuantifiers s (sites_of n) quantifiers F
+  pub are_quantifiers : AreQuantifiers s sites quantifiers F
   pub values_read : AreValuesRead s quantifiers values
   pub count : length values ≡ n
-  pub proof_read : IsValueRead s quantifiers n proof
+  pub proof_read : IsProofRead s quantifiers n proof
 
 -- the value of a metavariable is deep with all values put in
 abbrev pub ValueIsDeep : State → ℕ → Type 0
@@ -67,4 +75,5 @@ ValueIsDeep s m = (N : Term) × (value_of s m ≡ Some N) × PutsDeep s 0 N
 -- a leaf, with the quantifiers that are read off it and their context
 pub record CanRead (s : State) (n : ℕ) (ms : List ℕ) (F : List LfType) : Type 0 where
   pub leaf : IsLeaf s n
-  pub are_quantifiers : AreQuantifiers s (sites_of n) ms F
+  pub sites : List ℕ
+  pub are_quantifiers : AreQuantifiers s sites ms F

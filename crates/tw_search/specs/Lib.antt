@@ -8,6 +8,8 @@ pub mod Roots
 pub mod Choosing
 pub mod Chains
 pub mod Names
+pub mod Answers
 pub mod Left
 pub mod Standing
 pub mod Going
+pub mod Applied

@@ -1,9 +1,9 @@
 -- Where a search stands: the agenda of the tree that a value of the program stands for. Only here is it said how the program keeps it.
-use Rattle.std.specs.Prelude.{◌≡◌, ℕ, ◌+◌, ◌≤◌, List, [], ◌∷◌, length, map, reverse, ◌⊎◌}
+use Rattle.std.specs.Prelude.{◌≡◌, ℕ, ◌+◌, ◌≤◌, List, [], ◌∷◌, length, reverse, ◌⊎◌, Option, is_some}
 use Rattle.lf.specs.Depth.{depth_limit}
 use Rattle.lf.specs.Entries.{Entry, signature_of}
 use Rattle.lf.specs.Subordination.{Member}
-use Rattle.lf.specs.Syntax.{Head, LfType}
+use Rattle.lf.specs.Syntax.{Head, LfType, Term}
 use Rattle.lf.specs.Typing.{IsContext, IsType, Signature}
 use Rattle.lf_unification.specs.Lists.{followed}
 use Rattle.lf_unification.specs.Search.{IsNode, Node, Pending, SearchesFrom, at_node}
@@ -16,8 +16,8 @@ use Rattle.lf_search.specs.Holes.{HolesAreOpen}
 use Rattle.tw_metas.specs.State.{State, Story}
 use Rattle.tw_putting.specs.Ready.{IsLater, IsReady}
 use Rattle.tw_signature.specs.Goal.{Goal, goal_of}
-use Rattle.tw_terms.specs.View.{term_of}
 use Rattle.tw_unify.specs.Reaching.{IsKnown, marking_of}
+use Rattle.tw_search.specs.Answers.{HasProof, values_of}
 use Rattle.tw_search.specs.Chains.{GoalsAre, IsGrown, frames_of}
 use Rattle.tw_search.specs.Choosing.{heads_left}
 use Rattle.tw_search.specs.Goals.{AreLeft, IsDeclared, IsHeadFor, StandsAtGoal, at_goal, node_of}
@@ -124,7 +124,7 @@ IsDeepLeaf es g seen = (l : Node) × (e : Equation) × (seen ≡ left_over l e) 
 
 -- what a step of a search for the goal g shows, in the theory's words
 abbrev pub Shows : List Entry → Goal → Step → Seen → Type 0
-Shows es g (step.Answer a) seen = seen ≡ answer a.free (reverse (map term_of a.values.items)) (term_of a.proof)
+Shows es g (step.Answer a) seen = (M : Term) × HasProof a M × (seen ≡ answer a.free (values_of a) M)
 Shows es g (step.Leftover left) seen = (l : Node) × (e : Equation) × (seen ≡ left_over l e)
 Shows es g step.Exhausted seen = seen ≡ exhausted
 Shows es g step.Budget seen = seen ≡ out_of_budget
@@ -138,14 +138,17 @@ IsAfter es step.Exhausted s after = IsOver end.Exhausted s
 IsAfter es step.Budget s after = IsAt es s after
 IsAfter es step.TooDeep s after = IsOver end.TooDeep s
 
--- The leaf has no equations, and the answer is read off it. Of `nat` with z that leaf has the hole bound to z, and the proof is z.
-pub record IsAnswerOfLeaf (es : List Entry) (G : List LfType) (a : Answer) (l : Node) : Type 0 where
+-- The leaf has no equations, and the answer is read off it: its proof is read where the goal names it. Of `nat` with z that leaf has the hole bound to z, and the proof is z.
+pub record IsAnswerOfLeaf (es : List Entry) (G : List LfType) (name : Option (List ℕ)) (a : Answer) (l : Node) : Type 0 where
   pub none_left : l.store.equations ≡ []
-  pub read : IsReadOffLeaf (signature_of es) G l a.free (reverse (map term_of a.values.items)) (term_of a.proof)
+  pub named : is_some a.proof ≡ is_some name
+  pub proof : Term
+  pub has_proof : HasProof a proof
+  pub read : IsReadOffLeaf (signature_of es) G l a.free (values_of a) proof
 
 -- where the step shows a leaf, a run comes to it with so many tries and is behind it then
 abbrev pub PassesLeaf : List Entry → List LfType → Search → List Pending → Step → ℕ → List Pending → Type 0
-PassesLeaf es G s agenda (step.Answer a) tries after = (l : Node) × IsAnswerOfLeaf es G a l × SearchesFrom es agenda (l ∷ []) tries after
+PassesLeaf es G s agenda (step.Answer a) tries after = (l : Node) × IsAnswerOfLeaf es G (asked_of s).proof a l × SearchesFrom es agenda (l ∷ []) tries after
 PassesLeaf es G s agenda (step.Leftover left) tries after = (l : Node) × IsLeftAt es (asked_of s) l left × SearchesFrom es agenda (l ∷ []) tries after
 PassesLeaf es G s agenda step.Exhausted tries after = Unit {0}
 PassesLeaf es G s agenda step.Budget tries after = Unit {0}
@@ -184,7 +187,7 @@ pub record GaveOut (es : List Entry) (old new : Search) (agenda : List Pending) 
 
 -- after the step the search stands behind the leaf that was shown, if any; or it is over
 abbrev pub StandsAfter : List Entry → Goal → Step → Search → List Node → List Pending → Type 0
-StandsAfter es g (step.Answer a) s leaves after = (l : Node) × IsAnswerOfLeaf es g.variables a l × Stands es g s (followed leaves (l ∷ [])) after
+StandsAfter es g (step.Answer a) s leaves after = (l : Node) × IsAnswerOfLeaf es g.variables g.proof a l × Stands es g s (followed leaves (l ∷ [])) after
 StandsAfter es g (step.Leftover left) s leaves after = (l : Node) × IsLeftAt es g l left × Stands es g s (followed leaves (l ∷ [])) after
 StandsAfter es g step.Exhausted s leaves after = IsOver end.Exhausted s
 StandsAfter es g step.Budget s leaves after = Stands es g s leaves after

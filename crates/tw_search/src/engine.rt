@@ -126,7 +126,12 @@ impl Search {
                 }
                 Err(UnifyFault::NoMemory) => Err(AllocError),
             },
-            None => match read_answer(alloc, &self.store, self.variables) {
+            None => match read_answer(
+                alloc,
+                &self.store,
+                self.variables,
+                self.goal.proof.is_some(),
+            ) {
                 Ok(answer) => {
                     self.place = Place::Heads;
                     Ok(Step::Answer(answer))

@@ -2,6 +2,7 @@
 use Rattle.std.proofs.Common.{◌≡◌, ℕ, suc, ◌+◌, ◌-◌, ◌≤◌, ◌<◌, ◌^◌, List, [], ◌∷◌, ◌++◌, length, refl, sym, ap, ◌∙◌, subst, arith, length-append, codes, ◌⊎◌, inl, inr, true, None}
 use Rattle.lf.specs.Depth.{depth_limit}
 use Rattle.lf.specs.Entries.{Entry, IsCanonicalSignature, signature_of}
+use Rattle.lf.specs.Syntax.{Term}
 use Rattle.lf_unification.specs.Lists.{followed}
 use Rattle.lf_unification.specs.Search.{Node, Pending, SearchesFrom, TryIsDue, answer_leaves, at_node, declared_constants, take_leaf, without_equations}
 use Rattle.lf_unification.specs.Unifiers.{Equation}
@@ -13,8 +14,9 @@ use Rattle.lf_search.proofs.Ends.{followed_none, last_answer, one_step, search_t
 use Rattle.lf_search.proofs.LeafAnswer.{leaf_answer}
 use Rattle.tw_metas.specs.declared.left.LeftEquation.{LeftEquation}
 use Rattle.tw_print.specs.Names.{Scene}
-use Rattle.tw_query.specs.Runs.{IsAnswerAt, values_of}
+use Rattle.tw_query.specs.Runs.{IsAnswerAt}
 use Rattle.tw_query.proofs.Leaves.{last_member}
+use Rattle.tw_search.specs.Answers.{values_of}
 use Rattle.tw_search.specs.Left.{IsDeepAt}
 use Rattle.tw_search.specs.Standing.{IsDeepLeaf, Stands, StepIs, tries_of}
 use Rattle.tw_search.specs.declared.answer.Answer.{Answer}
@@ -22,7 +24,6 @@ use Rattle.tw_search.specs.declared.search.Search.{Search}
 use Rattle.tw_search.specs.declared.step.Step.{Step}
 use Rattle.tw_search.specs.declared.step.Step.TheVariants as step
 use Rattle.tw_signature.specs.Goal.{Goal, goal_of}
-use Rattle.tw_terms.specs.View.{term_of}
 use Rattle.tw_top.specs.Lines.{answer_lines, budget_lines, end_line, ended, outside_line}
 use Rattle.tw_top.specs.Rounds.{FindsNoLeaf, FindsLeaf, IsReached, Rounds, Standing, answers, behind, deep, ends, further, leaf_is_deep, leaves_over, next_is_deep, over, paused, root, runs_out}
 use Rattle.tw_top.specs.UnderWay.{Adds, ComesTo, Holds, WentOn, asked}
@@ -131,21 +132,26 @@ module _ (es : List Entry) (ok : IsCanonicalSignature es) (scene : Scene) (a : A
       subst (λ y. Stands es (goal_of y) new.search t.leaves t.agenda) (sym same) (subst (λ y. Stands es g y t.leaves t.agenda) (sym now) w)
 
   -- an answer
-  abbrev AtAnswer : Answer → ℕ → List Pending → Type 0
-  AtAnswer x k after = (l : Node) × (l.store.equations ≡ []) × IsReadOffLeaf (signature_of es) g.variables l x.free (values_of x) (term_of x.proof) × FindsLeaf es g s l k after × (k ≤ b)
+  abbrev AtAnswer : Answer → Term → ℕ → List Pending → Type 0
+  AtAnswer x M k after = (l : Node) × (l.store.equations ≡ []) × IsReadOffLeaf (signature_of es) g.variables l x.free (values_of x) M × FindsLeaf es g s l k after × (k ≤ b)
 
-  answer_leaf : (x : Answer) (k : ℕ) (after : List Pending) → Comes es depth_limit g.variables s.agenda b (answer x.free (values_of x) (term_of x.proof)) k after → AtAnswer x k after
-  answer_leaf x k after (to_answer {l = l} r w e n d) = (l, n, d, next_leaf l k after r e, w)
+  answer_leaf : (x : Answer) (M : Term) (k : ℕ) (after : List Pending) → Comes es depth_limit g.variables s.agenda b (answer x.free (values_of x) M) k after → AtAnswer x M k after
+  answer_leaf x M k after (to_answer {l = l} r w e n d) = (l, n, d, next_leaf l k after r e, w)
 
   module _ (x : Answer) (w : Called (step.Answer x)) where
-    there : AtAnswer x w.tries w.after
-    there = answer_leaf x w.tries w.after (comes_so (step.Answer x) w (answer x.free (values_of x) (term_of x.proof)) w.shows)
+    there : AtAnswer x w.shows.0 w.tries w.after
+    there = answer_leaf x w.shows.0 w.tries w.after (comes_so (step.Answer x) w (answer x.free (values_of x) w.shows.0) w.shows.2)
 
     is_answer : IsAnswerAt es g there.0 x
     is_answer = record {
       none_left = there.1;
+      typed = record {
+        named = w.then_stands.1.named;
+        proof = w.shows.0;
+        has_proof = w.shows.1;
+        is_answer = leaf_answer es ok g.variables g.goal h.stands.context h.stands.goal (followed s.leaves (there.0 ∷ [])) (s.tries + w.tries) w.after there.3.2 there.0 (last_member s.leaves there.0) there.1 x.free (values_of x) w.shows.0 there.2;
+      };
       read = there.2;
-      is_answer = leaf_answer es ok g.variables g.goal h.stands.context h.stands.goal (followed s.leaves (there.0 ∷ [])) (s.tries + w.tries) w.after there.3.2 there.0 (last_member s.leaves there.0) there.1 x.free (values_of x) (term_of x.proof) there.2;
     }
 
     pub typed : (l : Node) × IsAnswerAt es g l x

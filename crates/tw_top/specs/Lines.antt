@@ -1,5 +1,5 @@
 -- The lines of a round of answers.
-use Rattle.std.specs.Prelude.{ℕ, List, ◌++◌, map, Bool, true, false, codes, decimal}
+use Rattle.std.specs.Prelude.{ℕ, List, ◌++◌, map, option_map, Bool, true, false, codes, decimal}
 use Rattle.lf_search.specs.Bounded.{QueryEnd, exhausted, incomplete, stopped}
 use Rattle.tw_equation.specs.Text.{equation_text}
 use Rattle.tw_metas.specs.Named.{shown_type_of}
@@ -17,7 +17,7 @@ more_line = codes "More?\n"
 
 -- the n-th answer: its text, and `More?`
 abbrev pub answer_lines : Scene → Goal → ℕ → Answer → List ℕ
-answer_lines s g n a = answer_text s g n a.free (map term_of a.values.items) (term_of a.proof) ++ (codes "\n" ++ more_line)
+answer_lines s g n a = answer_text s g n a.free (map term_of a.values.items) (option_map term_of a.proof) ++ (codes "\n" ++ more_line)
 
 -- a leaf that is left over: `outside M = N`
 abbrev pub outside_line : Scene → LeftEquation → List ℕ

@@ -2,11 +2,10 @@
 ghost use Rattle.std.specs.Prelude.{◌≡◌, ◌++◌, OnOk, codes, decimal, map};
 ghost use Rattle.lf.specs.Entries.{signature_of};
 ghost use Rattle.lf.specs.Typing.{IsContext, IsType};
-ghost use Rattle.lf_search.specs.Answers.{IsAnswerOf};
 ghost use Rattle.tw_print.specs.ShowEnv.{scene_of};
-ghost use Rattle.tw_query.specs.Runs.{values_of};
+ghost use Rattle.tw_query.specs.Runs.{IsTypedAnswer};
 ghost use Rattle.tw_signature.specs.Goal.{goal_of};
-ghost use Rattle.tw_terms.specs.View.{term_of, type_of};
+ghost use Rattle.tw_terms.specs.View.{type_of};
 ghost use Rattle.tw_top.specs.Lines.{answer_lines, budget_lines, more_line, outside_line, tries_line};
 
 use std::alloc::{AllocError, Global};
@@ -31,7 +30,7 @@ pub(crate) fn add_answer(
 ) -> Result<(), AllocError>
     requires context { IsContext (signature_of env.now.sig.now) goal.now.variables }
     requires goal { IsType (signature_of env.now.sig.now) goal.now.variables (type_of goal.now.goal) }
-    requires answer { IsAnswerOf (signature_of env.now.sig.now) goal.now.variables (type_of goal.now.goal) answer.now.free (values_of answer.now) (term_of answer.now.proof) }
+    requires answer { IsTypedAnswer (signature_of env.now.sig.now) (goal_of goal.now) answer.now }
     ensures { OnOk result (text.new.items ≡ text.old.items ++ answer_lines (scene_of env.now) (goal_of goal.now) number answer.now) }
 {
     let lines = show_answer(alloc, env, goal, number, answer)?;

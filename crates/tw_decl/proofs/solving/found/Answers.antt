@@ -9,7 +9,7 @@ use Rattle.tw_decl.specs.Solutions.{IsFound}
 use Rattle.tw_decl.specs.Unanswered.{IsNotSolved}
 use Rattle.tw_decl.proofs.Runs.{first_is_answer, run_answers}
 use Rattle.tw_decl.proofs.Searched.{solve_deep, solve_none, solve_not_run}
-use Rattle.tw_decl.proofs.Solved.{both, names_none}
+use Rattle.tw_decl.proofs.Solved.{both, names_proof}
 use Rattle.tw_decl.proofs.solving.found.Goals as goal
 
 pub returns-in-Err-run-clause-cause : goal.returns-in-Err-run-clause-cause
@@ -17,7 +17,7 @@ returns-in-Err-run-clause-cause c =
     let v = c.args.session.now in
     let q = query_of c.args.query.now in
     let g = goal_of c.in-Ok.goal in
-    solve_not_run v c.args.name q.goal c.args.first g (subst (λ (x : Query). IsAsked v.signature x g) (names_none q c.requires) c.in-Ok.ensures.asked) c.in-Err-run.refusal c.in-Err-run.ensures.cause
+    solve_not_run v c.args.name q.goal c.args.first g (subst (λ (x : Query). IsAsked v.signature x g) (names_proof c.args.name q c.requires) c.in-Ok.ensures.asked) c.in-Err-run.refusal c.in-Err-run.ensures.cause
 
 pub solved-requires-clause-answer : goal.solved-requires-clause-answer
 solved-requires-clause-answer c =
@@ -33,7 +33,7 @@ returns-in-Some-clause-ok c =
     let q = query_of c.args.query.now in
     let g = goal_of c.in-Ok.goal in
     let r = c.in-Ok-run.run' in
-    let asked = subst (λ (x : Query). IsAsked v.signature x g) (names_none q c.requires) c.in-Ok.ensures.asked in
+    let asked = subst (λ (x : Query). IsAsked v.signature x g) (names_proof c.args.name q c.requires) c.in-Ok.ensures.asked in
     let first = sym (ap first_answer c.deref.ensures.value) ∙ sym c.in-Some.ensures in
     IfOk-weaker c.solved.result _ (λ e. IsFound v c.args.name q.goal (entry_of e))
     (λ e h. record {
@@ -54,7 +54,7 @@ returns-in-Some-clause-cause c =
     let q = query_of c.args.query.now in
     let g = goal_of c.in-Ok.goal in
     let r = c.in-Ok-run.run' in
-    let asked = subst (λ (x : Query). IsAsked v.signature x g) (names_none q c.requires) c.in-Ok.ensures.asked in
+    let asked = subst (λ (x : Query). IsAsked v.signature x g) (names_proof c.args.name q c.requires) c.in-Ok.ensures.asked in
     let first = sym (ap first_answer c.deref.ensures.value) ∙ sym c.in-Some.ensures in
     IfErr-weaker c.solved.result _ (IsNotSolved v c.args.name q.goal c.args.first)
     (solve_deep v c.args.name q.goal c.args.first g asked r.leaves.items r.end r.tries c.in-Ok-run.ensures.run c.in-Some.answer.now first) c.solved.ensures.cause
@@ -65,6 +65,6 @@ returns-in-None-clause-cause c =
     let q = query_of c.args.query.now in
     let g = goal_of c.in-Ok.goal in
     let r = c.in-Ok-run.run' in
-    let asked = subst (λ (x : Query). IsAsked v.signature x g) (names_none q c.requires) c.in-Ok.ensures.asked in
+    let asked = subst (λ (x : Query). IsAsked v.signature x g) (names_proof c.args.name q c.requires) c.in-Ok.ensures.asked in
     let none = sym (ap first_answer c.deref.ensures.value) ∙ sym c.in-None.ensures in
     solve_none v c.args.name q.goal c.args.first g asked r.leaves.items r.end r.tries c.in-Ok-run.ensures.run none c.unsolved.result c.unsolved.ensures

@@ -16,7 +16,7 @@ pub unreachable-requires-in-None-variable : goal.unreachable-requires-in-None-va
 unreachable-requires-in-None-variable c =
     let s = c.args.store.now.now in
     let r = c.requires.can in
-    let (i, e, v) = has_index s c.args.variables r.leaf c.args.quantifiers.now.positions c.args.quantifiers.now.context r.are_quantifiers c.args.meta.0 (r.leaf.declared c.args.meta.0 c.requires.first) c.requires.free in
+    let (i, e, v) = has_index s c.args.variables r.leaf r.sites c.args.quantifiers.now.positions c.args.quantifiers.now.context r.are_quantifiers c.args.meta.0 (r.leaf.declared c.args.meta.0 c.requires.first) c.requires.free in
     let no : None ≡ Some _ = c.in-None-variable.ensures ∙ e in
     absurd cc
 

@@ -12,7 +12,7 @@ returns-in_err-quantifiers-clause-too_deep c h G l =
     let f = c.in_err-quantifiers.field-0.0 in
     let e : c.from_residual-in_err-quantifiers.result ≡ Err f = search rules in
     let q : f ≡ TooDeep = same_fault c.from_residual-in_err-quantifiers.result f TooDeep e h in
-    quantifiers_deep s c.args.variables c.requires G l sites (ap (map (λ (m : MetaId). m.0)) c.deref.ensures.value ∙ c.in_ok-sites.ensures) (subst (λ x. BlamesQuantifiers x s sites) q c.in_err-quantifiers.ensures)
+    quantifiers_deep s c.args.variables c.requires G l sites c.args.with_proof (ap (map (λ (m : MetaId). m.0)) c.deref.ensures.value ∙ c.in_ok-sites.ensures) (subst (λ x. BlamesQuantifiers x s sites) q c.in_err-quantifiers.ensures)
 
 pub returns-in_err-values-clause-too_deep : goal.returns-in_err-values-clause-too_deep
 returns-in_err-values-clause-too_deep c h G l =

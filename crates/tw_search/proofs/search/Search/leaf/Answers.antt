@@ -1,5 +1,5 @@
 use Rattle.std.specs.Global.{Global}
-use Rattle.std.proofs.Common.{◌≡◌, Box, Err, List, [], ◌∷◌, map, None, Some, refl, sym, subst}
+use Rattle.std.proofs.Common.{◌≡◌, ◌∙◌, Box, Err, List, [], ◌∷◌, map, None, Some, refl, sym, subst}
 use Rattle.std.specs.List.{slice_get}
 use Rattle.lf_unification.specs.Unifiers.{Equation}
 use Rattle.tw_hered.specs.declared.fault.HeredFault.TheVariants.{TooDeep}
@@ -57,7 +57,7 @@ returns-in-Ok-read_answer-clause-came c = λ G len agenda w budget.
     let old = c.args.self.now in
     let es = c.args.signature.now in
     answer_shown es old _ c.args.list agenda (at_list es old c.args.list agenda c.requires.place w) c.is_canonical.ensures c.requires.first G len budget refl refl refl refl refl refl refl w.1
-    (none_first c.equations.result.now old.store.now.equations c.equations.ensures c.in-None.ensures.value) c.in-Ok-read_answer.answer c.in-Ok-read_answer.ensures.read
+    (none_first c.equations.result.now old.store.now.equations c.equations.ensures c.in-None.ensures.value) c.in-Ok-read_answer.answer (c.in-Ok-read_answer.ensures.proof ∙ c.is_some.ensures) c.in-Ok-read_answer.ensures.read
 
 pub returns-in-Err-TooDeep-read_answer-clause-came : goal.returns-in-Err-TooDeep-read_answer-clause-came
 returns-in-Err-TooDeep-read_answer-clause-came c = λ G len agenda w budget.

@@ -27,7 +27,7 @@ add_answer-requires-clause-answer c =
     let ok = c.is_canonical.ensures in
     let (s, h) = c.requires.holds in
     let w = called es ok (scene_of c.args.env.now) c.args.self.now s h c.args.last c.requires.within c.next.new.self c.tries.result c.in_ok-answer.field-0 (step.Answer c.in-Answer.answer) c.tries.ensures c.in-Answer.is c.in_ok-answer.ensures.step in
-    (typed es ok (scene_of c.args.env.now) c.args.self.now s h c.args.last c.requires.within c.next.new.self c.in-Answer.answer w).1.is_answer
+    (typed es ok (scene_of c.args.env.now) c.args.self.now s h c.args.last c.requires.within c.next.new.self c.in-Answer.answer w).1.typed
 
 pub returns-in_ok-add_answer-in-Answer-clause-adds : goal.returns-in_ok-add_answer-in-Answer-clause-adds
 returns-in_ok-add_answer-in-Answer-clause-adds c = λ s h.
