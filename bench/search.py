@@ -25,8 +25,8 @@ def hanoi(disks, moves):
 # kind, what it is, its tries by the size, answers and end, what stands in the first column, sizes
 TABLES = [
     ("hanoi", "hanoi with N disks", lambda n: hanoi(n, 6), "1 Exhausted", "tries", (14, 15, 16, 17)),
-    ("nrev", "a list of N elements reversed by append", lambda n: (n + 1) * (n + 2), "1 Exhausted", "tries", (50, 100, 200)),
-    ("unread", "the same up to the try that gives the answer, whose proof has some N^3 nodes", lambda n: (n + 1) ** 2 - 1, "0 Budget", "tries", (200, 400, 800)),
+    ("nrev", "a list of N elements reversed by append", lambda n: (n + 1) * (n + 2), "1 Exhausted", "tries", (200, 400, 800)),
+    ("proof", "the same with the proof read, which has some N^3 nodes", lambda n: (n + 1) * (n + 2), "1 Exhausted", "tries", (50, 100, 200)),
     ("loop", "a loop of N calls without choice points", lambda n: n, "0 Budget", "tries", (10000, 40000, 160000)),
     ("clashes", "hanoi with 10 disks, and N more moves that clash", lambda n: hanoi(10, 6 + n), "1 Exhausted", "tries", (100, 400, 1600)),
     ("families", "hanoi with 10 disks, beside N families with a constant each", lambda n: hanoi(10, 6), "1 Exhausted", "families", (1000, 4000, 16000)),

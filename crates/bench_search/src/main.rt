@@ -2,15 +2,19 @@
 //! without them, nothing.
 #![tactic(auto)]
 
+ghost use Rattle.lf.specs.Entries.{signature_of};
+ghost use Rattle.lf.specs.Typing.{IsContext, IsType};
+ghost use Rattle.tw_terms.specs.View.{type_of};
+
 mod programs;
 mod searches;
 
-use crate::programs::{budget_of, goal_of, program_of};
+use crate::programs::{budget_of, goal_of, program_of, proof_of};
 use crate::searches::{Told, begun, read_goal, to_the_end};
-use std::alloc::Global;
+use std::alloc::{AllocError, Global};
 use std::env;
-use tests_forms::{FormFault, Names, read_signature};
-use tw_signature::Signature;
+use tests_forms::{FormFault, read_signature};
+use tw_signature::{Goal, Signature};
 
 fn main(rt: HostRuntime) -> anyhow::Result<()> {
     let mut words = env::args(&rt)?;
@@ -46,30 +50,31 @@ fn measured(rt: &HostRuntime, kind: &str, size: u64, searching: bool) -> anyhow:
 fn run(alloc: Global, kind: &str, size: u64, searching: bool) -> Result<Option<Told>, FormFault> {
     let program = program_of(alloc, kind, size)?;
     let (signature, mut names) = read_signature(alloc, program.as_str())?;
-    let goal = goal_of(alloc, kind, size)?;
-    searched(
+    let text = goal_of(alloc, kind, size)?;
+    let goal = read_goal(
         alloc,
         &signature,
         &mut names,
-        goal.as_str(),
-        budget_of(kind, size),
-        searching,
-    )
+        text.as_str(),
+        proof_of(alloc, kind)?,
+    )?;
+    Ok(searched(alloc, &signature, &goal, budget_of(kind, size), searching)?)
 }
 
-// the search for the proofs of the goal that the text means
+// the search for the proofs of the goal
 fn searched(
     alloc: Global,
     signature: &Signature,
-    names: &mut Names,
-    text: &str,
+    goal: &Goal,
     budget: u64,
     searching: bool,
-) -> Result<Option<Told>, FormFault> {
-    let goal = read_goal(alloc, signature, names, text)?;
+) -> Result<Option<Told>, AllocError>
+    requires context { IsContext (signature_of signature.now) goal.now.variables }
+    requires goal { IsType (signature_of signature.now) goal.now.variables (type_of goal.now.goal) }
+{
     if !searching {
         return Ok(None);
     }
-    let mut search = begun(alloc, signature, &goal)?;
+    let mut search = begun(alloc, signature, goal)?;
     Ok(Some(to_the_end(alloc, signature, &mut search, budget)?))
 }

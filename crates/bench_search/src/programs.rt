@@ -1,5 +1,6 @@
 //! Programs and goals as texts, in the forms of `tests_forms`.
 use std::alloc::{AllocError, Global};
+use tw_fixity::Name;
 
 // numbers, lists and pegs, and what is searched for
 const PROGRAM: &str = "nat type
@@ -69,20 +70,22 @@ pub(crate) fn program_of(alloc: Global, kind: &str, size: u64) -> Result<String,
 pub(crate) fn goal_of(alloc: Global, kind: &str, size: u64) -> Result<String, AllocError> {
     match kind {
         "hanoi" => format!(in alloc; "(hanoi (repeat {size} t (s t) z) pa pb pc)"),
-        "nrev" | "unread" => format!(in alloc; "(nrev (repeat {size} t (cons z t) nil) R)"),
+        "nrev" | "proof" => format!(in alloc; "(nrev (repeat {size} t (cons z t) nil) R)"),
         "loop" => format!(in alloc; "loop"),
         _ => format!(in alloc; "(hanoi (repeat 10 t (s t) z) pa pb pc)"),
     }
 }
 
-/// How many tries are made at most: the loop has no end, and an `unread` search stops before the last try of its answer.
+/// How many tries are made at most: the loop has no end.
 pub(crate) fn budget_of(kind: &str, size: u64) -> u64 {
-    match kind {
-        "loop" => size,
-        "unread" => {
-            let side = size.saturating_add(1);
-            side.saturating_mul(side).saturating_sub(1)
-        }
-        _ => 1 << 40,
+    if kind == "loop" { size } else { 1 << 40 }
+}
+
+/// The name of the proof, where it is to be read.
+pub(crate) fn proof_of(alloc: Global, kind: &str) -> Result<Option<Name>, AllocError> {
+    if kind == "proof" {
+        Ok(Some(Name::from_text(alloc, "D")?))
+    } else {
+        Ok(None)
     }
 }

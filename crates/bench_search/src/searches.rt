@@ -7,6 +7,7 @@ ghost use Rattle.tw_search.specs.Standing.{IsSearch};
 
 use std::alloc::{AllocError, Global};
 use tests_forms::{Form, FormFault, Names, read_closed_context, read_closed_type, read_forms};
+use tw_fixity::Name;
 use tw_kernel::{Verdict, check_context, check_type};
 use tw_search::{Search, Step};
 use tw_signature::{Goal, Signature};
@@ -27,18 +28,19 @@ pub(crate) struct Told {
     pub(crate) end: End,
 }
 
-/// The goal that the text means, with a list R as its variable, which the kernel finds typed.
+/// The goal that the text means, with a list R as its variable and this name for its proof, which the kernel finds typed.
 pub(crate) fn read_goal(
     alloc: Global,
     signature: &Signature,
     names: &mut Names,
     text: &str,
+    proof: Option<Name>,
 ) -> Result<Goal, FormFault>
     ensures { IfOk result (λ g. IsContext (signature_of signature.now) g.variables × IsType (signature_of signature.now) g.variables (type_of g.goal)) }
 {
     let variables = read_forms(alloc, "R list")?;
     let forms = read_forms(alloc, text)?;
-    let goal = goal_in(alloc, names, &variables, &forms)?;
+    let goal = goal_in(alloc, names, &variables, &forms, proof)?;
     if !is_typed(alloc, signature, &goal)? {
         return Err(FormFault::NoMeaning);
     }
@@ -51,6 +53,7 @@ fn goal_in(
     names: &mut Names,
     variables: &[Form],
     forms: &[Form],
+    proof: Option<Name>,
 ) -> Result<Goal, FormFault> {
     let Some(form) = forms.first() else {
         return Err(FormFault::NoMeaning);
@@ -61,7 +64,7 @@ fn goal_in(
         variables,
         names: Vec::new(alloc),
         shown: Vec::new(alloc),
-        proof: None,
+        proof,
         goal,
     })
 }
