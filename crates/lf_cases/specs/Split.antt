@@ -51,14 +51,14 @@ IsInstanceCase Σ W S ps C = (Σ' : Signature) → Extends S Σ Σ' → (G : Lis
 
 -- A run of the strategy that ends well: each case that it reaches is a leaf, or it is split into cases, from each of which it ends well.
 mutual
-  pub data Ends (Leaf : Case → Type 0) (Splits : Case → List Case → Type 0) : Case → Type 0 where
-    at_leaf : {C : Case} → Leaf C → Ends Leaf Splits C
-    by_split : {C : Case} (Cs : List Case) → Splits C Cs → AllEnd Leaf Splits Cs → Ends Leaf Splits C
+  pub data Ends {K : Type 0} (Leaf : K → Type 0) (Splits : K → List K → Type 0) : K → Type 0 where
+    at_leaf : {C : K} → Leaf C → Ends Leaf Splits C
+    by_split : {C : K} (Cs : List K) → Splits C Cs → AllEnd Leaf Splits Cs → Ends Leaf Splits C
 
   -- from all cases of a split
-  pub data AllEnd (Leaf : Case → Type 0) (Splits : Case → List Case → Type 0) : List Case → Type 0 where
+  pub data AllEnd {K : Type 0} (Leaf : K → Type 0) (Splits : K → List K → Type 0) : List K → Type 0 where
     no_case : AllEnd Leaf Splits []
-    next_case : {C : Case} {Cs : List Case} → Ends Leaf Splits C → AllEnd Leaf Splits Cs → AllEnd Leaf Splits (C ∷ Cs)
+    next_case : {C : K} {Cs : List K} → Ends Leaf Splits C → AllEnd Leaf Splits Cs → AllEnd Leaf Splits (C ∷ Cs)
 
 -- no item is a block variable
 abbrev pub HasNoBlockVariable : List Item → Type 0

@@ -1,7 +1,6 @@
 -- A term with the variables that are arguments of a pattern abstracted: applied to this pattern it is the term again.
 use Rattle.std.proofs.Common.{◌≡◌, ℕ, zero, suc, List, ◌∷◌, refl, sym, ap, ◌∙◌, subst}
 use Rattle.std.specs.Prelude.{Bool, true, false, cond, Option, Some, None}
-use mathlib.Core.Path.{fun_ext}
 use Rattle.lf.specs.Syntax.{Head, constant, variable, metavariable, Term, Spine, lambda, root, nil, app, Skeleton, base, arrow, lift_renaming, rename_head, rename, rename_spine}
 use Rattle.lf.specs.Substitution.{Image, keep, single, substitute, substitute_spine, reduce}
 use Rattle.lf.specs.SkeletonTyping.{HeadSkeletons, SkeletonAt, HeadSkeleton, TermSkeleton, SpineSkeleton}
@@ -21,6 +20,7 @@ use Rattle.lf_unification.proofs.ToSkeletons.{SkeletonAt-once}
 use Rattle.lf_checks.proofs.Reach.{number_equal}
 use Rattle.lf_coverage.specs.TermMatching.{is_this_variable, heads_argument}
 use Rattle.lf_coverage.proofs.EtaArguments.{argument_renames, bound_argument}
+use mathlib.Core.Path.{fun_ext}
 
 -- the newest variable for y; each other one comes one further
 abbrev pub back : ℕ → ℕ → ℕ

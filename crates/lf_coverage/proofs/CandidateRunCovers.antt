@@ -31,11 +31,12 @@ use Rattle.lf_coverage.specs.Matching.{HoldsTypes}
 use Rattle.lf_coverage.specs.SplitStore.{AllFamiliesIn, split_store, answer_values}
 use Rattle.lf_coverage.specs.Subordinate.{QuantifiersAreBelow, AllQuantifiersAreBelow}
 use Rattle.lf_coverage.specs.TypedCase.{IsTypedBeside}
-use Rattle.lf_coverage.specs.UnifiedSplit.{HeadIsSolved}
+use Rattle.lf_coverage.specs.UnifiedSplit.{HeadIsAnswered}
 use Rattle.lf_coverage.proofs.CandidateRuns.{candidate_is_in_set}
 use Rattle.lf_coverage.proofs.Everywhere.{of_families, metavariables_have}
 use Rattle.lf_coverage.proofs.Families.{all_binders, all_renumbered, raised_families}
-use Rattle.lf_coverage.proofs.HeadSplit.{head_of_case, heads_split, split_cases_typed}
+use Rattle.lf_coverage.proofs.HeadSplit.{heads_split, split_cases_typed}
+use Rattle.lf_coverage.proofs.Listed.{offer_of_case}
 use Rattle.lf_coverage.proofs.Leaves.{leaf_is_instance, subgoal_is_typed}
 use Rattle.lf_coverage.proofs.OutputBeside.{output_goal_is_typed}
 use Rattle.lf_coverage.proofs.OutputTyped.{output_goal_is_typed_case}
@@ -122,9 +123,9 @@ module _ (Σ : Signature) (ok : IsSignature Σ) (W : List Block) (typed : AreTyp
       is_split = heads_split Σ ok W typed below (below_is_subordination Σ ok W typed below test) S k.is_beside.self_contained C k.is_typed x Cs hs
 
       of_solved : (D : Case) → Member D Cs → HasNoBlockVariable D.items × AllQuantifiersAreBelow (within S) (items_context D.items) × LocalsIn S D.local
-      of_solved D d = let (h, i, a) = head_of_case sp.answered.listed D d in by h (sp.answered.are_offers.each h i) a
+      of_solved D d = let (h, i, a) = offer_of_case sp.answered.listed D d in by h (sp.answered.are_offers.each h i) a
         where
-          by : (h : Offer) → SplitHead Σ W C.items sp.answered.type h.items h.moved h.head h.type → HeadIsSolved Σ below C x sp.answered.type h (Some D) → HasNoBlockVariable D.items × AllQuantifiersAreBelow (within S) (items_context D.items) × LocalsIn S D.local
+          by : (h : Offer) → SplitHead Σ W C.items sp.answered.type h.items h.moved h.head h.type → HeadIsAnswered Σ below C x sp.answered.type h (Some D) → HasNoBlockVariable D.items × AllQuantifiersAreBelow (within S) (items_context D.items) × LocalsIn S D.local
           by h sh a =
               let (after, s, e) = a.finds in
               let G : List LfType = items_context (split_items below sp.answered.type h.items h.moved h.type) in

@@ -14,10 +14,10 @@ use Rattle.lf_coverage.specs.HeadOrder.{Offer}
 use Rattle.lf_coverage.specs.Heads.{IsSplitBelow, IsHeadSplit, IsTypedCase}
 use Rattle.lf_coverage.specs.RunLaws.{SolvedSplitIsUnified, SolvedSplitIsAnswer, SolvedRunCovers, SolvedRunCoversInputs}
 use Rattle.lf_coverage.specs.SplitStore.{split_store, AllFamiliesIn}
-use Rattle.lf_coverage.specs.UnifiedSplit.{HeadIsSolved, IsAnsweredSplit, IsSolvedSplit, IsUnifiedSplit, SolvesEachHead, SplitsByUnification, UnifierAnswer}
+use Rattle.lf_coverage.specs.UnifiedSplit.{HeadIsAnswered, IsAnsweredSplit, IsSolvedSplit, IsUnifiedSplit, SolvesEachHead, SplitsByUnification, UnifierAnswer}
 use Rattle.lf_coverage.proofs.Families.{split_items_keep_families, solved_keeps_families, store_families}
-pub use Rattle.lf_coverage.proofs.HeadSplit.{listed_by}
-use Rattle.lf_coverage.proofs.HeadSplit.{answered_by, head_of_case, heads_split, split_cases_typed}
+use Rattle.lf_coverage.proofs.HeadSplit.{answered_by, heads_split, split_cases_typed}
+use Rattle.lf_coverage.proofs.Listed.{offer_of_case}
 use Rattle.lf_coverage.proofs.Leaves.{leaves_cover}
 use Rattle.lf_coverage.proofs.NoCase.{never_gives_no_case}
 use Rattle.lf_coverage.proofs.Runs.{other_run}
@@ -31,7 +31,7 @@ module _ (Σ : Signature) (ok : IsSignature Σ) (W : List Block) (typed : AreTyp
   s = sp.answered
 
   -- the split, where something else is answered at its heads
-  abbrev below_by : (Answer : LfType → Offer → Option Case → Type 0) → ((h : Offer) (found : Option Case) → SplitHead Σ W C.items s.type h.items h.moved h.head h.type → HeadIsSolved Σ below C x s.type h found → Answer s.type h found) → IsSplitBelow Σ W below Answer C x Cs
+  abbrev below_by : (Answer : LfType → Offer → Option Case → Type 0) → ((h : Offer) (found : Option Case) → SplitHead Σ W C.items s.type h.items h.moved h.head h.type → HeadIsAnswered Σ below C x s.type h found → Answer s.type h found) → IsSplitBelow Σ W below Answer C x Cs
   below_by Answer one = record { answered = answered_by s (λ h found m a. one h found (s.are_offers.each h m) a); takes_below = sp.takes_below; arguments_below = sp.arguments_below }
 
   module _ (S : ℕ → Bool) (sc : SelfContained Σ W S) (fam : AllFamiliesIn S (items_context C.items)) where
@@ -42,9 +42,9 @@ module _ (Σ : Signature) (ok : IsSignature Σ) (W : List Block) (typed : AreTyp
     is_unified = record { split = below_by (UnifierAnswer Σ W S below C x) (λ h found sh a. record { answered = a; families = split_families h sh a.no_block }); families = families_at S (items_context C.items) fam x s.type s.at }
 
     case_families : (D : Case) → Member D Cs → AllFamiliesIn S (items_context D.items)
-    case_families D m = let (h, k, a) = head_of_case s.listed D m in by h (s.are_offers.each h k) a
+    case_families D m = let (h, k, a) = offer_of_case s.listed D m in by h (s.are_offers.each h k) a
       where
-        by : (h : Offer) → SplitHead Σ W C.items s.type h.items h.moved h.head h.type → HeadIsSolved Σ below C x s.type h (Some D) → AllFamiliesIn S (items_context D.items)
+        by : (h : Offer) → SplitHead Σ W C.items s.type h.items h.moved h.head h.type → HeadIsAnswered Σ below C x s.type h (Some D) → AllFamiliesIn S (items_context D.items)
         by h sh a =
             let (after, z, e) = a.finds in
             subst (λ E. AllFamiliesIn S (items_context E.items)) (sym e) (solved_keeps_families Σ S (split_store below x s.type h.items h.moved h.head h.type a.kind) after (store_families S (items_context (split_items below s.type h.items h.moved h.type)) (split_families h sh a.no_block)) z C (h.moved + arguments_count h.type))
@@ -52,7 +52,7 @@ module _ (Σ : Signature) (ok : IsSignature Σ) (W : List Block) (typed : AreTyp
   split_listed : IsSplitBelow Σ W below (HeadGives Σ W below C x) C x Cs
   split_listed = below_by (HeadGives Σ W below C x) one
     where
-      one : (h : Offer) (found : Option Case) → SplitHead Σ W C.items s.type h.items h.moved h.head h.type → HeadIsSolved Σ below C x s.type h found → HeadGives Σ W below C x s.type h found
+      one : (h : Offer) (found : Option Case) → SplitHead Σ W C.items s.type h.items h.moved h.head h.type → HeadIsAnswered Σ below C x s.type h found → HeadGives Σ W below C x s.type h found
       one h None sh a = never_gives_no_case Σ ok W typed below C tc x s.type s.at h.items h.moved h.head h.type sh a.no_block a.kind a.finds
       one h (Some D) sh a =
           let (after, z, e) = a.finds in
@@ -81,7 +81,7 @@ solved_run_covers Σ ok W typed below s ps goal n tg fam e S b =
         ((x, u), λ E m. (split_cases_typed Σ ok W S below D k x Ds sp E m, case_families Σ ok W typed below D k x Ds q S b.self_contained f E m))
 
 -- the families of the items of the goal of inputs are those of its places
-goal_families : (S : ℕ → Bool) (m : List Bool) (K : Kind) (ρ : ℕ → ℕ) (I : List Item) → PlacesIn S (covered_places (goal_arguments m K)) K → AllFamiliesIn S (items_context I) → AllFamiliesIn S (items_context (goal_items m K ρ I))
+pub goal_families : (S : ℕ → Bool) (m : List Bool) (K : Kind) (ρ : ℕ → ℕ) (I : List Item) → PlacesIn S (covered_places (goal_arguments m K)) K → AllFamiliesIn S (items_context I) → AllFamiliesIn S (items_context (goal_items m K ρ I))
 goal_families S [] K ρ I p i = i
 goal_families S (b ∷ m) star ρ I p i = i
 goal_families S (true ∷ m) (kind_pi A K) ρ I (a, p) i = goal_families S m K (lift_renaming ρ) (free_variable (rename_type ρ A) ∷ I) p (families_renamed S ρ A a, i)

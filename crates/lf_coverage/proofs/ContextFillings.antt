@@ -14,7 +14,7 @@ use Rattle.lf.proofs.ToSkeletons.{typed_has_skeleton, type_by_skeletons, kind_sk
 use Rattle.lf.proofs.TypeLaws.{skeleton_renamed, skeleton_substituted}
 use Rattle.lf.proofs.Weakening.{renaming_keeps_types}
 use Rattle.lf_unification.specs.Filling.{fill, fill_type}
-use Rattle.lf_unification.specs.OpenTyping.{OpenHasType, OpenIsContext, TypesAgree, skeletons_of, under_locals}
+use Rattle.lf_unification.specs.OpenTyping.{OpenHasType, OpenIsContext, TypesAgree, skeletons_of}
 use Rattle.lf_unification.specs.PartialInstance.{EquationsAreTyped, LocalBySkeletonsUpTo, PartialInstance}
 use Rattle.lf_unification.specs.Patterns.{local_skeletons}
 use Rattle.lf_unification.specs.Skeletons.{as_head_skeletons, total_skeletons}
@@ -35,9 +35,9 @@ use Rattle.lf_coverage.proofs.GivenValues.{local_renames, local_context, type_pu
 use Rattle.lf_coverage.proofs.Meeting.{open_length, under_same}
 use Rattle.lf_coverage.proofs.OpenSkeletons.{filled_values, filled_fits, filled_term, filled_type, fits_under, type_by_opened}
 use Rattle.lf_coverage.proofs.OpenTyped.{open_kind, open_instance_kind, term_opened, type_opened}
+use Rattle.lf_coverage.proofs.Parts.{first_same, second_same}
 use Rattle.lf_coverage.proofs.StoreSolution.{skeleton_open}
 use Rattle.lf_coverage.proofs.Transfer.{lift_instance}
-use Rattle.lf_coverage.proofs.Parts.{first_same, second_same}
 use mathlib.Core.Path.{fun_ext}
 
 -- parts of what is equal

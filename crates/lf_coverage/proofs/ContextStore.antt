@@ -17,8 +17,8 @@ use Rattle.lf_unification.specs.Unifiers.{Equation}
 use Rattle.lf_coverage.specs.SplitStore.{open_variable, open_term, open_spine, open_type, open_some, type_in, context_metavariables}
 use Rattle.lf_coverage.proofs.Forms.{no_shift_type}
 use Rattle.lf_coverage.proofs.OpenTyped.{opened_is_closed, type_opened}
-use Rattle.lf_coverage.proofs.StoreSolution.{looked_up, found_type}
 use Rattle.lf_coverage.proofs.Parts.{none_some}
+use Rattle.lf_coverage.proofs.StoreSolution.{looked_up, found_type}
 use mathlib.Core.Path.{fun_ext}
 
 -- The metavariables of the variables of a context G that stand behind n newer ones, the newest first.

@@ -23,10 +23,10 @@ use Rattle.lf_coverage.specs.OwnTerms.{BlockVariable, blocks_of, rename_blocks}
 use Rattle.lf_coverage.proofs.EntryPatternsNumbers.{earlier_at, last_at}
 use Rattle.lf_coverage.proofs.EntryPatternsOutside.{some_images_are}
 use Rattle.lf_coverage.proofs.EntryValues.{count_some}
-use Rattle.lf_coverage.proofs.Numbering.{blocks_renamed}
+use Rattle.lf_coverage.proofs.NumberingBlocks.{blocks_renamed}
 use Rattle.lf_coverage.proofs.NumberedTyped.{rename_as_term, images_of_instance}
 use Rattle.lf_coverage.proofs.Parts.{some_same}
-use Rattle.lf_coverage.proofs.ReadSkeletons.{count_renamed}
+use Rattle.lf_coverage.proofs.HeadItems.{length_renamed as count_renamed}
 use mathlib.Core.Path.{fun_ext}
 
 -- renamed arguments
@@ -57,10 +57,10 @@ images_renamed ρ m U (E ∷ es) O e zero A g = ap (put (skeleton E)) (rename_et
 images_renamed ρ m U (E ∷ es) O e (suc i) A (D, g, q) = images_renamed ρ m U es O e i D g
 
 -- The first constants
-first_renamed : (n : ℕ) (ρ : ℕ → ℕ) (bs : List BlockVariable) (k : ℕ) → first_constant n (blocks_of (rename_blocks ρ bs)) k ≡ first_constant n (blocks_of bs) k
+pub first_renamed : (n : ℕ) (ρ : ℕ → ℕ) (bs : List BlockVariable) (k : ℕ) → first_constant n (blocks_of (rename_blocks ρ bs)) k ≡ first_constant n (blocks_of bs) k
 first_renamed n ρ bs k = ap (λ Bs. first_constant n Bs k) (blocks_renamed ρ bs)
 
-first_earlier : (n : ℕ) (bs cs : List BlockVariable) (k : ℕ) (b : BlockVariable) → block_at bs k ≡ Some b → first_constant n (blocks_of (bs ++ cs)) k ≡ first_constant n (blocks_of bs) k
+pub first_earlier : (n : ℕ) (bs cs : List BlockVariable) (k : ℕ) (b : BlockVariable) → block_at bs k ≡ Some b → first_constant n (blocks_of (bs ++ cs)) k ≡ first_constant n (blocks_of bs) k
 first_earlier n [] cs k b e = absurd cc
 first_earlier n (c ∷ bs) cs zero b e = refl
 first_earlier n (c ∷ bs) cs (suc k) b e = first_earlier (n + length c.block.entries) bs cs k b e
@@ -111,7 +111,7 @@ module _ (first : ℕ) where
     pub count : argument_count terms ≡ length B.some
     pub same : (i : ℕ) (A : LfType) → TypeAt (onto B.entries B.some) i A → as_term (skeleton A) (after (numbering first I).images θ i) ≡ as_term (skeleton A) (variable_images first (numbering first I).blocks number B terms i)
 
-  at_renamed : (ρ : ℕ → ℕ) (bs : List BlockVariable) (k : ℕ) (B : Block) (U : Spine) → block_at bs k ≡ Some (record { block = B; terms = U }) → block_at (rename_blocks ρ bs) k ≡ Some (record { block = B; terms = rename_spine ρ U })
+  pub at_renamed : (ρ : ℕ → ℕ) (bs : List BlockVariable) (k : ℕ) (B : Block) (U : Spine) → block_at bs k ≡ Some (record { block = B; terms = U }) → block_at (rename_blocks ρ bs) k ≡ Some (record { block = B; terms = rename_spine ρ U })
   at_renamed ρ [] k B U e = absurd cc
   at_renamed ρ (c ∷ bs) zero B U e = ap (λ (d : BlockVariable). Some (record { block = d.block; terms = rename_spine ρ d.terms })) (some_same e)
   at_renamed ρ (c ∷ bs) (suc k) B U e = at_renamed ρ bs k B U e

@@ -11,15 +11,16 @@ use Rattle.lf_checks.specs.Ground.{UsesGoal}
 use Rattle.lf_checks.specs.Marks.{MentionChosenOnly, TypedPlaces}
 use Rattle.lf_cases.specs.Case.{covered_places}
 use Rattle.lf_cases.specs.Pattern.{Pattern, of_constant, origin, head_pattern, given_at, ground_in}
+use Rattle.lf_checks.specs.Parts.{type_at}
 use Rattle.lf_coverage.specs.EntryConstants.{or_else, with_entries, IsFreeFrom}
 use Rattle.lf_coverage.specs.EntryPatterns.{IsInstanceOfPattern}
 use Rattle.lf_coverage.specs.EntryPatternsMatching.{NumberedHeadMatchingDecides}
 use Rattle.lf_coverage.specs.Matching.{ArePlaces, HoldsTypes, MatchesByTerms, Matches, as_image, found_at, found_values}
 use Rattle.lf_coverage.specs.MeetStore.{IsConstants}
 use Rattle.lf_coverage.specs.NumberedCase.{NumberedCase}
+use Rattle.lf_coverage.specs.OwnStores.{as_case}
 use Rattle.lf_coverage.specs.OwnTerms.{blocks_of, own_terms, OnOwnTerms, AllOnOwnTerms, ImageOnOwnTerms}
 use Rattle.lf_coverage.specs.TypedNumbered.{IsTypedNumberedCase, own_over}
-use Rattle.lf_checks.specs.Parts.{type_at}
 use Rattle.lf_coverage.proofs.EntryPatternsFound.{found_at_own}
 use Rattle.lf_coverage.proofs.EntryPatternsMatching.{entries_signature, numbered_instance_matches}
 use Rattle.lf_coverage.proofs.EntrySignature.{entries_kept}
@@ -29,9 +30,8 @@ use Rattle.lf_coverage.proofs.Leaves.{head_is_typed}
 use Rattle.lf_coverage.proofs.MatchInstance.{both_decided, goal_decided, same_decided, terms_decided}
 use Rattle.lf_coverage.proofs.Parts.{none_some}
 use Rattle.lf_coverage.proofs.SolvedCase.{free_context_is}
-use Rattle.lf_coverage.specs.OwnStores.{as_case}
 
-image_own : (o : ℕ → Option Spine) (j : ℕ) (t : Option LfType) (x : Option Term) → ((N : Term) → x ≡ Some N → OnOwnTerms o N) → ImageOnOwnTerms o (as_image j t x)
+pub image_own : (o : ℕ → Option Spine) (j : ℕ) (t : Option LfType) (x : Option Term) → ((N : Term) → x ≡ Some N → OnOwnTerms o N) → ImageOnOwnTerms o (as_image j t x)
 image_own o j None x h = tt
 image_own o j (Some A) None h = tt
 image_own o j (Some A) (Some N) h = h N refl

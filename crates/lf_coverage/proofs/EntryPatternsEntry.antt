@@ -1,11 +1,10 @@
 -- Where a case by number is an instance of a pattern, of an entry too, matching finds the values: the pattern is read with what stands outside its clause
 -- put in.
-use Rattle.std.proofs.Common.{◌≡◌, ℕ, zero, suc, ◌+◌, ◌<◌, List, [], ◌∷◌, length, refl, sym, ap, ◌∙◌, subst, inl, inr, arith, true≢false}
+use Rattle.std.proofs.Common.{◌≡◌, ℕ, zero, ◌+◌, ◌<◌, List, [], ◌∷◌, length, refl, sym, ap, ◌∙◌, subst, inl, inr, true≢false}
 use Rattle.std.specs.Prelude.{Bool, true, false, cond, Option, Some, None, ◌⊎◌}
-use Rattle.lf.specs.Syntax.{constant, Term, Spine, LfType, Skeleton, skeleton, rename_spine, pi, atom}
+use Rattle.lf.specs.Syntax.{constant, Term, Spine, LfType, Skeleton, skeleton, rename_spine}
 use Rattle.lf.specs.Substitution.{Image, keep, put, rename_image, substitute, substitute_image, substitute_type, reduce, after}
 use Rattle.lf.specs.AtOnce.{shift_by}
-use Rattle.lf.specs.Entries.{quantifiers}
 use Rattle.lf.specs.Eta.{eta_expand}
 use Rattle.lf.specs.SkeletonTyping.{HeadSkeletons, SkeletonAt, ImageSkeleton, SubstitutionBySkeletons}
 use Rattle.lf.specs.Skeletons.{constant_skeletons, family_skeletons, context_skeletons}
@@ -23,7 +22,7 @@ use Rattle.lf.proofs.SkeletonTypes.{substitutions_compose_type}
 use Rattle.lf.proofs.Substitution.{TypedSubstitution, skeleton_context_of, substitution_keeps_types, lifted_substitution_typed, typed_substitution_by_skeletons}
 use Rattle.lf.proofs.ToSkeletons.{variable_has_skeleton, skeleton_has_variable, type_by_skeletons}
 use Rattle.lf.proofs.TypeLaws.{skeleton_substituted}
-use Rattle.lf_checks.specs.Clause.{Clause, scope, outside, among}
+use Rattle.lf_checks.specs.Clause.{Clause, scope, outside}
 use Rattle.lf_checks.specs.Tests.{both}
 use Rattle.lf_checks.proofs.EtaTest.{both_l, both_r}
 use Rattle.lf_cases.specs.Case.{covered_places}
@@ -46,89 +45,22 @@ use Rattle.lf_coverage.specs.NumberedInstance.{first_constant}
 use Rattle.lf_coverage.specs.OwnTerms.{blocks_of}
 use Rattle.lf_coverage.specs.TermMatching.{bound}
 use Rattle.lf_coverage.specs.TypedNumbered.{IsTypedNumberedCase}
-use Rattle.lf_coverage.proofs.EntryPatternsCarried.{out_sum, out_type}
+use Rattle.lf_coverage.proofs.EntryPatternsCarried.{out_type}
 use Rattle.lf_coverage.proofs.EntryPatternsFound.{without_far}
 use Rattle.lf_coverage.proofs.EntryPatternsMatching.{entries_signature, more_type, more_context}
+use Rattle.lf_coverage.proofs.EntryPatternsNear.{bound_near, bound_far, out_far, to_instance, from_instance, behind_skeleton, AConstant, entry_constant_is, before_images}
 use Rattle.lf_coverage.proofs.EntryPatternsStrict.{Places, strict_goal_put}
 use Rattle.lf_coverage.proofs.EntryPatternsTyped.{variable_is_typed}
 use Rattle.lf_coverage.proofs.EntryPatternsValues.{typed_inside}
-use Rattle.lf_coverage.proofs.Forms.{binders_length, lift_over_near}
+use Rattle.lf_coverage.proofs.Forms.{lift_over_near}
 use Rattle.lf_coverage.proofs.Matched.{Third, goal_third, goal_part}
 use Rattle.lf_coverage.proofs.Matching.{goal_agrees, term_of, not_given, ground_is_strict}
-use Rattle.lf_coverage.proofs.ReadInstance.{inside_onto}
+use Rattle.lf_coverage.proofs.NearOrFar.{near_or_far}
 use Rattle.lf_coverage.proofs.ReadOff.{goal_read}
+use Rattle.lf_coverage.proofs.ReadValues.{inside_onto}
 use Rattle.lf_coverage.proofs.Standing.{before_typed}
 use Rattle.lf_coverage.proofs.Transfer.{onto_skeleton}
 use mathlib.Core.Path.{fun_ext}
-
--- A variable is one of the n newest, or stands behind them.
-near_or_far : (n i : ℕ) → (i < n) ⊎ ((l : ℕ) × (i ≡ l + n))
-near_or_far zero i = inr (i, none i)
-  where
-    none : (i : ℕ) → i ≡ i + 0
-    none i = omega arith
-near_or_far (suc n) zero = inl (omega arith)
-near_or_far (suc n) (suc i) = next (near_or_far n i)
-  where
-    step : (l : ℕ) → i ≡ l + n → suc i ≡ l + suc n
-    step l e = omega (arith, e)
-
-    next : (i < n) ⊎ ((l : ℕ) × (i ≡ l + n)) → (suc i < suc n) ⊎ ((l : ℕ) × (suc i ≡ l + suc n))
-    next (inl h) = inl (omega (arith, h))
-    next (inr (l, e)) = inr (l, step l e)
-
-bound_near : (n i : ℕ) → i < n → bound n i ≡ true
-bound_near zero i l = absurd (omega (arith, l))
-bound_near (suc n) zero l = refl
-bound_near (suc n) (suc i) l = bound_near n i (omega (arith, l))
-
-bound_far : (n i : ℕ) → bound n (i + n) ≡ false
-bound_far zero i = refl
-bound_far (suc n) i = ap (bound (suc n)) (next i n) ∙ bound_far n i
-  where
-    next : (i n : ℕ) → i + suc n ≡ suc (i + n)
-    next i n = omega arith
-
-binders_count : (T : LfType) → length (binders [] T) ≡ quantifiers T
-binders_count (pi A B) = let l = binders_length B (A ∷ []) in let k = binders_count B in omega (arith, l, k)
-binders_count (atom a S) = refl
-
-out_far : (T : LfType) (l : ℕ) → out_index T l ≡ l + length (binders [] T)
-out_far T l = out_sum T l ∙ ap (λ n. l + n) (sym (binders_count T))
-
--- skeletons of a local context with values put in
-to_instance : (D G X : List LfType) (φ : ℕ → Image) (i : ℕ) (t : Skeleton) → i < length D → SkeletonAt (context_skeletons (onto D G)) i t → SkeletonAt (context_skeletons (onto (instance D φ) X)) i t
-to_instance [] G X φ i t l g = absurd (omega (arith, l))
-to_instance (A ∷ D) G X φ zero t l g = skeleton_substituted reduce (lift_over D φ) A ∙ g
-to_instance (A ∷ D) G X φ (suc i) t l g = to_instance D G X φ i t (omega (arith, l)) g
-
-from_instance : (D G X : List LfType) (φ : ℕ → Image) (i : ℕ) (t : Skeleton) → i < length D → SkeletonAt (context_skeletons (onto (instance D φ) X)) i t → SkeletonAt (context_skeletons (onto D G)) i t
-from_instance [] G X φ i t l g = absurd (omega (arith, l))
-from_instance (A ∷ D) G X φ zero t l g = sym (skeleton_substituted reduce (lift_over D φ) A) ∙ g
-from_instance (A ∷ D) G X φ (suc i) t l g = from_instance D G X φ i t (omega (arith, l)) g
-
-behind_skeleton : (D X : List LfType) (i : ℕ) (t : Skeleton) → SkeletonAt (context_skeletons (onto D X)) (i + length D) t → SkeletonAt (context_skeletons X) i t
-behind_skeleton [] X i t g = subst (λ j. SkeletonAt (context_skeletons X) j t) (none i) g
-  where
-    none : (i : ℕ) → i + 0 ≡ i
-    none i = omega arith
-behind_skeleton (A ∷ D) X i t g = behind_skeleton D X i t (subst (λ j. SkeletonAt (context_skeletons (onto (A ∷ D) X)) j t) (next i (length D)) g)
-  where
-    next : (i n : ℕ) → i + suc n ≡ suc (i + n)
-    next i n = omega arith
-
--- an entry before another is a constant, eta-long
-abbrev pub AConstant : Image → Type 0
-AConstant y = (a : Skeleton) × (d : ℕ) × (U : Spine) × (y ≡ put a (eta_expand a (constant d) U))
-
-entry_constant_is : (m : ℕ) (U : Spine) (es : List LfType) (η : ℕ → Image) (j : ℕ) → among es j ≡ true → AConstant (entry_images m U es η j)
-entry_constant_is m U [] η j e = absurd cc
-entry_constant_is m U (E ∷ es) η zero e = (skeleton E, m + length es, U, refl)
-entry_constant_is m U (E ∷ es) η (suc j) e = entry_constant_is m U es η j e
-
-before_images : (m : ℕ) (U : Spine) (later : List LfType) (E : LfType) (es : List LfType) (η : ℕ → Image) (j : ℕ) → before later (entry_images m U (onto later (E ∷ es)) η) j ≡ entry_images m U es η j
-before_images m U [] E es η j = refl
-before_images m U (D ∷ ds) E es η j = before_images m U ds E es η j
 
 module _ (Σ : Signature) (ok : IsSignature Σ) (W : List Block) (typed : AreTypedBlocks Σ W) (first : ℕ) (free : IsFreeFrom Σ first) (C : NumberedCase) (tc : IsTypedNumberedCase Σ first W C) where
   abbrev X : List LfType
@@ -140,7 +72,7 @@ module _ (Σ : Signature) (ok : IsSignature Σ) (W : List Block) (typed : AreTyp
   abbrev κ : HeadSkeletons
   κ = constant_skeletons Σ₁
 
-  ok₁ : IsSignature Σ₁
+  pub ok₁ : IsSignature Σ₁
   ok₁ = entries_signature Σ ok W typed first free C tc
 
   -- what stands outside the clause: typed, its fixed variables are constants, and the values are these
@@ -233,13 +165,13 @@ module _ (Σ : Signature) (ok : IsSignature Σ) (W : List Block) (typed : AreTyp
         fixed j e = let (l, y, z) = outside_from p.clause.type p.clause.fixed j e in moved j l (y ∙ out_far p.clause.type l) (g.fixed l z)
 
     -- the values of the clause's own variables, over the case's
-    abbrev τ : ℕ → Image
+    abbrev pub τ : ℕ → Image
     τ i = cond (bound (length Q) i) (pick (h.used i) (h.values i) (keep (i + length X))) (keep (without (length Q) i))
 
-    τ_near : (i : ℕ) → i < length Q → τ i ≡ pick (h.used i) (h.values i) (keep (i + length X))
+    pub τ_near : (i : ℕ) → i < length Q → τ i ≡ pick (h.used i) (h.values i) (keep (i + length X))
     τ_near i l = ap (λ b. cond b (pick (h.used i) (h.values i) (keep (i + length X))) (keep (without (length Q) i))) (bound_near (length Q) i l)
 
-    τ_far : (l : ℕ) → τ (l + length Q) ≡ keep l
+    pub τ_far : (l : ℕ) → τ (l + length Q) ≡ keep l
     τ_far l = ap (λ b. cond b (pick (h.used (l + length Q)) (h.values (l + length Q)) (keep ((l + length Q) + length X))) (keep (without (length Q) (l + length Q)))) (bound_far (length Q) l) ∙ ap keep (without_far (length Q) l)
 
     abbrev Δ : List Skeleton
@@ -278,7 +210,7 @@ module _ (Σ : Signature) (ok : IsSignature Σ) (W : List Block) (typed : AreTyp
     third : Third h.used (in_context (scope p.clause)) (λ i. both (h.used i) (in_context (scope p.clause) i))
     third i u v = both_of (h.used i) (in_context (scope p.clause) i) u v
 
-    arguments : ArePlaces C.arguments (target_arguments (substitute_type reduce τ (placed_type p φ)))
+    pub arguments : ArePlaces C.arguments (target_arguments (substitute_type reduce τ (placed_type p φ)))
     arguments =
         subst (λ B. ArePlaces C.arguments (target_arguments B)) (sym (substitutions_compose_type (family_skeletons Σ₁) κ (context_skeletons O) (context_skeletons K) Δ σ τ p.type σ_fits τ_fits (type_by_skeletons Σ₁ O p.type type₁)))
         (goal_agrees Y h.values (after τ σ) same_on C.arguments p.type (goal_third h.used (in_context (scope p.clause)) Y third (covered_places C.arguments) p.type h.uses (goal_part (in_context (scope p.clause)) (covered_places C.arguments) p.type (typed_uses_type Σ (scope p.clause) (in_context (scope p.clause)) p.type (in_covers (scope p.clause)) tp.type_typed))) h.same)

@@ -1,7 +1,7 @@
 -- A case holds a tuple where its numbered form does, with block variables apart where they are: so a split of a case is one of its numbered form, and a
 -- run of the numbered form covers the case.
 use Rattle.std.proofs.Common.{◌≡◌, ℕ, zero, suc, List, [], ◌∷◌, ◌++◌, length, ◌≤◌, refl, sym, ap, ◌∙◌, subst, inl, inr, arith}
-use Rattle.std.specs.Prelude.{Bool, true, false, Option, Some, None}
+use Rattle.std.specs.Prelude.{Bool, Option, Some, None}
 use Rattle.lf.specs.Syntax.{Term, Spine, LfType}
 use Rattle.lf.specs.Substitution.{Image, put, substitute, reduce}
 use Rattle.lf.specs.Skeletons.{constant_skeletons, context_skeletons}
@@ -15,7 +15,7 @@ use Rattle.lf_cases.specs.Missing.{put_in}
 use Rattle.lf_cases.specs.Pattern.{Pattern, Known, Holds, given_at}
 use Rattle.lf_cases.specs.Split.{HasNoBlockVariable, HasOneBlockVariable, HoldsDistinctly, OneHolds, IsLike, Ends, AllEnd, at_leaf, by_split, no_case, next_case}
 use Rattle.lf_coverage.specs.EntryConstants.{IsFreeFrom}
-use Rattle.lf_coverage.specs.EntryPatternsRuns.{HoldsByNumber, HoldsApart, OneHoldsApart, IsLikeByNumber, IsNumberedSplit, IsNumberedLeaf, EndsByNumber, AllEndByNumber, at_numbered_leaf, by_numbered_split, no_numbered, next_numbered}
+use Rattle.lf_coverage.specs.EntryPatternsRuns.{HoldsByNumber, HoldsApart, OneHoldsApart, IsLikeByNumber, IsNumberedSplit, IsNumberedLeaf}
 use Rattle.lf_coverage.specs.EntryPatternsLaws.{NumberedRunCovers, NumberedCoversCase, NumberedRunCoversCase, SplitIsNumberedSplit, HeadRunIsByNumber, numbered_all}
 use Rattle.lf_coverage.specs.Heads.{IsTypedCase, SplitsByHeads}
 use Rattle.lf_coverage.specs.NumberedArguments.{read_all}
@@ -26,9 +26,11 @@ use Rattle.lf_coverage.specs.Reading.{read, entry_reading}
 use Rattle.lf_coverage.proofs.EntryPatternsLeaf.{numbered_leaf_is_covered}
 use Rattle.lf_coverage.proofs.EntryPatternsNumbers.{distinct_apart, apart_distinct, zeroth_is, first_is}
 use Rattle.lf_coverage.proofs.EntryPatternsRuns.{run_covers, one_covers_alike}
+use Rattle.lf_coverage.proofs.HeadSplit.{places_put_in as places_put}
 use Rattle.lf_coverage.proofs.Leaves.{given_skeleton}
 use Rattle.lf_coverage.proofs.NumberedArguments.{numbered_holds_same_tuples, under_same}
-use Rattle.lf_coverage.proofs.Numbering.{HasInstances, to_number, from_number}
+use Rattle.lf_coverage.proofs.Numbering.{to_number, from_number}
+use Rattle.lf_coverage.proofs.NumberingSteps.{HasInstances}
 use Rattle.lf_coverage.proofs.Parts.{some_same}
 use Rattle.lf_coverage.proofs.Runs.{head_split_is_split, split_cases_are_typed}
 
@@ -39,12 +41,6 @@ renamed_length ρ (b ∷ bs) = ap suc (renamed_length ρ bs)
 longer_by_one : (bs : List BlockVariable) (b : BlockVariable) → length (bs ++ b ∷ []) ≡ suc (length bs)
 longer_by_one [] b = refl
 longer_by_one (c ∷ bs) b = ap suc (longer_by_one bs b)
-
--- the places stay
-pub places_put : (σ : ℕ → Image) (Ms : List (Option Term)) → covered_places (put_in σ Ms) ≡ covered_places Ms
-places_put σ [] = refl
-places_put σ (Some M ∷ Ms) = ap (λ b. true ∷ b) (places_put σ Ms)
-places_put σ (None ∷ Ms) = ap (λ b. false ∷ b) (places_put σ Ms)
 
 -- given terms, read
 pub given_from : (f : ℕ → Option (ℕ × ℕ)) (δ : ℕ → Image) (Ms : List (Option Term)) (i : ℕ) (M : Term) → given_at (read_all f (put_in δ Ms)) i ≡ Some M → (N : Term) × (given_at Ms i ≡ Some N) × (M ≡ read f (substitute reduce δ N))
@@ -149,15 +145,15 @@ split_is_numbered_split Σ ok W typed S first free C Cs tc tcs s = record {
 
 module _ (Σ : Signature) (ok : IsSignature Σ) (W : List Block) (typed : AreTypedBlocks Σ W) (below : ℕ → ℕ → Bool) (sub : IsSubordination Σ W below) (S : ℕ → Bool) (sc : SelfContained Σ W S) (first : ℕ) (free : IsFreeFrom Σ first) (ps : List Pattern) (Ls : List Case) (leaf : (D : Case) → Member D Ls → IsNumberedLeaf Σ first W ps (numbered first D)) where
   mutual
-    head_run : {C : Case} → IsTypedCase Σ W C → Ends (λ D. Member D Ls) (SplitsByHeads Σ W S below) C → EndsByNumber (IsNumberedLeaf Σ first W ps) (IsNumberedSplit Σ first W S) (numbered first C)
-    head_run t (at_leaf {C = C} m) = at_numbered_leaf (leaf C m)
+    head_run : {C : Case} → IsTypedCase Σ W C → Ends (λ D. Member D Ls) (SplitsByHeads Σ W S below) C → Ends (IsNumberedLeaf Σ first W ps) (IsNumberedSplit Σ first W S) (numbered first C)
+    head_run t (at_leaf {C = C} m) = at_leaf (leaf C m)
     head_run t (by_split {C = C} Cs (x, s) r) =
         let ts = split_cases_are_typed Σ ok W below S C t x Cs s in
-        by_numbered_split (numbered_all first Cs) (split_is_numbered_split Σ ok W typed S first free C Cs t ts (head_split_is_split Σ ok W typed below sub S sc C t x Cs s)) (head_runs ts r)
+        by_split (numbered_all first Cs) (split_is_numbered_split Σ ok W typed S first free C Cs t ts (head_split_is_split Σ ok W typed below sub S sc C t x Cs s)) (head_runs ts r)
 
-    head_runs : {Cs : List Case} → ((D : Case) → Member D Cs → IsTypedCase Σ W D) → AllEnd (λ D. Member D Ls) (SplitsByHeads Σ W S below) Cs → AllEndByNumber (IsNumberedLeaf Σ first W ps) (IsNumberedSplit Σ first W S) (numbered_all first Cs)
-    head_runs ts no_case = no_numbered
-    head_runs ts (next_case {C = C} e r) = next_numbered (head_run (ts C (inl refl)) e) (head_runs (λ D m. ts D (inr m)) r)
+    head_runs : {Cs : List Case} → ((D : Case) → Member D Cs → IsTypedCase Σ W D) → AllEnd (λ D. Member D Ls) (SplitsByHeads Σ W S below) Cs → AllEnd (IsNumberedLeaf Σ first W ps) (IsNumberedSplit Σ first W S) (numbered_all first Cs)
+    head_runs ts no_case = no_case
+    head_runs ts (next_case {C = C} e r) = next_case (head_run (ts C (inl refl)) e) (head_runs (λ D m. ts D (inr m)) r)
 
 pub head_run_is_by_number : HeadRunIsByNumber
 head_run_is_by_number Σ ok W typed below sub S sc first free ps C t Ls leaf r = head_run Σ ok W typed below sub S sc first free ps Ls leaf t r

@@ -23,7 +23,7 @@ abbrev pub deep_own : ℕ → (ℕ → Option Spine) → ℕ → Option Spine
 deep_own zero o = o
 deep_own (suc n) o = λ c. weaken_own (deep_own n o c)
 
-renamed_twice : (ρ τ : ℕ → ℕ) (u : Option Spine) → rename_own ρ (rename_own τ u) ≡ rename_own (λ i. ρ (τ i)) u
+pub renamed_twice : (ρ τ : ℕ → ℕ) (u : Option Spine) → rename_own ρ (rename_own τ u) ≡ rename_own (λ i. ρ (τ i)) u
 renamed_twice ρ τ None = refl
 renamed_twice ρ τ (Some U) = ap Some (renamings_compose_spine ρ τ U)
 
@@ -127,7 +127,7 @@ module _ (o : ℕ → Option Spine) where
   spine_own n (root (variable i) S) m = m
   spine_own n (root (metavariable c) S) m = m
 
-  bound_under : (B : ℕ → Bool) (n : ℕ) → ((i : ℕ) → B i ≡ true → bound n i ≡ true) → (i : ℕ) → under B i ≡ true → bound (suc n) i ≡ true
+  pub bound_under : (B : ℕ → Bool) (n : ℕ) → ((i : ℕ) → B i ≡ true → bound n i ≡ true) → (i : ℕ) → under B i ≡ true → bound (suc n) i ≡ true
   bound_under B n h zero e = refl
   bound_under B n h (suc i) e = h i e
 

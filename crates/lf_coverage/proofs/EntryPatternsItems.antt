@@ -45,7 +45,7 @@ use Rattle.lf_coverage.specs.TypedNumbered.{IsTypedNumberedCase}
 use Rattle.lf_coverage.proofs.Carried.{beside_nothing}
 use Rattle.lf_coverage.proofs.Choices.{second_of}
 use Rattle.lf_coverage.proofs.EntryPatternsAmong.{StandsAs, stands_as}
-use Rattle.lf_coverage.proofs.EntryPatternsForms.{places_put}
+use Rattle.lf_coverage.proofs.HeadSplit.{places_put_in as places_put}
 use Rattle.lf_coverage.proofs.EntryPatternsMatching.{entries_signature}
 use Rattle.lf_coverage.proofs.EntryPatternsRuns.{given_alike}
 use Rattle.lf_coverage.proofs.EntryPatternsTyped.{variable_is_typed}
@@ -53,7 +53,8 @@ use Rattle.lf_coverage.proofs.ItemsContext.{items_are_context}
 use Rattle.lf_coverage.proofs.Leaf.{v, v_out, v_typed, v_terms, v_given, v_places, value_is, leaves_terms, leaves_deep}
 use Rattle.lf_coverage.proofs.Leaves.{goal_places, given_is, given_skeleton}
 use Rattle.lf_coverage.proofs.Matched.{own_type}
-use Rattle.lf_coverage.proofs.NumberedTyped.{typed_numbering, old_own}
+use Rattle.lf_coverage.proofs.NumberedTyped.{typed_numbering}
+use Rattle.lf_coverage.proofs.NumberedTypedFree.{old_own}
 use Rattle.lf_coverage.proofs.Parts.{some_same}
 use Rattle.lf_coverage.proofs.Standing.{Outer, entry_outer_of}
 use Rattle.lf_coverage.proofs.Transfer.{instance_fits, fits_more, have_more}

@@ -47,10 +47,10 @@ use Rattle.lf_coverage.proofs.EntryPatternsValues.{carried, carried_is, carried_
 use Rattle.lf_coverage.proofs.Forms.{lambdas_substituted}
 use Rattle.lf_coverage.proofs.Leaf.{lambdas_inside, same_under, arrows, lambdas_skeleton, lambdas_use, term_after}
 use Rattle.lf_coverage.proofs.Leaves.{goal_places, given_is}
+use Rattle.lf_coverage.proofs.MoreConstants.{term_more}
 use Rattle.lf_coverage.proofs.Parts.{some_same}
 use Rattle.lf_coverage.proofs.Reading.{read_image}
 use Rattle.lf_coverage.proofs.Standing.{Outer, entry_outer}
-use Rattle.lf_coverage.proofs.Transfer.{term_more}
 
 -- reading under lambdas
 lambdas_read : (D : List LfType) (f : ℕ → Option (ℕ × ℕ)) (M : Term) → read f (lambdas (length D) M) ≡ lambdas (length D) (read (read_over D f) M)
@@ -157,7 +157,7 @@ numbered_leaf_is_covered Σ ok W typed S first free ps C leaf Σ' x G w F σ0 T 
     let (L, el, k) = end_typed Σ ok A O leaf.pattern_typed.type_typed in
     let sp : SpineSkeleton (constant_skeletons Σ) (context_skeletons (onto D O)) (target_arguments A) (kind_skeleton (target A) L) (base (target A)) = subst (λ Q. SpineSkeleton (constant_skeletons Σ) (context_skeletons Q) (target_arguments A) (kind_skeleton (target A) L) (base (target A))) (binders_over [] A O) (subst (λ Γ. SpineSkeleton (constant_skeletons Σ) Γ (target_arguments A) (kind_skeleton (target A) L) (base (target A))) (beside_nothing (binders O A)) (kind_spine_has_skeleton_beside Σ [] (target A) (binders O A) (target_arguments A) L k)) in
     let same_term : (Q : Term) (t : Skeleton) → TermSkeleton (constant_skeletons Σ) (context_skeletons O) Q t → Uses s.used Q → substitute reduce σ (read f (substitute reduce s.values Q)) ≡ substitute reduce v Q = λ Q t q u.
-    let q' = term_more S Σ Σ' x (context_skeletons O) Q t q in
+    let q' = term_more Σ Σ' x.types_stay (context_skeletons O) Q t q in
     carried_term Σ Σ' ok S x W typed first free C tv w θ σ g O ct s.used s.values s.typed s.on_own_terms Q t q q' u ∙ whole_same Σ' x.ok G Δ fit c ct' s.used s.typed.closed ω ω_fits ω_typed outer out.typed outer_same Q t q' u in
     let clause_same : ArePlaces C.arguments (substitute_spine reduce (lift_over D s.values) (target_arguments A)) = subst (ArePlaces C.arguments) (arguments_under [] A s.values) s.same in
     let same : SamePlaces places T (substitute_spine reduce (lift_over D v) (target_arguments A)) = same_places (constant_skeletons Σ) O s.used f σ v s.values same_term D C.local leaf.same_length C.arguments T (target_arguments A) (kind_skeleton (target A) L) (base (target A)) sp h.has_arguments clause_same (goal_places [] s.used places A s.uses) in (

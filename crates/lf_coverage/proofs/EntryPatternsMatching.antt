@@ -2,7 +2,7 @@
 use Rattle.std.proofs.Common.{◌≡◌, ℕ, zero, List, [], ◌∷◌, refl, sym, ap, ◌∙◌, subst}
 use Rattle.std.specs.Prelude.{Bool, true, false, Option, Some, None}
 use Rattle.lf.specs.Syntax.{Term, LfType, Skeleton, skeleton}
-use Rattle.lf.specs.Substitution.{Image, put, substitute_type, reduce}
+use Rattle.lf.specs.Substitution.{put, substitute_type, reduce}
 use Rattle.lf.specs.SkeletonTyping.{SubstitutionBySkeletons}
 use Rattle.lf.specs.Skeletons.{constant_skeletons, context_skeletons}
 use Rattle.lf.specs.Typing.{Signature, TypeAt, ImageHasType, IsType, IsContext, IsSignature}
@@ -34,6 +34,7 @@ use Rattle.lf_coverage.specs.Leaf.{IsTypedPattern}
 use Rattle.lf_coverage.specs.Matching.{ArePlaces, MatchesByTerms, found_goal, found_term, found_values}
 use Rattle.lf_coverage.specs.MeetStore.{IsConstants}
 use Rattle.lf_coverage.specs.NumberedCase.{NumberedCase}
+use Rattle.lf_coverage.specs.OwnStores.{as_case}
 use Rattle.lf_coverage.specs.OwnTerms.{blocks_of, own_terms}
 use Rattle.lf_coverage.specs.TypedNumbered.{IsTypedNumberedCase}
 use Rattle.lf_coverage.proofs.Carried.{beside_nothing}
@@ -41,9 +42,8 @@ use Rattle.lf_coverage.proofs.Choices.{decided}
 use Rattle.lf_coverage.proofs.EntrySignature.{entries_kept, with_entries_is_signature}
 use Rattle.lf_coverage.proofs.Matched.{Third, goal_third, goal_part, given_there, given_found, own_type}
 use Rattle.lf_coverage.proofs.Matching.{none_fixed, is_own, goal_agrees, term_of, not_given, ground_is_strict, found_is}
-use Rattle.lf_coverage.proofs.NumberedTyped.{among_worlds}
+use Rattle.lf_coverage.proofs.NumberedTypedFree.{among_worlds}
 use Rattle.lf_coverage.proofs.ReadOff.{goal_read}
-use Rattle.lf_coverage.specs.OwnStores.{as_case}
 
 module _ (Σ : Signature) (ok : IsSignature Σ) (W : List Block) (typed : AreTypedBlocks Σ W) (first : ℕ) (free : IsFreeFrom Σ first) (C : NumberedCase) (tc : IsTypedNumberedCase Σ first W C) where
   abbrev Σ₁ : Signature
@@ -60,15 +60,8 @@ module _ (Σ : Signature) (ok : IsSignature Σ) (W : List Block) (typed : AreTyp
   more_context (A ∷ D) (c, a) = (more_context D c, more_type D A a)
 
   module _ (p : Pattern) (tp : IsTypedPattern Σ p) (k : IsConstants p.origin) (h : IsInstanceOfPattern Σ first C p) where
-    abbrev O : List LfType
-    O = scope p.clause
-
     abbrev V : ℕ → Bool
     V = ground_in p (covered_places C.arguments) C.given
-
-    -- values for all variables, the same on the used ones
-    abbrev τ : ℕ → Image
-    τ = patch h.used C.variables h.values
 
     context₁ : IsContext Σ₁ (scope p.clause)
     context₁ = more_context (scope p.clause) tp.clause_typed

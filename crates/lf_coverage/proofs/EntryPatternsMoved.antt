@@ -25,11 +25,12 @@ use Rattle.lf_coverage.specs.TypedNumbered.{IsTypedNumberedCase, own_over}
 use Rattle.lf_coverage.proofs.Composing.{composed}
 use Rattle.lf_coverage.proofs.EntryPatternsForms.{given_from}
 use Rattle.lf_coverage.proofs.EntryPatternsLeaf.{given_read}
-use Rattle.lf_coverage.proofs.EntryPatternsValues.{onto_cases}
+use Rattle.lf_coverage.proofs.NearOrFar.{onto_cases}
 use Rattle.lf_coverage.proofs.Leaves.{given_skeleton}
 use Rattle.lf_coverage.proofs.NumberedArguments.{skeleton_only, over_images, over_agree, agreeing, twice}
 use Rattle.lf_coverage.proofs.Parts.{none_some, some_same}
-use Rattle.lf_coverage.proofs.ReadInstance.{values_fit, value_past, inside_onto, heads}
+use Rattle.lf_coverage.proofs.ReadInstance.{heads}
+use Rattle.lf_coverage.proofs.ReadValues.{values_fit, value_past, inside_onto}
 use Rattle.lf_coverage.proofs.ReadSkeletons.{ReadsSkeleton, skeleton_under, read_has_skeleton}
 use Rattle.lf_coverage.proofs.Reading.{IsOld, read_image, FollowsRead, follows_under, read_substituted}
 use Rattle.lf_coverage.proofs.Transfer.{onto_skeleton}

@@ -14,7 +14,8 @@ use Rattle.lf_coverage.specs.EntryPatternsRuns.{ZerothIs}
 use Rattle.lf_coverage.specs.NumberedInstance.{block_at}
 use Rattle.lf_coverage.specs.Numbering.{numbering, numbered, own_spine}
 use Rattle.lf_coverage.specs.OwnTerms.{BlockVariable, blocks_of, rename_blocks}
-use Rattle.lf_coverage.proofs.Numbering.{HasInstances, first_is_zero, no_number}
+use Rattle.lf_coverage.proofs.Numbering.{first_is_zero, no_number}
+use Rattle.lf_coverage.proofs.NumberingSteps.{HasInstances}
 use Rattle.lf_coverage.proofs.Parts.{some_same}
 
 -- Lists of block variables

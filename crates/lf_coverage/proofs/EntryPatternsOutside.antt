@@ -27,7 +27,9 @@ use Rattle.lf_coverage.proofs.EntryPlaces.{entry_is}
 use Rattle.lf_coverage.proofs.EntrySignature.{else_first, else_second, among_none}
 use Rattle.lf_coverage.proofs.EntryValues.{put_term, read_as_term}
 use Rattle.lf_coverage.proofs.OwnTerms.{entry_from}
-use Rattle.lf_coverage.proofs.ReadInstance.{values_fit, value_past, heads, long_at_entry, some_agree, some_fits, images_agree}
+use Rattle.lf_coverage.proofs.ReadInstance.{heads}
+use Rattle.lf_coverage.proofs.ReadBlocks.{long_at_entry, some_agree, some_fits, images_agree}
+use Rattle.lf_coverage.proofs.ReadValues.{values_fit, value_past}
 use Rattle.lf_coverage.proofs.Reading.{read_image}
 
 -- the last of some arguments
@@ -124,9 +126,6 @@ module _ (Σ Σ' : Signature) (ok : IsSignature Σ) (S : ℕ → Bool) (x : Exte
     -- the values of the `some` variables
     abbrev υ : ℕ → Image
     υ = fact.1.0
-
-    abbrev Agrees : (ℕ → Image) → List LfType → Type 0
-    Agrees ι es = (i : ℕ) (A : LfType) → TypeAt (onto es B.some) i A → as_term (skeleton A) (substitute_image σ (read_image f (ι i))) ≡ as_term (skeleton A) (θ k i)
 
     all_agree : (es : List LfType) → es ≡ B.entries → (i : ℕ) (A : LfType) → TypeAt (onto es B.some) i A → as_term (skeleton A) (substitute_image σ (read_image f (entry_images m U es υ i))) ≡ as_term (skeleton A) (θ k i)
     all_agree [] e i A g = some_agree Σ Σ' ok S x W typed first free C tv w θ σ inst k B m U υ (typed B fact.0) fact.1.1 fact.1.2 fact.2 fact.3 fact.4 found (heads Σ Σ' ok S x W typed first free C tv w θ σ inst) i A g ∙ ap (λ ds. as_term (skeleton A) (behind_entries ds (θ k) i)) (sym e)

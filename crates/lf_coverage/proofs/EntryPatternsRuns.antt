@@ -14,7 +14,8 @@ use Rattle.lf_checks.specs.Ground.{UsesGoal}
 use Rattle.lf_checks.specs.Strict.{strict_goal}
 use Rattle.lf_cases.specs.Case.{covered_places}
 use Rattle.lf_cases.specs.Pattern.{is_given, Pattern, Known, given_at, CoversTuple, OneCovers}
-use Rattle.lf_coverage.specs.EntryPatternsRuns.{HoldsApart, OneHoldsApart, IsCoveredByNumber, IsLikeByNumber, IsNumberedSplit, EndsByNumber, AllEndByNumber, at_numbered_leaf, by_numbered_split, no_numbered, next_numbered, HasOneBlock}
+use Rattle.lf_cases.specs.Split.{Ends, AllEnd, at_leaf, by_split, no_case, next_case}
+use Rattle.lf_coverage.specs.EntryPatternsRuns.{HoldsApart, OneHoldsApart, IsCoveredByNumber, IsLikeByNumber, IsNumberedSplit, HasOneBlock}
 use Rattle.lf_coverage.specs.NumberedCase.{NumberedCase}
 use Rattle.lf_coverage.specs.NumberedInstance.{block_at}
 use Rattle.lf_coverage.specs.OwnTerms.{BlockVariable}
@@ -68,19 +69,19 @@ module _ {Σ : Signature} {W : List Block} {S : ℕ → Bool} {G : List LfType} 
 
 module _ (Σ : Signature) (first : ℕ) (W : List Block) (S : ℕ → Bool) (ps : List Pattern) (Leaf : NumberedCase → Type 0) (leaf : (D : NumberedCase) → Leaf D → IsCoveredByNumber Σ first W S ps D) where
   mutual
-    held_apart_covered : {C : NumberedCase} → EndsByNumber Leaf (IsNumberedSplit Σ first W S) C → (Σ' : Signature) → Extends S Σ Σ' → (G : List LfType) (w : World Σ' W S G) (F : Known) (σ : ℕ → Image) (T : Spine) → HoldsApart w first C F σ T → OneCovers w ps (covered_places C.arguments) F C.given σ T
-    held_apart_covered {C} (at_numbered_leaf l) Σ' x G w F σ T h = leaf C l Σ' x G w F σ T h.holds
-    held_apart_covered {C} (by_numbered_split Cs s a) Σ' x G w F σ T h = one_apart_covered C Cs s.like a Σ' x G w F σ T (s.holds Σ' x G w F σ T h)
+    held_apart_covered : {C : NumberedCase} → Ends Leaf (IsNumberedSplit Σ first W S) C → (Σ' : Signature) → Extends S Σ Σ' → (G : List LfType) (w : World Σ' W S G) (F : Known) (σ : ℕ → Image) (T : Spine) → HoldsApart w first C F σ T → OneCovers w ps (covered_places C.arguments) F C.given σ T
+    held_apart_covered {C} (at_leaf l) Σ' x G w F σ T h = leaf C l Σ' x G w F σ T h.holds
+    held_apart_covered {C} (by_split Cs s a) Σ' x G w F σ T h = one_apart_covered C Cs s.like a Σ' x G w F σ T (s.holds Σ' x G w F σ T h)
 
-    one_apart_covered : (C : NumberedCase) (Cs : List NumberedCase) → ((D : NumberedCase) → Member D Cs → IsLikeByNumber C D) → AllEndByNumber Leaf (IsNumberedSplit Σ first W S) Cs → (Σ' : Signature) → Extends S Σ Σ' → (G : List LfType) (w : World Σ' W S G) (F : Known) (σ : ℕ → Image) (T : Spine) → OneHoldsApart w first Cs F σ T → OneCovers w ps (covered_places C.arguments) F C.given σ T
-    one_apart_covered C [] l no_numbered Σ' x G w F σ T h = absurd h
-    one_apart_covered C (D ∷ Ds) l (next_numbered e a) Σ' x G w F σ T (inl h) =
+    one_apart_covered : (C : NumberedCase) (Cs : List NumberedCase) → ((D : NumberedCase) → Member D Cs → IsLikeByNumber C D) → AllEnd Leaf (IsNumberedSplit Σ first W S) Cs → (Σ' : Signature) → Extends S Σ Σ' → (G : List LfType) (w : World Σ' W S G) (F : Known) (σ : ℕ → Image) (T : Spine) → OneHoldsApart w first Cs F σ T → OneCovers w ps (covered_places C.arguments) F C.given σ T
+    one_apart_covered C [] l no_case Σ' x G w F σ T h = absurd h
+    one_apart_covered C (D ∷ Ds) l (next_case e a) Σ' x G w F σ T (inl h) =
         let k = l D (inl refl) in
         one_covers_alike w ps (covered_places C.arguments) (covered_places D.arguments) F C.given D.given σ T k.places k.given (held_apart_covered e Σ' x G w F σ T h)
-    one_apart_covered C (D ∷ Ds) l (next_numbered e a) Σ' x G w F σ T (inr h) = one_apart_covered C Ds (λ E m. l E (inr m)) a Σ' x G w F σ T h
+    one_apart_covered C (D ∷ Ds) l (next_case e a) Σ' x G w F σ T (inr h) = one_apart_covered C Ds (λ E m. l E (inr m)) a Σ' x G w F σ T h
 
   -- one block variable alone is no other
-  pub run_covers : (C : NumberedCase) → HasOneBlock C → EndsByNumber Leaf (IsNumberedSplit Σ first W S) C → IsCoveredByNumber Σ first W S ps C
+  pub run_covers : (C : NumberedCase) → HasOneBlock C → Ends Leaf (IsNumberedSplit Σ first W S) C → IsCoveredByNumber Σ first W S ps C
   run_covers C n e Σ' x G w F σ T h = held_apart_covered e Σ' x G w F σ T (record { holds = h; are_apart = λ j k b c p q i f. one C.blocks j k b c n p q })
     where
       inside : (bs : List BlockVariable) (j : ℕ) (b : BlockVariable) → block_at bs j ≡ Some b → j < length bs

@@ -38,31 +38,23 @@ use Rattle.lf_coverage.proofs.EntryValues.{put_term, read_as_term}
 use Rattle.lf_coverage.proofs.Forms.{lift_same}
 use Rattle.lf_coverage.proofs.NewInstance.{reading_shift, agree}
 use Rattle.lf_coverage.proofs.NumberedArguments.{over_instance}
+use Rattle.lf_coverage.proofs.OwnStoresOpened.{beyond_shifts as beyond_is}
 use Rattle.lf_coverage.proofs.OwnTerms.{put_in_keeps}
 use Rattle.lf_coverage.proofs.Parts.{none_some, some_same}
-use Rattle.lf_coverage.proofs.ReadInstance.{values_fit, value_past, inside_onto, heads}
-use Rattle.lf_coverage.proofs.ReadSkeletons.{read_has_skeleton}
 use Rattle.lf_coverage.proofs.Reading.{IsOld, rename_read, read_image, FollowsRead}
+use Rattle.lf_coverage.proofs.ReadInstance.{heads}
+use Rattle.lf_coverage.proofs.ReadSkeletons.{read_has_skeleton}
+use Rattle.lf_coverage.proofs.ReadValues.{values_fit, value_past, inside_onto}
 use Rattle.lf_coverage.proofs.Transfer.{SameIn, same_in, same_over, lift_instance, onto_skeleton}
 use mathlib.Core.Path.{fun_ext}
 
 -- Values that are the same in a context make lists of terms the same.
-put_same : (κ : HeadSkeletons) (Γ : List Skeleton) (σ τ : ℕ → Image) → SameIn Γ σ τ → (Ms : List (Option Term)) → HaveSkeletons κ Γ Ms → put_in σ Ms ≡ put_in τ Ms
+pub put_same : (κ : HeadSkeletons) (Γ : List Skeleton) (σ τ : ℕ → Image) → SameIn Γ σ τ → (Ms : List (Option Term)) → HaveSkeletons κ Γ Ms → put_in σ Ms ≡ put_in τ Ms
 put_same κ Γ σ τ h [] s = refl
 put_same κ Γ σ τ h (Some M ∷ Ms) ((t, m), s) = ap₂ (λ N Ns. Some N ∷ Ns) (same_in κ Γ σ τ h M t m) (put_same κ Γ σ τ h Ms s)
 put_same κ Γ σ τ h (None ∷ Ms) s = ap (λ Ns. None ∷ Ns) (put_same κ Γ σ τ h Ms s)
 
-beyond_is : (D : List LfType) (i : ℕ) → beyond D i ≡ i + length D
-beyond_is [] i = none i
-  where
-    none : (i : ℕ) → i ≡ i + 0
-    none i = omega arith
-beyond_is (A ∷ D) i = ap suc (beyond_is D i) ∙ next i (length D)
-  where
-    next : (i n : ℕ) → suc (i + n) ≡ i + suc n
-    next i n = omega arith
-
-carry_past : (D E : List LfType) (σ : ℕ → Image) (i : ℕ) → carry D E σ (i + length D) ≡ keep (i + length E)
+pub carry_past : (D E : List LfType) (σ : ℕ → Image) (i : ℕ) → carry D E σ (i + length D) ≡ keep (i + length E)
 carry_past [] E σ i = ap (λ j. keep (beyond E j)) (none i) ∙ ap keep (beyond_is E i)
   where
     none : (i : ℕ) → i + 0 ≡ i
@@ -78,7 +70,7 @@ put_at υ (c ∷ bs) zero b e = (_, refl, ap (λ (d : BlockVariable). d.block) (
 put_at υ (c ∷ bs) (suc k) b e = put_at υ bs k b e
 
 -- the same entry, over other variables
-follows_entry : (θ : ℕ → ℕ → Image) (υ : ℕ → Image) (m n : ℕ) → ((i : ℕ) → υ (i + m) ≡ keep (i + n)) → (e : Option EntryConstant) → FollowsRead υ (read_entry θ m e) (read_entry θ n e)
+pub follows_entry : (θ : ℕ → ℕ → Image) (υ : ℕ → Image) (m n : ℕ) → ((i : ℕ) → υ (i + m) ≡ keep (i + n)) → (e : Option EntryConstant) → FollowsRead υ (read_entry θ m e) (read_entry θ n e)
 follows_entry θ υ m n h None = tt
 follows_entry θ υ m n h (Some e) = (refl, at (θ e.number e.place))
   where
@@ -126,12 +118,12 @@ put_in_holds_as Σ Σ' ok S x W typed first free C D tc td υ p fits own G w θ 
     zeroth (Some (B, φ)) (b, q, r, s) = let (d, u, v) = put_at υ C.blocks zero b q in (d, ap (λ bs. block_at bs zero) p.blocks ∙ u, v ∙ r, s)
 
 -- renamed terms as terms with values put in
-all_renamed : (n : ℕ) (r : ℕ → ℕ) (τ : ℕ → Image) → ((i : ℕ) → τ i ≡ keep (r i)) → (Ms : List (Option Term)) → put_in τ Ms ≡ rename_all r Ms
+pub all_renamed : (n : ℕ) (r : ℕ → ℕ) (τ : ℕ → Image) → ((i : ℕ) → τ i ≡ keep (r i)) → (Ms : List (Option Term)) → put_in τ Ms ≡ rename_all r Ms
 all_renamed n r τ h [] = refl
 all_renamed n r τ h (Some M ∷ Ms) = ap₂ (λ N Ns. Some N ∷ Ns) (ap (λ υ. substitute reduce υ M) (fun_ext h) ∙ substitution_as_renaming reduce r M) (all_renamed n r τ h Ms)
 all_renamed n r τ h (None ∷ Ms) = ap (λ Ns. None ∷ Ns) (all_renamed n r τ h Ms)
 
-lifted_keep : (L : List LfType) (r : ℕ → ℕ) (i : ℕ) → lift_over L (λ j. keep (r j)) i ≡ keep (lift_renaming_by (length L) r i)
+pub lifted_keep : (L : List LfType) (r : ℕ → ℕ) (i : ℕ) → lift_over L (λ j. keep (r j)) i ≡ keep (lift_renaming_by (length L) r i)
 lifted_keep [] r i = refl
 lifted_keep (A ∷ L) r zero = refl
 lifted_keep (A ∷ L) r (suc i) = ap (rename_image suc) (lifted_keep L r i)

@@ -35,7 +35,9 @@ use Rattle.lf_coverage.proofs.EntrySignature.{else_second, locals_typed, entries
 use Rattle.lf_coverage.proofs.EntryValues.{put_locals, after_entries, some_equal, some_typed}
 use Rattle.lf_coverage.proofs.GroundTyped.{front_typed}
 use Rattle.lf_coverage.proofs.ItemsContext.{outer_context}
-use Rattle.lf_coverage.proofs.NumberedTyped.{among_worlds, own_long_constant, append_nothing}
+use Rattle.lf_coverage.proofs.NumberedTyped.{append_nothing}
+use Rattle.lf_coverage.proofs.OwnLong.{constant_own as own_long_constant}
+use Rattle.lf_coverage.proofs.NumberedTypedFree.{among_worlds}
 use Rattle.lf_coverage.proofs.OwnTerms.{entry_from}
 use Rattle.lf_coverage.proofs.Parts.{some_same}
 use mathlib.Core.Path.{fun_ext}
@@ -45,7 +47,7 @@ terms_of_block [] k b e = absurd cc
 terms_of_block (c ∷ bs) zero b e = ap (λ (d : BlockVariable). Some d.terms) (some_same e)
 terms_of_block (c ∷ bs) (suc k) b e = terms_of_block bs k b e
 
-typed_at : (Σ : Signature) (W : List Block) (X : List LfType) (o : ℕ → Option Spine) (bs : List BlockVariable) → AreTypedBlockVariables Σ W X o bs → (k : ℕ) (b : BlockVariable) → block_at bs k ≡ Some b → Member b.block W × AreSomeTerms Σ X b.block.some b.terms × SpineOnOwnTerms o b.terms
+pub typed_at : (Σ : Signature) (W : List Block) (X : List LfType) (o : ℕ → Option Spine) (bs : List BlockVariable) → AreTypedBlockVariables Σ W X o bs → (k : ℕ) (b : BlockVariable) → block_at bs k ≡ Some b → Member b.block W × AreSomeTerms Σ X b.block.some b.terms × SpineOnOwnTerms o b.terms
 typed_at Σ W X o [] t k b e = absurd cc
 typed_at Σ W X o (c ∷ bs) (m, u, p, t) zero b e = subst (λ (d : BlockVariable). Member d.block W × AreSomeTerms Σ X d.block.some d.terms × SpineOnOwnTerms o d.terms) (some_same e) (m, u, p)
 typed_at Σ W X o (c ∷ bs) (m, u, p, t) (suc k) b e = typed_at Σ W X o bs t k b e

@@ -1,5 +1,5 @@
 -- The values of a clause in a case with block variables by number, read and put into a ground instance of the case, are values of the clause there.
-use Rattle.std.proofs.Common.{◌≡◌, ℕ, zero, suc, ◌+◌, List, [], ◌∷◌, length, refl, sym, ap, ◌∙◌, subst, inl, inr, arith}
+use Rattle.std.proofs.Common.{◌≡◌, ℕ, ◌+◌, List, [], ◌∷◌, length, refl, sym, ap, ◌∙◌, subst, inl, inr}
 use Rattle.std.specs.Prelude.{Bool, true, false, Option, None, ◌⊎◌}
 use Rattle.lf.specs.Syntax.{Term, LfType, Skeleton, skeleton}
 use Rattle.lf.specs.Substitution.{Image, keep, put, substitute, substitute_image, substitute_type, reduce, after}
@@ -28,14 +28,18 @@ use Rattle.lf_coverage.specs.Reading.{read, read_type, read_entry, entry_reading
 use Rattle.lf_coverage.proofs.Composing.{composed}
 use Rattle.lf_coverage.proofs.EntrySignature.{entries_kept}
 use Rattle.lf_coverage.proofs.NumberedArguments.{skeleton_only}
-use Rattle.lf_coverage.proofs.NumberedTyped.{old_own, put_old_type}
+use Rattle.lf_coverage.proofs.NumberedTyped.{put_old_type}
+use Rattle.lf_coverage.proofs.NumberedTypedFree.{old_own}
 use Rattle.lf_coverage.proofs.OwnTerms.{old_is_none}
 use Rattle.lf_coverage.proofs.Parts.{none_some}
-use Rattle.lf_coverage.proofs.ReadInstance.{values_fit, value_past, values_typed, inside_onto, heads, ok₁, reading_keeps_typing}
+use Rattle.lf_coverage.proofs.ReadInstance.{heads, reading_keeps_typing}
+use Rattle.lf_coverage.proofs.ReadBlocks.{ok₁}
+use Rattle.lf_coverage.proofs.ReadValues.{values_fit, value_past, values_typed, inside_onto}
 use Rattle.lf_coverage.proofs.ReadSkeletons.{read_has_skeleton}
 use Rattle.lf_coverage.proofs.Reading.{IsOld, type_only, none_read, none_read_type, read_image, skeleton_read, FollowsRead, read_substituted, read_type_substituted}
 use Rattle.lf_coverage.proofs.StayTyped.{value_type}
 use Rattle.lf_coverage.proofs.Transfer.{onto_skeleton}
+use Rattle.lf_coverage.proofs.NearOrFar.{onto_cases}
 
 -- what has a skeleton has it in a larger context
 inside_term : (κ : HeadSkeletons) (Γ Δ : List Skeleton) (M : Term) (t : Skeleton) → ((i : ℕ) (s : Skeleton) → SkeletonAt Γ i s → SkeletonAt Δ i s) → TermSkeleton κ Γ M t → TermSkeleton κ Δ M t
@@ -45,22 +49,6 @@ inside_term κ Γ Δ M t h m = subst (λ N. TermSkeleton κ Δ N t) (rename_iden
 pub typed_inside : (Σ : Signature) (G O : List LfType) (y : Image) (A : LfType) → ImageHasType Σ G y A → ImageSkeleton (constant_skeletons Σ) (context_skeletons (onto G O)) y (skeleton A)
 typed_inside Σ G O (keep j) A h = inside_onto G O j (skeleton A) (variable_has_skeleton G j A h)
 typed_inside Σ G O (put a N) A (e, n) = (sym e, inside_term (constant_skeletons Σ) (context_skeletons G) (context_skeletons (onto G O)) N a (inside_onto G O) (subst (TermSkeleton (constant_skeletons Σ) (context_skeletons G) N) e (typed_has_skeleton Σ G N A n)))
-
--- a variable of a context on top of another is one of either
-pub onto_cases : (X H : List LfType) (i : ℕ) (t : Skeleton) → SkeletonAt (context_skeletons (onto X H)) i t → SkeletonAt (context_skeletons X) i t ⊎ ((j : ℕ) × (i ≡ j + length X) × SkeletonAt (context_skeletons H) j t)
-onto_cases [] H i t g = inr (i, none i, g)
-  where
-    none : (i : ℕ) → i ≡ i + 0
-    none i = omega arith
-onto_cases (A ∷ X) H zero t g = inl g
-onto_cases (A ∷ X) H (suc i) t g = next (onto_cases X H i t g)
-  where
-    step : (i j n : ℕ) → i ≡ j + n → suc i ≡ j + suc n
-    step i j n e = omega (arith, e)
-
-    next : SkeletonAt (context_skeletons X) i t ⊎ ((j : ℕ) × (i ≡ j + length X) × SkeletonAt (context_skeletons H) j t) → SkeletonAt (context_skeletons X) i t ⊎ ((j : ℕ) × (suc i ≡ j + suc (length X)) × SkeletonAt (context_skeletons H) j t)
-    next (inl g) = inl g
-    next (inr (j, e, g)) = inr (j, step i j (length X) e, g)
 
 module _ (Σ Σ' : Signature) (ok : IsSignature Σ) (S : ℕ → Bool) (x : Extends S Σ Σ') (W : List Block) (typed : AreTypedBlocks Σ W) (first : ℕ) (free : IsFreeFrom Σ first) (C : NumberedCase) (tv : AreTypedVariables Σ first W C) {G : List LfType} (w : World Σ' W S G) (θ : ℕ → ℕ → Image) (σ : ℕ → Image) (inst : IsNumberedInstance w first C θ σ) (O : List LfType) (ct : IsContext Σ O) (U : ℕ → Bool) (τ : ℕ → Image) (vs : Values (with_entries Σ first (blocks_of C.blocks)) U O C.variables τ) (own : (i : ℕ) → U i ≡ true → ImageOnOwnTerms (own_terms first C.blocks) (τ i)) where
   abbrev X : List LfType
@@ -74,10 +62,6 @@ module _ (Σ Σ' : Signature) (ok : IsSignature Σ) (S : ℕ → Bool) (x : Exte
 
   abbrev κ' : HeadSkeletons
   κ' = constant_skeletons Σ'
-
-  -- behind the context stand the variables of the clause, for those that have no value
-  abbrev pub beside : List LfType
-  beside = onto G O
 
   abbrev Θ : List Skeleton
   Θ = context_skeletons (onto X (onto G O))

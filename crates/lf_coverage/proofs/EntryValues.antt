@@ -26,7 +26,8 @@ use Rattle.lf_coverage.specs.Reading.{drop_arguments, weaken_read, read_constant
 use Rattle.lf_coverage.specs.NumberedCase.{some_spine}
 use Rattle.lf_coverage.proofs.EntrySignature.{add_typed}
 use Rattle.lf_coverage.proofs.Reading.{under_read, weakened_read, drop_renamed, read_spine_renamed, read_image}
-use Rattle.lf_coverage.proofs.ReadSkeletons.{count_renamed, count_read}
+use Rattle.lf_coverage.proofs.ReadSkeletons.{count_read}
+use Rattle.lf_coverage.proofs.HeadItems.{length_renamed as count_renamed}
 use Rattle.lf_coverage.proofs.GroundTyped.{behind_one}
 use mathlib.Core.Path.{fun_ext}
 
@@ -44,11 +45,11 @@ drop_all : (S : Spine) → drop_arguments (argument_count S) S ≡ nil
 drop_all nil = refl
 drop_all (app M S) = drop_all S
 
-read_add : (f : ℕ → Option (ℕ × ℕ)) (S : Spine) (N : Term) → read_spine f (add_last S N) ≡ add_last (read_spine f S) (read f N)
+pub read_add : (f : ℕ → Option (ℕ × ℕ)) (S : Spine) (N : Term) → read_spine f (add_last S N) ≡ add_last (read_spine f S) (read f N)
 read_add f nil N = refl
 read_add f (app M S) N = ap (app (read f M)) (read_add f S N)
 
-put_add : (σ : ℕ → Image) (S : Spine) (N : Term) → substitute_spine reduce σ (add_last S N) ≡ add_last (substitute_spine reduce σ S) (substitute reduce σ N)
+pub put_add : (σ : ℕ → Image) (S : Spine) (N : Term) → substitute_spine reduce σ (add_last S N) ≡ add_last (substitute_spine reduce σ S) (substitute reduce σ N)
 put_add σ nil N = refl
 put_add σ (app M S) N = ap (app (substitute reduce σ M)) (put_add σ S N)
 

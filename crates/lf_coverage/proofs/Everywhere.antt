@@ -44,11 +44,11 @@ same_opened : (k : ℕ) (A : LfType) → SameFamilies A (open_type k A)
 same_opened k (pi A B) = (same_opened k A, same_opened (suc k) B)
 same_opened k (atom a S) = refl
 
-same_filled : (μ : ℕ → Skeleton) (β : ℕ → Option Term) (A : LfType) → SameFamilies A (fill_type μ β A)
+pub same_filled : (μ : ℕ → Skeleton) (β : ℕ → Option Term) (A : LfType) → SameFamilies A (fill_type μ β A)
 same_filled μ β (pi A B) = (same_filled μ β A, same_filled μ (moved suc β) B)
 same_filled μ β (atom a S) = refl
 
-same_put : {Ψ : ℕ → Option LfType} {bs : List Binding} {k : ℕ} {A A' : LfType} → PutsInType Ψ bs k A A' → SameFamilies A A'
+pub same_put : {Ψ : ℕ → Option LfType} {bs : List Binding} {k : ℕ} {A A' : LfType} → PutsInType Ψ bs k A A' → SameFamilies A A'
 same_put (put_in_atom s) = refl
 same_put (put_in_pi a b) = (same_put a, same_put b)
 
@@ -64,7 +64,7 @@ module _ (P : LfType → Type 0) (kept : IsOfFamilies P) where
   each_at (X ∷ G) (x, h) zero A e = subst P (sym e) (kept.there X (weaken X) (same_renamed suc X) x)
   each_at (X ∷ G) (x, h) (suc i) A (B, g, e) = subst P (sym e) (kept.there B (weaken B) (same_renamed suc B) (each_at G h i B g))
 
-  each_from : (G : List LfType) → ((i : ℕ) (A : LfType) → TypeAt G i A → P A) → AllByRecursion P G
+  pub each_from : (G : List LfType) → ((i : ℕ) (A : LfType) → TypeAt G i A → P A) → AllByRecursion P G
   each_from [] h = tt
   each_from (A ∷ G) h = (kept.back A (weaken A) (same_renamed suc A) (h zero (weaken A) refl), each_from G (λ i B g. kept.back B (weaken B) (same_renamed suc B) (h (suc i) (weaken B) (B, g, refl))))
 
@@ -72,7 +72,7 @@ module _ (P : LfType → Type 0) (kept : IsOfFamilies P) where
   each_onto [] G d g = g
   each_onto (A ∷ D) G (a, d) g = (a, each_onto D G d g)
 
-  each_before : (D : List LfType) → AllByRecursion P (onto D []) → AllByRecursion P D
+  pub each_before : (D : List LfType) → AllByRecursion P (onto D []) → AllByRecursion P D
   each_before [] d = tt
   each_before (A ∷ D) (a, d) = (a, each_before D d)
 

@@ -19,10 +19,11 @@ use Rattle.lf_totality.proofs.After.{Extends-self}
 use Rattle.lf_totality.proofs.ExampleLemmas.{below_itself}
 use Rattle.lf_totality.proofs.ExamplesCases.{plus_zero_covered, plus_successor_covered}
 use Rattle.lf_coverage.specs.HeadOrder.{Offer, AreInOrder, constant_rank, one_offered, next_offered}
-use Rattle.lf_coverage.specs.Heads.{Keeps, GivesCase, AreOffers, no_offer, with_case, SplitsByHeads, IsTypedCase, ArgumentsAreBelow}
+use Rattle.lf_coverage.specs.Heads.{Keeps, GivesCase, AreOffers, SplitsByHeads, IsTypedCase, ArgumentsAreBelow}
+use Rattle.lf_coverage.specs.Listed.{no_offer, with_case}
 use Rattle.lf_coverage.specs.Examples.{PlusIsSplitByHeads, PlusIsCoveredByHeads, HeadsAreAll}
-use Rattle.lf_coverage.proofs.Runs.{head_split_is_split, head_splits_cover}
 use Rattle.lf_coverage.proofs.Parts.{some_same}
+use Rattle.lf_coverage.proofs.Runs.{head_split_is_split, head_splits_cover}
 
 abbrev pub S : ℕ → Bool
 S b = first_below_second 1 b

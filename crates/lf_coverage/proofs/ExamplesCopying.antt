@@ -1,6 +1,6 @@
 -- A whole run with a block, split by split.
 use Rattle.std.proofs.Common.{◌≡◌, ℕ, zero, suc, List, [], ◌∷◌, refl, sym, ap, ◌∙◌, subst, inl, inr}
-use Rattle.std.specs.Prelude.{Bool, true}
+use Rattle.std.specs.Prelude.{Bool, true, Option}
 use Rattle.lf.specs.Syntax.{Head, Term, constant, variable, lambda, nil, LfType, pi, base, arrow, star}
 use Rattle.lf.specs.AtOnce.{in_front}
 use Rattle.lf.specs.Skeletons.{constant_skeletons, context_skeletons}
@@ -8,22 +8,20 @@ use Rattle.lf.specs.Substitution.{Image, keep, put, apply_image, substitute, red
 use Rattle.lf.specs.Typing.{Signature, TypeAt, HasType}
 use Rattle.lf.specs.Subordination.{Member}
 use Rattle.lf.specs.Worlds.{World, lift_over}
-use Rattle.lf.proofs.Decidability.{variable_type_unique}
 use Rattle.lf.proofs.ToSkeletons.{typed_has_skeleton}
-use Rattle.lf_cases.specs.Case.{Item, free_variable, as_term, entries_in_front, items_context, IsGroundInstance}
+use Rattle.lf_cases.specs.Case.{Item, Case, free_variable, as_term, entries_in_front, items_context, IsGroundInstance}
 use Rattle.lf_cases.specs.Missing.{AreTypedItems, IsTypedInstance}
 use Rattle.lf_cases.specs.Reached.{SplitHead, with_block}
 use Rattle.lf_totality.specs.Examples.{Copying, applied_to, application, block_case, copy_block, exp, first_below_second, function, lam, var}
 use Rattle.lf_totality.specs.ExamplesReached.{cp_lam_case}
 use Rattle.lf_coverage.specs.Examples.{copy_offers}
 use Rattle.lf_coverage.specs.ExamplesCopying.{copy_worlds, copy_goal, copy_app_case, copy_cases}
-use Rattle.lf_coverage.specs.Heads.{ArgumentsAreBelow, GivesCase, IsHeadSplit, Keeps, no_offer, with_case}
+use Rattle.lf_coverage.specs.HeadOrder.{Offer}
+use Rattle.lf_coverage.specs.Heads.{ArgumentsAreBelow, IsSplitBelow, GivesCase, IsHeadSplit, Keeps}
+use Rattle.lf_coverage.specs.Listed.{Listed, no_offer, with_case}
+use Rattle.lf_coverage.proofs.ExamplesGiven.{PutsIn, gives_case}
 use Rattle.lf_coverage.proofs.ExamplesOrder.{copy_heads_in_order}
 use Rattle.lf_coverage.proofs.StoreSolution.{value_at}
-
--- what a variable of these items is given, as a term
-type_at : (G : List LfType) (i : ℕ) (A B : LfType) → TypeAt G i A → TypeAt G i B → A ≡ B
-type_at G i A B g h = variable_type_unique G i A B g h
 
 -- X is the term lam E
 abbrev pub lam_values : ℕ → Image
@@ -80,9 +78,6 @@ entry_same X θ τ υ ρ e d s (suc (suc zero)) A q =
 entry_same X θ τ υ ρ e d s (suc (suc (suc i))) A (B, (C, (D, q, r), r'), r'') = absurd q
 
 -- typings
-abbrev pub V : (G : List LfType) (i : ℕ) → TypeAt G i exp → HasType Copying G (var i) exp
-V G i g = (exp, g, refl)
-
 pub lam_typed : HasType Copying (function ∷ []) (lam (applied_to 1 0)) exp
 lam_typed = (pi function exp, refl, ((function, (function, refl, refl), ((exp, refl, refl), refl)), refl))
 
@@ -106,6 +101,30 @@ app_instance = (var 0, in_front (put (base 0) (var 1)) (in_front (put (base 0) (
 
 pub entry_instance : IsTypedInstance Copying block_case.items entry_items entry_values
 entry_instance = (whole, in_front (put (base 0) (var 1)) keep, (var 1, keep, tt, (exp, (exp, refl, refl), refl), refl), inl (refl, refl), (λ i A g. absurd g), refl)
+
+-- the cases that the heads make
+abbrev pub lam_made : PutsIn Copying copy_worlds first_below_second copy_goal exp (free_variable exp ∷ []) 0 (pi function exp) cp_lam_case
+lam_made = record { values = lam_values; typed_items = lam_items_typed; is_instance = lam_instance; given = refl; local = refl; family = refl; arguments = refl }
+
+abbrev pub app_made : PutsIn Copying copy_worlds first_below_second copy_goal exp (free_variable exp ∷ []) 0 (pi exp (pi exp exp)) copy_app_case
+app_made = record { values = app_values; typed_items = app_items_typed; is_instance = app_instance; given = refl; local = refl; family = refl; arguments = refl }
+
+abbrev pub entry_made : PutsIn Copying copy_worlds first_below_second copy_goal exp entry_items 2 exp block_case
+entry_made = record { values = entry_values; typed_items = block_items_typed; is_instance = entry_instance; given = refl; local = refl; family = refl; arguments = refl }
+
+-- the types of the three heads
+below_of : (J : List Item) (n : ℕ) (h : Head) (A : LfType) → Member (record { items = J; moved = n; head = h; type = A }) copy_offers → ArgumentsAreBelow first_below_second A
+below_of J n h A (inl e) = subst (ArgumentsAreBelow first_below_second) (sym (ap (λ o. o.type) e)) ((refl, refl), tt)
+below_of J n h A (inr (inl e)) = subst (ArgumentsAreBelow first_below_second) (sym (ap (λ o. o.type) e)) (refl, (refl, tt))
+below_of J n h A (inr (inr (inl e))) = subst (ArgumentsAreBelow first_below_second) (sym (ap (λ o. o.type) e)) tt
+below_of J n h A (inr (inr (inr e))) = absurd e
+
+pub copy_below : (J : List Item) (n : ℕ) (h : Head) (A : LfType) → SplitHead Copying copy_worlds copy_goal.items exp J n h A → ArgumentsAreBelow first_below_second A
+copy_below J n h A s = below_of J n h A (copy_heads_in_order.0.every J n h A s)
+
+-- they are offered to the goal, whatever is answered to them
+abbrev pub copy_answered : {Answer : LfType → Offer → Option Case → Type 0} {Cs : List Case} → Listed (Answer exp) copy_offers Cs → IsSplitBelow Copying copy_worlds first_below_second Answer copy_goal 0 Cs
+copy_answered l = record { answered = record { type = exp; at = refl; is_free = refl; offers = copy_offers; are_offers = copy_heads_in_order.0; in_order = copy_heads_in_order.1; listed = l }; takes_below = tt; arguments_below = copy_below }
 
 module _ (S : ℕ → Bool) where
   module _ (Σ : Signature) {G : List LfType} (w : World Σ copy_worlds S G) where
@@ -137,65 +156,13 @@ module _ (S : ℕ → Bool) where
     }
 
   pub lam_given : GivesCase Copying copy_worlds S first_below_second copy_goal 0 exp (free_variable exp ∷ []) 0 (constant 0) (pi function exp) cp_lam_case
-  lam_given = record {
-    values = lam_values;
-    typed_items = lam_items_typed;
-    is_instance = lam_instance;
-    keeps = λ Σ x G w τ t. keeps_lam Σ w τ t.is_ground t.same;
-    given = refl;
-    local = refl;
-    family = refl;
-    arguments = refl;
-  }
+  lam_given = gives_case lam_made 0 (constant 0) S (λ Σ x G w τ t. keeps_lam Σ w τ t.is_ground t.same)
 
   pub app_given : GivesCase Copying copy_worlds S first_below_second copy_goal 0 exp (free_variable exp ∷ []) 0 (constant 2) (pi exp (pi exp exp)) copy_app_case
-  app_given = record {
-    values = app_values;
-    typed_items = app_items_typed;
-    is_instance = app_instance;
-    keeps = λ Σ x G w τ t. keeps_app Σ w τ t.is_ground t.same;
-    given = refl;
-    local = refl;
-    family = refl;
-    arguments = refl;
-  }
+  app_given = gives_case app_made 0 (constant 2) S (λ Σ x G w τ t. keeps_app Σ w τ t.is_ground t.same)
 
   pub entry_given : GivesCase Copying copy_worlds S first_below_second copy_goal 0 exp entry_items 2 (variable 1) exp block_case
-  entry_given = record {
-    values = entry_values;
-    typed_items = block_items_typed;
-    is_instance = entry_instance;
-    keeps = λ Σ x G w τ t. keeps_entry Σ w τ t.is_ground t.same;
-    given = refl;
-    local = refl;
-    family = refl;
-    arguments = refl;
-  }
-
-  -- the types of the three heads
-  below_of : (J : List Item) (n : ℕ) (h : Head) (A : LfType) → Member (record { items = J; moved = n; head = h; type = A }) copy_offers → ArgumentsAreBelow first_below_second A
-  below_of J n h A (inl e) = subst (ArgumentsAreBelow first_below_second) (sym (ap (λ o. o.type) e)) ((refl, refl), tt)
-  below_of J n h A (inr (inl e)) = subst (ArgumentsAreBelow first_below_second) (sym (ap (λ o. o.type) e)) (refl, (refl, tt))
-  below_of J n h A (inr (inr (inl e))) = subst (ArgumentsAreBelow first_below_second) (sym (ap (λ o. o.type) e)) tt
-  below_of J n h A (inr (inr (inr e))) = absurd e
-
-  pub copy_below : (J : List Item) (n : ℕ) (h : Head) (A : LfType) → SplitHead Copying copy_worlds copy_goal.items exp J n h A → ArgumentsAreBelow first_below_second A
-  copy_below J n h A s = below_of J n h A (copy_heads_in_order.0.every J n h A s)
+  entry_given = gives_case entry_made 0 (variable 1) S (λ Σ x G w τ t. keeps_entry Σ w τ t.is_ground t.same)
 
   pub copy_split : S 0 ≡ true → IsHeadSplit Copying copy_worlds S first_below_second copy_goal 0 copy_cases
-  copy_split z = record {
-    split = record {
-      answered = record {
-        type = exp;
-        at = refl;
-        is_free = refl;
-        offers = copy_offers;
-        are_offers = copy_heads_in_order.0;
-        in_order = copy_heads_in_order.1;
-        listed = with_case lam_given (with_case app_given (with_case entry_given no_offer));
-      };
-      takes_below = tt;
-      arguments_below = copy_below;
-    };
-    families = z;
-  }
+  copy_split z = record { split = copy_answered (with_case lam_given (with_case app_given (with_case entry_given no_offer))); families = z }

@@ -3,9 +3,9 @@ use Rattle.std.proofs.Common.{◌≡◌, ℕ, zero, suc, List, [], ◌∷◌, re
 use Rattle.std.specs.Prelude.{Bool, true, false, Some, None}
 use Rattle.lf.specs.Syntax.{constant, variable, nil, app, LfType, Kind, pi, base, arrow, star, skeleton}
 use Rattle.lf.specs.AtOnce.{in_front}
-use Rattle.lf.specs.Substitution.{Image, keep, put, rename_image, apply_image, substitute, substitute_spine, substitute_type, reduce}
+use Rattle.lf.specs.Substitution.{Image, keep, put, substitute, reduce}
 use Rattle.lf.specs.Typing.{TypeAt}
-use Rattle.lf.specs.Variables.{target_arguments, Values, UsesType, FamiliesIn, KindFamiliesIn, Within}
+use Rattle.lf.specs.Variables.{FamiliesIn, KindFamiliesIn}
 use Rattle.lf.specs.Subordination.{Block, Member, AreTypedBlocks, IsTypedBlock, IsDeclared, SelfContained}
 use Rattle.lf.specs.Worlds.{World, no_variables, whole_instance, begin_instance, next_entry}
 use Rattle.lf_checks.specs.Below.{IsSubordination}
@@ -18,12 +18,12 @@ use Rattle.lf_totality.specs.ExamplesReached.{cp_lam_case}
 use Rattle.lf_totality.proofs.After.{Extends-self}
 use Rattle.lf_totality.proofs.Copying.{copying_ok, copying_lasts}
 use Rattle.lf_totality.proofs.ExampleLemmas.{below_itself}
-use Rattle.lf_coverage.specs.Examples.{copy_offers}
 use Rattle.lf_coverage.specs.ExamplesCopying.{copy_worlds, copy_goal, copy_app_case, copy_cases, CopyIsSplitByHeads, CopyCasesAreAnswer}
-use Rattle.lf_coverage.specs.Heads.{IsHeadSplit, IsTypedCase, no_offer, with_case}
+use Rattle.lf_coverage.specs.Heads.{IsHeadSplit, IsTypedCase}
+use Rattle.lf_coverage.specs.Listed.{no_offer, with_case}
 use Rattle.lf_coverage.proofs.Examples.{plus_subordination}
-use Rattle.lf_coverage.proofs.ExamplesCopying.{lam_values, lam_items, lam_same, app_values, app_items, app_same, two_terms, entry_values, entry_items, entry_same, lam_items_typed, app_items_typed, block_items_typed, lam_instance, app_instance, entry_instance, copy_below, copy_split}
-use Rattle.lf_coverage.proofs.ExamplesOrder.{copy_heads_in_order}
+use Rattle.lf_coverage.proofs.ExamplesGiven.{is_split_by}
+use Rattle.lf_coverage.proofs.ExamplesCopying.{copy_answered, lam_made, app_made, entry_made, lam_values, lam_items, lam_same, app_values, app_items, app_same, two_terms, entry_values, entry_items, entry_same, copy_split}
 use Rattle.lf_coverage.proofs.Runs.{head_split_is_split}
 use Rattle.lf_coverage.proofs.Parts.{some_same}
 
@@ -75,71 +75,26 @@ goal_typed = record { items = (tt, (star, refl, tt)); given = tt; arguments = ((
 
 -- most general typed instances
 pub lam_split : IsSplitBy Copying copy_worlds first_below_second copy_goal 0 exp (free_variable exp ∷ []) 0 (constant 0) (pi function exp) cp_lam_case
-lam_split = record {
-  values = lam_values;
-  unifier = record {
-    typed_items = lam_items_typed;
-    unifies = record { is_instance = lam_instance; keeps_apart = tt; same = refl };
-    most_general = λ F τ t u. general F τ u.is_instance u.same;
-  };
-  given = refl;
-  local = refl;
-  family = refl;
-  arguments = refl;
-}
+lam_split = is_split_by lam_made 0 (constant 0) tt refl general
   where
     general : (F : List Item) (τ : ℕ → Image) → IsTypedInstance Copying F lam_items τ → as_term (base 0) (τ 1) ≡ substitute reduce τ (lam (applied_to 1 0)) → (ρ : ℕ → Image) × IsTypedInstance Copying F cp_lam_case.items ρ × ((i : ℕ) (A : LfType) → TypeAt (items_context lam_items) i A → as_term (skeleton A) (τ i) ≡ as_term (skeleton A) (Rattle.lf.specs.Substitution.after ρ lam_values i))
     general F τ (H, υ, (X, ρ, t, hx, d), hh, e) s = (in_front (put (arrow (base 0) (base 0)) H) keep, (H, keep, tt, hh, refl), λ i A q. ap (as_term (skeleton A)) (lam_same Copying (items_context F) H X τ υ ρ hh e d s i A q))
 
 pub app_split : IsSplitBy Copying copy_worlds first_below_second copy_goal 0 exp (free_variable exp ∷ []) 0 (constant 2) (pi exp (pi exp exp)) copy_app_case
-app_split = record {
-  values = app_values;
-  unifier = record {
-    typed_items = app_items_typed;
-    unifies = record { is_instance = app_instance; keeps_apart = tt; same = refl };
-    most_general = λ F τ t u. general F τ u.is_instance u.same;
-  };
-  given = refl;
-  local = refl;
-  family = refl;
-  arguments = refl;
-}
+app_split = is_split_by app_made 0 (constant 2) tt refl general
   where
     general : (F : List Item) (τ : ℕ → Image) → IsTypedInstance Copying F app_items τ → as_term (base 0) (τ 2) ≡ substitute reduce τ (application (var 1) (var 0)) → (ρ : ℕ → Image) × IsTypedInstance Copying F copy_app_case.items ρ × ((i : ℕ) (A : LfType) → TypeAt (items_context app_items) i A → as_term (skeleton A) (τ i) ≡ as_term (skeleton A) (Rattle.lf.specs.Substitution.after ρ app_values i))
     general F τ (N, υ, (M, χ, (X, ρ, t, hx, c), hm, d), hn, e) s = (two_terms M N, (N, in_front (put (base 0) M) keep, (M, keep, tt, hm, refl), hn, refl), λ i A q. ap (as_term (skeleton A)) (app_same M N X τ υ χ ρ e d c s i A q))
 
 pub entry_split : IsSplitBy Copying copy_worlds first_below_second copy_goal 0 exp entry_items 2 (variable 1) exp block_case
-entry_split = record {
-  values = entry_values;
-  unifier = record {
-    typed_items = block_items_typed;
-    unifies = record { is_instance = entry_instance; keeps_apart = ((λ f. f), tt); same = refl };
-    most_general = λ F τ t u. general F τ u.is_instance u.same;
-  };
-  given = refl;
-  local = refl;
-  family = refl;
-  arguments = refl;
-}
+entry_split = is_split_by entry_made 0 (variable 1) ((λ f. f), tt) refl general
   where
     general : (F : List Item) (τ : ℕ → Image) → IsTypedInstance Copying F entry_items τ → as_term (base 0) (τ 2) ≡ substitute reduce τ (var 1) → (ρ : ℕ → Image) × IsTypedInstance Copying F block_case.items ρ × ((i : ℕ) (A : LfType) → TypeAt (items_context entry_items) i A → as_term (skeleton A) (τ i) ≡ as_term (skeleton A) (Rattle.lf.specs.Substitution.after ρ entry_values i))
     general F τ (θ, υ, (X, ρ, t, hx, d), b, o, e) s = (entries_in_front copy_block.entries θ keep, (θ, keep, tt, b, (λ i A g. absurd g), refl), λ i A q. ap (as_term (skeleton A)) (entry_same X θ τ υ ρ e d s i A q))
 
 pub copy_answer : CopyCasesAreAnswer
 copy_answer = record {
-  listed = record {
-    answered = record {
-      type = exp;
-      at = refl;
-      is_free = refl;
-      offers = copy_offers;
-      are_offers = copy_heads_in_order.0;
-      in_order = copy_heads_in_order.1;
-      listed = with_case lam_split (with_case app_split (with_case entry_split no_offer));
-    };
-    takes_below = tt;
-    arguments_below = copy_below (λ a. true);
-  };
+  listed = copy_answered (with_case lam_split (with_case app_split (with_case entry_split no_offer)));
   holds = λ S sc z. head_split_is_split Copying copying_ok copy_worlds copy_typed first_below_second copy_subordination S sc copy_goal goal_typed 0 copy_cases (copy_split S z);
 }
 

@@ -5,13 +5,13 @@ use Rattle.lf.specs.Syntax.{metavariable, constant, variable, Term, Spine, lambd
 use Rattle.lf.specs.Variables.{everything, KindFamiliesIn, same_number, target}
 use Rattle.lf_checks.proofs.Reach.{number_equal}
 use Rattle.lf_unification.specs.Reach.{in_term, in_type}
-use Rattle.lf_coverage.specs.ExamplesIndices.{Indexed, NestedHasNone, NestedIsNoPattern, Taking, TypeHoldsEquation, UsualFamiliesHavePatterns, VectorsAreLayers, exp, indexed_below, indexed_types, next_number, number, number_types, taking_type, tp, without_indices}
 use Rattle.lf_unification.specs.Patterns.{pattern}
-use Rattle.lf_coverage.specs.PatternStores.{AreDistinct, ArePatternArguments, IsPatternTerm}
-use Rattle.lf_coverage.specs.SplitStore.{context_metavariables}
-use Rattle.lf_coverage.specs.PatternRuns.{HaveNoIndices}
+use Rattle.lf_coverage.specs.ExamplesIndices.{Indexed, NestedHasNone, NestedIsNoPattern, Taking, TypeHoldsEquation, UsualFamiliesHavePatterns, VectorsAreLayers, exp, indexed_below, indexed_types, next_number, number, number_types, taking_type, tp, without_indices}
 use Rattle.lf_coverage.specs.Indices.{ConstantsHavePatterns, head_has_patterns}
 use Rattle.lf_coverage.specs.IndicesLeft.{circular_by_type}
+use Rattle.lf_coverage.specs.PatternRuns.{HaveNoIndices}
+use Rattle.lf_coverage.specs.PatternStores.{AreDistinct, ArePatternArguments, IsPatternTerm}
+use Rattle.lf_coverage.specs.SplitStore.{context_metavariables}
 use Rattle.lf_coverage.proofs.IndicesNever.{TypesPlain}
 use Rattle.lf_coverage.proofs.IndicesPlain.{never_held}
 use Rattle.lf_coverage.proofs.IndicesPruned.{PlainType}

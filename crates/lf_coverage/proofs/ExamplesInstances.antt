@@ -11,8 +11,8 @@ use Rattle.lf_coverage.specs.ExamplesInstances.{EntryIsHead, SecondIsApart, Bind
 use Rattle.lf_coverage.specs.NewBlock.{with_new_block}
 use Rattle.lf_coverage.specs.NewInstance.{AreApart, with_instance}
 use Rattle.lf_coverage.specs.NumberedHeads.{IsNumberedHead, StandsForNone, of_signature, of_entry}
-use Rattle.lf_coverage.proofs.StaysApart.{new_instance_stays_apart}
 use Rattle.lf_coverage.proofs.Parts.{some_same}
+use Rattle.lf_coverage.proofs.StaysApart.{new_instance_stays_apart}
 
 pub entry_is_head : EntryIsHead
 entry_is_head = (of_entry 4 0 1 exp refl refl refl, of_signature 0 _ refl refl, refused)

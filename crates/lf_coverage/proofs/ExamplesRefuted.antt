@@ -17,18 +17,19 @@ use Rattle.lf_cases.specs.Case.{Item, free_variable, Case, items_context}
 use Rattle.lf_cases.specs.Reached.{SplitHead, constant_head, bound_head, entry_head, new_entry_head}
 use Rattle.lf_totality.specs.Examples.{Addition, addition_types, nat, z, successor, on_three, first_below_second, plus_kind, plus_input_goal, plus_zero_case, plus_successor_case}
 use Rattle.lf_totality.proofs.Addition.{addition_ok}
-use Rattle.lf_coverage.specs.ExamplesRefuted.{KeptIsSplit, KeptIsWithin, PlusRunIsAtCandidate, SuccessorIsRefuted, kept_case, kept_items, kept_zero_case, kept_successor_case}
+use Rattle.lf_cases.specs.Split.{at_leaf, by_split, next_case, no_case}
 use Rattle.lf_coverage.specs.ExamplesMatching.{plus_z_head}
+use Rattle.lf_coverage.specs.ExamplesRefuted.{KeptIsSplit, KeptIsWithin, PlusRunIsAtCandidate, SuccessorIsRefuted, kept_case, kept_items, kept_zero_case, kept_successor_case}
 use Rattle.lf_coverage.specs.HeadOrder.{Offer, AreInOrder, constant_rank, next_offered, one_offered}
-use Rattle.lf_coverage.specs.Heads.{AreOffers, IsTypedCase, no_offer, with_case}
+use Rattle.lf_coverage.specs.Heads.{AreOffers, IsTypedCase}
+use Rattle.lf_coverage.specs.Listed.{no_offer, with_case}
 use Rattle.lf_coverage.specs.RefutedSplits.{IsRefutedSplit}
 use Rattle.lf_coverage.specs.SplitStore.{context_metavariables, split_store}
-use Rattle.lf_coverage.proofs.ExamplesSubordinate.{addition_is_tested}
-use Rattle.lf_coverage.proofs.ExamplesUnified.{no_argument, plus_listed, successor_has_unifier, zero_has_unifier}
+use Rattle.lf_coverage.specs.UnifiedSplit.{IsAnsweredSplit}
 use Rattle.lf_coverage.proofs.Examples.{plus_offers, plus_are_offers, plus_in_order}
 use Rattle.lf_coverage.proofs.ExamplesLeaves.{zero_leaf, successor_leaf}
-use Rattle.lf_cases.specs.Split.{at_leaf, by_split, next_case, no_case}
-use Rattle.lf_coverage.specs.UnifiedSplit.{IsAnsweredSplit}
+use Rattle.lf_coverage.proofs.ExamplesSubordinate.{addition_is_tested}
+use Rattle.lf_coverage.proofs.ExamplesUnified.{no_argument, plus_listed, successor_has_unifier, zero_has_unifier}
 use Rattle.lf_coverage.proofs.Parts.{none_some, some_same}
 use Rattle.lf_coverage.proofs.RefutedSplits.{refuted_split_is_answer}
 use Rattle.lf_coverage.proofs.SplitReady.{split_ready}

@@ -1,6 +1,6 @@
 -- The cases of two block variables are those that are to be answered, each by a most general typed instance.
 use Rattle.std.proofs.Common.{◌≡◌, ℕ, suc, List, [], ◌∷◌, ◌+◌, length, refl, sym, ap, ◌∙◌, subst, arith, inl, inr}
-use Rattle.std.specs.Prelude.{Bool, true, ◌⊎◌}
+use Rattle.std.specs.Prelude.{Bool, ◌⊎◌}
 use Rattle.lf.specs.Syntax.{Term, constant, variable, nil, app, LfType, base, skeleton}
 use Rattle.lf.specs.AtOnce.{in_front, shift_by}
 use Rattle.lf.specs.Substitution.{Image, keep, put, rename_image, apply_image, substitute, reduce, after}
@@ -12,44 +12,24 @@ use Rattle.lf_cases.specs.Missing.{BlockAmong, IsTypedInstance, KeepsApart}
 use Rattle.lf_cases.specs.Reached.{GivesNoCase, IsSplitBy}
 use Rattle.lf_totality.specs.Examples.{exp, var}
 use Rattle.lf_coverage.specs.ExamplesTwins.{Twins, twin_block, twin_worlds, twin_goal, one_entry, two_entries, same_entry, entry_alike, same, alike, up_to, TwinCasesAreAnswers}
-use Rattle.lf_coverage.specs.Heads.{IsHeadSplit, IsTypedCase, no_offer, with_case, without_case}
-use Rattle.lf_coverage.proofs.ExamplesTwins.{es, alike_type, first_items, first_values, first_items_typed, first_instance, first_type, first_same, new_items, new_values, second_block, new_items_typed, new_instance, new_type, new_same_values, old_values, old_items_typed, old_instance, old_type, old_same, alike_items, alike_values, alike_items_typed, alike_instance, alike_same, both_items, terms_first, terms_second, new_offer, old_offer, alike_offer, goal_offers, entry_offers, alike_offers, none_same_one, none_same_two, goal_in_order, entry_in_order, alike_in_order, goal_below, entry_below, alike_below, goal_split, entry_split, two_split, alike_split}
+use Rattle.lf_coverage.specs.Heads.{IsHeadSplit, IsTypedCase}
+use Rattle.lf_coverage.specs.Listed.{no_offer, with_case, without_case}
+use Rattle.lf_coverage.proofs.ExamplesGiven.{is_split_by}
+use Rattle.lf_coverage.proofs.ExamplesTwins.{goal_answered, entry_answered, two_answered, alike_answered, first_made, new_made, old_made, alike_made, es, alike_type, first_items, first_values, first_items_typed, first_type, first_same, new_items, new_values, second_block, new_items_typed, new_instance, new_type, new_same_values, old_values, old_items_typed, old_type, old_same, alike_items, alike_values, alike_same, both_items, terms_first, terms_second, goal_split, entry_split, two_split, alike_split}
 use Rattle.lf_coverage.proofs.ExamplesTwinsRun.{goal_typed, twins_ok, twins_typed, twin_subordination}
-use Rattle.lf_coverage.proofs.Runs.{head_split_is_split}
 use Rattle.lf_coverage.proofs.Parts.{some_same, keep_same}
+use Rattle.lf_coverage.proofs.Runs.{head_split_is_split}
 
 -- b.x for X
 pub first_by : IsSplitBy Twins twin_worlds up_to twin_goal 2 exp first_items 2 (variable 1) exp one_entry
-first_by = record {
-  values = first_values;
-  unifier = record {
-    typed_items = first_items_typed;
-    unifies = record { is_instance = first_instance; keeps_apart = ((λ f. f), tt); same = refl };
-    most_general = λ F τ t u. general F τ u.is_instance u.same;
-  };
-  given = refl;
-  local = refl;
-  family = refl;
-  arguments = refl;
-}
+first_by = is_split_by first_made 2 (variable 1) ((λ f. f), tt) refl general
   where
     general : (F : List Item) (τ : ℕ → Image) → IsTypedInstance Twins F first_items τ → as_term (base 0) (τ 4) ≡ substitute reduce τ (var 1) → (ρ : ℕ → Image) × IsTypedInstance Twins F one_entry.items ρ × ((i : ℕ) (A : LfType) → TypeAt (items_context first_items) i A → as_term (skeleton A) (τ i) ≡ as_term (skeleton A) (after ρ first_values i))
     general F τ (θ, υ, (Z, υ1, (Y, υ2, (X, ρ, t, hx, dx), hy, dy), hz, dz), b, o, e) s = (in_front (put (base 1) Z) (in_front (put (base 0) Y) (entries_in_front es θ keep)), (Z, in_front (put (base 0) Y) (entries_in_front es θ keep), (Y, entries_in_front es θ keep, (θ, keep, tt, b, (λ i A g. absurd g), refl), hy, refl), subst (λ A. HasType Twins (items_context F) Z A) (first_type X Y Z θ τ υ υ1 υ2 ρ e dz dy dx s) hz, refl), λ i A q. ap (as_term (skeleton A)) (first_same X Y Z θ τ υ υ1 υ2 ρ e dz dy dx s i A q))
 
 -- c.x for Y
 pub new_by : IsSplitBy Twins twin_worlds up_to one_entry 1 exp new_items 2 (variable 1) exp two_entries
-new_by = record {
-  values = new_values;
-  unifier = record {
-    typed_items = new_items_typed;
-    unifies = record { is_instance = new_instance; keeps_apart = apart; same = refl };
-    most_general = λ F τ t u. general F τ u.is_instance u.same;
-  };
-  given = refl;
-  local = refl;
-  family = refl;
-  arguments = refl;
-}
+new_by = is_split_by new_made 1 (variable 1) apart refl general
   where
     apart : KeepsApart Twins two_entries.items new_items new_values new_instance
     apart = (λ f. by f, ((λ f. f), tt))
@@ -63,18 +43,7 @@ new_by = record {
 
 -- b.x for Y
 pub old_by : IsSplitBy Twins twin_worlds up_to one_entry 1 exp one_entry.items 0 (variable 3) exp same_entry
-old_by = record {
-  values = old_values;
-  unifier = record {
-    typed_items = old_items_typed;
-    unifies = record { is_instance = old_instance; keeps_apart = ((λ f. f), tt); same = refl };
-    most_general = λ F τ t u. general F τ u.is_instance u.same;
-  };
-  given = refl;
-  local = refl;
-  family = refl;
-  arguments = refl;
-}
+old_by = is_split_by old_made 1 (variable 3) ((λ f. f), tt) refl general
   where
     general : (F : List Item) (τ : ℕ → Image) → IsTypedInstance Twins F one_entry.items τ → as_term (base 0) (τ 1) ≡ substitute reduce τ (var 3) → (ρ : ℕ → Image) × IsTypedInstance Twins F same_entry.items ρ × ((i : ℕ) (A : LfType) → TypeAt (items_context one_entry.items) i A → as_term (skeleton A) (τ i) ≡ as_term (skeleton A) (after ρ old_values i))
     general F τ (Z, υ1, (Y, υ2, (φ, ρ, t, c, o', e'), hy, dy), hz, dz) s = (in_front (put (base 1) Z) (entries_in_front es φ keep), (Z, entries_in_front es φ keep, (φ, keep, tt, c, (λ i A g. absurd g), refl), subst (λ A. HasType Twins (items_context F) Z A) (old_type Y Z φ τ υ1 υ2 ρ dz dy e' s) hz, refl), λ i A q. ap (as_term (skeleton A)) (old_same Y Z φ τ υ1 υ2 ρ dz dy e' s i A q))
@@ -84,18 +53,7 @@ alike_of : (G : List LfType) (H M N : Term) → HasType Twins G (alike H) (same 
 alike_of G H M N (A, e, r) = let (h, q) = subst (λ X. SpineType Twins G (app H nil) X (same M N)) (sym (some_same e)) r in (terms_first q, terms_second q)
 
 pub alike_by : IsSplitBy Twins twin_worlds up_to same_entry 0 (same (var 2) (var 2)) same_entry.items 0 (constant 0) alike_type entry_alike
-alike_by = record {
-  values = alike_values;
-  unifier = record {
-    typed_items = alike_items_typed;
-    unifies = record { is_instance = alike_instance; keeps_apart = ((λ f. f), tt); same = refl };
-    most_general = λ F τ t u. general F τ u.is_instance u.same;
-  };
-  given = refl;
-  local = refl;
-  family = refl;
-  arguments = refl;
-}
+alike_by = is_split_by alike_made 0 (constant 0) ((λ f. f), tt) refl general
   where
     general : (F : List Item) (τ : ℕ → Image) → IsTypedInstance Twins F alike_items τ → as_term (base 1) (τ 1) ≡ substitute reduce τ (alike (var 0)) → (ρ : ℕ → Image) × IsTypedInstance Twins F entry_alike.items ρ × ((i : ℕ) (A : LfType) → TypeAt (items_context alike_items) i A → as_term (skeleton A) (τ i) ≡ as_term (skeleton A) (after ρ alike_values i))
     general F τ (H, υ, (Z, υ1, (φ, ρ, t, c, o', e'), hz, dz), hh, dh) s =
@@ -185,8 +143,8 @@ holds_all S sc C t x Cs h = head_split_is_split Twins twins_ok twin_worlds twins
 
 pub twin_cases : TwinCasesAreAnswers
 twin_cases = (
-  record { listed = record { answered = record { type = exp; at = (exp, (exp, refl, refl), refl); is_free = refl; offers = new_offer twin_goal.items ∷ []; are_offers = goal_offers; in_order = goal_in_order; listed = with_case first_by no_offer }; takes_below = tt; arguments_below = goal_below (λ a. true) }; holds = λ S sc z. holds_all S sc twin_goal goal_typed 2 (one_entry ∷ []) (goal_split S z) },
-  record { listed = record { answered = record { type = exp; at = (exp, refl, refl); is_free = refl; offers = new_offer one_entry.items ∷ old_offer ∷ []; are_offers = entry_offers; in_order = entry_in_order; listed = with_case new_by (with_case old_by no_offer) }; takes_below = tt; arguments_below = entry_below (λ a. true) }; holds = λ S sc z. holds_all S sc one_entry one_typed 1 (two_entries ∷ same_entry ∷ []) (entry_split S z) },
-  record { listed = record { answered = record { type = same (var 4) (var 2); at = refl; is_free = refl; offers = alike_offer two_entries.items ∷ []; are_offers = alike_offers two_entries.items (var 4) (var 2) none_same_two; in_order = alike_in_order two_entries.items (var 4) (var 2); listed = without_case no_case_of_two no_offer }; takes_below = tt; arguments_below = alike_below (λ a. true) two_entries.items (var 4) (var 2) none_same_two }; holds = λ S sc o. holds_all S sc two_entries two_typed 0 [] (two_split S o) },
-  record { listed = record { answered = record { type = same (var 2) (var 2); at = refl; is_free = refl; offers = alike_offer same_entry.items ∷ []; are_offers = alike_offers same_entry.items (var 2) (var 2) none_same_one; in_order = alike_in_order same_entry.items (var 2) (var 2); listed = with_case alike_by no_offer }; takes_below = tt; arguments_below = alike_below (λ a. true) same_entry.items (var 2) (var 2) none_same_one }; holds = λ S sc o. holds_all S sc same_entry same_typed 0 (entry_alike ∷ []) (alike_split S o) },
+  record { listed = goal_answered (with_case first_by no_offer); holds = λ S sc z. holds_all S sc twin_goal goal_typed 2 (one_entry ∷ []) (goal_split S z) },
+  record { listed = entry_answered (with_case new_by (with_case old_by no_offer)); holds = λ S sc z. holds_all S sc one_entry one_typed 1 (two_entries ∷ same_entry ∷ []) (entry_split S z) },
+  record { listed = two_answered (without_case no_case_of_two no_offer); holds = λ S sc o. holds_all S sc two_entries two_typed 0 [] (two_split S o) },
+  record { listed = alike_answered (with_case alike_by no_offer); holds = λ S sc o. holds_all S sc same_entry same_typed 0 (entry_alike ∷ []) (alike_split S o) },
 )

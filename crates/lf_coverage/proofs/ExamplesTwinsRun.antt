@@ -1,7 +1,7 @@
 -- The run of two block variables ends at instances of the entry's clause, and what they share as one instance is held elsewhere.
 use Rattle.std.proofs.Common.{◌≡◌, ℕ, zero, suc, List, [], ◌∷◌, refl, sym, ap, ◌∙◌, subst, inl, inr, true≢false}
 use Rattle.std.specs.Prelude.{Bool, true, Some, None}
-use Rattle.lf.specs.Syntax.{Term, Spine, variable, nil, app, LfType, Kind, pi, base, star, skeleton}
+use Rattle.lf.specs.Syntax.{Term, Spine, nil, app, LfType, Kind, pi, base, star, weaken}
 use Rattle.lf.specs.AtOnce.{in_front}
 use Rattle.lf.specs.Substitution.{Image, keep, put, lift, apply_image, substitute, substitute_type, reduce}
 use Rattle.lf.specs.Typing.{TypeAt, ImageHasType, IsType, IsKind, IsSignature}
@@ -11,7 +11,7 @@ use Rattle.lf.specs.Worlds.{World, no_variables, whole_instance, begin_instance,
 use Rattle.lf_checks.specs.Below.{IsSubordination}
 use Rattle.lf_checks.specs.Clause.{from_entry}
 use Rattle.lf_checks.specs.Marks.{SamePlaces}
-use Rattle.lf_cases.specs.Case.{Item, Case, as_term, covered_places, entries_in_front, items_context, HasArguments, IsGroundInstance}
+use Rattle.lf_cases.specs.Case.{Item, free_variable, block_variable, Case, as_term, entries_in_front, items_context, HasArguments, IsGroundInstance}
 use Rattle.lf_cases.specs.Cover.{AreTerms}
 use Rattle.lf_cases.specs.Missing.{CommonInstance, IsTypedInstance}
 use Rattle.lf_cases.specs.Pattern.{HasGiven, Holds}
@@ -24,8 +24,8 @@ use Rattle.lf_coverage.specs.Heads.{IsTypedCase, SplitsByHeads}
 use Rattle.lf_coverage.specs.Leaf.{IsInstanceLeaf}
 use Rattle.lf_coverage.proofs.ExamplesTwins.{whole, goal_split, entry_split, two_split, alike_split}
 use Rattle.lf_coverage.proofs.Leaves.{head_is_typed, leaf_is_instance}
-use Rattle.lf_coverage.proofs.Runs.{head_splits_cover}
 use Rattle.lf_coverage.proofs.Parts.{some_same}
+use Rattle.lf_coverage.proofs.Runs.{head_splits_cover}
 
 -- the signature and the block
 pub twins_ok : IsSignature Twins
@@ -147,6 +147,20 @@ shares_entry I M N P σ g m n p = record {
   of_clause = (refl, (refl, (refl, tt)));
 }
 
+-- where its third argument is its newest variable, which isn't alike M, it is no instance of u
+pub open_none : (I : List Item) (P0 Q0 M0 N0 : Term) → IsInstanceOf Twins twin_worlds (case_of_three (free_variable (same P0 Q0) ∷ I) M0 N0 (var 0)) twin_head → ⊥
+open_none I P0 Q0 M0 N0 (s, i, v, st) = by s.case_values s.is_instance v s.tuple s.of_case s.of_clause
+  where
+    by : (σ : ℕ → Image) → IsTypedInstance Twins s.items (free_variable (same P0 Q0) ∷ I) σ → LeavesAll (free_variable (same P0 Q0) ∷ I) σ → (T : Spine) → HasArguments σ (Some M0 ∷ Some N0 ∷ Some (var 0) ∷ []) T → SamePlaces (true ∷ true ∷ true ∷ []) T (target_arguments (substitute_type reduce s.clause_values twin_head.type)) → ⊥
+    by σ g v nil a b = a
+    by σ g v (app M nil) (a, a') b = a'
+    by σ g v (app M (app N nil)) (a, (a', a'')) b = a''
+    by σ (Z, υ, g, n, e) v (app M (app N (app P T))) (a, (a', (a'', r))) (b, (b', (b'', r'))) =
+        let p : σ 0 ≡ put (base 1) Z = ap (λ f. f 0) e in
+        let q : substitute reduce σ (var 0) ≡ var 0 = ap (λ y. apply_image reduce y nil) p ∙ sym (ap (as_term (base 1)) p) ∙ v 0 (weaken (same P0 Q0)) refl in
+        let x : var 0 ≡ alike (substitute reduce s.clause_values (var 0)) = sym (a'' ∙ q) ∙ b'' in
+        absurd cc
+
 entry_is_instance : IsInstanceOf Twins twin_worlds entry_alike twin_head
 entry_is_instance = (
   shares_entry entry_alike.items (var 1) (var 1) (alike (var 1)) (entries_in_front twin_block.entries (lift_over twin_block.entries keep) keep) (lift_over twin_block.entries keep, keep, tt, inl (refl, refl), (λ i A g. absurd g), refl) refl refl refl,
@@ -202,9 +216,6 @@ held_by_two = record {
   has_arguments = (refl, (refl, (refl, tt)));
 }
 
-same_variable : {j k : ℕ} → var j ≡ var k → j ≡ k
-same_variable e = cc
-
 not_distinctly : HoldsDistinctly world two_entries None keep alike_tuple → ⊥
 not_distinctly h = by h.holds.values h.holds.is_ground h.is_distinct h.holds.has_arguments
   where
@@ -234,19 +245,5 @@ twins_one_instance = (world, held_by_two, not_distinctly, held_by_same)
 shared : CommonInstance Twins twin_worlds two_entries twin_head
 shared = shares_entry two_entries.items (var 4) (var 2) (var 0) (in_front (put (base 1) (alike (var 1))) (entries_in_front twin_block.entries whole (entries_in_front twin_block.entries whole keep))) (alike (var 1), entries_in_front twin_block.entries whole (entries_in_front twin_block.entries whole keep), (whole, entries_in_front twin_block.entries whole keep, (whole, keep, tt, inl (refl, refl), (λ i A g. absurd g), refl), inl (refl, refl), (λ i A g. absurd g), refl), (pi exp (same (var 0) (var 0)), refl, ((exp, (exp, refl, refl), refl), refl)), refl) refl refl refl
 
--- but Z isn't alike b.x
-no_instance : IsInstanceOf Twins twin_worlds two_entries twin_head → ⊥
-no_instance (s, i, v, st) = by s.case_values s.is_instance v s.tuple s.of_case s.of_clause
-  where
-    by : (σ : ℕ → Image) → IsTypedInstance Twins s.items two_entries.items σ → LeavesAll two_entries.items σ → (T : Spine) → HasArguments σ two_entries.arguments T → SamePlaces (covered_places two_entries.arguments) T (target_arguments (substitute_type reduce s.clause_values twin_head.type)) → ⊥
-    by σ g v nil a b = a
-    by σ g v (app M nil) (a, a') b = a'
-    by σ g v (app M (app N nil)) (a, (a', a'')) b = a''
-    by σ (Z, υ, g, n, e) v (app M (app N (app P T))) (a, (a', (a'', r))) (b, (b', (b'', r'))) =
-        let p : σ 0 ≡ put (base 1) Z = ap (λ f. f 0) e in
-        let q : substitute reduce σ (var 0) ≡ var 0 = ap (λ y. apply_image reduce y nil) p ∙ sym (ap (as_term (base 1)) p) ∙ v 0 (same (var 4) (var 2)) refl in
-        let x : var 0 ≡ alike (substitute reduce s.clause_values (var 0)) = sym (a'' ∙ q) ∙ b'' in
-        absurd cc
-
 pub twins_matched : TwinsAreMatched
-twins_matched = (no_instance, inl shared, refl, λ e. absurd cc)
+twins_matched = (open_none (block_variable twin_block keep ∷ block_variable twin_block keep ∷ []) (var 3) (var 1) (var 4) (var 2), inl shared, refl, λ e. absurd cc)

@@ -1,6 +1,6 @@
 -- Cases of addition that are typed beside plus-s and its subgoal.
 use Rattle.std.proofs.Common.{◌≡◌, ℕ, zero, suc, [], ◌∷◌, refl, sym, subst}
-use Rattle.std.specs.Prelude.{true, Some, Option}
+use Rattle.std.specs.Prelude.{true}
 use Rattle.lf.specs.Syntax.{Term, LfType, Kind, base}
 use Rattle.lf.specs.Substitution.{substitute_type, reduce, put}
 use Rattle.lf.specs.Typing.{TypeAt, HasType, ImageHasType}
@@ -20,8 +20,8 @@ use Rattle.lf_coverage.specs.TypedCase.{IsTypedBeside, given_values}
 use Rattle.lf_coverage.proofs.ExamplesLeaf.{output_leaf, at_two, at_three}
 use Rattle.lf_coverage.proofs.Leaves.{head_is_typed, subgoal_is_typed}
 use Rattle.lf_coverage.proofs.Meeting.{never_is_apart}
-use Rattle.lf_coverage.proofs.TypedCases.{input_goal_is_typed, meet_store_is_ready}
 use Rattle.lf_coverage.proofs.Parts.{some_same}
+use Rattle.lf_coverage.proofs.TypedCases.{input_goal_is_typed, meet_store_is_ready}
 
 head_typed : IsTypedPattern Addition plus_s_head
 head_typed = head_is_typed Addition addition_ok [] (λ B m. absurd m) plus_s (from_constant 3 plus_s.type refl)

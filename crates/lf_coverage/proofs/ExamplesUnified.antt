@@ -23,18 +23,18 @@ use Rattle.lf_totality.specs.ExamplesSplits.{successor_items}
 use Rattle.lf_totality.proofs.Addition.{addition_ok}
 use Rattle.lf_totality.proofs.ExamplesBlocks.{numbered_ok}
 use Rattle.lf_cases.specs.Case.{Case}
-use Rattle.lf_coverage.specs.Heads.{ArgumentsAreBelow, IsTypedCase, Listed, with_case, no_offer}
-use Rattle.lf_coverage.specs.SplitStore.{split_store, context_metavariables}
 use Rattle.lf_coverage.specs.Examples.{PlusIsSplitByUnification, SuccessorGivesNone}
-use Rattle.lf_coverage.specs.UnifiedSplit.{HeadIsSolved, IsSolvedSplit, UnifierFinds}
-use Rattle.lf_coverage.proofs.Examples.{plus_offers, plus_are_offers, plus_in_order, two, each_head, goal_typed}
-use Rattle.lf_coverage.proofs.NoCase.{never_gives_no_case}
 use Rattle.lf_coverage.specs.ExamplesRenumbering.{successor_store, unknown}
 use Rattle.lf_coverage.specs.ExamplesTyped.{SuccessorIsSplit}
-use Rattle.lf_totality.specs.Examples.{plus_input_goal}
+use Rattle.lf_coverage.specs.Heads.{ArgumentsAreBelow, IsTypedCase}
+use Rattle.lf_coverage.specs.Listed.{Listed, with_case, no_offer}
+use Rattle.lf_coverage.specs.SplitStore.{split_store, context_metavariables}
+use Rattle.lf_coverage.specs.UnifiedSplit.{HeadIsAnswered, IsSolvedSplit, UnifierFinds}
+use Rattle.lf_coverage.proofs.Examples.{plus_offers, plus_are_offers, plus_in_order, two, each_head, goal_typed}
+use Rattle.lf_coverage.proofs.NoCase.{never_gives_no_case}
+use Rattle.lf_coverage.proofs.Parts.{some_same, none_some}
 use Rattle.lf_coverage.proofs.SolvedSplit.{solved_splits}
 use Rattle.lf_coverage.proofs.Unified.{never_gives}
-use Rattle.lf_coverage.proofs.Parts.{some_same, none_some}
 
 -- X and Y as metavariables, and a new one before
 abbrev two_types : ℕ → Option LfType
@@ -282,7 +282,7 @@ zero_has_unifier n = solved_not_never Addition addition_ok before_zero after_zer
 pub successor_has_unifier : Never Addition [] (split_store first_below_second 1 nat two 0 (constant 1) (pi nat nat) star) → ⊥
 successor_has_unifier n = solved_not_never Addition addition_ok before_successor after_successor successor_solved n
 
-pub plus_listed : Listed (HeadIsSolved Addition first_below_second plus_input_goal 1 nat) plus_offers (plus_zero_case ∷ plus_successor_case ∷ [])
+pub plus_listed : Listed (HeadIsAnswered Addition first_below_second plus_input_goal 1 nat) plus_offers (plus_zero_case ∷ plus_successor_case ∷ [])
 plus_listed = with_case (record { kind = star; of_family = refl; no_block = tt; finds = (after_zero, zero_solved, refl) }) (with_case (record { kind = star; of_family = refl; no_block = tt; finds = (after_successor, successor_solved, refl) }) no_offer)
 
 -- what unification finds for X and s

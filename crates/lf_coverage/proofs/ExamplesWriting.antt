@@ -1,7 +1,7 @@
 -- A worked example of writing.
 use Rattle.std.proofs.Common.{◌≡◌, ℕ, zero, suc, ◌+◌, [], ◌∷◌, Some, inl, inr, refl, sym, ap, ◌∙◌, subst, arith}
 use Rattle.std.specs.Prelude.{◌⊎◌}
-use Rattle.lf.specs.Syntax.{Head, constant, variable, root, nil, LfType, pi, base, skeleton, star, weaken}
+use Rattle.lf.specs.Syntax.{constant, root, nil, LfType, pi, base, skeleton, star, weaken}
 use Rattle.lf.specs.Substitution.{keep, put, substitute_spine, substitute_type, reduce}
 use Rattle.lf.specs.Eta.{eta_expand}
 use Rattle.lf.specs.Typing.{Signature, TypeAt, ImageHasType, IsTypedSubstitution}
@@ -11,11 +11,9 @@ use Rattle.lf_totality.specs.Examples.{Copying, copy_block, cp, exp, nat, var}
 use Rattle.lf_totality.specs.ExamplesGroups.{on_one}
 use Rattle.lf_totality.specs.ExamplesBlocks.{Numbered, numbered_block}
 use Rattle.lf_coverage.specs.EntryConstants.{EntryConstant, entry_constant, with_entries}
-use Rattle.lf_coverage.specs.ExamplesWriting.{copy_then_one, one_behind, copy_written, CopyIsWritten, entry_split, other_filling, HeadIsOnOtherTerms, EntryIsReadAs, RoomIsFree, CopyHasValues}
+use Rattle.lf_coverage.specs.ExamplesWriting.{copy_then_one, one_behind, copy_written, CopyIsWritten, entry_split, other_filling, HeadIsOnOtherTerms, RoomIsFree, CopyHasValues}
 use Rattle.lf_coverage.specs.NumberedCase.{some_spine}
 use Rattle.lf_coverage.specs.Writing.{IsEntryVariable}
-use Rattle.lf_coverage.specs.ExamplesEntries.{copy_entry_case}
-use Rattle.lf_coverage.specs.WritingHeads.{IsReadAs, constant_is, entry_is}
 use Rattle.lf_coverage.proofs.ExamplesEntries.{entry_stands_on_its_terms}
 use Rattle.lf_coverage.proofs.Parts.{none_some, some_same, keep_same}
 
@@ -77,20 +75,6 @@ other_typed (suc (suc (suc m))) = tt
 
 pub head_is_on_other_terms : HeadIsOnOtherTerms
 head_is_on_other_terms = ((record { context = tt; outer = λ i A g. absurd g; typed = other_typed }, (tt, (refl, (refl, tt)))), entry_stands_on_its_terms.1)
-
--- no entry is read as y
-not_first : (A : LfType) (k : Head) → IsReadAs Copying 4 copy_entry_case one_behind exp (constant 4) A k → k ≡ variable 0 → ⊥
-not_first A k (constant_is c U q t) e = no_head e
-  where
-    no_head : constant 4 ≡ variable 0 → ⊥
-    no_head e = cc
-not_first A k (entry_is c m v B q t r) e = no_variable (ap (λ (z : ℕ × ℕ). z.1) (some_same r)) e
-  where
-    no_variable : 2 ≡ v → variable v ≡ variable 0 → ⊥
-    no_variable p e = let i : v ≡ 0 = cc in omega (arith, p, i)
-
-pub entry_is_read_as : EntryIsReadAs
-entry_is_read_as = (entry_is 4 0 2 exp refl refl refl, λ h. not_first exp (variable 0) h refl)
 
 pub room_is_free : RoomIsFree
 room_is_free = (refl, refl, refl, refl, refl, refl)

@@ -40,7 +40,7 @@ module _ (S : ℕ → Bool) where
   raised_families (true ∷ ks) (A ∷ D) B (a, d) b = raised_families ks D (pi A B) d (a, b)
   raised_families (false ∷ ks) (A ∷ D) B (a, d) b = raised_families ks D (rename_type (at_variable zero) B) d (families_renamed S (at_variable zero) B b)
 
-  head_families : (ks : List (List Bool)) (D : List LfType) (n : ℕ) (A : LfType) (I : List Item) → AllFamiliesIn S D → FamiliesIn S A → AllFamiliesIn S (items_context I) → AllFamiliesIn S (items_context (head_items ks D n A I))
+  pub head_families : (ks : List (List Bool)) (D : List LfType) (n : ℕ) (A : LfType) (I : List Item) → AllFamiliesIn S D → FamiliesIn S A → AllFamiliesIn S (items_context I) → AllFamiliesIn S (items_context (head_items ks D n A I))
   head_families ks D zero A I d a i = i
   head_families ks D (suc n) (atom a T) I d h i = i
   head_families ks D (suc n) (pi A B) I d (a, b) i =
@@ -55,18 +55,18 @@ module _ (S : ℕ → Bool) where
   head_type_in Σ W sc I i X x _ _ _ A (new_entry_head B j E m l k t) n = absurd n
 
   -- it looks only at families
-  abbrev InEverywhere : LfType → Type 0
+  abbrev pub InEverywhere : LfType → Type 0
   InEverywhere = Everywhere (λ b a. Unit {0}) (λ a. S a ≡ true)
 
-  as_everywhere : (A : LfType) → FamiliesIn S A → InEverywhere A
+  pub as_everywhere : (A : LfType) → FamiliesIn S A → InEverywhere A
   as_everywhere (pi A B) (a, b) = (tt, as_everywhere A a, as_everywhere B b)
   as_everywhere (atom a T) h = h
 
-  from_everywhere : (A : LfType) → InEverywhere A → FamiliesIn S A
+  pub from_everywhere : (A : LfType) → InEverywhere A → FamiliesIn S A
   from_everywhere (pi A B) (q, a, b) = (from_everywhere A a, from_everywhere B b)
   from_everywhere (atom a T) h = h
 
-  all_everywhere : (G : List LfType) → AllFamiliesIn S G → AllByRecursion InEverywhere G
+  pub all_everywhere : (G : List LfType) → AllFamiliesIn S G → AllByRecursion InEverywhere G
   all_everywhere [] h = tt
   all_everywhere (A ∷ G) (a, h) = (as_everywhere A a, all_everywhere G h)
 
@@ -74,7 +74,7 @@ module _ (S : ℕ → Bool) where
   pub store_families : (G : List LfType) → AllFamiliesIn S G → (m : ℕ) (A : LfType) → context_metavariables G m ≡ Some A → FamiliesIn S A
   store_families G h m A e = from_everywhere A (metavariables_have InEverywhere (of_families (λ b a. Unit {0}) (λ a. S a ≡ true)) G (all_everywhere G h) m A e)
 
-  as_items : (O : List LfType) → AllByRecursion InEverywhere O → AllFamiliesIn S (items_context (free_variables O))
+  pub as_items : (O : List LfType) → AllByRecursion InEverywhere O → AllFamiliesIn S (items_context (free_variables O))
   as_items [] h = tt
   as_items (A ∷ O) (a, h) = (from_everywhere A a, as_items O h)
 

@@ -22,9 +22,9 @@ use Rattle.lf_cases.proofs.BlockEntries.{among_type}
 use Rattle.lf_cases.proofs.Instances.{instance_typed, place_among}
 use Rattle.lf_cases.proofs.OutputItems.{length_instance}
 use Rattle.lf_coverage.proofs.Forms.{far_type}
+use Rattle.lf_coverage.proofs.Parts.{lambda_same}
 use Rattle.lf_coverage.proofs.SameInstance.{front_entry, front_behind, instance_unique, entry_has_type}
 use Rattle.lf_coverage.proofs.Standing.{stood, Outer, entry_outer}
-use Rattle.lf_coverage.proofs.Parts.{lambda_same}
 
 -- the variable at the head, under lambdas
 same_head : (n i j : ℕ) (S T : Spine) → lambdas n (root (variable i) S) ≡ lambdas n (root (variable j) T) → i ≡ j

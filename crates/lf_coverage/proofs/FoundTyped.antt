@@ -93,9 +93,6 @@ holds_under W D A h zero X g v = absurd cc
 holds_under W D A h (suc i) X (Y, g, e) v = subst (UsesType (hide W)) (sym e) (uses_type_renamed W (hide W) suc Y (λ j z. z) (h i Y g v))
 
 module _ (Σ : Signature) (ok : IsSignature Σ) (R : List Skeleton) where
-  abbrev Goes : List LfType → List LfType → (ℕ → Image) → Type 0
-  Goes C D ν = SubstitutionBySkeletons (constant_skeletons Σ) (skeletons_beside [] C) (skeletons_beside R D) ν
-
   pub goes_under : (C D : List LfType) (ν : ℕ → Image) (A : LfType) → SubstitutionBySkeletons (constant_skeletons Σ) (skeletons_beside [] C) (skeletons_beside R D) ν → SubstitutionBySkeletons (constant_skeletons Σ) (skeleton A ∷ skeletons_beside [] C) (skeleton (substitute_type reduce ν A) ∷ skeletons_beside R D) (lift ν)
   goes_under C D ν A w = subst (λ t. SubstitutionBySkeletons (constant_skeletons Σ) (skeleton A ∷ skeletons_beside [] C) (t ∷ skeletons_beside R D) (lift ν)) (sym (skeleton_substituted reduce ν A)) (lift_by_skeletons (constant_skeletons Σ) (skeleton A) (skeletons_beside [] C) (skeletons_beside R D) ν w)
 
@@ -192,7 +189,7 @@ module _ (Σ : Signature) (ok : IsSignature Σ) (R : List Skeleton) where
         (λ y. typed_spine B F W C D ν x X a N S (instantiate_type A1 Q A2) Z c (instance_is_type Σ ok C A1 Q A2 c t1 t2 q) w kb bt nf p ht e u ux g s V (subst (λ Y. SpineType Σ D (substitute_spine reduce ν S) Y V) (sym (through C D ν A1 Q A2 w q t2)) ms) (second_of (strict B F x Q) (strict_spine B F x S) z y))
 
   -- at the covered places
-  at_typed : (F : ℕ → Bool) (O G : List LfType) (ν : ℕ → Image) (x : ℕ) (X : LfType) (a : Skeleton) (N : Term) (m : List Bool) (S : Spine) (K : Kind) (Y : List LfType) (θ η : ℕ → Image) (V : ℕ → Bool) (T : Spine) → IsContext Σ O → SubstitutionBySkeletons (constant_skeletons Σ) (skeletons_beside [] O) (skeletons_beside R G) ν → ((i : ℕ) → F i ≡ true → ⊥) → ν x ≡ put a N → TypeAt O x X → IsContext Σ Y → AllTyped Σ ok Y O θ → IsKind Σ Y K → MentionChosenOnly V m K → SameOn V (after ν θ) η → SpineFitsKind Σ O S (substitute_kind reduce θ K) → TypedPlacesFrom Σ m G η T K → SamePlaces m T (substitute_spine reduce ν S) → strict_at m nothing F x S ≡ true → HasType Σ G N (substitute_type reduce ν X)
+  pub at_typed : (F : ℕ → Bool) (O G : List LfType) (ν : ℕ → Image) (x : ℕ) (X : LfType) (a : Skeleton) (N : Term) (m : List Bool) (S : Spine) (K : Kind) (Y : List LfType) (θ η : ℕ → Image) (V : ℕ → Bool) (T : Spine) → IsContext Σ O → SubstitutionBySkeletons (constant_skeletons Σ) (skeletons_beside [] O) (skeletons_beside R G) ν → ((i : ℕ) → F i ≡ true → ⊥) → ν x ≡ put a N → TypeAt O x X → IsContext Σ Y → AllTyped Σ ok Y O θ → IsKind Σ Y K → MentionChosenOnly V m K → SameOn V (after ν θ) η → SpineFitsKind Σ O S (substitute_kind reduce θ K) → TypedPlacesFrom Σ m G η T K → SamePlaces m T (substitute_spine reduce ν S) → strict_at m nothing F x S ≡ true → HasType Σ G N (substitute_type reduce ν X)
   at_typed F O G ν x X a N [] S K Y θ η V T c w nf e g cy t k v h s p r z = absurd cc
   at_typed F O G ν x X a N (b ∷ m) nil K Y θ η V T c w nf e g cy t k v h s p r z = absurd cc
   at_typed F O G ν x X a N (b ∷ m) (app Q S) star Y θ η V T c w nf e g cy t k v h s p r z = absurd v
@@ -215,7 +212,7 @@ module _ (Σ : Signature) (ok : IsSignature Σ) (R : List Skeleton) where
       shown (suc i) y = h i y
 
 -- the arguments of two tuples at the places of a case
-same_places : (Ms : List (Option Term)) (T S : Spine) → ArePlaces Ms T → ArePlaces Ms S → SamePlaces (covered_places Ms) T S
+pub same_places : (Ms : List (Option Term)) (T S : Spine) → ArePlaces Ms T → ArePlaces Ms S → SamePlaces (covered_places Ms) T S
 same_places [] nil nil h k = tt
 same_places [] nil (app N S) h k = k
 same_places [] (app N T) S h k = absurd h

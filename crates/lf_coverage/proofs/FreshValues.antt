@@ -22,14 +22,14 @@ use Rattle.lf_coverage.proofs.GroundTyped.{front_typed}
 use mathlib.Core.Path.{fun_ext}
 
 -- An image and its type move.
-image_moved : (Σ : Signature) → IsSignature Σ → (G H : List LfType) (ρ : ℕ → ℕ) (x : Image) (A : LfType) → IsTypedRenaming G H ρ → ImageHasType Σ G x A → ImageHasType Σ H (rename_image ρ x) (rename_type ρ A)
+pub image_moved : (Σ : Signature) → IsSignature Σ → (G H : List LfType) (ρ : ℕ → ℕ) (x : Image) (A : LfType) → IsTypedRenaming G H ρ → ImageHasType Σ G x A → ImageHasType Σ H (rename_image ρ x) (rename_type ρ A)
 image_moved Σ ok G H ρ (keep j) A r h = r j A h
 image_moved Σ ok G H ρ (put a N) A r (e, n) = (skeleton_renamed ρ A ∙ e, renaming_keeps_typing Σ ok G H ρ N A r n)
 
 pub values_moved : (Σ : Signature) → IsSignature Σ → (C G H : List LfType) (ρ : ℕ → ℕ) (σ : ℕ → Image) → IsTypedRenaming G H ρ → IsTypedSubstitution Σ C G σ → IsTypedSubstitution Σ C H (λ i. rename_image ρ (σ i))
 values_moved Σ ok C G H ρ σ r t i A g = subst (ImageHasType Σ H (rename_image ρ (σ i))) (rename_substituted_type reduce reduction_is_natural ρ σ A) (image_moved Σ ok G H ρ (σ i) (substitute_type reduce σ A) r (t i A g))
 
-image_twice : (ρ : ℕ → ℕ) (x : Image) → rename_image (λ i. suc (ρ i)) x ≡ rename_image suc (rename_image ρ x)
+pub image_twice : (ρ : ℕ → ℕ) (x : Image) → rename_image (λ i. suc (ρ i)) x ≡ rename_image suc (rename_image ρ x)
 image_twice ρ (keep i) = refl
 image_twice ρ (put a N) = ap (put a) (sym (renamings_compose suc ρ N))
 
@@ -44,7 +44,7 @@ pub record Longer (Σ : Signature) (U : ℕ → Bool) (Q G : List LfType) (τ : 
   pub same : SameOn U (λ i. rename_image moves (τ i)) values
 
 module _ (Σ : Signature) (ok : IsSignature Σ) (W : List Block) (blocks : AreTypedBlocks Σ W) (G : List LfType) (cg : IsContext Σ G) where
-  behind_values : (U : ℕ → Bool) (A : LfType) (Q : List LfType) (τ : ℕ → Image) → Values Σ U (A ∷ Q) G τ → Values Σ (λ i. U (suc i)) Q G (λ i. τ (suc i))
+  pub behind_values : (U : ℕ → Bool) (A : LfType) (Q : List LfType) (τ : ℕ → Image) → Values Σ U (A ∷ Q) G τ → Values Σ (λ i. U (suc i)) Q G (λ i. τ (suc i))
   behind_values U A Q τ v = record {
     typed = λ i B g u. subst (ImageHasType Σ G (τ (suc i))) (substitute_renamed_type reduce τ suc B) (v.typed (suc i) (rename_type suc B) (B, g, refl) u);
     closed = λ i B g u. uses_unren_type (λ j. U (suc j)) U suc B (λ j e. e) (v.closed (suc i) (rename_type suc B) (B, g, refl) u);
@@ -94,7 +94,7 @@ module _ (Σ : Signature) (ok : IsSignature Σ) (W : List Block) (blocks : AreTy
           same (suc i) u = image_twice l.moves (τ (suc i)) ∙ ap (rename_image suc) (l.same i u)
 
 -- The tuple of a case moves with its values.
-lift_over_moved : (L : List LfType) (ρ : ℕ → ℕ) (σ : ℕ → Image) (i : ℕ) → rename_image (lift_renaming_by (length L) ρ) (lift_over L σ i) ≡ lift_over L (λ j. rename_image ρ (σ j)) i
+pub lift_over_moved : (L : List LfType) (ρ : ℕ → ℕ) (σ : ℕ → Image) (i : ℕ) → rename_image (lift_renaming_by (length L) ρ) (lift_over L σ i) ≡ lift_over L (λ j. rename_image ρ (σ j)) i
 lift_over_moved [] ρ σ i = refl
 lift_over_moved (A ∷ L) ρ σ i = rename_lift (lift_renaming_by (length L) ρ) (lift_over L σ) i ∙ ap (λ f. lift f i) (fun_ext (lift_over_moved L ρ σ))
 

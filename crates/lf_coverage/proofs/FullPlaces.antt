@@ -1,5 +1,5 @@
 -- The arguments of a case and the tuple of a linear and full clause: without a candidate values make the one the other.
-use Rattle.std.proofs.Common.{◌≡◌, ℕ, zero, suc, List, [], ◌∷◌, length, inl, inr, refl, sym, ap, ap₂, ◌∙◌, subst}
+use Rattle.std.proofs.Common.{◌≡◌, ℕ, zero, List, [], ◌∷◌, length, inl, inr, refl, sym, ap₂, ◌∙◌, subst}
 use Rattle.std.specs.Prelude.{◌≤◌, ◌++◌, Bool, true, Option, Some, None}
 use Rattle.lf.specs.Syntax.{Term, Spine, nil, app, LfType, Kind, pi, atom, kind_pi, star, Skeleton, skeleton, kind_skeleton}
 use Rattle.lf.specs.Substitution.{Image, lift, single, substitute, substitute_spine, substitute_kind, reduce}
@@ -27,6 +27,7 @@ use Rattle.lf_coverage.proofs.TermMatching.{match_terms, gives_still}
 use Rattle.lf_coverage.proofs.LowTerms.{below_substituted}
 use Rattle.lf_coverage.proofs.FullTakes.{HasSkeletons, full_takes}
 use Rattle.lf_coverage.proofs.Parts.{second_same, first_same}
+use Rattle.lf_coverage.proofs.PatternDistinct.{length_context as length_own}
 
 -- the types of the places quantify over what is below
 abbrev PlacesQuantify : (ℕ → ℕ → Bool) → Kind → Type 0
@@ -42,10 +43,6 @@ skeletons_onto (A ∷ D) (a ∷ Ds) C (e, h) = ap₂ (λ x xs. x ∷ xs) e (skel
 has_own : (D : List LfType) → HasSkeletons D (context_skeletons D)
 has_own [] = tt
 has_own (A ∷ D) = (refl, has_own D)
-
-length_own : (D : List LfType) → length (context_skeletons D) ≡ length D
-length_own [] = refl
-length_own (A ∷ D) = ap suc (length_own D)
 
 quantified : (below : ℕ → ℕ → Bool) (A : LfType) → ((a b : ℕ) → Quantifies a b A → below b a ≡ true) → QuantifiersAreBelow below A
 quantified below (pi A B) h = (h (target A) (target B) (inl (refl, refl)), quantified below A (λ a b q. h a b (inr (inl q))), quantified below B (λ a b q. h a b (inr (inr q))))

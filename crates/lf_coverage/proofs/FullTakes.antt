@@ -1,10 +1,10 @@
 -- A full term of a clause takes the bound variables that the case's term has: these are of families below its own.
 use Rattle.std.proofs.Common.{◌≡◌, ℕ, zero, suc, List, [], ◌∷◌, length, inl, inr, refl, sym, ap, ap₂, ◌∙◌, subst, arith}
 use Rattle.std.specs.Prelude.{◌<◌, ◌++◌, Bool, true, false, not, cond, Some}
-use Rattle.lf.specs.Syntax.{Head, constant, variable, metavariable, Term, Spine, lambda, root, nil, app, LfType, pi, atom, Skeleton, base, arrow, skeleton, weaken}
+use Rattle.lf.specs.Syntax.{Head, constant, variable, metavariable, Term, Spine, lambda, root, nil, app, LfType, pi, atom, Skeleton, base, skeleton, weaken}
 use Rattle.lf.specs.Substitution.{Image, keep, single, substitute, substitute_spine, reduce}
 use Rattle.lf.specs.AtOnce.{lift_by}
-use Rattle.lf.specs.Eta.{eta_expand, eta_long}
+use Rattle.lf.specs.Eta.{eta_long}
 use Rattle.lf.specs.SkeletonTyping.{SkeletonAt, ImageSkeleton}
 use Rattle.lf.specs.Skeletons.{constant_skeletons, context_skeletons}
 use Rattle.lf.specs.Typing.{Signature, TypeAt, instantiate_type, HasType, SpineType}
@@ -28,6 +28,7 @@ use Rattle.lf_coverage.proofs.TermMatching.{lifted_skeletons}
 use Rattle.lf_coverage.proofs.LowTerms.{Low, low_term, spine_target, below_substituted}
 use Rattle.lf_coverage.proofs.Subordinate.{below_at}
 use Rattle.lf_coverage.proofs.Parts.{some_same, lambda_same, first_same, second_same}
+use Rattle.lf_coverage.proofs.PatternTests.{eta_head}
 
 -- the skeletons of a local context are these
 abbrev pub HasSkeletons : List LfType → List Skeleton → Type 0
@@ -51,11 +52,6 @@ bound_type [] (a ∷ Ds) C i h b = absurd h
 bound_type (A ∷ D) [] C i h b = absurd h
 bound_type (A ∷ D) (a ∷ Ds) C zero (e, h) b = (weaken A, refl, omega arith)
 bound_type (A ∷ D) (a ∷ Ds) C (suc i) (e, h) b = let (X, g, l) = bound_type D Ds C i h b in (weaken X, (X, g, refl), omega arith)
-
--- an eta-long variable is its head
-eta_head : (a : Skeleton) (n i : ℕ) (S : Spine) → head_variable n (eta_expand a (variable i) S) ≡ lower n i
-eta_head (base c) n i S = refl
-eta_head (arrow a b) n i S = eta_head b (suc n) (suc i) _
 
 argument_heads : (a : Skeleton) (i : ℕ) (S : Spine) → IsArgument (eta_long a (variable i)) S → heads_argument i S ≡ true
 argument_heads a i nil h = absurd h

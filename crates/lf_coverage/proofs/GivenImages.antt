@@ -10,7 +10,7 @@ use Rattle.lf.specs.Variables.{under, Uses, UsesSpine, UsesType}
 use Rattle.lf.proofs.TypeLaws.{skeleton_renamed}
 use Rattle.lf_cases.specs.Candidates.{given_images}
 use Rattle.lf_cases.specs.OutputGoal.{kept_terms}
-use Rattle.lf_cases.specs.Pattern.{is_given, of_constant, subgoal_pattern}
+use Rattle.lf_cases.specs.Pattern.{is_given}
 
 -- A text that skeletons type uses only variables of its context.
 mutual

@@ -22,8 +22,8 @@ use Rattle.lf_cases.specs.OutputGoal.{renumber}
 use Rattle.lf_cases.proofs.OutputItems.{lifted, lift_after}
 use Rattle.lf_cases.proofs.Raised.{rename_identity, rename_identity_type}
 use Rattle.lf_coverage.proofs.Forms.{far_type, near_type}
-use Rattle.lf_coverage.proofs.Transfer.{after_over, lifted_instance}
 use Rattle.lf_coverage.proofs.Parts.{none_some}
+use Rattle.lf_coverage.proofs.Transfer.{after_over, lifted_instance}
 use mathlib.Core.Path.{fun_ext}
 
 -- nothing is given for the variable, and it stands for itself; or a term is

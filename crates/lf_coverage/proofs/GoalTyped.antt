@@ -55,7 +55,7 @@ use Rattle.lf_coverage.proofs.Carried.{beyond_at}
 use Rattle.lf_coverage.proofs.Parts.{first_same, second_same, some_same, no_arrow}
 
 -- The arguments of a case under the local context of a goal are typed, where at the other places those of the goal stand, under these values.
-abbrev TypedGoal : Signature → List LfType → (ℕ → Image) → LfType → List (Option Term) → Type 0
+abbrev pub TypedGoal : Signature → List LfType → (ℕ → Image) → LfType → List (Option Term) → Type 0
 TypedGoal Σ E ν (pi A B) Ms = TypedGoal Σ (substitute_type reduce ν A ∷ E) (lift ν) B Ms
 TypedGoal Σ E ν (atom a S) Ms = (K : Kind) × (Σ.kinds a ≡ Some K) × TypedArguments Σ E Ms (substitute_spine reduce ν S) K
 
@@ -77,7 +77,7 @@ module _ (Σ : Signature) (ok : IsSignature Σ) where
       (λ z. at_skeleton B F n C E Ω ν x a N S (instantiate_kind A Q L) Ms T (instantiate_kind A' M K) c (next_is_kind C A Q L c t1 t2 q) bl ol bi kb nf g s (kind_skeleton_substituted 0 reduce (single (skeleton A) Q) L ∙ second_same ks ∙ sym (kind_skeleton_substituted 0 reduce (single (skeleton A') M) K)) p is (second_of (strict B F x Q) (strict_at (covered_places Ms) B F x S) e z) (sym (ap (λ b. cond b (found B F n x Q M) (found_at B F n x S Ms)) z) ∙ f))
 
   -- and of a goal
-  goal_skeleton : (B F : ℕ → Bool) (n : ℕ) (C E : List LfType) (Ω : List Skeleton) (ν : ℕ → Image) (x : ℕ) (a : Skeleton) (N : Term) (A : LfType) (Ms : List (Option Term)) → IsContext Σ C → IsType Σ C A → BoundLined n C (context_skeletons E) → OuterLined n (context_skeletons E) Ω → BoundIn n B → KeptSame B ν ν → ((i : ℕ) → F i ≡ true → ⊥) → SkeletonAt (context_skeletons C) x a → TypedGoal Σ E ν A Ms → ArePlaces Ms (target_arguments (substitute_type reduce ν A)) → strict_goal (covered_places Ms) B F x A ≡ true → found_goal B F n x A Ms ≡ Some N → TermSkeleton (constant_skeletons Σ) Ω N a
+  pub goal_skeleton : (B F : ℕ → Bool) (n : ℕ) (C E : List LfType) (Ω : List Skeleton) (ν : ℕ → Image) (x : ℕ) (a : Skeleton) (N : Term) (A : LfType) (Ms : List (Option Term)) → IsContext Σ C → IsType Σ C A → BoundLined n C (context_skeletons E) → OuterLined n (context_skeletons E) Ω → BoundIn n B → KeptSame B ν ν → ((i : ℕ) → F i ≡ true → ⊥) → SkeletonAt (context_skeletons C) x a → TypedGoal Σ E ν A Ms → ArePlaces Ms (target_arguments (substitute_type reduce ν A)) → strict_goal (covered_places Ms) B F x A ≡ true → found_goal B F n x A Ms ≡ Some N → TermSkeleton (constant_skeletons Σ) Ω N a
   goal_skeleton B F n C E Ω ν x a N (pi A1 A) Ms c (t1, t2) bl ol bi kb nf g p i e f = goal_skeleton (under B) (hide F) (suc n) (A1 ∷ C) (substitute_type reduce ν A1 ∷ E) Ω (lift ν) (suc x) a N A Ms (c, t1) t2 (subst (λ s. BoundLined (suc n) (A1 ∷ C) (s ∷ context_skeletons E)) (sym (skeleton_substituted reduce ν A1)) (bound_lined_under n C (context_skeletons E) A1 bl)) (outer_lined_under n (context_skeletons E) Ω (skeleton (substitute_type reduce ν A1)) ol) (bound_in_under n B bi) (same_lift B ν ν kb) (none_under F nf) g p i e f
   goal_skeleton B F n C E Ω ν x a N (atom b S) Ms c (L, l, s) bl ol bi kb nf g (K, k, p) i e f = at_skeleton B F n C E Ω ν x a N S L Ms (substitute_spine reduce ν S) K c (family_kind Σ ok C b L l) bl ol bi kb nf g s (ap (kind_skeleton 0) (some_same (sym l ∙ k))) p i e f
 
@@ -95,7 +95,7 @@ module _ (Σ : Signature) (ok : IsSignature Σ) where
         (λ y. at_typed B F W C D ν x X a N S (instantiate_kind A Q L) Ms c (next_is_kind C A Q L c t1 t2 q) w kb bt nf far ht e u ux g s (subst (TypedArguments Σ D Ms (substitute_spine reduce ν S)) (ap (λ Y. instantiate_kind (substitute_type reduce ν A) Y (substitute_kind reduce (lift ν) L)) i ∙ sym (substitute_kind_instance Σ ok [] R C D ν A Q L w q (kind_by_skeletons_beside Σ [] (A ∷ C) L t2))) p) is (second_of (strict B F x Q) (strict_at (covered_places Ms) B F x S) z y))
 
     -- and of a goal
-    goal_typed : (B F W : ℕ → Bool) (C D : List LfType) (ν : ℕ → Image) (x : ℕ) (X : LfType) (a : Skeleton) (N : Term) (A : LfType) (Ms : List (Option Term)) → IsContext Σ C → IsType Σ C A → SubstitutionBySkeletons (constant_skeletons Σ) (skeletons_beside [] C) (skeletons_beside R D) ν → KeptSame B ν ν → BoundTyped B C D ν → ((i : ℕ) → F i ≡ true → ⊥) → Apart W B → HoldsTypes W D → ν x ≡ put a N → Uses W N → UsesType W (substitute_type reduce ν X) → TypeAt C x X → TypedGoal Σ D ν A Ms → ArePlaces Ms (target_arguments (substitute_type reduce ν A)) → strict_goal (covered_places Ms) B F x A ≡ true → HasType Σ D N (substitute_type reduce ν X)
+    pub goal_typed : (B F W : ℕ → Bool) (C D : List LfType) (ν : ℕ → Image) (x : ℕ) (X : LfType) (a : Skeleton) (N : Term) (A : LfType) (Ms : List (Option Term)) → IsContext Σ C → IsType Σ C A → SubstitutionBySkeletons (constant_skeletons Σ) (skeletons_beside [] C) (skeletons_beside R D) ν → KeptSame B ν ν → BoundTyped B C D ν → ((i : ℕ) → F i ≡ true → ⊥) → Apart W B → HoldsTypes W D → ν x ≡ put a N → Uses W N → UsesType W (substitute_type reduce ν X) → TypeAt C x X → TypedGoal Σ D ν A Ms → ArePlaces Ms (target_arguments (substitute_type reduce ν A)) → strict_goal (covered_places Ms) B F x A ≡ true → HasType Σ D N (substitute_type reduce ν X)
     goal_typed B F W C D ν x X a N (pi A1 A) Ms c (t1, t2) w kb bt nf p ht e u ux g m i z =
         HasType-unrename Σ ok D (substitute_type reduce ν A1 ∷ D) suc N (substitute_type reduce ν X) (λ i j e. cc) (λ i X g. g)
         (subst (HasType Σ (substitute_type reduce ν A1 ∷ D) (rename suc N)) (lifted_substitution_weakened_type ν X) (goal_typed (under B) (hide F) (hide W) (A1 ∷ C) (substitute_type reduce ν A1 ∷ D) (lift ν) (suc x) (weaken X) a (rename suc N) A Ms (c, t1) t2 (goes_under Σ ok R C D ν A1 w) (same_lift B ν ν kb) (bound_typed_under B C D ν A1 bt) (none_under F nf) (apart_lift W B p) (holds_under W D (substitute_type reduce ν A1) ht) (ap (rename_image suc) e) (uses_renamed W (hide W) suc N (λ i v. v) u) (subst (UsesType (hide W)) (sym (lifted_substitution_weakened_type ν X)) (uses_type_renamed W (hide W) suc (substitute_type reduce ν X) (λ i v. v) ux)) (X, g, refl) m i z))
@@ -124,7 +124,7 @@ same_over : (D : List LfType) (U : ℕ → Bool) (σ τ : ℕ → Image) → Sam
 same_over [] U σ τ h = h
 same_over (A ∷ D) U σ τ h = SameOn-under (under_all D U) (lift_over D σ) (lift_over D τ) (same_over D U σ τ h)
 
-goal_is_typed : (Σ : Signature) (ok : IsSignature Σ) (G O : List LfType) (U : ℕ → Bool) (g f : ℕ → Image) → SameOn U g f → (Ms : List (Option Term)) (D : List LfType) (A : LfType) (K : Kind) → Σ.kinds (target A) ≡ Some K → UsesGoal (under_all D U) (other_places Ms) A → HaveSkeletons (constant_skeletons Σ) (context_skeletons (onto (instance (binders D A) g) G)) Ms → TypedArguments Σ (onto (instance (binders D A) g) (onto G O)) Ms (substitute_spine reduce (lift_over (binders D A) g) (target_arguments A)) K → TypedGoal Σ (onto (instance D g) G) (lift_over D f) A Ms
+pub goal_is_typed : (Σ : Signature) (ok : IsSignature Σ) (G O : List LfType) (U : ℕ → Bool) (g f : ℕ → Image) → SameOn U g f → (Ms : List (Option Term)) (D : List LfType) (A : LfType) (K : Kind) → Σ.kinds (target A) ≡ Some K → UsesGoal (under_all D U) (other_places Ms) A → HaveSkeletons (constant_skeletons Σ) (context_skeletons (onto (instance (binders D A) g) G)) Ms → TypedArguments Σ (onto (instance (binders D A) g) (onto G O)) Ms (substitute_spine reduce (lift_over (binders D A) g) (target_arguments A)) K → TypedGoal Σ (onto (instance D g) G) (lift_over D f) A Ms
 goal_is_typed Σ ok G O U g f h Ms D (pi A1 A) K k (u, us) hm a = subst (λ X. TypedGoal Σ (X ∷ onto (instance D g) G) (lift (lift_over D f)) A Ms) (agree_on_type reduce (under_all D U) (lift_over D g) (lift_over D f) A1 (same_over D U g f h) u) (goal_is_typed Σ ok G O U g f h Ms (A1 ∷ D) A K k us hm a)
 goal_is_typed Σ ok G O U g f h Ms D (atom b S) K k u hm a = (K, k, others_agree Σ (onto (instance D g) G) (under_all D U) (lift_over D g) (lift_over D f) (same_over D U g f h) Ms S K u (over_case Σ ok (onto (instance D g) G) O Ms (substitute_spine reduce (lift_over D g) S) K hm (subst (λ X. TypedArguments Σ X Ms (substitute_spine reduce (lift_over D g) S) K) (sym (onto_onto (instance D g) G O)) a)))
 
@@ -220,7 +220,7 @@ all_places Σ X U V h f (M ∷ Ms) (app N S) star a u w = absurd a
 all_places Σ X U V h f (Some M ∷ Ms) (app N S) (kind_pi A K) (m, a) (u, us) w = (u, all_places Σ X U V h f Ms S (instantiate_kind A M K) a us w)
 all_places Σ X U V h f (None ∷ Ms) (app N S) (kind_pi A K) a u (w, ws) = (uses_within U V N h w, all_places Σ X U V h f Ms S (instantiate_kind A (substitute reduce f N) K) a u ws)
 
-all_of_goal : (Σ : Signature) (X : List LfType) (U V : ℕ → Bool) → Within U V → (f : ℕ → Image) (Ms : List (Option Term)) (A : LfType) (K : Kind) → TypedArguments Σ X Ms (substitute_spine reduce f (target_arguments A)) K → UsesGoal V (covered_places Ms) A → UsesGoal U (other_places Ms) A → UsesType V A
+pub all_of_goal : (Σ : Signature) (X : List LfType) (U V : ℕ → Bool) → Within U V → (f : ℕ → Image) (Ms : List (Option Term)) (A : LfType) (K : Kind) → TypedArguments Σ X Ms (substitute_spine reduce f (target_arguments A)) K → UsesGoal V (covered_places Ms) A → UsesGoal U (other_places Ms) A → UsesType V A
 all_of_goal Σ X U V h f Ms (pi A B) K a u w = (u.0, all_of_goal Σ X (under U) (under V) (Within-under U V h) f Ms B K a u.1 w.1)
 all_of_goal Σ X U V h f Ms (atom b S) K a u w = all_places Σ X U V h f Ms S K a u w
 

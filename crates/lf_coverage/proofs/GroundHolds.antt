@@ -30,12 +30,12 @@ inputs_are [] = refl
 inputs_are (true ∷ m) = ap (λ b. true ∷ b) (inputs_are m)
 inputs_are (false ∷ m) = ap (λ b. false ∷ b) (inputs_are m)
 
-abbrev outputs_at : List Bool → List Mark
+abbrev pub outputs_at : List Bool → List Mark
 outputs_at [] = []
 outputs_at (true ∷ m) = output ∷ outputs_at m
 outputs_at (false ∷ m) = input ∷ outputs_at m
 
-outputs_are : (m : List Bool) → output_places (outputs_at m) ≡ m
+pub outputs_are : (m : List Bool) → output_places (outputs_at m) ≡ m
 outputs_are [] = refl
 outputs_are (true ∷ m) = ap (λ b. true ∷ b) (outputs_are m)
 outputs_are (false ∷ m) = ap (λ b. false ∷ b) (outputs_are m)
@@ -47,7 +47,7 @@ head_ground_holds_types Σ ok W typed c i K k m v u =
     (λ w. first_closed Σ ok (λ a. inputs_at m) c K ty.0 ty.1 k (subst (λ b. MentionChosenOnly nothing b K) (sym (inputs_are m)) v) w)
     u
 
-either_three : (a b d : Bool) → either (either a b) d ≡ either a (either b d)
+pub either_three : (a b d : Bool) → either (either a b) d ≡ either a (either b d)
 either_three true b d = refl
 either_three false b d = refl
 

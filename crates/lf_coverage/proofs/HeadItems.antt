@@ -22,12 +22,6 @@ abbrev pub outputs : ℕ → List Mark
 outputs zero = []
 outputs (suc n) = output ∷ outputs n
 
--- a spine of so many arguments
-abbrev pub some_spine : ℕ → Spine → Spine
-some_spine zero S = nil
-some_spine (suc n) nil = nil
-some_spine (suc n) (app M S) = app M (some_spine n S)
-
 pub kind_renamed : (ρ : ℕ → ℕ) (A : LfType) → type_kind (rename_type ρ A) ≡ rename_kind ρ (type_kind A)
 kind_renamed ρ (pi A B) = ap (kind_pi (rename_type ρ A)) (kind_renamed (lift_renaming ρ) B)
 kind_renamed ρ (atom a S) = refl

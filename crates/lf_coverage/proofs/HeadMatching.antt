@@ -82,7 +82,7 @@ module _ (Σ : Signature) (ok : IsSignature Σ) (G O : List LfType) where
       (strengthening_keeps_typing Σ ok (in_context G) (onto G O) G (λ i. i) M A (λ i X g u. subst (TypeAt G i) (sym (rename_identity_type X)) (first_type G O i X g u)) (term_within Σ (context_skeletons G) (in_context G) M t (λ i s g. let (X, h, e) = skeleton_has_variable G i s g in in_covers G i X h) k) m))
 
   -- The arguments of the case, and others where there is none, are typed at the covered places.
-  typed_places : (Ms : List (Option Term)) (S : Spine) (K : Kind) (Γ : List Skeleton) (η : ℕ → Image) → KindBySkeletons (family_skeletons Σ) (constant_skeletons Σ) Γ K → SubstitutionBySkeletons (constant_skeletons Σ) Γ (context_skeletons (onto G O)) η → HaveSkeletons (constant_skeletons Σ) (context_skeletons G) Ms → SpineSkeleton (constant_skeletons Σ) (context_skeletons (onto G O)) S (kind_skeleton 0 K) (base 0) → TypedArguments Σ (onto G O) Ms S (substitute_kind reduce η K) → (T : Spine) × ArePlaces Ms T × TypedPlacesFrom Σ (covered_places Ms) G η T K
+  pub typed_places : (Ms : List (Option Term)) (S : Spine) (K : Kind) (Γ : List Skeleton) (η : ℕ → Image) → KindBySkeletons (family_skeletons Σ) (constant_skeletons Σ) Γ K → SubstitutionBySkeletons (constant_skeletons Σ) Γ (context_skeletons (onto G O)) η → HaveSkeletons (constant_skeletons Σ) (context_skeletons G) Ms → SpineSkeleton (constant_skeletons Σ) (context_skeletons (onto G O)) S (kind_skeleton 0 K) (base 0) → TypedArguments Σ (onto G O) Ms S (substitute_kind reduce η K) → (T : Spine) × ArePlaces Ms T × TypedPlacesFrom Σ (covered_places Ms) G η T K
   typed_places [] nil star Γ η k w hm s a = (nil, tt, tt)
   typed_places [] nil (kind_pi A K) Γ η k w hm s a = absurd a
   typed_places [] (app N S) K Γ η k w hm s a = absurd a

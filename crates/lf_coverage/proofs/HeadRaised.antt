@@ -1,7 +1,7 @@
 -- The arguments of a head use only the variables whose families are below their own.
 use Rattle.std.proofs.Common.{◌≡◌, ℕ, zero, suc, List, [], ◌∷◌, sym, ap, ◌∙◌, subst}
 use Rattle.std.specs.Prelude.{Bool, true}
-use Rattle.lf.specs.Syntax.{Term, Spine, nil, app, LfType, pi, atom, Kind, kind_pi, star, skeleton, weaken, rename_type}
+use Rattle.lf.specs.Syntax.{Spine, nil, app, LfType, pi, atom, Kind, kind_pi, star, skeleton}
 use Rattle.lf.specs.Substitution.{Image, single, lift, substitute_type, reduce}
 use Rattle.lf.specs.Typing.{Signature, SpineType, IsType, IsContext, instantiate_type}
 use Rattle.lf.specs.Variables.{target, onto, binders, FamiliesIn, KindFamiliesIn, Within}
@@ -30,14 +30,6 @@ use Rattle.lf_coverage.proofs.Parts.{suc_same}
 pub families_within : (S T : ℕ → Bool) → Within S T → (A : LfType) → FamiliesIn S A → FamiliesIn T A
 families_within S T w (pi A B) (a, b) = (families_within S T w A a, families_within S T w B b)
 families_within S T w (atom a U) h = w a h
-
-pub families_from : (S : ℕ → Bool) (σ : ℕ → Image) (A : LfType) → FamiliesIn S (substitute_type reduce σ A) → FamiliesIn S A
-families_from S σ (pi A B) (a, b) = (families_from S σ A a, families_from S (lift σ) B b)
-families_from S σ (atom a T) h = h
-
-pub families_unrenamed : (S : ℕ → Bool) (ρ : ℕ → ℕ) (A : LfType) → FamiliesIn S (rename_type ρ A) → FamiliesIn S A
-families_unrenamed S ρ (pi A B) (a, b) = (families_unrenamed S ρ A a, families_unrenamed S (Rattle.lf.specs.Syntax.lift_renaming ρ) B b)
-families_unrenamed S ρ (atom a T) h = h
 
 pub below_substituted : (below : ℕ → ℕ → Bool) (σ : ℕ → Image) (A : LfType) → ArgumentsAreBelow below A → ArgumentsAreBelow below (substitute_type reduce σ A)
 below_substituted below σ (pi A B) (a, b) = (subst (λ t. FamiliesIn (below t) (substitute_type reduce σ A)) (sym (target_of reduce σ A)) (families_substituted (below (target A)) reduce σ A a), below_substituted below (lift σ) B b)

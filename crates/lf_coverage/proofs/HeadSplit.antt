@@ -25,7 +25,8 @@ use Rattle.lf_cases.proofs.OutputItems.{lifted}
 use Rattle.lf_cases.proofs.Split.{first_on}
 use Rattle.lf_cases.specs.Reached.{arguments_count, head_masks, taken, with_block, SplitHead, constant_head, bound_head, entry_head, new_entry_head, split_items}
 use Rattle.lf_coverage.specs.HeadOrder.{Offer}
-use Rattle.lf_coverage.specs.Heads.{Listed, no_offer, with_case, without_case, GivesCase, GivesNone, HeadsAreAnswered, IsHeadSplit, HaveSkeletons, IsTypedCase}
+use Rattle.lf_coverage.specs.Heads.{GivesCase, GivesNone, HeadsAreAnswered, IsHeadSplit, HaveSkeletons, IsTypedCase}
+use Rattle.lf_coverage.proofs.Listed.{answer_of, offer_of_case, listed_by}
 use Rattle.lf_coverage.proofs.GroundTyped.{ground_typed, items_extended}
 use Rattle.lf_coverage.proofs.NewBlock.{moved_at}
 use Rattle.lf_coverage.proofs.SomeHead.{Made, some_head}
@@ -52,32 +53,9 @@ behind_split Σ W below I X J n h A s i t g = subst (λ k. SkeletonAt (context_s
         let (Y, y, q) = skeleton_has_variable (items_context I) i t g in
         subst (SkeletonAt (context_skeletons (items_context (with_block B I))) (i + (length B.some + length B.entries))) (skeleton_renamed (shift_by (length B.some + length B.entries)) Y ∙ q) (variable_has_skeleton (items_context (with_block B I)) (i + (length B.some + length B.entries)) (rename_type (shift_by (length B.some + length B.entries)) Y) (moved_at B I i Y y))
 
--- what is answered to a listed head, and the head of a listed case
-pub answer_of : {Answer : Offer → Option Case → Type 0} {hs : List Offer} {Cs : List Case} → Listed Answer hs Cs → (h : Offer) → Member h hs → ((D : Case) × Member D Cs × Answer h (Some D)) ⊎ Answer h None
-answer_of no_offer h m = absurd m
-answer_of {Answer} (with_case {h = k} {D = D} a l) h (inl e) = inl (D, inl refl, subst (λ j. Answer j (Some D)) (sym e) a)
-answer_of {Answer} (without_case {h = k} a l) h (inl e) = inr (subst (λ j. Answer j None) (sym e) a)
-answer_of {Answer} {Cs = Cs} (with_case {D = D} {Cs = Ds} a l) h (inr m) = by (answer_of l h m)
-  where
-    by : ((E : Case) × Member E Ds × Answer h (Some E)) ⊎ Answer h None → ((E : Case) × Member E (D ∷ Ds) × Answer h (Some E)) ⊎ Answer h None
-    by (inl (E, m, a)) = inl (E, inr m, a)
-    by (inr a) = inr a
-answer_of (without_case a l) h (inr m) = answer_of l h m
-
 -- other answers to the same heads
-pub listed_by : {A B : Offer → Option Case → Type 0} {hs : List Offer} {Cs : List Case} → ((h : Offer) (found : Option Case) → Member h hs → A h found → B h found) → Listed A hs Cs → Listed B hs Cs
-listed_by f no_offer = no_offer
-listed_by f (with_case {h = h} {D = D} a l) = with_case (f h (Some D) (inl refl) a) (listed_by (λ k z m. f k z (inr m)) l)
-listed_by f (without_case {h = h} a l) = without_case (f h None (inl refl) a) (listed_by (λ k z m. f k z (inr m)) l)
-
 abbrev pub answered_by : {Σ : Signature} {W : List Block} {A B : LfType → Offer → Option Case → Type 0} {C : Case} {x : ℕ} {Cs : List Case} (a : HeadsAreAnswered Σ W A C x Cs) → ((h : Offer) (found : Option Case) → Member h a.offers → A a.type h found → B a.type h found) → HeadsAreAnswered Σ W B C x Cs
 answered_by a f = record { type = a.type; at = a.at; is_free = a.is_free; offers = a.offers; are_offers = a.are_offers; in_order = a.in_order; listed = listed_by f a.listed }
-
-pub head_of_case : {Answer : Offer → Option Case → Type 0} {hs : List Offer} {Cs : List Case} → Listed Answer hs Cs → (D : Case) → Member D Cs → (h : Offer) × Member h hs × Answer h (Some D)
-head_of_case no_offer D m = absurd m
-head_of_case {Answer} (with_case {h = h} a l) D (inl e) = (h, inl refl, subst (λ E. Answer h (Some E)) (sym e) a)
-head_of_case (with_case a l) D (inr m) = let (h, k, a') = head_of_case l D m in (h, inr k, a')
-head_of_case (without_case a l) D m = let (h, k, a') = head_of_case l D m in (h, inr k, a')
 
 -- putting values in keeps the places
 pub places_put_in : (σ : ℕ → Image) (Ms : List (Option Term)) → covered_places (put_in σ Ms) ≡ covered_places Ms
@@ -109,7 +87,7 @@ module _ (Σ : Signature) (ok : IsSignature Σ) (W : List Block) (S : ℕ → Bo
       }
 
   pub split_cases_typed : (x : ℕ) (Cs : List Case) → IsHeadSplit Σ W S below C x Cs → (D : Case) → Member D Cs → IsTypedCase Σ W D
-  split_cases_typed x Cs sp D l = let (h, k, a) = head_of_case sp.split.answered.listed D l in given_case_typed x sp.split.answered.type h.items h.moved h.head h.type (sp.split.answered.are_offers.each h k) D a
+  split_cases_typed x Cs sp D l = let (h, k, a) = offer_of_case sp.split.answered.listed D l in given_case_typed x sp.split.answered.type h.items h.moved h.head h.type (sp.split.answered.are_offers.each h k) D a
 
 module _ (Σ : Signature) (ok : IsSignature Σ) (W : List Block) (typed : AreTypedBlocks Σ W) (below : ℕ → ℕ → Bool) (s : IsSubordination Σ W below) (Low : ℕ → Bool) (sc : SelfContained Σ W Low) (C : Case) (tc : IsTypedCase Σ W C) (x : ℕ) (Cs : List Case) (sp : IsHeadSplit Σ W Low below C x Cs) where
   -- One of the cases has, under values of its items, the given terms and the arguments that C has.
@@ -163,7 +141,7 @@ module _ (Σ : Signature) (ok : IsSignature Σ) (W : List Block) (typed : AreTyp
   one_holds w F σ T D (E ∷ Ds) (inr m) h = inr (one_holds w F σ T D Ds m h)
 
   like : (D : Case) → Member D Cs → IsLike C D
-  like D m = let (h, k, c) = head_of_case sp.split.answered.listed D m in by h c
+  like D m = let (h, k, c) = offer_of_case sp.split.answered.listed D m in by h c
     where
       by : (h : Offer) → GivesCase Σ W Low below C x sp.split.answered.type h.items h.moved h.head h.type D → IsLike C D
       by h c = record {

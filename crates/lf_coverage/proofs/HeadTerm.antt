@@ -1,7 +1,7 @@
 -- The term that a head makes is typed by skeletons.
 use Rattle.std.proofs.Common.{◌≡◌, ℕ, zero, suc, List, [], ◌∷◌, ◌+◌, ◌<◌, length, refl, sym, ap, ◌∙◌, subst, arith}
 use Rattle.std.specs.Prelude.{Bool}
-use Rattle.lf.specs.Syntax.{Head, constant, variable, Term, lambda, root, LfType, pi, atom, Skeleton, base, skeleton, rename_head, rename_type}
+use Rattle.lf.specs.Syntax.{Head, Term, lambda, root, LfType, pi, atom, Skeleton, base, skeleton, rename_head, rename_type}
 use Rattle.lf.specs.SkeletonTyping.{HeadSkeletons, SkeletonAt, HeadSkeleton, TermSkeleton, SpineSkeleton}
 use Rattle.lf.specs.Skeletons.{constant_skeletons, context_skeletons, type_skeleton}
 use Rattle.lf.specs.AtOnce.{shift_by, lift_renaming_by}

@@ -21,7 +21,7 @@ use Rattle.lf_coverage.specs.OwnTerms.{blocks_of}
 use Rattle.lf_coverage.specs.Reading.{entry_reading, read_entry, variable_past}
 use Rattle.lf_coverage.proofs.NewInstance.{as_many, new_blocks_are, new_instance_is_of_new_block}
 use Rattle.lf_coverage.proofs.NumberedHeads.{left_zero, numbered_heads_are_all, target_over}
-use Rattle.lf_coverage.proofs.Numbering.{entry_behind}
+use Rattle.lf_coverage.proofs.NumberingBlocks.{entry_behind}
 use Rattle.lf_coverage.proofs.StaysApart.{new_instance_stays_apart}
 
 behind_first : (a b c : ℕ) → a ≤ (a + b) + c

@@ -9,15 +9,15 @@ use Rattle.lf_cases.specs.Case.{Case, items_context}
 use Rattle.lf_cases.specs.Reached.{SplitHead, arguments_count, split_items}
 use Rattle.lf_coverage.specs.HeadOrder.{Offer}
 use Rattle.lf_coverage.specs.SplitStore.{AllFamiliesIn, split_store}
-use Rattle.lf_coverage.specs.UnifiedSplit.{AnswersEachHead, HeadIsSolved}
+use Rattle.lf_coverage.specs.UnifiedSplit.{AnswersEachHead, HeadIsAnswered}
 use Rattle.lf_coverage.proofs.Families.{solved_keeps_families, split_items_keep_families, store_families}
-use Rattle.lf_coverage.proofs.HeadSplit.{head_of_case}
+use Rattle.lf_coverage.proofs.Listed.{offer_of_case}
 
 module _ (Σ : Signature) (W : List Block) (below : ℕ → ℕ → Bool) (T : ℕ → Bool) (sc : SelfContained Σ W T) where
   pub split_families : (C D : Case) (Cs : List Case) → AllFamiliesIn T (items_context C.items) → AnswersEachHead Σ W below C Cs → Member D Cs → AllFamiliesIn T (items_context D.items)
-  split_families C D Cs f (x, sp) m = let (h, k, a) = head_of_case sp.listed D m in by h (sp.are_offers.each h k) a
+  split_families C D Cs f (x, sp) m = let (h, k, a) = offer_of_case sp.listed D m in by h (sp.are_offers.each h k) a
     where
-      by : (h : Offer) → SplitHead Σ W C.items sp.type h.items h.moved h.head h.type → HeadIsSolved Σ below C x sp.type h (Some D) → AllFamiliesIn T (items_context D.items)
+      by : (h : Offer) → SplitHead Σ W C.items sp.type h.items h.moved h.head h.type → HeadIsAnswered Σ below C x sp.type h (Some D) → AllFamiliesIn T (items_context D.items)
       by h sh a =
           let (after, s, e) = a.finds in
           let fp : AllFamiliesIn T (items_context (split_items below sp.type h.items h.moved h.type)) = split_items_keep_families Σ W T sc below C.items f x sp.type sp.at h.items h.moved h.head h.type sh a.no_block in

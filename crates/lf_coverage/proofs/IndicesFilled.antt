@@ -1,7 +1,7 @@
 -- An existential variable is replaced by an older one, which is applied to older universal variables first: what existential variables are applied to
 -- stays distinct variables that they take.
 use Rattle.std.proofs.Common.{◌≡◌, ℕ, zero, suc, ◌⊎◌, List, [], ◌∷◌, inl, inr, refl, sym, ap, ap₂, ◌∙◌, subst, arith}
-use Rattle.std.specs.Prelude.{Bool, true, false, not, cond}
+use Rattle.std.specs.Prelude.{Bool, true, false, not}
 use Rattle.lf.specs.Eta.{append, eta_expand}
 use Rattle.lf.specs.SkeletonTyping.{HeadSkeletons, SkeletonAt, SpineSkeleton, TermSkeleton, TypeBySkeletons}
 use Rattle.lf.specs.Substitution.{Image, keep, put, lift, apply_image, rename_image, substitute, substitute_spine, substitute_type, reduce}

@@ -132,9 +132,6 @@ module _ (k : List Bool) (D : List LfType) (A : LfType) where
   abbrev n : ℕ
   n = length D
 
-  abbrev v : ℕ
-  v = zero + length D
-
   abbrev σ : ℕ → Image
   σ i = single (skeleton A) (raised_variable k D A zero) (lift_renaming (over_item D) i)
 

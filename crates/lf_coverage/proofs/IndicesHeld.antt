@@ -1,6 +1,7 @@
 -- Where the types of the constants have patterns, types alone hold the equation at which a run stops.
 use Rattle.std.proofs.Common.{sym, subst}
 use Rattle.lf_unification.specs.Unifiers.{Equation}
+use Rattle.lf_cases.specs.Case.{input_goal}
 use Rattle.lf_coverage.specs.IndicesLeft.{EquationIsHeld, IndexedRunIsHeldByTypes}
 use Rattle.lf_coverage.proofs.IndicesLeft.{split_is_held_by_types}
 use Rattle.lf_coverage.proofs.IndicesRuns.{input_run_kept}
@@ -8,7 +9,6 @@ use Rattle.lf_coverage.proofs.IndicesSplits.{head_of_split_has_patterns}
 use Rattle.lf_coverage.proofs.Subordinate.{inputs_quantify_below}
 use Rattle.lf_coverage.proofs.SubordinateRuns.{run_quantifies_below}
 use Rattle.lf_coverage.proofs.TypedCases.{input_goal_is_typed_case}
-use Rattle.lf_cases.specs.Case.{input_goal}
 
 pub indexed_run_is_held_by_types : IndexedRunIsHeldByTypes
 indexed_run_is_held_by_types Σ ok T constants W typed sc below test a m K e c h f D r x shown l =

@@ -28,10 +28,11 @@ use Rattle.lf_coverage.proofs.IndicesPruned.{PlainType}
 use Rattle.lf_coverage.proofs.IndicesRuns.{input_run_kept}
 use Rattle.lf_coverage.proofs.IndicesSplits.{head_of_split_has_patterns}
 use Rattle.lf_coverage.proofs.IndicesState.{AllLow, Holds, IsHigh, IsLow, low_free, low_or_high, run_holds}
-use Rattle.lf_coverage.proofs.PatternHeads.{target_is}
+use Rattle.lf_coverage.proofs.PatternHeadTerm.{target_is}
 use Rattle.lf_coverage.proofs.PatternSplits.{split_store_is_pattern}
-use Rattle.lf_coverage.proofs.PatternSteps.{length_local, run_keeps, value_at}
-use Rattle.lf_coverage.proofs.StoreSolution.{skeleton_open}
+use Rattle.lf_coverage.proofs.PatternSteps.{run_keeps}
+use Rattle.lf_coverage.proofs.PatternSides.{value_at}
+use Rattle.lf_coverage.proofs.PatternMoves.{length_local}
 use Rattle.lf_coverage.proofs.Subordinate.{inputs_quantify_below}
 use Rattle.lf_coverage.proofs.SubordinateItems.{split_items_quantify_below}
 use Rattle.lf_coverage.proofs.SubordinateRuns.{run_quantifies_below}

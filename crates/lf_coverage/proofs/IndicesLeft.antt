@@ -20,7 +20,9 @@ use Rattle.lf_coverage.specs.IndicesLeft.{EquationIsHeld, IsHeldByTypes, SplitIs
 use Rattle.lf_coverage.specs.PatternStores.{IsPatternStore, IsPatternTerm, SidesArePatterns}
 use Rattle.lf_coverage.specs.SplitStore.{split_store}
 use Rattle.lf_coverage.proofs.PatternSplits.{split_store_is_pattern}
-use Rattle.lf_coverage.proofs.PatternSteps.{length_local, puts, run_keeps}
+use Rattle.lf_coverage.proofs.PatternSteps.{run_keeps}
+use Rattle.lf_coverage.proofs.PatternSides.{puts}
+use Rattle.lf_coverage.proofs.PatternMoves.{length_local}
 use Rattle.lf_coverage.proofs.IndicesParts.{found, is_on, mentions_or_not, part_of}
 
 module _ (Σ : Signature) (Ψ : ℕ → Option LfType) where

@@ -13,7 +13,7 @@ use Rattle.lf_coverage.specs.PatternRuns.{HaveNoIndices}
 use Rattle.lf_coverage.specs.PatternStores.{ArePatternArguments, IsPatternTerm, IsPatternType}
 use Rattle.lf_coverage.specs.Subordinate.{QuantifiersAreBelow}
 use Rattle.lf_coverage.proofs.IndicesPruned.{PlainType}
-use Rattle.lf_coverage.proofs.PatternHeads.{target_is}
+use Rattle.lf_coverage.proofs.PatternHeadTerm.{target_is}
 
 module _ (L : ℕ → Bool) where
   -- Where the target is of L so is that of each argument, anywhere in the skeleton.

@@ -1,7 +1,7 @@
 -- Over families without indices no equation of patterns is left over.
 use Rattle.std.proofs.Common.{◌≡◌, ℕ, zero, suc, ◌⊎◌, List, [], ◌∷◌, inl, inr, refl, sym, ap, ◌∙◌, subst}
 use Rattle.std.specs.Prelude.{Bool, Option, Some, None}
-use Rattle.lf.specs.Syntax.{constant, variable, metavariable, Term, Spine, lambda, root, nil, app, LfType, pi, atom, Kind, star, Skeleton, base, arrow, lift_renaming, rename_spine, rename_type, weaken}
+use Rattle.lf.specs.Syntax.{metavariable, Term, Spine, nil, app, LfType, pi, atom, star, lift_renaming, rename_spine, rename_type, weaken}
 use Rattle.lf.specs.Typing.{Signature, TypeAt, IsSignature, IsType, IsContext, SpineFitsKind}
 use Rattle.lf.specs.Variables.{FamiliesIn, onto, target}
 use Rattle.lf.proofs.Weakening.{declared_is_type}
@@ -22,13 +22,13 @@ use Rattle.lf_coverage.specs.PatternStores.{IsPatternStore, TypesArePatterns}
 use Rattle.lf_coverage.specs.SplitStore.{AllFamiliesIn, context_metavariables, open_some, open_spine, open_type, split_store, type_in}
 use Rattle.lf_coverage.proofs.Families.{split_items_keep_families}
 use Rattle.lf_coverage.proofs.IndicesLeft.{equation_held, shown_is_pattern}
+use Rattle.lf_coverage.proofs.IndicesPlain.{never_held}
 use Rattle.lf_coverage.proofs.IndicesPruned.{AllPlain, PlainType, plain_kept}
 use Rattle.lf_coverage.proofs.ItemsContext.{items_are_context}
 use Rattle.lf_coverage.proofs.PatternRuns.{input_run_kept, kind_one, plain_types, split_store_is_pattern, target_in}
 use Rattle.lf_coverage.proofs.PatternSteps.{run_keeps}
 use Rattle.lf_coverage.proofs.SplitReady.{split_items_typed}
 use Rattle.lf_coverage.proofs.StoreSolution.{families_at, found_type}
-use Rattle.lf_coverage.proofs.IndicesPlain.{never_held}
 
 -- the types that are declared
 abbrev pub TypesPlain : (ℕ → Option LfType) → Type 0

@@ -24,8 +24,9 @@ use Rattle.lf_unification.proofs.Patterns.{past_rename}
 use Rattle.lf_coverage.specs.PatternStores.{BindingsArePatterns, IsPatternTerm}
 use Rattle.lf_coverage.proofs.IndicesCore.{variable_one}
 use Rattle.lf_coverage.proofs.IndicesPruned.{at_index, index_of}
-use Rattle.lf_coverage.proofs.PatternHeads.{target_is}
-use Rattle.lf_coverage.proofs.PatternSteps.{at_bound, countdown, plain_same_spine}
+use Rattle.lf_coverage.proofs.PatternHeadTerm.{target_is}
+use Rattle.lf_coverage.proofs.PatternEta.{countdown}
+use Rattle.lf_coverage.proofs.PatternSides.{at_bound, plain_same_spine}
 use Rattle.lf_coverage.proofs.PatternTerms.{distinct_fit}
 
 -- Under n local variables the term is a metavariable on all of them, the oldest first.

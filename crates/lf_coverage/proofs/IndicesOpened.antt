@@ -25,9 +25,6 @@ opened (suc k) (suc i) = by (opened k i)
     by (stays e) = stays (ap (rename_head suc) e)
     by (opens m e) = opens m (ap (rename_head suc) e)
 
-pub not_both : {A : Type 0} (k i m : ℕ) → open_variable k i ≡ variable i → open_variable k i ≡ metavariable m → A
-not_both k i m e f = absurd cc
-
 -- a bound variable is newer than an outer one
 pub bound_is_newer : (k i j m : ℕ) → open_variable k i ≡ metavariable m → open_variable k j ≡ variable j → newer j i ≡ true
 bound_is_newer zero i j m e f = absurd cc

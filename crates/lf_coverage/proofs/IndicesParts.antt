@@ -1,7 +1,6 @@
 -- Parts of terms of patterns: where a metavariable stands it is on a pattern.
 use Rattle.std.proofs.Common.{◌≡◌, ℕ, zero, suc, ◌⊎◌, List, [], ◌∷◌, inl, inr, refl, sym, ap, ap₂, ◌∙◌, subst}
 use Rattle.std.specs.Prelude.{Option}
-use mathlib.Core.Path.{fun_ext}
 use Rattle.lf.specs.SkeletonTyping.{SkeletonAt}
 use Rattle.lf.specs.Syntax.{constant, variable, metavariable, Term, Spine, lambda, root, nil, app, LfType, pi, atom, Skeleton, base, arrow, skeleton}
 use Rattle.lf.specs.Typing.{Signature}
@@ -14,7 +13,8 @@ use Rattle.lf_unification.specs.Skeletons.{skeleton_or_default}
 use Rattle.lf_unification.proofs.BindTyped.{in_pattern}
 use Rattle.lf_unification.proofs.Offer.{decide}
 use Rattle.lf_coverage.specs.PatternStores.{AreDistinct, ArePatternArguments, IsPatternTerm}
-use Rattle.lf_coverage.proofs.PatternSteps.{beyond_is}
+use Rattle.lf_coverage.proofs.PatternMoves.{beyond_is}
+use mathlib.Core.Path.{fun_ext}
 
 -- a type of each skeleton
 abbrev pub type_of : Skeleton → LfType

@@ -1,7 +1,6 @@
 -- Types without indices let go each argument.
 use Rattle.std.proofs.Common.{◌≡◌, ℕ, zero, suc, List, [], ◌∷◌, length, refl, sym, ap, ap₂, ◌∙◌, subst, arith}
 use Rattle.std.specs.Prelude.{◌+◌, ◌<◌, Option, Some}
-use mathlib.Core.Path.{fun_ext}
 use Rattle.lf.specs.Eta.{arity}
 use Rattle.lf.specs.SkeletonTyping.{SkeletonAt, RenamingBySkeletons}
 use Rattle.lf.specs.Syntax.{nil, LfType, pi, atom, Skeleton, base, arrow, skeleton, lift_renaming, rename_spine, rename_type, weaken}
@@ -15,8 +14,11 @@ use Rattle.lf_unification.specs.Pruning.{IsPartOf, PrunedType, kept_renaming}
 use Rattle.lf_unification.proofs.Patterns.{past_rename}
 use Rattle.lf_coverage.specs.TermMatching.{over}
 use Rattle.lf_coverage.proofs.Forms.{as_pis}
-use Rattle.lf_coverage.proofs.PatternSteps.{beyond_is, countdown, counted, fits_eta, over_under, past_over, past_zero}
+use Rattle.lf_coverage.proofs.PatternEta.{countdown, counted, fits_eta, past_zero}
+use Rattle.lf_coverage.proofs.PatternMoves.{beyond_is, past_over}
+use Rattle.lf_coverage.proofs.PatternPruned.{over_under}
 use Rattle.lf_coverage.proofs.PatternTerms.{fits_renamed, renamed_all, renaming_renamed}
+use mathlib.Core.Path.{fun_ext}
 
 -- no family of the type has indices
 abbrev pub PlainType : LfType → Type 0

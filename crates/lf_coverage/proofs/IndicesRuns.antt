@@ -26,8 +26,8 @@ use Rattle.lf_coverage.specs.PatternStores.{IsPatternStore, TypesArePatterns}
 use Rattle.lf_coverage.specs.SplitStore.{AllFamiliesIn, context_metavariables, open_some, open_type, solved_case, split_store, type_in}
 use Rattle.lf_coverage.specs.Subordinate.{AllQuantifiersAreBelow}
 use Rattle.lf_coverage.specs.SubordinateRuns.{ComesBy, comes_itself, comes_by_split}
-use Rattle.lf_coverage.specs.UnifiedSplit.{AnswersEachHead, HeadIsSolved, IsAnsweredSplit}
-use Rattle.lf_coverage.proofs.HeadSplit.{answer_of, head_of_case}
+use Rattle.lf_coverage.specs.UnifiedSplit.{AnswersEachHead, HeadIsAnswered, IsAnsweredSplit}
+use Rattle.lf_coverage.proofs.Listed.{answer_of, offer_of_case}
 use Rattle.lf_coverage.proofs.IndicesFamilies.{split_families}
 use Rattle.lf_coverage.proofs.IndicesHeads.{AllItemsHave, item_at, outer_renames}
 use Rattle.lf_coverage.proofs.IndicesOpened.{item_open, item_opened, outer_opens}
@@ -37,7 +37,8 @@ use Rattle.lf_coverage.proofs.IndicesSteps.{TypesHave, run_has}
 use Rattle.lf_coverage.proofs.IndicesTyped.{items_on_patterns}
 use Rattle.lf_coverage.proofs.IndicesValues.{types_read_have}
 use Rattle.lf_coverage.proofs.ItemsContext.{items_are_context}
-use Rattle.lf_coverage.proofs.PatternCases.{pattern_case_has_patterns, values_bound}
+use Rattle.lf_coverage.proofs.PatternCases.{values_bound}
+use Rattle.lf_coverage.proofs.PatternCaseTests.{pattern_case_has_patterns}
 use Rattle.lf_coverage.proofs.PatternRuns.{goal_patterns}
 use Rattle.lf_coverage.proofs.PatternSplits.{split_case_is_pattern, split_store_is_pattern}
 use Rattle.lf_coverage.proofs.PatternSteps.{run_keeps}
@@ -96,7 +97,7 @@ module _ (Σ : Signature) (ok : IsSignature Σ) (T : ℕ → Bool) (constants : 
     no_block : (h : Offer) → Member h sp.offers → HasNoBlockVariable h.items
     no_block h m = by (answer_of sp.listed h m)
       where
-        by : ((D : Case) × Member D Cs × HeadIsSolved Σ below C x sp.type h (Some D)) ⊎ HeadIsSolved Σ below C x sp.type h None → HasNoBlockVariable h.items
+        by : ((D : Case) × Member D Cs × HeadIsAnswered Σ below C x sp.type h (Some D)) ⊎ HeadIsAnswered Σ below C x sp.type h None → HasNoBlockVariable h.items
         by (inl (D, m, a)) = a.no_block
         by (inr a) = a.no_block
 
@@ -107,9 +108,9 @@ module _ (Σ : Signature) (ok : IsSignature Σ) (T : ℕ → Bool) (constants : 
     by_patterns = (x, sp, λ h m. (heads_have h m).0)
 
     case_kept : (D : Case) → Member D Cs → Kept D
-    case_kept D m = let (h, o, a) = head_of_case sp.listed D m in by h (sp.are_offers.each h o) (heads_have h o) a (split_families Σ W below T sc C D Cs k.3 (x, sp) m)
+    case_kept D m = let (h, o, a) = offer_of_case sp.listed D m in by h (sp.are_offers.each h o) (heads_have h o) a (split_families Σ W below T sc C D Cs k.3 (x, sp) m)
       where
-        by : (h : Offer) → SplitHead Σ W C.items sp.type h.items h.moved h.head h.type → HeadHasPatterns Σ below sp.type h.items h.moved h.type × AllItemsHave (items_context (split_items below sp.type h.items h.moved h.type)) → HeadIsSolved Σ below C x sp.type h (Some D) → AllFamiliesIn T (items_context D.items) → Kept D
+        by : (h : Offer) → SplitHead Σ W C.items sp.type h.items h.moved h.head h.type → HeadHasPatterns Σ below sp.type h.items h.moved h.type × AllItemsHave (items_context (split_items below sp.type h.items h.moved h.type)) → HeadIsAnswered Σ below C x sp.type h (Some D) → AllFamiliesIn T (items_context D.items) → Kept D
         by h sh (hp, ai) a f =
             let (after, s, e) = a.finds in
             let before : Store = split_store below x sp.type h.items h.moved h.head h.type a.kind in

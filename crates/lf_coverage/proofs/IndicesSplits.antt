@@ -28,7 +28,7 @@ use Rattle.lf_coverage.proofs.IndicesHeads.{AllItemsHave, LocalsHave, binders_ha
 use Rattle.lf_coverage.proofs.IndicesRenamed.{Renames, head_renames}
 use Rattle.lf_coverage.proofs.IndicesTyped.{head_on_patterns, items_on_patterns}
 use Rattle.lf_coverage.proofs.ItemsContext.{items_are_context}
-use Rattle.lf_coverage.proofs.PatternHeads.{length_context}
+use Rattle.lf_coverage.proofs.PatternDistinct.{length_context}
 use Rattle.lf_coverage.proofs.PatternSplits.{taken_same}
 use Rattle.lf_coverage.proofs.ResultType.{result_by_skeletons}
 use Rattle.lf_coverage.proofs.SolvedCase.{all_free, head_typed}

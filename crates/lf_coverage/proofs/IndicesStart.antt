@@ -24,7 +24,7 @@ use Rattle.lf_coverage.proofs.Forms.{no_shift_type}
 use Rattle.lf_coverage.proofs.IndicesLow.{AllLayered, Layered, Low, below_layered, families_low}
 use Rattle.lf_coverage.proofs.IndicesOnAll.{IsRigidTerm, OnAll}
 use Rattle.lf_coverage.proofs.IndicesState.{AllLow, Holds}
-use Rattle.lf_coverage.proofs.PatternHeads.{lift_low, target_is}
+use Rattle.lf_coverage.proofs.PatternHeadTerm.{lift_low, target_is}
 use Rattle.lf_coverage.proofs.PatternSplits.{locals_open}
 use Rattle.lf_coverage.proofs.PatternValues.{open_expand}
 use Rattle.lf_coverage.proofs.SolvedCase.{all_free}

@@ -25,7 +25,10 @@ use Rattle.lf_coverage.specs.PatternStores.{BindingsArePatterns, IsPatternStore,
 use Rattle.lf_coverage.proofs.IndicesLow.{AllLayered, Layered, Low, LowMeta, layered_at, low_domain, low_rest, low_term, spine_target}
 use Rattle.lf_coverage.proofs.IndicesPlain.{mentioned_in, rigid_is_mentioned}
 use Rattle.lf_coverage.proofs.IndicesTests.{never_both}
-use Rattle.lf_coverage.proofs.PatternSteps.{grows, length_local, local_at, of_side, step_keeps, step_keeps_types, value_at}
+use Rattle.lf_coverage.proofs.PatternSteps.{step_keeps, step_keeps_types}
+use Rattle.lf_coverage.proofs.PatternPruned.{grows}
+use Rattle.lf_coverage.proofs.PatternSides.{local_at, of_side, value_at}
+use Rattle.lf_coverage.proofs.PatternMoves.{length_local}
 use Rattle.lf_coverage.proofs.IndicesOnAll.{IsRigidTerm, OnAll, Unforced, nothing_must_go, puts_on_all, puts_rigid}
 
 module _ (Σ : Signature) (L : ℕ → Bool) (constants : (c : ℕ) (U : LfType) → Σ.types c ≡ Some U → Layered L (skeleton U)) where

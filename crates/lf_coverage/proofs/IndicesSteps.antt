@@ -1,7 +1,6 @@
 -- Solving keeps what the existential variables in types are applied to.
 use Rattle.std.proofs.Common.{◌≡◌, ℕ, zero, suc, ◌⊎◌, List, [], ◌∷◌, inl, inr, length, refl, sym, ap, ap₂, ◌∙◌, subst, arith}
 use Rattle.std.specs.Prelude.{Bool, true, false, Option, Some}
-use mathlib.Core.Path.{fun_ext}
 use Rattle.lf.specs.Rules.{Reduces}
 use Rattle.lf.specs.SkeletonTyping.{RenamingBySkeletons}
 use Rattle.lf.specs.Subordination.{Member}
@@ -31,8 +30,11 @@ use Rattle.lf_coverage.specs.TermMatching.{over}
 use Rattle.lf_coverage.proofs.IndicesCore.{body_has, passes_plain}
 use Rattle.lf_coverage.proofs.IndicesRenamed.{Renames, Returns, choice, chosen, head_renames, head_returns, item_returns, passed_over}
 use Rattle.lf_coverage.proofs.IndicesTests.{passes_from}
-use Rattle.lf_coverage.proofs.PatternSteps.{at_bound, past_is, plain_same_spine, step_keeps, step_keeps_types, under as under_lambdas, value_at}
+use Rattle.lf_coverage.proofs.PatternMoves.{past_is}
+use Rattle.lf_coverage.proofs.PatternSides.{at_bound, plain_same_spine, under as under_lambdas, value_at}
+use Rattle.lf_coverage.proofs.PatternSteps.{step_keeps, step_keeps_types}
 use Rattle.lf_coverage.proofs.PatternTerms.{term_has}
+use mathlib.Core.Path.{fun_ext}
 
 -- what stands outside is universal
 abbrev pub NoneOutside : List Skeleton → (ℕ → Bool) → Type 0

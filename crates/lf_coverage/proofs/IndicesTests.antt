@@ -1,7 +1,7 @@
 -- The arguments that pass the test of a pattern are distinct eta-long variables: so the test goes along with renaming, and back.
 use Rattle.std.proofs.Common.{◌≡◌, ℕ, zero, suc, List, [], ◌∷◌, refl, sym, ap, ap₂, ◌∙◌, subst}
 use Rattle.std.specs.Prelude.{Bool, true, false, not, Option, Some, None}
-use Rattle.lf.specs.Eta.{add_last, append, eta_long}
+use Rattle.lf.specs.Eta.{add_last, append}
 use Rattle.lf.specs.Substitution.{Image, keep, substitute, substitute_spine, reduce}
 use Rattle.lf.specs.Syntax.{Head, constant, variable, metavariable, Term, Spine, lambda, root, nil, app, Skeleton, base, arrow, rename, rename_head, rename_spine}
 use Rattle.lf.specs.Variables.{same_number}

@@ -25,7 +25,7 @@ use Rattle.lf_coverage.proofs.Abstracted.{expanded_back}
 use Rattle.lf_coverage.proofs.IndicesHeads.{AllItemsHave, item_at}
 use Rattle.lf_coverage.proofs.IndicesRenamed.{choice, takes_universal}
 use Rattle.lf_coverage.proofs.IndicesTests.{Passes, never_both, passes_from}
-use Rattle.lf_coverage.proofs.PatternHeads.{over_distinct}
+use Rattle.lf_coverage.proofs.PatternDistinct.{over_distinct}
 use Rattle.lf_coverage.proofs.PatternValues.{bound_stays, open_expand, outer_opens}
 use Rattle.lf_coverage.proofs.StoreSolution.{found_type, skeleton_open}
 

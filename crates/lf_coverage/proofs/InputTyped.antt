@@ -35,8 +35,8 @@ use Rattle.lf_coverage.specs.Matching.{HoldsTypes}
 use Rattle.lf_coverage.proofs.Forms.{no_shift_type, near_type}
 use Rattle.lf_coverage.proofs.GivenValues.{given_fits, onto_context, values_near}
 use Rattle.lf_coverage.proofs.ItemsContext.{items_are_context}
-use Rattle.lf_coverage.proofs.Strip.{under_binder}
 use Rattle.lf_coverage.proofs.Parts.{some_same, no_arrow}
+use Rattle.lf_coverage.proofs.Strip.{under_binder}
 use mathlib.Core.Path.{fun_ext}
 
 -- Values that are eta-long variables do what a renaming does, to a text that uses only these.

@@ -45,7 +45,7 @@ front_after x τ ρ (suc i) = refl
 
 -- what is put in twice is put in at once
 module _ (Σ : Signature) (C J G : List LfType) (σ ρ : ℕ → Image) (fσ : SubstitutionBySkeletons (constant_skeletons Σ) (context_skeletons C) (context_skeletons J) σ) (fρ : SubstitutionBySkeletons (constant_skeletons Σ) (context_skeletons J) (context_skeletons G) ρ) where
-  first_under : (L : List LfType) → SubstitutionBySkeletons (constant_skeletons Σ) (context_skeletons (onto L C)) (context_skeletons (onto (instance L σ) J)) (lift_over L σ)
+  pub first_under : (L : List LfType) → SubstitutionBySkeletons (constant_skeletons Σ) (context_skeletons (onto L C)) (context_skeletons (onto (instance L σ) J)) (lift_over L σ)
   first_under L = lifted Σ L C J σ fσ
 
   term_twice : (L : List LfType) (M : Term) (t : Skeleton) → TermSkeleton (constant_skeletons Σ) (context_skeletons (onto L C)) M t → substitute reduce (lift_over L ρ) (substitute reduce (lift_over L σ) M) ≡ substitute reduce (lift_over L (after ρ σ)) M
@@ -58,7 +58,7 @@ module _ (Σ : Signature) (C J G : List LfType) (σ ρ : ℕ → Image) (fσ : S
   terms_twice L (Some M ∷ Ms) ((t, m), h) = ap₂ (λ N Ns. Some N ∷ Ns) (term_twice L M t m) (terms_twice L Ms h)
   terms_twice L (None ∷ Ms) h = ap (λ Ns. None ∷ Ns) (terms_twice L Ms h)
 
-  local_twice : (L : List LfType) → IsContext Σ (onto L C) → instance (instance L σ) ρ ≡ instance L (after ρ σ)
+  pub local_twice : (L : List LfType) → IsContext Σ (onto L C) → instance (instance L σ) ρ ≡ instance L (after ρ σ)
   local_twice [] c = refl
   local_twice (A ∷ L) (c, t) = ap₂ (λ X Y. X ∷ Y) one (local_twice L c)
     where

@@ -76,7 +76,7 @@ closed_within : (U V : ℕ → Bool) (G : List LfType) → Within U V → Within
 closed_within U V G w x c i A g v = uses_type_within U V A w (c i A g (x i v))
 
 -- the context of what stands outside an entry
-lift_same : (es : List LfType) → lift_over es keep ≡ keep
+pub lift_same : (es : List LfType) → lift_over es keep ≡ keep
 lift_same [] = refl
 lift_same (E ∷ es) = ap lift (lift_same es) ∙ fun_ext lift_keep
 

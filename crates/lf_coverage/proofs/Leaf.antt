@@ -34,9 +34,9 @@ use Rattle.lf_coverage.proofs.Composing.{composed}
 use Rattle.lf_coverage.proofs.EntryPatternsCarried.{whole_values, own_value, outer_value, whole_typed, whole_terms, whole_same}
 use Rattle.lf_coverage.proofs.Forms.{lambdas_substituted}
 use Rattle.lf_coverage.proofs.GroundTyped.{long_equal}
+use Rattle.lf_coverage.proofs.Parts.{lambda_same}
 use Rattle.lf_coverage.proofs.Standing.{Outer}
 use Rattle.lf_coverage.proofs.Transfer.{same_in}
-use Rattle.lf_coverage.proofs.Parts.{lambda_same}
 
 pub term_after : (f : ℕ → Image) (y : Image) → IsTerm y → IsTerm (substitute_image f y)
 term_after f (keep j) t = absurd t

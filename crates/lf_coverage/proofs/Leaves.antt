@@ -9,17 +9,13 @@ use Rattle.lf.specs.Typing.{TypeAt, IsType, IsContext, IsTypedSubstitution}
 use Rattle.lf.specs.Variables.{target, target_arguments, binders, onto, UsesType, Values, everything}
 use Rattle.lf.specs.Worlds.{lift_over, under_all}
 use Rattle.lf.specs.Subordination.{Member, AreTypedBlocks}
-use Rattle.lf_coverage.specs.Heads.{IsHeadSplit, IsTypedCase, SplitsByHeads}
-use Rattle.lf_coverage.specs.UnifiedSplit.{SplitsByUnification}
-use Rattle.lf_coverage.proofs.HeadSplit.{split_cases_typed}
-use Rattle.lf_cases.specs.Case.{Case}
+use Rattle.lf_cases.specs.Case.{Case, Item, items_context, covered_places}
 use Rattle.lf.proofs.ExtensionTyping.{extension_keeps_contexts, extension_keeps_types, extension_keeps_values}
-use Rattle.lf.proofs.Partial.{kind_spine_has_skeleton_beside}
+use Rattle.lf.proofs.Partial.{kind_spine_has_skeleton_beside, uses_type_all}
 use Rattle.lf_checks.specs.Tests.{either}
 use Rattle.lf_checks.specs.Clause.{Clause, scope, outside}
 use Rattle.lf_checks.specs.Marks.{SamePlaces, UsesPlaces}
 use Rattle.lf_checks.specs.Ground.{UsesGoal}
-use Rattle.lf_cases.specs.Case.{Item, items_context, covered_places}
 use Rattle.lf_cases.specs.Pattern.{Pattern, given_at, is_there, is_given}
 use Rattle.lf_cases.specs.Missing.{AreTypedItems, IsTypedInstance, StandsAmong}
 use Rattle.lf_cases.proofs.Assemble.{end_typed, binders_typed}
@@ -27,24 +23,25 @@ use Rattle.lf_totality.proofs.Core.{outer_at}
 use Rattle.lf_cases.proofs.GroundTypes.{either_left, outside_types, clause_typed}
 use Rattle.lf_totality.proofs.OutputCases.{either_in, goal_within}
 use Rattle.lf.proofs.Agreement.{uses_type_within}
-use Rattle.lf.proofs.Partial.{uses_type_all}
 use Rattle.lf.proofs.Weakening.{declared_is_type}
 use Rattle.lf_totality.proofs.RaisedOutputs.{binders_over}
 use Rattle.lf_checks.proofs.StrictTypes.{either_cases}
 use Rattle.lf_totality.proofs.GoalHolds.{arguments_under}
-use Rattle.lf_coverage.specs.Heads.{HaveSkeletons}
-use Rattle.lf_coverage.specs.Laws.{LeafIsInstanceCase, LeavesCover, HeadIsTypedPattern, SubgoalIsTypedPattern}
 use Rattle.lf.proofs.Worlds.{world_is_context}
+use Rattle.lf_coverage.specs.Heads.{IsHeadSplit, IsTypedCase, SplitsByHeads, HaveSkeletons}
+use Rattle.lf_coverage.specs.Laws.{LeafIsInstanceCase, LeavesCover, HeadIsTypedPattern, SubgoalIsTypedPattern}
+use Rattle.lf_coverage.specs.UnifiedSplit.{SplitsByUnification}
 use Rattle.lf_coverage.proofs.Carried.{beside_nothing}
-use Rattle.lf_coverage.proofs.GroundTyped.{ground_typed, items_extended}
-use Rattle.lf_coverage.proofs.ItemsContext.{items_are_context}
+use Rattle.lf_coverage.proofs.Choices.{second_of}
 use Rattle.lf_coverage.proofs.FirstStands.{stands_for}
+use Rattle.lf_coverage.proofs.GroundTyped.{ground_typed, items_extended}
+use Rattle.lf_coverage.proofs.HeadSplit.{split_cases_typed}
+use Rattle.lf_coverage.proofs.ItemsContext.{items_are_context}
 use Rattle.lf_coverage.proofs.Leaf.{v, v_out, v_typed, v_terms, v_given, v_places, leaves_terms, leaves_deep}
+use Rattle.lf_coverage.proofs.Parts.{some_same}
 use Rattle.lf_coverage.proofs.Runs.{other_run, head_splits_cover}
 use Rattle.lf_coverage.proofs.Transfer.{instance_fits, fits_more, have_more}
 use Rattle.lf_coverage.proofs.Unified.{unified_split}
-use Rattle.lf_coverage.proofs.Parts.{some_same}
-use Rattle.lf_coverage.proofs.Choices.{second_of}
 
 pub goal_places : (D : List LfType) (U : ℕ → Bool) (m : List Bool) (A : LfType) → UsesGoal (under_all D U) m A → UsesPlaces (under_all (binders D A) U) m (target_arguments A)
 goal_places D U m (pi B A) u = goal_places (B ∷ D) U m A u.1

@@ -24,7 +24,7 @@ use Rattle.lf_cases.specs.Missing.{AreTypedItems, CommonInstance, blocks_with}
 use Rattle.lf_cases.specs.Reached.{IsInstanceOf, LeavesAll}
 use Rattle.lf_coverage.specs.Heads.{HaveSkeletons}
 use Rattle.lf_coverage.specs.Matching.{ArePlaces, HoldsTypes, Matches, found_values}
-use Rattle.lf_coverage.specs.MatchingLaws.{MatchIsInstance, MatchingDecides, InstanceIsDecided}
+use Rattle.lf_coverage.specs.MatchingLaws.{MatchIsInstance, InstanceIsDecided}
 use Rattle.lf_coverage.specs.MeetStore.{IsConstants}
 use Rattle.lf_coverage.proofs.Leaf.{leaves_deep, leaves_terms}
 use Rattle.lf_coverage.proofs.Leaves.{given_skeleton, given_is}
@@ -82,16 +82,13 @@ match_is_instance Σ ok W typed C tc p k own m =
     } in
     (s, refl, l, m.strict)
 
-pub matching_decides : MatchingDecides
-matching_decides Σ ok W typed C p tp k tb own cl = (λ i. instance_matches Σ ok W typed C p tp k tb cl i, λ m. match_is_instance Σ ok W typed C tb.by_skeletons p k own m)
-
 -- What matching tests is decided.
 pub both_decided : {A B : Type 0} → Dec A → Dec B → Dec (A × B)
 both_decided (yes a) (yes b) = yes (a, b)
 both_decided (yes a) (no n) = no (λ h. n h.1)
 both_decided (no n) d = no (λ h. n h.0)
 
-implied : {A B : Type 0} → Dec A → Dec B → Dec (A → B)
+pub implied : {A B : Type 0} → Dec A → Dec B → Dec (A → B)
 implied (yes a) (yes b) = yes (λ x. b)
 implied (yes a) (no n) = no (λ f. n (f a))
 implied (no n) d = yes (λ a. absurd (n a))
@@ -129,7 +126,7 @@ same_decided (None ∷ Ms) nil = no (λ h. h)
 same_decided (Some M ∷ Ms) (app N T) = both_decided (same_term M N) (same_decided Ms T)
 same_decided (None ∷ Ms) (app N T) = same_decided Ms T
 
-all_decided : (G : List LfType) (P : ℕ → LfType → Type 0) → ((i : ℕ) (A : LfType) → TypeAt G i A → Dec (P i A)) → Dec ((i : ℕ) (A : LfType) → TypeAt G i A → P i A)
+pub all_decided : (G : List LfType) (P : ℕ → LfType → Type 0) → ((i : ℕ) (A : LfType) → TypeAt G i A → Dec (P i A)) → Dec ((i : ℕ) (A : LfType) → TypeAt G i A → P i A)
 all_decided [] P h = yes (λ i A g. absurd g)
 all_decided (B ∷ G) P h = by (h zero (weaken B) refl) (all_decided G (λ i A. P (suc i) (weaken A)) (λ i A g. h (suc i) (weaken A) (A, g, refl)))
   where
@@ -142,7 +139,7 @@ all_decided (B ∷ G) P h = by (h zero (weaken B) refl) (all_decided G (λ i A. 
     by (yes a) (no n) = no (λ f. n (λ i A g. f (suc i) (weaken A) (A, g, refl)))
     by (no n) r = no (λ f. n (f zero (weaken B) refl))
 
-term_decided : (y : Image) → Dec (IsTerm y)
+pub term_decided : (y : Image) → Dec (IsTerm y)
 term_decided (keep i) = no (λ h. h)
 term_decided (put a N) = yes tt
 
@@ -179,5 +176,5 @@ module _ (Σ : Signature) (C : Case) (p : Pattern) (k : IsConstants p.origin) (c
 
 pub instance_is_decided : InstanceIsDecided
 instance_is_decided Σ ok W typed C p tp k tb own cl =
-    let d : IsInstanceOf Σ W C p ↔ Matches Σ C p = matching_decides Σ ok W typed C p tp k tb own cl in
+    let d : IsInstanceOf Σ W C p ↔ Matches Σ C p = (λ i. instance_matches Σ ok W typed C p tp k tb cl i, λ m. match_is_instance Σ ok W typed C tb.by_skeletons p k own m) in
     elim (matches_decided Σ C p k cl) [ yes m ↦ yes (d.1 m) | no n ↦ no (λ i. n (d.0 i)) ]

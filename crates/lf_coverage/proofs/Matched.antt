@@ -29,9 +29,9 @@ use Rattle.lf_coverage.specs.Matching.{ArePlaces, HoldsTypes, Matches, found_goa
 use Rattle.lf_coverage.specs.MatchingLaws.{InstanceMatches}
 use Rattle.lf_coverage.specs.MeetStore.{IsConstants}
 use Rattle.lf_coverage.specs.TypedCase.{IsTypedBeside, given_values}
+use Rattle.lf_coverage.proofs.Choices.{decided}
 use Rattle.lf_coverage.proofs.GivenValues.{StandsForGiven, StandsForItself, given_cases}
 use Rattle.lf_coverage.proofs.Matching.{arguments_are, found_is, goal_agrees, ground_is_strict, is_own, value_found, values}
-use Rattle.lf_coverage.proofs.Choices.{decided}
 
 -- What is of two sets is of a third, and so is what uses both.
 abbrev pub Third : (ℕ → Bool) → (ℕ → Bool) → (ℕ → Bool) → Type 0

@@ -39,13 +39,13 @@ use Rattle.lf_coverage.specs.Matching.{ArePlaces, as_image, found_goal, found_te
 use Rattle.lf_coverage.specs.MatchingLaws.{InstanceIsFound, ValuesAreDetermined}
 use Rattle.lf_coverage.specs.MeetStore.{IsConstants}
 use Rattle.lf_coverage.proofs.Carried.{beside_nothing}
+use Rattle.lf_coverage.proofs.Choices.{decided, second_of}
 use Rattle.lf_coverage.proofs.FirstStands.{among_keep, first_among}
 use Rattle.lf_coverage.proofs.ItemsContext.{items_are_context}
 use Rattle.lf_coverage.proofs.Leaf.{leaves_terms, leaves_deep}
 use Rattle.lf_coverage.proofs.Leaves.{given_skeleton}
 use Rattle.lf_coverage.proofs.ReadOff.{goal_read}
 use Rattle.lf_coverage.proofs.Transfer.{instance_fits}
-use Rattle.lf_coverage.proofs.Choices.{decided, second_of}
 
 -- nothing stands outside a constant's clause
 out_of_nothing : (A : LfType) (V : ℕ → Bool) → ((k : ℕ) → V k ≡ true → ⊥) → (i : ℕ) → outside A V i ≡ true → ⊥
@@ -124,9 +124,6 @@ module _ (Σ : Signature) (ok : IsSignature Σ) (W : List Block) (typed : AreTyp
   abbrev O : List LfType
   O = scope p.clause
 
-  abbrev G : List LfType
-  G = items_context C.items
-
   pub values : Values Σ s.used (scope p.clause) (items_context C.items) s.clause_values
   values = subst (λ J. Values Σ s.used (scope p.clause) (items_context J) s.clause_values) e s.typed_values
 
@@ -147,10 +144,6 @@ module _ (Σ : Signature) (ok : IsSignature Σ) (W : List Block) (typed : AreTyp
 
   pub arguments_are : ArePlaces C.arguments (target_arguments (substitute_type reduce s.clause_values p.type))
   arguments_are = held C.arguments s.tuple (target_arguments (substitute_type reduce s.clause_values p.type)) tc.arguments s.of_case s.of_clause
-
-  -- values for all variables, the same on the used ones
-  abbrev τ' : ℕ → Image
-  τ' = patch s.used (items_context C.items) s.clause_values
 
   whole : PartialSubstitution Σ ok [] (skeletons_beside [] (scope p.clause)) s.used (scope p.clause) (items_context C.items) (patch s.used (items_context C.items) s.clause_values)
   whole = patched Σ ok s.used (scope p.clause) (items_context C.items) s.clause_values tp.clause_typed (items_are_context Σ ok W typed C.items tc.items) values

@@ -43,8 +43,8 @@ use Rattle.lf_coverage.proofs.FreshValues.{Longer, longer, values_moved, argumen
 use Rattle.lf_coverage.proofs.InstancesCompose.{instance_is_typed}
 use Rattle.lf_coverage.proofs.ItemsContext.{items_are_context}
 use Rattle.lf_coverage.proofs.OpenTerms.{AllStand, FitsImage, all_lifted, fill_open, fill_open_type}
-use Rattle.lf_coverage.proofs.StoreSolution.{looked_up, found_type, skeleton_open, open_pis, value_at}
 use Rattle.lf_coverage.proofs.Parts.{suc_same, none_some}
+use Rattle.lf_coverage.proofs.StoreSolution.{looked_up, found_type, skeleton_open, open_pis, value_at}
 use mathlib.Core.Path.{fun_ext}
 
 -- the values of two contexts, the first in front of the second
@@ -100,10 +100,10 @@ module _ (Σ : Signature) (μ : ℕ → Skeleton) (β : ℕ → Option Term) (Y 
   stand_under [] = all_stand
   stand_under (A ∷ L) = all_lifted Σ μ (length L) (context_skeletons (onto L Y)) (skeleton A) (lift_over L σ) (under_locals L β) (stand_under L)
 
-  term_filled : (L : List LfType) (M : Term) (t : Skeleton) → TermSkeleton (constant_skeletons Σ) (context_skeletons (onto L Y)) M t → fill μ (under_locals L β) (open_term (length L) M) ≡ substitute reduce (lift_over L σ) M
+  pub term_filled : (L : List LfType) (M : Term) (t : Skeleton) → TermSkeleton (constant_skeletons Σ) (context_skeletons (onto L Y)) M t → fill μ (under_locals L β) (open_term (length L) M) ≡ substitute reduce (lift_over L σ) M
   term_filled L M t m = fill_open Σ μ (length L) (context_skeletons (onto L Y)) (context_skeletons (onto (instance L σ) G)) (lift_over L σ) (under_locals L β) (stand_under L) (lifted Σ L Y G σ fits) M t m
 
-  type_filled : (A : LfType) → TypeBySkeletons (family_skeletons Σ) (constant_skeletons Σ) (context_skeletons Y) A → fill_type μ β (open_type zero A) ≡ substitute_type reduce σ A
+  pub type_filled : (A : LfType) → TypeBySkeletons (family_skeletons Σ) (constant_skeletons Σ) (context_skeletons Y) A → fill_type μ β (open_type zero A) ≡ substitute_type reduce σ A
   type_filled A k = fill_open_type Σ μ (family_skeletons Σ) zero (context_skeletons Y) (context_skeletons G) σ β all_stand fits A k
 
 -- the filling under a local context depends on how long this is
@@ -126,11 +126,11 @@ pub arguments_renamed : (ρ : ℕ → ℕ) (D : List LfType) (A : LfType) → ta
 arguments_renamed ρ D (pi A B) = arguments_renamed ρ (A ∷ D) B
 arguments_renamed ρ D (atom a S) = refl
 
-arguments_over : (E : List LfType) (P : LfType) → target_arguments (pi_over E P) ≡ target_arguments P
+pub arguments_over : (E : List LfType) (P : LfType) → target_arguments (pi_over E P) ≡ target_arguments P
 arguments_over [] P = refl
 arguments_over (A ∷ E) P = arguments_over E (pi A P)
 
-solves_both : (μ : ℕ → Skeleton) (β : ℕ → Option Term) (es fs : List Equation) → SolvesAll μ β es → SolvesAll μ β fs → SolvesAll μ β (followed es fs)
+pub solves_both : (μ : ℕ → Skeleton) (β : ℕ → Option Term) (es fs : List Equation) → SolvesAll μ β es → SolvesAll μ β fs → SolvesAll μ β (followed es fs)
 solves_both μ β [] fs s t = t
 solves_both μ β (e ∷ es) fs (x, s) t = (x, solves_both μ β es fs s t)
 
@@ -141,22 +141,16 @@ value (Some A) x = Some (as_term (skeleton A) x)
 
 -- Two typed contexts, each with typed values over G.
 module _ (Σ : Signature) (ok : IsSignature Σ) (O Q G : List LfType) (co : IsContext Σ O) (cq : IsContext Σ Q) (cg : IsContext Σ G) (σ τ : ℕ → Image) (ts : IsTypedSubstitution Σ O G σ) (tt' : IsTypedSubstitution Σ Q G τ) where
-  abbrev X : List LfType
-  X = onto O Q
-
   abbrev κ : HeadSkeletons
   κ = constant_skeletons Σ
 
-  abbrev both : ℕ → Image
-  both = joined O σ τ
-
-  abbrev β : ℕ → Option Term
+  abbrev pub β : ℕ → Option Term
   β i = value (type_in (onto O Q) i) (joined O σ τ i)
 
   abbrev μ : ℕ → Skeleton
   μ = skeletons_of (context_metavariables (onto O Q))
 
-  first_fits : SubstitutionBySkeletons (constant_skeletons Σ) (context_skeletons O) (context_skeletons G) σ
+  pub first_fits : SubstitutionBySkeletons (constant_skeletons Σ) (context_skeletons O) (context_skeletons G) σ
   first_fits = typed_substitution_by_skeletons Σ ok O G σ ts
 
   second_fits : SubstitutionBySkeletons (constant_skeletons Σ) (context_skeletons Q) (context_skeletons G) τ
@@ -171,16 +165,16 @@ module _ (Σ : Signature) (ok : IsSignature Σ) (O Q G : List LfType) (co : IsCo
       by A e (inr (k, B, h, q, r)) =
           subst (λ x. ImageSkeleton (constant_skeletons Σ) (context_skeletons G) x t) (sym (ap (joined O σ τ) q ∙ joined_far O σ τ k)) (subst (ImageSkeleton (constant_skeletons Σ) (context_skeletons G) (τ k)) (sym (skeleton_renamed (shift_by (length O)) B) ∙ sym (ap skeleton r) ∙ e) (second_fits k (skeleton B) (variable_has_skeleton Q k B h)))
 
-  both_stand : (i : ℕ) (A : LfType) → TypeAt (onto O Q) i A → (μ i ≡ skeleton A) × (β i ≡ Some (as_term (skeleton A) (joined O σ τ i)))
+  pub both_stand : (i : ℕ) (A : LfType) → TypeAt (onto O Q) i A → (μ i ≡ skeleton A) × (β i ≡ Some (as_term (skeleton A) (joined O σ τ i)))
   both_stand i A h = (
     ap (λ y. skeleton_or_default (open_some y)) (looked_up (onto O Q) i A h) ∙ skeleton_open zero A,
     ap (λ y. value y (joined O σ τ i)) (looked_up (onto O Q) i A h),
   )
 
-  first_stand : (i : ℕ) (A : LfType) → TypeAt O i A → (μ i ≡ skeleton A) × (β i ≡ Some (as_term (skeleton A) (σ i)))
+  pub first_stand : (i : ℕ) (A : LfType) → TypeAt O i A → (μ i ≡ skeleton A) × (β i ≡ Some (as_term (skeleton A) (σ i)))
   first_stand i A h = let (m, b) = both_stand i A (near_type O Q i A h) in (m, b ∙ ap (λ x. Some (as_term (skeleton A) x)) (joined_near O σ τ i A h))
 
-  moves : RenamingBySkeletons (context_skeletons Q) (context_skeletons (onto O Q)) (shift_by (length O))
+  pub moves : RenamingBySkeletons (context_skeletons Q) (context_skeletons (onto O Q)) (shift_by (length O))
   moves i t k = let (A, h, e) = skeleton_has_variable Q i t k in
       subst (Rattle.lf.specs.SkeletonTyping.SkeletonAt (context_skeletons (onto O Q)) (i + length O)) (skeleton_renamed (shift_by (length O)) A ∙ e) (variable_has_skeleton (onto O Q) (i + length O) (rename_type (shift_by (length O)) A) (far_type O Q i A h))
 
@@ -192,7 +186,7 @@ module _ (Σ : Signature) (ok : IsSignature Σ) (O Q G : List LfType) (co : IsCo
       ∙ ap (λ f. substitute_type reduce f A) (fun_ext (joined_far O σ τ))
 
   -- the values are a typed instance of the metavariables
-  are_instance : IsInstance Σ [] (context_metavariables (onto O Q)) G β
+  pub are_instance : IsInstance Σ [] (context_metavariables (onto O Q)) G β
   are_instance = record { context = cg; outer = λ i A k. absurd k; typed = λ m. each m (type_in (onto O Q) m) refl }
     where
       each : (m : ℕ) (y : Option LfType) → type_in (onto O Q) m ≡ y → ValueHasType Σ G μ β (open_some y) (value y (joined O σ τ m))
@@ -240,7 +234,7 @@ module _ (Σ : Signature) (ok : IsSignature Σ) (O Q G : List LfType) (co : IsCo
           )
 
   -- and so are the places
-  places_solved : (L E : List LfType) → length E ≡ length L → (Ms : List (Option Term)) (S T : Spine) (K : Kind) → HaveSkeletons (constant_skeletons Σ) (context_skeletons (onto L O)) Ms → HasArguments (lift_over L σ) Ms T → SamePlaces (covered_places Ms) T (fill_spine μ (under_locals E β) S) → SolvesAll μ β (place_equations E (open_arguments (length L) Ms) S K)
+  pub places_solved : (L E : List LfType) → length E ≡ length L → (Ms : List (Option Term)) (S T : Spine) (K : Kind) → HaveSkeletons (constant_skeletons Σ) (context_skeletons (onto L O)) Ms → HasArguments (lift_over L σ) Ms T → SamePlaces (covered_places Ms) T (fill_spine μ (under_locals E β) S) → SolvesAll μ β (place_equations E (open_arguments (length L) Ms) S K)
   places_solved L E l [] S T K h a s = tt
   places_solved L E l (Some M ∷ Ms) nil T K h a s = tt
   places_solved L E l (None ∷ Ms) nil T K h a s = tt

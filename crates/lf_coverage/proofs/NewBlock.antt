@@ -31,8 +31,8 @@ use Rattle.lf_totality.proofs.OutputCases.{in_context, in_covers}
 use Rattle.lf_cases.proofs.OutputItems.{Follows, length_instance}
 use Rattle.lf_cases.proofs.Raised.{rename_identity_type}
 use Rattle.lf_coverage.proofs.Forms.{far_type, near_type}
-use Rattle.lf_coverage.proofs.SameInstance.{front_behind}
 use Rattle.lf_coverage.proofs.ItemsContext.{outer_context}
+use Rattle.lf_coverage.proofs.SameInstance.{front_behind}
 use mathlib.Core.Path.{fun_ext}
 
 -- the terms of some values, in front of others

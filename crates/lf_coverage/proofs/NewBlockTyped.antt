@@ -22,8 +22,10 @@ use Rattle.lf_coverage.specs.OwnTerms.{BlockVariable, blocks_of, own_terms, OnOw
 use Rattle.lf_coverage.proofs.EntrySignature.{grown_contexts, with_entries_is_signature, entries_kept, earlier_kept}
 use Rattle.lf_coverage.proofs.EntryValues.{some_own}
 use Rattle.lf_coverage.proofs.Forms.{far_type, near_type}
-use Rattle.lf_coverage.proofs.Numbering.{blocks_renamed}
-use Rattle.lf_coverage.proofs.NumberedTyped.{own_long, own_some, put_old_type, renamed_terms, blocks_end, member_end, rename_as_term, rename_some, among_worlds, old_own}
+use Rattle.lf_coverage.proofs.NumberingBlocks.{blocks_renamed}
+use Rattle.lf_coverage.proofs.NumberedTyped.{own_some, put_old_type, renamed_terms, blocks_end, member_end, rename_as_term, rename_some}
+use Rattle.lf_coverage.proofs.OwnLong.{variable_own as own_long}
+use Rattle.lf_coverage.proofs.NumberedTypedFree.{among_worlds, old_own}
 use Rattle.lf_coverage.proofs.OwnTerms.{rename_own, own_renamed, type_renamed, own_agrees, type_agrees, own_stays}
 use Rattle.lf_coverage.proofs.ItemsContext.{outer_context}
 use mathlib.Core.Path.{fun_ext}

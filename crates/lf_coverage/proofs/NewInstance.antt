@@ -29,10 +29,10 @@ use Rattle.lf_coverage.proofs.EntrySignature.{behind_kept, else_cases, not_same}
 use Rattle.lf_coverage.proofs.EntryValues.{put_some, read_some, some_equal}
 use Rattle.lf_coverage.proofs.NewBlock.{front_long, front_past, front_term, some_on, some_values}
 use Rattle.lf_coverage.proofs.NewBlockTyped.{locals_are}
-use Rattle.lf_coverage.proofs.Numbering.{blocks_renamed}
+use Rattle.lf_coverage.proofs.NumberingBlocks.{blocks_renamed}
 use Rattle.lf_coverage.proofs.NumberedTyped.{blocks_end}
 use Rattle.lf_coverage.proofs.OwnTerms.{number_in, old_is_none}
-use Rattle.lf_coverage.proofs.ReadInstance.{inside_onto, reading_next, values_fit}
+use Rattle.lf_coverage.proofs.ReadValues.{inside_onto, reading_next, values_fit}
 use Rattle.lf_coverage.proofs.Reading.{IsOld, none_read_type, read_image, read_spine_renamed, rename_read, type_only}
 use Rattle.lf_coverage.proofs.ItemsContext.{outer_context}
 use mathlib.Core.Path.{fun_ext}

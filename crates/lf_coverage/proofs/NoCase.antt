@@ -1,7 +1,7 @@
 -- What unification never solves gives no case: nothing over any typed items makes the variable the head.
-use Rattle.std.proofs.Common.{◌≡◌, ℕ, zero, suc, List, [], ◌∷◌, ◌+◌, ◌<◌, length, inl, inr, refl, sym, ap, ap₂, ◌∙◌, subst, arith, true≢false}
+use Rattle.std.proofs.Common.{◌≡◌, ℕ, zero, List, [], ◌∷◌, ◌+◌, ◌<◌, length, inl, inr, refl, sym, ap, ap₂, ◌∙◌, subst, arith, true≢false}
 use Rattle.std.specs.Prelude.{Bool, true, false, Option, Some, None}
-use Rattle.lf.specs.Syntax.{Head, constant, variable, Term, Spine, lambda, root, LfType, pi, atom, Kind, kind_pi, star, skeleton, rename_type, rename_head}
+use Rattle.lf.specs.Syntax.{Head, constant, variable, Term, Spine, root, LfType, pi, atom, Kind, kind_pi, star, skeleton, rename_type, rename_head}
 use Rattle.lf.specs.Substitution.{Image, keep, lift, apply_image, substitute, substitute_spine, substitute_type, reduce}
 use Rattle.lf.specs.SkeletonTyping.{SubstitutionBySkeletons}
 use Rattle.lf.specs.Skeletons.{constant_skeletons, context_skeletons}
@@ -31,8 +31,8 @@ use Rattle.lf_cases.proofs.Split.{distinct_without}
 use Rattle.lf_totality.proofs.After.{Extends-self}
 use Rattle.lf_totality.proofs.RaisedOutputs.{binders_over}
 use Rattle.lf_coverage.specs.Heads.{MakesHead, result_type, term_type}
-use Rattle.lf_coverage.specs.SplitStore.{AllFamiliesIn}
 use Rattle.lf_coverage.specs.Laws.{NeverGivesNoCase}
+use Rattle.lf_coverage.specs.SplitStore.{AllFamiliesIn}
 use Rattle.lf_coverage.proofs.Forms.{form, lambdas_substituted, lift_over_near, renaming_near, local_type, no_shift_type, lift_same, as_pis, pis_substituted}
 use Rattle.lf_coverage.proofs.InstancesCompose.{instance_is_typed, instance_by_skeletons}
 use Rattle.lf_coverage.proofs.ItemsContext.{items_are_context}
@@ -41,21 +41,8 @@ use Rattle.lf_coverage.proofs.SolvedCase.{never_gives_none, heads_without, all_f
 use Rattle.lf_coverage.proofs.SomeHead.{head_same, onto_nothing, same_type, taken_is, same_local, same_length}
 use Rattle.lf_coverage.proofs.SplitInstance.{behind_all}
 use Rattle.lf_coverage.proofs.SplitReady.{split_items_typed}
+use Rattle.lf_coverage.proofs.WritingRoots.{lambdas_same}
 use mathlib.Core.Path.{fun_ext}
-
--- what stands under as many binders
-lambdas_same : (k : ℕ) (M N : Term) → lambdas k M ≡ lambdas k N → M ≡ N
-lambdas_same zero M N e = e
-lambdas_same (suc k) M N e = lambdas_same k M N (inside e)
-  where
-    inside : lambda (lambdas k M) ≡ lambda (lambdas k N) → lambdas k M ≡ lambdas k N
-    inside e = cc
-
-same_head : (h k : Head) (S T : Spine) → root h S ≡ root k T → h ≡ k
-same_head h k S T e = cc
-
-same_spine : (h k : Head) (S T : Spine) → root h S ≡ root k T → S ≡ T
-same_spine h k S T e = cc
 
 -- Values that make a variable a head make their types the same.
 module _ (Σ : Signature) (ok : IsSignature Σ) (below : ℕ → ℕ → Bool) (I J : List Item) (x : ℕ) (X : LfType) (at : TypeAt (items_context I) x X) (n : ℕ) (h : Head) (A : LfType) (G : List LfType) (cg : IsContext Σ G) (τ : ℕ → Image) (fits : SubstitutionBySkeletons (constant_skeletons Σ) (context_skeletons (items_context (split_items below X J n A))) (context_skeletons G) τ) (ground : IsTypedSubstitution Σ (items_context I) G (λ k. τ (k + (n + arguments_count A)))) (ta : IsType Σ (onto (taken (rename_type (shift_by n) X)) (items_context J)) A) (h0 : Head) (hh : HeadHasType Σ (onto (instance (taken X) (λ k. τ (k + (n + arguments_count A)))) G) h0 (substitute_type reduce (lift_over (taken (rename_type (shift_by n) X)) (λ k. τ (k + arguments_count A))) A)) (under : (S : Spine) → substitute reduce (lift_over (taken (rename_type (shift_by n) X)) τ) (root (rename_head (lift_renaming_by (length (taken (rename_type (shift_by n) X))) (shift_by (arguments_count A))) h) S) ≡ root h0 (substitute_spine reduce (lift_over (taken (rename_type (shift_by n) X)) τ) S)) (same : as_term (skeleton X) (τ (x + (n + arguments_count A))) ≡ substitute reduce τ (head_term below (taken (rename_type (shift_by n) X)) h A)) where

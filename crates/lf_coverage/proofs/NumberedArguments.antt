@@ -31,10 +31,13 @@ use Rattle.lf_coverage.proofs.EntryValues.{read_as_term, put_term}
 use Rattle.lf_coverage.proofs.GroundTyped.{ground_typed, items_extended, long_equal}
 use Rattle.lf_coverage.proofs.NumberedTyped.{rename_as_term, typed_numbering, numbered_is_typed}
 use Rattle.lf_coverage.proofs.OwnTerms.{old_is_none}
-use Rattle.lf_coverage.proofs.ReadInstance.{values_fit, heads, inside_onto, ok₁}
+use Rattle.lf_coverage.proofs.ReadInstance.{heads}
+use Rattle.lf_coverage.proofs.ReadBlocks.{ok₁}
+use Rattle.lf_coverage.proofs.ReadValues.{values_fit, inside_onto}
 use Rattle.lf_coverage.proofs.ReadSkeletons.{read_has_skeleton}
 use Rattle.lf_coverage.proofs.Reading.{OnlyConstants, SpineOnlyConstants, IsOld, none_read, read_image, FollowsRead, image_read_under, read_substituted}
-use Rattle.lf_coverage.proofs.Transfer.{same_in, lift_instance, after_over, term_more}
+use Rattle.lf_coverage.proofs.Transfer.{same_in, lift_instance, after_over}
+use Rattle.lf_coverage.proofs.MoreConstants.{term_more}
 use Rattle.lf_coverage.proofs.Parts.{none_some}
 use mathlib.Core.Path.{fun_ext}
 
@@ -144,7 +147,7 @@ module _ (Σ Σ' : Signature) (ok : IsSignature Σ) (S : ℕ → Bool) (x : Exte
   pub under_same : (D : List LfType) (M : Term) (t : Skeleton) → TermSkeleton (constant_skeletons Σ) (context_skeletons (onto D (items_context C.items))) M t → substitute reduce (lift_over D σ) M ≡ substitute reduce (lift_over D ρ) (read (read_over D f) (substitute reduce (lift_over D δ) M))
   under_same D M t m =
       let O : List LfType = onto D (items_context C.items) in
-      let m' : TermSkeleton κ' (context_skeletons (onto D (items_context C.items))) M t = term_more S Σ Σ' x (context_skeletons (onto D (items_context C.items))) M t m in
+      let m' : TermSkeleton κ' (context_skeletons (onto D (items_context C.items))) M t = term_more Σ Σ' x.types_stay (context_skeletons (onto D (items_context C.items))) M t m in
       let both : SubstitutionBySkeletons κ' (context_skeletons (items_context C.items)) (context_skeletons G) (after ρ seen) = composed κ' (context_skeletons (items_context C.items)) (context_skeletons (onto X G)) (context_skeletons G) seen ρ seen_fits ρ_fits in
       agreeing κ' O (context_skeletons (onto (instance D σ) G)) (context_skeletons (onto (instance D (after ρ seen)) G)) (lift_over D σ) (lift_over D (after ρ seen)) M t (lifted Σ' D (items_context C.items) G σ σ_fits) (lifted Σ' D (items_context C.items) G (after ρ seen) both) (over_agree D (items_context C.items) σ (after ρ seen) agree) m'
       ∙ twice Σ' (items_context C.items) (onto X G) G seen ρ seen_fits ρ_fits D M t m'

@@ -27,10 +27,10 @@ use Rattle.lf_coverage.specs.Numbering.{entries_of}
 use Rattle.lf_coverage.specs.OwnTerms.{BlockVariable, blocks_of}
 use Rattle.lf_coverage.specs.Reading.{read_type, weaken_read, read_entry, entry_reading, variable_past}
 use Rattle.lf_coverage.proofs.Forms.{form}
-use Rattle.lf_coverage.proofs.Numbering.{entry_behind}
-use Rattle.lf_coverage.proofs.ReadInstance.{values_typed}
-use Rattle.lf_coverage.proofs.SameInstance.{find_entry, instance_unique}
+use Rattle.lf_coverage.proofs.NumberingBlocks.{entry_behind}
 use Rattle.lf_coverage.proofs.Parts.{some_same}
+use Rattle.lf_coverage.proofs.ReadValues.{values_typed}
+use Rattle.lf_coverage.proofs.SameInstance.{find_entry, instance_unique}
 
 -- a value of a free variable is a term
 pub value_is_term : (Σ : Signature) (G : List LfType) (f : ℕ → ℕ → Option (ℕ × ℕ)) (X : List LfType) (σ : ℕ → Image) → AreGroundValues Σ G f X σ → (x : ℕ) (A : LfType) → TypeAt X x A → (N : Term) × (σ x ≡ put (skeleton A) N)

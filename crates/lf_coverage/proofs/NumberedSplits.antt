@@ -25,7 +25,7 @@ use Rattle.lf_coverage.specs.NewBlock.{rename_all, with_new_block}
 use Rattle.lf_coverage.specs.NewInstance.{AreApart, with_instance}
 use Rattle.lf_coverage.specs.NumberedCase.{NumberedCase, IsNumberedInstance}
 use Rattle.lf_coverage.specs.NumberedHeads.{IsNumberedHead, IsNewEntry}
-use Rattle.lf_coverage.specs.NumberedSplits.{NumberedOffer, IsOfferTo, of_case, of_new_block, ListedByNumber, no_offer, with_case, without_case, IsAnsweredByNumber, AnsweredByNumberIsSplit}
+use Rattle.lf_coverage.specs.NumberedSplits.{NumberedOffer, IsOfferTo, of_case, of_new_block, NumberedAnswer, IsAnsweredByNumber, AnsweredByNumberIsSplit}
 use Rattle.lf_coverage.specs.Numbering.{entries_of}
 use Rattle.lf_coverage.specs.OwnStores.{solved_numbered}
 use Rattle.lf_coverage.specs.OwnTerms.{blocks_of}
@@ -41,26 +41,13 @@ use Rattle.lf_coverage.proofs.NewInstance.{new_instance_is_of_new_block}
 use Rattle.lf_coverage.proofs.NumberedHeads.{numbered_heads_are_all, target_over}
 use Rattle.lf_coverage.proofs.NumberedSplitsAnswers.{AnswersHold, answer_holds, entry_answer_holds}
 use Rattle.lf_coverage.proofs.OwnStoresNewBlock.{new_block_stays_typed}
+use Rattle.lf_coverage.proofs.Listed.{answer_of, offer_of_case}
 use Rattle.lf_coverage.proofs.Parts.{none_some, some_same}
 use Rattle.lf_coverage.proofs.StaysApart.{new_instance_stays_apart}
 use Rattle.lf_coverage.proofs.WritingChoice.{entry_below}
 use Rattle.lf_coverage.proofs.WritingLow.{below_same}
 
--- what is answered to a listed offer, and the offer of a listed case
-numbered_answer_of : {Answer : NumberedOffer → Option NumberedCase → Type 0} {os : List NumberedOffer} {Cs : List NumberedCase} → ListedByNumber Answer os Cs → (o : NumberedOffer) → Member o os → (found : Option NumberedCase) × Answer o found × ((D : NumberedCase) → found ≡ Some D → Member D Cs)
-numbered_answer_of no_offer o m = absurd m
-numbered_answer_of {Answer} (with_case {o = k} {D = D} a l) o (inl e) = (Some D, subst (λ j. Answer j (Some D)) (sym e) a, λ E q. inl (sym (some_same q)))
-numbered_answer_of {Answer} (without_case {o = k} a l) o (inl e) = (None, subst (λ j. Answer j None) (sym e) a, λ E q. absurd (none_some q))
-numbered_answer_of (with_case a l) o (inr m) = let (f, b, g) = numbered_answer_of l o m in (f, b, λ E q. inr (g E q))
-numbered_answer_of (without_case a l) o (inr m) = numbered_answer_of l o m
-
-pub offer_of_case : {Answer : NumberedOffer → Option NumberedCase → Type 0} {os : List NumberedOffer} {Cs : List NumberedCase} → ListedByNumber Answer os Cs → (D : NumberedCase) → Member D Cs → (o : NumberedOffer) × Member o os × Answer o (Some D)
-offer_of_case no_offer D m = absurd m
-offer_of_case {Answer} (with_case {o = o} a l) D (inl e) = (o, inl refl, subst (λ E. Answer o (Some E)) (sym e) a)
-offer_of_case (with_case a l) D (inr m) = let (o, k, b) = offer_of_case l D m in (o, inr k, b)
-offer_of_case (without_case a l) D m = let (o, k, b) = offer_of_case l D m in (o, inr k, b)
-
-places_renamed : (ρ : ℕ → ℕ) (Ms : List (Option Term)) → covered_places (rename_all ρ Ms) ≡ covered_places Ms
+pub places_renamed : (ρ : ℕ → ℕ) (Ms : List (Option Term)) → covered_places (rename_all ρ Ms) ≡ covered_places Ms
 places_renamed ρ [] = refl
 places_renamed ρ (Some M ∷ Ms) = ap (λ b. true ∷ b) (places_renamed ρ Ms)
 places_renamed ρ (None ∷ Ms) = ap (λ b. false ∷ b) (places_renamed ρ Ms)
@@ -103,11 +90,16 @@ module _ (Σ : Signature) (ok : IsSignature Σ) (W : List Block) (typed : AreTyp
   module _ (Σ' : Signature) (ext : Extends S Σ Σ') (G : List LfType) (w : World Σ' W S G) (θ : ℕ → ℕ → Image) (σ : ℕ → Image) (inst : IsNumberedInstance w first C θ σ) (apart : AreApart C θ) where
     -- The answer to an offer, for a case that holds what C holds.
     answered : (E : NumberedCase) (te : IsTypedNumberedCase Σ first W E) (χ : ℕ → ℕ → Image) (τ : ℕ → Image) (i : IsNumberedInstance w first E χ τ) (ap' : AreApart E χ) (y : ℕ) (Y : LfType) (at : TypeAt E.variables y Y) (f : FamiliesIn S Y) (a : ArgumentsAreBelow below Y) (h0 : Head) (T : Spine) (e : τ y ≡ put (skeleton Y) (lambdas (length (taken Y)) (root h0 T))) → HoldsAs first C θ σ E χ τ → (h : Head) (U : Spine) (A : LfType) → IsOfferTo Σ first W C x X (record { case = E; variable = y; type = Y; head = h; terms = U; left = A }) → AnswersHold Σ Σ' ok S ext W typed below s sc first free E te w χ τ i ap' y Y at f a h0 T e h U A → OneHoldsAs w first C θ σ Cs
-    answered E te χ τ i ap' y Y at f a h0 T e holds h U A offer hold =
-        let o : NumberedOffer = record { case = E; variable = y; type = Y; head = h; terms = U; left = A } in
-        let (found, ans, member) = numbered_answer_of sp.listed o (sp.every o offer) in
-        let (D, q, (ρ, j, apart', k)) = hold (sp.arguments_below o offer) ans.kind ans.of_family found ans.finds in
-        (D, member D q, χ, ρ, j, apart', holds_then first C E D θ χ χ σ τ ρ holds k)
+    answered E te χ τ i ap' y Y at f a h0 T e holds h U A offer hold = by (answer_of sp.listed o (sp.every o offer))
+      where
+        o : NumberedOffer
+        o = record { case = E; variable = y; type = Y; head = h; terms = U; left = A }
+
+        by : ((D : NumberedCase) × Member D Cs × NumberedAnswer Σ first below o (Some D)) ⊎ NumberedAnswer Σ first below o None → OneHoldsAs w first C θ σ Cs
+        by (inl (D, m, ans)) =
+            let (D', q, (ρ, j, apart', k)) = hold (sp.arguments_below o offer) ans.kind ans.of_family (Some D) ans.finds in
+            (D', subst (λ Z. Member Z Cs) (some_same q) m, χ, ρ, j, apart', holds_then first C E D' θ χ χ σ τ ρ holds k)
+        by (inr ans) = let (D', q, r) = hold (sp.arguments_below o offer) ans.kind ans.of_family None ans.finds in absurd (none_some q)
 
     same : HoldsAs first C θ σ C θ σ
     same = record { arguments = λ T h. h; given = λ υ h. h; zeroth = λ F h. h }

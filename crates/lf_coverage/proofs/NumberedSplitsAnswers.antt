@@ -3,7 +3,7 @@
 use Rattle.std.proofs.Common.{◌≡◌, ℕ, zero, suc, List, [], ◌∷◌, ◌+◌, length, Option, Some, None, refl, sym, ap, ◌∙◌, subst, arith}
 use Rattle.std.specs.Prelude.{Bool}
 use Rattle.lf.specs.Syntax.{Head, constant, variable, Term, Spine, root, LfType, Kind, skeleton}
-use Rattle.lf.specs.Substitution.{Image, keep, put, substitute, substitute_type, reduce, after}
+use Rattle.lf.specs.Substitution.{Image, put, substitute, substitute_type, reduce}
 use Rattle.lf.specs.Eta.{lambdas}
 use Rattle.lf.specs.SkeletonTyping.{SubstitutionBySkeletons}
 use Rattle.lf.specs.Skeletons.{constant_skeletons, context_skeletons}
@@ -40,20 +40,21 @@ use Rattle.lf_coverage.specs.WritingRoom.{gap_back, leave_room, move_image, past
 use Rattle.lf_coverage.proofs.EntryPatternsSplits.{put_in_holds_as}
 use Rattle.lf_coverage.proofs.NumberedHeads.{value_is_term}
 use Rattle.lf_coverage.proofs.NumberedSplitsHeads.{WrittenOffer, MakesWritten}
-use Rattle.lf_coverage.proofs.NumberedSplitsOffers.{is_offered}
 use Rattle.lf_coverage.proofs.NumberedSplitsHeld.{answer, answered_typed, read_off_typed, same_values}
+use Rattle.lf_coverage.proofs.NumberedSplitsMoved.{e₂, head_moved, move_head, room, stay_apart, stays, v}
+use Rattle.lf_coverage.proofs.NumberedSplitsOffers.{is_offered}
 use Rattle.lf_coverage.proofs.NumberedSplitsReady.{none_refuted}
-use Rattle.lf_coverage.proofs.OwnStoresCase.{same_blocks}
 use Rattle.lf_coverage.proofs.OwnStoresEntry.{ok₁}
 use Rattle.lf_coverage.proofs.OwnStoresSplit.{image_own}
+use Rattle.lf_coverage.proofs.OwnTerms.{put_in_keeps as same_blocks}
 use Rattle.lf_coverage.proofs.Parts.{none_some, some_same}
 use Rattle.lf_coverage.proofs.Reading.{IsOld, OnlyConstants, typed_only}
 use Rattle.lf_coverage.proofs.WritingChoice.{instance_of}
 use Rattle.lf_coverage.proofs.WritingInstance.{instance_is_written}
-use Rattle.lf_coverage.proofs.WritingLeft.{reading_moved, room_is_left}
+use Rattle.lf_coverage.proofs.WritingLeft.{room_is_left}
 use Rattle.lf_coverage.proofs.WritingMove.{move_substituted, same_moved}
+use Rattle.lf_coverage.proofs.WritingMoved.{reading_moved}
 use mathlib.Core.Path.{fun_ext}
-use Rattle.lf_coverage.proofs.NumberedSplitsMoved.{e₂, head_moved, move_head, room, stay_apart, stays, v}
 
 -- block variables with values put in are those of the case
 block_before : (υ : ℕ → Image) (bs : List BlockVariable) (j : ℕ) (d : BlockVariable) → block_at (put_in_blocks υ bs) j ≡ Some d → (b : BlockVariable) × (block_at bs j ≡ Some b) × (b.block ≡ d.block)

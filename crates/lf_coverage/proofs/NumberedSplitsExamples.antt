@@ -1,23 +1,21 @@
 -- The worked split by an entry alone.
-use Rattle.std.proofs.Common.{◌≡◌, ℕ, zero, suc, ◌+◌, ◌≤◌, length, List, [], ◌∷◌, inl, inr, refl, sym, ap, ◌∙◌, subst, arith}
+use Rattle.std.proofs.Common.{◌≡◌, ℕ, zero, suc, ◌+◌, ◌≤◌, length, [], ◌∷◌, inl, inr, refl, sym, ap, ◌∙◌, subst, arith}
 use Rattle.std.specs.Prelude.{Bool, false, Option, Some, None, true}
 use Rattle.lf.specs.Syntax.{Head, constant, Spine, Term, root, nil, LfType, Kind, kind_pi, star, base, rename_type, rename_spine}
 use Rattle.lf.specs.AtOnce.{shift_by}
 use Rattle.lf.specs.Typing.{Signature, TypeAt, IsKind, IsSignature}
 use Rattle.lf.specs.Variables.{target}
 use Rattle.lf.specs.Subordination.{Block, AreTypedBlocks, IsTypedBlock, Member}
-use Rattle.lf_unification.specs.Dependency.{IsListed, ListedMetavariable}
-use Rattle.lf_unification.specs.OpenTyping.{DeclarationsAreTyped, OpenHasType, OpenIsType}
-use Rattle.lf_unification.specs.PartialInstance.{IsFilling}
+use Rattle.lf_unification.specs.Dependency.{ValueIsOrdered}
 use Rattle.lf_unification.specs.Solving.{IsWellFormed, Solved}
 use Rattle.lf_unification.specs.Steps.{Run, bind, no_step, then_run}
 use Rattle.lf_unification.specs.Unifiers.{Store, on_left}
-use Rattle.lf_unification.proofs.Runs.{run_keeps_unifiers}
 use Rattle.lf_coverage.specs.EntryConstants.{with_entries, IsFreeFrom}
 use Rattle.lf_coverage.specs.Heads.{ArgumentsAreBelow}
 use Rattle.lf_coverage.specs.NewBlock.{with_new_block}
 use Rattle.lf_coverage.specs.NumberedCase.{NumberedCase}
-use Rattle.lf_coverage.specs.NumberedSplits.{NumberedOffer, IsOfferTo, of_case, of_new_block, with_case, no_offer, IsAnsweredByNumber}
+use Rattle.lf_coverage.specs.NumberedSplits.{NumberedOffer, IsOfferTo, of_case, of_new_block, IsAnsweredByNumber, NumberedUnifierFinds}
+use Rattle.lf_coverage.specs.Listed.{with_case, no_offer}
 use Rattle.lf_coverage.specs.NumberedSplitsRuns.{AnswersByNumber}
 use Rattle.lf_coverage.specs.NumberedSplitsExamples.{Bare, exp, exp_block, open_case, entry_case, OpenIsSplitByEntry}
 use Rattle.lf_coverage.specs.OwnStores.{IsNumberedOffer, offer_signature, offer_taken, offer_entry, left_type, numbered_store}
@@ -25,6 +23,7 @@ use Rattle.lf_coverage.specs.OwnTerms.{own_terms, TypeOnOwnTerms}
 use Rattle.lf_coverage.specs.SplitStore.{context_metavariables}
 use Rattle.lf_coverage.specs.TypedNumbered.{IsTypedNumberedCase}
 use Rattle.lf_coverage.proofs.EntrySignature.{with_entries_is_signature}
+use Rattle.lf_coverage.proofs.ExamplesBound.{bound_is_solved}
 use Rattle.lf_coverage.proofs.ExamplesUnified.{no_argument}
 use Rattle.lf_coverage.proofs.NumberedSplits.{answered_by_number_is_split}
 use Rattle.lf_coverage.proofs.OwnStoresNewBlock.{new_block_stays_typed}
@@ -67,16 +66,16 @@ open_typed = record {
     own (suc i) A (B, g, e) = absurd g
 
 -- The one offer
-abbrev new_case : NumberedCase
+abbrev pub new_case : NumberedCase
 new_case = with_new_block exp_block open_case
 
-abbrev the_offer : NumberedOffer
+abbrev pub the_offer : NumberedOffer
 the_offer = record { case = new_case; variable = 0; type = exp; head = constant 2; terms = nil; left = exp }
 
 entry_offered : IsNumberedOffer Bare 2 new_case exp (constant 2) nil exp
 entry_offered = offer_entry 2 nil exp refl refl refl
 
-each : (o : NumberedOffer) → Member o (the_offer ∷ []) → IsOfferTo Bare 2 (exp_block ∷ []) open_case 0 exp o
+pub each : (o : NumberedOffer) → Member o (the_offer ∷ []) → IsOfferTo Bare 2 (exp_block ∷ []) open_case 0 exp o
 each o (inl e) = subst (IsOfferTo Bare 2 (exp_block ∷ []) open_case 0 exp) (sym e) (of_new_block exp_block 2 nil exp (inl refl) refl entry_offered)
 each o (inr m) = absurd m
 
@@ -114,7 +113,7 @@ offer_of_block B c U A = record { case = with_new_block B open_case; variable = 
 of_block : (B : Block) (c : ℕ) (U : Spine) (A : LfType) → B ≡ exp_block → IsNumberedOffer Bare 2 (with_new_block B open_case) (rename_type (shift_by (length B.some)) exp) (constant c) U A → offer_of_block B c U A ≡ the_offer
 of_block B c U A e f = ap (λ D. offer_of_block D c U A) e ∙ offer_is (constant c) c U A refl (subst (λ (D : Block). IsNumberedOffer Bare 2 (with_new_block D open_case) (rename_type (shift_by (length D.some)) exp) (constant c) U A) e f)
 
-every : (o : NumberedOffer) → IsOfferTo Bare 2 (exp_block ∷ []) open_case 0 exp o → Member o (the_offer ∷ [])
+pub every : (o : NumberedOffer) → IsOfferTo Bare 2 (exp_block ∷ []) open_case 0 exp o → Member o (the_offer ∷ [])
 every o (of_case h U A f) = absurd (none_of_case h U A f)
 every o (of_new_block B c U A (inl e) n f) = inl (of_block B c U A e f)
 every o (of_new_block B c U A (inr m) n f) = absurd m
@@ -126,8 +125,8 @@ Entries = with_entries Bare 2 (exp_block ∷ [])
 entries_ok : IsSignature Entries
 entries_ok = with_entries_is_signature Bare bare_ok 2 free (exp_block ∷ []) blocks_typed
 
-abbrev one_type : ℕ → Option LfType
-one_type m = context_metavariables (exp ∷ []) m
+entry_ordered : (U : (ℕ → Option Term) → Type 0) → ValueIsOrdered Entries (context_metavariables (exp ∷ [])) U [] exp (Some (root (constant 2) nil))
+entry_ordered U = (tt, (exp, refl, (refl, λ β u. refl)), λ ρ. refl)
 
 module _ (below : ℕ → ℕ → Bool) where
   abbrev store : Store
@@ -136,44 +135,20 @@ module _ (below : ℕ → ℕ → Bool) where
   abbrev solved_store : Store
   solved_store = record { metavariables = context_metavariables (exp ∷ []); bindings = record { of = 0; value = root (constant 2) nil } ∷ []; equations = [] }
 
-  abbrev solved_order : List ListedMetavariable
-  solved_order = record { of = 0; of_type = exp; value = Some (root (constant 2) nil) } ∷ []
-
   ready : IsWellFormed Entries store
   ready = numbered_store_is_ready Bare bare_ok (exp_block ∷ []) blocks_typed 2 free below new_case (new_block_stays_typed Bare bare_ok (exp_block ∷ []) blocks_typed 2 free open_case open_typed exp_block (inl refl)) 0 exp refl (constant 2) nil exp entry_offered star refl
 
   run : Run Entries store solved_store
   run = then_run (bind {A = exp} on_left [] 0 [] (root (constant 2) nil) exp refl tt no_argument (record { inverted = record { inversion = root (constant 2) nil; is = refl }; reached = λ k. false; avoids = ((λ k A v e. absurd v), tt, λ v. v); within = tt })) no_step
 
-  module _ (U : (ℕ → Option Term) → Type 0) where
-    entry_typed : OpenHasType Entries [] one_type U [] (root (constant 2) nil) exp
-    entry_typed = (exp, refl, (refl, λ β u. refl))
-
-    declared : DeclarationsAreTyped Entries [] one_type U
-    declared = record { outer_typed = λ i A g. absurd g; metavariables_typed = at }
-      where
-        at : (m : ℕ) (A : LfType) → one_type m ≡ Some A → OpenIsType Entries [] one_type U [] A
-        at zero A e = subst (OpenIsType Entries [] one_type U []) (some_same e) (star, refl, tt)
-        at (suc m) A e = absurd cc
-
-  listed : (m : ℕ) (A : LfType) → one_type m ≡ Some A → IsListed solved_order m
-  listed zero A e = inl refl
-  listed (suc m) A e = absurd cc
-
-  abbrev form : IsWellFormed Entries solved_store
-  form = record {
-    order = solved_order;
-    is_order = (tt, refl, (λ h. h), tt, (star, refl, tt), (λ ρ. refl), (tt, entry_typed (IsFilling Entries [] solved_store), λ ρ. refl));
-    all_listed = listed;
-    bindings_listed = ((exp, inl refl), tt);
-    values_bound = ((λ N e. inl (ap (λ X. record { of = 0; value = X }) (sym (some_same e)))), tt);
-    typed = record { declarations_typed = declared (IsFilling Entries [] solved_store); bindings_typed = ((exp, refl, entry_typed (IsFilling Entries [] solved_store)), tt); equations_typed = tt };
-  }
-
   abbrev is_solved : Solved Entries store solved_store
-  is_solved = record { run = run; keeps = run_keeps_unifiers Entries entries_ok ready run; well_formed = form; none_left = refl }
+  is_solved = bound_is_solved Entries entries_ok 0 refl (root (constant 2) nil) entry_ordered store ready run
 
-  open_is_answered : IsAnsweredByNumber Bare 2 (exp_block ∷ []) below open_case 0 (entry_case ∷ [])
+  -- for this head unification finds p b.x
+  pub entry_found : NumberedUnifierFinds Bare 2 below the_offer star (Some entry_case)
+  entry_found = (solved_store, is_solved, refl)
+
+  unfoldable pub open_is_answered : IsAnsweredByNumber Bare 2 (exp_block ∷ []) below open_case 0 (entry_case ∷ [])
   open_is_answered = record {
     type = exp;
     at = refl;
@@ -182,12 +157,16 @@ module _ (below : ℕ → ℕ → Bool) where
     each = each;
     every = every;
     arguments_below = λ o f. subst (λ (p : NumberedOffer). ArgumentsAreBelow below p.left) (sym (the_only o (every o f))) tt;
-    listed = with_case (record { kind = star; of_family = refl; finds = (solved_store, is_solved, refl) }) no_offer;
+    listed = with_case (record { kind = star; of_family = refl; finds = entry_found }) no_offer;
   }
     where
       the_only : (o : NumberedOffer) → Member o (the_offer ∷ []) → o ≡ the_offer
       the_only o (inl e) = e
       the_only o (inr m) = absurd m
+
+pub open_offers : (below : ℕ → ℕ → Bool) → (open_is_answered below).offers ≡ the_offer ∷ []
+unfolding open_is_answered
+open_offers below = refl
 
 pub open_answers : (below : ℕ → ℕ → Bool) (S : ℕ → Bool) → S 0 ≡ true → AnswersByNumber Bare 2 (exp_block ∷ []) below S open_case (entry_case ∷ [])
 unfolding open_is_answered

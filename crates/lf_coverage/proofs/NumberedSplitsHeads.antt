@@ -1,12 +1,12 @@
 -- The head that a ground instance gives a variable is one that is offered, and written it is this head on its terms and new variables.
 use Rattle.std.proofs.Common.{◌≡◌, ℕ, List, [], ◌+◌, length, refl, sym, ap, ◌∙◌, subst}
 use Rattle.std.specs.Prelude.{Bool}
-use Rattle.lf.specs.Syntax.{Head, Term, Spine, root, LfType, atom, skeleton, rename_spine, rename_type, rename_head}
+use Rattle.lf.specs.Syntax.{Head, Term, Spine, root, LfType, atom, skeleton, rename_spine, rename_type, rename_head, app, nil, pi}
 use Rattle.lf.specs.Substitution.{Image, put, substitute, substitute_spine, substitute_image, substitute_type, reduce, after}
 use Rattle.lf.specs.AtOnce.{shift_by, lift_renaming_by}
 use Rattle.lf.specs.Eta.{append, lambdas}
 use Rattle.lf.specs.Skeletons.{context_skeletons}
-use Rattle.lf.specs.Typing.{Signature, TypeAt, HeadHasType, ImageHasType, HasType, SpineType, IsType, IsContext, IsSignature}
+use Rattle.lf.specs.Typing.{Signature, TypeAt, HeadHasType, ImageHasType, HasType, SpineType, IsType, IsContext, IsSignature, IsTypedSubstitution}
 use Rattle.lf.specs.Variables.{target, target_arguments, onto, binders, FamiliesIn}
 use Rattle.lf.specs.Subordination.{Block, SelfContained}
 use Rattle.lf.specs.Worlds.{World, lift_over, instance}
@@ -19,30 +19,27 @@ use Rattle.lf_cases.specs.OutputGoal.{free_variables}
 use Rattle.lf_cases.specs.Reached.{arguments_count, taken}
 use Rattle.lf_cases.proofs.Local.{binders_substituted}
 use Rattle.lf_totality.proofs.RaisedOutputs.{binders_over}
+use Rattle.lf.proofs.Substitution.{skeleton_context_of, substitution_keeps_types}
 use Rattle.lf_coverage.specs.EntryConstants.{with_entries}
 use Rattle.lf_coverage.specs.Heads.{ArgumentsAreBelow}
-use Rattle.lf_coverage.specs.NumberedCase.{NumberedCase, type_in}
+use Rattle.lf_coverage.specs.NumberedCase.{NumberedCase}
+use Rattle.lf_coverage.specs.OwnStores.{IsNumberedOffer}
 use Rattle.lf_coverage.specs.OwnTerms.{blocks_of}
 use Rattle.lf_coverage.specs.Writing.{IsWriting}
 use Rattle.lf_coverage.specs.WritingLaws.{IsInstanceWithRoom}
+use Rattle.lf_coverage.proofs.EntrySignature.{grown_contexts}
 use Rattle.lf_coverage.proofs.Forms.{lambdas_substituted, no_shift_type}
 use Rattle.lf_coverage.proofs.HeadItems.{count_substituted}
-use Rattle.lf_coverage.proofs.SolvedCase.{free_context_is}
-use Rattle.lf_coverage.proofs.WritingInstance.{written_signature, types_more}
-use Rattle.lf_coverage.proofs.WritingLow.{locals_same, skeletons_length, LowBy, places_of_low}
-use Rattle.lf_coverage.proofs.WritingOwn.{values_are_typed}
-use Rattle.lf.proofs.Substitution.{skeleton_context_of, substitution_keeps_types}
-use Rattle.lf.proofs.Weakening.{renaming_keeps_spine_typing}
-use Rattle.lf.specs.Typing.{IsTypedRenaming}
-use Rattle.lf.specs.Syntax.{app, nil, pi}
-use Rattle.lf.specs.Typing.{IsTypedSubstitution}
-use Rattle.lf_coverage.specs.OwnStores.{IsNumberedOffer}
-use Rattle.lf_coverage.proofs.EntrySignature.{grown_contexts}
 use Rattle.lf_coverage.proofs.NumberedSplitsMade.{MakesApplied, made_applied}
 use Rattle.lf_coverage.proofs.OwnStoresCase.{local_typed}
 use Rattle.lf_coverage.proofs.OwnStoresOffers.{Offered, offered}
+use Rattle.lf_coverage.proofs.PatternDistinct.{length_context as skeletons_length}
+use Rattle.lf_coverage.proofs.SolvedCase.{free_context_is}
 use Rattle.lf_coverage.proofs.SomeHead.{head_same}
-use Rattle.lf_coverage.proofs.WritingNone.{written_locals, here, items_written, v, ground}
+use Rattle.lf_coverage.proofs.WritingHead.{written_locals, here, items_written, v, ground}
+use Rattle.lf_coverage.proofs.WritingInstance.{written_signature, types_more}
+use Rattle.lf_coverage.proofs.WritingLow.{locals_same, LowBy, places_of_low}
+use Rattle.lf_coverage.proofs.WritingOwn.{values_are_typed}
 use Rattle.lf_coverage.proofs.WritingRoots.{root_of}
 
 -- what is left of a spine's typing behind its first arguments
@@ -73,21 +70,11 @@ module _ (Σ Σ' : Signature) {W : List Block} {S : ℕ → Bool} {G : List LfTy
   abbrev V : List LfType
   V = C.variables
 
-  -- the arguments of the head, written
-  abbrev pub written_arguments : Spine
-  written_arguments = substitute_spine reduce (lift_over (taken X) ρ) T
-
   pub taken_zero : taken (rename_type (shift_by 0) X) ≡ taken X
   taken_zero = ap taken (no_shift_type X)
 
-  abbrev Y0 : LfType
-  Y0 = type_in first C θ σ X
-
   abbrev pub MakesWritten : Head → Spine → LfType → (ℕ → Image) → Type 0
   MakesWritten h U A φ = MakesApplied (v Σ Σ' w first C θ σ r F ρ back hw sc below s x X at fams args h0 T e) below x X (free_variables C.variables) h U A (after ρ σ) (substitute_spine reduce (lift_over (taken X) ρ) T) φ
-
-  pub more : (A : LfType) → IsContext Σ₁ (onto D0 V) → IsType Σ₁ (onto D0 V) A → IsType Σe (onto D0 V) A
-  more A c t = growth_keeps_types Σ₁ Σe (types_more Σ Σ' w first C θ σ r) r.extends.kinds_stay (onto D0 V) A t
 
   pub cv : IsContext Σe V
   cv = grown_contexts Σ₁ Σe (types_more Σ Σ' w first C θ σ r) r.extends.kinds_stay V r.variables.variables

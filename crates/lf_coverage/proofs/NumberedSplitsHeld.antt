@@ -1,17 +1,15 @@
 -- A ground instance with room, written, is one of the case that is read off where unification solves the head's store.
-use Rattle.std.proofs.Common.{◌≡◌, ℕ, zero, suc, List, [], ◌∷◌, ◌+◌, length, Option, Some, refl, sym, ap, ap₂, ◌∙◌, subst, arith}
+use Rattle.std.proofs.Common.{◌≡◌, ℕ, zero, suc, List, [], ◌∷◌, ◌+◌, length, Option, Some, refl, sym, ap, ◌∙◌, subst, arith}
 use Rattle.std.specs.Prelude.{Bool}
-use Rattle.lf.specs.Syntax.{Head, Term, Spine, nil, app, root, LfType, Kind, skeleton, weaken, rename, rename_spine, rename_type}
+use Rattle.lf.specs.Syntax.{Head, Term, Spine, root, LfType, Kind, skeleton, rename, rename_spine, rename_type}
 use Rattle.lf.specs.Substitution.{Image, keep, put, substitute, substitute_spine, substitute_image, substitute_type, reduce, after}
 use Rattle.lf.specs.AtOnce.{shift_by}
-use Rattle.lf.specs.Eta.{add_last, append, lambdas}
+use Rattle.lf.specs.Eta.{append, lambdas}
 use Rattle.lf.specs.Typing.{Signature, TypeAt, HasType, ImageHasType, IsTypedSubstitution, IsSignature}
 use Rattle.lf.specs.Variables.{target, FamiliesIn}
 use Rattle.lf.specs.Subordination.{Block, SelfContained}
 use Rattle.lf.specs.Worlds.{World, lift_over}
-use Rattle.lf.proofs.Growth.{growth_keeps_typing}
-use Rattle.lf.proofs.TypeLaws.{skeleton_renamed, skeleton_substituted}
-use Rattle.lf.proofs.Worlds.{world_is_context}
+use Rattle.lf.proofs.TypeLaws.{skeleton_renamed}
 use Rattle.lf_checks.specs.Below.{IsSubordination}
 use Rattle.lf_unification.specs.OpenTyping.{skeletons_of}
 use Rattle.lf_unification.specs.Skeletons.{skeleton_or_default}
@@ -21,7 +19,6 @@ use Rattle.lf_cases.specs.Case.{items_context, as_term, behind_entries}
 use Rattle.lf_cases.specs.Cover.{InstanceIn}
 use Rattle.lf_cases.specs.OutputGoal.{free_variables}
 use Rattle.lf_cases.specs.Reached.{arguments_count, head_masks, taken, split_items}
-use Rattle.lf_cases.proofs.LongValues.{term_typed}
 use Rattle.lf_coverage.specs.EntryConstants.{EntryConstant, entry_constant, with_entries}
 use Rattle.lf_coverage.specs.Heads.{ArgumentsAreBelow}
 use Rattle.lf_coverage.specs.NumberedCase.{NumberedCase, AreTypedBlockVariables, some_spine, value_in, type_in}
@@ -36,37 +33,32 @@ use Rattle.lf_coverage.specs.TypedNumbered.{IsTypedNumberedCase}
 use Rattle.lf_coverage.specs.Writing.{IsWriting, back_over}
 use Rattle.lf_coverage.specs.WritingLaws.{IsInstanceWithRoom}
 use Rattle.lf_coverage.proofs.EntryPlaces.{entry_is}
+use Rattle.lf_coverage.proofs.EntrySignature.{grown_image}
 use Rattle.lf_coverage.proofs.NumberedHeads.{value_is_term}
 use Rattle.lf_coverage.proofs.NumberedSplitsHeads.{MakesWritten}
 use Rattle.lf_coverage.proofs.NumberedSplitsReady.{ready_there, solved_there, terms, written_solution}
-use Rattle.lf_coverage.proofs.NumberedSplitsValues.{written_values_own}
 use Rattle.lf_coverage.proofs.NumberedSplitsSolution.{context_filling}
+use Rattle.lf_coverage.proofs.NumberedSplitsValues.{written_values_own}
 use Rattle.lf_coverage.proofs.OwnStoresSplit.{numbered_split_stays_typed, values_typed as answer_typed}
 use Rattle.lf_coverage.proofs.OwnValuesAnswer.{answer_is_instance}
 use Rattle.lf_coverage.proofs.OwnValuesBack.{entries_are_read_as}
-use Rattle.lf_coverage.proofs.ReadInstance.{values_typed}
+use Rattle.lf_coverage.proofs.ReadValues.{values_typed}
 use Rattle.lf_coverage.proofs.RefutedSplits.{solved_extended, well_formed_extended}
 use Rattle.lf_coverage.proofs.SolvedCase.{behind_types, free_context_is}
 use Rattle.lf_coverage.proofs.StoreSolution.{looked_up, skeleton_open}
 use Rattle.lf_coverage.proofs.WritingBack.{back_far, term_back}
 use Rattle.lf_coverage.proofs.WritingBackTyped.{back_typed}
 use Rattle.lf_coverage.proofs.WritingInstance.{written_signature, types_more, instance_at}
-use Rattle.lf_coverage.proofs.WritingOwn.{entry_instance}
-use Rattle.lf_coverage.proofs.WritingOwn.{terms_written}
-use Rattle.lf_coverage.proofs.WritingTyped.{behind_typed}
-use Rattle.lf_cases.proofs.Instances.{instance_typed}
+use Rattle.lf_coverage.proofs.WritingOwn.{entry_instance, terms_written}
+use Rattle.lf_coverage.proofs.WritingSome.{instance_back}
 
 put_same : {a b : Rattle.lf.specs.Syntax.Skeleton} {M N : Term} → put a M ≡ put b N → M ≡ N
 put_same e = cc
 
 -- typed values and block variables, over more constants
 module _ (Σ Σ' : Signature) (types : (c : ℕ) (A : LfType) → Σ.types c ≡ Some A → Σ'.types c ≡ Some A) (kinds : (a : ℕ) (K : Kind) → Σ.kinds a ≡ Some K → Σ'.kinds a ≡ Some K) where
-  image_more : (F : List LfType) (y : Image) (A : LfType) → ImageHasType Σ F y A → ImageHasType Σ' F y A
-  image_more F (keep i) A h = h
-  image_more F (put a N) A (q, n) = (q, growth_keeps_typing Σ Σ' types kinds F N A n)
-
   values_more : (X F : List LfType) (σ : ℕ → Image) → IsTypedSubstitution Σ X F σ → IsTypedSubstitution Σ' X F σ
-  values_more X F σ h i A g = image_more F (σ i) (substitute_type reduce σ A) (h i A g)
+  values_more X F σ h i A g = grown_image Σ Σ' types kinds F (σ i) (substitute_type reduce σ A) (h i A g)
 
   blocks_more : (W : List Block) (X : List LfType) (o : ℕ → Option Spine) (bs : List BlockVariable) → AreTypedBlockVariables Σ W X o bs → AreTypedBlockVariables Σ' W X o bs
   blocks_more W X o [] h = tt
@@ -90,12 +82,6 @@ module _ (Σ Σ' : Signature) {W : List Block} {S : ℕ → Bool} {G : List LfTy
 
   abbrev Cx : List LfType
   Cx = items_context (split_items below X (free_variables C.variables) zero A)
-
-  abbrev pub read_off : NumberedCase
-  read_off = solved_numbered C (arguments_count A) after0 d.well_formed.order
-
-  abbrev pub answered : ℕ → Image
-  answered i = answer_values after0 d.well_formed.order (i + arguments_count A)
 
   abbrev f : ℕ → Option (ℕ × ℕ)
   f = entry_reading first (blocks_of C.blocks) θ (length F)
@@ -121,32 +107,6 @@ module _ (Σ Σ' : Signature) {W : List Block} {S : ℕ → Bool} {G : List LfTy
   reads : AreReadAs first (blocks_of C.blocks) f ν θ
   reads = entries_are_read_as first (blocks_of C.blocks) θ (length F) ν (λ u. back_far (length F) back u) entry_variable
 
-  -- `some` terms of an instance come back
-  abbrev ComesBack : Term → Type 0
-  ComesBack N = rename ν (read f (substitute reduce ρ N)) ≡ N
-
-  abbrev AllComeBack : Spine → Type 0
-  AllComeBack R = rename_spine ν (read_spine f (substitute_spine reduce ρ R)) ≡ R
-
-  add_back : (R : Spine) (N : Term) → AllComeBack R → ComesBack N → AllComeBack (add_last R N)
-  add_back nil N e n = ap (λ M. app M nil) n
-  add_back (app M R) N e n = ap₂ app (first_back e) (add_back R N (rest_back e) n)
-    where
-      first_back : AllComeBack (app M R) → ComesBack M
-      first_back q = cc
-
-      rest_back : AllComeBack (app M R) → AllComeBack R
-      rest_back q = cc
-
-  some_back : (O : List LfType) (υ : ℕ → Image) → ((i : ℕ) (B : LfType) → TypeAt O i B → ComesBack (as_term (skeleton B) (υ i))) → AllComeBack (some_spine O υ)
-  some_back [] υ c = refl
-  some_back (B ∷ O) υ c = add_back (some_spine O (λ i. υ (suc i))) (as_term (skeleton B) (υ zero)) (some_back O (λ i. υ (suc i)) (λ i D g. subst (λ a. ComesBack (as_term a (υ (suc i)))) (skeleton_renamed suc D) (c (suc i) (weaken D) (D, g, refl)))) (subst (λ a. ComesBack (as_term a (υ zero))) (skeleton_renamed suc B) (c zero (weaken B) refl))
-
-  instance_back : (B : Block) (ψ : ℕ → Image) → InstanceIn w B ψ → AllComeBack (some_spine B.some (behind_entries B.entries ψ))
-  instance_back B ψ i =
-      let u : IsTypedSubstitution Σ' B.some G (behind_entries B.entries ψ) = behind_typed Σ' r.extends.ok B.entries B.some G ψ (λ j D g. (instance_typed Σ' r.extends.ok w B ψ i).typed.typed j D g refl) in
-      some_back B.some (behind_entries B.entries ψ) (λ j D g. term_back Σ Σ' w first C θ σ r F ρ back hw (as_term (skeleton D) (behind_entries B.entries ψ j)) (substitute_type reduce (behind_entries B.entries ψ) D) (term_typed Σ' r.extends.ok G (world_is_context w) (skeleton D) (behind_entries B.entries ψ j) (substitute_type reduce (behind_entries B.entries ψ) D) (skeleton_substituted reduce (behind_entries B.entries ψ) D) (u j D g)))
-
   instances : (n : ℕ) (bs : List BlockVariable) → ((j : ℕ) (b : BlockVariable) → block_at bs j ≡ Some b → InstanceIn w b.block (θ (n + j)) × (some_spine b.block.some (behind_entries b.block.entries (θ (n + j))) ≡ rename_spine ν (read_spine f (substitute_spine reduce (after ρ σ) b.terms)))) → AreReadInstances w f ν (after ρ σ) θ n bs
   instances n [] g = tt
   instances n (b ∷ bs) g =
@@ -160,7 +120,7 @@ module _ (Σ Σ' : Signature) {W : List Block} {S : ℕ → Bool} {G : List LfTy
       next n j = omega arith
 
   are_instances : AreReadInstances w f ν (after ρ σ) θ zero C.blocks
-  are_instances = instances zero C.blocks (λ j b q. ((instance_at Σ Σ' w first C θ σ r j b q).0, sym (instance_back b.block (θ (zero + j)) (instance_at Σ Σ' w first C θ σ r j b q).0) ∙ ap (λ R. rename_spine ν (read_spine f R)) (terms_written Σ Σ' w first C θ σ r F ρ back hw j b q)))
+  are_instances = instances zero C.blocks (λ j b q. ((instance_at Σ Σ' w first C θ σ r j b q).0, sym (instance_back Σ Σ' w first C θ σ r F ρ back hw b.block (θ (zero + j)) (instance_at Σ Σ' w first C θ σ r j b q).0) ∙ ap (λ R. rename_spine ν (read_spine f R)) (terms_written Σ Σ' w first C θ σ r F ρ back hw j b q)))
 
   behind : (i : ℕ) (B : LfType) → TypeAt V i B → TypeAt Cx (i + k) (rename_type (shift_by k) B)
   behind i B g = behind_types (head_masks below (taken (rename_type (shift_by zero) X)) k A) (taken (rename_type (shift_by zero) X)) k A (free_variables V) refl i B (subst (λ L. TypeAt L i B) (sym (free_context_is V)) g)

@@ -27,9 +27,9 @@ use Rattle.lf_coverage.specs.WritingRoom.{gap_back, leave_room, move_image, past
 use Rattle.lf_coverage.proofs.EntrySignature.{else_cases}
 use Rattle.lf_coverage.proofs.Parts.{none_some}
 use Rattle.lf_coverage.proofs.Reading.{IsOld}
-use Rattle.lf_coverage.proofs.WritingLeft.{reading_moved}
-use Rattle.lf_coverage.proofs.WritingRoom.{old_stays, room_is_made}
 use Rattle.lf_coverage.proofs.WritingGap.{past_back}
+use Rattle.lf_coverage.proofs.WritingMoved.{reading_moved}
+use Rattle.lf_coverage.proofs.WritingRoom.{old_stays, room_is_made}
 
 lambdas_moved : (γ : ℕ → ℕ) (n : ℕ) (M : Term) → move γ (lambdas n M) ≡ lambdas n (move γ M)
 lambdas_moved γ zero M = refl

@@ -1,21 +1,20 @@
 -- A head that a ground instance gives a variable is offered: a constant, a variable that is taken, or the constant of an entry on its own terms.
 use Rattle.std.proofs.Common.{◌≡◌, ℕ, zero, List, [], ◌+◌, length, Option, Some, None, refl, sym, ap, ◌∙◌, subst}
 use Rattle.std.specs.Prelude.{Bool, ◌<◌}
-use Rattle.lf.specs.Syntax.{Head, constant, variable, Spine, root, LfType, atom, skeleton, rename_spine, rename_type}
+use Rattle.lf.specs.Syntax.{Head, constant, variable, Spine, root, LfType, atom, skeleton, rename_spine, rename_type, nil}
 use Rattle.lf.specs.Substitution.{Image, keep, put, rename_image, apply_image, substitute, substitute_spine, substitute_type, reduce, after}
 use Rattle.lf.specs.AtOnce.{shift_by, lift_renaming_by}
 use Rattle.lf.specs.Eta.{append, lambdas}
 use Rattle.lf.specs.SkeletonTyping.{SkeletonAt, SpineSkeleton}
 use Rattle.lf.specs.Skeletons.{constant_skeletons, context_skeletons}
-use Rattle.lf.specs.Typing.{Signature, TypeAt, HeadHasType, SpineType, IsSignature}
+use Rattle.lf.specs.Typing.{Signature, TypeAt, HeadHasType, SpineType, IsSignature, IsTypedRenaming}
 use Rattle.lf.specs.Variables.{target, target_arguments, onto, binders, FamiliesIn}
 use Rattle.lf.specs.Subordination.{Block, SelfContained}
 use Rattle.lf.specs.Worlds.{World, lift_over, instance}
 use Rattle.lf.proofs.Closed.{closed_type_substituted}
 use Rattle.lf.proofs.Decidability.{variable_type_unique}
 use Rattle.lf.proofs.Eta.{eta_both, rename_eta_expand}
-use Rattle.lf.proofs.Substitution.{constant_type}
-use Rattle.lf.proofs.ToSkeletons.{typed_spine_has_skeleton}
+use Rattle.lf.proofs.Substitution.{constant_type, TypedSubstitution, skeleton_context_of, substitution_keeps_spine_typing}
 use Rattle.lf.proofs.TypeLaws.{skeleton_renamed, skeleton_substituted}
 use Rattle.lf_checks.specs.Below.{IsSubordination}
 use Rattle.lf_checks.specs.ModeForms.{argument_count}
@@ -24,46 +23,36 @@ use Rattle.lf_cases.specs.Case.{items_context, behind_entries}
 use Rattle.lf_cases.specs.Cover.{before}
 use Rattle.lf_cases.specs.OutputGoal.{free_variables}
 use Rattle.lf_cases.specs.Reached.{arguments_count, taken}
-use Rattle.lf_cases.proofs.OutputItems.{lift_over_far}
+use Rattle.lf_cases.proofs.OutputItems.{lift_over_far, length_instance}
 use Rattle.lf_totality.proofs.RaisedOutputs.{binders_over}
+use Rattle.lf.proofs.Growth.{growth_keeps_spine_typing}
+use Rattle.lf.proofs.Renaming.{substitute_renamed_spine}
+use Rattle.lf.proofs.Weakening.{renaming_keeps_spine_typing}
 use Rattle.lf_coverage.specs.EntryConstants.{EntryConstant, entry_constant, entry_images, entry_type, with_entries}
 use Rattle.lf_coverage.specs.Heads.{ArgumentsAreBelow}
 use Rattle.lf_coverage.specs.NumberedCase.{NumberedCase, some_spine, type_in}
-use Rattle.lf_coverage.specs.OwnTerms.{blocks_of}
+use Rattle.lf_coverage.specs.NumberedHeads.{IsNumberedHead, of_signature, of_taken, of_entry}
+use Rattle.lf_coverage.specs.OwnStores.{left_type, offer_signature, offer_taken, offer_entry}
+use Rattle.lf_coverage.specs.OwnTerms.{blocks_of, own_terms, put_in_blocks}
 use Rattle.lf_coverage.specs.Reading.{read_entry, variable_past}
 use Rattle.lf_coverage.specs.Writing.{IsWriting}
 use Rattle.lf_coverage.specs.WritingLaws.{IsInstanceWithRoom}
 use Rattle.lf_coverage.proofs.EntryPlaces.{entry_type_at}
 use Rattle.lf_coverage.proofs.EntrySignature.{else_second, entries_kept}
 use Rattle.lf_coverage.proofs.EntryValues.{count_some}
-use Rattle.lf_coverage.proofs.Forms.{local_has_type, lift_over_near, renaming_near, local_type, far_type}
-use Rattle.lf_coverage.proofs.OwnTerms.{entry_from}
-use Rattle.lf_coverage.proofs.Parts.{none_some, some_same}
-use Rattle.lf_coverage.proofs.WritingBack.{count_put}
-use Rattle.lf_coverage.proofs.WritingInstance.{written_signature, types_more}
-use Rattle.lf_coverage.proofs.WritingLow.{families_same, below_same, below_over, locals_same, skeletons_length, LowBy, low_places_by, places_of_low, low_put, low_front}
-use Rattle.lf_coverage.proofs.WritingOwn.{entry_instance}
-use mathlib.Core.Path.{fun_ext}
-use Rattle.lf.proofs.Growth.{growth_keeps_spine_typing}
-use Rattle.lf.proofs.Renaming.{substitute_renamed_spine}
-use Rattle.lf.proofs.Substitution.{TypedSubstitution, skeleton_context_of, substitution_keeps_spine_typing}
-use Rattle.lf.proofs.Weakening.{renaming_keeps_spine_typing}
-use Rattle.lf.specs.Typing.{IsTypedRenaming}
-use Rattle.lf.specs.Syntax.{nil}
-use Rattle.lf_coverage.proofs.WritingLow.{target_is}
-use Rattle.lf_cases.proofs.OutputItems.{length_instance}
-use Rattle.lf_coverage.specs.NumberedHeads.{IsNumberedHead, of_signature, of_taken, of_entry}
-use Rattle.lf_coverage.specs.OwnStores.{left_type, offer_signature, offer_taken, offer_entry}
-use Rattle.lf_coverage.specs.OwnTerms.{own_terms, put_in_blocks}
-use Rattle.lf_coverage.proofs.Forms.{far_substituted, renaming_far}
-use Rattle.lf_coverage.proofs.OwnStoresEntry.{OwnHead, left_is, own_head}
-use Rattle.lf_coverage.proofs.OwnTerms.{put_in_own, substitute_own, substitute_append}
-use Rattle.lf_coverage.proofs.ReadInstance.{behind_pis}
-use Rattle.lf_coverage.proofs.ReadSkeletons.{behind_arguments}
-use Rattle.lf_coverage.proofs.WritingNone.{type_skeleton_is, locals_are, locals_length, root_typed, target_same, put_low, put_skeleton}
-use Rattle.lf_coverage.proofs.WritingRoots.{near_skeleton, same_at, pair_second}
-use Rattle.lf_coverage.proofs.WritingOwn.{entry_own}
+use Rattle.lf_coverage.proofs.Forms.{local_has_type, lift_over_near, renaming_near, local_type, far_type, far_substituted, renaming_far}
 use Rattle.lf_coverage.proofs.NumberedSplitsHeads.{WrittenOffer, offer_of, taken_zero, values, cv}
+use Rattle.lf_coverage.proofs.Offered.{length_kept as count_put}
+use Rattle.lf_coverage.proofs.OwnStoresEntry.{OwnHead, left_is, own_head}
+use Rattle.lf_coverage.proofs.OwnTerms.{entry_from, put_in_own, substitute_own, substitute_append}
+use Rattle.lf_coverage.proofs.Parts.{none_some, some_same}
+use Rattle.lf_coverage.proofs.ReadSkeletons.{behind_pis, behind_arguments}
+use Rattle.lf_coverage.proofs.WritingHead.{type_skeleton_is, locals_are, locals_length, root_typed, target_same, put_low, put_skeleton}
+use Rattle.lf_coverage.proofs.WritingInstance.{written_signature, types_more}
+use Rattle.lf_coverage.proofs.WritingLow.{below_same, LowBy, target_is}
+use Rattle.lf_coverage.proofs.WritingOwn.{entry_instance, entry_own}
+use Rattle.lf_coverage.proofs.WritingRoots.{near_skeleton, same_at, pair_second}
+use mathlib.Core.Path.{fun_ext}
 
 module _ (Σ Σ' : Signature) {W : List Block} {S : ℕ → Bool} {G : List LfType} (w : World Σ' W S G) (first : ℕ) (C : NumberedCase) (θ : ℕ → ℕ → Image) (σ : ℕ → Image) (r : IsInstanceWithRoom Σ w first C θ σ) (F : List LfType) (ρ : ℕ → Image) (back : ℕ → ℕ) (hw : IsWriting Σ' first (blocks_of C.blocks) θ G F ρ back) (sc : SelfContained Σ W S) (below : ℕ → ℕ → Bool) (s : IsSubordination Σ W below) (x : ℕ) (X : LfType) (at : TypeAt C.variables x X) (fams : FamiliesIn S X) (args : ArgumentsAreBelow below X) (h0 : Head) (T : Spine) (e : σ x ≡ put (skeleton X) (lambdas (length (taken X)) (root h0 T))) where
   abbrev Σ₁ : Signature

@@ -1,9 +1,9 @@
 -- A ground instance that gives a variable a head that is offered, written, is a typed unifier of the head's store, on own terms, over the signature with
 -- entries of the extension; and there the store is well formed.
-use Rattle.std.proofs.Common.{◌≡◌, ℕ, zero, List, [], ◌+◌, length, Option, Some, sym, ap, ◌∙◌, subst}
+use Rattle.std.proofs.Common.{◌≡◌, ℕ, zero, List, [], ◌+◌, length, Some, sym, ap, ◌∙◌, subst}
 use Rattle.std.specs.Prelude.{Bool}
 use Rattle.lf.specs.Syntax.{Head, Term, Spine, root, LfType, atom, Kind, skeleton, rename_spine, rename_type}
-use Rattle.lf.specs.Substitution.{Image, put, substitute_type, reduce, after}
+use Rattle.lf.specs.Substitution.{Image, put, substitute_type, reduce}
 use Rattle.lf.specs.AtOnce.{shift_by}
 use Rattle.lf.specs.Eta.{lambdas}
 use Rattle.lf.specs.SkeletonTyping.{TermSkeleton}
@@ -33,7 +33,7 @@ use Rattle.lf_coverage.specs.EntryConstants.{with_entries}
 use Rattle.lf_coverage.specs.Heads.{ArgumentsAreBelow, term_type}
 use Rattle.lf_coverage.specs.NumberedCase.{NumberedCase}
 use Rattle.lf_coverage.specs.OwnStores.{left_type, IsNumberedOffer, offer_signature, offer_taken, offer_entry, applied_term, numbered_store}
-use Rattle.lf_coverage.specs.OwnTerms.{blocks_of, own_terms, put_in_blocks}
+use Rattle.lf_coverage.specs.OwnTerms.{blocks_of}
 use Rattle.lf_coverage.specs.Writing.{IsWriting}
 use Rattle.lf_coverage.specs.WritingLaws.{IsInstanceWithRoom}
 use Rattle.lf_coverage.proofs.EntrySignature.{entries_kept}
@@ -49,8 +49,8 @@ use Rattle.lf_coverage.proofs.Parts.{some_same}
 use Rattle.lf_coverage.proofs.RefutedSplits.{run_in_extension, solved_extended}
 use Rattle.lf_coverage.proofs.SolvedCase.{all_free, free_context_is, free_without, heads_without}
 use Rattle.lf_coverage.proofs.SomeHead.{free_value}
+use Rattle.lf_coverage.proofs.WritingHead.{items_written, v}
 use Rattle.lf_coverage.proofs.WritingInstance.{written_signature, types_more, entries_extend}
-use Rattle.lf_coverage.proofs.WritingNone.{items_written, v}
 
 module _ (Σ Σ' : Signature) {W : List Block} {S : ℕ → Bool} {G : List LfType} (w : World Σ' W S G) (first : ℕ) (C : NumberedCase) (θ : ℕ → ℕ → Image) (σ : ℕ → Image) (r : IsInstanceWithRoom Σ w first C θ σ) (F : List LfType) (ρ : ℕ → Image) (back : ℕ → ℕ) (hw : IsWriting Σ' first (blocks_of C.blocks) θ G F ρ back) (sc : SelfContained Σ W S) (below : ℕ → ℕ → Bool) (s : IsSubordination Σ W below) (x : ℕ) (X : LfType) (at : TypeAt C.variables x X) (fams : FamiliesIn S X) (args : ArgumentsAreBelow below X) (h0 : Head) (T : Spine) (e : σ x ≡ put (skeleton X) (lambdas (length (taken X)) (root h0 T))) where
   abbrev Σ₁ : Signature
@@ -73,9 +73,6 @@ module _ (Σ Σ' : Signature) {W : List Block} {S : ℕ → Bool} {G : List LfTy
 
   abbrev G0 : List LfType
   G0 = onto (taken (rename_type (shift_by 0) X)) (items_context (free_variables C.variables))
-
-  abbrev pub written_own : ℕ → Option Spine
-  written_own = own_terms first (put_in_blocks (after ρ σ) C.blocks)
 
   module _ (h : Head) (U : Spine) (A : LfType) (offer : IsNumberedOffer Σ first C X h U A) where
     known : Offered Σ r.signature W r.blocks first r.free C r.variables x X at h U A
@@ -132,9 +129,6 @@ module _ (Σ Σ' : Signature) {W : List Block} {S : ℕ → Bool} {G : List LfTy
 
         pub terms : (i : ℕ) (B : LfType) → TypeAt (items_context (split_items below X (free_variables C.variables) zero A)) i B → (N : Term) × (φ i ≡ put (skeleton B) N)
         terms i B k = free_value (v Σ Σ' w first C θ σ r F ρ back hw sc below s x X at fams args h0 T e) PS φ m.is_ground i B k (all_free PS none i B k)
-
-        abbrev pub written_filling : ℕ → Option Term
-        written_filling = context_filling (items_context (split_items below X (free_variables C.variables) zero A)) φ
 
         place : TypeAt (items_context PS) (x + (zero + arguments_count A)) (rename_type (shift_by (zero + arguments_count A)) X)
         place = applied_place Σe ok [] nothing_typed below x X I zero h U A (items_written Σ Σ' w first C θ σ r F ρ back hw sc below s x X at fams args h0 T e) known.place type_there known.same_target applied

@@ -6,18 +6,20 @@ use Rattle.lf.specs.Subordination.{Block, AreTypedBlocks, Member, SelfContained}
 use Rattle.lf_checks.specs.Below.{IsSubordination}
 use Rattle.lf_cases.specs.Case.{Case}
 use Rattle.lf_cases.specs.Pattern.{Pattern, origin, subgoal_pattern}
+use Rattle.lf_cases.specs.Split.{Ends, AllEnd, at_leaf, by_split, no_case, next_case}
 use Rattle.lf_coverage.specs.Calls.{IsBeside}
-use Rattle.lf_coverage.proofs.EntryPatternsOutputs.{numbered_output_goal_is_typed, numbered_runs_give_outputs}
 use Rattle.lf_coverage.specs.EntryConstants.{IsFreeFrom}
-use Rattle.lf_coverage.specs.EntryPatternsRuns.{IsNumberedLeaf, IsNumberedSplit, EndsByNumber, AllEndByNumber, at_numbered_leaf, by_numbered_split, no_numbered, next_numbered}
+use Rattle.lf_coverage.specs.EntryPatternsRuns.{IsNumberedLeaf, IsNumberedSplit}
 use Rattle.lf_coverage.specs.NewBlock.{with_new_block}
 use Rattle.lf_coverage.specs.NumberedCase.{NumberedCase}
 use Rattle.lf_coverage.specs.NumberedSplits.{NumberedOffer, IsOfferTo, of_case, of_new_block, NumberedUnifierFinds}
 use Rattle.lf_coverage.specs.NumberedSplitsRuns.{AnswersByNumber, AnsweredByNumberStaysTyped, AnsweredByNumberCovers, AnsweredByNumberCoversCase, AnswersByNumberFor, AnsweredByNumberIsAnswer, AnsweredByNumberGivesOutputs}
 use Rattle.lf_coverage.specs.TypedNumbered.{IsTypedNumberedCase}
 use Rattle.lf_coverage.proofs.EntryPatternsForms.{numbered_run_covers, numbered_run_covers_case}
+use Rattle.lf_coverage.proofs.EntryPatternsOutputs.{numbered_output_goal_is_typed, numbered_runs_give_outputs}
 use Rattle.lf_coverage.proofs.Forms.{far_type}
-use Rattle.lf_coverage.proofs.NumberedSplits.{offer_of_case, answered_by_number_is_split}
+use Rattle.lf_coverage.proofs.Listed.{offer_of_case}
+use Rattle.lf_coverage.proofs.NumberedSplits.{answered_by_number_is_split}
 use Rattle.lf_coverage.proofs.OwnStoresNewBlock.{new_block_stays_typed}
 use Rattle.lf_coverage.proofs.OwnStoresSplit.{numbered_split_stays_typed}
 use Rattle.lf_coverage.proofs.TypedNumbered.{numbered_case_is_typed}
@@ -33,13 +35,13 @@ answered_by_number_stays_typed Σ ok W typed below first free C tc x Cs sp D m =
 
 module _ (Σ : Signature) (ok : IsSignature Σ) (W : List Block) (typed : AreTypedBlocks Σ W) (below : ℕ → ℕ → Bool) (s : IsSubordination Σ W below) (S : ℕ → Bool) (sc : SelfContained Σ W S) (first : ℕ) (free : IsFreeFrom Σ first) (ps : List Pattern) where
   mutual
-    numbered_run : {C : NumberedCase} → IsTypedNumberedCase Σ first W C → EndsByNumber (IsNumberedLeaf Σ first W ps) (AnswersByNumber Σ first W below S) C → EndsByNumber (IsNumberedLeaf Σ first W ps) (IsNumberedSplit Σ first W S) C
-    numbered_run t (at_numbered_leaf l) = at_numbered_leaf l
-    numbered_run {C} t (by_numbered_split Cs (x, sp, f) r) = by_numbered_split Cs (answered_by_number_is_split Σ ok W typed below s S sc first free C t x Cs sp f) (numbered_runs (λ D m. answered_by_number_stays_typed Σ ok W typed below first free C t x Cs sp D m) r)
+    numbered_run : {C : NumberedCase} → IsTypedNumberedCase Σ first W C → Ends (IsNumberedLeaf Σ first W ps) (AnswersByNumber Σ first W below S) C → Ends (IsNumberedLeaf Σ first W ps) (IsNumberedSplit Σ first W S) C
+    numbered_run t (at_leaf l) = at_leaf l
+    numbered_run {C} t (by_split Cs (x, sp, f) r) = by_split Cs (answered_by_number_is_split Σ ok W typed below s S sc first free C t x Cs sp f) (numbered_runs (λ D m. answered_by_number_stays_typed Σ ok W typed below first free C t x Cs sp D m) r)
 
-    numbered_runs : {Cs : List NumberedCase} → ((D : NumberedCase) → Member D Cs → IsTypedNumberedCase Σ first W D) → AllEndByNumber (IsNumberedLeaf Σ first W ps) (AnswersByNumber Σ first W below S) Cs → AllEndByNumber (IsNumberedLeaf Σ first W ps) (IsNumberedSplit Σ first W S) Cs
-    numbered_runs t no_numbered = no_numbered
-    numbered_runs t (next_numbered {C = C} e r) = next_numbered (numbered_run (t C (inl refl)) e) (numbered_runs (λ D m. t D (inr m)) r)
+    numbered_runs : {Cs : List NumberedCase} → ((D : NumberedCase) → Member D Cs → IsTypedNumberedCase Σ first W D) → AllEnd (IsNumberedLeaf Σ first W ps) (AnswersByNumber Σ first W below S) Cs → AllEnd (IsNumberedLeaf Σ first W ps) (IsNumberedSplit Σ first W S) Cs
+    numbered_runs t no_case = no_case
+    numbered_runs t (next_case {C = C} e r) = next_case (numbered_run (t C (inl refl)) e) (numbered_runs (λ D m. t D (inr m)) r)
 
 pub answered_by_number_covers : AnsweredByNumberCovers
 answered_by_number_covers Σ ok W typed below s S sc first free ps C tc n r = numbered_run_covers Σ ok W typed S first free ps C n (numbered_run Σ ok W typed below s S sc first free ps tc r)
@@ -50,13 +52,13 @@ answered_by_number_covers_case Σ ok W typed below s S sc first free ps C n tc t
 -- splits for a goal are splits beside each set beside which it is to be covered
 module _ (Σ : Signature) (first : ℕ) (W : List Block) (below : ℕ → ℕ → Bool) (S : ℕ → Bool) (goal : Case) (b : IsBeside Σ W S goal) (Leaf : NumberedCase → Type 0) where
   mutual
-    beside_run : {C : NumberedCase} → EndsByNumber Leaf (AnswersByNumberFor Σ first W below goal) C → EndsByNumber Leaf (AnswersByNumber Σ first W below S) C
-    beside_run (at_numbered_leaf l) = at_numbered_leaf l
-    beside_run (by_numbered_split Cs (x, sp, f) r) = by_numbered_split Cs (x, sp, f S b) (beside_runs r)
+    beside_run : {C : NumberedCase} → Ends Leaf (AnswersByNumberFor Σ first W below goal) C → Ends Leaf (AnswersByNumber Σ first W below S) C
+    beside_run (at_leaf l) = at_leaf l
+    beside_run (by_split Cs (x, sp, f) r) = by_split Cs (x, sp, f S b) (beside_runs r)
 
-    beside_runs : {Cs : List NumberedCase} → AllEndByNumber Leaf (AnswersByNumberFor Σ first W below goal) Cs → AllEndByNumber Leaf (AnswersByNumber Σ first W below S) Cs
-    beside_runs no_numbered = no_numbered
-    beside_runs (next_numbered e r) = next_numbered (beside_run e) (beside_runs r)
+    beside_runs : {Cs : List NumberedCase} → AllEnd Leaf (AnswersByNumberFor Σ first W below goal) Cs → AllEnd Leaf (AnswersByNumber Σ first W below S) Cs
+    beside_runs no_case = no_case
+    beside_runs (next_case e r) = next_case (beside_run e) (beside_runs r)
 
 pub answered_by_number_is_answer : AnsweredByNumberIsAnswer
 answered_by_number_is_answer Σ ok W typed below s first free ps goal n tc tl r = λ S b. answered_by_number_covers_case Σ ok W typed below s S b.self_contained first free ps goal n tc tl (beside_run Σ first W below S goal b (IsNumberedLeaf Σ first W ps) r)

@@ -1,7 +1,7 @@
 -- Typed terms for the variables after a split by a head on terms, which make the variable this head, are a typed unifier of its store.
 use Rattle.std.proofs.Common.{◌≡◌, ℕ, zero, List, [], ◌+◌, length, inl, refl, sym, ap, ◌∙◌, subst}
 use Rattle.std.specs.Prelude.{Bool, Option, Some, None}
-use Rattle.lf.specs.Syntax.{Head, variable, Term, Spine, LfType, atom, Kind, Skeleton, skeleton, rename_type}
+use Rattle.lf.specs.Syntax.{Head, variable, Term, Spine, LfType, atom, Kind, Skeleton, skeleton, rename_type, nil}
 use Rattle.lf.specs.Substitution.{Image, put, substitute, substitute_type, reduce}
 use Rattle.lf.specs.SkeletonTyping.{HeadSkeletons, SkeletonAt, ImageSkeleton, TermSkeleton, TypeBySkeletons, SubstitutionBySkeletons}
 use Rattle.lf.specs.Skeletons.{constant_skeletons, family_skeletons, context_skeletons}
@@ -10,7 +10,6 @@ use Rattle.lf.specs.Eta.{eta_long}
 use Rattle.lf.specs.Typing.{Signature, TypeAt, HasType, ImageHasType, IsTypedSubstitution, IsType, IsContext, IsSignature}
 use Rattle.lf.specs.Variables.{target, target_arguments}
 use Rattle.lf.proofs.Eta.{eta_expand_has_skeleton}
-use Rattle.lf.specs.Syntax.{nil}
 use Rattle.lf.proofs.Substitution.{typed_substitution_by_skeletons}
 use Rattle.lf.proofs.Target.{target_renamed}
 use Rattle.lf.proofs.ToSkeletons.{type_by_skeletons, variable_has_skeleton, skeleton_has_variable}

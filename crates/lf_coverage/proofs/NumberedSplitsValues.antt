@@ -35,9 +35,10 @@ use Rattle.lf_coverage.proofs.SolvedCase.{free_context_is}
 use Rattle.lf_coverage.proofs.StoreSolution.{found_type}
 use Rattle.lf_coverage.proofs.WritingBack.{within}
 use Rattle.lf_coverage.proofs.WritingInstance.{written_signature}
-use Rattle.lf_coverage.proofs.WritingNone.{value_type}
+use Rattle.lf_coverage.proofs.WritingHead.{value_type}
 use Rattle.lf_coverage.proofs.WritingOwn.{term_own, image_value_own}
 use Rattle.lf_coverage.proofs.NumberedSplitsReady.{split_context, typed, terms}
+use Rattle.lf_coverage.proofs.NearOrFar.{near_or_far}
 
 -- own terms under lambdas
 own_under_more : (D : List LfType) (o : ℕ → Option Spine) → own_over D (λ c. weaken_own (o c)) ≡ (λ c. weaken_own (own_over D o c))
@@ -75,18 +76,6 @@ split_length ks D (suc n) (pi A B) I e = split_length (other_masks ks) (renumber
     next : (m n : ℕ) → suc m + n ≡ m + suc n
     next m n = omega arith
 
-split_number : (n i : ℕ) → (i < n) ⊎ ((j : ℕ) × (i ≡ j + n))
-split_number zero i = inr (i, none i)
-  where
-    none : (i : ℕ) → i ≡ i + 0
-    none i = omega arith
-split_number (suc n) zero = inl (omega arith)
-split_number (suc n) (suc i) = by (split_number n i)
-  where
-    by : (i < n) ⊎ ((j : ℕ) × (i ≡ j + n)) → (suc i < suc n) ⊎ ((j : ℕ) × (suc i ≡ j + suc n))
-    by (inl l) = inl (omega (arith, l))
-    by (inr (j, e)) = inr (j, omega (arith, e))
-
 module _ (Σ Σ' : Signature) {W : List Block} {S : ℕ → Bool} {G : List LfType} (w : World Σ' W S G) (first : ℕ) (C : NumberedCase) (θ : ℕ → ℕ → Image) (σ : ℕ → Image) (r : IsInstanceWithRoom Σ w first C θ σ) (F : List LfType) (ρ : ℕ → Image) (back : ℕ → ℕ) (hw : IsWriting Σ' first (blocks_of C.blocks) θ G F ρ back) (sc : SelfContained Σ W S) (below : ℕ → ℕ → Bool) (s : IsSubordination Σ W below) (x : ℕ) (X : LfType) (at : TypeAt C.variables x X) (fams : FamiliesIn S X) (args : ArgumentsAreBelow below X) (h0 : Head) (T : Spine) (e : σ x ≡ put (skeleton X) (lambdas (length (taken X)) (root h0 T))) (h : Head) (U : Spine) (A : LfType) (offer : IsNumberedOffer Σ first C X h U A) (K : Kind) (of_family : Σ.kinds (target X) ≡ Some K) (φ : ℕ → Image) (m : MakesWritten Σ Σ' w first C θ σ r F ρ back hw sc below s x X at fams args h0 T e h U A φ) where
   abbrev Σe : Signature
   Σe = with_entries Σ' first (blocks_of C.blocks)
@@ -115,7 +104,7 @@ module _ (Σ Σ' : Signature) {W : List Block} {S : ℕ → Bool} {G : List LfTy
         subst (λ D. SpineOnOwnTerms (own_over D o) (substitute_spine reduce (lift_over (taken X) ρ) T)) (sym (taken_zero Σ Σ' w first C θ σ r F ρ back hw sc below s x X at fams args h0 T e)) (own_arguments (own_over (taken X) o) h1 U1 (substitute_spine reduce (lift_over (taken X) ρ) T) (own_inside (taken X) o (root h1 (append U1 (substitute_spine reduce (lift_over (taken X) ρ) T))) whole))
 
     image_own : (i : ℕ) (B : LfType) → TypeAt (items_context PS) i B → ImageOnOwnTerms (own_terms first (put_in_blocks (after ρ σ) C.blocks)) (φ i)
-    image_own i B k = by (split_number (arguments_count A) i)
+    image_own i B k = by (near_or_far (arguments_count A) i)
       where
         by : (i < arguments_count A) ⊎ ((j : ℕ) × (i ≡ j + arguments_count A)) → ImageOnOwnTerms (own_terms first (put_in_blocks (after ρ σ) C.blocks)) (φ i)
         by (inl l) = new_values_own Σe (own_terms first (put_in_blocks (after ρ σ) C.blocks)) (head_masks below D0 (arguments_count A) A) (arguments_count A) D0 A I F refl φ (typed_substitution_by_skeletons Σe ok (items_context PS) F φ (typed Σ Σ' w first C θ σ r F ρ back hw sc below s x X at fams args h0 T e h U A offer K of_family φ m)) (subst (SpineOnOwnTerms (own_over D0 (own_terms first (put_in_blocks (after ρ σ) C.blocks)))) m.arguments arguments_own) i l

@@ -1,7 +1,7 @@
 -- The numbered form of a case with typed items has typed variables, on own terms.
-use Rattle.std.proofs.Common.{◌≡◌, ℕ, zero, suc, List, [], ◌∷◌, ◌++◌, length, ◌+◌, Option, Some, None, ◌⊎◌, inl, inr, refl, sym, ap, ◌∙◌, subst, arith}
-use Rattle.lf.specs.Syntax.{constant, Term, Spine, nil, LfType, skeleton, weaken, rename_spine}
-use Rattle.lf.specs.Substitution.{Image, keep, put, rename_image, lift, substitute_image, substitute_type, reduce, after}
+use Rattle.std.proofs.Common.{◌≡◌, ℕ, zero, suc, List, [], ◌∷◌, ◌++◌, length, ◌+◌, Option, Some, ◌⊎◌, inl, inr, refl, sym, ap, ◌∙◌, subst, arith}
+use Rattle.lf.specs.Syntax.{constant, Term, Spine, nil, LfType, skeleton}
+use Rattle.lf.specs.Substitution.{Image, keep, put, substitute_image, substitute_type, reduce, after}
 use Rattle.lf.specs.Eta.{eta_expand}
 use Rattle.lf.specs.SkeletonTyping.{SubstitutionBySkeletons}
 use Rattle.lf.specs.Skeletons.{constant_skeletons, family_skeletons, context_skeletons}
@@ -10,14 +10,12 @@ use Rattle.lf.specs.Variables.{onto, everything, Values}
 use Rattle.lf.specs.Subordination.{Block, Member, AreTypedBlocks}
 use Rattle.lf.specs.Worlds.{lift_over, instance}
 use Rattle.lf.proofs.EtaTyping.{eta_expand_has_type}
-use Rattle.lf.proofs.Growth.{growth_keeps_types}
 use Rattle.lf.proofs.Regular.{typed_substitutions_compose}
-use Rattle.lf.proofs.Renaming.{reduction_is_natural}
 use Rattle.lf.proofs.SkeletonTypes.{substitutions_compose_type}
-use Rattle.lf.proofs.Substitution.{TypedSubstitution, skeleton_context_of, lifted_substitution_typed, substitution_keeps_types, typed_substitution_by_skeletons}
+use Rattle.lf.proofs.Substitution.{TypedSubstitution, skeleton_context_of, substitution_keeps_types, typed_substitution_by_skeletons}
 use Rattle.lf.proofs.ToSkeletons.{type_by_skeletons}
-use Rattle.lf.proofs.TypeLaws.{skeleton_renamed, skeleton_substituted, substitute_identity_type, rename_substituted_type}
-use Rattle.lf.proofs.Weakening.{weakening_renames, renaming_keeps_typing, declared_is_type}
+use Rattle.lf.proofs.TypeLaws.{skeleton_substituted, substitute_identity_type}
+use Rattle.lf.proofs.Weakening.{declared_is_type}
 use Rattle.lf_unification.specs.Offering.{pi_over, local_arguments}
 use Rattle.lf_cases.specs.Cover.{place_of}
 use Rattle.lf_cases.specs.Case.{Item, free_variable, block_variable, items_context, as_term}
@@ -29,48 +27,25 @@ use Rattle.lf_coverage.specs.EntryConstants.{entry_constant, entry_images, entry
 use Rattle.lf_coverage.specs.EntryLaws.{NumberedIsTyped}
 use Rattle.lf_coverage.specs.NumberedCase.{AreTypedBlockVariables}
 use Rattle.lf_coverage.specs.Numbering.{entries_of, own_spine, numbering}
-use Rattle.lf_coverage.specs.OwnTerms.{BlockVariable, blocks_of, terms_at, terms_of_entry, own_terms, BeginsWith, SpineOnOwnTerms, TypeOnOwnTerms, ImageOnOwnTerms, rename_blocks}
+use Rattle.lf_coverage.specs.OwnTerms.{BlockVariable, blocks_of, terms_at, terms_of_entry, own_terms, BeginsWith, SpineOnOwnTerms, ImageOnOwnTerms}
 use Rattle.lf_coverage.proofs.EntryPlaces.{whole, Rest, rest_next}
 use Rattle.lf_coverage.proofs.EntrySignature.{else_second, locals_typed, grown_contexts, grown_image, with_entries_is_signature, entries_kept, earlier_kept}
 use Rattle.lf_coverage.proofs.EntryValues.{some_own, put_locals, after_entries, some_typed}
 use Rattle.lf_coverage.proofs.GroundTyped.{front_typed}
 use Rattle.lf_coverage.proofs.ItemsContext.{items_are_context, outer_context}
-use Rattle.lf_coverage.proofs.Numbering.{entry_behind, blocks_renamed}
-use Rattle.lf_coverage.proofs.OwnTerms.{rename_own, own_renamed, spine_renamed, type_renamed, own_agrees, type_agrees, own_stays, old_is_none, entry_from}
-use Rattle.lf_coverage.proofs.Reading.{IsOld}
-use mathlib.Core.Path.{fun_ext}
-pub use Rattle.lf_coverage.proofs.OwnForms.{own_long, own_long_constant, append_nothing, images_of_instance, own_some, put_old_type, renamed_terms, blocks_end, member_end, rename_as_term, rename_some}
+use Rattle.lf_coverage.proofs.NumberedTypedFree.{IsTypedNumbering, among_worlds, old_own, more, more_type, ok₁, free_typed}
+use Rattle.lf_coverage.proofs.NumberingBlocks.{entry_behind}
+pub use Rattle.lf_coverage.proofs.OwnForms.{append_nothing, images_of_instance, own_some, put_old_type, renamed_terms, blocks_end, member_end, rename_as_term, rename_some}
 use Rattle.lf_coverage.proofs.OwnForms.{own_as_term, put_old, last_terms}
+use Rattle.lf_coverage.proofs.OwnLong.{constant_own as own_long_constant}
+use Rattle.lf_coverage.proofs.OwnTerms.{own_agrees, type_agrees, own_stays, entry_from}
+use mathlib.Core.Path.{fun_ext}
 
 module _ (Σ : Signature) (ok : IsSignature Σ) (W : List Block) (typed : AreTypedBlocks Σ W) (first : ℕ) (free : IsFreeFrom Σ first) where
-  abbrev over : List BlockVariable → Signature
-  over bs = with_entries Σ first (blocks_of bs)
-
   abbrev own : List BlockVariable → ℕ → Option Spine
   own bs = own_terms first bs
 
-  pub record IsTypedNumbering (I : List Item) : Type 0 where
-    pub context : IsContext (with_entries Σ first (blocks_of (numbering first I).blocks)) (numbering first I).variables
-    pub images : IsTypedSubstitution (with_entries Σ first (blocks_of (numbering first I).blocks)) (items_context I) (numbering first I).variables (numbering first I).images
-    pub own_images : (i : ℕ) (A : LfType) → TypeAt (items_context I) i A → ImageOnOwnTerms (own_terms first (numbering first I).blocks) ((numbering first I).images i)
-    pub own_types : (i : ℕ) (A : LfType) → TypeAt (numbering first I).variables i A → TypeOnOwnTerms (own_terms first (numbering first I).blocks) A
-    pub blocks : AreTypedBlockVariables (with_entries Σ first (blocks_of (numbering first I).blocks)) W (numbering first I).variables (own_terms first (numbering first I).blocks) (numbering first I).blocks
-
-  pub among_worlds : (Σ₁ : Signature) (X : List LfType) (o : ℕ → Option Spine) (bs : List BlockVariable) → AreTypedBlockVariables Σ₁ W X o bs → (B : Block) → Member B (blocks_of bs) → Member B W
-  among_worlds Σ₁ X o [] t B m = absurd m
-  among_worlds Σ₁ X o (b ∷ bs) (m, u, p, t) B (inl e) = subst (λ D. Member D W) (sym e) m
-  among_worlds Σ₁ X o (b ∷ bs) (m, u, p, t) B (inr i) = among_worlds Σ₁ X o bs t B i
-
-  pub old_own : (bs : List BlockVariable) (c : ℕ) → IsOld Σ c → own_terms first bs c ≡ None
-  old_own bs c (A, e) = ap (terms_of_entry bs) (old_is_none Σ first free (blocks_of bs) c A e)
-
-  more : (Bs : List Block) (D : List LfType) → IsContext Σ D → IsContext (with_entries Σ first Bs) D
-  more Bs D c = grown_contexts Σ (with_entries Σ first Bs) (entries_kept Σ first Bs) (λ b K q. q) D c
-
-  more_type : (Bs : List Block) (D : List LfType) (A : LfType) → IsType Σ D A → IsType (with_entries Σ first Bs) D A
-  more_type Bs D A t = growth_keeps_types Σ (with_entries Σ first Bs) (entries_kept Σ first Bs) (λ b K q. q) D A t
-
-  module _ (I : List Item) (a : AreTypedItems Σ W I) (r : IsTypedNumbering I) where
+  module _ (I : List Item) (a : AreTypedItems Σ W I) (r : IsTypedNumbering Σ ok W typed first free I) where
     abbrev bs : List BlockVariable
     bs = (numbering first I).blocks
 
@@ -85,67 +60,6 @@ module _ (Σ : Signature) (ok : IsSignature Σ) (W : List Block) (typed : AreTyp
 
     abbrev Σ₁ : Signature
     Σ₁ = with_entries Σ first (blocks_of (numbering first I).blocks)
-
-    ok₁ : IsSignature Σ₁
-    ok₁ = with_entries_is_signature Σ ok first free (blocks_of bs) (λ B m. typed B (among_worlds Σ₁ X (own bs) bs r.blocks B m))
-
-    -- One more free variable
-    module _ (A : LfType) (t : IsType Σ (items_context I) A) where
-      abbrev A' : LfType
-      A' = substitute_type reduce (numbering first I).images A
-
-      substitution : TypedSubstitution Σ₁ ok₁ (items_context I) X δ
-      substitution = record { typed = r.images; source_skeletons = skeleton_context_of Σ₁ ok₁ (items_context I) (more (blocks_of bs) (items_context I) (items_are_context Σ ok W typed I a)); target_skeletons = skeleton_context_of Σ₁ ok₁ X r.context }
-
-      t₁ : IsType Σ₁ (items_context I) A
-      t₁ = more_type (blocks_of bs) (items_context I) A t
-
-      new_type : IsType Σ₁ X A'
-      new_type = substitution_keeps_types Σ₁ ok₁ (items_context I) X δ A substitution t₁
-
-      lifted_images : IsTypedSubstitution Σ₁ (A ∷ items_context I) (A' ∷ X) (lift δ)
-      lifted_images = (lifted_substitution_typed Σ₁ ok₁ (items_context I) X δ A substitution (type_by_skeletons Σ₁ (items_context I) A t₁)).typed
-
-      own_next : (c : ℕ) → own_terms first (rename_blocks suc bs) c ≡ rename_own suc (own_terms first bs c)
-      own_next c = renamed_terms first suc bs c
-
-      image_next : (y : Image) → ImageOnOwnTerms (own bs) y → ImageOnOwnTerms (own (rename_blocks suc bs)) (rename_image suc y)
-      image_next (keep j) h = tt
-      image_next (put b N) h = own_renamed (own bs) (own (rename_blocks suc bs)) suc N own_next h
-
-      image_weakened : (y : Image) (B : LfType) → ImageHasType Σ₁ X y B → ImageHasType Σ₁ (A' ∷ X) (rename_image suc y) (weaken B)
-      image_weakened (keep j) B g = (B, g, refl)
-      image_weakened (put b N) B (e, n) = (skeleton_renamed suc B ∙ e, renaming_keeps_typing Σ₁ ok₁ X (A' ∷ X) suc N B (weakening_renames X A') n)
-
-      moved_blocks : (ds : List BlockVariable) → AreTypedBlockVariables Σ₁ W X (own bs) ds → AreTypedBlockVariables Σ₁ W (A' ∷ X) (own (rename_blocks suc bs)) (rename_blocks suc ds)
-      moved_blocks [] h = tt
-      moved_blocks (d ∷ ds) (m, (υ, u, e), p, h) = (
-        m,
-        (
-          λ i. rename_image suc (υ i),
-          λ i B g. subst (ImageHasType Σ₁ (A' ∷ X) (rename_image suc (υ i))) (rename_substituted_type reduce reduction_is_natural suc υ B) (image_weakened (υ i) (substitute_type reduce υ B) (u i B g)),
-          ap (rename_spine suc) e ∙ rename_some suc d.block.some υ,
-        ),
-        spine_renamed (own bs) (own (rename_blocks suc bs)) suc d.terms own_next p,
-        moved_blocks ds h,
-      )
-
-      free_typed : IsTypedNumbering (free_variable A ∷ I)
-      free_typed = record {
-        context = subst (λ Bs. IsContext (with_entries Σ first Bs) (A' ∷ X)) (sym (blocks_renamed suc bs)) (r.context, new_type);
-        images = subst (λ Bs. IsTypedSubstitution (with_entries Σ first Bs) (A ∷ items_context I) (A' ∷ X) (lift δ)) (sym (blocks_renamed suc bs)) lifted_images;
-        own_images = own_images;
-        own_types = own_types;
-        blocks = subst (λ Bs. AreTypedBlockVariables (with_entries Σ first Bs) W (A' ∷ X) (own (rename_blocks suc bs)) (rename_blocks suc bs)) (sym (blocks_renamed suc bs)) (moved_blocks bs r.blocks);
-      }
-        where
-          own_images : (i : ℕ) (B : LfType) → TypeAt (A ∷ items_context I) i B → ImageOnOwnTerms (own (rename_blocks suc bs)) (lift δ i)
-          own_images zero B g = tt
-          own_images (suc i) B (D, g, e) = image_next (δ i) (r.own_images i D g)
-
-          own_types : (i : ℕ) (B : LfType) → TypeAt (A' ∷ X) i B → TypeOnOwnTerms (own (rename_blocks suc bs)) B
-          own_types zero B e = subst (TypeOnOwnTerms (own (rename_blocks suc bs))) (sym e) (type_renamed (own bs) (own (rename_blocks suc bs)) suc A' own_next (put_old_type Σ (items_context I) (own bs) δ A (old_own bs) r.own_images t))
-          own_types (suc i) B (D, g, e) = subst (TypeOnOwnTerms (own (rename_blocks suc bs))) (sym e) (type_renamed (own bs) (own (rename_blocks suc bs)) suc D own_next (r.own_types i D g))
 
     -- One more block variable
     module _ (B : Block) (υ : ℕ → Image) (member : Member B W) (v : Values Σ everything B.some (items_context I) υ) where
@@ -171,7 +85,7 @@ module _ (Σ : Signature) (ok : IsSignature Σ) (W : List Block) (typed : AreTyp
       ok₂ = with_entries_is_signature Σ ok first free Bs₂ (λ D i. at D (member_end (blocks_of bs) B D (subst (Member D) (blocks_end bs b) i)))
         where
           at : (D : Block) → Member D (blocks_of bs) ⊎ (D ≡ B) → IsContext Σ (onto D.entries D.some)
-          at D (inl i) = typed D (among_worlds Σ₁ X (own bs) bs r.blocks D i)
+          at D (inl i) = typed D (among_worlds Σ ok W typed first free Σ₁ X (own bs) bs r.blocks D i)
           at D (inr e) = subst (λ F. IsContext Σ (onto F.entries F.some)) (sym e) (typed B member)
 
       kept : (c : ℕ) (A : LfType) → Σ₁.types c ≡ Some A → Σ₂.types c ≡ Some A
@@ -181,10 +95,10 @@ module _ (Σ : Signature) (ok : IsSignature Σ) (W : List Block) (typed : AreTyp
       context₂ = grown_contexts Σ₁ Σ₂ kept (λ c K q. q) X r.context
 
       items₂ : IsContext Σ₂ C
-      items₂ = more Bs₂ C (items_are_context Σ ok W typed I a)
+      items₂ = more Σ ok W typed first free Bs₂ C (items_are_context Σ ok W typed I a)
 
       some₂ : IsContext Σ₂ B.some
-      some₂ = more Bs₂ B.some (outer_context Σ B.entries B.some (typed B member))
+      some₂ = more Σ ok W typed first free Bs₂ B.some (outer_context Σ B.entries B.some (typed B member))
 
       images₂ : IsTypedSubstitution Σ₂ C X δ
       images₂ i A g = grown_image Σ₁ Σ₂ kept (λ c K q. q) X (δ i) (substitute_type reduce δ A) (r.images i A g)
@@ -211,7 +125,7 @@ module _ (Σ : Signature) (ok : IsSignature Σ) (W : List Block) (typed : AreTyp
 
       value_own : (y : Image) (A : LfType) → ImageHasType Σ C y A → ImageOnOwnTerms o₂ (substitute_image δ y)
       value_own (keep j) A g = own₂ j A g
-      value_own (put c N) A (e, n) = put_old Σ C o₂ δ N A (old_own (bs ++ b ∷ [])) own₂ n
+      value_own (put c N) A (e, n) = put_old Σ C o₂ δ N A (old_own Σ ok W typed first free (bs ++ b ∷ [])) own₂ n
 
       terms_own : SpineOnOwnTerms o₂ U
       terms_own = own_some o₂ B.some (after δ υ) (λ i A g. own_as_term o₂ (skeleton A) (after δ υ i) (value_own (υ i) (substitute_type reduce υ A) (v.typed i A g refl)))
@@ -239,7 +153,7 @@ module _ (Σ : Signature) (ok : IsSignature Σ) (W : List Block) (typed : AreTyp
           let ι : ℕ → Image = entry_images m (local_arguments B.some) ds keep in
           let s : IsTypedSubstitution Σ₂ (onto ds B.some) B.some ι = locals_fit (onto later (D ∷ [])) ds (rest_next B later D ds e) c in
           let T : LfType = substitute_type reduce ι D in
-          let t₂ : IsType Σ₂ B.some T = substitution_keeps_types Σ₂ ok₂ (onto ds B.some) B.some ι D (record { typed = s; source_skeletons = skeleton_context_of Σ₂ ok₂ (onto ds B.some) (more Bs₂ (onto ds B.some) c); target_skeletons = skeleton_context_of Σ₂ ok₂ B.some some₂ }) (more_type Bs₂ (onto ds B.some) D t) in
+          let t₂ : IsType Σ₂ B.some T = substitution_keeps_types Σ₂ ok₂ (onto ds B.some) B.some ι D (record { typed = s; source_skeletons = skeleton_context_of Σ₂ ok₂ (onto ds B.some) (more Σ ok W typed first free Bs₂ (onto ds B.some) c); target_skeletons = skeleton_context_of Σ₂ ok₂ B.some some₂ }) (more_type Σ ok W typed first free Bs₂ (onto ds B.some) D t) in
           let N : Term = eta_expand (skeleton D) (constant (m + length ds)) (local_arguments B.some) in
           front_typed Σ₂ ok₂ [] (λ F i. absurd i) (onto ds B.some) B.some D (put (skeleton D) N) ι s (skeleton_substituted reduce ι D, eta_expand_has_type Σ₂ ok₂ (skeleton D) B.some (constant (m + length ds)) (local_arguments B.some) (pi_over B.some T) T some₂ (skeleton_substituted reduce ι D) t₂ (constant_in later D ds (e D ds refl)) (locals_typed Σ₂ ok₂ B.some T some₂ t₂))
 
@@ -254,10 +168,10 @@ module _ (Σ : Signature) (ok : IsSignature Σ) (W : List Block) (typed : AreTyp
           let s : IsTypedSubstitution Σ₂ (onto (instance ds υ) C) X (entry_images m U ds δ) = entries_fit (onto later (D ∷ [])) ds (rest_next B later D ds e) in
           let ι : ℕ → Image = entry_images m (local_arguments B.some) ds keep in
           let l : IsTypedSubstitution Σ₂ (onto ds B.some) B.some ι = locals_fit (onto later (D ∷ [])) ds (rest_next B later D ds e) c in
-          let t₂ : IsType Σ₂ (onto ds B.some) D = more_type Bs₂ (onto ds B.some) D t in
+          let t₂ : IsType Σ₂ (onto ds B.some) D = more_type Σ ok W typed first free Bs₂ (onto ds B.some) D t in
           let k = type_by_skeletons Σ₂ (onto ds B.some) D t₂ in
           let T : LfType = substitute_type reduce ι D in
-          let tT : IsType Σ₂ B.some T = substitution_keeps_types Σ₂ ok₂ (onto ds B.some) B.some ι D (record { typed = l; source_skeletons = skeleton_context_of Σ₂ ok₂ (onto ds B.some) (more Bs₂ (onto ds B.some) c); target_skeletons = skeleton_context_of Σ₂ ok₂ B.some some₂ }) t₂ in
+          let tT : IsType Σ₂ B.some T = substitution_keeps_types Σ₂ ok₂ (onto ds B.some) B.some ι D (record { typed = l; source_skeletons = skeleton_context_of Σ₂ ok₂ (onto ds B.some) (more Σ ok W typed first free Bs₂ (onto ds B.some) c); target_skeletons = skeleton_context_of Σ₂ ok₂ B.some some₂ }) t₂ in
           let Z : LfType = substitute_type reduce (entry_images m U ds δ) (substitute_type reduce (lift_over ds υ) D) in
           let kω : SubstitutionBySkeletons κ (context_skeletons B.some) (context_skeletons X) (after δ υ) = typed_substitution_by_skeletons Σ₂ ok₂ B.some X (after δ υ) terms₂.typed in
           let one : substitute_type reduce (after δ υ) T ≡ substitute_type reduce (entry_images m U ds (after δ υ)) D =
@@ -282,22 +196,22 @@ module _ (Σ : Signature) (ok : IsSignature Σ) (W : List Block) (typed : AreTyp
       old_blocks (d ∷ ds) (i, (ω, u, e), p, h) = (
         i,
         (ω, λ j A g. grown_image Σ₁ Σ₂ kept (λ c K q. q) X (ω j) (substitute_type reduce ω A) (u j A g), e),
-        subst (SpineOnOwnTerms o₂) (sym e) (own_some o₂ d.block.some ω (λ j A g. own_agrees Σ₁ (own bs) o₂ stays X (as_term (skeleton A) (ω j)) (substitute_type reduce ω A) (term_typed Σ₁ ok₁ X r.context (skeleton A) (ω j) (substitute_type reduce ω A) (skeleton_substituted reduce ω A) (u j A g)) (some_own (own bs) d.block.some ω (subst (SpineOnOwnTerms (own bs)) e p) j A g))),
+        subst (SpineOnOwnTerms o₂) (sym e) (own_some o₂ d.block.some ω (λ j A g. own_agrees Σ₁ (own bs) o₂ stays X (as_term (skeleton A) (ω j)) (substitute_type reduce ω A) (term_typed Σ₁ (ok₁ Σ ok W typed first free I a r) X r.context (skeleton A) (ω j) (substitute_type reduce ω A) (skeleton_substituted reduce ω A) (u j A g)) (some_own (own bs) d.block.some ω (subst (SpineOnOwnTerms (own bs)) e p) j A g))),
         old_blocks ds h,
       )
 
-      block_typed : IsTypedNumbering (block_variable B υ ∷ I)
+      block_typed : IsTypedNumbering Σ ok W typed first free (block_variable B υ ∷ I)
       block_typed = record {
         context = context₂;
         images = entries_fit [] B.entries (λ D ds q. sym q);
         own_images = entries_own [] B.entries (λ D ds q. sym q);
-        own_types = λ i A g. type_agrees Σ₁ (own bs) o₂ stays X A (declared_is_type Σ₁ ok₁ X i A r.context g) (r.own_types i A g);
+        own_types = λ i A g. type_agrees Σ₁ (own bs) o₂ stays X A (declared_is_type Σ₁ (ok₁ Σ ok W typed first free I a r) X i A r.context g) (r.own_types i A g);
         blocks = old_blocks bs r.blocks;
       }
 
-  pub typed_numbering : (I : List Item) → AreTypedItems Σ W I → IsTypedNumbering I
+  pub typed_numbering : (I : List Item) → AreTypedItems Σ W I → IsTypedNumbering Σ ok W typed first free I
   typed_numbering [] a = record { context = tt; images = λ i A g. absurd g; own_images = λ i A g. absurd g; own_types = λ i A g. absurd g; blocks = tt }
-  typed_numbering (free_variable A ∷ I) (a, t) = free_typed I a (typed_numbering I a) A t
+  typed_numbering (free_variable A ∷ I) (a, t) = free_typed Σ ok W typed first free I a (typed_numbering I a) A t
   typed_numbering (block_variable B υ ∷ I) (a, m, v) = block_typed I a (typed_numbering I a) B υ m v
 
 pub numbered_is_typed : NumberedIsTyped

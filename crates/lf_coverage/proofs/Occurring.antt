@@ -10,8 +10,8 @@ use Rattle.lf.proofs.Checker.{number_itself}
 use Rattle.lf_checks.specs.Tests.{either}
 use Rattle.lf_cases.specs.Full.{occurrences, occurrences_spine}
 use Rattle.lf_coverage.specs.TermMatching.{hidden, over}
-use Rattle.lf_coverage.proofs.UnderBound.{hidden_over, lifted_same}
 use Rattle.lf_coverage.proofs.Choices.{either_second}
+use Rattle.lf_coverage.proofs.UnderBound.{hidden_over, lifted_same}
 
 -- a term that occurs uses the variables that occur in it
 pub sum_first : (m n : ℕ) → m + n ≡ 0 → m ≡ 0

@@ -1,7 +1,7 @@
 -- Where a root has a head with arguments that use variables of lower families, the new variables of the head have values that give these arguments.
 use Rattle.std.proofs.Common.{◌≡◌, ℕ, zero, suc, List, ◌∷◌, ◌+◌, refl, sym, ap, ◌∙◌, subst}
-use Rattle.std.specs.Prelude.{Bool, true}
-use Rattle.lf.specs.Syntax.{Term, Spine, nil, app, LfType, Kind, Skeleton, base, arrow, atom, kind_skeleton}
+use Rattle.std.specs.Prelude.{Bool}
+use Rattle.lf.specs.Syntax.{Spine, nil, app, LfType, Kind, Skeleton, base, arrow, atom, kind_skeleton}
 use Rattle.lf.specs.Substitution.{Image, substitute_spine, substitute_type, substitute_kind, reduce}
 use Rattle.lf.specs.SkeletonTyping.{HeadSkeletons, SubstitutionBySkeletons, KindBySkeletons, TypeBySkeletons}
 use Rattle.lf.specs.Skeletons.{constant_skeletons, family_skeletons, context_skeletons}
@@ -24,7 +24,7 @@ outputs_fit κ Γ (suc n) nil t = tt
 outputs_fit κ Γ (suc n) (app M S) (base c) = tt
 outputs_fit κ Γ (suc n) (app M S) (arrow a t) = outputs_fit κ Γ n S t
 
-length_kept : (σ : ℕ → Image) (S : Spine) → argument_count (substitute_spine reduce σ S) ≡ argument_count S
+pub length_kept : (σ : ℕ → Image) (S : Spine) → argument_count (substitute_spine reduce σ S) ≡ argument_count S
 length_kept σ nil = refl
 length_kept σ (app M S) = ap suc (length_kept σ S)
 

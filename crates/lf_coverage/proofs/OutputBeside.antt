@@ -8,7 +8,7 @@ use Rattle.lf.specs.Skeletons.{constant_skeletons, family_skeletons, context_ske
 use Rattle.lf.specs.AtOnce.{lift_renaming_by, shift_by}
 use Rattle.lf.specs.Eta.{eta_long}
 use Rattle.lf.specs.Typing.{Signature, TypeAt, HasType, IsType, IsContext, IsSignature, ImageHasType, instantiate_kind}
-use Rattle.lf.specs.Variables.{target, target_arguments, binders, onto, under, Uses, UsesSpine, UsesType, Values, IsTypedRenamingOn}
+use Rattle.lf.specs.Variables.{target, target_arguments, binders, onto, under, UsesType, Values, IsTypedRenamingOn}
 use Rattle.lf.specs.Subordination.{Block, AreTypedBlocks}
 use Rattle.lf.specs.Worlds.{lift_over, instance}
 use Rattle.lf.proofs.Eta.{eta_expand_has_skeleton}
@@ -40,7 +40,7 @@ use Rattle.lf_coverage.proofs.KeptTyped.{within_closed}
 use Rattle.lf_coverage.proofs.OutputTyped.{GoalTyped, goal_case, goal_typed, sound_for}
 
 -- Arguments that are typed stay so where at the inputs the same terms stand.
-arguments_same : (κ : HeadSkeletons) (V : ℕ → Bool) (Γ Δ : List Skeleton) (σ : ℕ → Image) (ρ : ℕ → ℕ) → SubstitutionBySkeletons κ Γ Δ σ → Likes V Γ σ ρ → (Σ : Signature) (G : List LfType) (m : List Mark) (ks : List (List Bool)) (D : List LfType) (L : Kind) (S : Spine) (t u : Skeleton) (K : Kind) → NoneFree m → UsesPlaces V (input_places m) S → SpineSkeleton κ Γ S t u → TypedArguments Σ G (output_arguments ks D (output_places m) L) (rename_spine ρ S) K → TypedArguments Σ G (output_arguments ks D (output_places m) L) (substitute_spine reduce σ S) K
+pub arguments_same : (κ : HeadSkeletons) (V : ℕ → Bool) (Γ Δ : List Skeleton) (σ : ℕ → Image) (ρ : ℕ → ℕ) → SubstitutionBySkeletons κ Γ Δ σ → Likes V Γ σ ρ → (Σ : Signature) (G : List LfType) (m : List Mark) (ks : List (List Bool)) (D : List LfType) (L : Kind) (S : Spine) (t u : Skeleton) (K : Kind) → NoneFree m → UsesPlaces V (input_places m) S → SpineSkeleton κ Γ S t u → TypedArguments Σ G (output_arguments ks D (output_places m) L) (rename_spine ρ S) K → TypedArguments Σ G (output_arguments ks D (output_places m) L) (substitute_spine reduce σ S) K
 arguments_same κ V Γ Δ σ ρ s l Σ G [] ks D L nil t u K n us k h = h
 arguments_same κ V Γ Δ σ ρ s l Σ G [] ks D L (app M S) t u K n us k h = absurd h
 arguments_same κ V Γ Δ σ ρ s l Σ G (b ∷ m) ks D star nil t u K n us k h = h
@@ -58,18 +58,18 @@ arguments_same κ V Γ Δ σ ρ s l Σ G (input ∷ m) ks D (kind_pi A L) (app M
 arguments_same κ V Γ Δ σ ρ s l Σ G (output ∷ m) ks D (kind_pi A L) (app M S) (arrow a t) u (kind_pi B K) n us (km, k) (x, h) = (x, arguments_same κ V Γ Δ σ ρ s l Σ G m (other_masks ks) D L S t u (instantiate_kind B (raised_variable (first_mask ks) D A (chosen_count (output_places m) L)) K) n us k h)
 
 -- The hypotheses of a subgoal, and its arguments, under values that do what a renaming does to what they mention.
-record LocalSame (κ : HeadSkeletons) (g : ℕ → Image) (r : ℕ → ℕ) (b : List Bool) (X : List LfType) (A : LfType) : Type 0 where
-  same : renumber r (binders X A) ≡ instance (binders X A) g
-  set : ℕ → Bool
-  source : List Skeleton
-  goal : List Skeleton
-  fits : SubstitutionBySkeletons κ source goal (lift_over (binders X A) g)
-  likes : Likes set source (lift_over (binders X A) g) (lift_renaming_by (length (binders X A)) r)
-  kind : Skeleton
-  spine : SpineSkeleton κ source (target_arguments A) kind (base (target A))
-  uses : UsesPlaces set b (target_arguments A)
+pub record LocalSame (κ : HeadSkeletons) (g : ℕ → Image) (r : ℕ → ℕ) (b : List Bool) (X : List LfType) (A : LfType) : Type 0 where
+  pub same : renumber r (binders X A) ≡ instance (binders X A) g
+  pub set : ℕ → Bool
+  pub source : List Skeleton
+  pub goal : List Skeleton
+  pub fits : SubstitutionBySkeletons κ source goal (lift_over (binders X A) g)
+  pub likes : Likes set source (lift_over (binders X A) g) (lift_renaming_by (length (binders X A)) r)
+  pub kind : Skeleton
+  pub spine : SpineSkeleton κ source (target_arguments A) kind (base (target A))
+  pub uses : UsesPlaces set b (target_arguments A)
 
-local_same : (κ : HeadSkeletons) (φ : ℕ → Option Skeleton) (g : ℕ → Image) (r : ℕ → ℕ) (b : List Bool) (A : LfType) (X : List LfType) (V : ℕ → Bool) (Γ Δ : List Skeleton) → SubstitutionBySkeletons κ Γ Δ (lift_over X g) → Likes V Γ (lift_over X g) (lift_renaming_by (length X) r) → TypeBySkeletons φ κ Γ A → UsesGoal V b A → renumber r X ≡ instance X g → LocalSame κ g r b X A
+pub local_same : (κ : HeadSkeletons) (φ : ℕ → Option Skeleton) (g : ℕ → Image) (r : ℕ → ℕ) (b : List Bool) (A : LfType) (X : List LfType) (V : ℕ → Bool) (Γ Δ : List Skeleton) → SubstitutionBySkeletons κ Γ Δ (lift_over X g) → Likes V Γ (lift_over X g) (lift_renaming_by (length X) r) → TypeBySkeletons φ κ Γ A → UsesGoal V b A → renumber r X ≡ instance X g → LocalSame κ g r b X A
 local_same κ φ g r b (pi B A) X V Γ Δ s l (kb, ka) (ub, ua) e =
     let q : substitute_type reduce (lift_over X g) B ≡ rename_type (lift_renaming_by (length X) r) B = eta_on_type κ φ V Γ Δ (lift_over X g) (lift_renaming_by (length X) r) s l B kb ub in
     let h = local_same κ φ g r b A (B ∷ X) (under V) (skeleton B ∷ Γ) (skeleton B ∷ Δ) (lift_by_skeletons κ (skeleton B) Γ Δ (lift_over X g) s) (likes_under V Γ (skeleton B) (lift_over X g) (lift_renaming_by (length X) r) l) ka ua (ap₂ ◌∷◌ (sym q) e) in
@@ -77,7 +77,7 @@ local_same κ φ g r b (pi B A) X V Γ Δ s l (kb, ka) (ub, ua) e =
 local_same κ φ g r b (atom a S) X V Γ Δ s l (t, q, k) us e = record { same = e; set = V; source = Γ; goal = Δ; fits = s; likes = l; kind = t; spine = k; uses = us }
 
 module _ (Σ : Signature) (ok : IsSignature Σ) (W : List Block) (typed : AreTypedBlocks Σ W) where
-  arguments_near : (O Q : List LfType) (Ms : List (Option Term)) (T : Spine) (K : Kind) → TypedArguments Σ O Ms T K → TypedArguments Σ (onto O Q) Ms T K
+  pub arguments_near : (O Q : List LfType) (Ms : List (Option Term)) (T : Spine) (K : Kind) → TypedArguments Σ O Ms T K → TypedArguments Σ (onto O Q) Ms T K
   arguments_near O Q [] nil star h = h
   arguments_near O Q [] nil (kind_pi A K) h = absurd h
   arguments_near O Q [] (app N T) K h = absurd h

@@ -22,7 +22,7 @@ use Rattle.lf_coverage.proofs.OutputBeside.{output_goal_is_typed}
 use Rattle.lf_coverage.proofs.OutputTyped.{output_goal_is_typed_case}
 
 -- what the checks of modes give of a subgoal
-subgoal_passes : (Σ : Signature) (m : ℕ → List Mark) (moded : ℕ → Bool) (c : Clause) → WellModed Σ m moded c → (i : ℕ) (A : LfType) → IsSubgoal c i A → HasSoundMarks Σ (target A) (m (target A)) × UsesGoal (ground_until everything m c i) (input_places (m (target A))) A
+pub subgoal_passes : (Σ : Signature) (m : ℕ → List Mark) (moded : ℕ → Bool) (c : Clause) → WellModed Σ m moded c → (i : ℕ) (A : LfType) → IsSubgoal c i A → HasSoundMarks Σ (target A) (m (target A)) × UsesGoal (ground_until everything m c i) (input_places (m (target A))) A
 subgoal_passes Σ m moded c w i A s = let (marks, needs, hs) = ((walked everything m c (λ U B. HasSoundMarks Σ (target B) (m (target B)) × UsesGoal U (input_places (m (target B))) B × EachHypothesis (WellModedTo 0 Σ m moded) moded (scope c) (outside c.type c.fixed) U B) (λ U. AllGround m c U)).0 (w 1).1).0 i A s in (marks, needs)
 
 pub moded_goals_are_typed : ModedGoalsAreTyped
@@ -39,11 +39,11 @@ stays : (m : ℕ → List Mark) (c : Clause) (A : LfType) (U : ℕ → Bool) (l 
 stays m c A U l u = ap (λ b. either b (both (variables c l) (strict_goal (output_places (m (target A))) nothing (outside c.type c.fixed) l A))) u
 
 -- What is ground holds the variables in its types.
-abbrev HoldsTypes : Clause → (ℕ → Bool) → Type 0
+abbrev pub HoldsTypes : Clause → (ℕ → Bool) → Type 0
 HoldsTypes c U = (l : ℕ) (X : LfType) → TypeAt (scope c) l X → U l ≡ true → UsesType U X
 
 module _ (Σ : Signature) (ok : IsSignature Σ) (m : ℕ → List Mark) (c : Clause) (ct : IsContext Σ (scope c)) (first : HoldsTypes c (ground_first m c)) where
-  closed_until : (i : ℕ) → ((j : ℕ) (B : LfType) → j < i → IsSubgoal c j B → UsesType (ground_until everything m c (suc j)) B) → Within (outside c.type everything) (ground_until everything m c i) × HoldsTypes c (ground_until everything m c i)
+  pub closed_until : (i : ℕ) → ((j : ℕ) (B : LfType) → j < i → IsSubgoal c j B → UsesType (ground_until everything m c (suc j)) B) → Within (outside c.type everything) (ground_until everything m c i) × HoldsTypes c (ground_until everything m c i)
   closed_until zero h = ((λ l v. starts m c l v), first)
   closed_until (suc i) h = by (variables c i) refl (type_at (scope c) i) refl (closed_until i (λ j B l s. h j B (omega arith) s))
     where

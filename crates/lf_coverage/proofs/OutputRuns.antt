@@ -1,6 +1,6 @@
 -- A run from the goal of outputs covers it.
 use Rattle.std.proofs.Common.{◌≡◌, ℕ, zero, suc, List, [], ◌∷◌, inl, inr, refl, sym, ap, ◌∙◌, subst}
-use Rattle.std.specs.Prelude.{Bool, true, false, cond, Some}
+use Rattle.std.specs.Prelude.{Bool, true, false, cond}
 use Rattle.lf.specs.Syntax.{Spine, nil, app, LfType, Kind, kind_pi, star, rename_kind, rename_spine, rename_type, lift_renaming}
 use Rattle.lf.specs.Typing.{Signature, instantiate_kind}
 use Rattle.lf.specs.Variables.{target, binders, onto, FamiliesIn, KindFamiliesIn}
@@ -40,7 +40,7 @@ use Rattle.lf_coverage.proofs.Unified.{unified_split}
 pub open_outputs_are_covered : OpenOutputsAreCovered
 open_outputs_are_covered Σ m W S c U A n Σ' x G w h θ off σ v = absurd (n v.closed)
 
-kind_renamed : (S : ℕ → Bool) (ρ : ℕ → ℕ) (K : Kind) → KindFamiliesIn S K → KindFamiliesIn S (rename_kind ρ K)
+pub kind_renamed : (S : ℕ → Bool) (ρ : ℕ → ℕ) (K : Kind) → KindFamiliesIn S K → KindFamiliesIn S (rename_kind ρ K)
 kind_renamed S ρ (kind_pi A K) (a, k) = (families_renamed S ρ A a, kind_renamed S (lift_renaming ρ) K k)
 kind_renamed S ρ star k = tt
 
@@ -65,7 +65,7 @@ module _ (S : ℕ → Bool) where
 
 module _ (Σ : Signature) (W : List Block) where
   -- the families in the type of a clause of a family in S, and in the types of what stands outside it
-  clause_families : (S : ℕ → Bool) → SelfContained Σ W S → {c : Clause} (d : IsClause Σ W c) → S (target c.type) ≡ true → FamiliesIn S c.type
+  pub clause_families : (S : ℕ → Bool) → SelfContained Σ W S → {c : Clause} (d : IsClause Σ W c) → S (target c.type) ≡ true → FamiliesIn S c.type
   clause_families S sc (from_constant k U e) t = sc.types_in k U e t
   clause_families S sc (from_entry B later E es m e) t = sc.entries_in B E m (subst (Member E) e (among later)) t
     where

@@ -20,7 +20,7 @@ use Rattle.lf_checks.specs.Ground.{UsesGoal}
 use Rattle.lf_checks.specs.Marks.{Mark, HasSoundMarks, AreSound, NoneFree, UsesPlaces, input_places, output_places}
 use Rattle.lf_cases.specs.Case.{Item, items_context, chosen_count}
 use Rattle.lf_cases.specs.Missing.{AreTypedItems}
-use Rattle.lf_cases.specs.OutputGoal.{outside_items, outside_number, closed_over, kept_number, kept_items, kept_terms, renumber, over_item, raised_variable, goal_number, goal_masks, output_goal, output_items, output_arguments}
+use Rattle.lf_cases.specs.OutputGoal.{outside_items, outside_number, closed_over, kept_items, kept_terms, renumber, goal_number, goal_masks, output_goal, output_arguments}
 use Rattle.lf_cases.specs.Pattern.{Origin, origin}
 use Rattle.lf_cases.specs.Split.{HasOneBlockVariable}
 use Rattle.lf_cases.proofs.Assemble.{binders_typed, end_typed}
@@ -39,10 +39,10 @@ use Rattle.lf_coverage.proofs.InputTyped.{closed_chosen, renamed_type}
 use Rattle.lf_coverage.proofs.ItemsContext.{items_are_context}
 use Rattle.lf_coverage.proofs.KeptTyped.{keep_set, within_closed, KeptTyped, kept_typed, outside_typed}
 use Rattle.lf_coverage.proofs.Meeting.{binders_renumbered}
+use Rattle.lf_coverage.proofs.Parts.{some_same}
 use Rattle.lf_coverage.proofs.PlacesTyped.{PlacesTyped, places_typed}
 use Rattle.lf_coverage.proofs.RaisedTyped.{renumber_twice}
 use Rattle.lf_coverage.proofs.Strip.{under_binder}
-use Rattle.lf_coverage.proofs.Parts.{some_same}
 use mathlib.Core.Path.{fun_ext}
 
 -- typed arguments have skeletons
@@ -56,7 +56,7 @@ arguments_have Σ G (Some M ∷ Ms) (app N T) (kind_pi A K) (m, h) = ((skeleton 
 arguments_have Σ G (None ∷ Ms) (app N T) (kind_pi A K) h = arguments_have Σ G Ms T _ h
 
 -- so have the given terms
-given_have : (κ : HeadSkeletons) (D O Y : List LfType) (U : ℕ → Bool) (r : ℕ → ℕ) → IsTypedRenamingOn U (onto D O) Y r → HaveSkeletons κ (context_skeletons Y) (kept_terms U D r)
+pub given_have : (κ : HeadSkeletons) (D O Y : List LfType) (U : ℕ → Bool) (r : ℕ → ℕ) → IsTypedRenamingOn U (onto D O) Y r → HaveSkeletons κ (context_skeletons Y) (kept_terms U D r)
 given_have κ [] O Y U r h = tt
 given_have κ (A ∷ D) O Y U r h = by (U zero) refl (given_have κ D O Y (λ i. U (suc i)) (λ i. r (suc i)) (λ i X g u. subst (TypeAt Y (r (suc i))) (renamings_compose_type r suc X) (h (suc i) (weaken X) (X, g, refl) u)))
   where

@@ -1,6 +1,6 @@
 -- Eta-long forms, values and spines on own terms, and the own terms of block variables that are renamed or come last.
 use Rattle.std.proofs.Common.{◌≡◌, ℕ, zero, suc, List, [], ◌∷◌, ◌++◌, length, ◌+◌, Option, Some, None, ◌⊎◌, inl, inr, refl, sym, ap, ap₂, ◌∙◌, subst}
-use Rattle.lf.specs.Syntax.{constant, variable, metavariable, Term, Spine, lambda, root, nil, app, LfType, Kind, pi, atom, kind_pi, star, Skeleton, base, arrow, skeleton, weaken, rename, rename_spine}
+use Rattle.lf.specs.Syntax.{constant, variable, metavariable, Term, Spine, lambda, root, nil, app, LfType, Kind, pi, atom, kind_pi, star, Skeleton, skeleton, weaken, rename, rename_spine}
 use Rattle.lf.specs.Substitution.{Image, keep, put, rename_image, lift, substitute, substitute_spine, substitute_type, reduce, after}
 use Rattle.lf.specs.Eta.{add_last, append, eta_expand}
 use Rattle.lf.specs.Typing.{Signature, TypeAt, HasType, SpineType, SpineFitsKind, instantiate_type, instantiate_kind, IsType}
@@ -14,33 +14,10 @@ use Rattle.lf_coverage.specs.EntryConstants.{EntryConstant, entry_constant, entr
 use Rattle.lf_coverage.specs.NumberedCase.{some_spine}
 use Rattle.lf_coverage.specs.OwnTerms.{BlockVariable, blocks_of, terms_at, terms_of_entry, own_terms, weaken_own, BeginsWith, OnOwnTerms, SpineOnOwnTerms, TypeOnOwnTerms, ImageOnOwnTerms, rename_blocks}
 use Rattle.lf_coverage.proofs.GroundTyped.{past_one}
-use Rattle.lf_coverage.proofs.Numbering.{blocks_renamed}
-use Rattle.lf_coverage.proofs.OwnTerms.{rename_own, begins_renamed, own_as_renamed, spine_renamed, RedOwn, image_under, plug_own, reduce_own}
+use Rattle.lf_coverage.proofs.NumberingBlocks.{blocks_renamed}
+use Rattle.lf_coverage.proofs.OwnLong.{own_add, variable_own as own_long}
+use Rattle.lf_coverage.proofs.OwnTerms.{rename_own, RedOwn, image_under, plug_own, reduce_own}
 use Rattle.lf_coverage.proofs.Reading.{IsOld}
-
--- Eta-long forms on own terms
-own_add : (o : ℕ → Option Spine) (S : Spine) (N : Term) → SpineOnOwnTerms o S → OnOwnTerms o N → SpineOnOwnTerms o (add_last S N)
-own_add o nil N s n = (n, tt)
-own_add o (app M S) N (m, s) n = (m, own_add o S N s n)
-
-pub own_long : (o : ℕ → Option Spine) (a : Skeleton) (j : ℕ) (T : Spine) → SpineOnOwnTerms o T → OnOwnTerms o (eta_expand a (variable j) T)
-own_long o (base c) j T s = s
-own_long o (arrow a b) j T s = own_long (λ c. weaken_own (o c)) b (suc j) (add_last (rename_spine suc T) (eta_expand a (variable zero) nil)) (own_add (λ c. weaken_own (o c)) (rename_spine suc T) (eta_expand a (variable zero) nil) (spine_renamed o (λ c. weaken_own (o c)) suc T (λ c. own_as_renamed (o c)) s) (own_long (λ c. weaken_own (o c)) a zero nil tt))
-
-add_append : (U T : Spine) (N : Term) → add_last (append U T) N ≡ append U (add_last T N)
-add_append nil T N = refl
-add_append (app M U) T N = ap (app M) (add_append U T N)
-
-begins_add : (u : Option Spine) (S : Spine) (N : Term) → BeginsWith u S → BeginsWith u (add_last S N)
-begins_add None S N b = tt
-begins_add (Some U) S N (T, e) = (add_last T N, ap (λ Z. add_last Z N) e ∙ add_append U T N)
-
-begins_under : (u : Option Spine) (S : Spine) → BeginsWith u S → BeginsWith (weaken_own u) (rename_spine suc S)
-begins_under u S b = subst (λ z. BeginsWith z (rename_spine suc S)) (sym (own_as_renamed u)) (begins_renamed suc u S b)
-
-pub own_long_constant : (o : ℕ → Option Spine) (a : Skeleton) (c : ℕ) (S : Spine) → BeginsWith (o c) S → SpineOnOwnTerms o S → OnOwnTerms o (eta_expand a (constant c) S)
-own_long_constant o (base d) c S b s = (b, s)
-own_long_constant o (arrow a d) c S b s = own_long_constant (λ k. weaken_own (o k)) d c (add_last (rename_spine suc S) (eta_expand a (variable zero) nil)) (begins_add (weaken_own (o c)) (rename_spine suc S) (eta_expand a (variable zero) nil) (begins_under (o c) S b)) (own_add (λ k. weaken_own (o k)) (rename_spine suc S) (eta_expand a (variable zero) nil) (spine_renamed o (λ k. weaken_own (o k)) suc S (λ k. own_as_renamed (o k)) s) (own_long (λ k. weaken_own (o k)) a zero nil tt))
 
 pub own_as_term : (o : ℕ → Option Spine) (a : Skeleton) (y : Image) → ImageOnOwnTerms o y → OnOwnTerms o (as_term a y)
 own_as_term o a (keep j) h = own_long o a j nil tt

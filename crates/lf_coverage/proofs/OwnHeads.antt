@@ -14,8 +14,8 @@ use Rattle.lf_coverage.specs.Reading.{drop_arguments, read, read_constant, read_
 use Rattle.lf_coverage.proofs.EntryFound.{EachBlock, Found, entry_found, placed_among}
 use Rattle.lf_coverage.proofs.EntryValues.{count_some}
 use Rattle.lf_coverage.proofs.NumberedHeads.{left_zero}
-use Rattle.lf_coverage.proofs.ReadTyped.{drop_own}
 use Rattle.lf_coverage.proofs.Parts.{some_same}
+use Rattle.lf_coverage.proofs.ReadTyped.{drop_own}
 
 -- as many terms as `some` variables
 abbrev HasTerms : ℕ → BlockVariable → Type 0

@@ -98,9 +98,6 @@ entry_at (E ∷ es) υ zero A g = (refl, omega arith)
 entry_at (E ∷ es) υ (suc i) A (X, g, e) = let (a, l) = entry_at es υ i X g in (a, omega arith)
 
 module _ (Σ : Signature) (ok : IsSignature Σ) (W : List Block) (typed : AreTypedBlocks Σ W) where
-  abbrev Own : List Item → Type 0
-  Own I = (σ : ℕ → Image) × IsTypedInstance Σ I I σ × LeavesAll I σ
-
   with_free : (A : LfType) (I : List Item) → AreTypedItems Σ W (free_variable A ∷ I) → ((σ : ℕ → Image) × IsTypedInstance Σ I I σ × LeavesAll I σ) → (σ : ℕ → Image) × IsTypedInstance Σ (free_variable A ∷ I) (free_variable A ∷ I) σ × LeavesAll (free_variable A ∷ I) σ
   with_free A I (a, t) (τ, g, l) =
       let G : List LfType = items_context I in

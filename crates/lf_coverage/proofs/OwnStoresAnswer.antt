@@ -12,7 +12,7 @@ use Rattle.lf_unification.specs.Unifiers.{Binding, Solution, Store}
 use Rattle.lf_unification.proofs.Generic.{Fact, Facts, stage}
 use Rattle.lf_unification.proofs.Solving.{binding_of, well_formed_answer}
 use Rattle.lf_coverage.specs.OwnTerms.{TypeOnOwnTerms}
-use Rattle.lf_coverage.proofs.NumberedTyped.{own_long}
+use Rattle.lf_coverage.proofs.OwnLong.{variable_own as own_long}
 use Rattle.lf_coverage.proofs.OwnStoresFillings.{types_own, values_own}
 use Rattle.lf_coverage.proofs.OwnStoresSteps.{StoreOwned}
 use Rattle.lf_coverage.proofs.OwnStoresTerms.{ValueOnOwnTerms}

@@ -21,11 +21,11 @@ use Rattle.lf_coverage.specs.Heads.{result_type, term_type}
 use Rattle.lf_coverage.specs.OwnStores.{applied_term}
 use Rattle.lf_coverage.proofs.GivenValues.{local_renames}
 use Rattle.lf_coverage.proofs.ItemsContext.{items_are_context}
+use Rattle.lf_coverage.proofs.Leaf.{lambdas_inside}
 use Rattle.lf_coverage.proofs.Meeting.{binders_renumbered}
 use Rattle.lf_coverage.proofs.RaisedTyped.{HeadTyped, head_is_typed}
 use Rattle.lf_coverage.proofs.ResultType.{result_atom}
 use Rattle.lf_coverage.proofs.SolvedCase.{behind_types}
-use Rattle.lf_coverage.proofs.Leaf.{lambdas_inside}
 use mathlib.Core.Path.{fun_ext}
 
 has_lambdas : (Σ : Signature) (D G : List LfType) (M : Term) (P : LfType) → HasType Σ (onto D G) M P → HasType Σ G (lambdas (length D) M) (pi_over D P)

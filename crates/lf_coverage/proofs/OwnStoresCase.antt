@@ -1,5 +1,5 @@
 -- Typed values on own terms, put into what a typed case by number has, keep it typed and on own terms.
-use Rattle.std.proofs.Common.{◌≡◌, ℕ, zero, suc, List, [], ◌∷◌, Option, Some, None, refl, ap, ◌∙◌}
+use Rattle.std.proofs.Common.{◌≡◌, ℕ, zero, suc, List, [], ◌∷◌, Option, Some, None, ap, ◌∙◌}
 use Rattle.lf.specs.Syntax.{Term, Spine, LfType, Skeleton}
 use Rattle.lf.specs.Substitution.{Image, substitute_spine, reduce, after}
 use Rattle.lf.specs.SkeletonTyping.{SubstitutionBySkeletons}
@@ -15,11 +15,10 @@ use Rattle.lf.proofs.ToSkeletons.{type_by_skeletons}
 use Rattle.lf_cases.specs.Missing.{put_in}
 use Rattle.lf_coverage.specs.Heads.{HaveSkeletons}
 use Rattle.lf_coverage.specs.NumberedCase.{AreTypedBlockVariables}
-use Rattle.lf_coverage.specs.OwnTerms.{BlockVariable, blocks_of, weaken_own, AllOnOwnTerms, ImageOnOwnTerms, put_in_blocks}
+use Rattle.lf_coverage.specs.OwnTerms.{BlockVariable, weaken_own, AllOnOwnTerms, ImageOnOwnTerms, put_in_blocks}
 use Rattle.lf_coverage.specs.TypedNumbered.{own_over, LocalOnOwnTerms}
 use Rattle.lf_coverage.proofs.EntryValues.{put_some}
-use Rattle.lf_coverage.proofs.OwnStoresReduce.{weaken_substituted}
-use Rattle.lf_coverage.proofs.OwnTerms.{image_under, own_substituted, spine_substituted, substitute_own, type_substituted}
+use Rattle.lf_coverage.proofs.OwnTerms.{substitute_under as weaken_substituted, image_under, own_substituted, spine_substituted, substitute_own, type_substituted}
 
 -- Values on own terms, put in under a local context
 over_put : (D : List LfType) (σ : ℕ → Image) (o p : ℕ → Option Spine) → ((c : ℕ) → p c ≡ substitute_own σ (o c)) → (c : ℕ) → own_over (instance D σ) p c ≡ substitute_own (lift_over D σ) (own_over D o c)
@@ -56,10 +55,6 @@ pub put_skeletons : (Σ : Signature) (Γ Δ : List Skeleton) (σ : ℕ → Image
 put_skeletons Σ Γ Δ σ s [] h = tt
 put_skeletons Σ Γ Δ σ s (Some M ∷ Ms) ((t, m), h) = ((t, substitution_keeps_skeletons (constant_skeletons Σ) Γ Δ σ M t s m), put_skeletons Σ Γ Δ σ s Ms h)
 put_skeletons Σ Γ Δ σ s (None ∷ Ms) h = put_skeletons Σ Γ Δ σ s Ms h
-
-pub same_blocks : (σ : ℕ → Image) (bs : List BlockVariable) → blocks_of (put_in_blocks σ bs) ≡ blocks_of bs
-same_blocks σ [] = refl
-same_blocks σ (b ∷ bs) = ap (λ Bs. b.block ∷ Bs) (same_blocks σ bs)
 
 -- block variables with typed values put into their terms
 module _ (Σ : Signature) (ok : IsSignature Σ) (W : List Block) (V O : List LfType) (σ : ℕ → Image) (cv : IsContext Σ V) (co : IsContext Σ O) (typed : IsTypedSubstitution Σ V O σ) (o p : ℕ → Option Spine) (h : (c : ℕ) → p c ≡ substitute_own σ (o c)) (v : (i : ℕ) → ImageOnOwnTerms p (σ i)) (context : (b : Block) → Member b W → IsContext Σ b.some) where

@@ -1,8 +1,8 @@
 -- The constant of an entry on its block variable's terms: they are typed and on own terms, and so is the type that is left.
 use Rattle.std.proofs.Common.{◌≡◌, ℕ, zero, suc, List, [], ◌∷◌, length, ◌+◌, Option, Some, None, refl, sym, ap, ◌∙◌, subst, arith}
-use Rattle.lf.specs.Syntax.{constant, variable, Term, Spine, nil, app, LfType, pi, atom, Skeleton, base, arrow, skeleton, rename_spine}
+use Rattle.lf.specs.Syntax.{constant, Term, Spine, nil, app, LfType, pi, atom, Skeleton, skeleton}
 use Rattle.lf.specs.Substitution.{Image, keep, put, substitute_type, reduce}
-use Rattle.lf.specs.Eta.{add_last, append, eta_expand}
+use Rattle.lf.specs.Eta.{eta_expand}
 use Rattle.lf.specs.SkeletonTyping.{SubstitutionBySkeletons}
 use Rattle.lf.specs.Skeletons.{constant_skeletons, family_skeletons, context_skeletons}
 use Rattle.lf.specs.Typing.{Signature, TypeAt, IsTypedSubstitution, SpineType, instantiate_type, IsType, IsContext, IsSignature}
@@ -20,41 +20,20 @@ use Rattle.lf_cases.proofs.BlockEntries.{drop_typed, onto_onto}
 use Rattle.lf_coverage.specs.EntryConstants.{EntryConstant, entry_among, entry_constant, entry_images, entry_constant_type, entry_type, with_entries, IsFreeFrom}
 use Rattle.lf_coverage.specs.NumberedCase.{NumberedCase, some_spine, AreSomeTerms, AreTypedBlockVariables, AreTypedVariables}
 use Rattle.lf_coverage.specs.OwnStores.{left_type}
-use Rattle.lf_coverage.specs.OwnTerms.{BlockVariable, blocks_of, terms_at, terms_of_entry, own_terms, weaken_own, BeginsWith, OnOwnTerms, SpineOnOwnTerms, TypeOnOwnTerms, ImageOnOwnTerms}
+use Rattle.lf_coverage.specs.OwnTerms.{BlockVariable, blocks_of, terms_at, terms_of_entry, own_terms, BeginsWith, OnOwnTerms, SpineOnOwnTerms, TypeOnOwnTerms, ImageOnOwnTerms}
 use Rattle.lf_coverage.proofs.EntryFound.{PlacedAmong, placed_among, among_at, EachBlock, entry_found}
 use Rattle.lf_coverage.proofs.EntryPlaces.{whole}
 use Rattle.lf_coverage.proofs.EntrySignature.{else_second, locals_typed, entries_kept, with_entries_is_signature}
 use Rattle.lf_coverage.proofs.EntryValues.{put_locals, after_entries, some_own, some_typed}
 use Rattle.lf_coverage.proofs.GroundTyped.{front_typed}
 use Rattle.lf_coverage.proofs.ItemsContext.{outer_context}
-use Rattle.lf_coverage.proofs.NumberedTyped.{among_worlds, old_own, own_long, put_old_type}
-use Rattle.lf_coverage.proofs.OwnTerms.{begins_renamed, entry_from, own_as_renamed, spine_renamed}
+use Rattle.lf_coverage.proofs.NumberedTyped.{put_old_type}
+use Rattle.lf_coverage.proofs.NumberedTypedFree.{among_worlds, old_own}
+use Rattle.lf_coverage.proofs.OwnForms.{append_nothing}
+use Rattle.lf_coverage.proofs.OwnLong.{constant_own}
+use Rattle.lf_coverage.proofs.OwnTerms.{entry_from}
 use Rattle.lf_coverage.proofs.Parts.{none_some, some_same}
 use mathlib.Core.Path.{fun_ext}
-
--- A constant on its own terms, eta-long
-added : (o : ℕ → Option Spine) (S : Spine) (N : Term) → SpineOnOwnTerms o S → OnOwnTerms o N → SpineOnOwnTerms o (add_last S N)
-added o nil N s n = (n, tt)
-added o (app M S) N (m, s) n = (m, added o S N s n)
-
-add_append : (U T : Spine) (N : Term) → add_last (append U T) N ≡ append U (add_last T N)
-add_append nil T N = refl
-add_append (app M U) T N = ap (app M) (add_append U T N)
-
-begins_added : (u : Option Spine) (S : Spine) (N : Term) → BeginsWith u S → BeginsWith u (add_last S N)
-begins_added None S N b = tt
-begins_added (Some U) S N (T, e) = (add_last T N, ap (λ Z. add_last Z N) e ∙ add_append U T N)
-
-constant_own : (o : ℕ → Option Spine) (a : Skeleton) (c : ℕ) (S : Spine) → BeginsWith (o c) S → SpineOnOwnTerms o S → OnOwnTerms o (eta_expand a (constant c) S)
-constant_own o (base d) c S b s = (b, s)
-constant_own o (arrow a d) c S b s =
-    let p : ℕ → Option Spine = λ k. weaken_own (o k) in
-    let X : Term = eta_expand a (variable zero) nil in
-    constant_own p d c (add_last (rename_spine suc S) X) (begins_added (p c) (rename_spine suc S) X (subst (λ z. BeginsWith z (rename_spine suc S)) (sym (own_as_renamed (o c))) (begins_renamed suc (o c) S b))) (added p (rename_spine suc S) X (spine_renamed o p suc S (λ k. own_as_renamed (o k)) s) (own_long p a zero nil tt))
-
-append_nothing : (U : Spine) → U ≡ append U nil
-append_nothing nil = refl
-append_nothing (app M U) = ap (app M) (append_nothing U)
 
 -- what is left of a type
 pub left_is : (Σ : Signature) (G : List LfType) (S : Spine) (A C : LfType) → SpineType Σ G S A C → left_type S A ≡ C

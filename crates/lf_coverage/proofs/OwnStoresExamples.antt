@@ -1,28 +1,26 @@
 -- The worked split at an entry whose type doesn't determine its block variable's terms.
-use Rattle.std.proofs.Common.{◌≡◌, ℕ, zero, suc, [], ◌∷◌, inl, inr, refl, sym, ap, subst}
+use Rattle.std.proofs.Common.{◌≡◌, ℕ, zero, suc, [], ◌∷◌, inl, inr, refl, sym, subst}
 use Rattle.std.specs.Prelude.{false, Option, Some}
 use Rattle.lf.specs.Syntax.{Head, constant, Spine, Term, nil, app, LfType, pi, base, star, rename_spine}
 use Rattle.lf.specs.Substitution.{put, substitute_type, reduce}
 use Rattle.lf.specs.AtOnce.{shift_by}
 use Rattle.lf.specs.Typing.{Signature, TypeAt, ImageHasType, IsTypedSubstitution, IsSignature}
 use Rattle.lf.specs.Subordination.{AreTypedBlocks, IsTypedBlock}
-use Rattle.lf_unification.specs.Dependency.{IsListed}
-use Rattle.lf_unification.specs.OpenTyping.{DeclarationsAreTyped, OpenHasType, OpenIsType}
-use Rattle.lf_unification.specs.PartialInstance.{IsFilling}
+use Rattle.lf_unification.specs.Dependency.{ValueIsOrdered}
 use Rattle.lf_unification.specs.Solving.{IsWellFormed, Solved}
 use Rattle.lf_unification.specs.Steps.{Run, bind, no_step, then_run}
 use Rattle.lf_unification.specs.Unifiers.{Store, on_left}
-use Rattle.lf_unification.proofs.Runs.{run_keeps_unifiers}
 use Rattle.lf_totality.specs.Examples.{nat, successor, z}
 use Rattle.lf_totality.specs.ExamplesBlocks.{Numbered}
 use Rattle.lf_totality.proofs.ExamplesBlocks.{numbered_ok}
 use Rattle.lf_coverage.specs.EntryConstants.{with_entries, IsFreeFrom}
 use Rattle.lf_coverage.specs.OwnStores.{IsNumberedOffer, offer_signature, offer_taken, offer_entry, numbered_store}
-use Rattle.lf_coverage.specs.OwnStoresExamples.{loose_block, loose_case, each_below, entry_on_z, loose_solved, loose_order, EntryIsOffered, StoreIsOnOwnTerms, CaseIsReadOff, OwnEntryIsSplit}
+use Rattle.lf_coverage.specs.OwnStoresExamples.{loose_block, loose_case, each_below, entry_on_z, loose_solved, EntryIsOffered, StoreIsOnOwnTerms, CaseIsReadOff, OwnEntryIsSplit}
 use Rattle.lf_coverage.specs.OwnTerms.{own_terms, TypeOnOwnTerms}
 use Rattle.lf_coverage.specs.SplitStore.{context_metavariables}
 use Rattle.lf_coverage.specs.TypedNumbered.{IsTypedNumberedCase}
 use Rattle.lf_coverage.proofs.EntrySignature.{with_entries_is_signature}
+use Rattle.lf_coverage.proofs.ExamplesBound.{bound_is_solved}
 use Rattle.lf_coverage.proofs.ExamplesEntries.{entry_stands_on_its_terms}
 use Rattle.lf_coverage.proofs.ExamplesUnified.{no_argument}
 use Rattle.lf_coverage.proofs.OwnStoresSplit.{numbered_split_stays_typed}
@@ -83,9 +81,6 @@ loose_typed = record {
     values (suc i) A (B, g, e) = absurd g
 
 -- X is bound to the entry.
-abbrev one_type : ℕ → Option LfType
-one_type m = context_metavariables (nat ∷ []) m
-
 abbrev loose_store : Store
 loose_store = numbered_store each_below loose_case 0 nat (constant 4) (app z nil) nat star
 
@@ -95,33 +90,11 @@ loose_ready = numbered_store_is_ready Numbered numbered_ok (loose_block ∷ []) 
 loose_run : Run Loose loose_store loose_solved
 loose_run = then_run (bind {A = nat} on_left [] 0 [] entry_on_z nat refl tt no_argument (record { inverted = record { inversion = entry_on_z; is = refl }; reached = λ k. false; avoids = ((λ k A v e. absurd v), tt, λ v. v); within = (tt, tt) })) no_step
 
-module _ (U : (ℕ → Option Term) → Type 0) where
-  entry_typed : OpenHasType Loose [] one_type U [] entry_on_z nat
-  entry_typed = (pi nat nat, refl, ((nat, refl, (refl, λ β u. refl)), (refl, λ β u. refl)))
-
-  declared : DeclarationsAreTyped Loose [] one_type U
-  declared = record { outer_typed = λ i A g. absurd g; metavariables_typed = at }
-    where
-      at : (m : ℕ) (A : LfType) → one_type m ≡ Some A → OpenIsType Loose [] one_type U [] A
-      at zero A e = subst (OpenIsType Loose [] one_type U []) (some_same e) (star, refl, tt)
-      at (suc m) A e = absurd cc
-
-loose_listed : (m : ℕ) (A : LfType) → one_type m ≡ Some A → IsListed loose_order m
-loose_listed zero A e = inl refl
-loose_listed (suc m) A e = absurd cc
-
-abbrev loose_form : IsWellFormed Loose loose_solved
-loose_form = record {
-  order = loose_order;
-  is_order = (tt, refl, (λ h. h), tt, (star, refl, tt), (λ ρ. refl), ((tt, tt), entry_typed (IsFilling Loose [] loose_solved), λ ρ. refl));
-  all_listed = loose_listed;
-  bindings_listed = ((nat, inl refl), tt);
-  values_bound = ((λ N e. inl (ap (λ X. record { of = 0; value = X }) (sym (some_same e)))), tt);
-  typed = record { declarations_typed = declared (IsFilling Loose [] loose_solved); bindings_typed = ((nat, refl, entry_typed (IsFilling Loose [] loose_solved)), tt); equations_typed = tt };
-}
+entry_ordered : (U : (ℕ → Option Term) → Type 0) → ValueIsOrdered Loose (context_metavariables (nat ∷ [])) U [] nat (Some entry_on_z)
+entry_ordered U = ((tt, tt), (pi nat nat, refl, ((nat, refl, (refl, λ β u. refl)), (refl, λ β u. refl))), λ ρ. refl)
 
 abbrev loose_is_solved : Solved Loose loose_store loose_solved
-loose_is_solved = record { run = loose_run; keeps = run_keeps_unifiers Loose loose_ok loose_ready loose_run; well_formed = loose_form; none_left = refl }
+loose_is_solved = bound_is_solved Loose loose_ok 0 refl entry_on_z entry_ordered loose_store loose_ready loose_run
 
 pub own_entry_is_split : OwnEntryIsSplit
 own_entry_is_split = (loose_typed, loose_is_solved, refl, numbered_split_stays_typed Numbered numbered_ok (loose_block ∷ []) blocks_typed 4 free each_below loose_case loose_typed 0 nat refl (constant 4) (app z nil) nat entry_is_offered.0 star refl loose_solved loose_is_solved)

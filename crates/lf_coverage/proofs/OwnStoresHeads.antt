@@ -1,10 +1,10 @@
 -- The new variables of a head whose type is on own terms have types on own terms, and so is the type that is left.
 use Rattle.std.proofs.Common.{◌≡◌, ℕ, zero, suc, ◌+◌, List, [], ◌∷◌, length, Option, refl, sym, ap, ◌∙◌, subst, arith}
 use Rattle.std.specs.Prelude.{Bool, true, false}
-use Rattle.lf.specs.Syntax.{variable, Term, Spine, nil, app, LfType, pi, atom, Skeleton, skeleton, rename_type, lift_renaming, rename_spine}
+use Rattle.lf.specs.Syntax.{variable, Term, Spine, nil, LfType, pi, atom, Skeleton, skeleton, rename_type, lift_renaming, rename_spine}
 use Rattle.lf.specs.Substitution.{single}
 use Rattle.lf.specs.AtOnce.{shift_by, lift_renaming_by}
-use Rattle.lf.specs.Eta.{add_last, eta_long}
+use Rattle.lf.specs.Eta.{eta_long}
 use Rattle.lf.specs.Typing.{TypeAt, instantiate_type}
 use Rattle.lf.specs.Variables.{target, at_variable}
 use Rattle.lf_cases.specs.Case.{Item, free_variable, items_context}
@@ -15,18 +15,13 @@ use Rattle.lf_cases.proofs.Raised.{CanBeRaised, can_raise}
 use Rattle.lf_coverage.specs.Heads.{result_type}
 use Rattle.lf_coverage.specs.OwnTerms.{weaken_own, OnOwnTerms, SpineOnOwnTerms, TypeOnOwnTerms, ImageOnOwnTerms}
 use Rattle.lf_coverage.specs.TypedNumbered.{own_over, LocalOnOwnTerms}
-use Rattle.lf_coverage.proofs.NumberedTyped.{own_long}
-use Rattle.lf_coverage.proofs.OwnStoresReduce.{single_weakened}
-use Rattle.lf_coverage.proofs.OwnStoresSteps.{own_id, own_twice}
-use Rattle.lf_coverage.proofs.OwnStoresTerms.{weaken_renamed}
-use Rattle.lf_coverage.proofs.OwnTerms.{own_as_renamed, rename_own, spine_renamed, type_renamed, type_substituted}
+use Rattle.lf_coverage.proofs.EntryPatternsFound.{renamed_twice as own_twice}
+use Rattle.lf_coverage.proofs.OwnLong.{variable_own as own_long, own_add as added}
+use Rattle.lf_coverage.proofs.OwnStoresSteps.{own_id}
+use Rattle.lf_coverage.proofs.OwnTerms.{single_under as single_weakened, rename_under as weaken_renamed, own_as_renamed, rename_own, spine_renamed, type_renamed, type_substituted}
 use Rattle.lf_coverage.proofs.Parts.{suc_same}
 use Rattle.lf_coverage.proofs.ResultType.{next_count}
 use mathlib.Core.Path.{fun_ext}
-
-added : (o : ℕ → Option Spine) (S : Spine) (N : Term) → SpineOnOwnTerms o S → OnOwnTerms o N → SpineOnOwnTerms o (add_last S N)
-added o nil N s n = (n, tt)
-added o (app M S) N (m, s) n = (m, added o S N s n)
 
 pub locals_own : (ks : List Bool) (D : List LfType) (o : ℕ → Option Spine) → SpineOnOwnTerms (own_over D o) (locals_by ks D)
 locals_own ks [] o = tt

@@ -23,15 +23,14 @@ use Rattle.lf_coverage.specs.TypedNumbered.{own_over, LocalOnOwnTerms, IsTypedNu
 use Rattle.lf_coverage.proofs.EntrySignature.{grown_contexts, earlier_kept}
 use Rattle.lf_coverage.proofs.Forms.{far_type}
 use Rattle.lf_coverage.proofs.GivenValues.{local_context, local_renames}
+use Rattle.lf_coverage.proofs.MoreConstants.{term_more}
 use Rattle.lf_coverage.proofs.NewBlockTyped.{new_block_is_typed}
 use Rattle.lf_coverage.proofs.NumberedArguments.{constant_is_old}
-use Rattle.lf_coverage.proofs.Numbering.{blocks_renamed}
 use Rattle.lf_coverage.proofs.NumberedTyped.{blocks_end, renamed_terms}
+use Rattle.lf_coverage.proofs.NumberingBlocks.{blocks_renamed}
 use Rattle.lf_coverage.proofs.OwnStoresEntry.{ok₁}
 use Rattle.lf_coverage.proofs.OwnStoresHeads.{over_renumbered}
-use Rattle.lf_coverage.proofs.OwnStoresTerms.{weaken_renamed}
-use Rattle.lf_coverage.proofs.OwnTerms.{begins_renamed, own_stays, rename_own}
-use Rattle.lf_coverage.proofs.Transfer.{term_more}
+use Rattle.lf_coverage.proofs.OwnTerms.{rename_under as weaken_renamed, begins_renamed, own_stays, rename_own}
 
 -- Renaming, where the constants of a signature have the renamed own terms
 module _ (Σ : Signature) where
@@ -97,19 +96,16 @@ module _ (Σ : Signature) (ok : IsSignature Σ) (W : List Block) (typed : AreTyp
   variables : AreTypedVariables Σ first W (with_new_block B C)
   variables = new_block_is_typed Σ ok W typed first free C tc.variables B member
 
-  okE : IsSignature Σ₁
-  okE = ok₁ Σ ok W typed first free C tc.variables
-
   okN : IsSignature Σ₂
   okN = ok₁ Σ ok W typed first free D variables
 
   kept : (c : ℕ) (A : LfType) → Σ₁.types c ≡ Some A → Σ₂.types c ≡ Some A
   kept c A e = subst (λ Ds. (with_entries Σ first Ds).types c ≡ Some A) (sym (blocks_end (rename_blocks ρ C.blocks) new ∙ ap (λ Ds. Ds ++ B ∷ []) (blocks_renamed ρ C.blocks))) (earlier_kept Σ first (blocks_of C.blocks) (B ∷ []) c A e)
 
-  extends : Extends nothing Σ₁ Σ₂
+  pub extends : Extends nothing Σ₁ Σ₂
   extends = record { ok = okN; types_stay = kept; kinds_stay = λ a K e. e; no_new = λ c A e s. absurd cc }
 
-  renames : IsTypedRenaming X Y ρ
+  pub renames : IsTypedRenaming X Y ρ
   renames i A g = far_type B.some X i A g
 
   own : Renames Σ₁ (own_terms first C.blocks) (own_terms first (rename_blocks ρ C.blocks ++ new ∷ [])) ρ
@@ -120,7 +116,7 @@ module _ (Σ : Signature) (ok : IsSignature Σ) (W : List Block) (typed : AreTyp
 
   all_moved : (G H : List LfType) (l : ℕ → ℕ) → IsTypedRenaming G H l → (Ms : List (Option Term)) → HaveSkeletons (constant_skeletons Σ₁) (context_skeletons G) Ms → HaveSkeletons (constant_skeletons Σ₂) (context_skeletons H) (rename_all l Ms)
   all_moved G H l w [] h = tt
-  all_moved G H l w (Some M ∷ Ms) ((t, m), h) = ((t, renaming_keeps_skeletons (constant_skeletons Σ₂) (context_skeletons G) (context_skeletons H) l M t (by_skeletons G H l w) (term_more nothing Σ₁ Σ₂ extends (context_skeletons G) M t m)), all_moved G H l w Ms h)
+  all_moved G H l w (Some M ∷ Ms) ((t, m), h) = ((t, renaming_keeps_skeletons (constant_skeletons Σ₂) (context_skeletons G) (context_skeletons H) l M t (by_skeletons G H l w) (term_more Σ₁ Σ₂ extends.types_stay (context_skeletons G) M t m)), all_moved G H l w Ms h)
   all_moved G H l w (None ∷ Ms) h = all_moved G H l w Ms h
 
   stays_typed : IsTypedNumberedCase Σ first W (with_new_block B C)

@@ -27,7 +27,8 @@ use Rattle.lf_coverage.proofs.EntrySignature.{entries_kept}
 use Rattle.lf_coverage.proofs.Forms.{far_type, no_shift_type}
 use Rattle.lf_coverage.proofs.HeadTerm.{taken_length}
 use Rattle.lf_coverage.proofs.NumberedHeads.{target_over}
-use Rattle.lf_coverage.proofs.NumberedTyped.{old_own, put_old_type}
+use Rattle.lf_coverage.proofs.NumberedTyped.{put_old_type}
+use Rattle.lf_coverage.proofs.NumberedTypedFree.{old_own}
 use Rattle.lf_coverage.proofs.OwnStoresEntry.{OwnHead, left_is, ok₁, own_head}
 use Rattle.lf_coverage.proofs.OwnStoresApplied.{AppliesTo}
 use Rattle.lf_coverage.proofs.OwnStoresOpened.{own_over_shifts}

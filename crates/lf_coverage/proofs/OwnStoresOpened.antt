@@ -14,8 +14,8 @@ use Rattle.lf_coverage.specs.SplitStore.{open_variable, open_term, open_spine, o
 use Rattle.lf_coverage.specs.TypedNumbered.{own_over}
 use Rattle.lf_coverage.proofs.OpenTyped.{open_renamed_spine}
 use Rattle.lf_coverage.proofs.OwnStoresSteps.{SidesOwned, own_over_is}
-use Rattle.lf_coverage.proofs.OwnTerms.{rename_own}
 use Rattle.lf_coverage.proofs.OwnStoresTerms.{BeginsUpTo, IsFlexible, Owned, SpineOwned, TypeOwned, at_head, flexible_renamed}
+use Rattle.lf_coverage.proofs.OwnTerms.{rename_own}
 use mathlib.Core.Path.{fun_ext}
 
 open_append : (k : ℕ) (U T : Spine) → open_spine k (append U T) ≡ append (open_spine k U) (open_spine k T)

@@ -39,9 +39,6 @@ module _ (Ψ Ψ' : ℕ → Option LfType) (bs bs' : List Binding) (more : (b : B
     puts_grow_spine (some_in_argument d e) = some_in_argument (puts_grow d) (puts_grow_spine e)
 
 module _ (Σ : Signature) (Ψ : ℕ → Option LfType) (bs : List Binding) where
-  abbrev μ : ℕ → Skeleton
-  μ = skeletons_of Ψ
-
   abbrev κ : TotalSkeletons
   κ = total_skeletons Σ (skeletons_of Ψ)
 

@@ -4,27 +4,16 @@ use Rattle.lf.specs.Syntax.{constant, variable, metavariable, Term, Spine, lambd
 use Rattle.lf.specs.Substitution.{Image, keep, put, rename_image, lift, single, apply_image, substitute, substitute_spine, reduce}
 use Rattle.lf.specs.Eta.{append}
 use Rattle.lf.specs.SkeletonTyping.{ImageSkeleton, SpineSkeleton, TermSkeleton}
-use Rattle.lf.proofs.Renaming.{OnPut, OnPut-all, Puts, Puts-lift, Puts-single, reduction_beta, reduction_is_natural, rename_substituted_spine, substitute_renamed_spine, substitute_identity_spine}
+use Rattle.lf.proofs.Renaming.{OnPut, Puts, Puts-lift, Puts-single, reduction_beta}
 use Rattle.lf.proofs.SkeletonTyping.{single_by_skeletons, substitution_keeps_skeletons, substitution_keeps_spine_skeletons}
 use Rattle.lf_unification.specs.Filling.{fill, fill_spine, moved}
 use Rattle.lf_unification.specs.Skeletons.{TotalSkeletons, as_head_skeletons}
 use Rattle.lf_unification.proofs.Filling.{Filled, Filled-lift, Filled-single, SkeletonsFill, fill_substituted}
 use Rattle.lf_coverage.specs.OwnTerms.{weaken_own}
-use Rattle.lf_coverage.proofs.OwnTerms.{own_as_renamed, substitute_append, substitute_own}
 use Rattle.lf_coverage.proofs.OwnStoresTerms.{BeginsUpTo, Owned, SpineOwned, owned_renamed}
-
-pub weaken_substituted : (σ : ℕ → Image) (u : Option Spine) → weaken_own (substitute_own σ u) ≡ substitute_own (lift σ) (weaken_own u)
-weaken_substituted σ None = refl
-weaken_substituted σ (Some U) = ap Some (rename_substituted_spine reduce reduction_is_natural suc σ U ∙ sym (substitute_renamed_spine reduce (lift σ) suc U))
-
-pub single_weakened : (a : Skeleton) (N : Term) (u : Option Spine) → u ≡ substitute_own (single a N) (weaken_own u)
-single_weakened a N None = refl
-single_weakened a N (Some U) = ap Some (sym (substitute_renamed_spine reduce (single a N) suc U ∙ substitute_identity_spine reduce U))
+use Rattle.lf_coverage.proofs.OwnTerms.{own_as_renamed, substitute_append, substitute_own, substitute_under as weaken_substituted, single_under as single_weakened}
 
 module _ (κ : TotalSkeletons) where
-  abbrev μ : ℕ → Skeleton
-  μ = κ.metavariable_skeleton
-
   -- the first arguments have skeletons
   first_arguments : (Γ : List Skeleton) (R T : Spine) (t u : Skeleton) → SpineSkeleton (as_head_skeletons κ) Γ (append R T) t u → (v : Skeleton) × SpineSkeleton (as_head_skeletons κ) Γ R t v
   first_arguments Γ nil T t u s = (t, refl)
@@ -90,6 +79,3 @@ module _ (κ : TotalSkeletons) where
       subst (Owned κ.metavariable_skeleton o β) (sym (reduction_beta a b M N S))
       (reduce_owned b Δ o β ab S u g (substitution_keeps_skeletons (as_head_skeletons κ) (a ∷ Δ) Δ (single a N) M b (single_by_skeletons (as_head_skeletons κ) a Δ N m) n) s
       (put_owned (a ∷ Δ) Δ (λ c. weaken_own (o c)) o (moved suc β) β (single a N) (single a (fill κ.metavariable_skeleton β N)) M b (Puts-single Reduced a N (reduce_owned a)) (Filled-single κ a Δ β N g m) (λ c. single_weakened a (fill κ.metavariable_skeleton β N) (o c)) (single_owned o β a N q) n p) r)
-
-  pub owned_put : (Γ Δ : List Skeleton) (o o' : ℕ → Option Spine) (β β' : ℕ → Option Term) (σ σ' : ℕ → Image) (M : Term) (t : Skeleton) → Filled κ Γ Δ β β' σ σ' → ((c : ℕ) → o' c ≡ substitute_own σ' (o c)) → ((i : ℕ) → ImageOwned o' β' (σ i)) → TermSkeleton (as_head_skeletons κ) Γ M t → Owned κ.metavariable_skeleton o β M → Owned κ.metavariable_skeleton o' β' (substitute reduce σ M)
-  owned_put Γ Δ o o' β β' σ σ' M t = put_owned Γ Δ o o' β β' σ σ' M t (λ i. OnPut-all Reduced reduce_owned (σ i))

@@ -30,9 +30,6 @@ use Rattle.lf_coverage.proofs.OwnStoresTerms.{Owned, SpineOwned, TypeOwned, expa
 
 -- typing where more is declared, and up to no filling
 module _ (Σ : Signature) (Ψ Φ : ℕ → Option LfType) (U : (ℕ → Option Term) → Type 0) (grows : (m : ℕ) (A : LfType) → Ψ m ≡ Some A → Φ m ≡ Some A) where
-  abbrev pub NoFilling : (ℕ → Option Term) → Type 0
-  NoFilling β = ⊥
-
   mutual
     term_more : (D : List LfType) (M : Term) (A : LfType) → OpenHasType Σ [] Ψ U D M A → OpenHasType Σ [] Φ (λ β. ⊥) D M A
     term_more D (lambda M) (pi A B) m = term_more (A ∷ D) M B m

@@ -21,7 +21,7 @@ use Rattle.lf_unification.specs.OpenTyping.{skeletons_of}
 use Rattle.lf_unification.specs.Solving.{IsWellFormed, Solved}
 use Rattle.lf_unification.specs.Unifiers.{Solution, Store}
 use Rattle.lf_unification.proofs.Solving.{well_formed_answer}
-use Rattle.lf_cases.specs.Case.{Item, items_context}
+use Rattle.lf_cases.specs.Case.{items_context}
 use Rattle.lf_cases.specs.OutputGoal.{free_variables}
 use Rattle.lf_cases.specs.Missing.{put_in}
 use Rattle.lf_cases.specs.Reached.{arguments_count, head_masks, taken, split_items}
@@ -37,14 +37,14 @@ use Rattle.lf_coverage.proofs.EntrySignature.{grown_contexts, entries_kept}
 use Rattle.lf_coverage.proofs.ItemsContext.{outer_context}
 use Rattle.lf_coverage.proofs.OpenTerms.{fill_open_spine}
 use Rattle.lf_coverage.proofs.OwnStoresAnswer.{types_owned, values_owned}
-use Rattle.lf_coverage.proofs.OwnStoresCase.{all_put, blocks_put, local_put, local_typed, put_skeletons, same_blocks}
+use Rattle.lf_coverage.proofs.OwnStoresCase.{all_put, blocks_put, local_put, local_typed, put_skeletons}
 use Rattle.lf_coverage.proofs.OwnStoresEntry.{OwnHead, ok₁, own_head}
 use Rattle.lf_coverage.proofs.OwnStoresOpened.{filled_own}
 use Rattle.lf_coverage.proofs.OwnStoresStart.{numbered_context, numbered_owned, numbered_ready}
 use Rattle.lf_coverage.proofs.OwnStoresSteps.{StoreOwned}
 use Rattle.lf_coverage.proofs.OwnStoresTerms.{ValueOnOwnTerms}
 use Rattle.lf_coverage.proofs.OwnStoresValues.{fits, stand, value_typed}
-use Rattle.lf_coverage.proofs.OwnTerms.{put_in_own, rename_own, substitute_own}
+use Rattle.lf_coverage.proofs.OwnTerms.{put_in_keeps as same_blocks, put_in_own, rename_own, substitute_own}
 use Rattle.lf_coverage.proofs.SolvedCase.{behind_types, free_context_is}
 use Rattle.lf_coverage.proofs.StoreSolution.{looked_up}
 
@@ -57,9 +57,6 @@ module _ (Σ : Signature) (ok : IsSignature Σ) (W : List Block) (typed : AreTyp
 
   abbrev k : ℕ
   k = arguments_count A
-
-  abbrev P : List Item
-  P = split_items below X (free_variables C.variables) zero A
 
   abbrev Cc : List LfType
   Cc = items_context (split_items below X (free_variables C.variables) zero A)

@@ -25,7 +25,7 @@ use Rattle.lf_coverage.specs.StoreSkeletons.{declared_in, StoreHasSkeletons}
 use Rattle.lf_coverage.specs.TypedNumbered.{own_over}
 use Rattle.lf_coverage.proofs.Forms.{no_shift_type}
 use Rattle.lf_coverage.proofs.HeadTerm.{taken_length}
-use Rattle.lf_coverage.proofs.NumberedTyped.{own_long}
+use Rattle.lf_coverage.proofs.OwnLong.{variable_own as own_long}
 use Rattle.lf_coverage.proofs.OwnStoresEntry.{ok₁}
 use Rattle.lf_coverage.proofs.OwnStoresHeads.{HeadOwn, arguments_own, head_own, over_renamed}
 use Rattle.lf_coverage.proofs.OwnStoresOffers.{HeadOnOwn, Offered, binders_own, items_typed, offered}

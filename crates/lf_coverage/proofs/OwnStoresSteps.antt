@@ -4,7 +4,7 @@ use Rattle.lf.specs.Subordination.{Member}
 use Rattle.lf.specs.Syntax.{metavariable, Term, Spine, root, nil, app, LfType, pi, atom, Skeleton, base, arrow, skeleton, rename, rename_spine, rename_type, weaken}
 use Rattle.lf.specs.Typing.{TypeAt, instantiate_type}
 use Rattle.lf.specs.Variables.{onto}
-use Rattle.lf.proofs.Renaming.{renamings_compose, renamings_compose_spine}
+use Rattle.lf.proofs.Renaming.{renamings_compose}
 use Rattle.lf_unification.specs.Filling.{moved, rename_value}
 use Rattle.lf_unification.specs.Inversion.{IsPattern}
 use Rattle.lf_unification.specs.Lists.{followed}
@@ -19,8 +19,10 @@ use Rattle.lf_unification.proofs.Patterns.{past_rename}
 use Rattle.lf_unification.proofs.StepLemmas.{under_moved}
 use Rattle.lf_coverage.specs.OwnTerms.{weaken_own}
 use Rattle.lf_coverage.specs.TypedNumbered.{own_over}
-use Rattle.lf_coverage.proofs.OwnTerms.{own_as_renamed, rename_own}
+use Rattle.lf_coverage.proofs.EntryPatternsFound.{renamed_twice as own_twice}
 use Rattle.lf_coverage.proofs.OwnStoresTerms.{Owned, SpineOwned, TypeOwned, owned_unrenamed, pattern_owned, type_owned_renamed, type_owned_unrenamed}
+use Rattle.lf_coverage.proofs.OwnTerms.{own_as_renamed, rename_own}
+use Rattle.lf_coverage.proofs.OwnValues.{own_past}
 use mathlib.Core.Path.{fun_ext}
 
 -- own terms and values further in
@@ -31,10 +33,6 @@ rename_id_spine (app M S) = ap₂ app (rename_id M) (rename_id_spine S)
 pub own_id : (u : Option Spine) → rename_own (λ i. i) u ≡ u
 own_id None = refl
 own_id (Some U) = ap Some (rename_id_spine U)
-
-pub own_twice : (ρ τ : ℕ → ℕ) (u : Option Spine) → rename_own ρ (rename_own τ u) ≡ rename_own (λ i. ρ (τ i)) u
-own_twice ρ τ None = refl
-own_twice ρ τ (Some U) = ap Some (renamings_compose_spine ρ τ U)
 
 value_id : (x : Option Term) → rename_value (λ i. i) x ≡ x
 value_id None = refl
@@ -47,10 +45,6 @@ value_twice ρ τ (Some N) = ap Some (renamings_compose ρ τ N)
 pub own_over_is : (D : List LfType) (o : ℕ → Option Spine) (c : ℕ) → own_over D o c ≡ rename_own (beyond D) (o c)
 own_over_is [] o c = sym (ap (λ ρ. rename_own ρ (o c)) (fun_ext (λ i. refl)) ∙ own_id (o c))
 own_over_is (A ∷ D) o c = ap weaken_own (own_over_is D o c) ∙ own_as_renamed (rename_own (beyond D) (o c)) ∙ own_twice suc (beyond D) (o c) ∙ ap (λ ρ. rename_own ρ (o c)) (fun_ext (λ i. refl))
-
-abbrev own_past : Skeleton → (ℕ → Option Spine) → ℕ → Option Spine
-own_past (base c) o = o
-own_past (arrow a b) o = own_past b (λ c. weaken_own (o c))
 
 abbrev values_past : Skeleton → (ℕ → Option Term) → ℕ → Option Term
 values_past (base c) β = β

@@ -2,27 +2,14 @@
 use Rattle.std.proofs.Common.{◌≡◌, ℕ, zero, suc, List, [], ◌∷◌, Option, Some, None, refl, sym, ap, ap₂, ◌∙◌, subst}
 use Rattle.lf.specs.Syntax.{constant, variable, metavariable, Term, Spine, lambda, root, nil, app, LfType, pi, atom, Skeleton, base, arrow, lift_renaming, rename, rename_spine, rename_type, rename_head, Head}
 use Rattle.lf.specs.Eta.{add_last, append, eta_expand}
-use Rattle.lf.proofs.Renaming.{renamings_compose_spine}
 use Rattle.lf_unification.specs.Filling.{fill, fill_metavariable, fill_spine, fill_type, moved, rename_value}
 use Rattle.lf_unification.specs.OpenTyping.{MetavariablesIn, MetavariablesInSpine, MetavariablesInType}
 use Rattle.lf_unification.specs.Patterns.{Injective, pattern}
 use Rattle.lf_unification.proofs.Filling.{fill_rename_spine, moved_up}
 use Rattle.lf_unification.proofs.Inverse.{rename_injective_spine, up_injective}
 use Rattle.lf_coverage.specs.OwnTerms.{weaken_own, BeginsWith, OnOwnTerms, SpineOnOwnTerms, TypeOnOwnTerms}
-use Rattle.lf_coverage.proofs.OwnTerms.{own_as_renamed, own_renamed, reduce_own, rename_own}
+use Rattle.lf_coverage.proofs.OwnTerms.{own_as_renamed, own_renamed, reduce_own, rename_own, rename_under as weaken_renamed, rename_append}
 use mathlib.Core.Path.{fun_ext}
-
--- own terms, moved under a binder
-abbrev pub under_own : (ℕ → Option Spine) → ℕ → Option Spine
-under_own o c = weaken_own (o c)
-
-pub weaken_renamed : (ρ : ℕ → ℕ) (u : Option Spine) → weaken_own (rename_own ρ u) ≡ rename_own (lift_renaming ρ) (weaken_own u)
-weaken_renamed ρ None = refl
-weaken_renamed ρ (Some U) = ap Some (renamings_compose_spine suc ρ U ∙ sym (renamings_compose_spine (lift_renaming ρ) suc U))
-
-rename_append : (ρ : ℕ → ℕ) (U T : Spine) → rename_spine ρ (append U T) ≡ append (rename_spine ρ U) (rename_spine ρ T)
-rename_append ρ nil T = refl
-rename_append ρ (app M U) T = ap (app (rename ρ M)) (rename_append ρ U T)
 
 pub fill_append : (μ : ℕ → Skeleton) (β : ℕ → Option Term) (U T : Spine) → fill_spine μ β (append U T) ≡ append (fill_spine μ β U) (fill_spine μ β T)
 fill_append μ β nil T = refl

@@ -17,8 +17,8 @@ use Rattle.lf_unification.proofs.Filling.{skeleton_fill}
 use Rattle.lf_cases.specs.Case.{as_term}
 use Rattle.lf_coverage.specs.SplitStore.{open_type, answer_image, answer_values}
 use Rattle.lf_coverage.proofs.OpenTerms.{AllStand, FitsImage, fill_open_type}
-use Rattle.lf_coverage.proofs.StoreSolution.{skeleton_open}
 use Rattle.lf_coverage.proofs.Parts.{some_same}
+use Rattle.lf_coverage.proofs.StoreSolution.{skeleton_open}
 
 module _ (Σ₁ : Signature) (okE : IsSignature Σ₁) (Cc : List LfType) (items_known : IsContext Σ₁ Cc) (finish : Store) (order : List ListedMetavariable) (answer : Solution Σ₁ [] finish (free_context (skeletons_of finish.metavariables) order) (values (skeletons_of finish.metavariables) order)) (declared : (i : ℕ) (B : LfType) → TypeAt Cc i B → finish.metavariables i ≡ Some (open_type zero B)) where
   abbrev μ : ℕ → Skeleton

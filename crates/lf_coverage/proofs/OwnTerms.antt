@@ -22,7 +22,7 @@ abbrev pub substitute_own : (ℕ → Image) → Option Spine → Option Spine
 substitute_own σ None = None
 substitute_own σ (Some U) = Some (substitute_spine reduce σ U)
 
-rename_append : (ρ : ℕ → ℕ) (U T : Spine) → rename_spine ρ (append U T) ≡ append (rename_spine ρ U) (rename_spine ρ T)
+pub rename_append : (ρ : ℕ → ℕ) (U T : Spine) → rename_spine ρ (append U T) ≡ append (rename_spine ρ U) (rename_spine ρ T)
 rename_append ρ nil T = refl
 rename_append ρ (app M U) T = ap (app (rename ρ M)) (rename_append ρ U T)
 
@@ -43,11 +43,11 @@ pub rename_under : (ρ : ℕ → ℕ) (u : Option Spine) → weaken_own (rename_
 rename_under ρ None = refl
 rename_under ρ (Some U) = ap Some (renamings_compose_spine suc ρ U ∙ sym (renamings_compose_spine (lift_renaming ρ) suc U))
 
-substitute_under : (σ : ℕ → Image) (u : Option Spine) → weaken_own (substitute_own σ u) ≡ substitute_own (lift σ) (weaken_own u)
+pub substitute_under : (σ : ℕ → Image) (u : Option Spine) → weaken_own (substitute_own σ u) ≡ substitute_own (lift σ) (weaken_own u)
 substitute_under σ None = refl
 substitute_under σ (Some U) = ap Some (rename_substituted_spine reduce reduction_is_natural suc σ U ∙ sym (substitute_renamed_spine reduce (lift σ) suc U))
 
-single_under : (a : Skeleton) (N : Term) (u : Option Spine) → u ≡ substitute_own (single a N) (weaken_own u)
+pub single_under : (a : Skeleton) (N : Term) (u : Option Spine) → u ≡ substitute_own (single a N) (weaken_own u)
 single_under a N None = refl
 single_under a N (Some U) = ap Some (sym (substitute_renamed_spine reduce (single a N) suc U ∙ substitute_identity_spine reduce U))
 

@@ -1,13 +1,11 @@
 -- A term stands on own terms where the term that it is renamed to does, and a body where the value does.
 use Rattle.std.proofs.Common.{◌≡◌, ℕ, suc, List, [], Option, Some, None, refl, sym, ap, ap₂, ◌∙◌, subst}
-use mathlib.Core.Path.{fun_ext}
 use Rattle.lf.specs.Eta.{append, eta_long}
 use Rattle.lf.specs.SkeletonTyping.{TermSkeleton}
 use Rattle.lf.specs.Skeletons.{context_skeletons}
 use Rattle.lf.specs.Syntax.{constant, variable, metavariable, Term, Spine, lambda, root, nil, app, LfType, Skeleton, base, arrow, skeleton, lift_renaming, rename, rename_spine}
 use Rattle.lf.specs.Typing.{Signature, IsSignature}
 use Rattle.lf.proofs.AtOnce.{rename_spine_identity}
-use Rattle.lf.proofs.Renaming.{renamings_compose_spine}
 use Rattle.lf_unification.specs.Filling.{fill, fill_type}
 use Rattle.lf_unification.specs.OpenTyping.{IsInstance, skeletons_of}
 use Rattle.lf_unification.specs.Patterns.{Injective, PatternFits, context_under, lambdas_of, past, pattern, pattern_renaming}
@@ -21,7 +19,9 @@ use Rattle.lf_unification.proofs.Shrink.{RenamingBySkeletons-past}
 use Rattle.lf_unification.proofs.StepLemmas.{value_of}
 use Rattle.lf_unification.proofs.ToSkeletons.{typed_has_skeleton}
 use Rattle.lf_coverage.specs.OwnTerms.{weaken_own, BeginsWith, OnOwnTerms, SpineOnOwnTerms}
+use Rattle.lf_coverage.proofs.EntryPatternsFound.{renamed_twice as own_compose}
 use Rattle.lf_coverage.proofs.OwnTerms.{rename_own, own_as_renamed, rename_under}
+use mathlib.Core.Path.{fun_ext}
 
 -- Renaming back
 append_back : (ρ : ℕ → ℕ) → Injective ρ → (U S T : Spine) → rename_spine ρ S ≡ append (rename_spine ρ U) T → (R : Spine) × (S ≡ append U R)
@@ -45,7 +45,7 @@ mutual
   spine_back o o' ρ inj (app M S) h (m, s) = (own_back o o' ρ inj M h m, spine_back o o' ρ inj S h s)
 
 -- own terms under the lambdas of a skeleton
-abbrev own_past : Skeleton → (ℕ → Option Spine) → ℕ → Option Spine
+abbrev pub own_past : Skeleton → (ℕ → Option Spine) → ℕ → Option Spine
 own_past (base c) o = o
 own_past (arrow a b) o = own_past b (λ c. weaken_own (o c))
 
@@ -60,10 +60,6 @@ own_over (arrow a b) o M m = own_over b (λ c. weaken_own (o c)) M m
 own_identity : (u : Option Spine) → u ≡ rename_own (λ i. i) u
 own_identity None = refl
 own_identity (Some U) = ap Some (sym (rename_spine_identity U))
-
-own_compose : (ρ τ : ℕ → ℕ) (u : Option Spine) → rename_own ρ (rename_own τ u) ≡ rename_own (λ i. ρ (τ i)) u
-own_compose ρ τ None = refl
-own_compose ρ τ (Some U) = ap Some (renamings_compose_spine ρ τ U)
 
 own_past_renamed : (t : Skeleton) (o : ℕ → Option Spine) (c : ℕ) → own_past t o c ≡ rename_own (past t) (o c)
 own_past_renamed (base d) o c = own_identity (o c)

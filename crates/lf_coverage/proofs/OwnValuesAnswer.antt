@@ -1,5 +1,5 @@
 -- A typed unifier on own terms, read back, is a ground instance of the answer.
-use Rattle.std.proofs.Common.{◌≡◌, ℕ, zero, ◌+◌, List, [], ◌∷◌, length, Option, Some, refl, sym, ap, ◌∙◌, subst}
+use Rattle.std.proofs.Common.{◌≡◌, ℕ, zero, ◌+◌, List, [], length, Option, Some, sym, ap, ◌∙◌, subst}
 use Rattle.std.specs.Prelude.{Bool}
 use Rattle.lf.specs.SkeletonTyping.{TermSkeleton, SubstitutionBySkeletons}
 use Rattle.lf.specs.Skeletons.{constant_skeletons, context_skeletons}
@@ -24,14 +24,11 @@ use Rattle.lf_coverage.specs.OwnValuesAnswer.{AreValuesUnder, AnswerInstance, An
 use Rattle.lf_coverage.specs.OwnValuesReading.{ReadBackKeepsTyping, AreReadAs, AreReadInstances, SolvedReadBack}
 use Rattle.lf_coverage.specs.Reading.{read, entry_reading}
 use Rattle.lf_coverage.specs.SplitStore.{answer_image, answer_values}
+use Rattle.lf_coverage.proofs.OwnTerms.{put_in_keeps as same_blocks}
 use Rattle.lf_coverage.proofs.OwnValuesBack.{solved_is_read_back}
 use Rattle.lf_coverage.proofs.OwnValuesInstances.{instances_are_read_back}
 use Rattle.lf_coverage.proofs.OwnValuesTerms.{answer_keeps_own_terms, term_after}
 use Rattle.lf_coverage.proofs.Parts.{some_same}
-
-same_blocks : (σ : ℕ → Image) (bs : List BlockVariable) → blocks_of (put_in_blocks σ bs) ≡ blocks_of bs
-same_blocks σ [] = refl
-same_blocks σ (b ∷ bs) = ap (λ Bs. b.block ∷ Bs) (same_blocks σ bs)
 
 module _ (Σ₁ Σ' : Signature) (ok₁ : IsSignature Σ₁) (W V : List Block) (S : ℕ → Bool) (G : List LfType) (w : World Σ' V S G) (first : ℕ) (bs : List BlockVariable) (θ : ℕ → ℕ → Image) (X F : List LfType) (f : ℕ → Option (ℕ × ℕ)) (ρ : ℕ → ℕ) (p : ℕ → Option Spine) (t : AreTypedBlockVariables Σ₁ W X p bs) (τ : ℕ → Image) (keeps : ReadBackKeepsTyping Σ₁ Σ' F G f (own_terms first (put_in_blocks τ bs)) ρ) (reads : AreReadAs first (blocks_of bs) f ρ θ) (is : AreReadInstances w f ρ τ θ zero bs) (before after : Store) (wf : IsWellFormed Σ₁ before) (s : Solved Σ₁ before after) (β : ℕ → Option Term) (u : Solution Σ₁ [] before F β) (own : ValuesOnOwnTerms (own_terms first (put_in_blocks τ bs)) before.metavariables β) (k : ℕ) (vs : AreValuesUnder X k before.metavariables β τ) where
   abbrev O : List LfType

@@ -19,17 +19,10 @@ use Rattle.lf_coverage.specs.NumberedCase.{some_spine, AreTypedBlockVariables, A
 use Rattle.lf_coverage.specs.OwnTerms.{BlockVariable, put_in_blocks}
 use Rattle.lf_coverage.specs.OwnValuesReading.{AreReadBack, AreReadInstances, InstancesAreReadBack}
 use Rattle.lf_coverage.specs.Reading.{read, read_spine, entry_reading}
+use Rattle.lf_coverage.proofs.EntryValues.{read_add as read_last, put_add as put_last}
 use Rattle.lf_coverage.proofs.OwnValuesTerms.{spine_after}
 
 -- A change of each term of a spine, one by one
-put_last : (σ : ℕ → Image) (S : Spine) (N : Term) → substitute_spine reduce σ (add_last S N) ≡ add_last (substitute_spine reduce σ S) (substitute reduce σ N)
-put_last σ nil N = refl
-put_last σ (app M S) N = ap (app (substitute reduce σ M)) (put_last σ S N)
-
-read_last : (f : ℕ → Option (ℕ × ℕ)) (S : Spine) (N : Term) → read_spine f (add_last S N) ≡ add_last (read_spine f S) (read f N)
-read_last f nil N = refl
-read_last f (app M S) N = ap (app (read f M)) (read_last f S N)
-
 rename_last : (ρ : ℕ → ℕ) (S : Spine) (N : Term) → rename_spine ρ (add_last S N) ≡ add_last (rename_spine ρ S) (rename ρ N)
 rename_last ρ nil N = refl
 rename_last ρ (app M S) N = ap (app (rename ρ M)) (rename_last ρ S N)

@@ -16,9 +16,9 @@ use Rattle.lf_coverage.specs.OwnTerms.{OnOwnTerms, TypeOnOwnTerms}
 use Rattle.lf_coverage.specs.OwnValuesReading.{EntryReadsBack, ReadsBack, ReadBackIsTyped}
 use Rattle.lf_coverage.specs.Reading.{read, read_type}
 use Rattle.lf_coverage.proofs.EntrySignature.{else_cases}
+use Rattle.lf_coverage.proofs.Parts.{none_some, some_same}
 use Rattle.lf_coverage.proofs.ReadSkeletons.{behind_arguments, ReadsSkeleton, Reads, read_type_has_skeletons}
 use Rattle.lf_coverage.proofs.ReadTyped.{ReadsConstant, ReadsInto, reads_typed}
-use Rattle.lf_coverage.proofs.Parts.{none_some, some_same}
 
 -- what is left of a type behind arguments has what is left of its skeleton
 skeleton_behind : (Σ : Signature) (G : List LfType) (U : Spine) (P Q : LfType) → SpineType Σ G U P Q → behind_arguments (argument_count U) (skeleton P) ≡ skeleton Q

@@ -16,9 +16,9 @@ use Rattle.lf_coverage.specs.PatternHeadRuns.{InputSplitsAreNeverStuck, InputSpl
 use Rattle.lf_coverage.specs.PatternSplits.{HeadHasPatterns}
 use Rattle.lf_coverage.specs.Subordinate.{AllQuantifiersAreBelow}
 use Rattle.lf_coverage.specs.SubordinateRuns.{ComesBy, comes_itself, comes_by_split}
-use Rattle.lf_coverage.specs.UnifiedSplit.{HeadIsSolved, AnswersEachHead}
-use Rattle.lf_coverage.proofs.HeadSplit.{head_of_case}
-use Rattle.lf_coverage.proofs.PatternCases.{pattern_case_has_patterns}
+use Rattle.lf_coverage.specs.UnifiedSplit.{HeadIsAnswered, AnswersEachHead}
+use Rattle.lf_coverage.proofs.Listed.{offer_of_case}
+use Rattle.lf_coverage.proofs.PatternCaseTests.{pattern_case_has_patterns}
 use Rattle.lf_coverage.proofs.PatternRuns.{goal_patterns}
 use Rattle.lf_coverage.proofs.PatternSplits.{split_case_is_pattern}
 use Rattle.lf_coverage.proofs.SolvedCase.{free_without}
@@ -37,9 +37,9 @@ module _ (Σ : Signature) (ok : IsSignature Σ) (W : List Block) (typed : AreTyp
   Kept C = HasNoBlockVariable C.items × IsPatternCase Σ C
 
   split_kept : (C D : Case) (Cs : List Case) → IsTypedCase Σ W C → Kept C → SplitsByPatterns Σ W below C Cs → Member D Cs → Kept D
-  split_kept C D Cs tc (nb, p) (x, sp, hp) m = let (h, k, a) = head_of_case sp.listed D m in by h (sp.are_offers.each h k) (hp h k) a
+  split_kept C D Cs tc (nb, p) (x, sp, hp) m = let (h, k, a) = offer_of_case sp.listed D m in by h (sp.are_offers.each h k) (hp h k) a
     where
-      by : (h : Offer) → SplitHead Σ W C.items sp.type h.items h.moved h.head h.type → HeadHasPatterns Σ below sp.type h.items h.moved h.type → HeadIsSolved Σ below C x sp.type h (Some D) → Kept D
+      by : (h : Offer) → SplitHead Σ W C.items sp.type h.items h.moved h.head h.type → HeadHasPatterns Σ below sp.type h.items h.moved h.type → HeadIsAnswered Σ below C x sp.type h (Some D) → Kept D
       by h sh hh a =
           let (after, s, e) = a.finds in
           subst Kept (sym e) (free_without (free_context (skeletons_of after.metavariables) s.well_formed.order), split_case_is_pattern Σ ok W below C tc p x sp.type sp.at h.items h.moved h.head h.type sh a.no_block a.kind a.of_family hh after s)

@@ -23,13 +23,15 @@ use Rattle.lf_coverage.specs.PatternStores.{IsPatternStore, IsPatternTerm, IsPat
 use Rattle.lf_coverage.specs.SplitStore.{AllFamiliesIn, context_metavariables, open_some, open_type, split_store, type_in}
 use Rattle.lf_coverage.specs.Subordinate.{AllQuantifiersAreBelow}
 use Rattle.lf_coverage.specs.SubordinateRuns.{ComesBy, comes_itself, comes_by_split}
-use Rattle.lf_coverage.specs.UnifiedSplit.{HeadIsSolved, AnswersEachHead}
+use Rattle.lf_coverage.specs.UnifiedSplit.{HeadIsAnswered, AnswersEachHead}
 use Rattle.lf_coverage.proofs.Families.{solved_keeps_families, split_items_keep_families, store_families}
-use Rattle.lf_coverage.proofs.HeadSplit.{head_of_case}
+use Rattle.lf_coverage.proofs.Listed.{offer_of_case}
 use Rattle.lf_coverage.proofs.InputTyped.{goal_behind}
 use Rattle.lf_coverage.proofs.ItemsContext.{items_are_context}
-use Rattle.lf_coverage.proofs.PatternCases.{behind_head, pattern_case_has_patterns, solved_case_is_pattern}
-use Rattle.lf_coverage.proofs.PatternHeads.{head_term_is_pattern, variables_are_patterns}
+use Rattle.lf_coverage.proofs.PatternCases.{behind_head, solved_case_is_pattern}
+use Rattle.lf_coverage.proofs.PatternCaseTests.{pattern_case_has_patterns}
+use Rattle.lf_coverage.proofs.PatternHeads.{variables_are_patterns}
+use Rattle.lf_coverage.proofs.PatternHeadTerm.{head_term_is_pattern}
 use Rattle.lf_coverage.proofs.SolvedCase.{free_without}
 use Rattle.lf_coverage.proofs.SplitReady.{split_items_typed}
 use Rattle.lf_coverage.proofs.StoreSolution.{families_at, found_type, skeleton_open}
@@ -87,9 +89,9 @@ module _ (Σ : Signature) (ok : IsSignature Σ) (W : List Block) (typed : AreTyp
       })
 
   split_kept : (C D : Case) (Cs : List Case) → IsTypedCase Σ W C → Kept C → AnswersEachHead Σ W below C Cs → Member D Cs → Kept D
-  split_kept C D Cs tc (f, nb, p) (x, sp) m = let (h, k, a) = head_of_case sp.listed D m in by h (sp.are_offers.each h k) a
+  split_kept C D Cs tc (f, nb, p) (x, sp) m = let (h, k, a) = offer_of_case sp.listed D m in by h (sp.are_offers.each h k) a
     where
-      by : (h : Offer) → SplitHead Σ W C.items sp.type h.items h.moved h.head h.type → HeadIsSolved Σ below C x sp.type h (Some D) → Kept D
+      by : (h : Offer) → SplitHead Σ W C.items sp.type h.items h.moved h.head h.type → HeadIsAnswered Σ below C x sp.type h (Some D) → Kept D
       by h sh a =
           let (after, s, e) = a.finds in
           let P : List Item = split_items below sp.type h.items h.moved h.type in

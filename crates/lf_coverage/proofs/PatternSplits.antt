@@ -23,7 +23,8 @@ use Rattle.lf_coverage.specs.PatternStores.{ArePatternArguments, IsPatternTerm, 
 use Rattle.lf_coverage.specs.SplitStore.{context_metavariables, open_locals, open_some, open_spine, open_term, open_type}
 use Rattle.lf_coverage.proofs.HeadTerm.{head_target, taken_length}
 use Rattle.lf_coverage.proofs.PatternCases.{solved_case_is_pattern}
-use Rattle.lf_coverage.proofs.PatternHeads.{head_term_is_pattern, under_binders, variables_are_patterns}
+use Rattle.lf_coverage.proofs.PatternHeads.{variables_are_patterns}
+use Rattle.lf_coverage.proofs.PatternHeadTerm.{head_term_is_pattern, under_binders}
 use Rattle.lf_coverage.proofs.ResultType.{result_atom}
 use Rattle.lf_coverage.proofs.SolvedCase.{behind_types}
 use Rattle.lf_coverage.proofs.StoreSolution.{looked_up, skeleton_open}

@@ -14,7 +14,7 @@ use Rattle.lf_checks.proofs.EtaTest.{both_l, both_r}
 use Rattle.lf_checks.proofs.Reach.{number_equal}
 use Rattle.lf_coverage.specs.PatternStores.{AreDistinct}
 use Rattle.lf_coverage.specs.TermMatching.{bound, over}
-use Rattle.lf_coverage.proofs.PatternSteps.{past_suc}
+use Rattle.lf_coverage.proofs.PatternEta.{past_suc}
 
 -- the test for an eta-long variable goes along with renaming
 abbrev Fixes : ℕ → (ℕ → ℕ) → Type 0

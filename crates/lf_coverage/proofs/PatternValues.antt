@@ -19,7 +19,9 @@ use Rattle.lf_coverage.specs.PatternStores.{AreDistinct, ArePatternArguments, Is
 use Rattle.lf_coverage.specs.SplitStore.{open_variable, open_term, open_spine, open_type, open_some, type_in, context_metavariables}
 use Rattle.lf_coverage.specs.TermMatching.{over}
 use Rattle.lf_coverage.proofs.OpenTyped.{Moves, open_renamed, open_renamed_spine}
-use Rattle.lf_coverage.proofs.PatternSteps.{eta_is_pattern, pattern_moves, under}
+use Rattle.lf_coverage.proofs.PatternEta.{eta_is_pattern}
+use Rattle.lf_coverage.proofs.PatternSides.{under}
+use Rattle.lf_coverage.proofs.PatternMoves.{pattern_moves}
 use Rattle.lf_coverage.proofs.PatternTerms.{term_renamed}
 use Rattle.lf_coverage.proofs.StoreSolution.{found_type, looked_up, skeleton_open}
 
@@ -52,7 +54,7 @@ open_lambdas_of (base c) Γ W = refl
 open_lambdas_of (arrow a b) Γ W = ap lambda (open_lambdas_of b (a ∷ Γ) W)
 
 -- eta-long variables
-open_last : (k : ℕ) (S : Spine) (N : Term) → open_spine k (add_last S N) ≡ add_last (open_spine k S) (open_term k N)
+pub open_last : (k : ℕ) (S : Spine) (N : Term) → open_spine k (add_last S N) ≡ add_last (open_spine k S) (open_term k N)
 open_last k nil N = refl
 open_last k (app M S) N = ap (app (open_term k M)) (open_last k S N)
 

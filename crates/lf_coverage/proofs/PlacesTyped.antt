@@ -41,9 +41,6 @@ none n = omega arith
 arguments_renamed : (ks : List (List Bool)) (D : List LfType) (b : List Bool) (ρ : ℕ → ℕ) (K : Kind) → output_arguments ks D b (rename_kind ρ K) ≡ output_arguments ks D b K
 arguments_renamed ks D b ρ K = ap (output_arguments ks D b) (sym (substitution_as_renaming_kind reduce ρ K)) ∙ arguments_substituted ks D b (λ i. keep (ρ i)) K
 
-count_renamed : (b : List Bool) (ρ : ℕ → ℕ) (K : Kind) → chosen_count b (rename_kind ρ K) ≡ chosen_count b K
-count_renamed b ρ K = ap (chosen_count b) (sym (substitution_as_renaming_kind reduce ρ K)) ∙ count_substituted b (λ i. keep (ρ i)) K
-
 image_renamed_typed : (Σ : Signature) → IsSignature Σ → (G D : List LfType) (ρ : ℕ → ℕ) (x : Image) (A : LfType) → IsTypedRenaming G D ρ → ImageHasType Σ G x A → ImageHasType Σ D (rename_image ρ x) (rename_type ρ A)
 image_renamed_typed Σ ok G D ρ (keep j) A r t = r j A t
 image_renamed_typed Σ ok G D ρ (put a N) A r (e, t) = (skeleton_renamed ρ A ∙ e, renaming_keeps_typing Σ ok G D ρ N A r t)

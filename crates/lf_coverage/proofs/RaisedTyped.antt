@@ -1,7 +1,7 @@
 -- Raised types are types, and the new variables of a head are typed: so its items are, its arguments, and the type that is left.
 use Rattle.std.proofs.Common.{◌≡◌, ℕ, zero, suc, ◌+◌, List, [], ◌∷◌, length, refl, sym, ap, ap₂, ◌∙◌, subst, arith}
 use Rattle.std.specs.Prelude.{Bool, true, false}
-use Rattle.lf.specs.Syntax.{variable, Term, Spine, nil, app, LfType, pi, atom, Skeleton, skeleton, weaken, rename, rename_spine, rename_type, lift_renaming}
+use Rattle.lf.specs.Syntax.{variable, Term, Spine, nil, app, LfType, pi, atom, skeleton, weaken, rename_spine, rename_type, lift_renaming}
 use Rattle.lf.specs.Substitution.{keep, single, substitute_type, reduce}
 use Rattle.lf.specs.Skeletons.{constant_skeletons, family_skeletons, context_skeletons}
 use Rattle.lf.specs.AtOnce.{shift_by, lift_renaming_by}
@@ -33,9 +33,9 @@ use Rattle.lf_coverage.proofs.Forms.{far_type, no_shift_type, shift_type_next}
 use Rattle.lf_coverage.proofs.GivenValues.{local_renames, local_context}
 use Rattle.lf_coverage.proofs.InputTyped.{renamed_type}
 use Rattle.lf_coverage.proofs.ItemsContext.{items_are_context}
+use Rattle.lf_coverage.proofs.Parts.{suc_same}
 use Rattle.lf_coverage.proofs.ResultType.{low_moved, variable_moved, next_spine, next_count}
 use Rattle.lf_coverage.proofs.SolvedCase.{behind_types}
-use Rattle.lf_coverage.proofs.Parts.{suc_same}
 use mathlib.Core.Path.{fun_ext}
 
 abbrev pub but_newest : ℕ → Bool

@@ -1,11 +1,13 @@
 -- What is read has the skeletons of what it is read from.
-use Rattle.std.proofs.Common.{◌≡◌, ℕ, zero, suc, List, ◌∷◌, ◌≤◌, Option, Some, None, refl, sym, ap, ◌∙◌, subst, arith}
-use Rattle.lf.specs.Syntax.{constant, variable, metavariable, Term, Spine, lambda, root, nil, app, LfType, pi, atom, Skeleton, base, arrow, skeleton, rename_spine}
+use Rattle.std.proofs.Common.{◌≡◌, ℕ, zero, suc, List, [], ◌∷◌, ◌≤◌, length, Option, Some, None, refl, sym, ap, ◌∙◌, subst, arith}
+use Rattle.lf.specs.Syntax.{constant, variable, metavariable, Term, Spine, lambda, root, nil, app, LfType, pi, atom, Skeleton, base, arrow, skeleton}
 use Rattle.lf.specs.Eta.{append}
 use Rattle.lf.specs.SkeletonTyping.{HeadSkeletons, SkeletonAt, TermSkeleton, SpineSkeleton, TypeBySkeletons}
+use Rattle.lf_unification.specs.Offering.{pi_over}
 use Rattle.lf_checks.specs.ModeForms.{argument_count}
 use Rattle.lf_coverage.specs.OwnTerms.{weaken_own, BeginsWith, OnOwnTerms, SpineOnOwnTerms, TypeOnOwnTerms}
 use Rattle.lf_coverage.specs.Reading.{drop_arguments, weaken_read, read_constant, read, read_spine, read_type}
+use Rattle.lf_coverage.proofs.HeadItems.{length_renamed as count_renamed}
 use Rattle.lf_coverage.proofs.Reading.{under_read, skeleton_read}
 
 -- what is left of a skeleton behind n arguments
@@ -13,10 +15,6 @@ abbrev pub behind_arguments : ℕ → Skeleton → Skeleton
 behind_arguments zero t = t
 behind_arguments (suc n) (arrow a b) = behind_arguments n b
 behind_arguments (suc n) (base c) = base c
-
-pub count_renamed : (ρ : ℕ → ℕ) (S : Spine) → argument_count (rename_spine ρ S) ≡ argument_count S
-count_renamed ρ nil = refl
-count_renamed ρ (app M S) = ap suc (count_renamed ρ S)
 
 pub count_read : (f : ℕ → Option (ℕ × ℕ)) (S : Spine) → argument_count (read_spine f S) ≡ argument_count S
 count_read f nil = refl
@@ -77,3 +75,14 @@ module _ (κ κ' : HeadSkeletons) (no : (m : ℕ) (t : Skeleton) → κ.metavari
   pub read_type_has_skeletons : (φ φ' : ℕ → Option Skeleton) (Γ Θ : List Skeleton) (f : ℕ → Option (ℕ × ℕ)) (o : ℕ → Option Spine) (A : LfType) → ((a : ℕ) (t : Skeleton) → φ a ≡ Some t → φ' a ≡ Some t) → Inside Γ Θ → Reads Θ f o → TypeBySkeletons φ κ Γ A → TypeOnOwnTerms o A → TypeBySkeletons φ' κ' Θ (read_type f A)
   read_type_has_skeletons φ φ' Γ Θ f o (pi A B) k i h (a, b) (p, q) = (read_type_has_skeletons φ φ' Γ Θ f o A k i h a p, subst (λ s. TypeBySkeletons φ' κ' (s ∷ Θ) (read_type (under_read f) B)) (sym (skeleton_read f A)) (read_type_has_skeletons φ φ' (skeleton A ∷ Γ) (skeleton A ∷ Θ) (under_read f) (λ c. weaken_own (o c)) B k (inside_under Γ Θ (skeleton A) i) (λ c t e. skeleton_under κ' Θ (skeleton A) (f c) (o c) c t (h c t e)) b q))
   read_type_has_skeletons φ φ' Γ Θ f o (atom a S) k i h (t, g, s) own = (t, k a t g, read_spine_has_skeleton Γ Θ f o S t (base a) i h s own)
+
+-- what is left of the skeleton of a type that is closed over others
+more_behind : (n : ℕ) (t a b : Skeleton) → behind_arguments n t ≡ arrow a b → behind_arguments (suc n) t ≡ b
+more_behind zero (base c) a b e = absurd cc
+more_behind zero (arrow c d) a b e = cc
+more_behind (suc n) (base c) a b e = absurd cc
+more_behind (suc n) (arrow c d) a b e = more_behind n d a b e
+
+pub behind_pis : (O : List LfType) (T : LfType) → behind_arguments (length O) (skeleton (pi_over O T)) ≡ skeleton T
+behind_pis [] T = refl
+behind_pis (A ∷ O) T = more_behind (length O) (skeleton (pi_over O (pi A T))) (skeleton A) (skeleton T) (behind_pis O (pi A T))

@@ -17,7 +17,8 @@ use Rattle.lf_checks.specs.ModeForms.{argument_count}
 use Rattle.lf_coverage.specs.OwnTerms.{weaken_own, BeginsWith, OnOwnTerms, SpineOnOwnTerms}
 use Rattle.lf_coverage.specs.Reading.{drop_arguments, weaken_read, read_constant, read, read_spine, read_type}
 use Rattle.lf_coverage.proofs.Reading.{under_read, read_weakened, skeleton_read, read_instance, IsOld, type_only, none_read_type}
-use Rattle.lf_coverage.proofs.ReadSkeletons.{count_renamed, ReadsSkeleton, skeleton_under, read_has_skeleton}
+use Rattle.lf_coverage.proofs.ReadSkeletons.{ReadsSkeleton, skeleton_under, read_has_skeleton}
+use Rattle.lf_coverage.proofs.HeadItems.{length_renamed as count_renamed}
 use Rattle.lf_coverage.proofs.Parts.{none_some}
 
 -- own arguments that are dropped

@@ -82,7 +82,7 @@ mutual
   any_spine nil = tt
   any_spine (app M S) = (any_constants M, any_spine S)
 
-any_type : (A : LfType) → TypeOnlyConstants (λ c. Unit {0}) A
+pub any_type : (A : LfType) → TypeOnlyConstants (λ c. Unit {0}) A
 any_type (pi A B) = (any_type A, any_type B)
 any_type (atom a S) = any_spine S
 

@@ -33,7 +33,7 @@ use Rattle.lf_coverage.specs.Heads.{IsTypedCase, MakesHead, Keeps, GivesCase, Gi
 use Rattle.lf_coverage.specs.RefutedSplits.{IsRefutedSplit, RefutesEachHead, RunInExtension, RefutedGivesNone, SolvedGivesCaseBeside, RefutedSplitIsAnswer, RefutedRunCovers}
 use Rattle.lf_coverage.specs.SplitStore.{AllFamiliesIn, split_store, answer_values, solved_case}
 use Rattle.lf_coverage.specs.Subordinate.{AllQuantifiersAreBelow}
-use Rattle.lf_coverage.specs.UnifiedSplit.{HeadIsSolved}
+use Rattle.lf_coverage.specs.UnifiedSplit.{HeadIsAnswered}
 use Rattle.lf_coverage.proofs.GroundTyped.{items_extended}
 use Rattle.lf_coverage.proofs.ItemsContext.{items_are_context}
 use Rattle.lf_coverage.proofs.NoCase.{families, all_declared, context_declared, whole_block, with_whole, whole_world, in_all_worlds, head_in_all_worlds, none_of_items, never_gives_no_case}
@@ -224,19 +224,19 @@ module _ (Σ : Signature) (ok : IsSignature Σ) (W : List Block) (typed : AreTyp
   abbrev X : LfType
   X = sp.answered.type
 
-  abbrev split_with : (B : LfType → Offer → Option Case → Type 0) → ((h : Offer) (found : Option Case) → Member h sp.answered.offers → HeadIsSolved Σ below C x X h found → B X h found) → IsSplitBelow Σ W below B C x Cs
+  abbrev split_with : (B : LfType → Offer → Option Case → Type 0) → ((h : Offer) (found : Option Case) → Member h sp.answered.offers → HeadIsAnswered Σ below C x X h found → B X h found) → IsSplitBelow Σ W below B C x Cs
   split_with B g = record { answered = answered_by sp.answered g; takes_below = (answered_arguments_below Σ ok W typed below test C tc q x Cs sp.answered).0; arguments_below = (answered_arguments_below Σ ok W typed below test C tc q x Cs sp.answered).1 }
 
   pub head_split : (S : ℕ → Bool) → FamiliesIn S X → IsHeadSplit Σ W S below C x Cs
   head_split S f = record { split = split_with (HeadAnswer Σ W S below C x) one; families = f }
     where
-      one : (h : Offer) (found : Option Case) → Member h sp.answered.offers → HeadIsSolved Σ below C x X h found → HeadAnswer Σ W S below C x X h found
+      one : (h : Offer) (found : Option Case) → Member h sp.answered.offers → HeadIsAnswered Σ below C x X h found → HeadAnswer Σ W S below C x X h found
       one h None m a = gives_none Σ ok W typed below S C tc x X sp.answered.at h.items h.moved h.head h.type (sp.answered.are_offers.each h m) a.no_block a.kind a.of_family (sp.refuted h m a.kind a.of_family a.finds)
       one h (Some D) m a =
           let (after, s, e) = a.finds in
           subst (GivesCase Σ W S below C x X h.items h.moved h.head h.type) (sym e) (gives_case Σ ok W typed below S C tc x X sp.answered.at h.items h.moved h.head h.type (sp.answered.are_offers.each h m) a.no_block a.kind a.of_family after s)
 
-  given_by : (h : Offer) (found : Option Case) → Member h sp.answered.offers → HeadIsSolved Σ below C x X h found → HeadGives Σ W below C x X h found
+  given_by : (h : Offer) (found : Option Case) → Member h sp.answered.offers → HeadIsAnswered Σ below C x X h found → HeadGives Σ W below C x X h found
   given_by h None m a = never_gives_no_case Σ ok W typed below C tc x X sp.answered.at h.items h.moved h.head h.type (sp.answered.are_offers.each h m) a.no_block a.kind a.finds
   given_by h (Some D) m a =
       let (after, s, e) = a.finds in

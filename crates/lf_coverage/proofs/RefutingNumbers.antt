@@ -1,7 +1,6 @@
 -- What steps refute they refute under other numbers, and so a split is one whatever numbers the stores of its heads have.
 use Rattle.std.proofs.Common.{◌≡◌, ℕ, ◌+◌, List, [], inl, inr, refl, sym, ap, ◌∙◌, subst}
 use Rattle.std.specs.Prelude.{Bool, Option, Some, None, ◌⊎◌}
-use mathlib.Core.Path.{fun_ext}
 use Rattle.lf.specs.Subordination.{Block, Member, AreTypedBlocks}
 use Rattle.lf.specs.Syntax.{Term, LfType, Kind, lambda, root}
 use Rattle.lf.specs.Typing.{Signature, IsSignature, TypeAt}
@@ -16,18 +15,19 @@ use Rattle.lf_cases.specs.Case.{Case, items_context}
 use Rattle.lf_cases.specs.Missing.{IsInstanceOfGoal}
 use Rattle.lf_cases.specs.Reached.{arguments_count, SplitHead}
 use Rattle.lf_cases.specs.Split.{HasNoBlockVariable}
+use Rattle.lf_coverage.specs.CandidateRuns.{RefutesCandidate}
 use Rattle.lf_coverage.specs.HeadOrder.{Offer}
 use Rattle.lf_coverage.specs.Heads.{IsTypedCase}
 use Rattle.lf_coverage.specs.MeetStore.{meet_store}
-use Rattle.lf_coverage.specs.CandidateRuns.{RefutesCandidate}
 use Rattle.lf_coverage.specs.RefutedSplits.{IsRefutedSplit}
 use Rattle.lf_coverage.specs.RefutingNumbers.{FindsCandidate, FoundRunIsRefuted, FoundSplitIsAnswer, FoundSplitIsRefuted, HeadIsFound, RefutedGivesNoneUnderNumbers, RefutedIsApartUnderNumbers, RefutedSplitIsFound, RefutedUnderNumbers, RunUnderNumbers, SolvingFinds}
 use Rattle.lf_coverage.specs.Renumbering.{Renumbering, undone, renumbered, renumbered_order, renumbered_type, renumbered_locals, renumbered_store}
 use Rattle.lf_coverage.specs.SplitStore.{solved_case, solved_case_at, split_store}
 use Rattle.lf_coverage.specs.SubordinateRuns.{ComesBy, comes_itself, comes_by_split}
 use Rattle.lf_coverage.specs.TypedLocal.{HasTypedLocal}
-use Rattle.lf_coverage.specs.UnifiedSplit.{AnswersEachHead, HeadIsSolved, UnifierFinds}
-use Rattle.lf_coverage.proofs.HeadSplit.{answer_of, answered_by}
+use Rattle.lf_coverage.specs.UnifiedSplit.{AnswersEachHead, HeadIsAnswered, UnifierFinds}
+use Rattle.lf_coverage.proofs.HeadSplit.{answered_by}
+use Rattle.lf_coverage.proofs.Listed.{answer_of}
 use Rattle.lf_coverage.proofs.RefutedSplits.{refuted_gives_none, refuted_split_is_answer}
 use Rattle.lf_coverage.proofs.RenumberedBack.{declared_at, returned_store}
 use Rattle.lf_coverage.proofs.RenumberedPatterns.{is_pattern, never_inverted, occurs_rigid, store_same}
@@ -36,9 +36,10 @@ use Rattle.lf_coverage.proofs.RenumberedSolving.{same_read, solved_under_numbers
 use Rattle.lf_coverage.proofs.RenumberedSplit.{declared_there, read_alike, found_under_numbers}
 use Rattle.lf_coverage.proofs.RenumberedSteps.{at_pattern}
 use Rattle.lf_coverage.proofs.Runs.{other_run}
-use Rattle.lf_coverage.proofs.StuckRuns.{comes_as_instance}
 use Rattle.lf_coverage.proofs.RunTyped.{instance_is_typed_case}
+use Rattle.lf_coverage.proofs.StuckRuns.{comes_as_instance}
 use Rattle.lf_coverage.proofs.TypedCases.{meet_store_is_ready, never_is_apart_beside, split_store_is_ready}
+use mathlib.Core.Path.{fun_ext}
 
 is_lambda_back : (f : ℕ → ℕ) (N : Term) → IsLambda (renumbered f N) → IsLambda N
 is_lambda_back f (lambda M) h = h
@@ -86,7 +87,7 @@ module _ (Σ : Signature) (ok : IsSignature Σ) (W : List Block) (typed : AreTyp
   head_refuted : HeadIsFound Σ below C x X h None → (K : Kind) → Σ.kinds (target X) ≡ Some K → CanRefute Σ (store K)
   head_refuted a K e = subst (λ L. CanRefute Σ (store L)) (some_kind (sym a.of_family ∙ e)) ((refuted_under_numbers Σ ok a.numbers (store a.kind)).1 a.finds)
 
-  head_solved : (found : Option Case) → HeadIsFound Σ below C x X h found → HeadIsSolved Σ below C x X h found
+  head_solved : (found : Option Case) → HeadIsFound Σ below C x X h found → HeadIsAnswered Σ below C x X h found
   head_solved None a = record { kind = a.kind; of_family = a.of_family; no_block = a.no_block; finds = let c : CanRefute Σ (store a.kind) = head_refuted a a.kind a.of_family in run_refuted Σ ok (ready a.kind a.of_family) c.run c.refuted }
   head_solved (Some D) a =
       let (after, s, e) = a.finds in
@@ -96,7 +97,7 @@ module _ (Σ : Signature) (ok : IsSignature Σ) (W : List Block) (typed : AreTyp
   refuted_of : ((D : Case) × Member D Cs × HeadIsFound Σ below C x X h (Some D)) ⊎ HeadIsFound Σ below C x X h None → (K : Kind) → Σ.kinds (target X) ≡ Some K → Never Σ [] (store K) → CanRefute Σ (store K)
   refuted_of (inr a) K e n = head_refuted a K e
   refuted_of (inl (D, m, a)) K e n =
-      let b : HeadIsSolved Σ below C x X h (Some D) = head_solved (Some D) a in
+      let b : HeadIsAnswered Σ below C x X h (Some D) = head_solved (Some D) a in
       let (after, s, q) = b.finds in
       absurd (solved_not_never Σ ok (store b.kind) after s (subst (λ L. Never Σ [] (store L)) (some_kind (sym e ∙ b.of_family)) n))
 
@@ -109,7 +110,7 @@ module _ (Σ : Signature) (ok : IsSignature Σ) (W : List Block) (typed : AreTyp
         let same = same_read Σ ok ρ after s.well_formed s.none_left C (λ i. ρ.to (i + moved)) ∙ ap (λ g. solved_case_at C g after s.well_formed.order) (fun_ext (λ i. ρ.back_to (i + moved))) in
         (renumbered_store ρ after, t, sym (ap (solved_case_at C (λ i. π.to (i + moved)) (renumbered_store ρ after)) q ∙ sym agree ∙ same))
 
-  head_found : (found : Option Case) → Renumbering → HeadIsSolved Σ below C x X h found → ((K : Kind) → Σ.kinds (target X) ≡ Some K → Never Σ [] (store K) → CanRefute Σ (store K)) → HeadIsFound Σ below C x X h found
+  head_found : (found : Option Case) → Renumbering → HeadIsAnswered Σ below C x X h found → ((K : Kind) → Σ.kinds (target X) ≡ Some K → Never Σ [] (store K) → CanRefute Σ (store K)) → HeadIsFound Σ below C x X h found
   head_found None π a c = record { kind = a.kind; of_family = a.of_family; no_block = a.no_block; numbers = π; finds = (refuted_under_numbers Σ ok π (store a.kind)).0 (c a.kind a.of_family a.finds) }
   head_found (Some D) π a c =
       let (after, s, e) = a.finds in

@@ -2,7 +2,6 @@
 use Rattle.std.proofs.Common.{◌≡◌, ℕ, List, [], ◌∷◌, refl, sym, ap, ap₂, ◌∙◌}
 use Rattle.std.specs.Prelude.{Option, Some, None}
 use Rattle.std.specs.Option.{option_map}
-use mathlib.Core.Path.{fun_ext}
 use Rattle.lf.specs.Syntax.{Term, LfType}
 use Rattle.lf_unification.specs.OpenTyping.{skeletons_of}
 use Rattle.lf_unification.specs.Skeletons.{skeleton_or_default}
@@ -10,6 +9,7 @@ use Rattle.lf_unification.specs.Unifiers.{Binding, Equation, Store}
 use Rattle.lf_unification.proofs.Scope.{in_all, in_all_type}
 use Rattle.lf_coverage.specs.Renumbering.{Renumbering, undone, renumbered, renumbered_type, renumbered_locals, renumbered_equation, renumbered_equations, renumbered_binding, renumbered_bindings, renumbered_types, renumbered_filling, renumbered_store}
 use Rattle.lf_coverage.proofs.RenumberedSyntax.{Follows, composed, composed_type, identical, identical_type, skeleton_renumbered}
+use mathlib.Core.Path.{fun_ext}
 
 module _ (π : Renumbering) where
   abbrev Returns : ℕ → Type 0

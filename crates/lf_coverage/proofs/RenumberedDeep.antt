@@ -1,7 +1,6 @@
 -- Equations that are deep are so under other numbers.
 use Rattle.std.proofs.Common.{◌≡◌, ℕ, suc, ◌<◌, ◌⊎◌, List, [], ◌∷◌, inl, inr, refl, sym, ap, ap₂, subst}
 use Rattle.std.specs.Prelude.{Option, max}
-use mathlib.Core.Path.{fun_ext}
 use Rattle.lf.specs.Deep.{DeepStep, HasDeep, ReductionHasDeep, SpineHasDeep}
 use Rattle.lf.specs.Depth.{depth, spine_depth, type_depth}
 use Rattle.lf.specs.Rules.{Substitutes, SubstitutesSpine, Reduces, inside_lambda, at_constant, at_metavariable, at_keep, at_put, none, more, stop, beta}
@@ -16,12 +15,13 @@ use Rattle.lf_unification.specs.Rigid.{past_binders}
 use Rattle.lf_unification.specs.Unifiers.{Binding, Equation, Store}
 use Rattle.lf_coverage.specs.Renumbering.{Renumbering, undone, renumbered_head, renumbered, renumbered_spine, renumbered_type, renumbered_locals, renumbered_equation, renumbered_equations, renumbered_binding, renumbered_bindings, renumbered_types, renumbered_store}
 use Rattle.lf_coverage.specs.RenumberingLaws.{DeepUnderNumbers}
-use Rattle.lf_coverage.proofs.RenumberedLeft.{reached}
-use Rattle.lf_coverage.proofs.RenumberedRuns.{run_under}
-use Rattle.lf_coverage.proofs.RenumberedRules.{binders_same, binding_in, puts_in, puts_in_spine, puts_in_type, reduces, rigid_head, substitutes, substitutes_spine, unbound, value_reduces}
-use Rattle.lf_coverage.proofs.RenumberedStores.{member_of}
 use Rattle.lf_coverage.proofs.RenumberedBack.{declared_at, returned_store, skeleton_at}
+use Rattle.lf_coverage.proofs.RenumberedLeft.{reached}
+use Rattle.lf_coverage.proofs.RenumberedRules.{binders_same, binding_in, puts_in, puts_in_spine, puts_in_type, reduces, rigid_head, substitutes, substitutes_spine, unbound, value_reduces}
+use Rattle.lf_coverage.proofs.RenumberedRuns.{run_under}
+use Rattle.lf_coverage.proofs.RenumberedStores.{member_of}
 use Rattle.lf_coverage.proofs.RenumberedSyntax.{image_lifted, image_single, renamed, renumbered_image}
+use mathlib.Core.Path.{fun_ext}
 
 module _ (f : ℕ → ℕ) where
   mutual

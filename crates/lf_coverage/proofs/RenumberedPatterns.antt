@@ -2,7 +2,6 @@
 use Rattle.std.proofs.Common.{◌≡◌, ℕ, ◌⊎◌, List, [], ◌∷◌, Bool, inl, inr, sym, ap, ap₂, ◌∙◌, subst}
 use Rattle.std.specs.Prelude.{Option, Some}
 use Rattle.std.specs.Option.{option_map}
-use mathlib.Core.Path.{fun_ext}
 use Rattle.lf.specs.Syntax.{metavariable, Term, root, LfType, atom, Skeleton, skeleton, rename, rename_type}
 use Rattle.lf.specs.Typing.{TypeAt}
 use Rattle.lf.specs.Variables.{onto}
@@ -19,9 +18,10 @@ use Rattle.lf_unification.proofs.Agree.{set_here}
 use Rattle.lf_unification.proofs.Offer.{decide, set_other}
 use Rattle.lf_coverage.specs.Renumbering.{Renumbering, renumbered, renumbered_spine, renumbered_type, renumbered_locals, renumbered_equations, renumbered_bindings, renumbered_types, renumbered_store}
 use Rattle.lf_coverage.proofs.RenumberedBack.{declared_at, skeleton_at}
+use Rattle.lf_coverage.proofs.RenumberedRules.{beyond_at, beyond_same, pis_over, pis_skeleton, rigid, under_binders}
 use Rattle.lf_coverage.proofs.RenumberedSyntax.{pattern_renumbered, renamed, renamed_type, under_lambdas}
 use Rattle.lf_coverage.proofs.RenumberedTyping.{declared_back, in_renumbered, in_renumbered_type, local_same, onto_nothing, type_at, type_at_back}
-use Rattle.lf_coverage.proofs.RenumberedRules.{beyond_at, beyond_same, pis_over, pis_skeleton, rigid, under_binders}
+use mathlib.Core.Path.{fun_ext}
 
 -- stores that have the same parts
 abbrev pub store_of : (ℕ → Option LfType) → List Binding → List Equation → Store

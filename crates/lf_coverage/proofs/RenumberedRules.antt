@@ -1,7 +1,6 @@
 -- Hereditary substitution by rules, and bindings put in, go along with new numbers for metavariables.
 use Rattle.std.proofs.Common.{◌≡◌, ℕ, zero, suc, List, [], ◌∷◌, refl, sym, ap, ◌∙◌, subst}
 use Rattle.std.specs.Prelude.{Option}
-use mathlib.Core.Path.{fun_ext}
 use Rattle.lf.specs.Rules.{Substitutes, SubstitutesSpine, Reduces, inside_lambda, at_constant, at_metavariable, at_keep, at_put, none, more, stop, beta}
 use Rattle.lf.specs.Subordination.{Member}
 use Rattle.lf.specs.Substitution.{Image}
@@ -17,8 +16,9 @@ use Rattle.lf_unification.specs.Rigid.{Rigid, RigidInSpine, first, here, in_cons
 use Rattle.lf_unification.specs.Unifiers.{Binding, Equation}
 use Rattle.lf_coverage.specs.Renumbering.{Renumbering, renumbered_head, renumbered, renumbered_spine, renumbered_type, renumbered_locals, renumbered_equation, renumbered_equations, renumbered_binding, renumbered_bindings, renumbered_types}
 use Rattle.lf_coverage.proofs.RenumberedBack.{skeleton_at}
-use Rattle.lf_coverage.proofs.RenumberedSyntax.{image_lifted, image_single, instantiated, renamed, renumbered_image, skeleton_renumbered}
 use Rattle.lf_coverage.proofs.RenumberedStores.{injective, member_of}
+use Rattle.lf_coverage.proofs.RenumberedSyntax.{image_lifted, image_single, instantiated, renamed, renumbered_image, skeleton_renumbered}
+use mathlib.Core.Path.{fun_ext}
 
 -- hereditary substitution by rules
 module _ (f : ℕ → ℕ) where

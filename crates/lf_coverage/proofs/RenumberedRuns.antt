@@ -3,7 +3,6 @@
 use Rattle.std.proofs.Common.{◌≡◌, ℕ, ◌≤◌, List, [], ◌∷◌, refl, sym, ap, ap₂, ◌∙◌, subst, arith}
 use Rattle.std.specs.Prelude.{Option, Some, None}
 use Rattle.std.specs.Option.{option_map}
-use mathlib.Core.Path.{fun_ext}
 use Rattle.lf.specs.Syntax.{Term, LfType}
 use Rattle.lf.specs.Typing.{Signature, IsSignature}
 use Rattle.lf_unification.specs.Offering.{MetavariablesInLocals}
@@ -21,6 +20,7 @@ use Rattle.lf_coverage.proofs.RenumberedNumbers.{is_free, others_stay, top, with
 use Rattle.lf_coverage.proofs.RenumberedPatterns.{store_same}
 use Rattle.lf_coverage.proofs.RenumberedSteps.{NewIsFree, step_moved}
 use Rattle.lf_coverage.proofs.RenumberedTyping.{agreeing, agreeing_type}
+use mathlib.Core.Path.{fun_ext}
 
 -- functions that agree on what is declared renumber alike what mentions nothing else
 module _ (Ψ : ℕ → Option LfType) (f g : ℕ → ℕ) (same : (m : ℕ) → Declares Ψ m → f m ≡ g m) where

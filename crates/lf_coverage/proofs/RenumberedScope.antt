@@ -2,7 +2,6 @@
 use Rattle.std.proofs.Common.{◌≡◌, ℕ, ◌<◌, ◌≤◌, List, [], ◌∷◌, refl, sym, ap, ◌∙◌}
 use Rattle.std.specs.Prelude.{Option, Some, None}
 use Rattle.std.specs.Option.{option_map}
-use mathlib.Core.Path.{fun_ext}
 use Rattle.lf.specs.SkeletonTyping.{SpineSkeleton, TermSkeleton, TypeBySkeletons}
 use Rattle.lf.specs.Skeletons.{family_skeletons, type_skeleton}
 use Rattle.lf.specs.Syntax.{constant, variable, metavariable, Term, Spine, lambda, root, nil, app, LfType, Kind, pi, atom, kind_pi, star, Skeleton, base, arrow, skeleton}
@@ -20,6 +19,7 @@ use Rattle.lf_coverage.specs.StoreSkeletons.{LocalsHaveSkeletons, StoreHasSkelet
 use Rattle.lf_coverage.proofs.RenumberedNumbers.{declared_below, numbers_extend}
 use Rattle.lf_coverage.proofs.RenumberedPatterns.{store_same}
 use Rattle.lf_coverage.proofs.RenumberedRuns.{bindings_alike, equations_alike, type_alike}
+use mathlib.Core.Path.{fun_ext}
 
 -- what is typed up to fillings
 module _ (Σ : Signature) (Ψ : ℕ → Option LfType) (U : (ℕ → Option Term) → Type 0) where

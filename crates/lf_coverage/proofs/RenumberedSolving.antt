@@ -2,7 +2,6 @@
 use Rattle.std.proofs.Common.{◌≡◌, ℕ, zero, suc, ◌+◌, ◌⊎◌, List, [], ◌∷◌, inl, inr, refl, sym, ap, ap₂, ◌∙◌, subst}
 use Rattle.std.specs.Prelude.{Option, Some, None}
 use Rattle.std.specs.Option.{option_map}
-use mathlib.Core.Path.{fun_ext}
 use Rattle.lf.specs.Substitution.{Image}
 use Rattle.lf.specs.Syntax.{Term, LfType, variable, nil, skeleton}
 use Rattle.lf.specs.Typing.{Signature, IsSignature, IsContext, HasType}
@@ -24,12 +23,13 @@ use Rattle.lf_cases.specs.OutputGoal.{free_variables}
 use Rattle.lf_coverage.specs.Renumbering.{Renumbering, renumbered, renumbered_type, renumbered_locals, renumbered_equations, renumbered_order, renumbered_types, renumbered_store}
 use Rattle.lf_coverage.specs.RenumberingLaws.{LeftUnderNumbers, SolvedUnderNumbers}
 use Rattle.lf_coverage.specs.SplitStore.{answer_image, answer_values, solved_case, solved_case_at}
+use Rattle.lf_coverage.proofs.RenumberedBack.{declared_at, skeleton_at}
 use Rattle.lf_coverage.proofs.RenumberedLeft.{all_left_over}
 use Rattle.lf_coverage.proofs.RenumberedRuns.{run_under}
 use Rattle.lf_coverage.proofs.RenumberedStores.{injective, order_same, well_formed}
-use Rattle.lf_coverage.proofs.RenumberedBack.{declared_at, skeleton_at}
 use Rattle.lf_coverage.proofs.RenumberedSyntax.{Follows, eta_expanded, filled, filled_type, follows_moved, identical, identical_type, skeleton_renumbered}
 use Rattle.lf_coverage.proofs.RenumberedTyping.{agreeing, agreeing_type}
+use mathlib.Core.Path.{fun_ext}
 
 pub solved_under_numbers : SolvedUnderNumbers
 solved_under_numbers Σ ok π before after w s =

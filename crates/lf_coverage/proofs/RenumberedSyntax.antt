@@ -2,7 +2,6 @@
 use Rattle.std.proofs.Common.{◌≡◌, ℕ, zero, suc, List, [], ◌∷◌, refl, sym, ap, ap₂, ◌∙◌}
 use Rattle.std.specs.Prelude.{Option, Some, None}
 use Rattle.std.specs.Option.{option_map}
-use mathlib.Core.Path.{fun_ext}
 use Rattle.lf.specs.Eta.{eta_expand, add_last}
 use Rattle.lf.specs.Substitution.{Image, keep, put, rename_image, lift, single, apply_image, substitute, substitute_spine, substitute_type, substitute_kind, reduce}
 use Rattle.lf.specs.Syntax.{Head, constant, variable, metavariable, Term, Spine, lambda, root, nil, app, LfType, Kind, pi, atom, kind_pi, star, Skeleton, base, arrow, skeleton, lift_renaming, rename, rename_head, rename_spine, rename_type, weaken}
@@ -11,6 +10,7 @@ use Rattle.lf_unification.specs.Filling.{fill, fill_metavariable, fill_spine, fi
 use Rattle.lf_unification.specs.OpenTyping.{MetavariablesIn, MetavariablesInSpine, MetavariablesInType, under_locals, weaken_past}
 use Rattle.lf_unification.specs.Patterns.{lambdas_of, pattern}
 use Rattle.lf_coverage.specs.Renumbering.{renumbered_head, renumbered, renumbered_spine, renumbered_type, renumbered_locals}
+use mathlib.Core.Path.{fun_ext}
 
 -- a kind
 abbrev pub renumbered_kind : (ℕ → ℕ) → Kind → Kind

@@ -13,15 +13,12 @@ use Rattle.lf_unification.specs.Unifiers.{Binding, BindingsAreTyped}
 use Rattle.lf_unification.proofs.Scope.{MetavariablesInKind, in_typed_type, in_typed_kind}
 use Rattle.lf_coverage.specs.Renumbering.{Renumbering, renumbered_head, renumbered, renumbered_spine, renumbered_type, renumbered_locals, renumbered_bindings, renumbered_types}
 use Rattle.lf_coverage.proofs.RenumberedBack.{declared_at, skeleton_at}
-use Rattle.lf_coverage.proofs.RenumberedSyntax.{Follows, composed, composed_spine, composed_type, filled_type, follows_locals, identical, identical_spine, identical_type, instantiated, instantiated_kind, renamed_type, renumbered_kind, skeleton_renumbered, weakened_past}
+use Rattle.lf_coverage.proofs.RenumberedSyntax.{Follows, composed, composed_type, filled_type, follows_locals, identical, identical_type, instantiated, instantiated_kind, renamed_type, renumbered_kind, skeleton_renumbered, weakened_past}
 
 -- the same numbers where the functions agree
 module _ (f g : ℕ → ℕ) where
   pub agreeing : (M : Term) → MetavariablesIn (λ m. f m ≡ g m) M → renumbered f M ≡ renumbered g M
   agreeing M v = ap (renumbered f) (sym (identical M)) ∙ composed f (λ m. m) g M v
-
-  pub agreeing_spine : (S : Spine) → MetavariablesInSpine (λ m. f m ≡ g m) S → renumbered_spine f S ≡ renumbered_spine g S
-  agreeing_spine S v = ap (renumbered_spine f) (sym (identical_spine S)) ∙ composed_spine f (λ m. m) g S v
 
   pub agreeing_type : (A : LfType) → MetavariablesInType (λ m. f m ≡ g m) A → renumbered_type f A ≡ renumbered_type g A
   agreeing_type A v = ap (renumbered_type f) (sym (identical_type A)) ∙ composed_type f (λ m. m) g A v

@@ -1,9 +1,9 @@
 -- Under values that give a head's arguments, the type that is left is the type of the root.
 use Rattle.std.proofs.Common.{◌≡◌, ℕ, zero, suc, List, [], ◌∷◌, ◌+◌, length, refl, sym, ap, ap₂, ◌∙◌, subst, arith}
-use Rattle.std.specs.Prelude.{Bool, Option}
+use Rattle.std.specs.Prelude.{Bool}
 use Rattle.lf.specs.Syntax.{variable, Term, Spine, nil, app, LfType, pi, atom, Skeleton, base, skeleton, rename, rename_spine, rename_type, lift_renaming}
 use Rattle.lf.specs.Substitution.{Image, keep, lift, single, substitute, substitute_spine, substitute_type, reduce}
-use Rattle.lf.specs.SkeletonTyping.{HeadSkeletons, SkeletonAt, TermSkeleton, SpineSkeleton, TypeBySkeletons, SubstitutionBySkeletons, RenamingBySkeletons}
+use Rattle.lf.specs.SkeletonTyping.{SkeletonAt, TermSkeleton, SpineSkeleton, TypeBySkeletons, SubstitutionBySkeletons, RenamingBySkeletons}
 use Rattle.lf.specs.Skeletons.{constant_skeletons, family_skeletons, context_skeletons}
 use Rattle.lf.specs.AtOnce.{shift_by, lift_renaming_by}
 use Rattle.lf.specs.Eta.{eta_expand}
@@ -24,8 +24,8 @@ use Rattle.lf_cases.proofs.OutputItems.{lift_renumber, length_renumber, lift_aft
 use Rattle.lf_coverage.specs.Heads.{result_type}
 use Rattle.lf_coverage.proofs.Forms.{renaming_far}
 use Rattle.lf_coverage.proofs.HeadItems.{count_substituted, count_renamed}
-use Rattle.lf_coverage.proofs.Transfer.{behind_head}
 use Rattle.lf_coverage.proofs.Parts.{suc_same}
+use Rattle.lf_coverage.proofs.Transfer.{behind_head}
 use mathlib.Core.Path.{fun_ext}
 
 variable_same : (k : List Bool) (D : List LfType) (A A' : LfType) (n n' : ℕ) → skeleton A' ≡ skeleton A → n' ≡ n → raised_variable k D A' n' ≡ raised_variable k D A n
@@ -82,12 +82,6 @@ variable_under k D B φ m = ap (λ f. substitute reduce f (raised_variable k D B
     none m = omega arith
 
 module _ (Σ : Signature) where
-  abbrev κ : HeadSkeletons
-  κ = constant_skeletons Σ
-
-  abbrev φκ : ℕ → Option Skeleton
-  φκ = family_skeletons Σ
-
   -- over one more item
   item_fits : (D X : List LfType) (Y : LfType) → RenamingBySkeletons (context_skeletons (onto D X)) (context_skeletons (onto (renumber suc D) (Y ∷ X))) (over_item D)
   item_fits [] X Y i t g = g

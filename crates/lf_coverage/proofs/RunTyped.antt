@@ -14,7 +14,7 @@ use Rattle.lf_cases.specs.Reached.{goal_is_reached, split_is_reached, split_by}
 use Rattle.lf_cases.specs.Split.{HasNoBlockVariable}
 use Rattle.lf_cases.proofs.OutputItems.{lifted}
 use Rattle.lf_coverage.specs.Heads.{HaveSkeletons}
-use Rattle.lf_coverage.specs.RunLaws.{EmptyWorldHasNoBlock, ReachedHasNoBlock, InstanceIsTypedCase, NeverIsMatchedApart, NeverIsMissing}
+use Rattle.lf_coverage.specs.RunLaws.{EmptyWorldHasNoBlock, ReachedHasNoBlock, InstanceIsTypedCase, NeverIsMissing}
 use Rattle.lf_coverage.proofs.HeadSplit.{put_in_fits}
 use Rattle.lf_coverage.proofs.InstancesCompose.{instance_is_typed, instance_by_skeletons, reached_is_instance}
 use Rattle.lf_coverage.proofs.ItemsContext.{items_are_context, instance_context}
@@ -48,9 +48,6 @@ instance_is_typed_case Σ ok W typed C D tc tl n i =
       },
       subst (λ M. IsContext Σ (onto M P)) (sym i.same_local) (instance_context Σ ok C.local O P σ cp ts tl).0,
     )
-
-pub never_is_matched_apart : NeverIsMatchedApart
-never_is_matched_apart Σ ok W typed C n p tp ic t K e never = never_is_apart_beside Σ ok W typed C n p tp ic t K e never
 
 pub never_is_missing : NeverIsMissing
 never_is_missing Σ ok below ps goal tg tl each D r K e never =

@@ -1,8 +1,8 @@
 -- An entry of a context belongs to one instance; so it is found whether a block variable of a case stands for that instance.
 use Rattle.std.proofs.Common.{◌≡◌, ℕ, zero, suc, List, [], ◌∷◌, ◌+◌, length, inl, inr, refl, sym, ap, ◌∙◌, subst, arith}
 use Rattle.std.specs.Prelude.{Bool, true, false, ◌⊎◌}
-use Rattle.lf.specs.Syntax.{LfType, Term, weaken}
-use Rattle.lf.specs.Substitution.{Image, keep, put, rename_image, lift}
+use Rattle.lf.specs.Syntax.{LfType, weaken}
+use Rattle.lf.specs.Substitution.{Image, keep, put, rename_image}
 use Rattle.lf.specs.Typing.{Signature, TypeAt}
 use Rattle.lf.specs.Variables.{onto}
 use Rattle.lf.specs.Subordination.{Block}
@@ -28,9 +28,6 @@ suc_same e f = omega arith
 
 not_zero : {m : ℕ} → suc m ≡ zero → ⊥
 not_zero e = omega arith
-
-moved : (ℕ → Image) → ℕ → Image
-moved θ i = rename_image suc (θ i)
 
 module _ (Σ : Signature) where
   -- both are variables before the newest one, the same

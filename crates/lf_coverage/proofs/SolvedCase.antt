@@ -1,11 +1,11 @@
 -- What unification solves gives a case that keeps the instances, and what it never solves gives none.
 use Rattle.std.proofs.Common.{◌≡◌, ℕ, zero, suc, List, [], ◌∷◌, ◌+◌, length, inl, refl, sym, ap, ◌∙◌, subst, arith}
-use Rattle.std.specs.Prelude.{Bool, true, false, Option, Some, None}
+use Rattle.std.specs.Prelude.{Bool, true, Option, Some, None}
 use Rattle.lf.specs.Syntax.{Head, Term, LfType, Kind, pi, atom, Skeleton, skeleton, weaken, rename, rename_type, lift_renaming}
 use Rattle.lf.specs.Substitution.{Image, put, rename_image, substitute, substitute_type, substitute_image, reduce}
 use Rattle.lf.specs.SkeletonTyping.{ImageSkeleton, TermSkeleton, SubstitutionBySkeletons}
 use Rattle.lf.specs.Skeletons.{constant_skeletons, family_skeletons, context_skeletons}
-use Rattle.lf.specs.AtOnce.{in_front, shift_by}
+use Rattle.lf.specs.AtOnce.{shift_by}
 use Rattle.lf.specs.Typing.{Signature, TypeAt, HasType, ImageHasType, IsType, IsContext, IsSignature, instantiate_type}
 use Rattle.lf.specs.Variables.{onto}
 use Rattle.lf.specs.Subordination.{Block, AreTypedBlocks, SelfContained}
@@ -44,11 +44,12 @@ use Rattle.lf_coverage.proofs.HeadTerm.{taken_length}
 use Rattle.lf_coverage.proofs.ItemsContext.{items_are_context}
 use Rattle.lf_coverage.proofs.NewBlock.{block_typed, moved_at}
 use Rattle.lf_coverage.proofs.OpenTerms.{AllStand, FitsImage, fill_open_type}
+use Rattle.lf_coverage.proofs.Parts.{some_same, suc_same}
 use Rattle.lf_coverage.proofs.ResultType.{next_count}
-use Rattle.lf_coverage.proofs.SomeHead.{free_value, entry_value}
+use Rattle.lf_coverage.proofs.SomeHead.{free_value}
 use Rattle.lf_coverage.proofs.StoreSolution.{looked_up, skeleton_open, filling, filling_is, types_in, value_back, context, makes_solution}
 use Rattle.lf_coverage.proofs.Strip.{strip, out_of, into, term_back}
-use Rattle.lf_coverage.proofs.Parts.{some_same, suc_same}
+use Rattle.lf_coverage.proofs.WritingRoots.{front_is as in_front_is}
 use mathlib.Core.Path.{fun_ext}
 
 -- Items that are free variables.
@@ -79,13 +80,6 @@ pub heads_without : (ks : List (List Bool)) (n : ℕ) (D : List LfType) (A : LfT
 heads_without ks zero D A I h = h
 heads_without ks (suc n) D (atom a S) I h = h
 heads_without ks (suc n) D (pi A B) I h = heads_without (other_masks ks) n (renumber suc D) (instantiate_type A (raised_variable (first_mask ks) D A zero) (rename_type (lift_renaming (over_item D)) B)) (free_variable (raise_by (first_mask ks) D A) ∷ I) h
-
-in_front_is : (σ : ℕ → Image) (x : Image) → σ zero ≡ x → σ ≡ in_front x (λ i. σ (suc i))
-in_front_is σ x e = fun_ext by
-  where
-    by : (i : ℕ) → σ i ≡ in_front x (λ j. σ (suc j)) i
-    by zero = e
-    by (suc i) = refl
 
 -- Typed values of free variables are a typed instance; and a ground instance.
 pub typed_instance : (Σ : Signature) (J I : List Item) → HasNoBlockVariable I → (σ : ℕ → Image) → ((i : ℕ) (A : LfType) → TypeAt (items_context I) i A → (N : Term) × (σ i ≡ put (skeleton A) N) × HasType Σ (items_context J) N (substitute_type reduce σ A)) → IsTypedInstance Σ J I σ
@@ -144,17 +138,6 @@ behind_types ks D (suc n) (pi A B) I e i X g =
   where
     next : (i n : ℕ) → suc i + n ≡ i + suc n
     next i n = omega arith
-
--- what a typed instance gives a free variable
-typed_free_value : (Σ : Signature) (J I : List Item) (σ : ℕ → Image) → IsTypedInstance Σ J I σ → (x : ℕ) (X : LfType) → TypeAt (items_context I) x X → free_among I x ≡ true → (N : Term) × (σ x ≡ put (skeleton X) N)
-typed_free_value Σ J [] σ g x X t f = absurd t
-typed_free_value Σ J (free_variable A ∷ I) σ (N, τ, g, n, e) zero X t f = (N, ap (λ z. z zero) e ∙ ap (λ a. put a N) (sym (ap skeleton t ∙ skeleton_renamed suc A)))
-typed_free_value Σ J (free_variable A ∷ I) σ (N, τ, g, n, e) (suc x) X (Y, t, q) f = let (M, p) = typed_free_value Σ J I τ g x Y t f in (M, ap (λ z. z (suc x)) e ∙ p ∙ ap (λ a. put a M) (sym (ap skeleton q ∙ skeleton_renamed suc Y)))
-typed_free_value Σ J (block_variable B υ ∷ I) σ (θ, τ, g, i, s, e) x X t f = let (N, p) = entry_value τ υ I (λ y Y u v. typed_free_value Σ J I τ g y Y u v) B.entries θ x X t f in (N, ap (λ z. z x) e ∙ p)
-
-either_value : (b : Bool) (x y : Image) → (b ≡ true → x ≡ y) → (b ≡ false → x ≡ y) → x ≡ y
-either_value true x y f g = f refl
-either_value false x y f g = g refl
 
 module _ (Σ : Signature) (ok : IsSignature Σ) (W : List Block) (typed : AreTypedBlocks Σ W) (below : ℕ → ℕ → Bool) (S : ℕ → Bool) (sc : SelfContained Σ W S) (I : List Item) (ti : AreTypedItems Σ W I) (x : ℕ) (X : LfType) (at : TypeAt (items_context I) x X) (J : List Item) (n : ℕ) (h : Head) (A : LfType) (K : Kind) (sh : SplitHead Σ W I X J n h A) (aj : AreTypedItems Σ W (split_items below X J n A)) (fam : AllFamiliesIn S (items_context (split_items below X J n A))) where
   abbrev P : List Item

@@ -1,7 +1,7 @@
 -- A typed unifier of the store of a typed case and a constant's clause is a typed instance that both have in common.
 use Rattle.std.proofs.Common.{◌≡◌, ℕ, zero, suc, ◌+◌, ◌⊎◌, List, [], ◌∷◌, length, inl, inr, refl, sym, ap, ap₂, ◌∙◌, subst}
 use Rattle.std.specs.Prelude.{Bool, true, false, Option, Some, None}
-use Rattle.lf.specs.Syntax.{constant, variable, Term, Spine, root, nil, app, LfType, Kind, kind_pi, star, Skeleton, base, arrow, skeleton, kind_skeleton, rename, rename_spine, rename_type}
+use Rattle.lf.specs.Syntax.{constant, Term, Spine, root, nil, app, LfType, Kind, kind_pi, star, Skeleton, base, arrow, skeleton, kind_skeleton, rename, rename_spine, rename_type}
 use Rattle.lf.specs.Substitution.{Image, put, single, substitute, substitute_spine, substitute_type, substitute_image, after, reduce}
 use Rattle.lf.specs.SkeletonTyping.{SkeletonAt, TermSkeleton, SpineSkeleton, RenamingBySkeletons}
 use Rattle.lf.specs.Skeletons.{constant_skeletons, context_skeletons}

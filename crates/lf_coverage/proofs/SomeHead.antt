@@ -41,19 +41,19 @@ use Rattle.lf_cases.proofs.Heads.{head_known}
 use Rattle.lf_cases.proofs.Local.{binders_substituted}
 use Rattle.lf_totality.proofs.RaisedOutputs.{binders_over}
 use Rattle.lf_cases.proofs.OutputItems.{Follows, length_instance, lift_over_far}
+use Rattle.lf_cases.proofs.Instances.{place_among}
 use Rattle.lf_coverage.specs.Heads.{ArgumentsAreBelow, MakesHead, result_type, term_type}
-use Rattle.lf_coverage.proofs.GroundSkeletons.{ground_fits}
-use Rattle.lf_coverage.proofs.ResultType.{result_is}
 use Rattle.lf_coverage.proofs.Forms.{form, lambdas_substituted, lift_over_near, renaming_near, renaming_far, local_type, local_has_type, no_shift_type, far_type, far_substituted, lift_same, as_pis, pis_substituted}
+use Rattle.lf_coverage.proofs.GroundSkeletons.{ground_fits}
 use Rattle.lf_coverage.proofs.GroundTyped.{ground_typed, items_extended}
 use Rattle.lf_coverage.proofs.HeadItems.{type_kind, outputs, count_substituted}
 use Rattle.lf_coverage.proofs.HeadRaised.{below_substituted, AllTypesIn, context_types, families_within, local_types, part, part_itself, part_low, spine_low}
 use Rattle.lf_coverage.proofs.ItemsContext.{items_are_context}
 use Rattle.lf_coverage.proofs.NewBlock.{block_typed, moved_at, front_long, block_values, block_on, block_keeps}
 use Rattle.lf_coverage.proofs.Offered.{offered}
-use Rattle.lf_coverage.proofs.SameInstance.{entry_or_new, entry_has_type, front_entry}
-use Rattle.lf_cases.proofs.Instances.{place_among}
 use Rattle.lf_coverage.proofs.Parts.{some_same}
+use Rattle.lf_coverage.proofs.ResultType.{result_is}
+use Rattle.lf_coverage.proofs.SameInstance.{entry_or_new, entry_has_type, front_entry}
 use mathlib.Core.Path.{fun_ext}
 
 -- what the entries leave free has its value

@@ -13,8 +13,8 @@ use Rattle.lf_cases.specs.Raised.{raise_by, first_mask, other_masks}
 use Rattle.lf_cases.specs.Reached.{arguments_count, head_masks, head_items, items_onto, with_block, taken, SplitHead, constant_head, bound_head, entry_head, new_entry_head, split_items, split_by}
 use Rattle.lf_coverage.specs.Laws.{SplitCaseIsInstance}
 use Rattle.lf_coverage.proofs.HeadItems.{count_substituted, count_renamed}
-use Rattle.lf_coverage.proofs.SameInstance.{front_behind}
 use Rattle.lf_coverage.proofs.Parts.{suc_same}
+use Rattle.lf_coverage.proofs.SameInstance.{front_behind}
 use mathlib.Core.Path.{fun_ext}
 
 none : (i : ℕ) → i ≡ i + 0

@@ -53,15 +53,15 @@ module _ {Σ : Signature} {W : List Block} {S : ℕ → Bool} {G : List LfType} 
       (χ, j, λ k X t. h k X t ∙ ap (as_term (skeleton X)) (sym (ap₂ (λ (s : ℕ → Image) (f : ℕ → Image). substitute_image s (f k)) e q ∙ past_shift C.entries φ τ (ψ k))))
 
 -- Before an entry.
-abbrev entry_index : List LfType → ℕ → ℕ
+abbrev pub entry_index : List LfType → ℕ → ℕ
 entry_index [] k = suc k
 entry_index (D ∷ ds) k = suc (entry_index ds k)
 
-before_is : (later : List LfType) (θ : ℕ → Image) (k : ℕ) → before later θ k ≡ θ (entry_index later k)
+pub before_is : (later : List LfType) (θ : ℕ → Image) (k : ℕ) → before later θ k ≡ θ (entry_index later k)
 before_is [] θ k = refl
 before_is (D ∷ ds) θ k = before_is ds (λ i. θ (suc i)) k
 
-index_type : (later : List LfType) (E : LfType) (C : List LfType) (k : ℕ) (X : LfType) → TypeAt C k X → (Y : LfType) × TypeAt (onto later (E ∷ C)) (entry_index later k) Y × (skeleton Y ≡ skeleton X)
+pub index_type : (later : List LfType) (E : LfType) (C : List LfType) (k : ℕ) (X : LfType) → TypeAt C k X → (Y : LfType) × TypeAt (onto later (E ∷ C)) (entry_index later k) Y × (skeleton Y ≡ skeleton X)
 index_type [] E C k X g = (weaken X, (X, g, refl), skeleton_renamed suc X)
 index_type (D ∷ ds) E C k X g = let (Y, h, e) = index_type ds E C k X g in (weaken Y, (Y, h, refl), skeleton_renamed suc Y ∙ e)
 

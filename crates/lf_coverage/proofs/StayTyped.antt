@@ -3,7 +3,7 @@ use Rattle.std.proofs.Common.{◌≡◌, ℕ, zero, suc, ◌+◌, List, [], ◌�
 use Rattle.std.specs.Prelude.{Bool, Option, Some, None, ◌⊎◌}
 use Rattle.lf.specs.Syntax.{Term, Spine, nil, app, LfType, Kind, kind_pi, star, Skeleton, base, skeleton, kind_skeleton, rename_type}
 use Rattle.lf.specs.Substitution.{Image, keep, put, single, substitute, substitute_spine, substitute_type, substitute_kind, substitute_image, after, lift, reduce}
-use Rattle.lf.specs.SkeletonTyping.{HeadSkeletons, TermSkeleton, SpineSkeleton, KindBySkeletons, SubstitutionBySkeletons}
+use Rattle.lf.specs.SkeletonTyping.{TermSkeleton, SpineSkeleton, KindBySkeletons, SubstitutionBySkeletons}
 use Rattle.lf.specs.Skeletons.{constant_skeletons, family_skeletons, context_skeletons}
 use Rattle.lf.specs.AtOnce.{shift_by}
 use Rattle.lf.specs.Typing.{Signature, TypeAt, IsType, IsKind, IsContext, IsSignature, IsTypedSubstitution, ImageHasType, instantiate_kind}
@@ -16,7 +16,6 @@ use Rattle.lf.proofs.Patch.{patch, patch_same, patched}
 use Rattle.lf.proofs.Closed.{Agree, Agree-lift, agree_type, closed_kind_substituted}
 use Rattle.lf.proofs.Composition.{substitutions_compose_spine}
 use Rattle.lf.proofs.SkeletonTypes.{substitute_single_kind, single_kind_by_skeletons, substitutions_compose_type}
-use Rattle.lf.proofs.SkeletonTyping.{substitution_keeps_skeletons}
 use Rattle.lf.proofs.Substitution.{TypedSubstitution, skeleton_context_of, typed_substitution_by_skeletons, lifted_substitution_typed, substitution_keeps_typing, substitution_keeps_types, family_kind}
 use Rattle.lf.proofs.ToSkeletons.{skeleton_has_variable, typed_has_skeleton, type_by_skeletons, kind_by_skeletons, kind_skeleton_substituted, kind_spine_has_skeleton}
 use Rattle.lf.proofs.TypeLaws.{skeleton_substituted, substitute_renamed_type, substitution_as_renaming_type}
@@ -93,9 +92,6 @@ module _ (Σ : Signature) (ok : IsSignature Σ) (W : List Block) (typed : AreTyp
 
   abbrev m : ℕ
   m = length (items_context D.items)
-
-  abbrev κ : HeadSkeletons
-  κ = constant_skeletons Σ
 
   -- the values of the items, and the clause's variables moved past the new ones
   abbrev τ : ℕ → Image

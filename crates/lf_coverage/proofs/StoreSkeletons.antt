@@ -35,9 +35,9 @@ use Rattle.lf_coverage.proofs.GivenValues.{far_renames, local_renames}
 use Rattle.lf_coverage.proofs.MeetReady.{arguments_fit, joint_context, local_typed}
 use Rattle.lf_coverage.proofs.OpenSkeletons.{kind_opened_by, spine_opened_by, type_opened_by}
 use Rattle.lf_coverage.proofs.OpenTyped.{family_open}
+use Rattle.lf_coverage.proofs.Parts.{some_same}
 use Rattle.lf_coverage.proofs.SplitReady.{cc0, context_under, first_fits, lengths, tx}
 use Rattle.lf_coverage.proofs.StoreSolution.{found_type, looked_up, skeleton_open}
-use Rattle.lf_coverage.proofs.Parts.{some_same}
 
 module _ (Σ : Signature) (Ψ : ℕ → Option LfType) where
   both_have : (es fs : List Equation) → TypesHaveSkeletons Σ Ψ es → TypesHaveSkeletons Σ Ψ fs → TypesHaveSkeletons Σ Ψ (followed es fs)

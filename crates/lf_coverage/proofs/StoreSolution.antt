@@ -42,7 +42,7 @@ use Rattle.lf_coverage.proofs.HeadTerm.{term_fits, head_target, taken_length}
 use Rattle.lf_coverage.proofs.ItemsContext.{items_are_context}
 use Rattle.lf_coverage.proofs.OpenTerms.{AllStand, FitsImage, fill_open, fill_open_type}
 use Rattle.lf_coverage.proofs.ResultType.{result_atom, result_by_skeletons}
-use Rattle.lf_coverage.proofs.Transfer.{term_more}
+use Rattle.lf_coverage.proofs.MoreConstants.{term_more}
 use Rattle.lf_coverage.proofs.Strip.{strip, out_of, into, stripped, term_stripped}
 use Rattle.lf_coverage.proofs.Parts.{none_some, some_same}
 
@@ -121,12 +121,6 @@ value_of ρ (Some A) x = Some (rename ρ (as_term (skeleton A) x))
 module _ (Σ : Signature) (ok : IsSignature Σ) (W : List Block) (typed : AreTypedBlocks Σ W) (S : ℕ → Bool) (sc : SelfContained Σ W S) (J : List Item) (aj : AreTypedItems Σ W J) (fam : AllFamiliesIn S (items_context J)) (Σ' : Signature) (x : Extends S Σ Σ') (G : List LfType) (w : World Σ' W S G) (τ : ℕ → Image) (g : IsGroundInstance w J τ) where
   abbrev pub C : List LfType
   C = items_context J
-
-  abbrev pub F : List LfType
-  F = strip S G
-
-  abbrev pub out : ℕ → ℕ
-  out = out_of S G
 
   -- the filling, and the images in the smaller context
   abbrev pub filling : ℕ → Option Term
@@ -213,7 +207,7 @@ module _ (Σ : Signature) (ok : IsSignature Σ) (W : List Block) (typed : AreTyp
 
 -- skeletons in the extension
 more : (Σ Σ' : Signature) (S : ℕ → Bool) (x : Extends S Σ Σ') (Γ : List Skeleton) (M : Term) (t : Skeleton) → TermSkeleton (constant_skeletons Σ) Γ M t → TermSkeleton (constant_skeletons Σ') Γ M t
-more Σ Σ' S x Γ M t m = term_more S Σ Σ' x Γ M t m
+more Σ Σ' S x Γ M t m = term_more Σ Σ' x.types_stay Γ M t m
 
 -- the local context of a moved type has the same skeletons
 taken_skeletons : (ρ ν : ℕ → ℕ) (X : LfType) (C : List LfType) → context_skeletons (onto (taken (rename_type ρ X)) C) ≡ context_skeletons (onto (taken (rename_type ν X)) C)

@@ -3,7 +3,7 @@
 use Rattle.std.proofs.Common.{◌≡◌, ℕ, zero, suc, List, [], ◌∷◌, refl, sym, ap, ◌∙◌, subst, true≢false}
 use Rattle.std.specs.Prelude.{Bool, true, false, cond}
 use Rattle.lf.specs.Syntax.{Term, Spine, nil, app, LfType, Kind, pi, atom, kind_pi, star, skeleton, weaken, rename, rename_spine, rename_type, rename_kind, lift_renaming}
-use Rattle.lf.specs.Substitution.{keep, single, substitute, substitute_type, substitute_kind, reduce}
+use Rattle.lf.specs.Substitution.{keep, single, substitute_kind, reduce}
 use Rattle.lf.specs.Typing.{Signature, TypeAt, HasType, SpineFitsKind, IsType, IsContext, IsSignature, IsTypedRenaming, instantiate_kind}
 use Rattle.lf.specs.Variables.{target, FamiliesIn, KindFamiliesIn, under, Uses, UsesSpine, UsesType, IsTypedRenamingOn}
 use Rattle.lf.specs.Subordination.{Block, SelfContained}
@@ -20,7 +20,6 @@ use Rattle.lf.proofs.TypeLaws.{renamings_compose_type, rename_weakened, rename_s
 use Rattle.lf.proofs.Weakening.{renaming_keeps_typing}
 use Rattle.lf_cases.specs.Case.{past_place}
 use Rattle.lf_coverage.proofs.Parts.{some_same}
-use mathlib.Core.Path.{fun_ext}
 
 -- the variables whose families are in the set
 abbrev pub in_set : (ℕ → Bool) → List LfType → ℕ → Bool
@@ -42,18 +41,6 @@ abbrev pub strip : (ℕ → Bool) → List LfType → List LfType
 strip S [] = []
 strip S (A ∷ G) = cond (S (target A)) (rename_type (out_of S G) A ∷ strip S G) (strip S G)
 
-pub out_into : (S : ℕ → Bool) (G : List LfType) (j : ℕ) → out_of S G (into S G j) ≡ j
-out_into S [] j = refl
-out_into S (A ∷ G) j = by (λ k. out_into S G k) (S (target A)) j
-  where
-    kept : ((k : ℕ) → out_of S G (into S G k) ≡ k) → (j : ℕ) → lift_renaming (out_of S G) (lift_renaming (into S G) j) ≡ j
-    kept h zero = refl
-    kept h (suc j) = ap suc (h j)
-
-    by : ((k : ℕ) → out_of S G (into S G k) ≡ k) → (b : Bool) (j : ℕ) → cond b (lift_renaming (out_of S G)) (past_place (out_of S G)) (cond b (lift_renaming (into S G)) (λ i. suc (into S G i)) j) ≡ j
-    by h true j = kept h j
-    by h false j = h j
-
 pub into_out : (S : ℕ → Bool) (G : List LfType) (i : ℕ) → in_set S G i ≡ true → into S G (out_of S G i) ≡ i
 into_out S [] i e = absurd (true≢false (sym e))
 into_out S (A ∷ G) i e = by (S (target A)) refl i e (λ k. into_out S G k)
@@ -70,9 +57,6 @@ renamed_back S G M u = renamings_compose (into S G) (out_of S G) M ∙ sym (subs
 
 renamed_back_type : (S : ℕ → Bool) (G : List LfType) (A : LfType) → UsesType (in_set S G) A → rename_type (into S G) (rename_type (out_of S G) A) ≡ A
 renamed_back_type S G A u = renamings_compose_type (into S G) (out_of S G) A ∙ sym (substitution_as_renaming_type reduce (λ i. into S G (out_of S G i)) A) ∙ agree_on_type reduce (in_set S G) (λ i. keep (into S G (out_of S G i))) keep A (λ i e. ap keep (into_out S G i e)) u ∙ substitute_identity_type reduce A
-
-pub renamed_out : (S : ℕ → Bool) (G : List LfType) (M : Term) → rename (out_of S G) (rename (into S G) M) ≡ M
-renamed_out S G M = renamings_compose (out_of S G) (into S G) M ∙ ap (λ ρ. rename ρ M) (fun_ext (out_into S G)) ∙ sym (substitution_as_renaming reduce (λ i. i) M) ∙ substitute_identity reduce M
 
 -- the variables of the set keep their types
 pub out_typed : (S : ℕ → Bool) (G : List LfType) → IsTypedRenamingOn (in_set S G) G (strip S G) (out_of S G)

@@ -22,8 +22,9 @@ use Rattle.lf_coverage.specs.MeetStore.{IsConstants, IsOpen}
 use Rattle.lf_coverage.specs.Stuck.{AreHeadsBeside, ComesAsInstance, FirstSplitsReach, HeadsAreOfStrategy, InputRunIsNeverStuck, InputRunIsStrategys, InputRunProceeds, IsAnswered, IsStrategyCase, IsStrategyHead, Proceeds, SharesNone}
 use Rattle.lf_coverage.specs.SubordinateRuns.{ComesBy, comes_by_split, comes_itself}
 use Rattle.lf_coverage.specs.TypedCase.{IsTypedBeside}
-use Rattle.lf_coverage.specs.UnifiedSplit.{HeadIsSolved, IsAnsweredSplit, AnswersEachHead}
-use Rattle.lf_coverage.proofs.HeadSplit.{head_of_case, places_put_in}
+use Rattle.lf_coverage.specs.UnifiedSplit.{HeadIsAnswered, IsAnsweredSplit, AnswersEachHead}
+use Rattle.lf_coverage.proofs.HeadSplit.{places_put_in}
+use Rattle.lf_coverage.proofs.Listed.{offer_of_case}
 use Rattle.lf_coverage.proofs.InstancesCompose.{instances_compose, reached_is_instance}
 use Rattle.lf_coverage.proofs.Leaves.{head_is_typed}
 use Rattle.lf_coverage.proofs.RunTyped.{empty_world_has_no_block, instance_is_typed_case}
@@ -41,9 +42,9 @@ none_there Σ W I X _ _ _ A (new_entry_head B j E b l g t) n = absurd n
 
 -- a case that an answered split gives is one that the split by a head gives
 split_case : (Σ : Signature) → IsSignature Σ → (W : List Block) → AreTypedBlocks Σ W → (below : ℕ → ℕ → Bool) (C : Case) → IsTypedCase Σ W C → (x : ℕ) (Cs : List Case) → IsAnsweredSplit Σ W below C x Cs → (D : Case) → Member D Cs → HasNoBlockVariable C.items × IsSplitCase Σ W below C x D
-split_case Σ ok W typed below C tc x Cs sp D l = let (h, k, a) = head_of_case sp.listed D l in by h (sp.are_offers.each h k) a
+split_case Σ ok W typed below C tc x Cs sp D l = let (h, k, a) = offer_of_case sp.listed D l in by h (sp.are_offers.each h k) a
   where
-    by : (h : Offer) → SplitHead Σ W C.items sp.type h.items h.moved h.head h.type → HeadIsSolved Σ below C x sp.type h (Some D) → HasNoBlockVariable C.items × IsSplitCase Σ W below C x D
+    by : (h : Offer) → SplitHead Σ W C.items sp.type h.items h.moved h.head h.type → HeadIsAnswered Σ below C x sp.type h (Some D) → HasNoBlockVariable C.items × IsSplitCase Σ W below C x D
     by h sh a =
         let (after, s, e) = a.finds in
         (none_there Σ W C.items sp.type h.items h.moved h.head h.type sh a.no_block, split_by sp.type sp.at sh (subst (IsSplitBy Σ W below C x sp.type h.items h.moved h.head h.type) (sym e) (solved_is_split Σ ok W typed below C tc x sp.type sp.at h.items h.moved h.head h.type sh a.no_block a.kind after s)))
@@ -67,7 +68,7 @@ first_splits_reach Σ ok below ps goal tg tl D (comes_by_split {C = C} Cs r (n, 
     (split_is_reached x q n f s, comes_by_split Cs c (x, sp) l)
 
 -- what the goal of inputs has is what is chosen
-goal_places : (V : ℕ → Bool) (b : List Bool) (K : Kind) → MentionChosenOnly V b K → covered_places (goal_arguments b K) ≡ b
+pub goal_places : (V : ℕ → Bool) (b : List Bool) (K : Kind) → MentionChosenOnly V b K → covered_places (goal_arguments b K) ≡ b
 goal_places V [] star s = refl
 goal_places V [] (kind_pi A K) s = absurd s
 goal_places V (b ∷ m) star s = absurd s

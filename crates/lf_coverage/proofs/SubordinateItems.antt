@@ -23,19 +23,19 @@ use Rattle.lf_coverage.proofs.SubordinateRaised.{raised_quantifies_below}
 
 module _ (below : ℕ → ℕ → Bool) where
   -- kinds
-  abbrev KindIsBelow : Kind → Type 0
+  abbrev pub KindIsBelow : Kind → Type 0
   KindIsBelow (kind_pi A K) = QuantifiersAreBelow below A × KindIsBelow K
   KindIsBelow star = Unit {0}
 
-  kind_is_below : (f : ℕ) (K : Kind) → ((a b : ℕ) → KindQuantifies f a b K → below b a ≡ true) → KindIsBelow K
+  pub kind_is_below : (f : ℕ) (K : Kind) → ((a b : ℕ) → KindQuantifies f a b K → below b a ≡ true) → KindIsBelow K
   kind_is_below f (kind_pi A K) h = (quantified below A (λ a b q. h a b (inr (inl q))), kind_is_below f K (λ a b q. h a b (inr (inr q))))
   kind_is_below f star h = tt
 
-  kind_renamed : (ρ : ℕ → ℕ) (K : Kind) → KindIsBelow K → KindIsBelow (rename_kind ρ K)
+  pub kind_renamed : (ρ : ℕ → ℕ) (K : Kind) → KindIsBelow K → KindIsBelow (rename_kind ρ K)
   kind_renamed ρ (kind_pi A K) (a, k) = (below_renamed below ρ A a, kind_renamed (lift_renaming ρ) K k)
   kind_renamed ρ star k = tt
 
-  kind_substituted : (σ : ℕ → Image) (K : Kind) → KindIsBelow K → KindIsBelow (substitute_kind reduce σ K)
+  pub kind_substituted : (σ : ℕ → Image) (K : Kind) → KindIsBelow K → KindIsBelow (substitute_kind reduce σ K)
   kind_substituted σ (kind_pi A K) (a, k) = (below_substituted below σ A a, kind_substituted (lift σ) K k)
   kind_substituted σ star k = tt
 

@@ -21,9 +21,9 @@ use Rattle.lf_cases.proofs.Subordinate.{below_is_subordination}
 use Rattle.lf_totality.proofs.After.{Extends-self}
 use Rattle.lf_coverage.specs.Subordinate.{QuantifiersAreBelow, AllQuantifiersAreBelow}
 use Rattle.lf_coverage.specs.SubordinateRuns.{OccurringIsBelow, RaisedQuantifiesBelow}
+use Rattle.lf_coverage.proofs.Choices.{either_second}
 use Rattle.lf_coverage.proofs.Strip.{type_uses}
 use Rattle.lf_coverage.proofs.Subordinate.{families_below, below_renamed, below_at}
-use Rattle.lf_coverage.proofs.Choices.{either_second}
 
 -- A variable that occurs in a type is used.
 used_type : (U : ℕ → Bool) (x : ℕ) (A : LfType) → UsesType U A → occurs_type x A ≡ true → U x ≡ true

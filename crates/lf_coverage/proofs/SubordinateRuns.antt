@@ -17,10 +17,11 @@ use Rattle.lf_coverage.specs.Heads.{ArgumentsAreBelow, IsTypedCase}
 use Rattle.lf_coverage.specs.SplitStore.{AllFamiliesIn, split_store}
 use Rattle.lf_coverage.specs.Subordinate.{AllQuantifiersAreBelow}
 use Rattle.lf_coverage.specs.SubordinateRuns.{ComesBy, comes_itself, comes_by_split, SolvedQuantifiesBelow, AnsweredSplitIsSolved, AnsweredSplitIsAnswer, RunQuantifiesBelow, InputRunQuantifiesBelow, AnsweredRunCovers, AnsweredRunCoversInputs}
-use Rattle.lf_coverage.specs.UnifiedSplit.{HeadIsSolved, IsAnsweredSplit, AnswersEachHead, IsSolvedSplit, SolvesEachHead}
+use Rattle.lf_coverage.specs.UnifiedSplit.{HeadIsAnswered, IsAnsweredSplit, AnswersEachHead, IsSolvedSplit, SolvesEachHead}
 use Rattle.lf_coverage.proofs.CasesOf.{is_unified, cases_of, solved_run_covers, solved_run_covers_inputs}
 use Rattle.lf_coverage.proofs.Everywhere.{of_families, free_has, metavariables_have, run_has}
-use Rattle.lf_coverage.proofs.HeadSplit.{answer_of, head_of_case, split_cases_typed}
+use Rattle.lf_coverage.proofs.HeadSplit.{split_cases_typed}
+use Rattle.lf_coverage.proofs.Listed.{answer_of, offer_of_case}
 use Rattle.lf_coverage.proofs.ItemsContext.{items_are_context}
 use Rattle.lf_coverage.proofs.NoCase.{families, all_declared, context_declared}
 use Rattle.lf_coverage.proofs.Runs.{other_run}
@@ -53,7 +54,7 @@ module _ (Σ : Signature) (ok : IsSignature Σ) (W : List Block) (typed : AreTyp
         o : Offer
         o = record { items = J; moved = n; head = h; type = A }
 
-        by : ((D : Case) × Member D Cs × HeadIsSolved Σ below C x sp.type o (Some D)) ⊎ HeadIsSolved Σ below C x sp.type o None → HasNoBlockVariable J
+        by : ((D : Case) × Member D Cs × HeadIsAnswered Σ below C x sp.type o (Some D)) ⊎ HeadIsAnswered Σ below C x sp.type o None → HasNoBlockVariable J
         by (inl (D, m, a)) = a.no_block
         by (inr a) = a.no_block
 
@@ -70,9 +71,9 @@ module _ (Σ : Signature) (ok : IsSignature Σ) (W : List Block) (typed : AreTyp
     answered_arguments_below = (is_solved.takes_below, is_solved.arguments_below)
 
     cases_below : (D : Case) → Member D Cs → AllQuantifiersAreBelow below (items_context D.items)
-    cases_below D m = let (h, k, a) = head_of_case sp.listed D m in by h (sp.are_offers.each h k) a
+    cases_below D m = let (h, k, a) = offer_of_case sp.listed D m in by h (sp.are_offers.each h k) a
       where
-        by : (h : Offer) → SplitHead Σ W C.items sp.type h.items h.moved h.head h.type → HeadIsSolved Σ below C x sp.type h (Some D) → AllQuantifiersAreBelow below (items_context D.items)
+        by : (h : Offer) → SplitHead Σ W C.items sp.type h.items h.moved h.head h.type → HeadIsAnswered Σ below C x sp.type h (Some D) → AllQuantifiersAreBelow below (items_context D.items)
         by h sh a =
             let (after, s, e) = a.finds in
             let G : List LfType = items_context (split_items below sp.type h.items h.moved h.type) in

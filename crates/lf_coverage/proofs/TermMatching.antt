@@ -17,13 +17,13 @@ use Rattle.lf_checks.proofs.Reach.{number_equal}
 use Rattle.lf_checks.proofs.Determined.{app_first, app_rest}
 use Rattle.lf_cases.specs.Full.{occurrences, occurrences_spine}
 use Rattle.lf_cases.specs.Candidates.{candidates, candidates_spine, counted, is_rigid}
+use Rattle.lf_coverage.specs.Matching.{without}
 use Rattle.lf_coverage.specs.TermMatching.{HasPatterns, HavePatterns, TakesBound, TakeBound, heads_argument, bound, hidden, over, Stay, TakesBack, GivesSkeletons, HasMatch, HaveMatch, TermsMatch, ArgumentsMatch}
 use Rattle.lf_coverage.proofs.Abstracted.{abstracted, abstracted_uses, abstracted_applied, skeleton_back}
 use Rattle.lf_coverage.proofs.Choices.{then_first, then_second, chosen, not_chosen, decided}
-use Rattle.lf_coverage.specs.Matching.{without}
-use Rattle.lf_coverage.proofs.UnderBound.{moved_down, hidden_is_over, lifted_keeps, lifted_value, stay_lifted, back_lifted, over_at, bound_at, pattern_here, patterns_inside, bound_here, bound_inside, root_spine, root_head, variable_same, takes_back, kept_outside, head_of_constant, stays_root, no_candidate}
 use Rattle.lf_coverage.proofs.Occurring.{other_part, at_most_first, at_most_second, sum_first, sum_second, stays}
 use Rattle.lf_coverage.proofs.Parts.{some_same, lambda_same}
+use Rattle.lf_coverage.proofs.UnderBound.{moved_down, hidden_is_over, lifted_keeps, lifted_value, stay_lifted, back_lifted, over_at, bound_at, pattern_here, patterns_inside, bound_here, bound_inside, root_spine, root_head, variable_same, takes_back, kept_outside, head_of_constant, stays_root, no_candidate}
 
 -- θ with another value for y
 abbrev with_value : ℕ → Skeleton → Term → (ℕ → Image) → ℕ → Image

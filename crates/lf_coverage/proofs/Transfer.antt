@@ -4,9 +4,9 @@ use Rattle.std.specs.Prelude.{Bool, Option, Some, None}
 use Rattle.lf.specs.Syntax.{constant, variable, metavariable, Term, Spine, lambda, root, nil, app, LfType, pi, atom, Skeleton, base, arrow, skeleton, rename_type, lift_renaming}
 use Rattle.lf.specs.Substitution.{Image, keep, put, rename_image, apply_image, lift, substitute, substitute_spine, reduce, after}
 use Rattle.lf.specs.SkeletonTyping.{HeadSkeletons, SkeletonAt, ImageSkeleton, TermSkeleton, SpineSkeleton, SubstitutionBySkeletons}
-use Rattle.lf.specs.Skeletons.{constant_skeletons, context_skeletons, type_skeleton}
+use Rattle.lf.specs.Skeletons.{constant_skeletons, context_skeletons}
 use Rattle.lf.specs.AtOnce.{in_front, shift_by}
-use Rattle.lf.specs.Typing.{Signature, TypeAt, instantiate_type}
+use Rattle.lf.specs.Typing.{Signature, instantiate_type}
 use Rattle.lf.specs.Variables.{onto}
 use Rattle.lf.specs.Subordination.{Block}
 use Rattle.lf.specs.Worlds.{lift_over, instance}
@@ -19,12 +19,12 @@ use Rattle.lf_cases.specs.Case.{Item, free_variable, block_variable, items_conte
 use Rattle.lf_cases.specs.Pattern.{given_at, HasGiven}
 use Rattle.lf_cases.specs.OutputGoal.{renumber, over_item, raised_variable}
 use Rattle.lf_cases.specs.Raised.{raise_by, first_mask, other_masks}
-use Rattle.lf_cases.specs.Missing.{AreTypedItems, BlockAmong, IsTypedInstance}
-use Rattle.lf_cases.specs.Missing.{put_in}
+use Rattle.lf_cases.specs.Missing.{AreTypedItems, BlockAmong, IsTypedInstance, put_in}
 use Rattle.lf_cases.specs.Reached.{arguments_count, head_items}
 use Rattle.lf_cases.proofs.OutputItems.{lifted, length_instance}
 use Rattle.lf_coverage.specs.Heads.{HaveSkeletons}
 use Rattle.lf_coverage.proofs.HeadItems.{count_substituted, count_renamed}
+use Rattle.lf_coverage.proofs.MoreConstants.{term_more}
 use Rattle.lf_coverage.proofs.Parts.{suc_same}
 use mathlib.Core.Path.{fun_ext}
 
@@ -160,32 +160,14 @@ behind_head ks D (suc n) (pi A B) I e i t g =
 
 -- What has a skeleton has it in each extension.
 module _ (S : ℕ → Bool) (Σ Σ' : Signature) (x : Rattle.lf.specs.Extension.Extends S Σ Σ') where
-  constant_more : (c : ℕ) (t : Skeleton) (y : Option LfType) → Σ.types c ≡ y → type_skeleton y ≡ Some t → type_skeleton (Σ'.types c) ≡ Some t
-  constant_more c t None e q = absurd cc
-  constant_more c t (Some A) e q = ap type_skeleton (x.types_stay c A e) ∙ q
-
-  mutual
-    pub term_more : (Γ : List Skeleton) (M : Term) (t : Skeleton) → TermSkeleton (constant_skeletons Σ) Γ M t → TermSkeleton (constant_skeletons Σ') Γ M t
-    term_more Γ (lambda M) (arrow a b) m = term_more (a ∷ Γ) M b m
-    term_more Γ (lambda M) (base c) m = absurd m
-    term_more Γ (root k T) (arrow a b) m = absurd m
-    term_more Γ (root (constant c) T) (base d) (t, g, s) = (t, constant_more c t (Σ.types c) refl g, spine_more Γ T t (base d) s)
-    term_more Γ (root (variable c) T) (base d) (t, g, s) = (t, g, spine_more Γ T t (base d) s)
-    term_more Γ (root (metavariable c) T) (base d) (t, g, s) = (t, g, spine_more Γ T t (base d) s)
-
-    spine_more : (Γ : List Skeleton) (T : Spine) (t u : Skeleton) → SpineSkeleton (constant_skeletons Σ) Γ T t u → SpineSkeleton (constant_skeletons Σ') Γ T t u
-    spine_more Γ nil t u s = s
-    spine_more Γ (app M T) (arrow a b) u (m, s) = (term_more Γ M a m, spine_more Γ T b u s)
-    spine_more Γ (app M T) (base c) u s = absurd s
-
   image_more : (Δ : List Skeleton) (y : Image) (t : Skeleton) → ImageSkeleton (constant_skeletons Σ) Δ y t → ImageSkeleton (constant_skeletons Σ') Δ y t
   image_more Δ (keep i) t g = g
-  image_more Δ (put a N) t (e, n) = (e, term_more Δ N a n)
+  image_more Δ (put a N) t (e, n) = (e, term_more Σ Σ' x.types_stay Δ N a n)
 
   pub fits_more : (Γ Δ : List Skeleton) (σ : ℕ → Image) → SubstitutionBySkeletons (constant_skeletons Σ) Γ Δ σ → SubstitutionBySkeletons (constant_skeletons Σ') Γ Δ σ
   fits_more Γ Δ σ s i t g = image_more Δ (σ i) t (s i t g)
 
   pub have_more : (Γ : List Skeleton) (Ms : List (Option Term)) → HaveSkeletons (constant_skeletons Σ) Γ Ms → HaveSkeletons (constant_skeletons Σ') Γ Ms
   have_more Γ [] h = tt
-  have_more Γ (Some M ∷ Ms) ((a, m), h) = ((a, term_more Γ M a m), have_more Γ Ms h)
+  have_more Γ (Some M ∷ Ms) ((a, m), h) = ((a, term_more Σ Σ' x.types_stay Γ M a m), have_more Γ Ms h)
   have_more Γ (None ∷ Ms) h = have_more Γ Ms h

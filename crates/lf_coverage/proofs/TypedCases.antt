@@ -12,7 +12,7 @@ use Rattle.lf_coverage.specs.Heads.{GivesCase}
 use Rattle.lf_coverage.specs.MeetStore.{meet_store}
 use Rattle.lf_coverage.specs.TypedCase.{IsTypedBeside}
 use Rattle.lf_coverage.specs.Laws.{SolvedIsSplit, SolvedSharesInstance, NeverIsApartBeside, MeetStoreIsReady, SplitStoreIsReady, InputGoalIsTyped, InputGoalIsTypedCase, InstanceStaysTyped, SplitCasesStayTyped, ReachedStaysTyped}
-use Rattle.lf_coverage.proofs.HeadSplit.{head_of_case}
+use Rattle.lf_coverage.proofs.Listed.{offer_of_case}
 use Rattle.lf_coverage.proofs.InputTyped.{input_goal_typed, input_goal_alone}
 use Rattle.lf_coverage.proofs.InstancesCompose.{instance_is_typed, none_before, reached_is_instance}
 use Rattle.lf_coverage.proofs.MeetReady.{meet_ready}
@@ -40,7 +40,7 @@ pub instance_stays_typed : InstanceStaysTyped
 instance_stays_typed Σ ok W typed C D p tp tb n i = stays_typed Σ ok W typed C D p tp tb i.typed_items i.values (instance_is_typed Σ ok W typed D.items C.items i.values n i.is_instance) i.same_family i.same_given i.same_local i.same_arguments
 
 pub split_cases_stay_typed : SplitCasesStayTyped
-split_cases_stay_typed Σ ok W typed below S C p tp tb n x Cs sp D l = let (h, k, a) = head_of_case sp.split.answered.listed D l in by h.items h.moved h.head h.type (sp.split.answered.are_offers.each h k) a
+split_cases_stay_typed Σ ok W typed below S C p tp tb n x Cs sp D l = let (h, k, a) = offer_of_case sp.split.answered.listed D l in by h.items h.moved h.head h.type (sp.split.answered.are_offers.each h k) a
   where
     by : (J : List Item) (m : ℕ) (h : Head) (A : LfType) → SplitHead Σ W C.items sp.split.answered.type J m h A → GivesCase Σ W S below C x sp.split.answered.type J m h A D → IsTypedBeside Σ W D p
     by J m h A sh c =

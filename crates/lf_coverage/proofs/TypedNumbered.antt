@@ -24,11 +24,12 @@ use Rattle.lf_coverage.specs.OwnTerms.{blocks_of, own_terms, weaken_own, BeginsW
 use Rattle.lf_coverage.specs.TypedLocal.{HasTypedLocal}
 use Rattle.lf_coverage.specs.TypedNumbered.{own_over, LocalOnOwnTerms, IsTypedNumberedCase, NumberedCaseIsTyped}
 use Rattle.lf_coverage.proofs.EntrySignature.{grown_contexts, with_entries_is_signature, entries_kept}
+use Rattle.lf_coverage.proofs.MoreConstants.{term_more}
 use Rattle.lf_coverage.proofs.NumberedArguments.{constant_is_old}
-use Rattle.lf_coverage.proofs.NumberedTyped.{IsTypedNumbering, typed_numbering, numbered_is_typed, among_worlds, old_own, put_old_type}
+use Rattle.lf_coverage.proofs.NumberedTyped.{typed_numbering, numbered_is_typed, put_old_type}
+use Rattle.lf_coverage.proofs.NumberedTypedFree.{IsTypedNumbering, among_worlds, old_own}
 use Rattle.lf_coverage.proofs.OwnTerms.{RedOwn, image_under, plug_own, reduce_own}
 use Rattle.lf_coverage.proofs.Reading.{IsOld}
-use Rattle.lf_coverage.proofs.Transfer.{term_more}
 
 -- Own terms under a local context
 own_over_none : (D : List LfType) (o : ℕ → Option Spine) (c : ℕ) → o c ≡ None → own_over D o c ≡ None
@@ -93,7 +94,7 @@ module _ (Σ : Signature) (ok : IsSignature Σ) (W : List Block) (typed : AreTyp
 
   put_all : (Γ Δ : List Skeleton) (σ : ℕ → Image) → SubstitutionBySkeletons (constant_skeletons Σ₁) Γ Δ σ → (Ms : List (Option Term)) → HaveSkeletons (constant_skeletons Σ) Γ Ms → HaveSkeletons (constant_skeletons Σ₁) Δ (put_in σ Ms)
   put_all Γ Δ σ s [] h = tt
-  put_all Γ Δ σ s (Some M ∷ Ms) ((t, m), h) = ((t, substitution_keeps_skeletons (constant_skeletons Σ₁) Γ Δ σ M t s (term_more nothing Σ Σ₁ extends Γ M t m)), put_all Γ Δ σ s Ms h)
+  put_all Γ Δ σ s (Some M ∷ Ms) ((t, m), h) = ((t, substitution_keeps_skeletons (constant_skeletons Σ₁) Γ Δ σ M t s (term_more Σ Σ₁ extends.types_stay Γ M t m)), put_all Γ Δ σ s Ms h)
   put_all Γ Δ σ s (None ∷ Ms) h = put_all Γ Δ σ s Ms h
 
   -- the local context

@@ -1,7 +1,6 @@
 -- A value that on distinct bound variables is a typed term is typed.
 use Rattle.std.proofs.Common.{◌≡◌, ℕ, zero, suc, List, [], ◌∷◌, length, refl, sym, ap, ◌∙◌, subst, true≢false}
 use Rattle.std.specs.Prelude.{Bool, true, false, not, Option, Some}
-use mathlib.Core.Path.{fun_ext}
 use Rattle.lf.specs.Syntax.{variable, Term, Spine, lambda, root, nil, app, LfType, pi, atom, Skeleton, arrow, skeleton, lift_renaming, rename, rename_type, weaken}
 use Rattle.lf.specs.Substitution.{single, substitute, reduce}
 use Rattle.lf.specs.SkeletonTyping.{SkeletonAt, TermSkeleton, RenamingBySkeletons}
@@ -24,12 +23,13 @@ use Rattle.lf_unification.proofs.RenamingBack.{Back, HasType-unrename}
 use Rattle.lf_checks.specs.Tests.{both, either, is_in}
 use Rattle.lf_checks.specs.Strict.{head_variable, is_bound, pattern_arguments, with_seen, eta_at}
 use Rattle.lf_checks.proofs.EtaTest.{both_l, both_r}
-use Rattle.lf_coverage.specs.TermMatching.{bound, over}
 use Rattle.lf_coverage.specs.FullMatching.{PatternValuesAreTyped}
-use Rattle.lf_coverage.proofs.StrictHeads.{not_bound}
+use Rattle.lf_coverage.specs.TermMatching.{bound, over}
 use Rattle.lf_coverage.proofs.Choices.{either_second, not_true}
-use Rattle.lf_coverage.proofs.Parts.{suc_same}
 use Rattle.lf_coverage.proofs.EtaArguments.{bound_argument, argument_renames, argument_renames_type}
+use Rattle.lf_coverage.proofs.Parts.{suc_same}
+use Rattle.lf_coverage.proofs.StrictHeads.{not_bound}
+use mathlib.Core.Path.{fun_ext}
 
 by_skeletons : (G' G : List LfType) (ρ : ℕ → ℕ) → IsTypedRenaming G' G ρ → RenamingBySkeletons (context_skeletons G') (context_skeletons G) ρ
 by_skeletons G' G ρ r i t g =

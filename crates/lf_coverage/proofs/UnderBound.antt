@@ -6,10 +6,9 @@ use Rattle.lf.specs.Substitution.{Image, keep, put, rename_image, apply_image, r
 use Rattle.lf.specs.AtOnce.{lift_by}
 use Rattle.lf.specs.SkeletonTyping.{SkeletonAt}
 use Rattle.lf.specs.Variables.{Uses, SameOn}
-use Rattle.lf.proofs.Renaming.{renamings_compose}
+use Rattle.lf.proofs.Renaming.{renamings_compose, substitute_identity}
 use Rattle.lf.proofs.AtOnce.{rename_identity}
 use Rattle.lf.proofs.TypeLaws.{substitution_as_renaming}
-use Rattle.lf.proofs.Renaming.{substitute_identity}
 use Rattle.lf.proofs.Agreement.{agree_on}
 use Rattle.lf_checks.specs.Tests.{either}
 use Rattle.lf_checks.specs.Strict.{lower, pattern_arguments}

@@ -1,24 +1,21 @@
 -- In a context of worlds what stands behind an entry of an instance mentions older variables than the entry alone. And terms on own terms where the
 -- constants of a term have none.
-use Rattle.std.proofs.Common.{◌≡◌, ℕ, zero, suc, List, [], ◌∷◌, Option, Some, None, inl, inr, refl, sym, ap, ◌∙◌, subst, arith}
+use Rattle.std.proofs.Common.{◌≡◌, ℕ, zero, suc, List, [], ◌∷◌, Option, None, inl, inr, refl, sym, ap, ◌∙◌, subst, arith}
 use Rattle.std.specs.Prelude.{Bool, true, false, ◌<◌}
-use Rattle.lf.specs.Syntax.{constant, variable, metavariable, Term, Spine, lambda, root, nil, app, LfType, Skeleton, base, arrow, skeleton, rename_spine, weaken}
-use Rattle.lf.specs.Substitution.{Image, keep, put, rename_image, lift, substitute, substitute_spine, reduce}
-use Rattle.lf.specs.Eta.{add_last, append, eta_expand}
-use Rattle.lf.specs.Typing.{Signature, TypeAt}
-use Rattle.lf.specs.Variables.{onto, under, Uses, UsesSpine, ImageUses, everything}
+use Rattle.lf.specs.Syntax.{constant, variable, metavariable, Term, Spine, lambda, root, nil, app, LfType, pi, atom}
+use Rattle.lf.specs.Substitution.{Image, keep, put, rename_image, lift, substitute, substitute_spine, substitute_type, reduce}
+use Rattle.lf.specs.Typing.{Signature}
+use Rattle.lf.specs.Variables.{onto, under, Uses, UsesSpine, UsesType, ImageUses, everything}
 use Rattle.lf.specs.Subordination.{Block}
 use Rattle.lf.specs.Worlds.{World, OpenInstance, no_variables, single_variable, whole_instance, begin_instance, next_entry, single_beside}
 use Rattle.lf.proofs.Partial.{uses_all}
 use Rattle.lf.proofs.Renaming.{OnPut-all}
 use Rattle.lf.proofs.Uses.{uses_renamed}
-use Rattle.lf_cases.specs.Case.{as_term}
 use Rattle.lf_cases.specs.Cover.{InstanceIn, InstanceBefore, place_of}
-use Rattle.lf_coverage.specs.NumberedCase.{some_spine}
-use Rattle.lf_coverage.specs.OwnTerms.{weaken_own, BeginsWith, OnOwnTerms, SpineOnOwnTerms, ImageOnOwnTerms}
-use Rattle.lf_coverage.proofs.OwnTerms.{begins_renamed, spine_renamed, own_as_renamed, image_under, plug_own, RedOwn, reduce_own}
+use Rattle.lf_coverage.specs.OwnTerms.{weaken_own, BeginsWith, OnOwnTerms, SpineOnOwnTerms, TypeOnOwnTerms, ImageOnOwnTerms}
+use Rattle.lf_coverage.proofs.OwnTerms.{image_under, plug_own, RedOwn, reduce_own}
 use Rattle.lf_coverage.proofs.Parts.{keep_same}
-use Rattle.lf_coverage.proofs.Reading.{OnlyConstants, SpineOnlyConstants}
+use Rattle.lf_coverage.proofs.Reading.{OnlyConstants, SpineOnlyConstants, TypeOnlyConstants}
 use Rattle.lf_coverage.proofs.SameInstance.{moved_keep}
 
 -- the variables that are older than v
@@ -76,37 +73,6 @@ module _ (Σ : Signature) where
     open_above (next_entry {θ = θ} F o t) (D ∷ later) E ds e v p (suc k) l = moved_above θ (place_of later) v k p (λ u s. open_above o later E ds (tail_same e) u s k (next_less l))
     open_above (single_beside {θ = θ} o t n) later E ds e v p k l = moved_above θ (place_of later) v k p (λ u s. open_above o later E ds e u s k l)
 
--- Own terms of eta-long forms
-own_add : (o : ℕ → Option Spine) (S : Spine) (N : Term) → SpineOnOwnTerms o S → OnOwnTerms o N → SpineOnOwnTerms o (add_last S N)
-own_add o nil N s n = (n, tt)
-own_add o (app M S) N (m, s) n = (m, own_add o S N s n)
-
-add_append : (U V : Spine) (N : Term) → add_last (append U V) N ≡ append U (add_last V N)
-add_append nil V N = refl
-add_append (app M U) V N = ap (app M) (add_append U V N)
-
-begins_add : (u : Option Spine) (S : Spine) (N : Term) → BeginsWith u S → BeginsWith u (add_last S N)
-begins_add None S N b = tt
-begins_add (Some U) S N (V, q) = (add_last V N, ap (λ T. add_last T N) q ∙ add_append U V N)
-
-pub variable_own : (o : ℕ → Option Spine) (a : Skeleton) (j : ℕ) (T : Spine) → SpineOnOwnTerms o T → OnOwnTerms o (eta_expand a (variable j) T)
-variable_own o (base c) j T s = s
-variable_own o (arrow a b) j T s = variable_own (λ c. weaken_own (o c)) b (suc j) (add_last (rename_spine suc T) (eta_expand a (variable zero) nil)) (own_add (λ c. weaken_own (o c)) (rename_spine suc T) (eta_expand a (variable zero) nil) (spine_renamed o (λ c. weaken_own (o c)) suc T (λ c. own_as_renamed (o c)) s) (variable_own (λ c. weaken_own (o c)) a zero nil tt))
-
-pub constant_own : (o : ℕ → Option Spine) (a : Skeleton) (c : ℕ) (T : Spine) → BeginsWith (o c) T → SpineOnOwnTerms o T → OnOwnTerms o (eta_expand a (constant c) T)
-constant_own o (base d) c T b s = (b, s)
-constant_own o (arrow a b) c T q s = constant_own (λ d. weaken_own (o d)) b c (add_last (rename_spine suc T) (eta_expand a (variable zero) nil))
-    (begins_add (weaken_own (o c)) (rename_spine suc T) (eta_expand a (variable zero) nil) (subst (λ u. BeginsWith u (rename_spine suc T)) (sym (own_as_renamed (o c))) (begins_renamed suc (o c) T q)))
-    (own_add (λ d. weaken_own (o d)) (rename_spine suc T) (eta_expand a (variable zero) nil) (spine_renamed o (λ d. weaken_own (o d)) suc T (λ d. own_as_renamed (o d)) s) (variable_own (λ d. weaken_own (o d)) a zero nil tt))
-
-image_own : (o : ℕ → Option Spine) (a : Skeleton) (x : Image) → ImageOnOwnTerms o x → OnOwnTerms o (as_term a x)
-image_own o a (keep j) h = variable_own o a j nil tt
-image_own o a (put b N) h = h
-
-pub some_all_own : (o : ℕ → Option Spine) (O : List LfType) (ψ : ℕ → Image) → ((i : ℕ) (A : LfType) → TypeAt O i A → ImageOnOwnTerms o (ψ i)) → SpineOnOwnTerms o (some_spine O ψ)
-some_all_own o [] ψ h = tt
-some_all_own o (A ∷ O) ψ h = own_add o (some_spine O (λ i. ψ (suc i))) (as_term (skeleton A) (ψ zero)) (some_all_own o O (λ i. ψ (suc i)) (λ i B g. h (suc i) (weaken B) (B, g, refl))) (image_own o (skeleton A) (ψ zero) (h zero (weaken A) refl))
-
 -- values under a binder
 images : (o : ℕ → Option Spine) (U : ℕ → Bool) (σ : ℕ → Image) → ((i : ℕ) → U i ≡ true → ImageOnOwnTerms o (σ i)) → (i : ℕ) → under U i ≡ true → ImageOnOwnTerms (λ c. weaken_own (o c)) (lift σ i)
 images o U σ v zero u = tt
@@ -123,3 +89,7 @@ mutual
   free_own_spine : (P : ℕ → Type 0) (o : ℕ → Option Spine) (U : ℕ → Bool) (σ : ℕ → Image) (S : Spine) → ((c : ℕ) → P c → o c ≡ None) → ((i : ℕ) → U i ≡ true → ImageOnOwnTerms o (σ i)) → SpineOnlyConstants P S → UsesSpine U S → SpineOnOwnTerms o (substitute_spine reduce σ S)
   free_own_spine P o U σ nil h v m u = tt
   free_own_spine P o U σ (app M S) h v (m, n) (u, k) = (free_own P o U σ M h v m u, free_own_spine P o U σ S h v n k)
+
+pub free_own_type : (P : ℕ → Type 0) (o : ℕ → Option Spine) (U : ℕ → Bool) (σ : ℕ → Image) (A : LfType) → ((c : ℕ) → P c → o c ≡ None) → ((i : ℕ) → U i ≡ true → ImageOnOwnTerms o (σ i)) → TypeOnlyConstants P A → UsesType U A → TypeOnOwnTerms o (substitute_type reduce σ A)
+free_own_type P o U σ (pi A B) h v (m, n) (u, k) = (free_own_type P o U σ A h v m u, free_own_type P (λ c. weaken_own (o c)) (under U) (lift σ) B (λ c p. ap weaken_own (h c p)) (images o U σ v) n k)
+free_own_type P o U σ (atom a S) h v m u = free_own_spine P o U σ S h v m u

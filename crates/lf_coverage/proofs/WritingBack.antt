@@ -25,6 +25,7 @@ use Rattle.lf_coverage.specs.Reading.{read, read_type, read_entry, variable_past
 use Rattle.lf_coverage.specs.Writing.{IsEntryVariable, IsWriting, back_over}
 use Rattle.lf_coverage.specs.WritingLaws.{IsInstanceWithRoom, WrittenIsReadBack}
 use Rattle.lf_coverage.proofs.EntryValues.{count_some, read_entry_long}
+use Rattle.lf_coverage.proofs.Offered.{length_kept as count_put}
 use Rattle.lf_coverage.proofs.Parts.{none_some}
 use Rattle.lf_coverage.proofs.Reading.{IsOld, FollowsRead, none_read_type, read_image, read_substituted, read_type_substituted, type_only, typed_only}
 use Rattle.lf_coverage.proofs.WritingInstance.{entry_free}
@@ -51,10 +52,6 @@ within [] i A g = absurd g
 within (B ∷ G) zero A g = omega arith
 within (B ∷ G) (suc i) A (C, g, e) = let l = within G i C g in omega (arith, l)
 
-pub count_put : (σ : ℕ → Image) (S : Spine) → argument_count (substitute_spine reduce σ S) ≡ argument_count S
-count_put σ nil = refl
-count_put σ (app M S) = ap suc (count_put σ S)
-
 -- a term without entries is read as it is
 first_argument : {a b : ℕ} {M N : Term} → atom a (app M nil) ≡ atom b (app N nil) → M ≡ N
 first_argument e = cc
@@ -79,10 +76,6 @@ module _ (Σ Σ' : Signature) {W : List Rattle.lf.specs.Subordination.Block} {S 
 
   pub follows : (c : ℕ) → IsOld Σ' c → FollowsRead ρ None (entry_reading first (blocks_of C.blocks) θ (length F) c)
   follows c q = subst (FollowsRead ρ None) (sym (old_none (length F) c q)) tt
-
-  -- what a variable is written as, read back
-  pub returned : ℕ → Image
-  returned i = rename_image (back_over (length F) back) (read_image (entry_reading first (blocks_of C.blocks) θ (length F)) (ρ i))
 
   pub entry_read : (i : ℕ) → IsEntryVariable first (blocks_of C.blocks) θ i → (a : Skeleton) × (M : Term) × (ρ i ≡ put a M) × (read fF M ≡ eta_long a (variable (i + length F)))
   entry_read i (c, e, q, k) =

@@ -2,14 +2,13 @@
 use Rattle.std.proofs.Common.{◌≡◌, ℕ, zero, suc, List, [], ◌∷◌, ◌+◌, ◌<◌, length, Option, Some, None, inl, inr, refl, sym, ap, ◌∙◌, subst, arith}
 use Rattle.std.specs.Prelude.{Bool, true, false, cond, ◌⊎◌}
 use Rattle.lf.specs.Syntax.{LfType}
-use Rattle.lf.specs.Substitution.{Image, keep, put}
+use Rattle.lf.specs.Substitution.{Image, keep, put, substitute_spine, reduce}
 use Rattle.lf.specs.Variables.{onto, same_number}
 use Rattle.lf.specs.Subordination.{Block}
 use Rattle.lf.specs.Worlds.{World}
 use Rattle.lf.proofs.Checker.{number_is, number_itself}
 use Rattle.lf_checks.specs.Clause.{among}
 use Rattle.lf_cases.specs.Case.{behind_entries}
-use Rattle.lf.specs.Substitution.{substitute_spine, reduce}
 use Rattle.lf.specs.Typing.{Signature}
 use Rattle.lf_cases.specs.Cover.{InstanceIn, place_of}
 use Rattle.lf_coverage.specs.EntryConstants.{EntryConstant, or_else, entry_among, entry_constant}

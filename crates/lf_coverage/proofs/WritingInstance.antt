@@ -1,5 +1,5 @@
 -- Each ground instance with block variables apart can be written.
-use Rattle.std.proofs.Common.{◌≡◌, ℕ, zero, suc, List, [], ◌∷◌, ◌+◌, ◌≤◌, length, Option, Some, None, inl, inr, refl, sym, ap, ◌∙◌, subst, true≢false}
+use Rattle.std.proofs.Common.{◌≡◌, ℕ, zero, List, [], ◌∷◌, ◌+◌, length, Option, Some, None, inl, inr, refl, sym, ap, ◌∙◌, subst, true≢false}
 use Rattle.std.specs.Prelude.{Bool, true, ◌⊎◌}
 use Rattle.lf.specs.Syntax.{constant, LfType, skeleton}
 use Rattle.lf.specs.Substitution.{Image, keep, put, substitute_spine, substitute_image, reduce, after}
@@ -16,18 +16,19 @@ use Rattle.lf_checks.specs.Clause.{among}
 use Rattle.lf_cases.specs.Case.{behind_entries}
 use Rattle.lf_cases.specs.Cover.{InstanceIn, place_of}
 use Rattle.lf_cases.proofs.Instances.{instance_typed}
-use Rattle.lf_coverage.specs.EntryConstants.{EntryConstant, or_else, entry_constant, entry_images, entry_type, with_entries}
+use Rattle.lf_coverage.specs.EntryConstants.{EntryConstant, entry_constant, entry_images, entry_type, with_entries}
 use Rattle.lf_coverage.specs.NewInstance.{AreApart}
 use Rattle.lf_coverage.specs.NumberedCase.{NumberedCase, some_spine}
 use Rattle.lf_coverage.specs.NumberedInstance.{block_at}
 use Rattle.lf_coverage.specs.OwnTerms.{BlockVariable, blocks_of}
 use Rattle.lf_coverage.specs.Writing.{IsEntryVariable, IsWriting}
 use Rattle.lf_coverage.specs.WritingLaws.{IsInstanceWithRoom, EntriesExtend, InstanceIsWritten}
+use Rattle.lf_coverage.proofs.BeforeEntry.{behind_after}
 use Rattle.lf_coverage.proofs.EntrySignature.{else_first, else_second, else_cases, grown_image}
 use Rattle.lf_coverage.proofs.EntryValues.{put_some}
 use Rattle.lf_coverage.proofs.OwnTerms.{entry_from}
 use Rattle.lf_coverage.proofs.Parts.{none_some}
-use Rattle.lf_coverage.proofs.ReadInstance.{ok₁}
+use Rattle.lf_coverage.proofs.ReadBlocks.{ok₁}
 use Rattle.lf_coverage.proofs.SameInstance.{instance_unique}
 use Rattle.lf_coverage.proofs.WritingBuild.{Stays, IsChosen, Result, build}
 use Rattle.lf_coverage.proofs.WritingChoice.{choose, HasConstants, from_is, entry_below, choice_sound, choice_complete, instance_of}
@@ -39,14 +40,7 @@ some_among : (later : List LfType) (E : LfType) (ds : List LfType) → among (on
 some_among [] E ds = refl
 some_among (D ∷ later) E ds = refl
 
-behind_after : (es : List LfType) (ρ φ : ℕ → Image) (i : ℕ) → behind_entries es (after ρ φ) i ≡ after ρ (behind_entries es φ) i
-behind_after [] ρ φ i = refl
-behind_after (E ∷ es) ρ φ i = behind_after es ρ (λ j. φ (suc j)) i
-
 module _ (Σ Σ' : Signature) {W : List Block} {S : ℕ → Bool} {G : List LfType} (w : World Σ' W S G) (first : ℕ) (C : NumberedCase) (θ : ℕ → ℕ → Image) (σ : ℕ → Image) (r : IsInstanceWithRoom Σ w first C θ σ) where
-  abbrev pub Bs : List Block
-  Bs = blocks_of C.blocks
-
   abbrev pub Σ₁ : Signature
   Σ₁ = with_entries Σ first (blocks_of C.blocks)
 

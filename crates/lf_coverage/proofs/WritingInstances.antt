@@ -1,22 +1,17 @@
 -- Values over the written context, read back, are a ground instance.
 use Rattle.std.proofs.Common.{◌≡◌, ℕ, zero, suc, List, [], ◌∷◌, ◌+◌, length, Option, Some, None, refl, sym, ap, ap₂, ◌∙◌, subst, arith}
 use Rattle.std.specs.Prelude.{Bool}
-use Rattle.lf.specs.Syntax.{constant, variable, metavariable, Term, Spine, lambda, root, nil, app, LfType, pi, atom, skeleton, weaken, rename, rename_spine, rename_type}
+use Rattle.lf.specs.Syntax.{constant, variable, metavariable, Term, Spine, lambda, root, nil, app, LfType, skeleton, weaken, rename, rename_spine, rename_type}
 use Rattle.lf.specs.Substitution.{Image, keep, put, rename_image, substitute, substitute_spine, substitute_type, reduce, after}
-use Rattle.lf.specs.AtOnce.{in_front}
-use Rattle.lf.specs.Eta.{add_last}
-use Rattle.lf.specs.Typing.{Signature, TypeAt, ImageHasType, IsTypedSubstitution, HasType, IsType, IsContext, IsSignature}
+use Rattle.lf.specs.Typing.{Signature, TypeAt, ImageHasType, HasType, IsType, IsContext, IsSignature}
 use Rattle.lf.specs.Subordination.{Block}
 use Rattle.lf.specs.Worlds.{World}
 use Rattle.lf.proofs.Renaming.{reduction_is_natural, rename_substituted, rename_substituted_spine}
 use Rattle.lf.proofs.Substitution.{skeleton_context_of, substitution_keeps_types}
-use Rattle.lf.proofs.TypeLaws.{skeleton_renamed, skeleton_substituted, rename_substituted_type, substitute_renamed_type}
+use Rattle.lf.proofs.TypeLaws.{skeleton_renamed, rename_substituted_type, substitute_renamed_type}
 use Rattle.lf.proofs.Weakening.{declared_is_type}
-use Rattle.lf.proofs.Worlds.{world_is_context}
-use Rattle.lf_cases.specs.Case.{as_term, behind_entries}
+use Rattle.lf_cases.specs.Case.{behind_entries}
 use Rattle.lf_cases.specs.Cover.{InstanceIn}
-use Rattle.lf_cases.proofs.Instances.{instance_typed}
-use Rattle.lf_cases.proofs.LongValues.{term_typed}
 use Rattle.lf_coverage.specs.EntryConstants.{EntryConstant, entry_constant, with_entries}
 use Rattle.lf_coverage.specs.NumberedCase.{NumberedCase, some_spine, AreGroundValues, AreInstances, IsNumberedInstance, value_in}
 use Rattle.lf_coverage.specs.NumberedInstance.{block_at}
@@ -28,13 +23,14 @@ use Rattle.lf_coverage.specs.WritingLaws.{IsInstanceWithRoom}
 use Rattle.lf_coverage.proofs.EntryPlaces.{entry_is}
 use Rattle.lf_coverage.proofs.EntrySignature.{grown_contexts}
 use Rattle.lf_coverage.proofs.Parts.{some_same}
-use Rattle.lf_coverage.proofs.Reading.{OnlyConstants, SpineOnlyConstants, TypeOnlyConstants, FollowsRead, read_image, read_substituted, read_spine_substituted, read_type_substituted, read_type_renamed}
-use Rattle.lf_coverage.proofs.ReadInstance.{reading_next}
-use Rattle.lf_coverage.proofs.WritingBack.{back_far, term_back}
+use Rattle.lf_coverage.proofs.Reading.{OnlyConstants, SpineOnlyConstants, FollowsRead, read_image, read_substituted, read_spine_substituted, read_type_substituted, read_type_renamed, any_type}
+use Rattle.lf_coverage.proofs.ReadValues.{reading_next}
+use Rattle.lf_coverage.proofs.WritingBack.{back_far}
 use Rattle.lf_coverage.proofs.WritingBackTyped.{back_typed}
 use Rattle.lf_coverage.proofs.WritingInstance.{instance_at, types_more, written_signature}
 use Rattle.lf_coverage.proofs.WritingOwn.{entry_instance, terms_written}
-use Rattle.lf_coverage.proofs.WritingTyped.{behind_typed}
+use Rattle.lf_coverage.proofs.WritingRoots.{front_is}
+use Rattle.lf_coverage.proofs.WritingSome.{instance_back}
 use mathlib.Core.Path.{fun_ext}
 
 -- any constant
@@ -49,18 +45,7 @@ mutual
   any_spine nil = tt
   any_spine (app M S) = (any_term M, any_spine S)
 
-any_type : (A : LfType) → TypeOnlyConstants (λ c. Unit {0}) A
-any_type (pi A B) = (any_type A, any_type B)
-any_type (atom a S) = any_spine S
-
 -- Values that are typed all together are so one after another.
-front_is : (σ : ℕ → Image) (x : Image) → σ zero ≡ x → σ ≡ in_front x (λ i. σ (suc i))
-front_is σ x e = fun_ext by
-  where
-    by : (i : ℕ) → σ i ≡ in_front x (λ j. σ (suc j)) i
-    by zero = e
-    by (suc i) = refl
-
 ground_values : (Σ : Signature) (G : List LfType) (first : ℕ) (Bs : List Block) (θ : ℕ → ℕ → Image) (X : List LfType) (σ : ℕ → Image) → ((i : ℕ) → σ (i + length X) ≡ keep i) → ((i : ℕ) (A : LfType) → TypeAt X i A → (N : Term) × (σ i ≡ put (skeleton A) N) × HasType Σ G N (substitute_type reduce σ (read_type (entry_reading first Bs θ (length X)) A))) → AreGroundValues Σ G (entry_reading first Bs θ) X σ
 ground_values Σ G first Bs θ [] σ p f = fun_ext (λ i. ap σ (none i) ∙ p i)
   where
@@ -186,39 +171,13 @@ module _ (Σ Σ' : Signature) {W : List Block} {S : ℕ → Bool} {G : List LfTy
   past : (i : ℕ) → σ' (i + length D.variables) ≡ keep i
   past i = ap (image_back first (blocks_of C.blocks) θ F back) (d.behind i) ∙ ap keep (back_far (length F) back i)
 
-  -- `some` terms of an instance come back
-  abbrev ComesBack : Term → Type 0
-  ComesBack N = rename β (read fF (substitute reduce ρ N)) ≡ N
-
-  abbrev AllComeBack : Spine → Type 0
-  AllComeBack T = rename_spine β (read_spine fF (substitute_spine reduce ρ T)) ≡ T
-
-  add_back : (T : Spine) (N : Term) → AllComeBack T → ComesBack N → AllComeBack (add_last T N)
-  add_back nil N e n = ap (λ M. app M nil) n
-  add_back (app M T) N e n = ap₂ app (first_back e) (add_back T N (rest_back e) n)
-    where
-      first_back : AllComeBack (app M T) → ComesBack M
-      first_back q = cc
-
-      rest_back : AllComeBack (app M T) → AllComeBack T
-      rest_back q = cc
-
-  some_back : (O : List LfType) (υ : ℕ → Image) → ((i : ℕ) (A : LfType) → TypeAt O i A → ComesBack (as_term (skeleton A) (υ i))) → AllComeBack (some_spine O υ)
-  some_back [] υ k = refl
-  some_back (A ∷ O) υ k = add_back (some_spine O (λ i. υ (suc i))) (as_term (skeleton A) (υ zero)) (some_back O (λ i. υ (suc i)) (λ i B g. subst (λ a. ComesBack (as_term a (υ (suc i)))) (skeleton_renamed suc B) (k (suc i) (weaken B) (B, g, refl)))) (subst (λ a. ComesBack (as_term a (υ zero))) (skeleton_renamed suc A) (k zero (weaken A) refl))
-
-  instance_back : (B : Block) (φ : ℕ → Image) → InstanceIn w B φ → AllComeBack (some_spine B.some (behind_entries B.entries φ))
-  instance_back B φ i =
-      let u : IsTypedSubstitution Σ' B.some G (behind_entries B.entries φ) = behind_typed Σ' r.extends.ok B.entries B.some G φ (λ j A g. (instance_typed Σ' r.extends.ok w B φ i).typed.typed j A g refl) in
-      some_back B.some (behind_entries B.entries φ) (λ j A g. term_back Σ Σ' w first C θ σ r F ρ back h (as_term (skeleton A) (behind_entries B.entries φ j)) (substitute_type reduce (behind_entries B.entries φ) A) (term_typed Σ' r.extends.ok G (world_is_context w) (skeleton A) (behind_entries B.entries φ j) (substitute_type reduce (behind_entries B.entries φ) A) (skeleton_substituted reduce (behind_entries B.entries φ) A) (u j A g)))
-
   -- The instances
   instances : (j : ℕ) (b : BlockVariable) → block_at D.blocks j ≡ Some b → InstanceIn w b.block (θ (zero + j)) × (some_spine b.block.some (behind_entries b.block.entries (θ (zero + j))) ≡ substitute_spine reduce σ' (read_spine (entry_reading first (blocks_of D.blocks) θ (length D.variables)) b.terms))
   instances j b e =
       let (c, q, p, t) = matching_block τ (after ρ σ) D.blocks C.blocks d.blocks j b e in
       let i : InstanceIn w c.block (θ (zero + j)) = (instance_at Σ Σ' w first C θ σ r j c q).0 in
       let same : some_spine c.block.some (behind_entries c.block.entries (θ (zero + j))) ≡ substitute_spine reduce σ' (read_spine (entry_reading first (blocks_of D.blocks) θ (length D.variables)) b.terms) =
-      sym (instance_back c.block (θ (zero + j)) i)
+      sym (instance_back Σ Σ' w first C θ σ r F ρ back h c.block (θ (zero + j)) i)
       ∙ ap (λ U. rename_spine β (read_spine fF U)) (terms_written Σ Σ' w first C θ σ r F ρ back h j c q ∙ sym t)
       ∙ sym (spine_is b.terms) in
       (subst (λ (B : Block). InstanceIn w B (θ (zero + j))) (sym p) i, ap (λ (B : Block). some_spine B.some (behind_entries B.entries (θ (zero + j)))) p ∙ same)

@@ -1,10 +1,9 @@
 -- Arguments that use only local variables of lower families, by the skeletons of the head and of the local context alone.
 use Rattle.std.proofs.Common.{◌≡◌, ℕ, zero, suc, List, [], ◌∷◌, ◌+◌, length, inl, inr, refl, sym, ap, ap₂, ◌∙◌, subst, arith}
 use Rattle.std.specs.Prelude.{Bool, true, ◌<◌, ◌⊎◌}
-use Rattle.lf.specs.Syntax.{Term, Spine, nil, app, LfType, pi, atom, Skeleton, base, arrow, skeleton, rename, rename_spine}
+use Rattle.lf.specs.Syntax.{Spine, nil, app, LfType, pi, atom, Skeleton, base, arrow, skeleton}
 use Rattle.lf.specs.Substitution.{Image, keep, put, rename_image, single, substitute_spine, reduce}
 use Rattle.lf.specs.AtOnce.{shift_by}
-use Rattle.lf.specs.Eta.{append}
 use Rattle.lf.specs.Skeletons.{context_skeletons}
 use Rattle.lf.specs.Typing.{instantiate_type}
 use Rattle.lf.specs.Variables.{target, binders, Uses, FamiliesIn, ImageUses, everything}
@@ -14,17 +13,16 @@ use Rattle.lf.proofs.Kept.{substitute_uses_type}
 use Rattle.lf.proofs.Partial.{uses_all}
 use Rattle.lf.proofs.TypeLaws.{skeleton_substituted}
 use Rattle.lf.proofs.Uses.{uses_renamed}
-use Rattle.lf_unification.specs.Offering.{pi_over}
 use Rattle.lf_checks.specs.Marks.{output_places}
-use Rattle.lf_checks.specs.ModeForms.{argument_count}
 use Rattle.lf_cases.specs.Raised.{LowPlaces, low}
 use Rattle.lf_cases.specs.Reached.{arguments_count}
 use Rattle.lf_cases.proofs.OutputItems.{lift_over_far}
 use Rattle.lf_coverage.specs.Heads.{ArgumentsAreBelow}
 use Rattle.lf_coverage.proofs.Forms.{lift_over_near}
 use Rattle.lf_coverage.proofs.HeadItems.{type_kind, outputs, kind_substituted, count_substituted}
-use Rattle.lf_coverage.proofs.ReadSkeletons.{behind_arguments}
 use Rattle.lf_coverage.proofs.Parts.{first_same, second_same, no_arrow, suc_same}
+use Rattle.lf_coverage.proofs.NearOrFar.{near_or_far}
+use Rattle.lf_coverage.proofs.PatternDistinct.{length_context as skeletons_length}
 
 -- the family of a skeleton's target
 abbrev pub skeleton_target : Skeleton → ℕ
@@ -50,10 +48,6 @@ below_same below (pi A B) (pi C D) e (a, b) = (subst (λ t. FamiliesIn (below t)
 below_same below (pi A B) (atom c T) e h = absurd (no_arrow e)
 below_same below (atom a T) (pi C D) e h = absurd (no_arrow (sym e))
 below_same below (atom a T) (atom c U) e h = tt
-
-pub below_over : (below : ℕ → ℕ → Bool) (O : List LfType) (P : LfType) → ArgumentsAreBelow below (pi_over O P) → ArgumentsAreBelow below P
-below_over below [] P h = h
-below_over below (A ∷ O) P h = (below_over below O (pi A P) h).1
 
 -- so are the local context's skeletons
 pub locals_same : (A B : LfType) (G H : List LfType) → skeleton A ≡ skeleton B → context_skeletons G ≡ context_skeletons H → context_skeletons (binders G A) ≡ context_skeletons (binders H B)
@@ -101,26 +95,10 @@ places_of_low below D (suc n) A nil e h = tt
 places_of_low below D (suc n) (atom a T) (app M S) e h = tt
 places_of_low below D (suc n) (pi A B) (app M S) e (u, h) = (uses_within (low_by (below (skeleton_target (skeleton A))) (context_skeletons D)) (low (below (target A)) D) M (λ i v. ap (λ t. low (below t) D i) (target_is A) ∙ low_is (below (skeleton_target (skeleton A))) D i ∙ v) u, subst (LowPlaces below D (output_places (outputs n)) S) (kind_substituted (single (skeleton A) M) B) (places_of_low below D n (instantiate_type A M B) S (count_substituted (single (skeleton A) M) B ∙ suc_same e) (subst (λ t. LowBy below (context_skeletons D) t S) (sym (skeleton_substituted reduce (single (skeleton A) M) B)) h)))
 
-pub skeletons_length : (D : List LfType) → length (context_skeletons D) ≡ length D
-skeletons_length [] = refl
-skeletons_length (A ∷ D) = ap suc (skeletons_length D)
-
 -- values under the local context keep it
 uses_far : (V : ℕ → Bool) (n : ℕ) (x : Image) → ((i : ℕ) → V (i + n) ≡ true) → ImageUses V (rename_image (shift_by n) x)
 uses_far V n (keep j) h = h j
 uses_far V n (put a N) h = uses_renamed everything V (shift_by n) N (λ i u. h i) (uses_all everything N (λ i. refl))
-
-split_number : (n i : ℕ) → (i < n) ⊎ ((j : ℕ) × (i ≡ j + n))
-split_number zero i = inr (i, none i)
-  where
-    none : (i : ℕ) → i ≡ i + 0
-    none i = omega arith
-split_number (suc n) zero = inl (omega arith)
-split_number (suc n) (suc i) = by (split_number n i)
-  where
-    by : (i < n) ⊎ ((j : ℕ) × (i ≡ j + n)) → (suc i < suc n) ⊎ ((j : ℕ) × (suc i ≡ j + suc n))
-    by (inl l) = inl (omega (arith, l))
-    by (inr (j, e)) = inr (j, omega (arith, e))
 
 pub low_put : (below : ℕ → ℕ → Bool) (D : List LfType) (ρ : ℕ → Image) (t : Skeleton) (S : Spine) → LowBy below (context_skeletons D) t S → LowBy below (context_skeletons D) t (substitute_spine reduce (lift_over D ρ) S)
 low_put below D ρ t nil h = tt
@@ -128,31 +106,8 @@ low_put below D ρ (base c) (app M S) h = tt
 low_put below D ρ (arrow a b) (app M S) (u, h) = ((substitute_uses_type (low_by (below (skeleton_target a)) (context_skeletons D)) (low_by (below (skeleton_target a)) (context_skeletons D)) (lift_over D ρ) (atom 0 (app M nil)) stays (u, tt)).0, low_put below D ρ b S h)
   where
     stays : (i : ℕ) → low_by (below (skeleton_target a)) (context_skeletons D) i ≡ true → ImageUses (low_by (below (skeleton_target a)) (context_skeletons D)) (lift_over D ρ i)
-    stays i v = by (split_number (length D) i)
+    stays i v = by (near_or_far (length D) i)
       where
         by : (i < length D) ⊎ ((j : ℕ) × (i ≡ j + length D)) → ImageUses (low_by (below (skeleton_target a)) (context_skeletons D)) (lift_over D ρ i)
         by (inl l) = subst (ImageUses (low_by (below (skeleton_target a)) (context_skeletons D))) (sym (lift_over_near D ρ i l)) v
         by (inr (j, e)) = subst (ImageUses (low_by (below (skeleton_target a)) (context_skeletons D))) (sym (ap (lift_over D ρ) e ∙ lift_over_far D ρ j)) (uses_far (low_by (below (skeleton_target a)) (context_skeletons D)) (length D) (ρ j) (λ k. ap (λ n. low_by (below (skeleton_target a)) (context_skeletons D) (k + n)) (sym (skeletons_length D)) ∙ low_far (below (skeleton_target a)) (context_skeletons D) k))
-
--- what is left of the skeleton of a type that is closed over others
-more_behind : (n : ℕ) (t a b : Skeleton) → behind_arguments n t ≡ arrow a b → behind_arguments (suc n) t ≡ b
-more_behind zero (base c) a b e = absurd cc
-more_behind zero (arrow c d) a b e = cc
-more_behind (suc n) (base c) a b e = absurd cc
-more_behind (suc n) (arrow c d) a b e = more_behind n d a b e
-
-pub behind_pis : (O : List LfType) (T : LfType) → behind_arguments (length O) (skeleton (pi_over O T)) ≡ skeleton T
-behind_pis [] T = refl
-behind_pis (A ∷ O) T = more_behind (length O) (skeleton (pi_over O (pi A T))) (skeleton A) (skeleton T) (behind_pis O (pi A T))
-
--- arguments from outside, in front
-pub low_front : (below : ℕ → ℕ → Bool) (Γ : List Skeleton) (O : List LfType) (P : LfType) (U S : Spine) → argument_count U ≡ length O → LowBy below Γ (skeleton P) S → LowBy below Γ (skeleton (pi_over O P)) (append (rename_spine (shift_by (length Γ)) U) S)
-low_front below Γ O P U S e h = outside (skeleton (pi_over O P)) U S (subst (λ n. LowBy below Γ (behind_arguments n (skeleton (pi_over O P))) S) (sym e) (subst (λ t. LowBy below Γ t S) (sym (behind_pis O P)) h))
-  where
-    far : (T : ℕ → Bool) (M : Term) → Uses (low_by T Γ) (rename (shift_by (length Γ)) M)
-    far T M = uses_renamed everything (low_by T Γ) (shift_by (length Γ)) M (λ i u. low_far T Γ i) (uses_all everything M (λ i. refl))
-
-    outside : (t : Skeleton) (U S : Spine) → LowBy below Γ (behind_arguments (argument_count U) t) S → LowBy below Γ t (append (rename_spine (shift_by (length Γ)) U) S)
-    outside t nil S k = k
-    outside (base c) (app M U) S k = tt
-    outside (arrow a b) (app M U) S k = (far (below (skeleton_target a)) M, outside b U S k)

@@ -5,14 +5,14 @@ use Rattle.lf.specs.Syntax.{Term, Spine, nil, LfType, skeleton, atom}
 use Rattle.lf.specs.Substitution.{Image, keep, put, substitute, substitute_spine, substitute_image, substitute_type, reduce, after}
 use Rattle.lf.specs.SkeletonTyping.{SpineSkeleton, TypeBySkeletons}
 use Rattle.lf.specs.Skeletons.{constant_skeletons, family_skeletons, context_skeletons}
-use Rattle.lf.specs.Typing.{Signature, TypeAt, ImageHasType, IsTypedSubstitution, HasType, IsContext}
+use Rattle.lf.specs.Typing.{Signature, TypeAt, ImageHasType, IsTypedSubstitution, HasType, IsType, IsContext}
 use Rattle.lf.specs.Variables.{onto, ImageUses, everything}
 use Rattle.lf.specs.Subordination.{Block}
 use Rattle.lf.specs.Worlds.{World}
-use Rattle.lf.proofs.Closed.{agree}
+use Rattle.lf.proofs.Closed.{agree, agree_type}
 use Rattle.lf.proofs.Eta.{append_nil}
 use Rattle.lf.proofs.Growth.{growth_keeps_typing}
-use Rattle.lf.proofs.Partial.{uses_all}
+use Rattle.lf.proofs.Partial.{uses_all, uses_type_all}
 use Rattle.lf.proofs.SkeletonTypes.{substitution_keeps_types_by_skeletons}
 use Rattle.lf.proofs.Substitution.{TypedSubstitution, skeleton_context_of, substitution_keeps_typing, typed_substitution_by_skeletons}
 use Rattle.lf.proofs.TypeLaws.{skeleton_substituted}
@@ -25,21 +25,24 @@ use Rattle.lf_totality.proofs.OutputCases.{in_context, in_covers, in_type}
 use Rattle.lf_coverage.specs.EntryConstants.{EntryConstant, entry_constant, with_entries}
 use Rattle.lf_coverage.specs.NumberedCase.{NumberedCase, some_spine, type_in}
 use Rattle.lf_coverage.specs.NumberedInstance.{block_at}
-use Rattle.lf_coverage.specs.OwnTerms.{BlockVariable, blocks_of, terms_at, terms_of_entry, own_terms, BeginsWith, OnOwnTerms, SpineOnOwnTerms, ImageOnOwnTerms, put_in_blocks}
-use Rattle.lf_coverage.specs.Reading.{read_spine, read_type}
+use Rattle.lf_coverage.specs.OwnTerms.{BlockVariable, blocks_of, terms_at, terms_of_entry, own_terms, BeginsWith, OnOwnTerms, SpineOnOwnTerms, TypeOnOwnTerms, ImageOnOwnTerms, put_in_blocks}
+use Rattle.lf_coverage.specs.Reading.{read_type}
 use Rattle.lf_coverage.specs.Writing.{IsEntryVariable, IsWriting}
 use Rattle.lf_coverage.specs.WritingLaws.{IsInstanceWithRoom, WrittenValuesAreTyped}
 use Rattle.lf_coverage.proofs.EntrySignature.{grown_contexts, grown_image}
 use Rattle.lf_coverage.proofs.EntryValues.{put_some}
 use Rattle.lf_coverage.proofs.OwnTerms.{substitute_own, put_in_own}
 use Rattle.lf_coverage.proofs.Parts.{none_some}
-use Rattle.lf_coverage.proofs.Reading.{IsOld, typed_only}
-use Rattle.lf_coverage.proofs.ReadInstance.{ok₁, values_typed, type_known}
-use Rattle.lf_coverage.proofs.WritingAbove.{above, above_is, instance_above, constant_own, some_all_own, free_own}
+use Rattle.lf_coverage.proofs.Reading.{IsOld, typed_only, type_only}
+use Rattle.lf_coverage.proofs.ReadInstance.{type_known}
+use Rattle.lf_coverage.proofs.ReadBlocks.{ok₁}
+use Rattle.lf_coverage.proofs.ReadValues.{values_typed}
+use Rattle.lf_coverage.proofs.WritingAbove.{above, above_is, instance_above, free_own, free_own_type}
+use Rattle.lf_coverage.proofs.OwnLong.{constant_own, some_all_own}
 use Rattle.lf_coverage.proofs.WritingBack.{within}
 use Rattle.lf_coverage.proofs.WritingChoice.{from_is}
 use Rattle.lf_coverage.proofs.WritingInstance.{entry_free, instance_at, own_types, written_signature}
-use Rattle.lf_coverage.proofs.WritingMore.{type_more}
+use Rattle.lf_coverage.proofs.MoreConstants.{type_more}
 use Rattle.lf_coverage.proofs.WritingRead.{typed_block, terms_are, no, inside, reads, writes, both_fit, writing_fits, own_written, type_written}
 use Rattle.lf_coverage.proofs.WritingSame.{some_skeleton, read_same_spine}
 use Rattle.lf_coverage.proofs.WritingTyped.{behind_typed}
@@ -159,6 +162,9 @@ module _ (Σ Σ' : Signature) {W : List Block} {S : ℕ → Bool} {G : List LfTy
   pub term_own : (N : Term) (A : LfType) → HasType Σ' G N A → OnOwnTerms (own_terms first (put_in_blocks (after ρ σ) C.blocks)) (substitute reduce ρ N)
   term_own N A n = subst (OnOwnTerms oF) (sym (agree Σ' reduce G ρ near N A near_is n)) (free_own (IsOld Σ') oF everything near N old_own (λ i u. near_own i) (typed_only Σ' G N A n) (uses_all everything N (λ i. refl)))
 
+  pub type_own : (A : LfType) → IsType Σ' G A → TypeOnOwnTerms (own_terms first (put_in_blocks (after ρ σ) C.blocks)) (substitute_type reduce ρ A)
+  type_own A t = subst (TypeOnOwnTerms oF) (sym (agree_type Σ' reduce G ρ near A near_is t)) (free_own_type (IsOld Σ') oF everything near A old_own (λ i u. near_own i) (type_only Σ' G A t) (uses_type_all everything A (λ i. refl)))
+
   -- what stands for a free variable
   value_type : (i : ℕ) (A : LfType) → TypeAt C.variables i A → ImageHasType Σ' G (σ i) (type_in first C θ σ A)
   value_type i A g = values_typed Σ' r.extends.ok G first (blocks_of C.blocks) θ C.variables σ r.is_instance.values i A g
@@ -186,7 +192,7 @@ module _ (Σ Σ' : Signature) {W : List Block} {S : ℕ → Bool} {G : List LfTy
       same = type_written Σ Σ' w first C θ σ r F ρ back h A (declared_is_type Σ₁ (ok₁ Σ Σ' r.signature S r.extends W r.blocks first r.free C r.variables w θ σ r.is_instance) C.variables i A r.variables.variables g) (r.variables.on_own_terms i A g)
 
       known : TypeBySkeletons (family_skeletons Σe) (constant_skeletons Σe) (context_skeletons G) (type_in first C θ σ A)
-      known = known_more (type_in first C θ σ A) (substitution_keeps_types_by_skeletons (family_skeletons Σ') (constant_skeletons Σ') (context_skeletons (onto C.variables G)) (context_skeletons G) σ (read_type (Rattle.lf_coverage.specs.Reading.entry_reading first (blocks_of C.blocks) θ (length C.variables)) A) (Rattle.lf_coverage.proofs.ReadInstance.values_fit Σ' r.extends.ok G first (blocks_of C.blocks) θ C.variables σ r.is_instance.values) (type_known Σ Σ' r.signature S r.extends W r.blocks first r.free C r.variables w θ σ r.is_instance A (declared_is_type Σ₁ (ok₁ Σ Σ' r.signature S r.extends W r.blocks first r.free C r.variables w θ σ r.is_instance) C.variables i A r.variables.variables g) (r.variables.on_own_terms i A g)))
+      known = known_more (type_in first C θ σ A) (substitution_keeps_types_by_skeletons (family_skeletons Σ') (constant_skeletons Σ') (context_skeletons (onto C.variables G)) (context_skeletons G) σ (read_type (Rattle.lf_coverage.specs.Reading.entry_reading first (blocks_of C.blocks) θ (length C.variables)) A) (Rattle.lf_coverage.proofs.ReadValues.values_fit Σ' r.extends.ok G first (blocks_of C.blocks) θ C.variables σ r.is_instance.values) (type_known Σ Σ' r.signature S r.extends W r.blocks first r.free C r.variables w θ σ r.is_instance A (declared_is_type Σ₁ (ok₁ Σ Σ' r.signature S r.extends W r.blocks first r.free C r.variables w θ σ r.is_instance) C.variables i A r.variables.variables g) (r.variables.on_own_terms i A g)))
         where
           known_more : (B : LfType) → TypeBySkeletons (family_skeletons Σ') (constant_skeletons Σ') (context_skeletons G) B → TypeBySkeletons (family_skeletons Σe) (constant_skeletons Σe) (context_skeletons G) B
           known_more B k = type_more Σ' Σe (own_types Σ Σ' w first C θ σ r) (family_skeletons Σ') (context_skeletons G) B k

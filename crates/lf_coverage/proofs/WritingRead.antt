@@ -4,7 +4,7 @@ use Rattle.std.specs.Prelude.{Bool}
 use Rattle.lf.specs.Syntax.{constant, Term, Spine, LfType, Skeleton, skeleton}
 use Rattle.lf.specs.Substitution.{Image, keep, put, substitute, substitute_spine, substitute_image, substitute_type, reduce, after}
 use Rattle.lf.specs.Eta.{eta_expand}
-use Rattle.lf.specs.SkeletonTyping.{HeadSkeletons, SkeletonAt, SubstitutionBySkeletons, TypeBySkeletons}
+use Rattle.lf.specs.SkeletonTyping.{HeadSkeletons, SkeletonAt, SubstitutionBySkeletons}
 use Rattle.lf.specs.Skeletons.{constant_skeletons, family_skeletons, context_skeletons}
 use Rattle.lf.specs.Typing.{Signature, HasType, IsType}
 use Rattle.lf.specs.Variables.{onto, nothing}
@@ -27,7 +27,9 @@ use Rattle.lf_coverage.specs.WritingLaws.{IsInstanceWithRoom, ValuesAreWritten}
 use Rattle.lf_coverage.proofs.Composing.{composed}
 use Rattle.lf_coverage.proofs.EntryValues.{count_some}
 use Rattle.lf_coverage.proofs.Parts.{none_some}
-use Rattle.lf_coverage.proofs.ReadInstance.{ok₁, heads, inside_onto, value_past, values_fit}
+use Rattle.lf_coverage.proofs.ReadInstance.{heads}
+use Rattle.lf_coverage.proofs.ReadBlocks.{ok₁}
+use Rattle.lf_coverage.proofs.ReadValues.{inside_onto, value_past, values_fit}
 use Rattle.lf_coverage.proofs.ReadSkeletons.{ReadsSkeleton, Reads, read_has_skeleton, read_spine_has_skeleton, read_type_has_skeletons}
 use Rattle.lf_coverage.proofs.Transfer.{fits_more}
 use Rattle.lf_coverage.proofs.WritingChoice.{from_is}

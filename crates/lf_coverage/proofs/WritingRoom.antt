@@ -1,37 +1,30 @@
 -- Each ground instance is moved into an extension that leaves the numbers of the entry constants free.
 use Rattle.std.proofs.Common.{◌≡◌, ℕ, zero, suc, List, [], ◌∷◌, ◌+◌, length, Option, Some, None, inl, inr, refl, sym, ap, ap₂, ◌∙◌, subst, arith}
 use Rattle.std.specs.Prelude.{Bool, true, ◌<◌, ◌≤◌, ◌⊎◌}
-use Rattle.lf.specs.Syntax.{Head, constant, variable, metavariable, Term, Spine, lambda, root, LfType, Kind, skeleton}
-use Rattle.lf.specs.Substitution.{Image, keep, put, rename_image, lift, substitute_spine, substitute_type, reduce}
-use Rattle.lf.specs.AtOnce.{in_front}
-use Rattle.lf.specs.Eta.{lambdas}
-use Rattle.lf.specs.Typing.{Signature, ImageHasType, HasType, IsType, IsKind, IsContext, IsSignature}
+use Rattle.lf.specs.Syntax.{LfType, Kind}
+use Rattle.lf.specs.Substitution.{Image, rename_image, lift, substitute_type, reduce}
+use Rattle.lf.specs.Typing.{Signature, ImageHasType, IsType, IsKind, IsContext, IsSignature}
 use Rattle.lf.specs.Variables.{target, onto, everything, Values}
 use Rattle.lf.specs.Subordination.{Block, AreTypedBlocks}
 use Rattle.lf.specs.Worlds.{World, OpenInstance, no_variables, single_variable, whole_instance, begin_instance, next_entry, single_beside}
 use Rattle.lf.specs.Extension.{Extends}
 use Rattle.lf.proofs.Weakening.{declared_is_type}
-use Rattle.lf_cases.specs.Case.{as_term, behind_entries}
 use Rattle.lf_cases.specs.Cover.{InstanceIn, InstanceBefore}
-use Rattle.lf_cases.specs.Reached.{taken}
-use Rattle.lf_coverage.specs.EntryConstants.{EntryConstant, entry_constant, entry_type, with_entries, IsFreeFrom}
+use Rattle.lf_coverage.specs.EntryConstants.{with_entries, IsFreeFrom}
 use Rattle.lf_coverage.specs.NewInstance.{AreApart}
-use Rattle.lf_coverage.specs.NumberedCase.{NumberedCase, some_spine, AreSomeTerms, AreTypedBlockVariables, AreTypedVariables, AreGroundValues, AreInstances, IsNumberedInstance}
-use Rattle.lf_coverage.specs.NumberedInstance.{move, move_spine, move_type, move_types}
+use Rattle.lf_coverage.specs.NumberedCase.{NumberedCase, AreTypedVariables, AreGroundValues, AreInstances, IsNumberedInstance}
+use Rattle.lf_coverage.specs.NumberedInstance.{move_type, move_types}
 use Rattle.lf_coverage.specs.Numbering.{entries_of}
-use Rattle.lf_coverage.specs.OwnTerms.{BlockVariable, blocks_of, own_terms}
-use Rattle.lf_coverage.specs.Reading.{read_spine, read_type, read_entry, variable_past, entry_reading}
+use Rattle.lf_coverage.specs.OwnTerms.{blocks_of, own_terms}
+use Rattle.lf_coverage.specs.Reading.{entry_reading}
 use Rattle.lf_coverage.specs.Writing.{IsFreeBetween}
-use Rattle.lf_coverage.specs.WritingHeads.{IsReadAs, constant_is, taken_is, entry_is}
 use Rattle.lf_coverage.specs.WritingLaws.{IsInstanceWithRoom}
-use Rattle.lf_coverage.specs.WritingRoom.{past_gap, gap_back, with_gap, move_kind, move_declared, move_declared_kind, move_image, leave_room, RoomIsMade, NumberedGivesNone}
-use Rattle.lf_coverage.proofs.EntrySignature.{else_cases}
-use Rattle.lf_coverage.proofs.EntryValues.{read_some, some_equal}
+use Rattle.lf_coverage.specs.WritingRoom.{past_gap, gap_back, with_gap, move_kind, move_declared, move_declared_kind, move_image, leave_room, RoomIsMade}
 use Rattle.lf_coverage.proofs.Parts.{none_some, some_same}
-use Rattle.lf_coverage.proofs.Reading.{IsOld, type_only, typed_only, read_image}
-use Rattle.lf_coverage.proofs.WritingGap.{past_low, gap_at, gap_none, gap_from, past_back, image_twice, some_moved, behind_moved, same_old, kind_only}
-use Rattle.lf_coverage.proofs.WritingMove.{target_moved, image_moved_under, lift_moved, move_type_substituted, move_spine_substituted, moved_typed, moved_is_type, moved_is_kind, moved_image, same_moved, same_type_moved}
-use Rattle.lf_coverage.proofs.WritingNone.{numbered_refuted_gives_none}
+use Rattle.lf_coverage.proofs.Reading.{IsOld}
+use Rattle.lf_coverage.proofs.WritingGap.{past_low, gap_at, gap_none, gap_from, past_back, image_twice, same_old, kind_only}
+use Rattle.lf_coverage.proofs.WritingMove.{target_moved, image_moved_under, lift_moved, move_type_substituted, moved_is_type, moved_is_kind, moved_image}
+use Rattle.lf_coverage.proofs.WritingMoved.{readings_moved, read_stays, values_moved, instances_moved}
 use mathlib.Core.Path.{fun_ext}
 
 module _ (Σ Σ' : Signature) (ok : IsSignature Σ) (S : ℕ → Bool) (x : Extends S Σ Σ') (W : List Block) (typed : AreTypedBlocks Σ W) (first n : ℕ) (free : IsFreeFrom Σ first) where
@@ -60,10 +53,10 @@ module _ (Σ Σ' : Signature) (ok : IsSignature Σ) (S : ℕ → Bool) (x : Exte
   pub old_stays : (c : ℕ) → IsOld Σ c → past_gap first n c ≡ c
   old_stays c h = past_low first n c (below_first c h)
 
-  types_moved : (c : ℕ) (A : LfType) → Σ'.types c ≡ Some A → (leave_room first n Σ').types (past_gap first n c) ≡ Some (move_type (past_gap first n) A)
+  pub types_moved : (c : ℕ) (A : LfType) → Σ'.types c ≡ Some A → (leave_room first n Σ').types (past_gap first n c) ≡ Some (move_type (past_gap first n) A)
   types_moved c A e = ap (move_declared γ) (gap_at first n Σ'.types c ∙ e)
 
-  kinds_moved : (a : ℕ) (K : Kind) → Σ'.kinds a ≡ Some K → (leave_room first n Σ').kinds a ≡ Some (move_kind (past_gap first n) K)
+  pub kinds_moved : (a : ℕ) (K : Kind) → Σ'.kinds a ≡ Some K → (leave_room first n Σ').kinds a ≡ Some (move_kind (past_gap first n) K)
   kinds_moved a K e = ap (move_declared_kind γ) e
 
   pub type_from : (c : ℕ) (A : LfType) (y : Option LfType) → with_gap first n Σ'.types c ≡ y → move_declared (past_gap first n) y ≡ Some A → (d : ℕ) × (B : LfType) × (c ≡ past_gap first n d) × (Σ'.types d ≡ Some B) × (move_type (past_gap first n) B ≡ A)
@@ -114,7 +107,7 @@ module _ (Σ Σ' : Signature) (ok : IsSignature Σ) (S : ℕ → Bool) (x : Exte
   type_moved G H A e t = subst (λ D. IsType Σ₂ D (move_type γ A)) (sym e) (moved_is_type γ Σ' Σ₂ types_moved kinds_moved G A t)
 
   -- an old type under values
-  put_moved : (C : List LfType) (τ υ : ℕ → Image) (A : LfType) → IsType Σ C A → υ ≡ turned τ → move_type γ (substitute_type reduce τ A) ≡ substitute_type reduce υ A
+  pub put_moved : (C : List LfType) (τ υ : ℕ → Image) (A : LfType) → IsType Σ C A → υ ≡ turned τ → move_type γ (substitute_type reduce τ A) ≡ substitute_type reduce υ A
   put_moved C τ υ A t e = move_type_substituted γ τ A ∙ ap (substitute_type reduce (turned τ)) (same_old Σ γ C A old_stays t) ∙ ap (λ ψ. substitute_type reduce ψ A) (sym e)
 
   mutual
@@ -163,69 +156,11 @@ module _ (Σ Σ' : Signature) (ok : IsSignature Σ) (S : ℕ → Bool) (x : Exte
     abbrev θ₂ : ℕ → ℕ → Image
     θ₂ k i = move_image (past_gap first n) (θ k i)
 
-    reading_same : (m c : ℕ) → entry_reading first (blocks_of C.blocks) θ₂ m c ≡ entry_reading first (blocks_of C.blocks) θ m c
-    reading_same m c = by (entry_constant zero first (blocks_of C.blocks) c)
-      where
-        past : (y : Image) → variable_past m (move_image γ y) ≡ variable_past m y
-        past (keep v) = refl
-        past (put a N) = refl
-
-        by : (y : Option EntryConstant) → read_entry θ₂ m y ≡ read_entry θ m y
-        by None = refl
-        by (Some e) = ap (λ v. Some (length e.block.some, v)) (past (θ e.number e.place))
-
     readings : entry_reading first (blocks_of C.blocks) θ₂ ≡ entry_reading first (blocks_of C.blocks) θ
-    readings = fun_ext (λ m. fun_ext (λ c. reading_same m c))
+    readings = readings_moved γ first (blocks_of C.blocks) θ
 
-    -- a constant of the case that is read as itself is one of the signature
     stays : (m c : ℕ) → IsOld Σ₁ c → entry_reading first (blocks_of C.blocks) θ m c ≡ None → past_gap first n c ≡ c
-    stays m c (A, e) q = by (else_cases (Σ.types c) (entry_type (entry_constant zero first (blocks_of C.blocks) c)) A e)
-      where
-        none : (y : Option EntryConstant) → read_entry θ m y ≡ None → entry_type y ≡ Some A → ⊥
-        none None r s = none_some s
-        none (Some z) r s = none_some (sym r)
-
-        by : (Σ.types c ≡ Some A) ⊎ (entry_type (entry_constant zero first (blocks_of C.blocks) c) ≡ Some A) → past_gap first n c ≡ c
-        by (inl o) = old_stays c (A, o)
-        by (inr o) = absurd (none (entry_constant zero first (blocks_of C.blocks) c) q o)
-
-    values_moved : (H : List LfType) → H ≡ move_types γ G → (X : List LfType) → IsContext Σ₁ X → (τ : ℕ → Image) → AreGroundValues Σ' G (entry_reading first (blocks_of C.blocks) θ) X τ → AreGroundValues Σ₂ H (entry_reading first (blocks_of C.blocks) θ) X (turned τ)
-    values_moved H h [] c τ e = ap turned e
-    values_moved H h (A ∷ X) (c, a) τ (N, υ, v, m, e) = (move γ N, turned υ, values_moved H h X c υ v, subst (λ D. HasType Σ₂ D (move γ N) (substitute_type reduce (turned υ) (read_type f A))) (sym h) (subst (HasType Σ₂ (move_types γ G) (move γ N)) same (moved_typed γ Σ' Σ₂ types_moved kinds_moved G N (substitute_type reduce υ (read_type f A)) m)), ap turned e ∙ fun_ext front)
-      where
-        f : ℕ → Option (ℕ × ℕ)
-        f = entry_reading first (blocks_of C.blocks) θ (length X)
-
-        same : move_type γ (substitute_type reduce υ (read_type (entry_reading first (blocks_of C.blocks) θ (length X)) A)) ≡ substitute_type reduce (turned υ) (read_type (entry_reading first (blocks_of C.blocks) θ (length X)) A)
-        same = move_type_substituted γ υ (read_type (entry_reading first (blocks_of C.blocks) θ (length X)) A) ∙ ap (substitute_type reduce (turned υ)) (same_type_moved γ (IsOld Σ₁) (entry_reading first (blocks_of C.blocks) θ (length X)) A (stays (length X)) (type_only Σ₁ X A a))
-
-        front : (i : ℕ) → turned (in_front (put (skeleton A) N) υ) i ≡ in_front (put (skeleton A) (move γ N)) (turned υ) i
-        front zero = refl
-        front (suc i) = refl
-
-    abbrev f : ℕ → Option (ℕ × ℕ)
-    f = entry_reading first (blocks_of C.blocks) θ (length C.variables)
-
-    terms_same : (b : BlockVariable) → AreSomeTerms Σ₁ C.variables b.block.some b.terms → move_spine γ (read_spine f b.terms) ≡ read_spine f b.terms
-    terms_same b (υ, ut, ue) =
-        ap (λ V. move_spine γ (read_spine f V)) ue
-        ∙ ap (move_spine γ) (read_some f b.block.some υ)
-        ∙ some_moved γ b.block.some (λ i. read_image f (υ i))
-        ∙ some_equal b.block.some (turned (λ i. read_image f (υ i))) (λ i. read_image f (υ i)) (λ i A g. ap (as_term (skeleton A)) (at (υ i) (substitute_type reduce υ A) (ut i A g)))
-        ∙ sym (read_some f b.block.some υ)
-        ∙ sym (ap (read_spine f) ue)
-      where
-        at : (y : Image) (Z : LfType) → ImageHasType Σ₁ C.variables y Z → move_image γ (read_image f y) ≡ read_image f y
-        at (keep j) Z g = refl
-        at (put a N) Z (e, m) = ap (put a) (same_moved γ (IsOld Σ₁) f N (stays (length C.variables)) (typed_only Σ₁ C.variables N Z m))
-
-    instances_moved : {H : List LfType} (v : World Σ₂ W S H) → ((B : Block) (φ : ℕ → Image) → InstanceIn w B φ → InstanceIn v B (turned φ)) → (k : ℕ) (bs : List BlockVariable) → AreTypedBlockVariables Σ₁ W C.variables (own_terms first C.blocks) bs → AreInstances w f σ θ k bs → AreInstances v f (turned σ) θ₂ k bs
-    instances_moved v h k [] t i = tt
-    instances_moved v h k (b ∷ bs) (m, t, o, ts) (i, e, is) = (
-      h b.block (θ k) i,
-      ap (some_spine b.block.some) (fun_ext (behind_moved γ b.block.entries (θ k))) ∙ sym (some_moved γ b.block.some (behind_entries b.block.entries (θ k))) ∙ ap (move_spine γ) e ∙ move_spine_substituted γ σ (read_spine f b.terms) ∙ ap (substitute_spine reduce (turned σ)) (terms_same b t),
-      instances_moved v h (suc k) bs ts is,
-    )
+    stays m c o q = read_stays Σ first (blocks_of C.blocks) θ γ old_stays m c o q
 
     room_here : (H : List LfType) (v : World Σ₂ W S H) → H ≡ move_types γ G → ((B : Block) (φ : ℕ → Image) → InstanceIn w B φ → InstanceIn v B (turned φ)) → IsInstanceWithRoom Σ v first C θ₂ (turned σ)
     room_here H v h i = record {
@@ -236,8 +171,8 @@ module _ (Σ Σ' : Signature) (ok : IsSignature Σ) (S : ℕ → Bool) (x : Exte
       room = λ c l m. room_free c l (subst (λ z. c < first + z) size m);
       variables = tv;
       is_instance = record {
-        values = subst (λ g. AreGroundValues Σ₂ H g C.variables (turned σ)) (sym readings) (values_moved H h C.variables tv.variables σ inst.values);
-        instances = subst (λ g. AreInstances v g (turned σ) θ₂ zero C.blocks) (sym (ap (λ g. g (length C.variables)) readings)) (instances_moved v i zero C.blocks tv.blocks inst.instances);
+        values = subst (λ g. AreGroundValues Σ₂ H g C.variables (turned σ)) (sym readings) (values_moved γ Σ' Σ₂ types_moved kinds_moved Σ₁ (entry_reading first (blocks_of C.blocks) θ) stays G H h C.variables tv.variables σ inst.values);
+        instances = subst (λ g. AreInstances v g (turned σ) θ₂ zero C.blocks) (sym (ap (λ g. g (length C.variables)) readings)) (instances_moved γ Σ' Σ₂ types_moved kinds_moved Σ₁ (entry_reading first (blocks_of C.blocks) θ) stays C.variables w v (own_terms first C.blocks) θ σ zero C.blocks (λ j b q u. i b.block (θ (zero + j)) u) tv.blocks inst.instances);
       };
     }
 
@@ -258,40 +193,3 @@ room_is_made Σ Σ' ok S x W typed first free C tv G w θ σ inst =
     let n : ℕ = entries_of (blocks_of C.blocks) in
     let (v, r) = room Σ Σ' ok S x W typed first n free C tv refl w θ σ inst in
     (v, r, apart_moved Σ Σ' ok S x W typed first n free C tv refl w θ σ inst)
-
-lambdas_moved : (γ : ℕ → ℕ) (n : ℕ) (M : Term) → move γ (lambdas n M) ≡ lambdas n (move γ M)
-lambdas_moved γ zero M = refl
-lambdas_moved γ (suc n) M = ap lambda (lambdas_moved γ n M)
-
--- a head that is moved
-move_head : (ℕ → ℕ) → Head → Head
-move_head γ (constant c) = constant (γ c)
-move_head γ (variable i) = variable i
-move_head γ (metavariable m) = metavariable m
-
-root_moved : (γ : ℕ → ℕ) (h : Head) (T : Spine) → move γ (root h T) ≡ root (move_head γ h) (move_spine γ T)
-unfolding move_head
-root_moved γ (constant c) T = refl
-root_moved γ (variable i) T = refl
-root_moved γ (metavariable m) T = refl
-
-module _ (Σ Σ' : Signature) (ok : IsSignature Σ) (S : ℕ → Bool) (x : Extends S Σ Σ') (W : List Block) (typed : AreTypedBlocks Σ W) (first : ℕ) (free : IsFreeFrom Σ first) (C : NumberedCase) (tv : AreTypedVariables Σ first W C) {G : List LfType} (w : World Σ' W S G) (θ : ℕ → ℕ → Image) (σ : ℕ → Image) (inst : IsNumberedInstance w first C θ σ) (X : LfType) where
-  abbrev n : ℕ
-  n = entries_of (blocks_of C.blocks)
-
-  abbrev θ₃ : ℕ → ℕ → Image
-  θ₃ k i = move_image (past_gap first (entries_of (blocks_of C.blocks))) (θ k i)
-
-  -- a head stays the head that its constant is read as
-  head_moved : {h : Head} {A : LfType} {k : Head} → IsReadAs Σ first C θ X h A k → IsReadAs Σ first C θ₃ X h A (move_head (past_gap first n) k)
-  unfolding move_head
-  head_moved (constant_is c U q t) = subst (λ d. IsReadAs Σ first C θ₃ X (constant c) U (constant d)) (sym (old_stays Σ Σ' ok S x W typed first n free c (U, q))) (constant_is c U q t)
-  head_moved (taken_is j B l g t) = taken_is j B l g t
-  head_moved (entry_is c m v B q t z) = entry_is c m v B q t (reading_same Σ Σ' ok S x W typed first n free C tv refl w θ σ inst (length (taken X)) c ∙ z)
-
-pub numbered_gives_none : NumberedGivesNone
-numbered_gives_none Σ Σ' ok S x W typed first free C tv G w θ σ inst apart sc below s y X at fams args h A h0 k b K kx refuted T e =
-    let γ : ℕ → ℕ = past_gap first (entries_of (blocks_of C.blocks)) in
-    let (v, r, keeps) = room_is_made Σ Σ' ok S x W typed first free C tv G w θ σ inst in
-    let z : move_image γ (σ y) ≡ put (skeleton X) (lambdas (length (taken X)) (root (move_head γ h0) (move_spine γ T))) = ap (move_image γ) e ∙ ap (put (skeleton X)) (lambdas_moved γ (length (taken X)) (root h0 T) ∙ ap (lambdas (length (taken X))) (root_moved γ h0 T)) in
-    numbered_refuted_gives_none Σ (leave_room first (entries_of (blocks_of C.blocks)) Σ') W S (move_types γ G) v first C (λ k i. move_image γ (θ k i)) (λ i. move_image γ (σ i)) r (keeps apart) sc below s y X at fams args h A (move_head γ h0) (head_moved Σ Σ' ok S x W typed first free C tv w θ σ inst X k) b K kx refuted (move_spine γ T) z

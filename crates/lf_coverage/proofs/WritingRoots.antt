@@ -44,9 +44,6 @@ lambdas_same (suc k) M N e = lambdas_same k M N (inside e)
     inside : lambda (lambdas k M) ≡ lambda (lambdas k N) → lambdas k M ≡ lambdas k N
     inside e = cc
 
-pub put_same : {a b : Skeleton} {M N : Term} → put a M ≡ put b N → M ≡ N
-put_same e = cc
-
 pub pair_second : {x y : ℕ × ℕ} → Some x ≡ Some y → x.1 ≡ y.1
 pair_second e = ap (λ (z : ℕ × ℕ). z.1) (some_same e)
 

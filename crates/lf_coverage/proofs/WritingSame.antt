@@ -16,7 +16,8 @@ use Rattle.lf_coverage.specs.OwnTerms.{weaken_own, BeginsWith, OnOwnTerms, Spine
 use Rattle.lf_coverage.specs.Reading.{drop_arguments, weaken_read, read_constant, read, read_spine, read_type}
 use Rattle.lf_coverage.proofs.OwnTerms.{substitute_append}
 use Rattle.lf_coverage.proofs.Reading.{under_read, weakened_read, read_spine_renamed}
-use Rattle.lf_coverage.proofs.ReadSkeletons.{count_renamed, skeleton_under, Reads, Inside, read_has_skeleton}
+use Rattle.lf_coverage.proofs.ReadSkeletons.{skeleton_under, Reads, Inside, read_has_skeleton}
+use Rattle.lf_coverage.proofs.HeadItems.{length_renamed as count_renamed}
 use Rattle.lf_coverage.proofs.ReadTyped.{drop_own}
 
 pub read_append : (f : ℕ → Option (ℕ × ℕ)) (U T : Spine) → read_spine f (append U T) ≡ append (read_spine f U) (read_spine f T)

@@ -1,7 +1,7 @@
 -- What the calls of coverage are to answer: the contracts that `instance_of`, `split`, `cover`, `input_goal` and `output_goal` will carry. A case
 -- stands here for what the program keeps of it. The own block variable of an entry is here the last of the items, so a split by an entry of a new block
--- variable, which may put it before that one, has no answer here: by number it is that of number 0 (`EntryPatternsOutputs`), a split is answered as
--- `IsNumberedSplit` says, beside the sets that `AnsweredByNumberIsSplit` names, and a run covers as `AnsweredByNumberCovers` says.
+-- variable, which may put it before that one, has no answer here. `NumberedCalls` has the same calls for cases whose block variables have numbers, where it
+-- is that of number 0 along a whole run: these are the ones that the program will carry.
 use Rattle.std.specs.Prelude.{◌≡◌, ℕ, List, [], ◌∷◌, Bool, true, false, Option, Some, None}
 use Rattle.lf.specs.Syntax.{LfType, Kind, kind_pi, star}
 use Rattle.lf.specs.Typing.{Signature}

@@ -13,10 +13,11 @@ use Rattle.lf_cases.specs.OutputGoal.{output_goal}
 use Rattle.lf_cases.specs.Pattern.{Origin, Pattern, of_entry, subgoal_pattern, IsCoveredCase}
 use Rattle.lf_totality.specs.Examples.{Copying, application, copy_block, copy_heads, exp, first_below_second, on_two, var}
 use Rattle.lf_totality.specs.ExamplesGroups.{on_one}
+use Rattle.lf_cases.specs.Split.{Ends}
 use Rattle.lf_coverage.specs.EntryPatterns.{variable_images, IsInstanceOfPattern}
 use Rattle.lf_coverage.specs.EntryPatternsMatching.{found_placed}
 use Rattle.lf_coverage.specs.EntryPatternsSplits.{IsPutIn}
-use Rattle.lf_coverage.specs.EntryPatternsRuns.{IsNumberedLeaf, IsNumberedSplit, EndsByNumber, IsCoveredByNumber}
+use Rattle.lf_coverage.specs.EntryPatternsRuns.{IsNumberedLeaf, IsNumberedSplit, IsCoveredByNumber}
 use Rattle.lf_coverage.specs.ExamplesCopying.{copy_app_head, copy_entry_head, copy_goal, copy_worlds}
 use Rattle.lf_coverage.specs.ExamplesNumbered.{one_copy, two_copies}
 use Rattle.lf_coverage.specs.ExamplesTwins.{Twins, alike, entry_alike, same_entry, twin_goal, twin_head, twin_worlds}
@@ -91,11 +92,11 @@ LaterIsLeaf = (numbered 4 (output_goal first_below_second later_marks asking_ori
 
 -- The run of two block variables that may be one instance, by number: its one leaf is check b.x b.x (alike b.x), and so u covers the goal.
 abbrev pub TwinRunByNumber : Type 0
-TwinRunByNumber = (S : ℕ → Bool) → SelfContained Twins twin_worlds S → S 0 ≡ true → S 1 ≡ true → EndsByNumber (IsNumberedLeaf Twins 3 twin_worlds (twin_head ∷ [])) (IsNumberedSplit Twins 3 twin_worlds S) (numbered 3 twin_goal) × IsCoveredCase Twins twin_worlds S (twin_head ∷ []) twin_goal
+TwinRunByNumber = (S : ℕ → Bool) → SelfContained Twins twin_worlds S → S 0 ≡ true → S 1 ≡ true → Ends (IsNumberedLeaf Twins 3 twin_worlds (twin_head ∷ [])) (IsNumberedSplit Twins 3 twin_worlds S) (numbered 3 twin_goal) × IsCoveredCase Twins twin_worlds S (twin_head ∷ []) twin_goal
 
 -- The run of copying, by number: each of its leaves by items is one by number.
 abbrev pub CopyRunByNumber : Type 0
-CopyRunByNumber = (S : ℕ → Bool) → SelfContained Copying copy_worlds S → S 0 ≡ true → EndsByNumber (IsNumberedLeaf Copying 4 copy_worlds copy_heads) (IsNumberedSplit Copying 4 copy_worlds S) (numbered 4 copy_goal)
+CopyRunByNumber = (S : ℕ → Bool) → SelfContained Copying copy_worlds S → S 0 ≡ true → Ends (IsNumberedLeaf Copying 4 copy_worlds copy_heads) (IsNumberedSplit Copying 4 copy_worlds S) (numbered 4 copy_goal)
 
 -- Values put in: of check b.x b.x Z, Z by alike b.x; and of q N D with the new block variable b, N by b.x and D by b.w, which gives the case above.
 abbrev pub alike_values : ℕ → Image

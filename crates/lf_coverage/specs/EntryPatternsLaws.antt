@@ -10,7 +10,7 @@ use Rattle.lf_cases.specs.Pattern.{Pattern, IsCoveredCase}
 use Rattle.lf_cases.specs.Split.{HasOneBlockVariable, Ends, IsSplit}
 use Rattle.lf_coverage.specs.EntryConstants.{with_entries, IsFreeFrom}
 use Rattle.lf_coverage.specs.EntryPatterns.{variable_images}
-use Rattle.lf_coverage.specs.EntryPatternsRuns.{IsCoveredByNumber, IsNumberedLeaf, IsNumberedSplit, EndsByNumber, HasOneBlock}
+use Rattle.lf_coverage.specs.EntryPatternsRuns.{IsCoveredByNumber, IsNumberedLeaf, IsNumberedSplit, HasOneBlock}
 use Rattle.lf_coverage.specs.Heads.{IsTypedCase, SplitsByHeads}
 use Rattle.lf_coverage.specs.Leaf.{IsInstanceLeaf}
 use Rattle.lf_coverage.specs.NumberedCase.{NumberedCase, AreTypedVariables}
@@ -26,7 +26,7 @@ NumberedLeafIsCovered = (Σ : Signature) → IsSignature Σ → (W : List Block)
 
 -- A run that ends at such instances, each split of which holds what its case holds, covers its goal, where this has one block variable at most.
 abbrev pub NumberedRunCovers : Type 0
-NumberedRunCovers = (Σ : Signature) → IsSignature Σ → (W : List Block) → AreTypedBlocks Σ W → (S : ℕ → Bool) (first : ℕ) → IsFreeFrom Σ first → (ps : List Pattern) (C : NumberedCase) → HasOneBlock C → EndsByNumber (IsNumberedLeaf Σ first W ps) (IsNumberedSplit Σ first W S) C → IsCoveredByNumber Σ first W S ps C
+NumberedRunCovers = (Σ : Signature) → IsSignature Σ → (W : List Block) → AreTypedBlocks Σ W → (S : ℕ → Bool) (first : ℕ) → IsFreeFrom Σ first → (ps : List Pattern) (C : NumberedCase) → HasOneBlock C → Ends (IsNumberedLeaf Σ first W ps) (IsNumberedSplit Σ first W S) C → IsCoveredByNumber Σ first W S ps C
 
 -- A typed case is covered where its numbered form is.
 abbrev pub NumberedCoversCase : Type 0
@@ -34,7 +34,7 @@ NumberedCoversCase = (Σ : Signature) → IsSignature Σ → (W : List Block) �
 
 -- So a run of its numbered form covers it.
 abbrev pub NumberedRunCoversCase : Type 0
-NumberedRunCoversCase = (Σ : Signature) → IsSignature Σ → (W : List Block) → AreTypedBlocks Σ W → (S : ℕ → Bool) (first : ℕ) → IsFreeFrom Σ first → (ps : List Pattern) (C : Case) → HasOneBlockVariable C.items → IsTypedCase Σ W C → EndsByNumber (IsNumberedLeaf Σ first W ps) (IsNumberedSplit Σ first W S) (numbered first C) → IsCoveredCase Σ W S ps C
+NumberedRunCoversCase = (Σ : Signature) → IsSignature Σ → (W : List Block) → AreTypedBlocks Σ W → (S : ℕ → Bool) (first : ℕ) → IsFreeFrom Σ first → (ps : List Pattern) (C : Case) → HasOneBlockVariable C.items → IsTypedCase Σ W C → Ends (IsNumberedLeaf Σ first W ps) (IsNumberedSplit Σ first W S) (numbered first C) → IsCoveredCase Σ W S ps C
 
 -- the numbered forms of cases
 abbrev pub numbered_all : ℕ → List Case → List NumberedCase
@@ -47,7 +47,7 @@ SplitIsNumberedSplit = (Σ : Signature) → IsSignature Σ → (W : List Block) 
 
 -- So a run by heads from a typed case, whose leaves are by number instances of patterns, is one by number.
 abbrev pub HeadRunIsByNumber : Type 0
-HeadRunIsByNumber = (Σ : Signature) → IsSignature Σ → (W : List Block) → AreTypedBlocks Σ W → (below : ℕ → ℕ → Bool) → IsSubordination Σ W below → (S : ℕ → Bool) → SelfContained Σ W S → (first : ℕ) → IsFreeFrom Σ first → (ps : List Pattern) (C : Case) → IsTypedCase Σ W C → (Ls : List Case) → ((D : Case) → Member D Ls → IsNumberedLeaf Σ first W ps (numbered first D)) → Ends (λ D. Member D Ls) (SplitsByHeads Σ W S below) C → EndsByNumber (IsNumberedLeaf Σ first W ps) (IsNumberedSplit Σ first W S) (numbered first C)
+HeadRunIsByNumber = (Σ : Signature) → IsSignature Σ → (W : List Block) → AreTypedBlocks Σ W → (below : ℕ → ℕ → Bool) → IsSubordination Σ W below → (S : ℕ → Bool) → SelfContained Σ W S → (first : ℕ) → IsFreeFrom Σ first → (ps : List Pattern) (C : Case) → IsTypedCase Σ W C → (Ls : List Case) → ((D : Case) → Member D Ls → IsNumberedLeaf Σ first W ps (numbered first D)) → Ends (λ D. Member D Ls) (SplitsByHeads Σ W S below) C → Ends (IsNumberedLeaf Σ first W ps) (IsNumberedSplit Σ first W S) (numbered first C)
 
 -- What a block variable of a typed case gives the variables of its block is typed, and on own terms.
 abbrev pub VariableIsTyped : Type 0

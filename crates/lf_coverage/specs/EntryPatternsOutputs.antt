@@ -15,10 +15,10 @@ use Rattle.lf_cases.specs.Case.{Case}
 use Rattle.lf_cases.specs.Cover.{CoveredOutputs}
 use Rattle.lf_cases.specs.Pattern.{Origin, of_entry, origin, subgoal_pattern, Pattern, IsCoveredCase}
 use Rattle.lf_cases.specs.Raised.{PlacesBelow}
-use Rattle.lf_cases.specs.Split.{HasOneBlockVariable}
+use Rattle.lf_cases.specs.Split.{HasOneBlockVariable, Ends}
 use Rattle.lf_coverage.specs.Calls.{CoverIs, IsBeside, covered}
 use Rattle.lf_coverage.specs.EntryConstants.{IsFreeFrom}
-use Rattle.lf_coverage.specs.EntryPatternsRuns.{HasOneBlock, IsNumberedLeaf, IsNumberedSplit, EndsByNumber}
+use Rattle.lf_coverage.specs.EntryPatternsRuns.{HasOneBlock, IsNumberedLeaf, IsNumberedSplit}
 use Rattle.lf_coverage.specs.Heads.{IsTypedCase}
 use Rattle.lf_coverage.specs.NumberedCase.{NumberedCase}
 use Rattle.lf_coverage.specs.NumberedInstance.{block_at}
@@ -41,13 +41,13 @@ OwnBlockHasNumberZero = (first : ℕ) (below : ℕ → ℕ → Bool) (m : ℕ �
 -- A run by number from it, whose leaves are instances of patterns, as of the subgoal for this block variable, and whose splits hold what they split, covers
 -- the goal beside S.
 abbrev pub NumberedRunCoversOutputs : Type 0
-NumberedRunCoversOutputs = (Σ : Signature) → IsSignature Σ → (W : List Block) → AreTypedBlocks Σ W → (S : ℕ → Bool) (first : ℕ) → IsFreeFrom Σ first → (below : ℕ → ℕ → Bool) (m : ℕ → List Mark) (c : Clause) (d : IsClause Σ W c) (U : ℕ → Bool) (i : ℕ) (A : LfType) → IsSubgoal c i A → UsesGoal U (input_places (m (target A))) A → HasSoundMarks Σ (target A) (m (target A)) → NoneFree (m (target A)) → (K : Kind) → Σ.kinds (target A) ≡ Some K → (ps : List Pattern) → EndsByNumber (IsNumberedLeaf Σ first W ps) (IsNumberedSplit Σ first W S) (numbered_output_goal first below m (origin d) U A K) → IsCoveredCase Σ W S ps (output_goal below m (origin d) U A K)
+NumberedRunCoversOutputs = (Σ : Signature) → IsSignature Σ → (W : List Block) → AreTypedBlocks Σ W → (S : ℕ → Bool) (first : ℕ) → IsFreeFrom Σ first → (below : ℕ → ℕ → Bool) (m : ℕ → List Mark) (c : Clause) (d : IsClause Σ W c) (U : ℕ → Bool) (i : ℕ) (A : LfType) → IsSubgoal c i A → UsesGoal U (input_places (m (target A))) A → HasSoundMarks Σ (target A) (m (target A)) → NoneFree (m (target A)) → (K : Kind) → Σ.kinds (target A) ≡ Some K → (ps : List Pattern) → Ends (IsNumberedLeaf Σ first W ps) (IsNumberedSplit Σ first W S) (numbered_output_goal first below m (origin d) U A K) → IsCoveredCase Σ W S ps (output_goal below m (origin d) U A K)
 
 -- So the outputs of any clause's subgoal are covered, an entry's too, where there is such a run for each way in which the clause comes, to instances of the
 -- subgoal. Nothing is asked of the families in the types of blocks.
 abbrev pub NumberedRunsGiveOutputs : Type 0
-NumberedRunsGiveOutputs = (Σ : Signature) → IsSignature Σ → (W : List Block) → AreTypedBlocks Σ W → (first : ℕ) → IsFreeFrom Σ first → (below : ℕ → ℕ → Bool) → IsSubordination Σ W below → (m : ℕ → List Mark) (f : ℕ) → IsDeclared Σ f → (c : Clause) → IsClause Σ W c → below f (target c.type) ≡ true → (U : ℕ → Bool) → Within (outside c.type everything) U → (i : ℕ) (A : LfType) → IsSubgoal c i A → IsSequence Σ W (scope c) (binders [] A) → UsesGoal U (input_places (m (target A))) A → HasSoundMarks Σ (target A) (m (target A)) → NoneFree (m (target A)) → (K : Kind) → Σ.kinds (target A) ≡ Some K → PlacesBelow Σ below f K → ((d : IsClause Σ W c) → EndsByNumber (IsNumberedLeaf Σ first W (subgoal_pattern c (origin d) A ∷ [])) (IsNumberedSplit Σ first W (below f)) (numbered_output_goal first below m (origin d) U A K)) → CoveredOutputs Σ m W (below f) c U A
+NumberedRunsGiveOutputs = (Σ : Signature) → IsSignature Σ → (W : List Block) → AreTypedBlocks Σ W → (first : ℕ) → IsFreeFrom Σ first → (below : ℕ → ℕ → Bool) → IsSubordination Σ W below → (m : ℕ → List Mark) (f : ℕ) → IsDeclared Σ f → (c : Clause) → IsClause Σ W c → below f (target c.type) ≡ true → (U : ℕ → Bool) → Within (outside c.type everything) U → (i : ℕ) (A : LfType) → IsSubgoal c i A → IsSequence Σ W (scope c) (binders [] A) → UsesGoal U (input_places (m (target A))) A → HasSoundMarks Σ (target A) (m (target A)) → NoneFree (m (target A)) → (K : Kind) → Σ.kinds (target A) ≡ Some K → PlacesBelow Σ below f K → ((d : IsClause Σ W c) → Ends (IsNumberedLeaf Σ first W (subgoal_pattern c (origin d) A ∷ [])) (IsNumberedSplit Σ first W (below f)) (numbered_output_goal first below m (origin d) U A K)) → CoveredOutputs Σ m W (below f) c U A
 
 -- And a run by number of any typed goal, beside each set beside which coverage is asked, answers that it is covered.
 abbrev pub NumberedRunAnswers : Type 0
-NumberedRunAnswers = (Σ : Signature) → IsSignature Σ → (W : List Block) → AreTypedBlocks Σ W → (first : ℕ) → IsFreeFrom Σ first → (below : ℕ → ℕ → Bool) (ps : List Pattern) (C : Case) → HasOneBlockVariable C.items → IsTypedCase Σ W C → ((S : ℕ → Bool) → IsBeside Σ W S C → EndsByNumber (IsNumberedLeaf Σ first W ps) (IsNumberedSplit Σ first W S) (numbered first C)) → CoverIs Σ W below ps C covered
+NumberedRunAnswers = (Σ : Signature) → IsSignature Σ → (W : List Block) → AreTypedBlocks Σ W → (first : ℕ) → IsFreeFrom Σ first → (below : ℕ → ℕ → Bool) (ps : List Pattern) (C : Case) → HasOneBlockVariable C.items → IsTypedCase Σ W C → ((S : ℕ → Bool) → IsBeside Σ W S C → Ends (IsNumberedLeaf Σ first W ps) (IsNumberedSplit Σ first W S) (numbered first C)) → CoverIs Σ W below ps C covered

@@ -72,17 +72,6 @@ pub record IsNumberedLeaf (Σ : Signature) (first : ℕ) (W : List Block) (ps : 
   pub given_own : (i : ℕ) → is_given C.given i ≡ true → outside pattern.clause.type everything i ≡ false
   pub is_instance : IsInstanceOfPattern Σ first C pattern
 
--- A run that ends well: each case that it reaches is a leaf, or it is split into cases, from each of which it ends well.
-mutual
-  pub data EndsByNumber (Leaf : NumberedCase → Type 0) (Splits : NumberedCase → List NumberedCase → Type 0) : NumberedCase → Type 0 where
-    at_numbered_leaf : {C : NumberedCase} → Leaf C → EndsByNumber Leaf Splits C
-    by_numbered_split : {C : NumberedCase} (Cs : List NumberedCase) → Splits C Cs → AllEndByNumber Leaf Splits Cs → EndsByNumber Leaf Splits C
-
-  -- from all cases of a split
-  pub data AllEndByNumber (Leaf : NumberedCase → Type 0) (Splits : NumberedCase → List NumberedCase → Type 0) : List NumberedCase → Type 0 where
-    no_numbered : AllEndByNumber Leaf Splits []
-    next_numbered : {C : NumberedCase} {Cs : List NumberedCase} → EndsByNumber Leaf Splits C → AllEndByNumber Leaf Splits Cs → AllEndByNumber Leaf Splits (C ∷ Cs)
-
 -- at most one block variable: so it is with each goal
 abbrev pub HasOneBlock : NumberedCase → Type 0
 HasOneBlock C = length C.blocks ≤ 1

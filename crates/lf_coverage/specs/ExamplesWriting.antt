@@ -1,6 +1,6 @@
 -- A worked example of writing.
 use Rattle.std.specs.Prelude.{◌≡◌, ℕ, zero, suc, ◌+◌, List, [], ◌∷◌, Option, Some, None, false}
-use Rattle.lf.specs.Syntax.{constant, variable, Term, root, nil, LfType, pi, base}
+use Rattle.lf.specs.Syntax.{constant, Term, root, nil, LfType, pi, base}
 use Rattle.lf.specs.Substitution.{Image, keep, put, substitute_type, reduce}
 use Rattle.lf.specs.AtOnce.{in_front}
 use Rattle.lf.specs.Variables.{nothing}
@@ -15,7 +15,6 @@ use Rattle.lf_coverage.specs.ExamplesEntries.{copy_entry_case, entry_on, on_z}
 use Rattle.lf_coverage.specs.OwnTerms.{own_terms, OnOwnTerms}
 use Rattle.lf_coverage.specs.SplitStore.{split_store}
 use Rattle.lf_coverage.specs.Writing.{IsWriting, read_back}
-use Rattle.lf_coverage.specs.WritingHeads.{IsReadAs}
 use Rattle.lf_coverage.specs.WritingInstances.{AreValuesOver}
 use Rattle.lf_coverage.specs.WritingRoom.{past_gap, gap_back, with_gap}
 
@@ -46,10 +45,6 @@ other_filling (suc (suc (suc m))) = None
 
 abbrev pub HeadIsOnOtherTerms : Type 0
 HeadIsOnOtherTerms = Solution (with_entries Numbered 4 (numbered_block ∷ [])) [] entry_split [] other_filling × (OnOwnTerms (own_terms 4 on_z) (entry_on (successor z)) → ⊥)
-
--- In the context above exp has the head b.x, which is read as x, and not as y.
-abbrev pub EntryIsReadAs : Type 0
-EntryIsReadAs = IsReadAs Copying 4 copy_entry_case one_behind exp (constant 4) exp (variable 2) × (IsReadAs Copying 4 copy_entry_case one_behind exp (constant 4) exp (variable 0) → ⊥)
 
 -- Room for two entries from 4 on: the constant 3 stays, 4 moves to 6 and back, and 4 and 5 are free.
 abbrev pub RoomIsFree : Type 0

@@ -35,8 +35,12 @@ pub data HasRank (W : List Block) (I : List Item) (X : LfType) : Offer → List 
   old_rank : (B : Block) (w v k j : ℕ) (A : LfType) → StandsAt w B W → IsEntryOf I v B k j → HasRank W I X (record { items = I; moved = zero; head = variable (j + length (taken X)); type = A }) (1 ∷ w ∷ (length B.entries - suc k) ∷ suc v ∷ [])
   bound_rank : (j : ℕ) (A : LfType) → j < length (taken X) → HasRank W I X (record { items = I; moved = zero; head = variable j; type = A }) (2 ∷ (length (taken X) - suc j) ∷ [])
 
+-- Each stands before the next, by its rank.
+pub data AreRanked {Offered : Type 0} (HasRankOf : Offered → List ℕ → Type 0) : List Offered → Type 0 where
+  none_offered : AreRanked HasRankOf []
+  one_offered : {h : Offered} (r : List ℕ) → HasRankOf h r → AreRanked HasRankOf (h ∷ [])
+  next_offered : {h k : Offered} {hs : List Offered} (r s : List ℕ) → HasRankOf h r → HasRankOf k s → ComesBefore r s → AreRanked HasRankOf (k ∷ hs) → AreRanked HasRankOf (h ∷ k ∷ hs)
+
 -- The offers are in order. For X of plus X Y _ it is z and then s; for exp in the worlds of a block it is lam, app and then the entry x.
-pub data AreInOrder (W : List Block) (I : List Item) (X : LfType) : List Offer → Type 0 where
-  none_offered : AreInOrder W I X []
-  one_offered : {h : Offer} (r : List ℕ) → HasRank W I X h r → AreInOrder W I X (h ∷ [])
-  next_offered : {h k : Offer} {hs : List Offer} (r s : List ℕ) → HasRank W I X h r → HasRank W I X k s → ComesBefore r s → AreInOrder W I X (k ∷ hs) → AreInOrder W I X (h ∷ k ∷ hs)
+abbrev pub AreInOrder : List Block → List Item → LfType → List Offer → Type 0
+AreInOrder W I X = AreRanked (HasRank W I X)

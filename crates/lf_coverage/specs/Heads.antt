@@ -19,6 +19,7 @@ use Rattle.lf_cases.specs.Split.{IsDistinct}
 use Rattle.lf_cases.specs.Missing.{AreTypedItems, IsTypedInstance, put_in}
 use Rattle.lf_cases.specs.Candidates.{free_among}
 use Rattle.lf_coverage.specs.HeadOrder.{Offer, AreInOrder}
+use Rattle.lf_coverage.specs.Listed.{Listed}
 use Rattle.lf_cases.specs.Reached.{arguments_count, head_masks, head_term, taken, SplitHead, split_items}
 
 -- the families in the type of each argument are below its own
@@ -72,12 +73,6 @@ GivesNone Σ W S below x X I n h A = (Σ' : Signature) → Extends S Σ Σ' → 
 pub record AreOffers (Σ : Signature) (W : List Block) (I : List Item) (X : LfType) (hs : List Offer) : Type 0 where
   pub each : (h : Offer) → Member h hs → SplitHead Σ W I X h.items h.moved h.head h.type
   pub every : (J : List Item) (n : ℕ) (h : Head) (A : LfType) → SplitHead Σ W I X J n h A → Member (record { items = J; moved = n; head = h; type = A }) hs
-
--- The answers to heads, each a case or none, make this list of cases, in the same order.
-pub data Listed (Answer : Offer → Option Case → Type 0) : List Offer → List Case → Type 0 where
-  no_offer : Listed Answer [] []
-  with_case : {h : Offer} {D : Case} {hs : List Offer} {Cs : List Case} → Answer h (Some D) → Listed Answer hs Cs → Listed Answer (h ∷ hs) (D ∷ Cs)
-  without_case : {h : Offer} {hs : List Offer} {Cs : List Case} → Answer h None → Listed Answer hs Cs → Listed Answer (h ∷ hs) Cs
 
 -- Each head for the free variable x of C is offered, in order, and the answers make the list of cases.
 pub record HeadsAreAnswered (Σ : Signature) (W : List Block) (Answer : LfType → Offer → Option Case → Type 0) (C : Case) (x : ℕ) (Cs : List Case) : Type 0 where

@@ -36,9 +36,6 @@ abbrev pub MatchIsInstance : Type 0
 MatchIsInstance = (Σ : Signature) → IsSignature Σ → (W : List Block) → AreTypedBlocks Σ W → (C : Case) → IsTypedCase Σ W C → (p : Pattern) → IsConstants p.origin → ((i : ℕ) → is_given C.given i ≡ true → outside p.clause.type everything i ≡ false) → Matches Σ C p → IsInstanceOf Σ W C p
 
 -- So matching is a test of instances, and whether a case is one is decided.
-abbrev pub MatchingDecides : Type 0
-MatchingDecides = (Σ : Signature) → IsSignature Σ → (W : List Block) → AreTypedBlocks Σ W → (C : Case) (p : Pattern) → IsTypedPattern Σ p → IsConstants p.origin → IsTypedBeside Σ W C p → ((i : ℕ) → is_given C.given i ≡ true → outside p.clause.type everything i ≡ false) → (UsesGoal (ground_in p (covered_places C.arguments) C.given) (covered_places C.arguments) p.type → HoldsTypes (ground_in p (covered_places C.arguments) C.given) (scope p.clause)) → IsInstanceOf Σ W C p ↔ Matches Σ C p
-
 abbrev pub InstanceIsDecided : Type 0
 InstanceIsDecided = (Σ : Signature) → IsSignature Σ → (W : List Block) → AreTypedBlocks Σ W → (C : Case) (p : Pattern) → IsTypedPattern Σ p → IsConstants p.origin → IsTypedBeside Σ W C p → ((i : ℕ) → is_given C.given i ≡ true → outside p.clause.type everything i ≡ false) → (UsesGoal (ground_in p (covered_places C.arguments) C.given) (covered_places C.arguments) p.type → HoldsTypes (ground_in p (covered_places C.arguments) C.given) (scope p.clause)) → Dec (IsInstanceOf Σ W C p)
 

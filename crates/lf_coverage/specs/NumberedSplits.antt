@@ -1,5 +1,5 @@
 -- A split of a case whose block variables have numbers, at each head of which unification answers: over the signature with entries, in the empty world.
-use Rattle.std.specs.Prelude.{◌≡◌, ℕ, ◌+◌, List, [], ◌∷◌, length, Bool, Option, Some, None}
+use Rattle.std.specs.Prelude.{◌≡◌, ℕ, ◌+◌, List, length, Bool, Option, Some, None}
 use Rattle.lf.specs.Syntax.{Head, constant, Spine, LfType, Kind, rename_type}
 use Rattle.lf.specs.AtOnce.{shift_by}
 use Rattle.lf.specs.Typing.{Signature, TypeAt, IsSignature}
@@ -13,6 +13,7 @@ use Rattle.lf_cases.specs.Reached.{arguments_count}
 use Rattle.lf_coverage.specs.EntryConstants.{IsFreeFrom, with_entries}
 use Rattle.lf_coverage.specs.EntryPatternsRuns.{IsNumberedSplit}
 use Rattle.lf_coverage.specs.Heads.{ArgumentsAreBelow}
+use Rattle.lf_coverage.specs.Listed.{Listed}
 use Rattle.lf_coverage.specs.NewBlock.{with_new_block}
 use Rattle.lf_coverage.specs.NumberedCase.{NumberedCase}
 use Rattle.lf_coverage.specs.OwnStores.{IsNumberedOffer, numbered_store, solved_numbered}
@@ -44,12 +45,6 @@ pub record NumberedAnswer (Σ : Signature) (first : ℕ) (below : ℕ → ℕ �
   pub of_family : Σ.kinds (target o.type) ≡ Some kind
   pub finds : NumberedUnifierFinds Σ first below o kind found
 
--- The answers to offers, each a case or none, make this list of cases, in the same order.
-pub data ListedByNumber (Answer : NumberedOffer → Option NumberedCase → Type 0) : List NumberedOffer → List NumberedCase → Type 0 where
-  no_offer : ListedByNumber Answer [] []
-  with_case : {o : NumberedOffer} {D : NumberedCase} {os : List NumberedOffer} {Cs : List NumberedCase} → Answer o (Some D) → ListedByNumber Answer os Cs → ListedByNumber Answer (o ∷ os) (D ∷ Cs)
-  without_case : {o : NumberedOffer} {os : List NumberedOffer} {Cs : List NumberedCase} → Answer o None → ListedByNumber Answer os Cs → ListedByNumber Answer (o ∷ os) Cs
-
 -- A split of the free variable x of C, at each head of which unification answers; the families in the types of arguments are below their own. A case
 -- with a block variable may be split so, and one that gets a new one: p X in the worlds of {x:exp} {u:p x}, where exp has no constant, by b.x.
 pub record IsAnsweredByNumber (Σ : Signature) (first : ℕ) (W : List Block) (below : ℕ → ℕ → Bool) (C : NumberedCase) (x : ℕ) (Cs : List NumberedCase) : Type 0 where
@@ -60,7 +55,7 @@ pub record IsAnsweredByNumber (Σ : Signature) (first : ℕ) (W : List Block) (b
   pub each : (o : NumberedOffer) → Member o offers → IsOfferTo Σ first W C x type o
   pub every : (o : NumberedOffer) → IsOfferTo Σ first W C x type o → Member o offers
   pub arguments_below : (o : NumberedOffer) → IsOfferTo Σ first W C x type o → ArgumentsAreBelow below o.left
-  pub listed : ListedByNumber (NumberedAnswer Σ first below) offers Cs
+  pub listed : Listed (NumberedAnswer Σ first below) offers Cs
 
 -- Such a split is one, beside each self-contained set that holds the families in the variable's type: each ground instance of the case with block
 -- variables apart is, with the same values, one of a case that is read off, with block variables apart.

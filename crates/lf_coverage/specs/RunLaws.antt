@@ -14,7 +14,7 @@ use Rattle.lf_cases.specs.Pattern.{Pattern}
 use Rattle.lf_cases.specs.Missing.{AreTypedItems, IsInstanceOfGoal}
 use Rattle.lf_cases.specs.Reached.{Reached, SplitHead, split_items}
 use Rattle.lf_cases.specs.Split.{Ends, HasNoBlockVariable, HasOneBlockVariable}
-use Rattle.lf_coverage.specs.Calls.{AreCasesBesideAll, CoverIs, IsBeside, MatchedIs, apart, covered, missing}
+use Rattle.lf_coverage.specs.Calls.{AreCasesBesideAll, CoverIs, IsBeside, covered, missing}
 use Rattle.lf_coverage.specs.Heads.{IsTypedCase}
 use Rattle.lf_coverage.specs.Leaf.{IsInstanceLeaf, IsTypedPattern}
 use Rattle.lf_coverage.specs.MeetStore.{IsConstants, IsOpen, meet_store}
@@ -38,10 +38,6 @@ InstanceIsTypedCase = (Σ : Signature) → IsSignature Σ → (W : List Block) �
 -- A candidate is one of the free variables of the case, and has a type.
 abbrev pub CandidateIsVariable : Type 0
 CandidateIsVariable = (C : Case) (p : Pattern) (x : ℕ) → Member x (case_candidates C p) → (free_among C.items x ≡ true) × ((X : LfType) × TypeAt (items_context C.items) x X)
-
--- What is never solved, a case that is typed beside a constant's clause and this clause, is answered so: `NeverIsApartBeside` in the words of the call.
-abbrev pub NeverIsMatchedApart : Type 0
-NeverIsMatchedApart = (Σ : Signature) → IsSignature Σ → (W : List Block) → AreTypedBlocks Σ W → (C : Case) → HasNoBlockVariable C.items → (p : Pattern) → IsTypedPattern Σ p → IsConstants p.origin → IsTypedBeside Σ W C p → (K : Kind) → Σ.kinds C.family ≡ Some K → Never Σ [] (meet_store C p K) → MatchedIs Σ W C p apart
 
 -- A case that the strategy reaches from a typed goal in the empty world, and that unification never solves with any pattern of the list, each a
 -- constant's, is missing. So is each one that it reaches where the list is empty.

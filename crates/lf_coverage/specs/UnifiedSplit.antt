@@ -20,7 +20,7 @@ UnifierFinds Σ below C x X h K (Some D) = (after : Store) × (s : Solved Σ (sp
 UnifierFinds Σ below C x X h K None = Never Σ [] (split_store below x X h.items h.moved h.head h.type K)
 
 -- So unification answers at a head, whatever set of families is asked for: the items are free variables.
-pub record HeadIsSolved (Σ : Signature) (below : ℕ → ℕ → Bool) (C : Case) (x : ℕ) (X : LfType) (h : Offer) (found : Option Case) : Type 0 where
+pub record HeadIsAnswered (Σ : Signature) (below : ℕ → ℕ → Bool) (C : Case) (x : ℕ) (X : LfType) (h : Offer) (found : Option Case) : Type 0 where
   pub kind : Kind
   pub of_family : Σ.kinds (target X) ≡ Some kind
   pub no_block : HasNoBlockVariable h.items
@@ -28,7 +28,7 @@ pub record HeadIsSolved (Σ : Signature) (below : ℕ → ℕ → Bool) (C : Cas
 
 -- And the items for the head are of families of S.
 pub record UnifierAnswer (Σ : Signature) (W : List Block) (S : ℕ → Bool) (below : ℕ → ℕ → Bool) (C : Case) (x : ℕ) (X : LfType) (h : Offer) (found : Option Case) : Type 0 where
-  pub answered : HeadIsSolved Σ below C x X h found
+  pub answered : HeadIsAnswered Σ below C x X h found
   pub families : AllFamiliesIn S (items_context (split_items below X h.items h.moved h.type))
 
 -- a split by unification
@@ -43,7 +43,7 @@ SplitsByUnification Σ W S below C Cs = (x : ℕ) × IsUnifiedSplit Σ W S below
 -- cases. The items of each head are free variables: so there is no such split of a case with a block variable, but at a variable without any head; nor
 -- one where an entry of the worlds is a head, as of cp X _ in the worlds of {x:exp} {u:cp x x}. plus X Y _ is split so by z and s.
 abbrev pub IsAnsweredSplit : Signature → List Block → (ℕ → ℕ → Bool) → Case → ℕ → List Case → Type 0
-IsAnsweredSplit Σ W below C x Cs = HeadsAreAnswered Σ W (HeadIsSolved Σ below C x) C x Cs
+IsAnsweredSplit Σ W below C x Cs = HeadsAreAnswered Σ W (HeadIsAnswered Σ below C x) C x Cs
 
 -- a case is split so at one of its variables
 abbrev pub AnswersEachHead : Signature → List Block → (ℕ → ℕ → Bool) → Case → List Case → Type 0
@@ -51,7 +51,7 @@ AnswersEachHead Σ W below C Cs = (x : ℕ) × IsAnsweredSplit Σ W below C x Cs
 
 -- So it is split, and the families in the types of the arguments that x and the heads take are below their own.
 abbrev pub IsSolvedSplit : Signature → List Block → (ℕ → ℕ → Bool) → Case → ℕ → List Case → Type 0
-IsSolvedSplit Σ W below C x Cs = IsSplitBelow Σ W below (HeadIsSolved Σ below C x) C x Cs
+IsSolvedSplit Σ W below C x Cs = IsSplitBelow Σ W below (HeadIsAnswered Σ below C x) C x Cs
 
 -- a case is split so at one of its variables, with the families of arguments below their own
 abbrev pub SolvesEachHead : Signature → List Block → (ℕ → ℕ → Bool) → Case → List Case → Type 0

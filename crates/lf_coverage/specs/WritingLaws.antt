@@ -1,5 +1,5 @@
 -- The laws of writing.
-use Rattle.std.specs.Prelude.{◌≡◌, ℕ, List, Bool}
+use Rattle.std.specs.Prelude.{◌≡◌, ℕ, List, length, Bool}
 use Rattle.lf.specs.Syntax.{Term, LfType}
 use Rattle.lf.specs.Substitution.{Image, substitute, substitute_type, reduce, after}
 use Rattle.lf.specs.Typing.{Signature, TypeAt, IsSignature, HasType, IsType, IsTypedSubstitution}
@@ -12,7 +12,9 @@ use Rattle.lf_coverage.specs.OwnTerms.{blocks_of, own_terms, OnOwnTerms, TypeOnO
 use Rattle.lf_coverage.specs.NumberedCase.{NumberedCase, AreTypedVariables, IsNumberedInstance, value_in, type_in}
 use Rattle.lf_coverage.specs.NewInstance.{AreApart}
 use Rattle.lf_coverage.specs.Numbering.{entries_of}
-use Rattle.lf_coverage.specs.Writing.{IsFreeBetween, IsWriting, read_back, read_type_back}
+use Rattle.lf_coverage.specs.OwnValuesReading.{ReadsBack}
+use Rattle.lf_coverage.specs.Reading.{entry_reading}
+use Rattle.lf_coverage.specs.Writing.{IsFreeBetween, IsWriting, back_over, read_back, read_type_back}
 
 -- A ground instance of a typed case, in a context of worlds, over an extension that leaves the numbers of the entry constants free.
 pub record IsInstanceWithRoom {Σ' : Signature} {W : List Block} {S : ℕ → Bool} {G : List LfType} (Σ : Signature) (w : World Σ' W S G) (first : ℕ) (C : NumberedCase) (θ : ℕ → ℕ → Image) (σ : ℕ → Image) : Type 0 where
@@ -45,6 +47,6 @@ WrittenIsReadBack = (Σ Σ' : Signature) (W : List Block) (S : ℕ → Bool) (G 
 abbrev pub WrittenValuesAreTyped : Type 0
 WrittenValuesAreTyped = (Σ Σ' : Signature) (W : List Block) (S : ℕ → Bool) (G : List LfType) (w : World Σ' W S G) (first : ℕ) (C : NumberedCase) (θ : ℕ → ℕ → Image) (σ : ℕ → Image) → IsInstanceWithRoom Σ w first C θ σ → (F : List LfType) (ρ : ℕ → Image) (back : ℕ → ℕ) → IsWriting Σ' first (blocks_of C.blocks) θ G F ρ back → IsTypedSubstitution (with_entries Σ' first (blocks_of C.blocks)) C.variables F (after ρ σ) × ((i : ℕ) (A : LfType) → TypeAt C.variables i A → ImageOnOwnTerms (own_terms first (put_in_blocks (after ρ σ) C.blocks)) (after ρ σ i)) × ((N : Term) (A : LfType) → HasType Σ' G N A → OnOwnTerms (own_terms first (put_in_blocks (after ρ σ) C.blocks)) (substitute reduce ρ N))
 
--- What is typed over entry constants in the context of what is written, and on own terms there, is typed when it is read back.
-abbrev pub ReadingBackKeepsTyping : Type 0
-ReadingBackKeepsTyping = (Σ Σ' : Signature) (W : List Block) (S : ℕ → Bool) (G : List LfType) (w : World Σ' W S G) (first : ℕ) (C : NumberedCase) (θ : ℕ → ℕ → Image) (σ : ℕ → Image) → IsInstanceWithRoom Σ w first C θ σ → (F : List LfType) (ρ : ℕ → Image) (back : ℕ → ℕ) → IsWriting Σ' first (blocks_of C.blocks) θ G F ρ back → (M : Term) (A : LfType) → IsType (with_entries Σ' first (blocks_of C.blocks)) F A → TypeOnOwnTerms (own_terms first (put_in_blocks (after ρ σ) C.blocks)) A → HasType (with_entries Σ' first (blocks_of C.blocks)) F M A → OnOwnTerms (own_terms first (put_in_blocks (after ρ σ) C.blocks)) M → HasType Σ' G (read_back first (blocks_of C.blocks) θ F back M) (read_type_back first (blocks_of C.blocks) θ F back A)
+-- Terms over entry constants in the context of what is written are read back: so (ReadBackIsTyped) what is typed there, on own terms, is typed when it is.
+abbrev pub WrittenReadsBack : Type 0
+WrittenReadsBack = (Σ Σ' : Signature) (W : List Block) (S : ℕ → Bool) (G : List LfType) (w : World Σ' W S G) (first : ℕ) (C : NumberedCase) (θ : ℕ → ℕ → Image) (σ : ℕ → Image) → IsInstanceWithRoom Σ w first C θ σ → (F : List LfType) (ρ : ℕ → Image) (back : ℕ → ℕ) → IsWriting Σ' first (blocks_of C.blocks) θ G F ρ back → ReadsBack Σ' Σ' first (blocks_of C.blocks) F G (entry_reading first (blocks_of C.blocks) θ (length F)) (own_terms first (put_in_blocks (after ρ σ) C.blocks)) (back_over (length F) back)

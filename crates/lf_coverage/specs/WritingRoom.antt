@@ -1,28 +1,19 @@
 -- Room for entry constants. An extension of the signature may use their numbers, so its constants from the first of these on move up past them. Then a
 -- ground instance over it is one over an extension that leaves the numbers free.
-use Rattle.std.specs.Prelude.{◌≡◌, ℕ, zero, suc, ◌+◌, List, length, Bool, Option, Some, None}
-use Rattle.lf.specs.Syntax.{Head, Term, Spine, root, LfType, Kind, kind_pi, star, skeleton}
+use Rattle.std.specs.Prelude.{◌≡◌, ℕ, zero, suc, ◌+◌, List, Bool, Option, Some, None}
+use Rattle.lf.specs.Syntax.{Term, LfType, Kind, kind_pi, star}
 use Rattle.lf.specs.Substitution.{Image, keep, put}
-use Rattle.lf.specs.Eta.{lambdas}
-use Rattle.lf.specs.Typing.{Signature, TypeAt, IsSignature}
-use Rattle.lf.specs.Variables.{target, FamiliesIn}
-use Rattle.lf.specs.Subordination.{Block, AreTypedBlocks, SelfContained}
+use Rattle.lf.specs.Typing.{Signature, IsSignature}
+use Rattle.lf.specs.Subordination.{Block, AreTypedBlocks}
 use Rattle.lf.specs.Worlds.{World}
 use Rattle.lf.specs.Extension.{Extends}
-use Rattle.lf_checks.specs.Below.{IsSubordination}
-use Rattle.lf_unification.specs.Steps.{CanRefute}
 use Rattle.lf_cases.specs.Cover.{InstanceIn}
-use Rattle.lf_cases.specs.OutputGoal.{free_variables}
-use Rattle.lf_cases.specs.Reached.{taken}
-use Rattle.lf_coverage.specs.EntryConstants.{with_entries, IsFreeFrom}
-use Rattle.lf_coverage.specs.Heads.{ArgumentsAreBelow}
+use Rattle.lf_coverage.specs.EntryConstants.{IsFreeFrom}
 use Rattle.lf_coverage.specs.NewInstance.{AreApart}
 use Rattle.lf_coverage.specs.NumberedCase.{NumberedCase, AreTypedVariables, IsNumberedInstance}
 use Rattle.lf_coverage.specs.NumberedInstance.{block_at, move, move_type, move_types}
 use Rattle.lf_coverage.specs.Numbering.{entries_of}
 use Rattle.lf_coverage.specs.OwnTerms.{BlockVariable, blocks_of}
-use Rattle.lf_coverage.specs.SplitStore.{split_store}
-use Rattle.lf_coverage.specs.WritingHeads.{IsReadAs}
 use Rattle.lf_coverage.specs.WritingLaws.{IsInstanceWithRoom}
 
 -- the numbers from k on, moved up by n
@@ -72,10 +63,6 @@ leave_room first n Σ = record { types = λ c. move_declared (past_gap first n) 
 -- that the extension has beside those of the signature, and block variables that are apart stay so.
 abbrev pub RoomIsMade : Type 0
 RoomIsMade = (Σ Σ' : Signature) → IsSignature Σ → (S : ℕ → Bool) → Extends S Σ Σ' → (W : List Block) → AreTypedBlocks Σ W → (first : ℕ) → IsFreeFrom Σ first → (C : NumberedCase) → AreTypedVariables Σ first W C → (G : List LfType) (w : World Σ' W S G) (θ : ℕ → ℕ → Image) (σ : ℕ → Image) → IsNumberedInstance w first C θ σ → (v : World (leave_room first (entries_of (blocks_of C.blocks)) Σ') W S (move_types (past_gap first (entries_of (blocks_of C.blocks))) G)) × IsInstanceWithRoom Σ v first C (λ k i. move_image (past_gap first (entries_of (blocks_of C.blocks))) (θ k i)) (λ i. move_image (past_gap first (entries_of (blocks_of C.blocks))) (σ i)) × (AreApart C θ → AreApart C (λ k i. move_image (past_gap first (entries_of (blocks_of C.blocks))) (θ k i)))
-
--- So where steps refute a head over the signature with entries, no ground instance with block variables apart makes x that head, in whatever extension.
-abbrev pub NumberedGivesNone : Type 0
-NumberedGivesNone = (Σ Σ' : Signature) → IsSignature Σ → (S : ℕ → Bool) → Extends S Σ Σ' → (W : List Block) → AreTypedBlocks Σ W → (first : ℕ) → IsFreeFrom Σ first → (C : NumberedCase) → AreTypedVariables Σ first W C → (G : List LfType) (w : World Σ' W S G) (θ : ℕ → ℕ → Image) (σ : ℕ → Image) → IsNumberedInstance w first C θ σ → AreApart C θ → SelfContained Σ W S → (below : ℕ → ℕ → Bool) → IsSubordination Σ W below → (x : ℕ) (X : LfType) → TypeAt C.variables x X → FamiliesIn S X → ArgumentsAreBelow below X → (h : Head) (A : LfType) (h0 : Head) → IsReadAs Σ first C θ X h A h0 → ArgumentsAreBelow below A → (K : Kind) → Σ.kinds (target X) ≡ Some K → CanRefute (with_entries Σ first (blocks_of C.blocks)) (split_store below x X (free_variables C.variables) zero h A K) → (T : Spine) → σ x ≡ put (skeleton X) (lambdas (length (taken X)) (root h0 T)) → ⊥
 
 -- And back: a ground instance of a typed case over such an extension, whose block variables stand for instances that are moved from the context, is one of
 -- the context when its constants move down again; terms that were moved up are what they were.

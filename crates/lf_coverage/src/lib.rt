@@ -2,7 +2,7 @@
 #![tactic(auto)]
 
 ghost use Rattle.lf_coverage.specs.Laws.{HeadSplitIsSplit, SplitCasesAreTyped, SplitCaseIsInstance, InstancesCompose, ReachedIsInstance, MeetStoreIsReady, SplitStoreIsReady, StoresHaveSkeletons, InputGoalIsTypedCase, InputGoalIsTyped, InstanceStaysTyped, SplitCasesStayTyped, ReachedStaysTyped, HeadSplitsCover, NeverGivesNone, NeverGivesNoCase, NeverSharesAll, NeverIsApart, NeverIsApartBeside, SolvedSharesInstance, SolvedGivesCase, SolvedIsSplit, LeftIsOutside, UnifiedSplitIsHeadSplit, LeafIsInstanceCase, LeavesCover, HeadIsTypedPattern, SubgoalIsTypedPattern};
-ghost use Rattle.lf_coverage.specs.RunLaws.{EmptyWorldHasNoBlock, ReachedHasNoBlock, InstanceIsTypedCase, CandidateIsVariable, NeverIsMatchedApart, NeverIsMissing, SplitItemsKeepFamilies, SolvedKeepsFamilies, SolvedSplitIsUnified, SolvedSplitIsAnswer, SolvedRunCovers, SolvedRunCoversInputs};
+ghost use Rattle.lf_coverage.specs.RunLaws.{EmptyWorldHasNoBlock, ReachedHasNoBlock, InstanceIsTypedCase, CandidateIsVariable, NeverIsMissing, SplitItemsKeepFamilies, SolvedKeepsFamilies, SolvedSplitIsUnified, SolvedSplitIsAnswer, SolvedRunCovers, SolvedRunCoversInputs};
 ghost use Rattle.lf_coverage.specs.Subordinate.{BelowOnesTakeBelow, HeadsQuantifyBelow, InputsQuantifyBelow};
 ghost use Rattle.lf_coverage.specs.SubordinateRuns.{OccurringIsBelow, RaisedQuantifiesBelow, SplitItemsQuantifyBelow, OutputsQuantifyBelow, SolvedQuantifiesBelow, AnsweredSplitIsSolved, AnsweredSplitIsAnswer, RunQuantifiesBelow, InputRunQuantifiesBelow, AnsweredRunCovers, AnsweredRunCoversInputs};
 ghost use Rattle.lf_coverage.specs.Examples.{PlusIsSplitByHeads, PlusIsSplitByUnification, PlusIsCoveredByHeads, SuccessorGivesNone, HeadsAreAll, CopyHeadsAreInOrder, NumbersGetDeep, StoresOfMeeting};
@@ -25,7 +25,7 @@ ghost use Rattle.lf_coverage.specs.Stuck.{StrictIsPattern, HeadsAreOfStrategy, N
 ghost use Rattle.lf_coverage.specs.ExamplesStrategy.{HeadsAreStrategys, CasesAreStrategys, PlusSplitsAtFirst, SuccessorIsNotStuck, SolvedIsNotStuck};
 ghost use Rattle.lf_coverage.specs.FullMatching.{FullPlacesMatch, InputsMatch, HeadsAreStrict, PatternValuesAreTyped};
 ghost use Rattle.lf_coverage.specs.ExamplesMatching.{ValuesAreFound, PlusMatches, PlusIsInstance, TwoAreNotOne};
-ghost use Rattle.lf_coverage.specs.MatchingLaws.{InstanceIsFound, ValuesAreDetermined, InstanceMatches, MatchIsInstance, MatchingDecides, InstanceIsDecided, HeadGroundHoldsTypes, GoalGroundHoldsTypes, HeadMatchIsTyped, HeadMatchingDecides, HeadMatchIsLeaf, GoalMatchingDecides};
+ghost use Rattle.lf_coverage.specs.MatchingLaws.{InstanceIsFound, ValuesAreDetermined, InstanceMatches, MatchIsInstance, InstanceIsDecided, HeadGroundHoldsTypes, GoalGroundHoldsTypes, HeadMatchIsTyped, HeadMatchingDecides, HeadMatchIsLeaf, GoalMatchingDecides};
 ghost use Rattle.lf_coverage.specs.OutputLaws.{OutputGoalIsTypedCase, OutputGoalIsTyped, ModedGoalsAreTyped, StrictGoalsAreTyped, NeverIsMissingOutput, OpenOutputsAreCovered, SolvedRunCoversOutputs, SolvedRunAnswersOutputs, SolvedRunGivesOutputs, SolvedRunsGiveOutputs};
 ghost use Rattle.lf_coverage.specs.AnsweredOutputs.{AnsweredRunIsSolved, OutputGoalQuantifiesBelow, AnsweredRunCoversOutputs, AnsweredRunGivesOutputs, OutputRunStaysTyped, StrictRunStaysTyped};
 ghost use Rattle.lf_coverage.specs.ExamplesOutputs.{PlusOutputsAreTyped, CopyOutputsAreTyped, OpenGoalIsUntyped, EntryGoalIsUntyped, PlusOutputsAreCovered};
@@ -129,11 +129,6 @@ pub fn instance_is_typed_case()
 /// A candidate is one of the free variables of its case.
 pub fn candidate_is_variable()
     ensures { CandidateIsVariable }
-{}
-
-/// What is never solved is answered as apart.
-pub fn never_is_matched_apart()
-    ensures { NeverIsMatchedApart }
 {}
 
 /// A case that is reached, and is never solved with any pattern, is missing.
@@ -572,12 +567,7 @@ pub fn match_is_instance()
     ensures { MatchIsInstance }
 {}
 
-/// So matching is a test of instances.
-pub fn matching_decides()
-    ensures { MatchingDecides }
-{}
-
-/// And whether a case is an instance of a pattern is decided.
+/// So whether a case is an instance of a pattern is decided.
 pub fn instance_is_decided()
     ensures { InstanceIsDecided }
 {}
@@ -1023,10 +1013,9 @@ ghost use Rattle.lf_coverage.specs.OwnValuesAnswer.{AnswerIsInstance};
 ghost use Rattle.lf_coverage.specs.OwnValuesTuples.{TupleIsOfAnswer};
 ghost use Rattle.lf_coverage.specs.OwnValuesExamplesAnswer.{EntryAnswerIsInstance};
 ghost use Rattle.lf_coverage.specs.OwnValuesReading.{ReadBackIsTyped, ReadBackIsGround, SolvedIsReadBack, InstancesAreReadBack};
-ghost use Rattle.lf_coverage.specs.WritingLaws.{EntriesExtend, InstanceIsWritten, ValuesAreWritten, WrittenIsReadBack, WrittenValuesAreTyped, ReadingBackKeepsTyping};
-ghost use Rattle.lf_coverage.specs.ExamplesWriting.{CopyIsWritten, HeadIsOnOtherTerms, EntryIsReadAs, RoomIsFree, CopyHasValues};
-ghost use Rattle.lf_coverage.specs.WritingHeads.{WrittenHeadIsMade, NumberedRefutedGivesNone};
-ghost use Rattle.lf_coverage.specs.WritingRoom.{RoomIsMade, NumberedGivesNone, RoomIsLeft};
+ghost use Rattle.lf_coverage.specs.WritingLaws.{EntriesExtend, InstanceIsWritten, ValuesAreWritten, WrittenIsReadBack, WrittenValuesAreTyped, WrittenReadsBack};
+ghost use Rattle.lf_coverage.specs.ExamplesWriting.{CopyIsWritten, HeadIsOnOtherTerms, RoomIsFree, CopyHasValues};
+ghost use Rattle.lf_coverage.specs.WritingRoom.{RoomIsMade, RoomIsLeft};
 ghost use Rattle.lf_coverage.specs.WritingInstances.{ReadBackIsInstance};
 ghost use Rattle.lf_coverage.specs.NumberedSplits.{AnsweredByNumberIsSplit};
 ghost use Rattle.lf_coverage.specs.NumberedSplitsExamples.{OpenIsSplitByEntry, OpenIsCovered};
@@ -1294,22 +1283,14 @@ pub fn copy_is_written()
     ensures { CopyIsWritten }
 {}
 
-/// What is typed over entry constants, on own terms, is typed when it is read back.
-pub fn reading_back_keeps_typing()
-    ensures { ReadingBackKeepsTyping }
+/// What is written is read back as the reading of entry constants asks; so what is typed there, on own terms, is typed when it is read back.
+pub fn written_reads_back()
+    ensures { WrittenReadsBack }
 {}
 
 /// A ground instance in whatever extension is moved into one that leaves the numbers of the entry constants free.
 pub fn room_is_made()
     ensures { RoomIsMade }
-{}
-
-/// A ground instance that makes a variable a head does so when it is written; so where steps refute the head over the signature with entries, no ground
-/// instance with block variables apart makes the variable that head.
-pub fn numbered_gives_none()
-    ensures made { WrittenHeadIsMade }
-    ensures refuted { NumberedRefutedGivesNone }
-    ensures none { NumberedGivesNone }
 {}
 
 /// The constant of an entry, offered as a head, may be solved on terms that aren't its block variable's: b.x (s z) for b on z.
@@ -1327,9 +1308,8 @@ pub fn room_is_left()
     ensures { RoomIsLeft }
 {}
 
-/// In the context of copy_is_written b.x is read as x and not as y; room for two entries from 4 on moves 4 to 6; and cp b.x _ is typed over what is written.
-pub fn entry_is_read_as()
-    ensures head { EntryIsReadAs }
+/// Room for two entries from 4 on moves 4 to 6; and in the context of copy_is_written cp b.x _ is typed over what is written.
+pub fn room_is_free()
     ensures room { RoomIsFree }
     ensures values { CopyHasValues }
 {}
@@ -1353,4 +1333,322 @@ pub fn answered_by_number_covers()
 pub fn open_is_split_by_entry()
     ensures split { OpenIsSplitByEntry }
     ensures run { OpenIsCovered }
+{}
+
+ghost use Rattle.lf_coverage.specs.EntryTermsLaws.{NumberedInstanceMatchesAny, HeadMatchIsNumberedInstance, NumberedHeadIsDecided, GoalMatchIsNumberedInstance, NumberedGoalIsDecided, NumberedHeadMatchIsLeaf, NumberedGoalMatchIsLeaf, ConstantMatchesByNumber};
+ghost use Rattle.lf_coverage.specs.EntryTermsExamples.{CopyMatchesEntry, PairMatchesEntry, PairIsInstance, AskedMatches, AskedIsInstance};
+
+/// A case by number that is an instance of a pattern, of an entry's clause too, matches it by terms, with what one of its block variables gives.
+pub fn numbered_instance_matches_any()
+    ensures { NumberedInstanceMatchesAny }
+{}
+
+/// Of a constant's clause matching by number is matching over the signature with entries.
+pub fn constant_matches_by_number()
+    ensures { ConstantMatchesByNumber }
+{}
+
+/// A case of inputs by number that matches the head of a clause by terms, of an entry too, is an instance of it; so matching by terms decides whether it is.
+pub fn numbered_head_is_decided()
+    ensures instance { HeadMatchIsNumberedInstance }
+    ensures decided { NumberedHeadIsDecided }
+{}
+
+/// A case by number that is typed beside a pattern of any clause, and matches it by terms, is an instance of it; so matching by terms decides whether the
+/// goal of a subgoal's outputs is an instance of the subgoal, of an entry's too.
+pub fn numbered_goal_is_decided()
+    ensures instance { GoalMatchIsNumberedInstance }
+    ensures decided { NumberedGoalIsDecided }
+{}
+
+/// So a case by number that matches one of the patterns by terms is a leaf of a run.
+pub fn numbered_match_is_leaf()
+    ensures head { NumberedHeadMatchIsLeaf }
+    ensures goal { NumberedGoalMatchIsLeaf }
+{}
+
+/// By terms cp b.x b.x matches the entry u : cp x x, and cp b.x c.x doesn't; and q z b.y the entry v : q n y for b on z, and q N b.y doesn't.
+pub fn copy_matches_entry()
+    ensures copy { CopyMatchesEntry }
+    ensures pair { PairMatchesEntry }
+    ensures instance { PairIsInstance }
+{}
+
+/// The goal q N D of the outputs of an entry's subgoal q n D matches it by its own block variable, of number 0 alone, and is typed beside it, and so an
+/// instance.
+pub fn asked_matches()
+    ensures matched { AskedMatches }
+    ensures instance { AskedIsInstance }
+{}
+
+ghost use Rattle.lf_coverage.specs.EntryTermsBesideGiven.{BesideWithAllTried, BesideIsDecided};
+
+/// A case by number that is typed beside a subgoal, as the goal of its outputs is, is so with what its block variable of number 0 gives; so matching by
+/// terms decides whether it is an instance of the subgoal, of an entry's too.
+pub fn beside_is_decided()
+    ensures with_tried { BesideWithAllTried }
+    ensures decided { BesideIsDecided }
+{}
+
+ghost use Rattle.lf_coverage.specs.NumberedBeside.{WorldsOfAtoms, TakersTakeBelow, OffersQuantifyBelow, UnifiedByNumberIsAnswered, InputsTakeBelow, OutputsTakeBelow, NumberedTakesBelow};
+ghost use Rattle.lf_coverage.specs.NumberedBesideRuns.{UnifiedByNumberIsSplit, UnifiedByNumberCovers, UnifiedByNumberIsAnswer, UnifiedByNumberCoversInputs, UnifiedByNumberGivesOutputs};
+ghost use Rattle.lf_coverage.specs.NumberedBesideExamples.{TakingIsLess, HighBlockTakesMore, OpenInputsAreCovered};
+
+/// By a test of subordination, in worlds whose `some` variables take only what quantifies over what is below, each split by number looks only at types
+/// that do; the cases that are read off do too, and so do the goals.
+pub fn numbered_splits_take_below()
+    ensures atoms { WorldsOfAtoms }
+    ensures taken { TakersTakeBelow }
+    ensures offers { OffersQuantifyBelow }
+    ensures split { UnifiedByNumberIsAnswered }
+    ensures inputs { InputsTakeBelow }
+    ensures outputs { OutputsTakeBelow }
+    ensures numbered { NumberedTakesBelow }
+{}
+
+/// So a split by number at each head of which unification answers is a split, and a run of such splits covers: from the goal of inputs, and from the goal
+/// of the outputs of any clause's subgoal, nothing is asked of the families in the types of arguments.
+pub fn unified_by_number_covers()
+    ensures split { UnifiedByNumberIsSplit }
+    ensures run { UnifiedByNumberCovers }
+    ensures answer { UnifiedByNumberIsAnswer }
+    ensures inputs { UnifiedByNumberCoversInputs }
+    ensures outputs { UnifiedByNumberGivesOutputs }
+{}
+
+/// {x:c} a takes only what is below, where c isn't below a; {y : {u:d} a} c takes more, and worlds with such a `some` variable aren't meant. In the worlds
+/// of {x:exp} {u:p x} the goal p X is covered.
+pub fn open_inputs_are_covered()
+    ensures taking { TakingIsLess }
+    ensures worlds { HighBlockTakesMore }
+    ensures run { OpenInputsAreCovered }
+{}
+
+ghost use Rattle.lf_coverage.specs.NumberedBesideGiven.{NumberedMeetStoreIsReady, NumberedOutputGoalIsBeside, NumberedStrictGoalsAreBeside};
+ghost use Rattle.lf_coverage.specs.NumberedBesideLater.{AskedIsBeside, OpenIsNotBeside, AnsweredIsBeside, AskedIsSplit, LaterRunGivesOutputs, LaterAnswersGiveOutputs};
+ghost use Rattle.lf_coverage.specs.NumberedBesideInstances.{SpareIsSplit, NewBlockHoldsSame};
+
+/// By number the goal of the outputs of any clause's subgoal is typed beside it, of an entry's too, as the checks of modes give; and the equations of a case
+/// that is typed beside a pattern are a store that is ready for unification over the signature with entries.
+pub fn numbered_output_goal_is_beside()
+    ensures goal { NumberedOutputGoalIsBeside }
+    ensures moded { NumberedStrictGoalsAreBeside }
+    ensures store { NumberedMeetStoreIsReady }
+{}
+
+/// q N D, the goal of the outputs of v's subgoal, where v stands on `some` {n:exp}, is typed beside it by number and not by items. Its split by the entry of
+/// another block makes a run that covers the outputs of v.
+pub fn later_outputs_are_covered()
+    ensures beside { AskedIsBeside }
+    ensures open { OpenIsNotBeside }
+    ensures stays { AnsweredIsBeside }
+    ensures split { AskedIsSplit }
+    ensures run { LaterRunGivesOutputs }
+    ensures answers { LaterAnswersGiveOutputs }
+{}
+
+/// p b.x is a split of the case that has a variable more, which occurs nowhere; and where b.x is x, the case with a new block variable for y holds x still.
+pub fn spare_is_split()
+    ensures instances { SpareIsSplit }
+    ensures new_block { NewBlockHoldsSame }
+{}
+
+ghost use Rattle.lf_coverage.specs.NumberedBesideFamilies.{WorldsWithoutSome, UnifiedByNumberKeepsFamilies, UnifiedEachIsAnswer, UnifiedEachCoversInputs, UnifiedEachGivesOutputs};
+ghost use Rattle.lf_coverage.specs.NumberedBesideFamiliesExamples.{SomeIsOutside, ExpIsIn, OpenEachIsCovered};
+
+/// In worlds whose `some` variables are of families of each set beside which coverage is asked, as in worlds without any, no family is looked at along a
+/// run by number: from the goal of inputs, and from that of the outputs of any clause's subgoal.
+pub fn unified_each_covers()
+    ensures without { WorldsWithoutSome }
+    ensures kept { UnifiedByNumberKeepsFamilies }
+    ensures answer { UnifiedEachIsAnswer }
+    ensures inputs { UnifiedEachCoversInputs }
+    ensures outputs { UnifiedEachGivesOutputs }
+{}
+
+/// The `some` variable {n:exp} of v isn't of a family in the set of v's own. In the worlds of {x:exp} {u:p x} the run of p X looks at no family.
+pub fn open_each_is_covered()
+    ensures worlds { SomeIsOutside }
+    ensures items { ExpIsIn }
+    ensures run { OpenEachIsCovered }
+{}
+
+ghost use Rattle.lf_coverage.specs.NumberedBesideStays.{NumberedRunStaysBeside, NumberedOutputRunStaysBeside};
+
+/// What is typed beside a pattern by number stays so along a run, with new block variables and splits: so is each case of a run from the goal of outputs.
+pub fn numbered_run_stays_beside()
+    ensures run { NumberedRunStaysBeside }
+    ensures outputs { NumberedOutputRunStaysBeside }
+{}
+
+ghost use Rattle.lf_coverage.specs.NumberedBesideHigh.{HighIsLost};
+
+/// A variable of {v:d} {y:{u:d} a} c, where d isn't below a, isn't split by k : a -> c, whose new variable is raised over y alone: [v] [y] k (y v) is lost.
+pub fn high_variable_is_lost()
+    ensures { HighIsLost }
+{}
+
+ghost use Rattle.lf_coverage.specs.EntryTermsInputs.{ClauseIsClosed, InputGoalIsBesideByNumber, BesideHasTypedPlaces};
+ghost use Rattle.lf_coverage.specs.EntryTermsRuns.{InputRunIsDecided, BesideRunIsDecided};
+
+/// By number the goal of inputs is typed beside the head of each clause, closed over what is outside it; and what is typed beside such a head has arguments
+/// of the types of their places.
+pub fn input_goal_is_beside_by_number()
+    ensures closed { ClauseIsClosed }
+    ensures goal { InputGoalIsBesideByNumber }
+    ensures places { BesideHasTypedPlaces }
+{}
+
+/// So along a run by number matching by terms decides whether a case is an instance of a head, of an entry's too, and in a run from the goal of outputs
+/// of the subgoal.
+pub fn numbered_run_is_decided()
+    ensures inputs { InputRunIsDecided }
+    ensures outputs { BesideRunIsDecided }
+{}
+
+ghost use Rattle.lf_coverage.specs.EntryTermsRunsExamples.{AnsweredIsDecided, PairGoalIsDecided};
+
+/// q b.x b.w, which comes by a split from the goal q N D of outputs, is by terms an instance of the subgoal; and the goal of inputs q X Y, also with a new
+/// block variable b, none of the entry w : {Y:exp} q Y y.
+pub fn answered_is_decided()
+    ensures outputs { AnsweredIsDecided }
+    ensures inputs { PairGoalIsDecided }
+{}
+
+ghost use Rattle.lf_coverage.specs.NumberedCallsLaws.{InstanceCovers, ApartCoversNone, AnsweredByNumberIsSplitAnswer, AnsweredByNumberIsCovered, CoveredIsCoveredGoal, ReachedByNumberIsTyped, NumberedCandidateIsFree, MissingIsCoveredByNone, MissingIsUncovered, InstanceShares, InstanceIsNotApart, MissingIsNoInstance, NumberedInputGoalIsTyped, ReachedIsLikeGoal};
+
+/// A case by number that is an instance of a pattern is covered by it; of one that is apart from it the pattern covers no tuple, also where block variables
+/// are one instance.
+pub fn matched_by_number()
+    ensures covers { InstanceCovers }
+    ensures apart { ApartCoversNone }
+{}
+
+/// An instance of a pattern shares one with it, itself; so it isn't apart from it, and a missing case is no instance.
+pub fn instances_meet()
+    ensures shares { InstanceShares }
+    ensures apart { InstanceIsNotApart }
+    ensures missing { MissingIsNoInstance }
+{}
+
+/// The goal of inputs by number is typed.
+pub fn input_goal_by_number()
+    ensures { NumberedInputGoalIsTyped }
+{}
+
+/// The cases that unification gives for the heads of a typed case are the answer of its split; and a candidate is one of its free variables.
+pub fn split_by_number()
+    ensures answer { AnsweredByNumberIsSplitAnswer }
+    ensures candidate { NumberedCandidateIsFree }
+{}
+
+/// A run of such splits from a typed goal answers that it is covered, and then the goal is whose numbered form it is. What the strategy reaches is typed,
+/// and like the goal. No pattern covers what a missing case holds; so it isn't covered where it has a ground instance.
+pub fn cover_by_number()
+    ensures covered { AnsweredByNumberIsCovered }
+    ensures goal { CoveredIsCoveredGoal }
+    ensures typed { ReachedByNumberIsTyped }
+    ensures like { ReachedIsLikeGoal }
+    ensures none { MissingIsCoveredByNone }
+    ensures uncovered { MissingIsUncovered }
+{}
+
+ghost use Rattle.lf_coverage.specs.NumberedCallsExamples.{CopiesAreMatched, CopiesAreReached, CopiesAreGoals, OpenIsAnswered, OpenIsMissing, AppliedIsOpen, DeepIsTooDeep, LeavingIsOutside};
+
+/// In the worlds of {x:exp} {u:cp x x} the case cp b.x b.x is an instance of u, and cp b.x c.x, whose block variables may be one, is stuck at it; so it can't
+/// be split.
+pub fn copies_are_answered()
+    ensures matched { CopiesAreMatched }
+    ensures reached { CopiesAreReached }
+    ensures goals { CopiesAreGoals }
+{}
+
+/// In the worlds of {x:exp} {u:p x} the goal p X is split into p b.x, and covered by u; without u it is missing. It is open whether eq z (F z) and eq z z
+/// meet; a split of X : eq z (F z) leaves F z = z; and a goal with 4,096 times s is too deep.
+pub fn calls_are_answered()
+    ensures open { OpenIsAnswered }
+    ensures missing { OpenIsMissing }
+    ensures applied { AppliedIsOpen }
+    ensures left { LeavingIsOutside }
+    ensures deep { DeepIsTooDeep }
+{}
+
+ghost use Rattle.lf_coverage.specs.NumberedCallsRows.{CopiesAreEquated, OwnTermsAreNoCandidates};
+
+/// The store of cp b.x c.x and u : cp x x has c.x = b.x where b and c are different, and b.x = b.x where they are one. In p (b.y M), where b stands on N,
+/// only M is a candidate of p (y c).
+pub fn rows_by_number()
+    ensures equated { CopiesAreEquated }
+    ensures candidates { OwnTermsAreNoCandidates }
+{}
+
+ghost use Rattle.lf_coverage.specs.NumberedMeets.{IdentifiedHasInstances, SharedHasPlace, NoPlaceSharesNone};
+
+/// An instance that a case by number and a pattern share is one of the case with block variables made one, and the pattern has a place beside that. So where
+/// it has none, they share nothing.
+pub fn shared_has_place()
+    ensures instances { IdentifiedHasInstances }
+    ensures place { SharedHasPlace }
+    ensures none { NoPlaceSharesNone }
+{}
+
+ghost use Rattle.lf_coverage.specs.NumberedMeetsExamples.{FirstIsNeeded, OtherSharesNone};
+
+/// Where a case has no first block variable, it may share an instance with an entry of the first block variable alone, which has no place beside it. Where
+/// the first one has another block, it shares none.
+pub fn first_block_is_needed()
+    ensures needed { FirstIsNeeded }
+    ensures other { OtherSharesNone }
+{}
+
+ghost use Rattle.lf_coverage.specs.NumberedMeetsTyped.{MovedConstantsAreTyped};
+
+/// In an instance of a case by number each constant of the case's entries becomes one that has its type.
+pub fn moved_constants_are_typed()
+    ensures { MovedConstantsAreTyped }
+{}
+
+ghost use Rattle.lf_coverage.specs.NumberedTuples.{TupleIsUnifier, RefutedHoldsNoTuple, RefutedIsApartTuple, OneBlockIsApartTuple};
+
+/// A tuple that a case with block variables apart holds, and a constant's pattern has, is a typed unifier of their store; so where steps refute
+/// the store there is none.
+pub fn tuple_is_unifier()
+    ensures unifier { TupleIsUnifier }
+    ensures refuted { RefutedHoldsNoTuple }
+    ensures apart { RefutedIsApartTuple }
+    ensures one { OneBlockIsApartTuple }
+{}
+
+ghost use Rattle.lf_coverage.specs.NumberedTuplesExamples.{CopiesAreApart};
+
+/// cp b.x c.x is apart from the head of cp-app: steps refute b.x = app E1 E2; not so cp X Y.
+pub fn copies_are_apart()
+    ensures { CopiesAreApart }
+{}
+
+ghost use Rattle.lf_coverage.specs.NumberedReached.{SplitCaseHoldsBack, ReachedHoldsBack, ReachedMissingIsUncovered};
+
+/// What a case that the strategy reaches by number holds, the goal holds, each block variable standing for the same. So a missing case that is reached and
+/// has a ground instance shows that the goal isn't covered.
+pub fn reached_holds_for_goal()
+    ensures split { SplitCaseHoldsBack }
+    ensures reached { ReachedHoldsBack }
+    ensures uncovered { ReachedMissingIsUncovered }
+{}
+
+ghost use Rattle.lf_coverage.specs.NumberedReachedExamples.{OpenHoldsBack, NewBlockKeepsBlocks, EntryIsNumberedInstance};
+
+/// In the worlds of {x:exp} {u:p x} the case p X holds what p b.x holds, which its split gives and which is an instance of it; and not the other way round.
+pub fn open_holds_for_entry()
+    ensures open { OpenHoldsBack }
+    ensures keeps { NewBlockKeepsBlocks }
+    ensures instance { EntryIsNumberedInstance }
+{}
+
+ghost use Rattle.lf_coverage.specs.NumberedReachedInstances.{SplitCaseIsNumberedInstance, ListedIsNumberedInstance};
+
+/// A case that a split by number gives, or lists, is a typed instance of the case that is split, and each block variable keeps its number.
+pub fn split_is_instance_by_number()
+    ensures split { SplitCaseIsNumberedInstance }
+    ensures listed { ListedIsNumberedInstance }
 {}

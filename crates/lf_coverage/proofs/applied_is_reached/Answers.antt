@@ -1,4 +1,6 @@
-use Rattle.lf_coverage.proofs.ExamplesStuck.{patterns_stand, bound_is_taken, applied_is_reached, solved_has_candidate, lower_is_unsplit, zeros_are_tested, lower_is_tested}
+use Rattle.lf_coverage.proofs.ExamplesStuck.{patterns_stand, bound_is_taken, applied_is_reached, solved_has_candidate}
+use Rattle.lf_coverage.proofs.ExamplesStuckLower.{lower_is_unsplit}
+use Rattle.lf_coverage.proofs.ExamplesStuckTests.{zeros_are_tested, lower_is_tested}
 use Rattle.lf_coverage.proofs.applied_is_reached.Goals as goal
 
 pub returns-clause-patterns : goal.returns-clause-patterns

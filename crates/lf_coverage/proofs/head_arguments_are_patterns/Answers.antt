@@ -1,4 +1,5 @@
-use Rattle.lf_coverage.proofs.PatternHeads.{head_arguments_are_patterns, head_term_is_pattern, variables_are_patterns}
+use Rattle.lf_coverage.proofs.PatternHeads.{head_arguments_are_patterns, variables_are_patterns}
+use Rattle.lf_coverage.proofs.PatternHeadTerm.{head_term_is_pattern}
 use Rattle.lf_coverage.proofs.head_arguments_are_patterns.Goals as goal
 
 pub returns-clause-arguments : goal.returns-clause-arguments

@@ -1,4 +1,5 @@
-use Rattle.lf_coverage.proofs.PatternCases.{pattern_case_has_patterns, solved_case_is_pattern}
+use Rattle.lf_coverage.proofs.PatternCases.{solved_case_is_pattern}
+use Rattle.lf_coverage.proofs.PatternCaseTests.{pattern_case_has_patterns}
 use Rattle.lf_coverage.proofs.solved_case_is_pattern.Goals as goal
 
 pub returns-clause-solved : goal.returns-clause-solved
