@@ -117,12 +117,12 @@ module _ (es : List Entry) (ok : IsCanonicalSignature es) (g : Goal) (b : Bound)
   ended_at_root m after c = subst (λ l. SearchesFrom es (at_node l ∷ []) u.nodes (k + m) []) u.of_goal (ended m after c)
 
   -- where none was left over, all closed answers are found
-  all_found : (m : ℕ) (after : List Pending) → Comes es depth_limit g.variables u.agenda (n - k) exhausted m after → end_in old.leaves.items ≡ ends.Exhausted → AllAreFound es g old.leaves.items
+  all_found : (m : ℕ) (after : List Pending) → Comes es depth_limit g.variables u.agenda (n - k) exhausted m after → end_in old.leaves.items ≡ ends.Exhausted → AllAreFound es g u.nodes old.leaves.items
   all_found m after c e values proof a =
       let at = answer_at es g u.nodes old.leaves.items u.shown e in
       let (l, i, each) = closed_is_found es ok g.variables g.goal u.stands.context u.stands.goal u.nodes (k + m) (ended_at_root m after c) (λ l i. (at l i).2.none_left) values proof a in
       let (given, j, w) = at l i in
-      record { given = given; is_given = j; given_proof = w.typed.proof; has_proof = w.typed.has_proof; instance = each given.free (values_of given) w.typed.proof w.read }
+      record { given = given; is_given = j; node = l; of_run = i; at_node = w; instance = each given.free (values_of given) w.typed.proof w.read }
 
   pub at_end : StepIs es g old.search s u.nodes u.agenda (n - k) step.Exhausted → IsRunOf es g b n old.leaves.items (end_in old.leaves.items) (tries_of s)
   at_end st =

@@ -60,17 +60,18 @@ end_in [] = ends.Exhausted
 end_in (leaf.Answer a ∷ xs) = end_in xs
 end_in (leaf.Outside e ∷ xs) = ends.Incomplete
 
--- an answer among the leaves, of which closed values with a proof are an instance
-pub record IsFoundIn (Σ : Signature) (leaves : List Leaf) (values : List Term) (proof : Term) : Type 0 where
+-- An answer that was given, of one of these nodes: closed values with a proof are an instance of it, with the proof of its leaf, read or not.
+pub record IsFoundIn (es : List Entry) (g : Goal) (nodes : List Node) (leaves : List Leaf) (values : List Term) (proof : Term) : Type 0 where
   pub given : Answer
   pub is_given : Member (leaf.Answer given) leaves
-  pub given_proof : Term
-  pub has_proof : HasProof given given_proof
-  pub instance : IsInstanceOfAnswer Σ given.free (values_of given) given_proof values proof
+  pub node : Node
+  pub of_run : Member node nodes
+  pub at_node : IsAnswerAt es g node given
+  pub instance : IsInstanceOfAnswer (signature_of es) given.free (values_of given) at_node.typed.proof values proof
 
 -- each closed answer of the goal is an instance of one that was given
-abbrev pub AllAreFound : List Entry → Goal → List Leaf → Type 0
-AllAreFound es g leaves = (values : List Term) (proof : Term) → IsAnswerOf (signature_of es) g.variables g.goal [] values proof → IsFoundIn (signature_of es) leaves values proof
+abbrev pub AllAreFound : List Entry → Goal → List Node → List Leaf → Type 0
+AllAreFound es g nodes leaves = (values : List Term) (proof : Term) → IsAnswerOf (signature_of es) g.variables g.goal [] values proof → IsFoundIn es g nodes leaves values proof
 
 -- A run of the query of the goal, with a bound on its answers and a budget: all its leaves as they are shown, how it ended, and all its tries. Where it is
 -- exhausted, all answers are found. Over z and s, `%query * 3 nat` stops with z, s z and s (s z).
@@ -81,7 +82,7 @@ pub record IsRunOf (es : List Entry) (g : Goal) (bound : Bound) (budget : ℕ) (
   pub runs : QueryRuns es query budget bound nodes (end_of end) tries
   pub shown : AreShownAs es g nodes leaves
   pub count : answers_in leaves ≡ answers_among nodes
-  pub all_found : end ≡ ends.Exhausted → AllAreFound es g leaves
+  pub all_found : end ≡ ends.Exhausted → AllAreFound es g nodes leaves
 
 -- the run is out of budget
 pub record IsOutOf (es : List Entry) (g : Goal) (bound : Bound) (budget : ℕ) : Type 0 where
