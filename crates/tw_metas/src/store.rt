@@ -126,6 +126,20 @@ impl Store {
         self.contents.value(meta.0 as usize)
     }
 
+    /// How many metavariables are declared.
+    pub fn declared_count(&self) -> usize
+        ensures { result ≡ length self.now.now.declared }
+    {
+        self.contents.declared.len()
+    }
+
+    /// How many of them are bound.
+    pub fn bound_count(&self) -> usize
+        ensures { result ≡ length self.now.now.bound }
+    {
+        self.contents.bound.len()
+    }
+
     /// The equations that are postponed, in order.
     pub fn equations(&self) -> &[Box<Equation>]
         ensures { map kept_equation_of result.now ≡ self.now.now.equations }
