@@ -17,3 +17,5 @@ pub mod Loops
 pub mod Standing
 pub mod Recognizing
 pub mod Unstuck
+pub mod Counting
+pub mod Unbound

@@ -76,7 +76,7 @@ mutual
   occurring_spine P nil h m i = absurd i
   occurring_spine P (app M S) (h, hs) m i = elim (member_either (occurrences M) (spine_occurrences S) m i) [ inl j ↦ occurring P M h m j | inr j ↦ occurring_spine P S hs m j ]
 
-place : (k n : ℕ) → n < suc k → (n ≡ k) ⊎ (n < k)
+pub place : (k n : ℕ) → n < suc k → (n ≡ k) ⊎ (n < k)
 place zero n l = inl (omega arith)
 place (suc k) zero l = inr (omega arith)
 place (suc k) (suc n) l = elim (place k n (omega arith)) [ inl q ↦ inl (ap suc q) | inr h ↦ inr (omega (arith, h)) ]

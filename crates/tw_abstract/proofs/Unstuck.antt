@@ -35,7 +35,7 @@ use Rattle.tw_abstract.proofs.Members.{candidate_of, declared_free, found_candid
 -- what the values are put into mentions only what it and they mention
 module _ (Ψ : ℕ → Option LfType) (bs : List Binding) (V : ℕ → Type 0) (closed : (b : Binding) → Member b bs → V b.of → MetavariablesIn V b.value) where
   mutual
-    put_inside : {k : ℕ} {M M' : Term} → PutsIn Ψ bs k M M' → MetavariablesIn V M → MetavariablesIn V M'
+    pub put_inside : {k : ℕ} {M M' : Term} → PutsIn Ψ bs k M M' → MetavariablesIn V M → MetavariablesIn V M'
     put_inside (put_under_lambda d) v = put_inside d v
     put_inside (put_at_rigid (constant c) r d) v = put_inside_spine d v
     put_inside (put_at_rigid (variable i) r d) v = put_inside_spine d v

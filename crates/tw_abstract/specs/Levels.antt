@@ -1,6 +1,5 @@
 -- The level of a metavariable in a context: how many stand outside of it.
-use Rattle.std.specs.Prelude.{◌≡◌, ℕ, suc, ◌+◌, List, length, Option, Some, None, slice_get}
-use Rattle.tw_metas.specs.State.{joined}
+use Rattle.std.specs.Prelude.{◌≡◌, ℕ, suc, ◌+◌, List, length, Option, Some, None}
 use Rattle.tw_abstract.specs.Positions.{index}
 
 -- of n variables, a variable and its level; or neither
@@ -10,6 +9,6 @@ IsAtLevel n (Some i) (Some l) = n ≡ suc (i + l)
 IsAtLevel n None (Some l) = ⊥
 IsAtLevel n (Some i) None = ⊥
 
--- the table has the levels of the metavariables of the context
-abbrev pub HasLevels : List ℕ → List (Option ℕ) → Type 0
-HasLevels ns ls = (m : ℕ) → IsAtLevel (length ns) (index ns m) (joined (slice_get ls m))
+-- the table gives the levels of the metavariables of the context, and none for others
+abbrev pub HasLevels : List ℕ → (ℕ → Option ℕ) → Type 0
+HasLevels ns table = (m : ℕ) → IsAtLevel (length ns) (index ns m) (table m)

@@ -1,8 +1,10 @@
 -- The quantifiers that are read off a store: which metavariables they are, in which order, and of which types.
 use Rattle.std.specs.Prelude.{◌≡◌, ℕ, zero, suc, List, [], ◌∷◌, ◌++◌, length, Option, Some, None}
+use Rattle.lf.specs.Subordination.{Member}
 use Rattle.lf.specs.Syntax.{LfType, Term}
-use Rattle.tw_metas.specs.State.{State, value_of}
+use Rattle.tw_metas.specs.State.{IsUnbound, State, value_of}
 use Rattle.tw_putting.specs.Stores.{Puts, PutsType, types_of}
+use Rattle.tw_putting.specs.Whole.{AreDistinct}
 use Rattle.tw_abstract.specs.Free.{add_inner}
 use Rattle.tw_abstract.specs.Generalizing.{generalized_type}
 use Rattle.tw_abstract.specs.Occurrences.{noted, occurrences, type_occurrences}
@@ -23,6 +25,10 @@ SitesHave s (m ∷ ms) ns = (xs ys : List ℕ) × ValueHas s m (value_of s m) xs
 abbrev pub unbound_below : State → ℕ → List ℕ
 unbound_below s zero = []
 unbound_below s (suc n) = add_inner (value_of s n) n (unbound_below s n)
+
+-- These are different metavariables of the store, none of which is bound. Where Y alone of X, Y, N is bound, N, X are, and X, X and X, Y aren't.
+abbrev pub AreUnbound : State → List ℕ → Type 0
+AreUnbound s ms = AreDistinct ms × ((m : ℕ) → Member m ms → IsUnbound s m)
 
 -- The metavariables that become quantifiers, in order of first occurrence: those at the sites, and then the others of the store.
 pub record AreFound (s : State) (sites found : List ℕ) : Type 0 where

@@ -3,8 +3,8 @@ ghost use Rattle.std.specs.Prelude.{◌≡◌, ℕ, List, IfOk, MatchResult, len
 ghost use Rattle.tw_abstract.specs.Occurrences.{noted, with_new};
 ghost use Rattle.tw_metas.specs.State.{value_of};
 ghost use Rattle.tw_abstract.specs.Causes.{BlamesSites, BlamesValue};
-ghost use Rattle.tw_abstract.specs.Quantifiers.{AreFound, SitesHave, ValueHas, unbound_below};
-ghost use Rattle.tw_abstract.specs.Reading.{ValuesCanTake};
+ghost use Rattle.tw_abstract.specs.Quantifiers.{AreFound, AreUnbound, SitesHave, ValueHas, unbound_below};
+ghost use Rattle.tw_abstract.specs.Reading.{IsSettled};
 
 use crate::{Positions, note_term};
 use std::alloc::{AllocError, Global};
@@ -15,7 +15,7 @@ use tw_terms::MetaId;
 
 /// Those in the values of the sites, in order of first occurrence, and then the others of the store that aren't bound, by number.
 pub fn find(alloc: Global, store: &Store, sites: &[MetaId]) -> Result<Positions, HeredFault>
-    requires { ValuesCanTake store.now.now }
+    requires { IsSettled store.now.now }
     ensures { MatchResult result (λ p. AreFound store.now.now (map (λ m. m.0) sites.now) p) (λ f. BlamesSites f store.now.now (map (λ m. m.0) sites.now)) }
 {
     let mut found = Positions::new(alloc);
@@ -31,8 +31,10 @@ fn note_sites(
     found: &mut Positions,
     sites: &[MetaId],
 ) -> Result<(), HeredFault>
-    requires { ValuesCanTake store.now.now }
-    ensures { MatchResult result (λ _. (ns : List ℕ) × SitesHave store.now.now (map (λ m. m.0) sites.now) ns × (found.new ≡ noted found.old ns)) (λ f. BlamesSites f store.now.now (map (λ m. m.0) sites.now)) }
+    requires settled { IsSettled store.now.now }
+    requires unbound { AreUnbound store.now.now found.old }
+    ensures noted { MatchResult result (λ _. (ns : List ℕ) × SitesHave store.now.now (map (λ m. m.0) sites.now) ns × (found.new ≡ noted found.old ns)) (λ f. BlamesSites f store.now.now (map (λ m. m.0) sites.now)) }
+    ensures unbound { IfOk result (λ _. AreUnbound store.now.now found.new) }
 {
     for site in sites {
         note_site(alloc, store, found, *site)?;
@@ -47,34 +49,45 @@ fn note_site(
     found: &mut Positions,
     site: MetaId,
 ) -> Result<(), HeredFault>
-    requires { ValuesCanTake store.now.now }
-    ensures { MatchResult result (λ _. (ns : List ℕ) × ValueHas store.now.now site.0 (value_of store.now.now site.0) ns × (found.new ≡ noted found.old ns)) (λ f. BlamesValue f store.now.now site.0) }
+    requires settled { IsSettled store.now.now }
+    requires unbound { AreUnbound store.now.now found.old }
+    ensures noted { MatchResult result (λ _. (ns : List ℕ) × ValueHas store.now.now site.0 (value_of store.now.now site.0) ns × (found.new ≡ noted found.old ns)) (λ f. BlamesValue f store.now.now site.0) }
+    ensures unbound { IfOk result (λ _. AreUnbound store.now.now found.new) }
 {
     match store.value(site) {
         Some(value) => {
             let put = put_in(alloc, store, 0, value)?;
             note_term(found, &put)?;
         }
-        None => note(found, site)?,
+        None => {
+            if store.about(site).is_none() {
+                // Sites are declared; no clause of this call asks for it.
+                return Err(HeredFault::NoMemory);
+            }
+            note(found, site)?;
+        }
     }
     Ok(())
 }
 
-/// Adds the metavariables of the store that aren't bound.
+/// Adds the metavariables of the store that aren't bound. The walk over the store ends where as many are found as there are.
 fn note_unbound(store: &Store, found: &mut Positions) -> Result<(), AllocError>
+    requires settled { IsSettled store.now.now }
+    requires unbound { AreUnbound store.now.now found.old }
     ensures { IfOk result (λ _. found.new ≡ noted found.old (unbound_below store.now.now (length store.now.now.declared))) }
 {
-    for number in 0..u64::MAX {
-        let meta = MetaId(number);
-        if store.about(meta).is_none() {
+    let declared = store.declared_count();
+    let unbound = declared - store.bound_count();
+    for number in 0..declared {
+        if found.metas().len() >= unbound {
             return Ok(());
         }
+        let meta = MetaId(number as u64);
         if store.value(meta).is_none() {
             note(found, meta)?;
         }
     }
-    // No vector in memory holds so many metavariables; the clauses of the store do not say so.
-    Err(AllocError)
+    Ok(())
 }
 
 /// Adds one metavariable, where it isn't there yet.

@@ -16,7 +16,6 @@ mod naming;
 #[tactic(auto, using(crate::proofs::Walks::walks))]
 mod occurrences;
 mod order;
-#[tactic(auto, using(crate::proofs::Places::places))]
 mod positions;
 mod quantifiers;
 mod reading;

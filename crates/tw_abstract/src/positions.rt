@@ -1,9 +1,9 @@
 //! Which variable of a context each metavariable becomes.
-ghost use Rattle.std.specs.Prelude.{◌≡◌, ℕ, ◌<◌, [], ◌∷◌, ◌++◌, length, map, IfOk, OnOk, OnErr, slice_get};
-ghost use Rattle.tw_metas.specs.State.{joined};
+ghost use Rattle.std.specs.Prelude.{◌≡◌, [], ◌∷◌, ◌++◌, map, IfOk, OnOk, OnErr};
 ghost use Rattle.tw_abstract.specs.Positions.{index};
 
 use std::alloc::{AllocError, Global};
+use std::collections::HashMap;
 use std::marker::Model;
 use tw_terms::MetaId;
 
@@ -12,18 +12,19 @@ use tw_terms::MetaId;
 pub struct Positions {
     metas: Vec<MetaId>,
     /// How many stand outside a metavariable, by its number.
-    levels: Vec<Option<u64>>,
+    levels: HashMap<u64, u64>,
 }
 
 impl Model for Positions {
-    ghost use Rattle.std.specs.Prelude.{ℕ, List, map};
+    ghost use Rattle.std.specs.Prelude.{ℕ, List, map, nat_eq};
+    ghost use Rattle.std.specs.HashMap.{get};
     ghost use Rattle.tw_abstract.specs.Levels.{HasLevels};
 
     ghost Value = { List ℕ };
 
     ghost view = { λ p. map (λ m. m.0) p.metas.items };
 
-    ghost invariant = { λ p. HasLevels (map (λ m. m.0) p.metas.items) p.levels.items };
+    ghost invariant = { λ p. HasLevels (map (λ m. m.0) p.metas.items) (get nat_eq p.levels) };
 }
 
 impl Positions {
@@ -33,7 +34,7 @@ impl Positions {
     {
         Positions {
             metas: Vec::new(alloc),
-            levels: Vec::new(alloc),
+            levels: HashMap::new(alloc),
         }
     }
 
@@ -54,9 +55,8 @@ impl Positions {
         ensures err { OnErr result (self.new ≡ self.old) }
     {
         self.metas.reserve(1)?;
-        let place = meta.0 as usize;
-        reach(&mut self.levels, place)?;
-        self.levels[place] = Some(self.metas.len() as u64);
+        let level = self.metas.len() as u64;
+        self.levels.insert(meta.0, level)?;
         self.metas.push(meta)?;
         Ok(())
     }
@@ -72,20 +72,9 @@ impl Positions {
     pub fn variable(&self, meta: MetaId) -> Option<u64>
         ensures { result ≡ index self.now meta.0 }
     {
-        match self.levels.get(meta.0 as usize) {
-            Some(Some(level)) => Some(self.metas.len() as u64 - 1 - *level),
-            _ => None,
+        match self.levels.get(&meta.0) {
+            Some(level) => Some(self.metas.len() as u64 - 1 - *level),
+            None => None,
         }
     }
-}
-
-/// Makes the list reach to a place, with nothing at the new ones.
-fn reach(levels: &mut Vec<Option<u64>>, place: usize) -> Result<(), AllocError>
-    ensures reached { IfOk result (λ _. place < length levels.new.items) }
-    ensures same { (m : ℕ) → joined (slice_get levels.new.items m) ≡ joined (slice_get levels.old.items m) }
-{
-    while levels.len() <= place {
-        levels.push(None)?;
-    }
-    Ok(())
 }

@@ -1,11 +1,8 @@
-use Rattle.std.proofs.Common.{◌≡◌, ◌≤◌, length}
+use Rattle.std.proofs.Common.{◌≡◌}
 use Rattle.tw_abstract.specs.Occurrences.{noted}
 use Rattle.tw_abstract.specs.Quantifiers.{unbound_below}
 use Rattle.tw_abstract.proofs.finding.note_unbound.Given as goal
 
 -- those below the number
 abbrev pub invariant-loop-number : goal.invariant-loop-number
-invariant-loop-number l = record {
-  noted : l.found ≡ noted l.fn.found (unbound_below l.store.now l.number);
-  within : l.number ≤ length l.store.now.declared;
-}
+invariant-loop-number l = l.found ≡ noted l.fn.found (unbound_below l.store.now l.number)

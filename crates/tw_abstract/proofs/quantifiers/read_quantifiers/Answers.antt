@@ -1,11 +1,8 @@
 use Rattle.std.proofs.Common.{◌≡◌, Err, rules}
 use Rattle.tw_abstract.proofs.Loops.{context_blamed, gathered}
-use Rattle.tw_abstract.proofs.Standing.{settled_types, settled_values}
+use Rattle.tw_abstract.proofs.Standing.{settled_types}
 use Rattle.tw_abstract.proofs.Unstuck.{has_order}
 use Rattle.tw_abstract.proofs.quantifiers.read_quantifiers.Goals as goal
-
-pub find-requires : goal.find-requires
-find-requires c = settled_values c.args.store.now.now c.requires
 
 pub candidates-requires : goal.candidates-requires
 candidates-requires c = settled_types c.args.store.now.now c.requires
