@@ -1,6 +1,6 @@
 //! Substitution for one variable, and the application of a term to all its arguments.
-ghost use Rattle.std.specs.Prelude.{◌≡◌, ◌≤◌, ◌<◌, IfOk, IsErrOf};
-ghost use Rattle.lf.specs.Syntax.{skeleton};
+ghost use Rattle.std.specs.Prelude.{◌≡◌, ◌≤◌, ◌<◌, IfOk, IsErrOf, MatchOption};
+ghost use Rattle.lf.specs.Syntax.{atom, nil, skeleton};
 ghost use Rattle.lf.specs.Substitution.{single, substitute as put_in, substitute_type as put_in_type, reduce};
 ghost use Rattle.lf.specs.Depth.{depth, type_depth, depth_limit};
 ghost use Rattle.lf.specs.Deep.{DeepSubstitution, DeepTypeSubstitution, DeepReduction};
@@ -17,7 +17,7 @@ use bumpalo::Bump;
 use std::alloc::{AllocError, Global};
 use tw_hered::HeredFault;
 use tw_metas::Store;
-use tw_terms::{Open, OpenSpine, OpenTy};
+use tw_terms::{ConstId, Open, OpenSpine, OpenTy};
 
 /// The greatest depth of a result.
 const DEPTH_LIMIT: u64 = 4_096;
@@ -60,6 +60,9 @@ pub fn substitute_type(
     ensures shallow { IfOk result (λ a. type_depth (open_type_of a) ≤ depth_limit) }
     ensures too_deep { IsErrOf result HeredFault.TooDeep → DeepTypeSubstitution depth_limit (put_at index (skeleton (open_type_of ty.now)) (open_term_of arg.now)) (open_type_of body.now) }
 {
+    if let Some(family) = bare_family(body) {
+        return Ok(bare_atom(alloc, family));
+    }
     let arena = Bump::new(alloc);
     let store = Store::new(alloc);
     let environment = environment_for(&arena, index, arg, ty)?;
@@ -111,6 +114,30 @@ pub fn apply(alloc: Global, term: &Open, spine: &OpenSpine, ty: &OpenTy) -> Resu
         entered.environment,
         DEPTH_LIMIT,
     )
+}
+
+/// The family of a type without arguments: nothing can be put into it.
+fn bare_family(ty: &OpenTy) -> Option<ConstId>
+    ensures { MatchOption result (Unit {0}) (λ f. open_type_of ty.now ≡ atom f.0 nil) }
+{
+    match ty {
+        OpenTy::Atom(family, spine) => {
+            if spine.args.is_empty() {
+                Some(*family)
+            } else {
+                None
+            }
+        }
+        OpenTy::Pi(_, _) => None,
+    }
+}
+
+/// The type of this family without arguments.
+fn bare_atom(alloc: Global, family: ConstId) -> OpenTy
+    ensures { open_type_of result ≡ atom family.0 nil }
+{
+    let args = Vec::new(alloc);
+    OpenTy::Atom(family, OpenSpine { args })
 }
 
 /// The environment that puts `arg` in for the variable `index`.
