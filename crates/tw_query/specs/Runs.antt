@@ -23,7 +23,7 @@ use Rattle.tw_query.specs.declared.run.QueryEnd.TheVariants as ends
 use Rattle.tw_query.specs.declared.run.QueryFault.{QueryFault}
 use Rattle.tw_query.specs.declared.run.QueryFault.TheVariants as fault
 
--- The values are typed, and so is a proof: the one that was read, or one that wasn't. Its proof is read where the goal names it.
+-- The values are typed, and so is a proof: the one that was read, or one that wasn't. Its proof is read exactly where the goal names it.
 pub record IsTypedAnswer (Σ : Signature) (g : Goal) (a : Answer) : Type 0 where
   pub named : is_some a.proof ≡ is_some g.proof
   pub proof : Term

@@ -1,5 +1,5 @@
 -- The parts of a search, as the theory has them.
-use Rattle.std.proofs.Common.{◌≡◌, ℕ, zero, suc, ◌<◌, ◌≤◌, List, [], ◌∷◌, length, map, reverse, Option, Some, None, ◌⊎◌, inl, inr, refl, sym, ap, ap₂, ◌∙◌, subst, arith}
+use Rattle.std.proofs.Common.{◌≡◌, ℕ, zero, suc, ◌<◌, ◌≤◌, List, [], ◌∷◌, length, map, reverse, Option, Some, None, ◌⊎◌, inl, inr, refl, sym, ap, ap₂, ◌∙◌, subst, arith, is_some}
 use Rattle.std.specs.List.{slice_get}
 use Rattle.std.specs.Option.{option_map}
 use Rattle.lf.specs.Syntax.{Head, LfType, Term, root}
@@ -24,7 +24,7 @@ use Rattle.tw_terms.specs.OpenView.{open_spine_of}
 use Rattle.tw_terms.specs.declared.canonical.MetaId.{MetaId}
 use Rattle.tw_search.specs.Answers.{IsIfRead}
 use Rattle.tw_search.specs.Goals.{IsDeclared, StandsAtGoal, at_goal, child_node, goal_type, node_of}
-use Rattle.tw_search.specs.Leaves.{AllFromQuery, IsFromQuery, IsLeaf, IsReadOff}
+use Rattle.tw_search.specs.Leaves.{AllFromQuery, IsFromQuery, IsLeaf, IsReadOff, sites_of}
 use Rattle.tw_search.specs.Roots.{IsRoot}
 use Rattle.tw_search.specs.Tries.{GivesChild, NeverFits}
 use Rattle.tw_search.specs.declared.goal.OpenGoal.{OpenGoal}
@@ -113,5 +113,5 @@ child_law Σ s g h subgoals new n w c all = child_comes Σ s g h n w subgoals ne
 -- what is read off a leaf is what the theory reads off it
 pub leaf_law : (s : State) (G : List LfType) (l : IsLeaf s (length G)) (gs : List ℕ) (F : List LfType) (Ms : List Term) (o : Option Term) → IsReadOff s (length G) F Ms o → (proof : Term) × IsIfRead o proof × IsReadOffLeaf l.signature G (node_of s gs) F Ms proof
 leaf_law s G l gs F Ms o r =
-    let (proof, is, there) = proof_there s (length G) l r.sites r.quantifiers F r.are_quantifiers o r.proof_read in
-    (proof, is, is_read_off s (length G) l r.sites r.quantifiers F r.are_quantifiers G gs Ms proof refl r.count r.values_read there)
+    let (proof, is, there) = proof_there s (length G) l (sites_of (length G) (is_some o)) r.quantifiers F r.are_quantifiers o r.proof_read in
+    (proof, is, is_read_off s (length G) l (sites_of (length G) (is_some o)) r.quantifiers F r.are_quantifiers G gs Ms proof refl r.count r.values_read there)

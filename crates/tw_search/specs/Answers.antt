@@ -13,6 +13,6 @@ abbrev pub IsIfRead : Option Term → Term → Type 0
 IsIfRead (Some N) M = N ≡ M
 IsIfRead None M = Unit {0}
 
--- M is the proof that was read, if one was: the answer z of `D : nat` has the proof z alone, and that of `nat` has any
+-- M may be the proof of this answer: where it was read, it is the term that was read. Of the first answer of `D : nat` M is z; of that of `nat` nothing is said here.
 abbrev pub HasProof : Answer → Term → Type 0
 HasProof a M = IsIfRead (option_map term_of a.proof) M

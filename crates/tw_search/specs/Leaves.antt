@@ -1,5 +1,5 @@
 -- What is read off a leaf without equations, from a state of the store.
-use Rattle.std.specs.Prelude.{◌≡◌, ℕ, zero, suc, ◌≤◌, List, [], ◌∷◌, ◌++◌, Option, Some, None, length, ◌⊎◌, Bool, false, true}
+use Rattle.std.specs.Prelude.{◌≡◌, ℕ, zero, suc, ◌≤◌, List, [], ◌∷◌, ◌++◌, Option, Some, None, length, ◌⊎◌, Bool, false, true, is_some}
 use Rattle.lf.specs.Subordination.{Member}
 use Rattle.lf.specs.Syntax.{LfType, Term, skeleton}
 use Rattle.lf.specs.Typing.{IsSignature, Signature}
@@ -61,9 +61,8 @@ IsProofRead s ms n None = Unit {0}
 
 -- The context F of the free metavariables, the values of the variables with the newest in front, and the proof, where it was read.
 pub record IsReadOff (s : State) (n : ℕ) (F : List LfType) (values : List Term) (proof : Option Term) : Type 0 where
-  pub sites : List ℕ
   pub quantifiers : List ℕ
-  pub are_quantifiers : AreQuantifiers s sites quantifiers F
+  pub are_quantifiers : AreQuantifiers s (sites_of n (is_some proof)) quantifiers F
   pub values_read : AreValuesRead s quantifiers values
   pub count : length values ≡ n
   pub proof_read : IsProofRead s quantifiers n proof
@@ -72,7 +71,7 @@ pub record IsReadOff (s : State) (n : ℕ) (F : List LfType) (values : List Term
 abbrev pub ValueIsDeep : State → ℕ → Type 0
 ValueIsDeep s m = (N : Term) × (value_of s m ≡ Some N) × PutsDeep s 0 N
 
--- a leaf, with the quantifiers that are read off it and their context
+-- a leaf, with the quantifiers that are read off it, wherever it was looked first, and their context
 pub record CanRead (s : State) (n : ℕ) (ms : List ℕ) (F : List LfType) : Type 0 where
   pub leaf : IsLeaf s n
   pub sites : List ℕ

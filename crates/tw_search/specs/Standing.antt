@@ -138,7 +138,7 @@ IsAfter es step.Exhausted s after = IsOver end.Exhausted s
 IsAfter es step.Budget s after = IsAt es s after
 IsAfter es step.TooDeep s after = IsOver end.TooDeep s
 
--- The leaf has no equations, and the answer is read off it: its proof is read where the goal names it. Of `nat` with z that leaf has the hole bound to z, and the proof is z.
+-- The leaf has no equations, and the answer is read off it: its proof is read exactly where the goal names it. Of `nat` with z that leaf has the hole bound to z, and the proof is z.
 pub record IsAnswerOfLeaf (es : List Entry) (G : List LfType) (name : Option (List ℕ)) (a : Answer) (l : Node) : Type 0 where
   pub none_left : l.store.equations ≡ []
   pub named : is_some a.proof ≡ is_some name

@@ -30,7 +30,7 @@ pub struct Search {
     pub(crate) place: Place,
     /// How many variables the goal has: they are the first metavariables, and the hole of the proof is the next one.
     pub(crate) variables: u64,
-    /// An equation that is left is shown with the names of its variables.
+    /// Its variables name those of an equation that is left, and its name for the proof says whether the proof is read.
     pub(crate) goal: Goal,
     pub(crate) tries: u64,
 }
