@@ -23,6 +23,8 @@ def kit():
     made = importlib.util.module_from_spec(importlib.util.spec_from_loader("rtmain", loader))
     sys.modules["rtmain"] = made
     loader.exec_module(made)
+    if not hasattr(made, "Kept"):
+        sys.exit("seed.py: this kit keeps nothing that it proved: use tools/keep.py --lay")
     return made
 
 
