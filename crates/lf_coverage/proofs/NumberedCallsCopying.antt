@@ -1,5 +1,5 @@
 -- Worked answers of the calls by number: of copying.
-use Rattle.std.proofs.Common.{◌≡◌, ℕ, ◌+◌, [], ◌∷◌, inl, inr, refl, sym, ◌∙◌, subst, ◌≤◌, arith}
+use Rattle.std.proofs.Common.{◌≡◌, ℕ, zero, suc, ◌+◌, [], ◌∷◌, inl, inr, refl, sym, ◌∙◌, subst, ◌≤◌, arith}
 use Rattle.std.specs.Prelude.{true, Some, None}
 use Rattle.lf.specs.Syntax.{Head, constant, variable, root, nil, app, Term, Spine, base}
 use Rattle.lf.specs.Substitution.{Image, keep, put, substitute, substitute_type, reduce}
@@ -9,19 +9,24 @@ use Rattle.lf.specs.Variables.{target_arguments}
 use Rattle.lf_checks.specs.Marks.{SamePlaces}
 use Rattle.lf_cases.specs.Case.{HasArguments}
 use Rattle.lf_cases.specs.Pattern.{Pattern}
-use Rattle.lf_totality.specs.Examples.{Copying, copy_block, exp}
+use Rattle.lf_checks.specs.Clause.{from_entry}
+use Rattle.lf_totality.specs.Examples.{Copying, copy_block, copy_entry, copying_kinds, copying_types, cp, cp_kind, exp, var}
+use Rattle.lf_totality.proofs.Copying.{copying_ok}
+use Rattle.lf_coverage.specs.EntryConstants.{IsFreeFrom}
 use Rattle.lf_coverage.specs.EntryPatterns.{IsInstanceOfPattern}
 use Rattle.lf_coverage.specs.ExamplesCopying.{copy_app_head, copy_entry_head, copy_goal, copy_worlds}
 use Rattle.lf_coverage.specs.ExamplesNumbered.{one_copy, two_copies}
 use Rattle.lf_coverage.specs.Matching.{ArePlaces}
 use Rattle.lf_coverage.specs.NumberedCallsExamples.{CopiesAreGoals, CopiesAreMatched, CopiesAreReached}
-use Rattle.lf_coverage.specs.NumberedCalls.{HasOwnBlock}
+use Rattle.lf_coverage.specs.NumberedCalls.{IsFor}
 use Rattle.lf_coverage.specs.NumberedCallsMeeting.{HasPattern, SharesInstance, IsApartByNumber}
 use Rattle.lf_coverage.specs.NumberedCallsReached.{numbered_goal}
 use Rattle.lf_coverage.specs.NumberedCase.{NumberedCase}
 use Rattle.lf_coverage.specs.Numbering.{numbered}
 use Rattle.lf_coverage.proofs.EntryPatternsExamples.{copy_is_instance}
+use Rattle.lf_coverage.proofs.ExamplesCopyingSplit.{copy_typed}
 use Rattle.lf_coverage.proofs.ExamplesNumbered.{blocks_are_identified}
+use Rattle.lf_coverage.proofs.Leaves.{head_is_typed}
 
 -- An instance of a pattern has the pattern.
 pub instance_has_pattern : (Σ : Rattle.lf.specs.Typing.Signature) (first : ℕ) (C : NumberedCase) (p : Pattern) → IsInstanceOfPattern Σ first C p → HasPattern Σ first C p
@@ -124,5 +129,51 @@ copies_are_reached below = (
 two_are_many : 2 ≤ 1 → ⊥
 two_are_many l = omega (arith, l)
 
+-- no constant and no family of copying has the number 4 or a greater one
+pub copying_free : IsFreeFrom Copying 4
+copying_free = record { types_free = types; kinds_free = kinds }
+  where
+    types : (c : ℕ) → 4 ≤ c → copying_types c ≡ None
+    types zero l = absurd (omega (arith, l))
+    types (suc zero) l = absurd (omega (arith, l))
+    types (suc (suc zero)) l = absurd (omega (arith, l))
+    types (suc (suc (suc zero))) l = absurd (omega (arith, l))
+    types (suc (suc (suc (suc c)))) l = refl
+
+    kinds : (a : ℕ) → 4 ≤ a → copying_kinds a ≡ None
+    kinds zero l = absurd (omega (arith, l))
+    kinds (suc zero) l = absurd (omega (arith, l))
+    kinds (suc (suc a)) l = refl
+
+-- u is a head for cp b.x b.x, whose arguments have the type exp.
+entry_for : IsFor Copying 4 copy_worlds one_copy copy_entry_head
+entry_for = record {
+  typed = head_is_typed Copying copying_ok copy_worlds copy_typed copy_entry (from_entry copy_block [] (cp (var 0) (var 0)) (exp ∷ []) (inl refl) refl);
+  same_family = refl;
+  same_length = refl;
+  given_own = λ i e. absurd cc;
+  own_block = λ e. absurd cc;
+  beside = inl (record {
+    is_head = refl;
+    none_given = refl;
+    no_local = refl;
+    kind = cp_kind;
+    of_family = refl;
+    covered_only = (tt, (tt, tt));
+    tuple = app (root (constant 4) nil) (app (root (constant 4) nil) nil);
+    at_places = (refl, (refl, tt));
+    typed_places = ((exp, refl, refl), ((exp, refl, refl), tt));
+  });
+}
+
 pub copies_are_goals : CopiesAreGoals
-copies_are_goals = ((copy_is_instance.0.typed, omega arith, λ p m. subst (λ (q : Pattern). HasOwnBlock q.origin q.at_first one_copy) (sym (one_member m)) (λ e. absurd cc)), λ n. two_are_many n.1)
+copies_are_goals below test = (
+  record {
+    setting = record { signature = copying_ok; blocks = copy_typed; free = copying_free };
+    subordination = test;
+    case = copy_is_instance.0.typed;
+    one_block = omega arith;
+    patterns = λ p m. subst (IsFor Copying 4 copy_worlds one_copy) (sym (one_member m)) entry_for;
+  },
+  λ n. two_are_many n.one_block,
+)

@@ -6,11 +6,10 @@ use Rattle.lf.specs.Substitution.{Image, keep, put, substitute_type, reduce}
 use Rattle.lf.specs.AtOnce.{shift_by, lift_renaming_by}
 use Rattle.lf.specs.Eta.{lambdas}
 use Rattle.lf.specs.Typing.{Signature, TypeAt, IsSignature}
-use Rattle.lf.specs.Variables.{target, FamiliesIn}
+use Rattle.lf.specs.Variables.{target}
 use Rattle.lf.specs.Subordination.{Block, AreTypedBlocks, Member, SelfContained}
 use Rattle.lf.specs.Worlds.{World, lift_over}
 use Rattle.lf.specs.Extension.{Extends}
-use Rattle.lf.proofs.Strength.{families_renamed, family_target}
 use Rattle.lf.proofs.Target.{target_of, target_renamed}
 use Rattle.lf.proofs.TypeLaws.{skeleton_renamed}
 use Rattle.lf_checks.specs.Below.{IsSubordination}
@@ -23,6 +22,7 @@ use Rattle.lf_coverage.specs.EntryPatternsSplits.{HoldsAs, OneHoldsAs}
 use Rattle.lf_coverage.specs.Heads.{ArgumentsAreBelow}
 use Rattle.lf_coverage.specs.NewBlock.{rename_all, with_new_block}
 use Rattle.lf_coverage.specs.NewInstance.{AreApart, with_instance}
+use Rattle.lf_coverage.specs.NumberedCandidates.{TakesIn}
 use Rattle.lf_coverage.specs.NumberedCase.{NumberedCase, IsNumberedInstance}
 use Rattle.lf_coverage.specs.NumberedHeads.{IsNumberedHead, IsNewEntry}
 use Rattle.lf_coverage.specs.NumberedSplits.{NumberedOffer, IsOfferTo, of_case, of_new_block, NumberedAnswer, IsAnsweredByNumber, AnsweredByNumberIsSplit}
@@ -38,6 +38,7 @@ use Rattle.lf_coverage.proofs.HeadSplit.{places_put_in}
 use Rattle.lf_coverage.proofs.HeadTerm.{taken_length}
 use Rattle.lf_coverage.proofs.HeadsOverEntries.{of_type as entry_has_type, reads as entry_reads}
 use Rattle.lf_coverage.proofs.NewInstance.{new_instance_is_of_new_block}
+use Rattle.lf_coverage.proofs.NumberedCandidatesTypes.{families_take, takes_in_target, takes_same}
 use Rattle.lf_coverage.proofs.NumberedHeads.{numbered_heads_are_all, target_over}
 use Rattle.lf_coverage.proofs.NumberedSplitsAnswers.{AnswersHold, answer_holds, entry_answer_holds}
 use Rattle.lf_coverage.proofs.OwnStoresNewBlock.{new_block_stays_typed}
@@ -73,7 +74,7 @@ holds_then first C D E θ χ ψ σ ρ τ a b = record {
   zeroth = λ F h. b.zeroth F (a.zeroth F h);
 }
 
-module _ (Σ : Signature) (ok : IsSignature Σ) (W : List Block) (typed : AreTypedBlocks Σ W) (below : ℕ → ℕ → Bool) (s : IsSubordination Σ W below) (S : ℕ → Bool) (sc : SelfContained Σ W S) (first : ℕ) (free : IsFreeFrom Σ first) (C : NumberedCase) (tc : IsTypedNumberedCase Σ first W C) (x : ℕ) (Cs : List NumberedCase) (sp : IsAnsweredByNumber Σ first W below C x Cs) (fams : FamiliesIn S sp.type) where
+module _ (Σ : Signature) (ok : IsSignature Σ) (W : List Block) (typed : AreTypedBlocks Σ W) (below : ℕ → ℕ → Bool) (s : IsSubordination Σ W below) (S : ℕ → Bool) (sc : SelfContained Σ W S) (first : ℕ) (free : IsFreeFrom Σ first) (C : NumberedCase) (tc : IsTypedNumberedCase Σ first W C) (x : ℕ) (Cs : List NumberedCase) (sp : IsAnsweredByNumber Σ first W below C x Cs) (fams : TakesIn S sp.type) where
   abbrev X : LfType
   X = sp.type
 
@@ -89,7 +90,7 @@ module _ (Σ : Signature) (ok : IsSignature Σ) (W : List Block) (typed : AreTyp
 
   module _ (Σ' : Signature) (ext : Extends S Σ Σ') (G : List LfType) (w : World Σ' W S G) (θ : ℕ → ℕ → Image) (σ : ℕ → Image) (inst : IsNumberedInstance w first C θ σ) (apart : AreApart C θ) where
     -- The answer to an offer, for a case that holds what C holds.
-    answered : (E : NumberedCase) (te : IsTypedNumberedCase Σ first W E) (χ : ℕ → ℕ → Image) (τ : ℕ → Image) (i : IsNumberedInstance w first E χ τ) (ap' : AreApart E χ) (y : ℕ) (Y : LfType) (at : TypeAt E.variables y Y) (f : FamiliesIn S Y) (a : ArgumentsAreBelow below Y) (h0 : Head) (T : Spine) (e : τ y ≡ put (skeleton Y) (lambdas (length (taken Y)) (root h0 T))) → HoldsAs first C θ σ E χ τ → (h : Head) (U : Spine) (A : LfType) → IsOfferTo Σ first W C x X (record { case = E; variable = y; type = Y; head = h; terms = U; left = A }) → AnswersHold Σ Σ' ok S ext W typed below s sc first free E te w χ τ i ap' y Y at f a h0 T e h U A → OneHoldsAs w first C θ σ Cs
+    answered : (E : NumberedCase) (te : IsTypedNumberedCase Σ first W E) (χ : ℕ → ℕ → Image) (τ : ℕ → Image) (i : IsNumberedInstance w first E χ τ) (ap' : AreApart E χ) (y : ℕ) (Y : LfType) (at : TypeAt E.variables y Y) (f : TakesIn S Y) (a : ArgumentsAreBelow below Y) (h0 : Head) (T : Spine) (e : τ y ≡ put (skeleton Y) (lambdas (length (taken Y)) (root h0 T))) → HoldsAs first C θ σ E χ τ → (h : Head) (U : Spine) (A : LfType) → IsOfferTo Σ first W C x X (record { case = E; variable = y; type = Y; head = h; terms = U; left = A }) → AnswersHold Σ Σ' ok S ext W typed below s sc first free E te w χ τ i ap' y Y at f a h0 T e h U A → OneHoldsAs w first C θ σ Cs
     answered E te χ τ i ap' y Y at f a h0 T e holds h U A offer hold = by (answer_of sp.listed o (sp.every o offer))
       where
         o : NumberedOffer
@@ -124,7 +125,7 @@ module _ (Σ : Signature) (ok : IsSignature Σ) (W : List Block) (typed : AreTyp
         let sk : skeleton Y ≡ skeleton X = skeleton_renamed (shift_by l) X in
         let n : length (taken Y) ≡ length (taken X) = taken_length (shift_by l) X [] [] refl in
         let at : TypeAt E.variables (x + l) Y = far_type B.some C.variables x X sp.at in
-        let fY : FamiliesIn S Y = families_renamed S (shift_by l) X fams in
+        let fY : TakesIn S Y = takes_same S X Y (sym sk) fams in
         let aY : ArgumentsAreBelow below Y = below_same below X Y (sym sk) sp.takes_below in
         let eY : τ (x + l) ≡ put (skeleton Y) (lambdas (length (taken Y)) (root h0 T)) = p x ∙ e ∙ ap (λ a. put a (lambdas (length (taken X)) (root h0 T))) (sym sk) ∙ ap (λ m. put (skeleton Y) (lambdas m (root h0 T))) (sym n) in
         let holds : HoldsAs first C θ σ E χ τ = new_block_holds_as Σ Σ' ok S ext W typed first free C tc B z.of_worlds G w θ σ inst z.instance τ z.in_context j p in
@@ -151,7 +152,7 @@ module _ (Σ : Signature) (ok : IsSignature Σ) (W : List Block) (typed : AreTyp
 
     held : OneHoldsAs w first C θ σ Cs
     held =
-        let (N, h, T, e, q, k) = numbered_heads_are_all Σ Σ' ok S ext W typed first free C G w θ σ inst x X sp.at (family_target S X fams) in
+        let (N, h, T, e, q, k) = numbered_heads_are_all Σ Σ' ok S ext W typed first free C G w θ σ inst x X sp.at (takes_in_target S X fams) in
         by h T (e ∙ ap (put (skeleton X)) q) k
       where
         by : (h : Head) (T : Spine) → σ x ≡ put (skeleton X) (lambdas (length (taken X)) (root h T)) → IsNumberedHead Σ first C θ (length (taken X)) (target X) h ⊎ IsNewEntry w C θ (length (taken X)) (target X) h → OneHoldsAs w first C θ σ Cs
@@ -162,4 +163,4 @@ module _ (Σ : Signature) (ok : IsSignature Σ) (W : List Block) (typed : AreTyp
   is_split = instances_make_split Σ first W S C Cs like (λ Σ' ext G w θ σ inst apart. held Σ' ext G w θ σ inst apart)
 
 pub answered_by_number_is_split : AnsweredByNumberIsSplit
-answered_by_number_is_split Σ ok W typed below s S sc first free C tc x Cs sp fams = is_split Σ ok W typed below s S sc first free C tc x Cs sp fams
+answered_by_number_is_split Σ ok W typed below s S sc first free C tc x Cs sp fams = is_split Σ ok W typed below s S sc first free C tc x Cs sp (families_take S sp.type fams)

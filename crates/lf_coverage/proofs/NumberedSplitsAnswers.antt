@@ -8,7 +8,7 @@ use Rattle.lf.specs.Eta.{lambdas}
 use Rattle.lf.specs.SkeletonTyping.{SubstitutionBySkeletons}
 use Rattle.lf.specs.Skeletons.{constant_skeletons, context_skeletons}
 use Rattle.lf.specs.Typing.{Signature, TypeAt, HasType, IsContext, IsSignature, IsTypedSubstitution}
-use Rattle.lf.specs.Variables.{target, FamiliesIn}
+use Rattle.lf.specs.Variables.{target}
 use Rattle.lf.specs.Subordination.{Block, AreTypedBlocks, SelfContained}
 use Rattle.lf.specs.Worlds.{World}
 use Rattle.lf.specs.Extension.{Extends}
@@ -25,6 +25,7 @@ use Rattle.lf_coverage.specs.EntryConstants.{IsFreeFrom, entry_constant, with_en
 use Rattle.lf_coverage.specs.EntryPatternsSplits.{HoldsAs}
 use Rattle.lf_coverage.specs.Heads.{ArgumentsAreBelow}
 use Rattle.lf_coverage.specs.NewInstance.{AreApart}
+use Rattle.lf_coverage.specs.NumberedCandidates.{TakesIn}
 use Rattle.lf_coverage.specs.NumberedCase.{NumberedCase, IsNumberedInstance, value_in}
 use Rattle.lf_coverage.specs.NumberedHeads.{IsNumberedHead}
 use Rattle.lf_coverage.specs.NumberedInstance.{block_at, move, move_spine, move_types}
@@ -62,7 +63,7 @@ block_before υ [] j d q = absurd (none_some q)
 block_before υ (b ∷ bs) zero d q = (b, refl, ap (λ (c : BlockVariable). c.block) (some_same q))
 block_before υ (b ∷ bs) (suc j) d q = block_before υ bs j d q
 
-module _ (Σ Σ' : Signature) (ok : IsSignature Σ) (S : ℕ → Bool) (x : Extends S Σ Σ') (W : List Block) (typed : AreTypedBlocks Σ W) (below : ℕ → ℕ → Bool) (s : IsSubordination Σ W below) (sc : SelfContained Σ W S) (first : ℕ) (free : IsFreeFrom Σ first) (E : NumberedCase) (te : IsTypedNumberedCase Σ first W E) {G : List LfType} (w : World Σ' W S G) (θ : ℕ → ℕ → Image) (σ : ℕ → Image) (inst : IsNumberedInstance w first E θ σ) (apart : AreApart E θ) (y : ℕ) (X : LfType) (at : TypeAt E.variables y X) (fams : FamiliesIn S X) (args : ArgumentsAreBelow below X) (h0 : Head) (T : Spine) (e : σ y ≡ put (skeleton X) (lambdas (length (taken X)) (root h0 T))) where
+module _ (Σ Σ' : Signature) (ok : IsSignature Σ) (S : ℕ → Bool) (x : Extends S Σ Σ') (W : List Block) (typed : AreTypedBlocks Σ W) (below : ℕ → ℕ → Bool) (s : IsSubordination Σ W below) (sc : SelfContained Σ W S) (first : ℕ) (free : IsFreeFrom Σ first) (E : NumberedCase) (te : IsTypedNumberedCase Σ first W E) {G : List LfType} (w : World Σ' W S G) (θ : ℕ → ℕ → Image) (σ : ℕ → Image) (inst : IsNumberedInstance w first E θ σ) (apart : AreApart E θ) (y : ℕ) (X : LfType) (at : TypeAt E.variables y X) (fams : TakesIn S X) (args : ArgumentsAreBelow below X) (h0 : Head) (T : Spine) (e : σ y ≡ put (skeleton X) (lambdas (length (taken X)) (root h0 T))) where
   abbrev n : ℕ
   n = entries_of (blocks_of E.blocks)
 

@@ -7,7 +7,7 @@ use Rattle.lf.specs.AtOnce.{shift_by, lift_renaming_by}
 use Rattle.lf.specs.Eta.{append, lambdas}
 use Rattle.lf.specs.Skeletons.{context_skeletons}
 use Rattle.lf.specs.Typing.{Signature, TypeAt, HeadHasType, ImageHasType, HasType, SpineType, IsType, IsContext, IsSignature, IsTypedSubstitution}
-use Rattle.lf.specs.Variables.{target, target_arguments, onto, binders, FamiliesIn}
+use Rattle.lf.specs.Variables.{target, target_arguments, onto, binders}
 use Rattle.lf.specs.Subordination.{Block, SelfContained}
 use Rattle.lf.specs.Worlds.{World, lift_over, instance}
 use Rattle.lf.proofs.Growth.{growth_keeps_types}
@@ -22,6 +22,7 @@ use Rattle.lf_totality.proofs.RaisedOutputs.{binders_over}
 use Rattle.lf.proofs.Substitution.{skeleton_context_of, substitution_keeps_types}
 use Rattle.lf_coverage.specs.EntryConstants.{with_entries}
 use Rattle.lf_coverage.specs.Heads.{ArgumentsAreBelow}
+use Rattle.lf_coverage.specs.NumberedCandidates.{TakesIn}
 use Rattle.lf_coverage.specs.NumberedCase.{NumberedCase}
 use Rattle.lf_coverage.specs.OwnStores.{IsNumberedOffer}
 use Rattle.lf_coverage.specs.OwnTerms.{blocks_of}
@@ -48,7 +49,7 @@ spine_rest Σ G nil T A B C e t = subst (λ Z. SpineType Σ G T Z C) e t
 spine_rest Σ G (app M U) T (pi A A') B C (m, u) (n, t) = spine_rest Σ G U T (Rattle.lf.specs.Typing.instantiate_type A M A') B C u t
 spine_rest Σ G (app M U) T (atom a V) B C u t = absurd u
 
-module _ (Σ Σ' : Signature) {W : List Block} {S : ℕ → Bool} {G : List LfType} (w : World Σ' W S G) (first : ℕ) (C : NumberedCase) (θ : ℕ → ℕ → Image) (σ : ℕ → Image) (r : IsInstanceWithRoom Σ w first C θ σ) (F : List LfType) (ρ : ℕ → Image) (back : ℕ → ℕ) (hw : IsWriting Σ' first (blocks_of C.blocks) θ G F ρ back) (sc : SelfContained Σ W S) (below : ℕ → ℕ → Bool) (s : IsSubordination Σ W below) (x : ℕ) (X : LfType) (at : TypeAt C.variables x X) (fams : FamiliesIn S X) (args : ArgumentsAreBelow below X) (h0 : Head) (T : Spine) (e : σ x ≡ put (skeleton X) (lambdas (length (taken X)) (root h0 T))) where
+module _ (Σ Σ' : Signature) {W : List Block} {S : ℕ → Bool} {G : List LfType} (w : World Σ' W S G) (first : ℕ) (C : NumberedCase) (θ : ℕ → ℕ → Image) (σ : ℕ → Image) (r : IsInstanceWithRoom Σ w first C θ σ) (F : List LfType) (ρ : ℕ → Image) (back : ℕ → ℕ) (hw : IsWriting Σ' first (blocks_of C.blocks) θ G F ρ back) (sc : SelfContained Σ W S) (below : ℕ → ℕ → Bool) (s : IsSubordination Σ W below) (x : ℕ) (X : LfType) (at : TypeAt C.variables x X) (fams : TakesIn S X) (args : ArgumentsAreBelow below X) (h0 : Head) (T : Spine) (e : σ x ≡ put (skeleton X) (lambdas (length (taken X)) (root h0 T))) where
   abbrev Σ₁ : Signature
   Σ₁ = with_entries Σ first (blocks_of C.blocks)
 

@@ -6,7 +6,7 @@ use Rattle.lf.specs.Substitution.{Image, keep, put, substitute, substitute_spine
 use Rattle.lf.specs.AtOnce.{shift_by}
 use Rattle.lf.specs.Eta.{append, lambdas}
 use Rattle.lf.specs.Typing.{Signature, TypeAt, HasType, ImageHasType, IsTypedSubstitution, IsSignature}
-use Rattle.lf.specs.Variables.{target, FamiliesIn}
+use Rattle.lf.specs.Variables.{target}
 use Rattle.lf.specs.Subordination.{Block, SelfContained}
 use Rattle.lf.specs.Worlds.{World, lift_over}
 use Rattle.lf.proofs.TypeLaws.{skeleton_renamed}
@@ -21,6 +21,7 @@ use Rattle.lf_cases.specs.OutputGoal.{free_variables}
 use Rattle.lf_cases.specs.Reached.{arguments_count, head_masks, taken, split_items}
 use Rattle.lf_coverage.specs.EntryConstants.{EntryConstant, entry_constant, with_entries}
 use Rattle.lf_coverage.specs.Heads.{ArgumentsAreBelow}
+use Rattle.lf_coverage.specs.NumberedCandidates.{TakesIn}
 use Rattle.lf_coverage.specs.NumberedCase.{NumberedCase, AreTypedBlockVariables, some_spine, value_in, type_in}
 use Rattle.lf_coverage.specs.NumberedInstance.{block_at}
 use Rattle.lf_coverage.specs.OwnStores.{IsNumberedOffer, numbered_store, solved_numbered}
@@ -64,7 +65,7 @@ module _ (Σ Σ' : Signature) (types : (c : ℕ) (A : LfType) → Σ.types c ≡
   blocks_more W X o [] h = tt
   blocks_more W X o (b ∷ bs) (m, (υ, u, q), p, h) = (m, (υ, values_more b.block.some X υ u, q), p, blocks_more W X o bs h)
 
-module _ (Σ Σ' : Signature) {W : List Block} {S : ℕ → Bool} {G : List LfType} (w : World Σ' W S G) (first : ℕ) (C : NumberedCase) (θ : ℕ → ℕ → Image) (σ : ℕ → Image) (r : IsInstanceWithRoom Σ w first C θ σ) (F : List LfType) (ρ : ℕ → Image) (back : ℕ → ℕ) (hw : IsWriting Σ' first (blocks_of C.blocks) θ G F ρ back) (sc : SelfContained Σ W S) (below : ℕ → ℕ → Bool) (s : IsSubordination Σ W below) (x : ℕ) (X : LfType) (at : TypeAt C.variables x X) (fams : FamiliesIn S X) (args : ArgumentsAreBelow below X) (h0 : Head) (T : Spine) (e : σ x ≡ put (skeleton X) (lambdas (length (taken X)) (root h0 T))) (tc : IsTypedNumberedCase Σ first W C) (h : Head) (U : Spine) (A : LfType) (offer : IsNumberedOffer Σ first C X h U A) (h1 : Head) (U1 : Spine) (written : substitute reduce (lift_over (taken X) ρ) (root h0 T) ≡ root h1 (append U1 (substitute_spine reduce (lift_over (taken X) ρ) T))) (K : Kind) (of_family : Σ.kinds (target X) ≡ Some K) (φ : ℕ → Image) (m : MakesWritten Σ Σ' w first C θ σ r F ρ back hw sc below s x X at fams args h0 T e h U A φ) (after0 : Store) (d : Solved (with_entries Σ first (blocks_of C.blocks)) (numbered_store below C x X h U A K) after0) where
+module _ (Σ Σ' : Signature) {W : List Block} {S : ℕ → Bool} {G : List LfType} (w : World Σ' W S G) (first : ℕ) (C : NumberedCase) (θ : ℕ → ℕ → Image) (σ : ℕ → Image) (r : IsInstanceWithRoom Σ w first C θ σ) (F : List LfType) (ρ : ℕ → Image) (back : ℕ → ℕ) (hw : IsWriting Σ' first (blocks_of C.blocks) θ G F ρ back) (sc : SelfContained Σ W S) (below : ℕ → ℕ → Bool) (s : IsSubordination Σ W below) (x : ℕ) (X : LfType) (at : TypeAt C.variables x X) (fams : TakesIn S X) (args : ArgumentsAreBelow below X) (h0 : Head) (T : Spine) (e : σ x ≡ put (skeleton X) (lambdas (length (taken X)) (root h0 T))) (tc : IsTypedNumberedCase Σ first W C) (h : Head) (U : Spine) (A : LfType) (offer : IsNumberedOffer Σ first C X h U A) (h1 : Head) (U1 : Spine) (written : substitute reduce (lift_over (taken X) ρ) (root h0 T) ≡ root h1 (append U1 (substitute_spine reduce (lift_over (taken X) ρ) T))) (K : Kind) (of_family : Σ.kinds (target X) ≡ Some K) (φ : ℕ → Image) (m : MakesWritten Σ Σ' w first C θ σ r F ρ back hw sc below s x X at fams args h0 T e h U A φ) (after0 : Store) (d : Solved (with_entries Σ first (blocks_of C.blocks)) (numbered_store below C x X h U A K) after0) where
   abbrev Σ₁ : Signature
   Σ₁ = with_entries Σ first (blocks_of C.blocks)
 

@@ -6,7 +6,7 @@ use Rattle.lf.specs.Syntax.{Head, constant, variable, metavariable, Term, Spine,
 use Rattle.lf.specs.Substitution.{Image, put}
 use Rattle.lf.specs.Eta.{lambdas}
 use Rattle.lf.specs.Typing.{Signature, TypeAt, IsSignature}
-use Rattle.lf.specs.Variables.{target, FamiliesIn}
+use Rattle.lf.specs.Variables.{target}
 use Rattle.lf.specs.Subordination.{Block, AreTypedBlocks, SelfContained}
 use Rattle.lf.specs.Worlds.{World}
 use Rattle.lf.specs.Extension.{Extends}
@@ -15,6 +15,7 @@ use Rattle.lf_cases.specs.Reached.{taken}
 use Rattle.lf_coverage.specs.EntryConstants.{EntryConstant, IsFreeFrom, entry_constant, entry_type, with_entries}
 use Rattle.lf_coverage.specs.Heads.{ArgumentsAreBelow}
 use Rattle.lf_coverage.specs.NewInstance.{AreApart}
+use Rattle.lf_coverage.specs.NumberedCandidates.{TakesIn}
 use Rattle.lf_coverage.specs.NumberedCase.{NumberedCase, IsNumberedInstance}
 use Rattle.lf_coverage.specs.NumberedHeads.{IsNumberedHead, of_signature, of_taken, of_entry}
 use Rattle.lf_coverage.specs.NumberedInstance.{move, move_spine, move_types}
@@ -45,7 +46,7 @@ root_moved γ (constant c) T = refl
 root_moved γ (variable i) T = refl
 root_moved γ (metavariable m) T = refl
 
-module _ (Σ Σ' : Signature) (ok : IsSignature Σ) (S : ℕ → Bool) (x : Extends S Σ Σ') (W : List Block) (typed : AreTypedBlocks Σ W) (below : ℕ → ℕ → Bool) (s : IsSubordination Σ W below) (sc : SelfContained Σ W S) (first : ℕ) (free : IsFreeFrom Σ first) (E : NumberedCase) (te : IsTypedNumberedCase Σ first W E) {G : List LfType} (w : World Σ' W S G) (θ : ℕ → ℕ → Image) (σ : ℕ → Image) (inst : IsNumberedInstance w first E θ σ) (apart : AreApart E θ) (y : ℕ) (X : LfType) (at : TypeAt E.variables y X) (fams : FamiliesIn S X) (args : ArgumentsAreBelow below X) (h0 : Head) (T : Spine) (e : σ y ≡ put (skeleton X) (lambdas (length (taken X)) (root h0 T))) where
+module _ (Σ Σ' : Signature) (ok : IsSignature Σ) (S : ℕ → Bool) (x : Extends S Σ Σ') (W : List Block) (typed : AreTypedBlocks Σ W) (below : ℕ → ℕ → Bool) (s : IsSubordination Σ W below) (sc : SelfContained Σ W S) (first : ℕ) (free : IsFreeFrom Σ first) (E : NumberedCase) (te : IsTypedNumberedCase Σ first W E) {G : List LfType} (w : World Σ' W S G) (θ : ℕ → ℕ → Image) (σ : ℕ → Image) (inst : IsNumberedInstance w first E θ σ) (apart : AreApart E θ) (y : ℕ) (X : LfType) (at : TypeAt E.variables y X) (fams : TakesIn S X) (args : ArgumentsAreBelow below X) (h0 : Head) (T : Spine) (e : σ y ≡ put (skeleton X) (lambdas (length (taken X)) (root h0 T))) where
   abbrev n : ℕ
   n = entries_of (blocks_of E.blocks)
 

@@ -8,7 +8,7 @@ use Rattle.lf.specs.Eta.{append, lambdas}
 use Rattle.lf.specs.SkeletonTyping.{SkeletonAt, SpineSkeleton}
 use Rattle.lf.specs.Skeletons.{constant_skeletons, context_skeletons}
 use Rattle.lf.specs.Typing.{Signature, TypeAt, HeadHasType, SpineType, IsSignature, IsTypedRenaming}
-use Rattle.lf.specs.Variables.{target, target_arguments, onto, binders, FamiliesIn}
+use Rattle.lf.specs.Variables.{target, target_arguments, onto, binders}
 use Rattle.lf.specs.Subordination.{Block, SelfContained}
 use Rattle.lf.specs.Worlds.{World, lift_over, instance}
 use Rattle.lf.proofs.Closed.{closed_type_substituted}
@@ -30,6 +30,7 @@ use Rattle.lf.proofs.Renaming.{substitute_renamed_spine}
 use Rattle.lf.proofs.Weakening.{renaming_keeps_spine_typing}
 use Rattle.lf_coverage.specs.EntryConstants.{EntryConstant, entry_constant, entry_images, entry_type, with_entries}
 use Rattle.lf_coverage.specs.Heads.{ArgumentsAreBelow}
+use Rattle.lf_coverage.specs.NumberedCandidates.{TakesIn}
 use Rattle.lf_coverage.specs.NumberedCase.{NumberedCase, some_spine, type_in}
 use Rattle.lf_coverage.specs.NumberedHeads.{IsNumberedHead, of_signature, of_taken, of_entry}
 use Rattle.lf_coverage.specs.OwnStores.{left_type, offer_signature, offer_taken, offer_entry}
@@ -54,7 +55,7 @@ use Rattle.lf_coverage.proofs.WritingOwn.{entry_instance, entry_own}
 use Rattle.lf_coverage.proofs.WritingRoots.{near_skeleton, same_at, pair_second}
 use mathlib.Core.Path.{fun_ext}
 
-module _ (Σ Σ' : Signature) {W : List Block} {S : ℕ → Bool} {G : List LfType} (w : World Σ' W S G) (first : ℕ) (C : NumberedCase) (θ : ℕ → ℕ → Image) (σ : ℕ → Image) (r : IsInstanceWithRoom Σ w first C θ σ) (F : List LfType) (ρ : ℕ → Image) (back : ℕ → ℕ) (hw : IsWriting Σ' first (blocks_of C.blocks) θ G F ρ back) (sc : SelfContained Σ W S) (below : ℕ → ℕ → Bool) (s : IsSubordination Σ W below) (x : ℕ) (X : LfType) (at : TypeAt C.variables x X) (fams : FamiliesIn S X) (args : ArgumentsAreBelow below X) (h0 : Head) (T : Spine) (e : σ x ≡ put (skeleton X) (lambdas (length (taken X)) (root h0 T))) where
+module _ (Σ Σ' : Signature) {W : List Block} {S : ℕ → Bool} {G : List LfType} (w : World Σ' W S G) (first : ℕ) (C : NumberedCase) (θ : ℕ → ℕ → Image) (σ : ℕ → Image) (r : IsInstanceWithRoom Σ w first C θ σ) (F : List LfType) (ρ : ℕ → Image) (back : ℕ → ℕ) (hw : IsWriting Σ' first (blocks_of C.blocks) θ G F ρ back) (sc : SelfContained Σ W S) (below : ℕ → ℕ → Bool) (s : IsSubordination Σ W below) (x : ℕ) (X : LfType) (at : TypeAt C.variables x X) (fams : TakesIn S X) (args : ArgumentsAreBelow below X) (h0 : Head) (T : Spine) (e : σ x ≡ put (skeleton X) (lambdas (length (taken X)) (root h0 T))) where
   abbrev Σ₁ : Signature
   Σ₁ = with_entries Σ first (blocks_of C.blocks)
 

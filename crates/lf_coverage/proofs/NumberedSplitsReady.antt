@@ -9,7 +9,7 @@ use Rattle.lf.specs.Eta.{lambdas}
 use Rattle.lf.specs.SkeletonTyping.{TermSkeleton}
 use Rattle.lf.specs.Skeletons.{constant_skeletons, context_skeletons}
 use Rattle.lf.specs.Typing.{Signature, TypeAt, SpineType, IsType, IsContext, IsTypedSubstitution, IsTypedRenaming, IsSignature}
-use Rattle.lf.specs.Variables.{target, onto, binders, FamiliesIn, nothing}
+use Rattle.lf.specs.Variables.{target, onto, binders, nothing}
 use Rattle.lf.specs.Subordination.{Block, SelfContained}
 use Rattle.lf.specs.Worlds.{World}
 use Rattle.lf.proofs.Closed.{closed_type_renamed}
@@ -31,6 +31,7 @@ use Rattle.lf_cases.specs.Split.{HasNoBlockVariable}
 use Rattle.lf_totality.proofs.RaisedOutputs.{binders_over}
 use Rattle.lf_coverage.specs.EntryConstants.{with_entries}
 use Rattle.lf_coverage.specs.Heads.{ArgumentsAreBelow, term_type}
+use Rattle.lf_coverage.specs.NumberedCandidates.{TakesIn}
 use Rattle.lf_coverage.specs.NumberedCase.{NumberedCase}
 use Rattle.lf_coverage.specs.OwnStores.{left_type, IsNumberedOffer, offer_signature, offer_taken, offer_entry, applied_term, numbered_store}
 use Rattle.lf_coverage.specs.OwnTerms.{blocks_of}
@@ -52,7 +53,7 @@ use Rattle.lf_coverage.proofs.SomeHead.{free_value}
 use Rattle.lf_coverage.proofs.WritingHead.{items_written, v}
 use Rattle.lf_coverage.proofs.WritingInstance.{written_signature, types_more, entries_extend}
 
-module _ (Σ Σ' : Signature) {W : List Block} {S : ℕ → Bool} {G : List LfType} (w : World Σ' W S G) (first : ℕ) (C : NumberedCase) (θ : ℕ → ℕ → Image) (σ : ℕ → Image) (r : IsInstanceWithRoom Σ w first C θ σ) (F : List LfType) (ρ : ℕ → Image) (back : ℕ → ℕ) (hw : IsWriting Σ' first (blocks_of C.blocks) θ G F ρ back) (sc : SelfContained Σ W S) (below : ℕ → ℕ → Bool) (s : IsSubordination Σ W below) (x : ℕ) (X : LfType) (at : TypeAt C.variables x X) (fams : FamiliesIn S X) (args : ArgumentsAreBelow below X) (h0 : Head) (T : Spine) (e : σ x ≡ put (skeleton X) (lambdas (length (taken X)) (root h0 T))) where
+module _ (Σ Σ' : Signature) {W : List Block} {S : ℕ → Bool} {G : List LfType} (w : World Σ' W S G) (first : ℕ) (C : NumberedCase) (θ : ℕ → ℕ → Image) (σ : ℕ → Image) (r : IsInstanceWithRoom Σ w first C θ σ) (F : List LfType) (ρ : ℕ → Image) (back : ℕ → ℕ) (hw : IsWriting Σ' first (blocks_of C.blocks) θ G F ρ back) (sc : SelfContained Σ W S) (below : ℕ → ℕ → Bool) (s : IsSubordination Σ W below) (x : ℕ) (X : LfType) (at : TypeAt C.variables x X) (fams : TakesIn S X) (args : ArgumentsAreBelow below X) (h0 : Head) (T : Spine) (e : σ x ≡ put (skeleton X) (lambdas (length (taken X)) (root h0 T))) where
   abbrev Σ₁ : Signature
   Σ₁ = with_entries Σ first (blocks_of C.blocks)
 

@@ -13,7 +13,6 @@ use Rattle.lf.specs.Subordination.{Block, SelfContained}
 use Rattle.lf.specs.Worlds.{World, lift_over, instance}
 use Rattle.lf.proofs.Conservativity.{spine_target}
 use Rattle.lf.proofs.SkeletonTyping.{substitution_keeps_spine_skeletons}
-use Rattle.lf.proofs.Strength.{family_target}
 use Rattle.lf.proofs.ToSkeletons.{typed_spine_has_skeleton}
 use Rattle.lf.proofs.TypeLaws.{skeleton_renamed, skeleton_substituted}
 use Rattle.lf_checks.specs.Below.{IsSubordination}
@@ -24,26 +23,28 @@ use Rattle.lf_cases.specs.Reached.{arguments_count, taken}
 use Rattle.lf_totality.proofs.RaisedOutputs.{binders_over}
 use Rattle.lf_coverage.specs.EntryConstants.{with_entries}
 use Rattle.lf_coverage.specs.Heads.{ArgumentsAreBelow}
+use Rattle.lf_coverage.specs.NumberedCandidates.{TakesIn}
 use Rattle.lf_coverage.specs.NumberedCase.{NumberedCase, type_in}
 use Rattle.lf_coverage.specs.OwnTerms.{blocks_of}
 use Rattle.lf_coverage.specs.Reading.{read_type, entry_reading}
 use Rattle.lf_coverage.specs.Writing.{IsWriting}
 use Rattle.lf_coverage.specs.WritingLaws.{IsInstanceWithRoom}
 use Rattle.lf_coverage.proofs.Forms.{lift_same}
-use Rattle.lf_coverage.proofs.HeadRaised.{families_within, AllTypesIn, context_types, local_types, part, part_itself, part_low, spine_uses_low}
+use Rattle.lf_coverage.proofs.HeadRaised.{families_within, AllTypesIn, context_types, part, part_itself, part_low, spine_uses_low}
 use Rattle.lf_coverage.proofs.ReadValues.{values_typed}
 use Rattle.lf_coverage.proofs.Reading.{skeleton_read}
 use Rattle.lf_coverage.proofs.SolvedCase.{free_context_is, free_typed}
 use Rattle.lf_coverage.proofs.SomeHead.{taken_is as taken_same}
 use Rattle.lf_coverage.proofs.WritingInstance.{types_more, own_types}
-use Rattle.lf_coverage.proofs.WritingLow.{families_same, below_same, locals_same, LowBy, low_places_by, low_put}
+use Rattle.lf_coverage.proofs.WritingLow.{below_same, locals_same, LowBy, low_places_by, low_put}
+use Rattle.lf_coverage.proofs.NumberedCandidatesTypes.{local_types_taken, takes_in_target, takes_same}
 use Rattle.lf_coverage.proofs.PatternDistinct.{length_context as skeletons_length}
 use Rattle.lf_coverage.proofs.MoreConstants.{spine_more}
 use Rattle.lf_coverage.proofs.WritingOwn.{values_are_typed}
 use Rattle.lf_coverage.proofs.WritingRead.{writing_fits}
 use Rattle.lf_coverage.proofs.WritingRoots.{alone, ground_of, over_fits, root_of}
 
-module _ (Σ Σ' : Signature) {W : List Block} {S : ℕ → Bool} {G : List LfType} (w : World Σ' W S G) (first : ℕ) (C : NumberedCase) (θ : ℕ → ℕ → Image) (σ : ℕ → Image) (r : IsInstanceWithRoom Σ w first C θ σ) (F : List LfType) (ρ : ℕ → Image) (back : ℕ → ℕ) (hw : IsWriting Σ' first (blocks_of C.blocks) θ G F ρ back) (sc : SelfContained Σ W S) (below : ℕ → ℕ → Bool) (s : IsSubordination Σ W below) (x : ℕ) (X : LfType) (at : TypeAt C.variables x X) (fams : FamiliesIn S X) (args : ArgumentsAreBelow below X) (h0 : Head) (T : Spine) (e : σ x ≡ put (skeleton X) (lambdas (length (taken X)) (root h0 T))) where
+module _ (Σ Σ' : Signature) {W : List Block} {S : ℕ → Bool} {G : List LfType} (w : World Σ' W S G) (first : ℕ) (C : NumberedCase) (θ : ℕ → ℕ → Image) (σ : ℕ → Image) (r : IsInstanceWithRoom Σ w first C θ σ) (F : List LfType) (ρ : ℕ → Image) (back : ℕ → ℕ) (hw : IsWriting Σ' first (blocks_of C.blocks) θ G F ρ back) (sc : SelfContained Σ W S) (below : ℕ → ℕ → Bool) (s : IsSubordination Σ W below) (x : ℕ) (X : LfType) (at : TypeAt C.variables x X) (fams : TakesIn S X) (args : ArgumentsAreBelow below X) (h0 : Head) (T : Spine) (e : σ x ≡ put (skeleton X) (lambdas (length (taken X)) (root h0 T))) where
   abbrev Σ₁ : Signature
   Σ₁ = with_entries Σ first (blocks_of C.blocks)
 
@@ -83,14 +84,14 @@ module _ (Σ Σ' : Signature) {W : List Block} {S : ℕ → Bool} {G : List LfTy
   pub root_typed : HasType Σ' (onto (binders [] (type_in first C θ σ X)) G) (root h0 T) (atom (target (type_in first C θ σ X)) (target_arguments (type_in first C θ σ X)))
   root_typed = subst (λ D. HasType Σ' D (root h0 T) (atom (target Y0) (target_arguments Y0))) (binders_over [] Y0 G) (root_of Σ' G Y0 (length (taken X)) h0 T locals_length value_type)
 
-  pub families : FamiliesIn S (type_in first C θ σ X)
-  families = families_same S X Y0 (sym type_skeleton_is) fams
+  pub families : TakesIn S (type_in first C θ σ X)
+  families = takes_same S X Y0 (sym type_skeleton_is) fams
 
   pub types_in : AllTypesIn Σ W below s S sc Σ' r.extends (onto (binders [] (type_in first C θ σ X)) G)
-  types_in = subst (AllTypesIn Σ W below s S sc Σ' r.extends) (binders_over [] Y0 G) (local_types Σ W below s S sc Σ' r.extends Y0 G families (below_same below X Y0 (sym type_skeleton_is) args) (context_types Σ W below s S sc Σ' r.extends w))
+  types_in = subst (AllTypesIn Σ W below s S sc Σ' r.extends) (binders_over [] Y0 G) (local_types_taken Σ W below s S sc Σ' r.extends Y0 G families (below_same below X Y0 (sym type_skeleton_is) args) (context_types Σ W below s S sc Σ' r.extends w))
 
   pub in_set : S (target (type_in first C θ σ X)) ≡ true
-  in_set = family_target S Y0 families
+  in_set = takes_in_target S Y0 families
 
   -- the type of the head in the context
   module _ (Z : LfType) (hz : HeadHasType Σ' (onto (binders [] (type_in first C θ σ X)) G) h0 Z) (st : SpineType Σ' (onto (binders [] (type_in first C θ σ X)) G) T Z (atom (target (type_in first C θ σ X)) (target_arguments (type_in first C θ σ X)))) where

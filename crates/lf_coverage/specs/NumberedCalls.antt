@@ -1,22 +1,29 @@
 -- What the calls of coverage are to answer of cases whose block variables have numbers: the contracts that `instance_of`, `split`, `cover`, `input_goal` and
 -- `output_goal` will carry. Σ is the signature that the case was made in, whose constants have numbers below `first`; from there on the entries of block
--- variables have theirs. Laws tie each answer to the tuples that a case holds: `NumberedCallsLaws`. Worked rows stand in `NumberedCallsExamples`.
-use Rattle.std.specs.Prelude.{◌≡◌, ℕ, zero, List, [], Bool, true, Some}
-use Rattle.lf.specs.Syntax.{LfType, Kind}
-use Rattle.lf.specs.Typing.{Signature, TypeAt}
-use Rattle.lf.specs.Variables.{FamiliesIn}
-use Rattle.lf.specs.Subordination.{Block, Member, SelfContained}
+-- variables have theirs. Laws tie each answer to the tuples that a case holds: `NumberedCallsLaws`. The goals have what the calls need, splits keep it, and
+-- where it is so nothing else is asked: `NumberedNeeds`, `NumberedNeedsLaws`. Worked rows stand in `NumberedCallsExamples` and `NumberedNeedsExamples`.
+use Rattle.std.specs.Prelude.{◌≡◌, ℕ, zero, ◌⊎◌, List, [], length, Bool, true, false, Some}
+use Rattle.lf.specs.Syntax.{Spine, LfType, Kind}
+use Rattle.lf.specs.Typing.{Signature, TypeAt, IsSignature}
+use Rattle.lf.specs.Variables.{target, binders, everything, nothing, FamiliesIn, Within}
+use Rattle.lf.specs.Subordination.{Block, AreTypedBlocks, IsBelowTest, Member, SelfContained}
 use Rattle.lf_unification.specs.Unifiers.{Equation}
-use Rattle.lf_checks.specs.Clause.{Clause}
-use Rattle.lf_checks.specs.Marks.{Mark}
+use Rattle.lf_checks.specs.Clause.{Clause, IsClause, IsSubgoal, outside, scope}
+use Rattle.lf_checks.specs.Ground.{UsesGoal}
+use Rattle.lf_checks.specs.Marks.{Mark, HasSoundMarks, MentionChosenOnly, NoneFree, TypedPlaces, input_places}
 use Rattle.lf_cases.specs.Case.{covered_places, input_goal}
-use Rattle.lf_cases.specs.Pattern.{Origin, of_constant, of_entry, Pattern, subgoal_pattern}
+use Rattle.lf_cases.specs.Pattern.{Origin, of_constant, of_entry, Pattern, head_pattern, is_given, origin, subgoal_pattern}
 use Rattle.lf_coverage.specs.Calls.{Matched, instance, apart, candidates, stuck, LocalsIn, PlacesIn}
+use Rattle.lf_coverage.specs.EntryConstants.{IsFreeFrom, with_entries}
 use Rattle.lf_coverage.specs.EntryPatterns.{IsInstanceOfPattern}
 use Rattle.lf_coverage.specs.EntryPatternsOutputs.{numbered_output_goal}
 use Rattle.lf_coverage.specs.EntryPatternsRuns.{HasOneBlock, IsCoveredByNumber, IsNumberedSplit}
+use Rattle.lf_coverage.specs.EntryTerms.{known_in}
 use Rattle.lf_coverage.specs.Heads.{ArgumentsAreBelow}
+use Rattle.lf_coverage.specs.Leaf.{IsTypedPattern}
+use Rattle.lf_coverage.specs.Matching.{ArePlaces, HoldsTypes, other_places}
 use Rattle.lf_coverage.specs.NumberedBeside.{IsUnifiedByNumber}
+use Rattle.lf_coverage.specs.NumberedBesideGiven.{IsTypedBesideByNumber}
 use Rattle.lf_coverage.specs.NumberedCallsMeeting.{IsApartByNumber}
 use Rattle.lf_coverage.specs.NumberedCallsOrder.{AreInNumberedOrder, HasNumberedRank}
 use Rattle.lf_coverage.specs.NumberedCallsOutside.{SplitLeavesByNumber, SplitIsTooDeepByNumber}
@@ -26,24 +33,72 @@ use Rattle.lf_coverage.specs.NumberedCase.{NumberedCase}
 use Rattle.lf_coverage.specs.NumberedInstance.{block_at}
 use Rattle.lf_coverage.specs.NumberedSplits.{IsOfferTo, NumberedOffer}
 use Rattle.lf_coverage.specs.Numbering.{numbered}
-use Rattle.lf_coverage.specs.OwnTerms.{BlockVariable}
+use Rattle.lf_coverage.specs.OwnTerms.{BlockVariable, blocks_of}
 use Rattle.lf_coverage.specs.TypedNumbered.{IsTypedNumberedCase}
 
--- What the calls need. A case is typed over the signature with its entries, and its blocks are of the worlds W. For a pattern of the first block variable
--- alone, an entry's, that of number 0 is of the entry's block. And a goal has one block variable at most: that of f b.x c.x X with X : bar b.x c.x may have no
--- answer, since splits keep b and c apart.
+-- For a pattern of the first block variable alone, an entry's, the block variable of number 0 is of the entry's block.
 abbrev pub HasOwnBlock : {c : Clause} → Origin c → Bool → NumberedCase → Type 0
 HasOwnBlock (of_constant U) b C = Unit {0}
 HasOwnBlock (of_entry B later E es e) b C = b ≡ true → (v : BlockVariable) × (block_at C.blocks zero ≡ Some v) × (v.block ≡ B)
 
-abbrev pub NumberedMatchedNeeds : Signature → ℕ → List Block → NumberedCase → Pattern → Type 0
-NumberedMatchedNeeds Σ first W C p = IsTypedNumberedCase Σ first W C × HasOwnBlock p.origin p.at_first C
+-- The head of a clause for a case of inputs: nothing is given and there is no local context; the types of the covered places mention covered places only, and
+-- the arguments there have these types. So it is with plus-s : plus (s X) Y (s Z) for the case plus X' Y' _. With a, b : type, c : b and hc : {X:a} h X it
+-- isn't so with hc for h c, since c isn't of the type a.
+pub record IsHeadFor (Σ : Signature) (first : ℕ) (C : NumberedCase) (p : Pattern) : Type 0 where
+  pub is_head : p ≡ head_pattern p.clause p.origin
+  pub none_given : C.given ≡ []
+  pub no_local : C.local ≡ []
+  pub kind : Kind
+  pub of_family : Σ.kinds C.family ≡ Some kind
+  pub covered_only : MentionChosenOnly nothing (covered_places C.arguments) kind
+  pub tuple : Spine
+  pub at_places : ArePlaces C.arguments tuple
+  pub typed_places : TypedPlaces (with_entries Σ first (blocks_of C.blocks)) (covered_places C.arguments) C.variables tuple kind
 
-abbrev pub NumberedSplitNeeds : Signature → ℕ → List Block → NumberedCase → ℕ → Type 0
-NumberedSplitNeeds Σ first W C x = IsTypedNumberedCase Σ first W C × ((X : LfType) × TypeAt C.variables x X)
+-- A subgoal for a case of its outputs: the case is typed beside it, and at the other places the subgoal has only variables for which terms are given and what
+-- stands outside its clause. So it is with plus X Y Z of plus-s for the case plus X Y Z'. Not so with p (F N) V for p _ V', where F and N aren't given.
+pub record IsSubgoalFor (Σ : Signature) (first : ℕ) (W : List Block) (C : NumberedCase) (p : Pattern) : Type 0 where
+  pub at_first : p.at_first ≡ true
+  pub typed_beside : IsTypedBesideByNumber Σ first W C p
+  pub known_places : UsesGoal (known_in C p) (other_places C.arguments) p.type
 
-abbrev pub NumberedCoverNeeds : Signature → ℕ → List Block → List Pattern → NumberedCase → Type 0
-NumberedCoverNeeds Σ first W ps goal = IsTypedNumberedCase Σ first W goal × HasOneBlock goal × ((p : Pattern) → Member p ps → HasOwnBlock p.origin p.at_first goal)
+-- A pattern for a case, whatever worlds it comes from: it is typed by itself, and of the case's family; it has as many local variables as the case; terms are
+-- given for variables of its clause itself; and it is a head or a subgoal for the case. So plus-s is one for plus X Y _, and q-c : q X is none for p X.
+pub record IsFor (Σ : Signature) (first : ℕ) (W : List Block) (C : NumberedCase) (p : Pattern) : Type 0 where
+  pub typed : IsTypedPattern Σ p
+  pub same_family : target p.type ≡ C.family
+  pub same_length : length C.local ≡ length (binders [] p.type)
+  pub given_own : (i : ℕ) → is_given C.given i ≡ true → outside p.clause.type everything i ≡ false
+  pub own_block : HasOwnBlock p.origin p.at_first C
+  pub beside : IsHeadFor Σ first C p ⊎ IsSubgoalFor Σ first W C p
+
+-- What all calls need: the signature is one, the blocks of W are typed over it, and no constant has the number `first` or a greater one.
+pub record IsSetting (Σ : Signature) (first : ℕ) (W : List Block) : Type 0 where
+  pub signature : IsSignature Σ
+  pub blocks : AreTypedBlocks Σ W
+  pub free : IsFreeFrom Σ first
+
+-- What `instance_of`, `split` and `cover` need: a typed case whose blocks are of W; a pattern for it, a free variable of it, or patterns for it; and for the
+-- latter two the test of subordination of the signature and W. A goal has one block variable at most: that of f b.x c.x X with X : bar b.x c.x may have
+-- no answer, since splits keep b and c apart. So plus X Y _ may be handed in with plus-s and split at X, and p X not with q-c : q X, nor split at a variable
+-- that it doesn't have.
+pub record NumberedMatchedNeeds (Σ : Signature) (first : ℕ) (W : List Block) (C : NumberedCase) (p : Pattern) : Type 0 where
+  pub setting : IsSetting Σ first W
+  pub case : IsTypedNumberedCase Σ first W C
+  pub pattern : IsFor Σ first W C p
+
+pub record NumberedSplitNeeds (Σ : Signature) (first : ℕ) (W : List Block) (below : ℕ → ℕ → Bool) (C : NumberedCase) (x : ℕ) : Type 0 where
+  pub setting : IsSetting Σ first W
+  pub subordination : (f : ℕ) → IsBelowTest Σ W (below f) f
+  pub case : IsTypedNumberedCase Σ first W C
+  pub variable : (X : LfType) × TypeAt C.variables x X
+
+pub record NumberedCoverNeeds (Σ : Signature) (first : ℕ) (W : List Block) (below : ℕ → ℕ → Bool) (ps : List Pattern) (goal : NumberedCase) : Type 0 where
+  pub setting : IsSetting Σ first W
+  pub subordination : (f : ℕ) → IsBelowTest Σ W (below f) f
+  pub case : IsTypedNumberedCase Σ first W goal
+  pub one_block : HasOneBlock goal
+  pub patterns : (p : Pattern) → Member p ps → IsFor Σ first W goal p
 
 -- What `instance_of` answers of a case and a pattern. The case is an instance of the pattern; they share nothing; or it is no instance and the pattern meets
 -- it, with these candidates or with none. So cp b.x b.x is an instance of the entry u : cp x x of {x:exp} {u:cp x x}, and apart from cp-app, whose first
@@ -104,6 +159,32 @@ NumberedCoverIs Σ first W below ps goal (one_missing D) = ReachedByNumber Σ fi
 NumberedCoverIs Σ first W below ps goal (one_unsplit D) = ReachedByNumber Σ first W below ps goal D × IsUnsplitByNumber Σ first W ps D
 NumberedCoverIs Σ first W below ps goal (one_outside D over shown) = RunLeavesByNumber Σ first W below ps goal D over shown
 NumberedCoverIs Σ first W below ps goal run_too_deep = RunIsTooDeepByNumber Σ first W below ps goal
+
+-- What `input_goal` needs: K is the kind of the family a, b tells of each place whether it is chosen, and the types of chosen places mention chosen places
+-- only. So plus may be asked for at its first two places, and vec-copy : {N:nat} vec N -> type at both and not at its second alone.
+pub record NumberedInputGoalNeeds (Σ : Signature) (first a : ℕ) (b : List Bool) (K : Kind) : Type 0 where
+  pub signature : IsSignature Σ
+  pub free : IsFreeFrom Σ first
+  pub of_family : Σ.kinds a ≡ Some K
+  pub chosen_only : MentionChosenOnly nothing b K
+
+-- What `output_goal` needs of a subgoal A of a clause of the signature or of W, where U is ground before it: U holds what stands outside the clause, and the
+-- variables in the types of its variables; the subgoal's inputs mention only what is in U; and its family has marks + and - alone, such that types of inputs
+-- mention inputs only. So it is with plus X Y Z of plus-s, where X and Y are in U. With {N:nat} {F:nat -> nat} {V:vec (F N)} {Y:nat} r Y -> p (F N) V and V
+-- alone in U there is no such goal of r Y: there are no typed values of what is ground, so its outputs need no covering (`OpenOutputsAreCovered`).
+pub record NumberedOutputGoalNeeds (Σ : Signature) (first : ℕ) (W : List Block) (below : ℕ → ℕ → Bool) (m : ℕ → List Mark) {c : Clause} (o : Origin c) (U : ℕ → Bool) (A : LfType) (K : Kind) : Type 0 where
+  pub setting : IsSetting Σ first W
+  pub subordination : (f : ℕ) → IsBelowTest Σ W (below f) f
+  pub clause : IsClause Σ W c
+  pub is_origin : o ≡ origin clause
+  pub outside_ground : Within (outside c.type everything) U
+  pub ground_types : HoldsTypes U (scope c)
+  pub index : ℕ
+  pub subgoal : IsSubgoal c index A
+  pub inputs_ground : UsesGoal U (input_places (m (target A))) A
+  pub sound_marks : HasSoundMarks Σ (target A) (m (target A))
+  pub two_marks : NoneFree (m (target A))
+  pub of_family : Σ.kinds (target A) ≡ Some K
 
 -- `input_goal` of a family of this kind and the chosen places; `output_goal` of a subgoal of a clause, where U is ground before it: for an entry its own
 -- block variable has the number 0. The subgoal is the pattern that is to cover it.

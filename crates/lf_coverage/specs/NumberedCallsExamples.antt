@@ -1,6 +1,7 @@
 -- Worked answers of the calls by number: cp in the worlds of {x:exp} {u:cp x x}; p in those of {x:exp} {u:p x}, where exp has no constant; and eq z (F z).
 use Rattle.std.specs.Prelude.{ℕ, [], ◌∷◌, Bool, Some, None}
 use Rattle.lf.specs.Syntax.{variable, metavariable, root, nil, app, pi}
+use Rattle.lf.specs.Subordination.{IsBelowTest}
 use Rattle.lf_unification.specs.Unifiers.{Equation}
 use Rattle.lf_checks.specs.Below.{IsSubordination}
 use Rattle.lf_totality.specs.Examples.{Copying, nat, on_two, var, z}
@@ -29,7 +30,7 @@ CopiesAreReached = (below : ℕ → ℕ → Bool) → NumberedCoverIs Copying 4 
 
 -- A goal with one block variable is one that may be handed in, and cp b.x c.x isn't: only what the definitions say of it is worked above.
 abbrev pub CopiesAreGoals : Type 0
-CopiesAreGoals = NumberedCoverNeeds Copying 4 copy_worlds (copy_entry_head ∷ []) one_copy × (NumberedCoverNeeds Copying 4 copy_worlds (copy_entry_head ∷ []) two_copies → ⊥)
+CopiesAreGoals = (below : ℕ → ℕ → Bool) → ((f : ℕ) → IsBelowTest Copying copy_worlds (below f) f) → NumberedCoverNeeds Copying 4 copy_worlds below (copy_entry_head ∷ []) one_copy × (NumberedCoverNeeds Copying 4 copy_worlds below (copy_entry_head ∷ []) two_copies → ⊥)
 
 -- The goal p X is split at its candidate into p b.x alone, which is reached, and an instance; so it is covered. There is no variable 1 to be split.
 abbrev pub OpenIsAnswered : Type 0

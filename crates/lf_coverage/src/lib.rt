@@ -1652,3 +1652,429 @@ pub fn split_is_instance_by_number()
     ensures split { SplitCaseIsNumberedInstance }
     ensures listed { ListedIsNumberedInstance }
 {}
+
+ghost use Rattle.lf_coverage.specs.MeetsAnswers.{SolvedByNumberShares, MetIsMeeting, MeetingByNumberIsAnswered, PlacesAreSearched};
+
+/// Where unification solves the store of a case by number and a pattern, at one place, they share a typed instance.
+pub fn solved_by_number_shares()
+    ensures { SolvedByNumberShares }
+{}
+
+/// Where steps refute the store at each place, or unification answers otherwise at one, `instance_of` has an answer of a case by number and a pattern.
+pub fn meeting_by_number_is_answered()
+    ensures meets { MetIsMeeting }
+    ensures answered { MeetingByNumberIsAnswered }
+    ensures searched { PlacesAreSearched }
+{}
+
+ghost use Rattle.lf_coverage.specs.MeetsAnswersExamples.{OpenCopiesShare, TwoCopiesShare, OneCopyIsRefuted};
+
+/// cp X Y and u : cp x x share cp b.x b.x for a new block variable b; cp b.x c.x and u share it where b and c are one. At each place of
+/// cp-app steps refute the store of cp b.x b.x.
+pub fn copies_share_by_number()
+    ensures open { OpenCopiesShare }
+    ensures two { TwoCopiesShare }
+    ensures refuted { OneCopyIsRefuted }
+{}
+
+ghost use Rattle.lf_coverage.specs.MeetsAnswersRuns.{EachPlaceIsAnswered, InputRunFits, BesideFits};
+ghost use Rattle.lf_coverage.specs.NumberedAnswersRuns.{InputRunHasNeeds, BesideRunHasNeeds, InputRunIsAnswered, BesideRunIsAnswered};
+
+/// Where unification answers at each place, `instance_of` has an answer: of each case of a run from a goal of inputs and a head, and of each case of a run
+/// from what is typed beside a subgoal and this. These have what it needs, so nothing else is asked.
+pub fn runs_are_answered()
+    ensures each { EachPlaceIsAnswered }
+    ensures inputs_fit { InputRunFits }
+    ensures beside_fits { BesideFits }
+    ensures inputs_need { InputRunHasNeeds }
+    ensures beside_needs { BesideRunHasNeeds }
+    ensures inputs { InputRunIsAnswered }
+    ensures outputs { BesideRunIsAnswered }
+{}
+
+ghost use Rattle.lf_coverage.specs.NumberedNeeds.{NeededInstanceIsDecided, NeededInstanceCovers};
+
+/// Where a case by number has what `instance_of` needs for a pattern, matching by terms decides whether it is an instance of it; and one is covered by the
+/// pattern, and a leaf of a run.
+pub fn needed_instance_is_decided()
+    ensures decided { NeededInstanceIsDecided }
+    ensures covers { NeededInstanceCovers }
+{}
+
+ghost use Rattle.lf_coverage.specs.NumberedNeeds.{SplitKeepsNeeds, ListedKeepNeeds, ReachedHasNeeds};
+
+/// What the calls by number need of a case and patterns is kept by each split, and so along the strategy.
+pub fn splits_keep_needs()
+    ensures split { SplitKeepsNeeds }
+    ensures listed { ListedKeepNeeds }
+    ensures reached { ReachedHasNeeds }
+{}
+
+ghost use Rattle.lf_coverage.specs.NumberedNeeds.{ClauseHeadsAreTyped, InputGoalHasNeeds, OutputGoalHasNeeds};
+
+/// The goal of inputs has what `cover` by number needs for heads of its family, as those of clauses, and the goal of outputs for its subgoal.
+pub fn goals_have_needs()
+    ensures heads { ClauseHeadsAreTyped }
+    ensures inputs { InputGoalHasNeeds }
+    ensures outputs { OutputGoalHasNeeds }
+{}
+
+ghost use Rattle.lf_coverage.specs.NumberedNeeds.{ReachedIsNumberedInstance};
+
+/// Each case that the strategy reaches by number is a typed instance of the goal, and each block variable keeps its number.
+pub fn reached_is_instance_by_number()
+    ensures { ReachedIsNumberedInstance }
+{}
+
+ghost use Rattle.lf_coverage.specs.NumberedNeedsExamples.{PlusHasNeeds, OtherFamilyIsRefused, OtherTypeIsRefused, OpenSubgoalIsRefused};
+
+/// Addition's goals may be handed in. p X may not with q X, of another family, nor p c with p X, where c has another type, nor the goal of a subgoal where
+/// what is ground lacks the variables in its types.
+pub fn needs_are_worked()
+    ensures plus { PlusHasNeeds }
+    ensures family { OtherFamilyIsRefused }
+    ensures argument { OtherTypeIsRefused }
+    ensures open { OpenSubgoalIsRefused }
+{}
+
+ghost use Rattle.lf_coverage.specs.NumberedNeedsLaws.{HeadIsFor, SubgoalIsFor, ReachedIsDecided, ReachedMayBeSplit, NeededSplitIsAnswer, NeededRunIsCovered, MissingIsHonest};
+
+/// A typed head of the case's family with typed arguments is a pattern for the case, and so is a typed subgoal beside which it is typed.
+pub fn patterns_are_for()
+    ensures head { HeadIsFor }
+    ensures subgoal { SubgoalIsFor }
+{}
+
+/// Where a goal and patterns have what `cover` by number needs, each instance along the strategy is decided by terms, and each case may be split at its first
+/// candidate; what unification gives is the answer of a split; a run that ends at instances answers that the goal is covered; and a missing case is a typed
+/// instance of the goal that shares none with a pattern.
+pub fn needed_answers()
+    ensures decided { ReachedIsDecided }
+    ensures candidate { ReachedMayBeSplit }
+    ensures split { NeededSplitIsAnswer }
+    ensures covered { NeededRunIsCovered }
+    ensures missing { MissingIsHonest }
+{}
+
+ghost use Rattle.lf_coverage.specs.NumberedNeedsRows.{OpenHasNeeds, AskedHasNeeds};
+
+/// p X may be handed in with u : p x, and p b.x, which its split gives; so may the goal of the outputs of an entry's subgoal, where the entry's own block
+/// variable has the number 0.
+pub fn entries_have_needs()
+    ensures open { OpenHasNeeds }
+    ensures asked { AskedHasNeeds }
+{}
+
+ghost use Rattle.lf_coverage.specs.MeetsInstance.{SharedIsUnifier, RefutedSharesNone, SharedBesideIsUnifier, RefutedBesideSharesNone};
+
+/// A typed instance that a case by number and a pattern share solves the store of the pattern's place beside the case, over a signature with more block
+/// variables; so they share none where steps refute each such store. It is so where nothing is given, and with given terms where the case is typed beside it.
+pub fn shared_is_unifier()
+    ensures unifier { SharedIsUnifier }
+    ensures refuted { RefutedSharesNone }
+    ensures beside { SharedBesideIsUnifier }
+    ensures refuted_beside { RefutedBesideSharesNone }
+{}
+
+ghost use Rattle.lf_coverage.specs.MeetsInstanceExamples.{TwoCopiesShareNone};
+
+/// cp b.x c.x, for two block variables of {x:exp} {u:cp x x}, shares nothing with the head of cp-app: steps refute the store where b and c are apart, and
+/// that where they are one.
+pub fn two_copies_share_none()
+    ensures { TwoCopiesShareNone }
+{}
+
+ghost use Rattle.lf_coverage.specs.MeetsTuple.{ConstantsTupleMeets, RefutedConstantHasNoTuple};
+
+/// A tuple that a case holds, whatever instances its block variables stand for, and a constant's pattern has, is a unifier where block variables
+/// are one; so where steps refute the store for each way in which they are, there is none.
+pub fn identified_tuple_meets()
+    ensures constants { ConstantsTupleMeets }
+    ensures refuted { RefutedConstantHasNoTuple }
+{}
+
+ghost use Rattle.lf_coverage.specs.MeetsTuple.{EntriesTupleMeets, TupleMeets, RefutedHasNoTuple, RefutedIsApart};
+
+/// So of each pattern, of a block's entry too, and with given terms where the case is typed beside it: a tuple that both have is a unifier at a place of the
+/// pattern beside the case, with block variables one; and where steps refute the store at each such place, there is no such tuple.
+pub fn tuple_meets()
+    ensures entries { EntriesTupleMeets }
+    ensures given { TupleMeets }
+    ensures refuted { RefutedHasNoTuple }
+    ensures apart { RefutedIsApart }
+{}
+
+ghost use Rattle.lf_coverage.specs.MeetsTupleExamples.{CopiesAreApplied, CopiesAreRefuted, CopiesHaveNoApplied, CopiesShareTuple};
+
+/// In no context has the head of cp-app a tuple that cp b.x c.x holds, also where b and c are one: steps refute b.x = app E1 E2. The entry u has one there.
+pub fn copies_have_no_applied()
+    ensures stores { CopiesAreApplied }
+    ensures refuted { CopiesAreRefuted }
+    ensures none { CopiesHaveNoApplied }
+    ensures shared { CopiesShareTuple }
+{}
+
+ghost use Rattle.lf_coverage.specs.MeetsReady.{IdentifiedIsTyped, PlacedCaseIsTyped};
+
+/// A typed case with block variables one is typed over the signature with entries, and so it is beside each place of a typed pattern.
+pub fn identified_case_is_typed()
+    ensures identified { IdentifiedIsTyped }
+    ensures placed { PlacedCaseIsTyped }
+{}
+
+ghost use Rattle.lf_coverage.specs.MeetsReady.{PlacedStoreIsReady, MeetStoreByNumberIsReady};
+
+/// Where a case by number is typed beside a pattern at its place, also with block variables one, their equations are a well formed store.
+pub fn meet_stores_by_number_are_ready()
+    ensures placed { PlacedStoreIsReady }
+    ensures by_number { MeetStoreByNumberIsReady }
+{}
+
+ghost use Rattle.lf_coverage.specs.MeetsReady.{TypedPlacesAreBeside, InputMeetStoreIsReady, InputRunHasTypedPlaces, InputRunMeetStoreIsReady};
+
+/// A case whose arguments have the types of their places is typed beside each place of a pattern; so is each case of a run by number from a goal of inputs.
+pub fn input_meet_stores_are_ready()
+    ensures beside { TypedPlacesAreBeside }
+    ensures ready { InputMeetStoreIsReady }
+    ensures places { InputRunHasTypedPlaces }
+    ensures runs { InputRunMeetStoreIsReady }
+{}
+
+ghost use Rattle.lf_coverage.specs.MeetsReady.{ApartStoreIsReady, RefutedInputIsApartTuple, OneBlockInputIsApartTuple};
+
+/// So is the store of a constant's pattern where no block variables are one; and where it is refuted, the case holds no tuple of the pattern so.
+pub fn apart_store_is_ready()
+    ensures ready { ApartStoreIsReady }
+    ensures refuted { RefutedInputIsApartTuple }
+    ensures one { OneBlockInputIsApartTuple }
+{}
+
+ghost use Rattle.lf_coverage.specs.MeetsReady.{IdentifiedStaysAtPlace, GivenCaseIsAtPlace, GivenMeetStoreIsReady, OutputRunMeetStoreIsReady};
+
+/// What is typed beside a pattern at its place, also with given terms, stays so with block variables one; so its stores with the pattern are well formed, and so
+/// are those of the cases of a run by number from a goal of outputs.
+pub fn given_meet_stores_are_ready()
+    ensures identified { IdentifiedStaysAtPlace }
+    ensures place { GivenCaseIsAtPlace }
+    ensures ready { GivenMeetStoreIsReady }
+    ensures runs { OutputRunMeetStoreIsReady }
+{}
+
+ghost use Rattle.lf_coverage.specs.MeetsReadyExamples.{CopyStoresAreReady, TwoCopiesAreReady};
+
+/// The stores of cp b.x c.x with the entry u : cp x x and with the head of cp-app are well formed, where b and c are apart and where they are one.
+pub fn copy_stores_are_ready()
+    ensures all { CopyStoresAreReady }
+    ensures worked { TwoCopiesAreReady }
+{}
+
+ghost use Rattle.lf_coverage.specs.MeetsReadyExamples.{SkeletonsAreNotEnough, LengthsAreNotEnough, IdentifiedLeavesOwnTerms};
+
+/// A store isn't well formed where the case's arguments only have skeletons, nor where its local context is only of equal length; and with block variables one a
+/// case needn't stand on own terms.
+pub fn skeletons_are_not_enough()
+    ensures loose { SkeletonsAreNotEnough }
+    ensures lengths { LengthsAreNotEnough }
+    ensures own { IdentifiedLeavesOwnTerms }
+{}
+
+ghost use Rattle.lf_coverage.specs.MeetsReady.{SharedInputStoreIsReady, SharedGivenStoreIsReady};
+
+/// So at each place of an instance that the case and the pattern share their store is well formed.
+pub fn shared_stores_are_ready()
+    ensures inputs { SharedInputStoreIsReady }
+    ensures given { SharedGivenStoreIsReady }
+{}
+
+ghost use Rattle.lf_coverage.specs.NumberedCandidates.{NumberedCandidateIsInSet, NumberedCandidateTakesBelow};
+
+/// A candidate by number is of a family of each set beside which its case is to be covered, whatever the worlds are, and takes what quantifies only over what is below.
+pub fn numbered_candidate_is_in_set()
+    ensures families { NumberedCandidateIsInSet }
+    ensures below { NumberedCandidateTakesBelow }
+{}
+
+ghost use Rattle.lf_coverage.specs.NumberedCandidatesRuns.{TakerByNumberIsSplit, UnifiedTakerIsAnswered};
+
+/// A split by number is one beside each set that has the variable's family, though it doesn't have those of all that the variable takes.
+pub fn taker_by_number_is_split()
+    ensures split { TakerByNumberIsSplit }
+    ensures answered { UnifiedTakerIsAnswered }
+{}
+
+ghost use Rattle.lf_coverage.specs.NumberedCandidatesRuns.{FirstIsCandidateByNumber, NumberedCandidateRunCovers, NumberedCandidateRunCoversHeads, NumberedCandidateRunCoversInputs, NumberedCandidateRunCoversOutputs, NumberedCandidateRunGivesOutputs, NumberedStrategyRunCovers};
+
+/// So a run by number that splits at candidates covers its goal beside each set beside which this is asked, in all worlds.
+pub fn numbered_candidate_run_covers()
+    ensures first { FirstIsCandidateByNumber }
+    ensures run { NumberedCandidateRunCovers }
+    ensures strategy { NumberedStrategyRunCovers }
+    ensures inputs { NumberedCandidateRunCoversInputs }
+    ensures heads { NumberedCandidateRunCoversHeads }
+    ensures outputs { NumberedCandidateRunCoversOutputs }
+    ensures gives { NumberedCandidateRunGivesOutputs }
+{}
+
+ghost use Rattle.lf_coverage.specs.NumberedCandidatesExamples.{JudgedIsSplit, SomeTypeIsOutside, JudgedIsCovered, RaisedMayBeOutside};
+
+/// In the worlds of some {T:tp} block {x:exp} {d:of x T} {u:q x} a run at a candidate covers q X, though the type of T is in no set that this needs.
+pub fn judged_run_by_number()
+    ensures split { JudgedIsSplit }
+    ensures outside { SomeTypeIsOutside }
+    ensures run { JudgedIsCovered }
+    ensures raised { RaisedMayBeOutside }
+{}
+
+ghost use Rattle.lf_coverage.specs.NumberedCandidatesRaised.{RaisedIsCandidate, RaisedIsCovered};
+
+/// Under x:exp the candidate of p (Y x) is Y : {x:exp} bx, and the set of bx alone is one beside which the goal is to be covered; and so it is.
+pub fn raised_is_candidate()
+    ensures candidate { RaisedIsCandidate }
+    ensures run { RaisedIsCovered }
+{}
+
+ghost use Rattle.lf_coverage.specs.WorkedCallsEntries.{OwnTermGivesNoCase};
+
+/// p M, for a block variable b of some {n:exp} block {x:exp} on M, is split into p c.x alone, for a new block variable c: M = b.x M is an occurs check.
+pub fn own_term_gives_no_case()
+    ensures { OwnTermGivesNoCase }
+{}
+
+ghost use Rattle.lf_coverage.specs.WorkedCallsOrder.{NewEntryComesFirst, EntryIsOfferedTwice};
+
+/// p X beside a block variable b of {x:exp} {u:p x} is split into p c.x, for a new one c, and p b.x; in worlds that have the block twice p X is split into
+/// p b.x twice.
+pub fn entries_come_in_order()
+    ensures first { NewEntryComesFirst }
+    ensures twice { EntryIsOfferedTwice }
+{}
+
+ghost use Rattle.lf_coverage.specs.WorkedCallsFunctions.{FunctionEntryClashes, NewEntryIsLeft};
+
+/// For a block variable b of {h:nat -> nat} the equation b.h X = s N is a clash, so Y : a (b.h X) isn't split by a-s : {N:nat} a (s N), and a (b.h X) is apart
+/// from it. In the worlds of {x:exp} {u:p x} a split of Y : p (F b.x) leaves F b.x = c.x, over the case with the new block variable c.
+pub fn entries_clash()
+    ensures function { FunctionEntryClashes }
+    ensures left { NewEntryIsLeft }
+{}
+
+ghost use Rattle.lf_coverage.specs.WorkedCallsStuck.{AppliedIsStuck, SomeVariableGivesNoCandidate, NoPlacesAreStuck, EntryDeterminesNothing, SomeTermsDetermineNothing};
+
+/// Cases that share an instance with the one pattern, are none of it and have no candidate: k X with {F:nat -> nat} k (F z); p X with u : p n of
+/// some {n:exp} block {u:p n}; the goal of exp with the entry of {x:exp}; p b.x with u : {Y:exp -> exp} p (Y x); and p N, for b on [x] x, with
+/// u : {Z:exp} p (f Z) of some {f:exp -> exp}.
+pub fn stuck_cases_are_unsplit()
+    ensures applied { AppliedIsStuck }
+    ensures candidate { SomeVariableGivesNoCandidate }
+    ensures places { NoPlacesAreStuck }
+    ensures entry { EntryDeterminesNothing }
+    ensures terms { SomeTermsDetermineNothing }
+{}
+
+ghost use Rattle.lf_coverage.specs.WorkedCallsOne.{MadeOneIsSolved, MadeOneIsOpen, OtherBlocksStayApart};
+
+/// eq b.x c.x, for two block variables of one block, and eq X X clash where they are different, and are solved where they are one; of e b.x c.x (F a) and
+/// e X X a then F a = a is left. So both are stuck. Of two blocks of the same entries eq b.x c.x is apart from eq X X.
+pub fn blocks_are_made_one()
+    ensures solved { MadeOneIsSolved }
+    ensures open { MadeOneIsOpen }
+    ensures apart { OtherBlocksStayApart }
+{}
+
+ghost use Rattle.lf_coverage.specs.WorkedCallsGoals.{OutputGoalIsClosed, SomeOutputIsUnsplit, MissingHasNoInstance};
+
+/// The goal of an output where a ground variable's type mentions what isn't ground keeps variables for all; and one whose subgoal asks for a `some` variable
+/// can't be split. In the empty world p X over an empty type is missing, and covered too, as it has no instance.
+pub fn goals_by_number()
+    ensures closed { OutputGoalIsClosed }
+    ensures some { SomeOutputIsUnsplit }
+    ensures missing { MissingHasNoInstance }
+{}
+
+ghost use Rattle.lf_coverage.specs.WorkedCallsRun.{UnaskedEntryIsNoHindrance};
+
+/// A whole run by number in the worlds of {x:exp} {u:w x} {v:q x}: q E is split into q a, q (b E) and q b.x, each an instance, and covered, also beside exp
+/// and q alone, without w.
+pub fn unasked_entry_is_no_hindrance()
+    ensures { UnaskedEntryIsNoHindrance }
+{}
+
+ghost use Rattle.lf_coverage.specs.WorkedCallsStores.{TwinsGiveNoCase, EntriesAreTaken};
+
+/// check b.x c.x Z, with Z : same b.x c.x, isn't split by alike : {X:exp} same X X, since b.x and c.x clash. E y2 y1 = b.h y1 y2 is solved, and E y1 = b.h
+/// y1 y2 refuted.
+pub fn entries_are_rigid()
+    ensures twins { TwinsGiveNoCase }
+    ensures taken { EntriesAreTaken }
+{}
+
+ghost use Rattle.lf_coverage.specs.WorkedCallsRaised.{MentionedOutputIsSplit};
+
+/// In the worlds of some {f:a -> b} block {u:({x:a} q (f x) (g (f x))) -> r}, where a isn't below b, the goal of the output of u's subgoal is q (F x) (Y x),
+/// with Y : {x:a} d (F x). It is split by g into q Z (g Z), an instance of the subgoal.
+pub fn mentioned_output_is_split()
+    ensures { MentionedOutputIsSplit }
+{}
+
+ghost use Rattle.lf_coverage.specs.WorkedCallsIndex.{IndexIsSplitFirst};
+
+/// Of f N X, with X : odd N, and f-1 : f (s z) o the index N is split first; so f z X is reached, and missing, though nothing is odd z.
+pub fn index_is_split_first()
+    ensures { IndexIsSplitFirst }
+{}
+
+ghost use Rattle.lf_coverage.specs.WorkedCallsAnswers.{WorkedRunsAreAnswers};
+
+/// By number check X Y Z is covered by u : check x x (alike x), and cp X _ by cp-lam, cp-app and u : cp x x.
+pub fn worked_runs_are_answers()
+    ensures { WorkedRunsAreAnswers }
+{}
+
+ghost use Rattle.lf_coverage.specs.WorkedCallsSome.{SomeTermIsNoHindrance};
+
+/// In the worlds of some {t:tp} block {x:exp} {v:q x} the goal q E is split into q b.x, for b on a variable of tp, and covered by v, also beside exp and q
+/// alone, without tp, which has no constant.
+pub fn some_term_is_no_hindrance()
+    ensures { SomeTermIsNoHindrance }
+{}
+
+ghost use Rattle.lf_coverage.specs.WorkedCallsWhole.{WholeRunIsAnswered};
+
+/// f N Y, with Y : t N, is split at its first candidate Y into f M (d M) and f N b.y, for b of some {n:exp} block {y:t n} on N, and this at N into f a b.y and
+/// f c.x b.y, where the older b stands on the entry of c; so f-d, f-a and the entry u of c cover it.
+pub fn whole_run_is_answered()
+    ensures { WholeRunIsAnswered }
+{}
+
+ghost use Rattle.lf_coverage.specs.MeetsAnswers.{PlacesRefuteEach};
+ghost use Rattle.lf_coverage.specs.NumberedAnswers.{ClauseHeadsHaveTypedBlocks, BesideHasTypedBlock, NeededFits, NeededPlacesAreReady, RefutedByNumberIsApart, NeededMetIsMeeting};
+
+/// Where a case and a pattern have what `instance_of` by number needs, their store is well formed at each place; so they are apart where steps refute it at
+/// each place to be looked at, and the pattern meets the case where unification answers otherwise at one.
+pub fn needed_meetings_are_answered()
+    ensures heads { ClauseHeadsHaveTypedBlocks }
+    ensures beside { BesideHasTypedBlock }
+    ensures places { PlacesRefuteEach }
+    ensures fits { NeededFits }
+    ensures ready { NeededPlacesAreReady }
+    ensures apart { RefutedByNumberIsApart }
+    ensures met { NeededMetIsMeeting }
+{}
+
+ghost use Rattle.lf_coverage.specs.NumberedAnswers.{NeededIsAnswered, ReachedIsAnswered};
+
+/// So where unification answers at each of these places, `instance_of` has one of its four answers; also for each case that the strategy reaches from a goal,
+/// and each pattern of the list.
+pub fn needed_calls_are_answered()
+    ensures needed { NeededIsAnswered }
+    ensures reached { ReachedIsAnswered }
+{}
+
+ghost use Rattle.lf_coverage.specs.NumberedAnswersExamples.{TwoCopiesAreApart, TwoCopiesAreStuck};
+
+/// So cp b.x c.x, for two block variables of {x:exp} {u:cp x x}, is apart from the head of cp-app, where steps refute both stores, and stuck at u : cp x x,
+/// where they refute four of five.
+pub fn two_copies_are_answered()
+    ensures apart { TwoCopiesAreApart }
+    ensures stuck { TwoCopiesAreStuck }
+{}

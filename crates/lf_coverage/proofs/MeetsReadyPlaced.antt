@@ -1,0 +1,195 @@
+-- A store of a pattern's type over variables, with given terms and arguments that are typed beside it, is well formed behind equations that are typed.
+use Rattle.std.proofs.Common.{◌≡◌, ℕ, zero, suc, ◌+◌, List, [], ◌∷◌, length, inl, inr, refl, sym, ap, ap₂, ◌∙◌, subst, arith}
+use Rattle.std.specs.Prelude.{Option, Some, None, ◌⊎◌}
+use Rattle.lf.specs.Syntax.{variable, Term, Spine, LfType, atom, Kind, Skeleton, base, skeleton, kind_skeleton, rename_spine, rename_type}
+use Rattle.lf.specs.Substitution.{Image, put, substitute, substitute_spine, substitute_type, substitute_image, after, reduce}
+use Rattle.lf.specs.SkeletonTyping.{SkeletonAt, TermSkeleton, SpineSkeleton, TypeBySkeletons, ImageSkeleton, SubstitutionBySkeletons}
+use Rattle.lf.specs.Skeletons.{constant_skeletons, family_skeletons, context_skeletons}
+use Rattle.lf.specs.AtOnce.{shift_by, lift_renaming_by}
+use Rattle.lf.specs.Eta.{eta_long}
+use Rattle.lf.specs.Typing.{Signature, TypeAt, HasType, SpineFitsKind, IsType, IsKind, IsContext, IsSignature, IsTypedRenaming}
+use Rattle.lf.specs.Variables.{target, target_arguments, binders, onto}
+use Rattle.lf.specs.Worlds.{lift_over, instance}
+use Rattle.lf.proofs.Closed.{closed_kind_substituted}
+use Rattle.lf.proofs.EtaTyping.{eta_long_has_type}
+use Rattle.lf.proofs.SkeletonTyping.{substitution_keeps_spine_skeletons}
+use Rattle.lf.proofs.Substitution.{family_kind}
+use Rattle.lf.proofs.SkeletonTypes.{substitution_keeps_types_by_skeletons}
+use Rattle.lf.proofs.Decidability.{variable_type_unique}
+use Rattle.lf.proofs.ToSkeletons.{variable_has_skeleton, skeleton_has_variable, typed_has_skeleton, kind_spine_has_skeleton, type_by_skeletons, kind_by_skeletons}
+use Rattle.lf.proofs.TypeLaws.{skeleton_renamed, skeleton_substituted}
+use Rattle.lf.proofs.Weakening.{renaming_keeps_types, declared_is_type}
+use Rattle.lf_unification.specs.Filling.{fill}
+use Rattle.lf_unification.specs.Lists.{followed}
+use Rattle.lf_unification.specs.OpenTyping.{OpenHasType, skeletons_of}
+use Rattle.lf_unification.specs.PartialInstance.{EquationsAreTyped, IsFilling, PartialInstance}
+use Rattle.lf_unification.specs.Solving.{IsWellFormed}
+use Rattle.lf_unification.specs.Unifiers.{Equation, SolvesAll, Store}
+use Rattle.lf_unification.proofs.Decompose.{OpenHasType-convert}
+use Rattle.lf_unification.proofs.EquationLemmas.{solves_first}
+use Rattle.lf_unification.proofs.RigidSteps.{solves_rest}
+use Rattle.lf_cases.specs.Candidates.{given_images}
+use Rattle.lf_cases.specs.Case.{as_term}
+use Rattle.lf_cases.specs.OutputGoal.{renumber}
+use Rattle.lf_cases.specs.Pattern.{given_at}
+use Rattle.lf_cases.proofs.Assemble.{binders_typed, end_typed}
+use Rattle.lf_cases.proofs.OutputItems.{lifted, lift_renumber}
+use Rattle.lf_totality.proofs.RaisedOutputs.{binders_over}
+use Rattle.lf_coverage.specs.MeetStore.{open_arguments, place_equations, one_given, given_equations}
+use Rattle.lf_coverage.specs.MeetsReady.{AreTypedBeside}
+use Rattle.lf_coverage.specs.SplitStore.{open_term, open_spine, open_type, open_locals, type_in, context_metavariables}
+use Rattle.lf_coverage.specs.TypedCase.{TypedArguments}
+use Rattle.lf_coverage.proofs.ContextFillings.{skU, MS, values, ok_opened, places, same_opened}
+use Rattle.lf_coverage.proofs.ContextStore.{context_store_ready}
+use Rattle.lf_coverage.proofs.Forms.{far_type}
+use Rattle.lf_coverage.proofs.GivenValues.{StandsForItself, StandsForGiven, given_cases, far_renames, type_put, spine_put}
+use Rattle.lf_coverage.proofs.MeetReady.{far_back}
+use Rattle.lf_coverage.proofs.MeetsReadySolved.{both_typed, given_solved, renumbered_still, spine_still}
+use Rattle.lf_coverage.proofs.OpenSkeletons.{filled_values, filled_value, filled_fits, filled_term, type_by_opened}
+use Rattle.lf_coverage.proofs.OpenTyped.{open_kind, family_open, term_opened}
+use Rattle.lf_coverage.proofs.Parts.{some_same}
+use Rattle.lf_coverage.proofs.StoreSolution.{found_type, value_at}
+use Rattle.lf_coverage.proofs.Transfer.{lift_instance}
+
+-- the store
+abbrev pub placed_store : List LfType → List Equation → List (Option Term) → List (Option Term) → LfType → Kind → Store
+placed_store X ids Ms Ns T K = record {
+  metavariables = context_metavariables X;
+  bindings = [];
+  equations = followed ids (followed (given_equations X zero Ms) (place_equations (open_locals (binders [] T)) (open_arguments (length (binders [] T)) Ns) (open_spine (length (binders [] T)) (target_arguments T)) K));
+}
+
+module _ (Σ : Signature) (ok : IsSignature Σ) (X : List LfType) (joint_context : IsContext Σ X) (ids : List Equation) (L : List LfType) (Ms Ns : List (Option Term)) (T : LfType) (tT : IsType Σ X T) (K : Kind) (of_family : Σ.kinds (target T) ≡ Some K) (tb : AreTypedBeside Σ X L Ms Ns T K) where
+  abbrev D : List LfType
+  D = binders [] T
+
+  abbrev g : ℕ → Image
+  g = given_images X Ms zero
+
+  abbrev U : (ℕ → Option Term) → Type 0
+  U = IsFilling Σ [] (placed_store X ids Ms Ns T K)
+
+  abbrev half : (β : ℕ → Option Term) → U β → (F : List LfType) × PartialInstance Σ [] (context_metavariables X) (λ m. ⊥) F β
+  half β (F, w, u) = (F, w)
+
+  local_typed : IsContext Σ (onto D X)
+  local_typed = subst (IsContext Σ) (binders_over [] T X) (binders_typed Σ ok T X joint_context tT)
+
+  arguments_fit : SpineFitsKind Σ (onto D X) (target_arguments T) K
+  arguments_fit = by (end_typed Σ ok T X tT)
+    where
+      by : IsType Σ (binders X T) (atom (target T) (target_arguments T)) → SpineFitsKind Σ (onto D X) (target_arguments T) K
+      by (K', e, s) = subst (SpineFitsKind Σ (onto D X) (target_arguments T)) (some_same (sym e ∙ of_family)) (subst (λ G. SpineFitsKind Σ G (target_arguments T) K') (binders_over [] T X) s)
+
+  fg : SubstitutionBySkeletons (constant_skeletons Σ) (context_skeletons X) (context_skeletons X) g
+  fg i t k = by (given_cases X Ms zero i)
+    where
+      moved : (A : LfType) → TypeAt X i A → skeleton A ≡ t → SkeletonAt (context_skeletons X) (i + zero) t
+      moved A h e = subst (SkeletonAt (context_skeletons X) (i + zero)) (skeleton_renamed (shift_by zero) A ∙ e) (variable_has_skeleton X (i + zero) (rename_type (shift_by zero) A) (far_type [] X i A h))
+
+      by : StandsForItself X Ms zero i ⊎ StandsForGiven X Ms zero i → ImageSkeleton (constant_skeletons Σ) (context_skeletons X) (g i) t
+      by (inl (q, none)) = let (A, h, e) = skeleton_has_variable X i t k in subst (λ x. ImageSkeleton (constant_skeletons Σ) (context_skeletons X) x t) (sym q) (moved A h e)
+      by (inr (B, M, b, m, q)) =
+          let (A, h, e) = skeleton_has_variable X i t k in
+          let s : skeleton B ≡ t = ap skeleton (variable_type_unique X i B A b h) ∙ e in
+          subst (λ x. ImageSkeleton (constant_skeletons Σ) (context_skeletons X) x t) (sym q) (s, subst (TermSkeleton (constant_skeletons Σ) (context_skeletons X) M) (skeleton_substituted reduce g B) (typed_has_skeleton Σ X M (substitute_type reduce g B) (tb.given i B M b m)))
+
+  far : IsTypedRenaming X X (shift_by zero)
+  far = far_renames [] X
+
+  -- a given term has the type of its variable, with the given terms put in
+  given_term : (i : ℕ) (A : LfType) (M : Term) → TypeAt X i A → given_at Ms i ≡ Some M → HasType Σ X M (substitute_type reduce g A)
+  given_term = tb.given
+
+  -- a filling of the store gives the variables the given terms' values
+  agrees : (β : ℕ → Option Term) (u : U β) (i : ℕ) → after (values Σ ok X joint_context U half β u) g i ≡ values Σ ok X joint_context U half β u (i + zero)
+  agrees β (F, w, u) i = by (given_cases X Ms zero i)
+    where
+      μ : ℕ → Skeleton
+      μ = skeletons_of (context_metavariables X)
+
+      one : (A : LfType) (M : Term) → TypeAt X i A → given_at Ms i ≡ Some M → put (skeleton A) (substitute reduce (filled_values Σ X F β w) M) ≡ filled_values Σ X F β w (i + zero)
+      one A M h q =
+          let B : LfType = rename_type (shift_by zero) A in
+          let at : TypeAt X (i + zero) B = far_type [] X i A h in
+          let (N, b, v, m) = filled_value Σ X F β w (i + zero) B at in
+          let here : fill (skeletons_of (context_metavariables X)) β (open_term zero (eta_long (skeleton B) (variable (i + zero)))) ≡ fill (skeletons_of (context_metavariables X)) β (open_term zero M) = given_solved (skeletons_of (context_metavariables X)) β X zero Ms (solves_first (skeletons_of (context_metavariables X)) β (given_equations X zero Ms) _ (solves_rest (skeletons_of (context_metavariables X)) β ids _ u.1)) i M B q at in
+          let left : fill (skeletons_of (context_metavariables X)) β (open_term zero (eta_long (skeleton B) (variable (i + zero)))) ≡ as_term (skeleton B) (filled_values Σ X F β w (i + zero)) = filled_term Σ X F β w [] (eta_long (skeleton B) (variable (i + zero))) (skeleton B) (typed_has_skeleton Σ X (eta_long (skeleton B) (variable (i + zero))) B (eta_long_has_type Σ ok X (variable (i + zero)) B joint_context at)) ∙ value_at (constant_skeletons Σ) (context_skeletons F) (skeleton B) (filled_values Σ X F β w) (i + zero) (filled_fits Σ X F β w (i + zero) (skeleton B) (variable_has_skeleton X (i + zero) B at)) in
+          let right : fill (skeletons_of (context_metavariables X)) β (open_term zero M) ≡ substitute reduce (filled_values Σ X F β w) M = filled_term Σ X F β w [] M (skeleton (substitute_type reduce g A)) (typed_has_skeleton Σ X M (substitute_type reduce g A) (given_term i A M h q)) in
+          let same : N ≡ substitute reduce (filled_values Σ X F β w) M = sym (ap (as_term (skeleton B)) v) ∙ sym left ∙ here ∙ right in
+          ap₂ put (sym (skeleton_renamed (shift_by zero) A)) (sym same) ∙ sym v
+
+      by : StandsForItself X Ms zero i ⊎ StandsForGiven X Ms zero i → after (filled_values Σ X F β w) g i ≡ filled_values Σ X F β w (i + zero)
+      by (inl (e, none)) = ap (substitute_image (filled_values Σ X F β w)) e
+      by (inr (A, M, h, q, e)) = ap (substitute_image (filled_values Σ X F β w)) e ∙ one A M h q
+
+  -- so a given term has its variable's type up to these
+  given_opened : (i : ℕ) (M : Term) (A : LfType) → given_at Ms i ≡ Some M → TypeAt X (i + zero) A → OpenHasType Σ [] (context_metavariables X) U [] (open_term zero M) (open_type zero A)
+  given_opened i M A q at =
+      let (B, b, e) = far_back [] X i A at in
+      let B1 : LfType = rename_type (shift_by zero) B in
+      let B2 : LfType = substitute_type reduce g B in
+      let k : TypeBySkeletons (family_skeletons Σ) (constant_skeletons Σ) (context_skeletons X) B = type_by_skeletons Σ X B (declared_is_type Σ ok X i B joint_context b) in
+      let k1 : TypeBySkeletons (family_skeletons Σ) (constant_skeletons Σ) (context_skeletons X) B1 = type_by_skeletons Σ X B1 (renaming_keeps_types Σ ok X X (shift_by zero) B far (declared_is_type Σ ok X i B joint_context b)) in
+      let k2 : TypeBySkeletons (family_skeletons Σ) (constant_skeletons Σ) (context_skeletons X) B2 = substitution_keeps_types_by_skeletons (family_skeletons Σ) (constant_skeletons Σ) (context_skeletons X) (context_skeletons X) g B fg k in
+      subst (λ Z. OpenHasType Σ [] (context_metavariables X) U [] (open_term zero M) (open_type zero Z)) (sym e)
+      (OpenHasType-convert Σ ok [] (context_metavariables X) U (skU Σ ok X joint_context U half) (MS Σ ok X joint_context U half) [] (λ j Y h. absurd h) (open_term zero M) (open_type zero B1) (open_type zero B2) (ok_opened Σ ok X joint_context U half [] B1 k1) (ok_opened Σ ok X joint_context U half [] B2 k2)
+      (same_opened Σ ok X joint_context U half [] [] [] refl refl B1 B2 k1 k2 (skeleton_renamed (shift_by zero) B ∙ sym (skeleton_substituted reduce g B)) (λ β u. sym (type_put Σ X X (half β u).0 g (values Σ ok X joint_context U half β u) zero fg (filled_fits Σ X (half β u).0 β (half β u).1) (agrees β u) [] B k)))
+      (term_opened Σ ok X U [] M B2 (given_term i B M b q)))
+
+  givens : (Ps : List (Option Term)) (k : ℕ) → ((i : ℕ) (M : Term) (A : LfType) → given_at Ps i ≡ Some M → TypeAt X (i + k) A → OpenHasType Σ [] (context_metavariables X) U [] (open_term zero M) (open_type zero A)) → EquationsAreTyped Σ [] (context_metavariables X) U (given_equations X k Ps)
+  givens [] k h = tt
+  givens (N ∷ Ps) k h = by (type_in X k) refl N refl (givens Ps (suc k) (λ i M A e at. h (suc i) M A e (subst (λ j. TypeAt X j A) (next i k) at)))
+    where
+      next : (i k : ℕ) → i + suc k ≡ suc i + k
+      next i k = omega arith
+
+      none : (k : ℕ) → k ≡ 0 + k
+      none k = omega arith
+
+      by : (y : Option LfType) → type_in X k ≡ y → (x : Option Term) → N ≡ x → EquationsAreTyped Σ [] (context_metavariables X) U (given_equations X (suc k) Ps) → EquationsAreTyped Σ [] (context_metavariables X) U (one_given k y x (given_equations X (suc k) Ps))
+      by None e x q rest = rest
+      by (Some A) e None q rest = rest
+      by (Some A) e (Some M) q rest =
+          let at : TypeAt X k A = found_type X k A e in (
+            record {
+              local_typed = tt;
+              type_typed = λ F β w u. type_by_opened Σ X [] (context_skeletons F) A (type_by_skeletons Σ X A (declared_is_type Σ ok X k A joint_context at));
+              left_typed = term_opened Σ ok X U [] (eta_long (skeleton A) (variable k)) A (eta_long_has_type Σ ok X (variable k) A joint_context at);
+              right_typed = h zero M A q (subst (λ j. TypeAt X j A) (none k) at);
+            },
+            rest,
+          )
+
+  -- the equations of the places
+  abbrev S : Spine
+  S = target_arguments T
+
+  abbrev place_list : List LfType → Spine → Kind → List Equation
+  place_list E R Z = place_equations (open_locals E) (open_arguments (length E) Ns) (open_spine (length E) R) Z
+
+  placed : EquationsAreTyped Σ [] (context_metavariables X) U (place_list D S K)
+  placed =
+      let Φ : ℕ → Option LfType = context_metavariables X in
+      let L1 : List LfType = renumber (shift_by zero) D in
+      let L2 : List LfType = instance D g in
+      let S1 : Spine = rename_spine (lift_renaming_by (length D) (shift_by zero)) S in
+      let R : Spine = substitute_spine reduce (lift_over D g) S in
+      let ck : IsKind Σ [] K = ok.kinds_ok (target T) K of_family in
+      let d : L1 ≡ D = renumbered_still D in
+      let s : S1 ≡ S = spine_still (length D) S in
+      let o : open_kind (length L1) K ≡ K = family_open Σ ok X U (length L1) (target T) K of_family in
+      let ss : SpineSkeleton (constant_skeletons Σ) (context_skeletons (onto D X)) S (kind_skeleton 0 K) (base 0) = kind_spine_has_skeleton Σ 0 (onto D X) S K arguments_fit in
+      let fits : SpineFitsKind Σ (onto L1 X) S1 K = subst (λ E. SpineFitsKind Σ (onto E X) S1 K) (sym d) (subst (λ R. SpineFitsKind Σ (onto D X) R K) (sym s) arguments_fit) in
+      let r : EquationsAreTyped Σ [] Φ U (place_list L1 S1 (open_kind (length L1) K)) =
+      places Σ ok X joint_context U half X zero g fg far agrees D local_typed Ns R S1 K K (kind_by_skeletons Σ (onto L2 X) K (family_kind Σ ok (onto L2 X) (target T) K of_family)) (kind_by_skeletons Σ (onto L1 X) K (family_kind Σ ok (onto L1 X) (target T) K of_family)) refl
+      (λ β u. closed_kind_substituted Σ reduce (lift_over L2 (values Σ ok X joint_context U half β u)) K ck ∙ sym (closed_kind_substituted Σ reduce (lift_over L1 (values Σ ok X joint_context U half β u)) K ck))
+      (substitution_keeps_spine_skeletons (constant_skeletons Σ) (context_skeletons (onto D X)) (context_skeletons (onto L2 X)) (lift_over D g) S (kind_skeleton 0 K) (base 0) (lifted Σ D X X g fg) ss)
+      (λ β u. ap (λ f. substitute_spine reduce f R) (lift_instance D g (values Σ ok X joint_context U half β u)) ∙ spine_put Σ X X (half β u).0 g (values Σ ok X joint_context U half β u) zero fg (filled_fits Σ X (half β u).0 β (half β u).1) (agrees β u) D S (kind_skeleton 0 K) (base 0) ss ∙ ap (λ f. substitute_spine reduce f S1) (sym (lift_renumber (shift_by zero) D (values Σ ok X joint_context U half β u))))
+      (subst (λ E. TypedArguments Σ (onto E X) Ns R K) tb.local tb.arguments) fits
+      (λ β u. subst (λ Z. SolvesAll (skeletons_of Φ) β (place_list L1 S1 Z)) (sym o) (subst (λ E. SolvesAll (skeletons_of Φ) β (place_list E S1 K)) (sym d) (subst (λ R. SolvesAll (skeletons_of Φ) β (place_list D R K)) (sym s) (solves_rest (skeletons_of Φ) β (given_equations X zero Ms) _ (solves_rest (skeletons_of Φ) β ids _ u.2.1))))) in
+      subst (λ R. EquationsAreTyped Σ [] Φ U (place_list D R K)) s (subst (λ E. EquationsAreTyped Σ [] Φ U (place_list E S1 K)) d (subst (λ Z. EquationsAreTyped Σ [] Φ U (place_list L1 S1 Z)) o r))
+
+  -- The lemma
+  pub placed_ready : EquationsAreTyped Σ [] (context_metavariables X) U ids → IsWellFormed Σ (placed_store X ids Ms Ns T K)
+  placed_ready h = context_store_ready Σ ok X joint_context (placed_store X ids Ms Ns T K).equations (both_typed Σ (context_metavariables X) U ids _ h (both_typed Σ (context_metavariables X) U (given_equations X zero Ms) _ (givens Ms zero given_opened) placed))

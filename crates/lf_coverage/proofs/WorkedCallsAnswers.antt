@@ -1,0 +1,47 @@
+-- The worked runs as answers by number.
+use Rattle.std.proofs.Common.{◌≡◌, ℕ, zero, suc, ◌≤◌, [], ◌∷◌, refl, sym, subst, arith}
+use Rattle.std.specs.Prelude.{Bool, true, false, None}
+use Rattle.lf_totality.specs.Examples.{Copying, copy_heads, copying_kinds, copying_types, cp_kind}
+use Rattle.lf_totality.proofs.Copying.{copying_ok}
+use Rattle.lf_coverage.specs.Calls.{PlacesIn}
+use Rattle.lf_coverage.specs.EntryConstants.{IsFreeFrom}
+use Rattle.lf_coverage.specs.ExamplesCopying.{copy_goal, copy_worlds}
+use Rattle.lf_coverage.specs.ExamplesTwins.{Twins, check_kind, twin_goal, twin_head, twin_worlds}
+use Rattle.lf_coverage.specs.NumberedCalls.{IsBesideByNumber}
+use Rattle.lf_coverage.specs.Numbering.{numbered}
+use Rattle.lf_coverage.specs.WorkedCallsAnswers.{WorkedRunsAreAnswers}
+use Rattle.lf_coverage.proofs.EntryPatternsCopying.{copy_run_by_number}
+use Rattle.lf_coverage.proofs.EntryPatternsForms.{numbered_run_covers}
+use Rattle.lf_coverage.proofs.EntryPatternsTwins.{twin_run_by_number}
+use Rattle.lf_coverage.proofs.ExamplesCopyingSplit.{copy_typed}
+use Rattle.lf_coverage.proofs.ExamplesTwinsRun.{twins_ok, twins_typed}
+use Rattle.lf_coverage.proofs.Parts.{some_same}
+use Rattle.lf_coverage.proofs.WorkedCallsTwins.{free}
+
+copying_free : IsFreeFrom Copying 4
+copying_free = record { types_free = types; kinds_free = kinds }
+  where
+    types : (c : ℕ) → 4 ≤ c → copying_types c ≡ None
+    types zero l = absurd (omega (arith, l))
+    types (suc zero) l = absurd (omega (arith, l))
+    types (suc (suc zero)) l = absurd (omega (arith, l))
+    types (suc (suc (suc zero))) l = absurd (omega (arith, l))
+    types (suc (suc (suc (suc c)))) l = refl
+
+    kinds : (a : ℕ) → 4 ≤ a → copying_kinds a ≡ None
+    kinds zero l = absurd (omega (arith, l))
+    kinds (suc zero) l = absurd (omega (arith, l))
+    kinds (suc (suc a)) l = refl
+
+-- the families of the places
+of_check : (S : ℕ → Bool) → IsBesideByNumber Twins twin_worlds S (numbered 3 twin_goal) → (S 0 ≡ true) × (S 1 ≡ true)
+of_check S b = let p : PlacesIn S (true ∷ true ∷ true ∷ []) check_kind = subst (PlacesIn S (true ∷ true ∷ true ∷ [])) (sym (some_same b.of_family)) b.places in (p.0, p.1.1.0)
+
+of_copy : (S : ℕ → Bool) → IsBesideByNumber Copying copy_worlds S (numbered 4 copy_goal) → S 0 ≡ true
+of_copy S b = let p : PlacesIn S (true ∷ false ∷ []) cp_kind = subst (PlacesIn S (true ∷ false ∷ [])) (sym (some_same b.of_family)) b.places in p.0
+
+pub worked_runs_are_answers : WorkedRunsAreAnswers
+worked_runs_are_answers below = (
+  (λ S b. numbered_run_covers Twins twins_ok twin_worlds twins_typed S 3 free (twin_head ∷ []) (numbered 3 twin_goal) (omega arith) (twin_run_by_number S b.self_contained (of_check S b).0 (of_check S b).1).0),
+  (λ S b. numbered_run_covers Copying copying_ok copy_worlds copy_typed S 4 copying_free copy_heads (numbered 4 copy_goal) (omega arith) (copy_run_by_number S b.self_contained (of_copy S b))),
+)

@@ -1,0 +1,219 @@
+-- The second split of the worked run with candidates: by a constant, and by the entry of a newer block variable.
+use Rattle.std.proofs.Common.{◌≡◌, ℕ, zero, suc, ◌+◌, List, [], ◌∷◌, length, inl, inr, refl, sym, ap, subst, arith}
+use Rattle.std.specs.Prelude.{Bool, true, Some, None}
+use Rattle.lf.specs.Syntax.{constant, Spine, root, nil, app, LfType, arrow, base, kind_pi, star, rename_type}
+use Rattle.lf.specs.AtOnce.{in_front, shift_by}
+use Rattle.lf.specs.Substitution.{Image, keep, put, substitute_type, reduce}
+use Rattle.lf.specs.Typing.{TypeAt, ImageHasType, IsTypedSubstitution}
+use Rattle.lf.specs.Variables.{target}
+use Rattle.lf.specs.Subordination.{Block, Member}
+use Rattle.lf_checks.specs.Clause.{from_entry}
+use Rattle.lf_checks.specs.Marks.{TypedPlaces}
+use Rattle.lf_cases.specs.Case.{covered_places}
+use Rattle.lf_cases.specs.ClauseOrder.{StandsAt}
+use Rattle.lf_cases.specs.Cover.{before, AreTerms}
+use Rattle.lf_cases.specs.Pattern.{ground_in}
+use Rattle.lf_totality.specs.Examples.{exp, var}
+use Rattle.lf_totality.specs.ExamplesGroups.{on_one}
+use Rattle.lf_coverage.specs.EntryConstants.{entry_constant, with_entries}
+use Rattle.lf_coverage.specs.EntryPatterns.{IsInstanceOfPattern, variable_images}
+use Rattle.lf_coverage.specs.EntryTerms.{MatchesByNumber, own_values}
+use Rattle.lf_coverage.specs.Listed.{with_case, no_offer}
+use Rattle.lf_coverage.specs.NewBlock.{with_new_block}
+use Rattle.lf_coverage.specs.NumberedCallsOrder.{AreInNumberedOrder, HasNumberedRank, entry_rank, next_in_order, one_in_order, signature_rank}
+use Rattle.lf_coverage.specs.NumberedCase.{NumberedCase}
+use Rattle.lf_coverage.specs.NumberedSplits.{IsOfferTo, NumberedOffer, NumberedUnifierFinds, of_case, of_new_block}
+use Rattle.lf_coverage.specs.OwnStores.{IsNumberedOffer, offer_entry, offer_signature}
+use Rattle.lf_coverage.specs.OwnTerms.{blocks_of, own_terms, TypeOnOwnTerms}
+use Rattle.lf_coverage.specs.TypedNumbered.{IsTypedNumberedCase}
+use Rattle.lf_coverage.proofs.EntryTermsDecided.{numbered_head_is_decided}
+use Rattle.lf_coverage.proofs.OwnStoresNewBlock.{new_block_stays_typed}
+use Rattle.lf_coverage.proofs.Parts.{none_some, some_same}
+use Rattle.lf_coverage.proofs.WorkedCallsClosed.{closed_found}
+use Rattle.lf_coverage.proofs.WorkedCallsParts.{ConstantsAreIn, EntriesAreIn, NewEntriesAreIn, entry_member, entry_rank_in, heads_are_in, new_heads_are_in, offer_with, signature_rank_in}
+use Rattle.lf_coverage.specs.ExamplesNumbered.{first_block, second_block}
+use Rattle.lf_coverage.specs.NumberedCalls.{ListsCases}
+use Rattle.lf_coverage.specs.WorkedCallsWhole.{Whole, a_case, x_case, y_case, turning_clause, turning_head}
+use Rattle.lf_coverage.proofs.WorkedCallsWholeFirst.{blocks, first_alone, free, ok, worlds}
+
+-- f N b.y
+abbrev on_number : ℕ → Image
+on_number = in_front (put (base 0) (var 0)) keep
+
+on_number_typed : IsTypedSubstitution (with_entries Whole 4 (first_block ∷ [])) (exp ∷ []) (exp ∷ []) on_number
+on_number_typed zero A e = subst (λ B. ImageHasType (with_entries Whole 4 (first_block ∷ [])) (exp ∷ []) (put (base 0) (var 0)) (substitute_type reduce on_number B)) (sym e) (refl, (exp, refl, refl))
+on_number_typed (suc i) A (B, g, e) = absurd g
+
+pub y_typed : IsTypedNumberedCase Whole 4 worlds y_case
+y_typed = record {
+  variables = record { variables = (tt, (star, refl, tt)); on_own_terms = own; blocks = (inl refl, (on_number, on_number_typed, refl), (tt, tt), tt) };
+  local = (tt, (star, refl, tt));
+  local_on_own = tt;
+  given = tt;
+  given_on_own = tt;
+  arguments = ((base 0, (base 0, refl, refl)), ((base 1, (arrow (base 0) (base 1), refl, ((base 0, refl, refl), refl))), tt));
+  arguments_on_own = ((tt, (((nil, refl), (tt, tt)), tt)));
+}
+  where
+    own : (i : ℕ) (A : LfType) → TypeAt y_case.variables i A → TypeOnOwnTerms (own_terms 4 y_case.blocks) A
+    own zero A e = subst (TypeOnOwnTerms (own_terms 4 y_case.blocks)) (sym e) tt
+    own (suc i) A (B, g, e) = absurd g
+
+-- Two heads: the constant a, and c.x for a new block variable.
+abbrev new_case : NumberedCase
+new_case = with_new_block second_block y_case
+
+abbrev constant_offer : NumberedOffer
+constant_offer = record { case = y_case; variable = 0; type = exp; head = constant 0; terms = nil; left = exp }
+
+abbrev entry_offer : NumberedOffer
+entry_offer = record { case = new_case; variable = 0; type = exp; head = constant 5; terms = nil; left = exp }
+
+abbrev pub offers : List NumberedOffer
+offers = constant_offer ∷ entry_offer ∷ []
+
+constant_offered : IsNumberedOffer Whole 4 y_case exp (constant 0) nil exp
+constant_offered = offer_signature 0 exp refl refl
+
+entry_offered : IsNumberedOffer Whole 4 new_case exp (constant 5) nil exp
+entry_offered = offer_entry 5 nil _ refl refl refl
+
+pub each : (o : NumberedOffer) → Member o offers → IsOfferTo Whole 4 worlds y_case 0 exp o
+each o (inl e) = subst (IsOfferTo Whole 4 worlds y_case 0 exp) (sym e) (of_case (constant 0) nil exp constant_offered)
+each o (inr (inl e)) = subst (IsOfferTo Whole 4 worlds y_case 0 exp) (sym e) (of_new_block second_block 5 nil exp (inr (inl refl)) refl entry_offered)
+each o (inr (inr m)) = absurd m
+
+pub other_target : {V E : LfType} (n : ℕ) → Some E ≡ Some V → target E ≡ suc n → target V ≡ 0 → ⊥
+other_target n e t u = omega (subst (λ A. target A ≡ suc n) (some_same e) t, u, arith)
+
+constants : ConstantsAreIn Whole 4 y_case 0 exp offers
+constants zero V e t = subst (λ A. Member (offer_with y_case 0 exp (constant 0) nil A) offers) (some_same e) (inl refl)
+constants (suc zero) V e t = absurd (other_target 0 e refl t)
+constants (suc (suc zero)) V e t = absurd (other_target 1 e refl t)
+constants (suc (suc (suc zero))) V e t = absurd (other_target 1 e refl t)
+constants (suc (suc (suc (suc k)))) V e t = absurd (none_some e)
+
+old_entries : EntriesAreIn Whole 4 y_case 0 exp offers
+old_entries zero U V o e t = absurd (none_some o)
+old_entries (suc zero) U V o e t = absurd (none_some o)
+old_entries (suc (suc zero)) U V o e t = absurd (none_some o)
+old_entries (suc (suc (suc zero))) U V o e t = absurd (none_some o)
+old_entries (suc (suc (suc (suc zero)))) U V o e t = absurd (other_target 0 e refl t)
+old_entries (suc (suc (suc (suc (suc c))))) U V o e t = absurd (none_some o)
+
+abbrev IsNew : ℕ → Type 0
+IsNew c = (with_entries Whole 4 (first_block ∷ [])).types c ≡ None
+
+not_declared : (k : ℕ) (V : LfType) → IsNew k → Whole.types k ≡ Some V → ⊥
+not_declared zero V n e = none_some (sym n)
+not_declared (suc zero) V n e = none_some (sym n)
+not_declared (suc (suc zero)) V n e = none_some (sym n)
+not_declared (suc (suc (suc zero))) V n e = none_some (sym n)
+not_declared (suc (suc (suc (suc k)))) V n e = none_some e
+
+-- the entry y of a new block variable of the first block has another family
+first_entries : NewEntriesAreIn Whole 4 (with_new_block first_block y_case) 1 exp offers IsNew
+first_entries zero U V n o e t = absurd (none_some o)
+first_entries (suc zero) U V n o e t = absurd (none_some o)
+first_entries (suc (suc zero)) U V n o e t = absurd (none_some o)
+first_entries (suc (suc (suc zero))) U V n o e t = absurd (none_some o)
+first_entries (suc (suc (suc (suc zero)))) U V n o e t = absurd (other_target 0 e refl t)
+first_entries (suc (suc (suc (suc (suc zero))))) U V n o e t = absurd (other_target 0 e refl t)
+first_entries (suc (suc (suc (suc (suc (suc c)))))) U V n o e t = absurd (none_some o)
+
+second_entries : NewEntriesAreIn Whole 4 new_case 0 exp offers IsNew
+second_entries zero U V n o e t = absurd (none_some o)
+second_entries (suc zero) U V n o e t = absurd (none_some o)
+second_entries (suc (suc zero)) U V n o e t = absurd (none_some o)
+second_entries (suc (suc (suc zero))) U V n o e t = absurd (none_some o)
+second_entries (suc (suc (suc (suc zero)))) U V n o e t = absurd (other_target 0 e refl t)
+second_entries (suc (suc (suc (suc (suc zero))))) U V n o e t = entry_member new_case 0 exp offers 5 _ U _ V o e (inr (inl refl))
+second_entries (suc (suc (suc (suc (suc (suc zero)))))) U V n o e t = absurd (other_target 1 e refl t)
+second_entries (suc (suc (suc (suc (suc (suc (suc c))))))) U V n o e t = absurd (none_some o)
+
+abbrev OfferOf : Block → ℕ → Spine → LfType → Type 0
+OfferOf B c U A = IsNumberedOffer Whole 4 (with_new_block B y_case) (rename_type (shift_by (length B.some)) exp) (constant c) U A → Member (offer_with (with_new_block B y_case) (0 + length B.some) (rename_type (shift_by (length B.some)) exp) (constant c) U A) offers
+
+pub every : (o : NumberedOffer) → IsOfferTo Whole 4 worlds y_case 0 exp o → Member o offers
+every o (of_case h U A f) = heads_are_in Whole 4 y_case 0 exp offers refl constants old_entries h U A f
+every o (of_new_block B c U A (inl e) n f) = subst (λ (D : Block). OfferOf D c U A) (sym e) (new_heads_are_in Whole 4 (with_new_block first_block y_case) 1 exp offers IsNew not_declared first_entries (constant c) c U A refl n) f
+every o (of_new_block B c U A (inr (inl e)) n f) = subst (λ (D : Block). OfferOf D c U A) (sym e) (new_heads_are_in Whole 4 new_case 0 exp offers IsNew not_declared second_entries (constant c) c U A refl n) f
+every o (of_new_block B c U A (inr (inr m)) n f) = absurd m
+
+abbrev ranks : List (List ℕ)
+ranks = (0 ∷ 0 ∷ []) ∷ (1 ∷ 1 ∷ 0 ∷ 0 ∷ []) ∷ []
+
+in_order : AreInNumberedOrder 4 worlds y_case offers ranks
+in_order = next_in_order (signature_rank 0 refl refl) (inl (omega arith)) (one_in_order (entry_rank 5 1 _ refl refl refl))
+
+other_label : second_block ≡ first_block → ⊥
+other_label e = (let p : suc (suc zero) ≡ suc zero = ap (λ (B : Block). length B.entries) e in omega (arith, p))
+
+stands_second : (w : ℕ) → StandsAt w second_block worlds → w ≡ 1
+stands_second zero s = absurd (other_label s)
+stands_second (suc zero) s = refl
+stands_second (suc (suc w)) s = absurd s
+
+every_rank : (o : NumberedOffer) (r : List ℕ) → Member o offers → HasNumberedRank 4 worlds y_case o r → Member r ranks
+every_rank o r (inl e) h = signature_rank_in 4 worlds y_case o 0 (ap (λ (p : NumberedOffer). p.head) e) (ap (λ (p : NumberedOffer). entry_constant 0 4 (blocks_of p.case.blocks) 0) e) ranks (inl refl) r h
+every_rank o r (inr (inl e)) h = entry_rank_in 4 worlds y_case o 5 _ (ap (λ (p : NumberedOffer). p.head) e) (ap (λ (p : NumberedOffer). entry_constant 0 4 (blocks_of p.case.blocks) 5) e) ranks (λ w s. subst (λ v. Member (1 ∷ v ∷ 0 ∷ 0 ∷ []) ranks) (sym (stands_second w s)) (inr (inl refl))) r h
+every_rank o r (inr (inr m)) h = absurd m
+
+pub constant_found : (below : ℕ → ℕ → Bool) → NumberedUnifierFinds Whole 4 below constant_offer star (Some a_case)
+constant_found below = closed_found Whole ok worlds blocks 4 free below 0 refl y_case.blocks 2 y_case.arguments y_typed first_alone 0 refl constant_offered
+
+pub entry_found : (below : ℕ → ℕ → Bool) → NumberedUnifierFinds Whole 4 below entry_offer star (Some x_case)
+entry_found below = closed_found Whole ok worlds blocks 4 free below 0 refl new_case.blocks 2 new_case.arguments (new_block_stays_typed Whole ok worlds blocks 4 free y_case y_typed second_block (inr (inl refl))) blocks 5 refl entry_offered
+
+-- f c.x b.y is an instance of the entry u of c.
+abbrev on_entry : ℕ → Image
+on_entry = in_front (put (base 0) (root (constant 5) nil)) keep
+
+on_entry_typed : IsTypedSubstitution (with_entries Whole 4 worlds) (exp ∷ []) [] on_entry
+on_entry_typed zero A e = subst (λ B. ImageHasType (with_entries Whole 4 worlds) [] (put (base 0) (root (constant 5) nil)) (substitute_type reduce on_entry B)) (sym e) (refl, (exp, refl, refl))
+on_entry_typed (suc i) A (B, g, e) = absurd g
+
+pub entry_typed : IsTypedNumberedCase Whole 4 worlds x_case
+entry_typed = record {
+  variables = record { variables = tt; on_own_terms = λ i A g. absurd g; blocks = (inl refl, (on_entry, on_entry_typed, refl), (((nil, refl), tt), tt), (inr (inl refl), (keep, (λ i A g. absurd g), refl), tt, tt)) };
+  local = tt;
+  local_on_own = tt;
+  given = tt;
+  given_on_own = tt;
+  arguments = ((base 0, (base 0, refl, refl)), ((base 1, (arrow (base 0) (base 1), refl, ((base 0, refl, refl), refl))), tt));
+  arguments_on_own = (((nil, refl), tt), (((nil, refl), (((nil, refl), tt), tt)), tt));
+}
+
+abbrev outer : ℕ → Image
+outer = before [] (variable_images 4 x_case.blocks 1 second_block nil)
+
+terms : AreTerms turning_clause (ground_in turning_head (covered_places x_case.arguments) x_case.given) (own_values x_case turning_head outer)
+terms zero o u = tt
+terms (suc i) o u = absurd cc
+
+entry_match : MatchesByNumber 4 x_case turning_head
+entry_match = (outer, (1, nil, refl, (λ e. absurd cc), refl), (((refl, tt), ((refl, tt), tt)), terms, (refl, (refl, tt))))
+
+abbrev tuple : Spine
+tuple = app (root (constant 5) nil) (app (root (constant 4) (app (root (constant 5) nil) nil)) nil)
+
+pub entry_instance : IsInstanceOfPattern Whole 4 x_case turning_head
+entry_instance = (numbered_head_is_decided Whole ok worlds blocks 4 free x_case entry_typed turning_clause (from_entry second_block [] _ (exp ∷ []) (inr (inl refl)) refl) refl refl (kind_pi exp (kind_pi (on_one 1 (var 0)) star)) refl (tt, (((refl, tt), tt), tt)) tuple (refl, (refl, tt)) typed).0.1 entry_match
+  where
+    typed : TypedPlaces (with_entries Whole 4 worlds) (true ∷ true ∷ []) [] tuple (kind_pi exp (kind_pi (on_one 1 (var 0)) star))
+    typed = ((exp, refl, refl), ((_, refl, ((exp, refl, refl), refl)), tt))
+
+pub y_lists : (below : ℕ → ℕ → Bool) → ListsCases Whole 4 worlds below y_case 0 (a_case ∷ x_case ∷ [])
+y_lists below = record {
+  unified = record {
+    type = exp;
+    at = refl;
+    offers = offers;
+    each = each;
+    every = every;
+    listed = with_case (record { kind = star; of_family = refl; finds = constant_found below }) (with_case (record { kind = star; of_family = refl; finds = entry_found below }) no_offer);
+  };
+  ranks = ranks;
+  in_order = in_order;
+  every_rank = λ o r f h. every_rank o r (every o f) h;
+}

@@ -1,0 +1,78 @@
+-- Worked cases by number that share an instance with a pattern, are no instance of it and have no candidate: where no occurrence is strict, at a `some`
+-- variable, without places, under an entry and under a `some` variable. So the strategy can't split them.
+use Rattle.std.specs.Prelude.{ℕ, [], ◌∷◌, Bool, Some, refl}
+use Rattle.lf.specs.Syntax.{constant, variable, lambda, root, nil, app, LfType, pi}
+use Rattle.lf.specs.Subordination.{Block}
+use Rattle.lf_checks.specs.Clause.{entry_clause}
+use Rattle.lf_cases.specs.Pattern.{Pattern, of_entry, head_pattern}
+use Rattle.lf_totality.specs.Examples.{var}
+use Rattle.lf_totality.specs.ExamplesReached.{Applied, applied_clause, applied_goal, head_of}
+use Rattle.lf_coverage.specs.Calls.{instance, apart, stuck}
+use Rattle.lf_coverage.specs.NumberedCalls.{NumberedCoverIs, NumberedMatchedIs, one_missing, one_unsplit}
+use Rattle.lf_coverage.specs.NumberedCase.{NumberedCase}
+use Rattle.lf_coverage.specs.Numbering.{numbered}
+use Rattle.lf_coverage.specs.NumberedSplitsExamples.{Bare, exp, has, open_case}
+
+-- k X and the head of {F:nat -> nat} k (F z): a value of F makes the head k X, but no occurrence of F is strict. So k X is stuck, and can't be split.
+abbrev pub AppliedIsStuck : Type 0
+AppliedIsStuck = (NumberedMatchedIs Applied 3 [] (numbered 3 applied_goal) (head_of applied_clause.type) instance → ⊥) × NumberedMatchedIs Applied 3 [] (numbered 3 applied_goal) (head_of applied_clause.type) stuck × ((below : ℕ → ℕ → Bool) → NumberedCoverIs Applied 3 [] below (head_of applied_clause.type ∷ []) (numbered 3 applied_goal) (one_unsplit (numbered 3 applied_goal)))
+
+-- some {n:exp} block {u:p n}
+abbrev pub number_block : Block
+number_block = record { label = 98 ∷ []; some = exp ∷ []; entries = has (var 0) ∷ [] }
+
+abbrev pub number_head : Pattern
+number_head = head_pattern (entry_clause number_block [] (has (var 0))) (of_entry number_block [] (has (var 0)) [] refl)
+
+-- p X shares p n with u, for a block variable on n. Where the pattern has a `some` variable there is no candidate; so it can't be split, and isn't missing.
+abbrev pub SomeVariableGivesNoCandidate : Type 0
+SomeVariableGivesNoCandidate = NumberedMatchedIs Bare 2 (number_block ∷ []) open_case number_head stuck × ((below : ℕ → ℕ → Bool) → NumberedCoverIs Bare 2 (number_block ∷ []) below (number_head ∷ []) open_case (one_unsplit open_case) × (NumberedCoverIs Bare 2 (number_block ∷ []) below (number_head ∷ []) open_case (one_missing open_case) → ⊥))
+
+-- block {x:exp}, and the goal of exp itself, which has no places
+abbrev pub only_block : Block
+only_block = record { label = 98 ∷ []; some = []; entries = exp ∷ [] }
+
+abbrev pub only_head : Pattern
+only_head = head_pattern (entry_clause only_block [] exp) (of_entry only_block [] exp [] refl)
+
+abbrev pub no_places : NumberedCase
+no_places = record { blocks = []; variables = []; given = []; local = []; family = 0; arguments = [] }
+
+-- There may be a block in the context, so x meets the goal; and there needn't be one, so the goal is no instance of it. It can't be split, and isn't missing.
+abbrev pub NoPlacesAreStuck : Type 0
+NoPlacesAreStuck = NumberedMatchedIs Bare 2 (only_block ∷ []) no_places only_head stuck × ((below : ℕ → ℕ → Bool) → NumberedCoverIs Bare 2 (only_block ∷ []) below (only_head ∷ []) no_places (one_unsplit no_places) × (NumberedCoverIs Bare 2 (only_block ∷ []) below (only_head ∷ []) no_places (one_missing no_places) → ⊥))
+
+-- block {x:exp} {u:{Y:exp -> exp} p (Y x)}, and p b.x for a block variable b: 2 is b.x.
+abbrev pub taking_type : LfType
+taking_type = pi (pi exp exp) (has (root (variable 0) (app (var 1) nil)))
+
+abbrev pub taking_block : Block
+taking_block = record { label = 98 ∷ []; some = []; entries = taking_type ∷ exp ∷ [] }
+
+abbrev pub taking_head : Pattern
+taking_head = head_pattern (entry_clause taking_block (exp ∷ []) taking_type) (of_entry taking_block [] taking_type (exp ∷ []) refl)
+
+abbrev pub taking_case : NumberedCase
+taking_case = record { blocks = record { block = taking_block; terms = nil } ∷ []; variables = []; given = []; local = []; family = 1; arguments = Some (root (constant 2) nil) ∷ [] }
+
+-- An entry is no bound variable for a variable of the clause: Y x doesn't determine Y, so p b.x is no instance of u, though [y] y is a value of Y.
+abbrev pub EntryDeterminesNothing : Type 0
+EntryDeterminesNothing = NumberedMatchedIs Bare 2 (taking_block ∷ []) taking_case taking_head stuck × (NumberedMatchedIs Bare 2 (taking_block ∷ []) taking_case taking_head apart → ⊥)
+
+-- some {f:exp -> exp} block {u:{Z:exp} p (f Z)}, and p N for a block variable b on [x] x.
+abbrev pub moving_type : LfType
+moving_type = pi exp (has (root (variable 1) (app (var 0) nil)))
+
+abbrev pub moving_block : Block
+moving_block = record { label = 98 ∷ []; some = pi exp exp ∷ []; entries = moving_type ∷ [] }
+
+abbrev pub moving_head : Pattern
+moving_head = head_pattern (entry_clause moving_block [] moving_type) (of_entry moving_block [] moving_type [] refl)
+
+abbrev pub moving_case : NumberedCase
+moving_case = record { blocks = record { block = moving_block; terms = app (lambda (var 0)) nil } ∷ []; variables = exp ∷ []; given = []; local = []; family = 1; arguments = Some (var 0) ∷ [] }
+
+-- In the instance of b the entry u is {Z:exp} p Z, and p N would be an instance of that. What is strict is seen in the entry itself, where Z stands in an
+-- argument of the `some` variable f: so p N is none.
+abbrev pub SomeTermsDetermineNothing : Type 0
+SomeTermsDetermineNothing = NumberedMatchedIs Bare 2 (moving_block ∷ []) moving_case moving_head stuck × (NumberedMatchedIs Bare 2 (moving_block ∷ []) moving_case moving_head apart → ⊥)
