@@ -22,12 +22,13 @@ def hanoi(disks, moves):
     return 2 * (2 ** (disks + 1) - 1) + moves * (2**disks - 1)
 
 
-# kind, what it is, its tries by the size, answers and end, what stands in the first column, sizes
+# kind, what it is, its tries by the size, answers and end (or these by the size), what stands in the first column, sizes
 TABLES = [
     ("hanoi", "hanoi with N disks", lambda n: hanoi(n, 6), "1 Exhausted", "tries", (14, 15, 16, 17)),
     ("nrev", "a list of N elements reversed by append", lambda n: (n + 1) * (n + 2), "1 Exhausted", "tries", (200, 400, 800)),
     ("proof", "the same with the proof read, which has some N^3 nodes", lambda n: (n + 1) * (n + 2), "1 Exhausted", "tries", (50, 100, 200)),
     ("loop", "a loop of N calls without choice points", lambda n: n, "0 Budget", "tries", (10000, 40000, 160000)),
+    ("answers", "an enumeration without an end, cut off at N tries", lambda n: n, lambda n: f"{n // 2} Budget", "tries", (10000, 40000, 160000)),
     ("clashes", "hanoi with 10 disks, and N more moves that clash", lambda n: hanoi(10, 6 + n), "1 Exhausted", "tries", (100, 400, 1600)),
     ("families", "hanoi with 10 disks, beside N families with a constant each", lambda n: hanoi(10, 6), "1 Exhausted", "families", (1000, 4000, 16000)),
 ]
@@ -49,7 +50,8 @@ for kind, what, tries, told, first, sizes in TABLES:
     last = None
     for size in sizes:
         built, _ = seconds(kind, size, "build", "built")
-        took, memory = seconds(kind, size, "search", f"{tries(size)} {told}")
+        ended = told(size) if callable(told) else told
+        took, memory = seconds(kind, size, "search", f"{tries(size)} {ended}")
         took = max(took - built, 1e-4)
         shown = tries(size) if first == "tries" else size
         ratio = f"{took / last[0]:15.2f} {shown / last[1]:12.2f}" if last else ""

@@ -72,13 +72,18 @@ pub(crate) fn goal_of(alloc: Global, kind: &str, size: u64) -> Result<String, Al
         "hanoi" => format!(in alloc; "(hanoi (repeat {size} t (s t) z) pa pb pc)"),
         "nrev" | "proof" => format!(in alloc; "(nrev (repeat {size} t (cons z t) nil) R)"),
         "loop" => format!(in alloc; "loop"),
+        "answers" => format!(in alloc; "nat"),
         _ => format!(in alloc; "(hanoi (repeat 10 t (s t) z) pa pb pc)"),
     }
 }
 
-/// How many tries are made at most: the loop has no end.
+/// How many tries are made at most: the loop has no end, nor have the answers, which are all numbers.
 pub(crate) fn budget_of(kind: &str, size: u64) -> u64 {
-    if kind == "loop" { size } else { 1 << 40 }
+    if kind == "loop" || kind == "answers" {
+        size
+    } else {
+        1 << 40
+    }
 }
 
 /// The name of the proof, where it is to be read.
