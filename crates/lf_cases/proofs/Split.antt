@@ -21,7 +21,7 @@ tail_same : {b c : Bool} {xs ys : List Bool} → b ∷ xs ≡ c ∷ ys → xs �
 tail_same e = cc
 
 -- a term is given where one is covered
-given_there : (Ms Ns : List (Option Term)) → covered_places Ns ≡ covered_places Ms → (i : ℕ) (M : Term) → given_at Ms i ≡ Some M → (N : Term) × (given_at Ns i ≡ Some N)
+pub given_there : (Ms Ns : List (Option Term)) → covered_places Ns ≡ covered_places Ms → (i : ℕ) (M : Term) → given_at Ms i ≡ Some M → (N : Term) × (given_at Ns i ≡ Some N)
 given_there [] Ns e i M g = absurd cc
 given_there (Some P ∷ Ms) [] e i M g = absurd cc
 given_there (Some P ∷ Ms) (None ∷ Ns) e i M g = absurd cc
@@ -32,7 +32,7 @@ given_there (None ∷ Ms) (Some Q ∷ Ns) e i M g = absurd cc
 given_there (None ∷ Ms) (None ∷ Ns) e zero M g = absurd cc
 given_there (None ∷ Ms) (None ∷ Ns) e (suc i) M g = given_there Ms Ns (tail_same e) i M g
 
-given_same : (Ns Ms : List (Option Term)) → covered_places Ns ≡ covered_places Ms → (i : ℕ) → is_given Ns i ≡ is_given Ms i
+pub given_same : (Ns Ms : List (Option Term)) → covered_places Ns ≡ covered_places Ms → (i : ℕ) → is_given Ns i ≡ is_given Ms i
 given_same [] [] e i = refl
 given_same [] (Some P ∷ Ms) e i = absurd cc
 given_same [] (None ∷ Ms) e i = absurd cc
@@ -63,9 +63,9 @@ module _ {Σ : Signature} {W : List Block} {S : ℕ → Bool} {G : List LfType} 
     same = c.same;
   }
 
-  -- so it does as of a case that is like it
-  like_covers : (ps : List Pattern) (C D : Case) → IsLike C D → (F : Known) (σ : ℕ → Image) (T : Spine) → OneCovers w ps (covered_places D.arguments) F D.given σ T → OneCovers w ps (covered_places C.arguments) F C.given σ T
-  like_covers ps C D l F σ T (p, m, c) = (p, m, covers_like p (covered_places C.arguments) F C.given D.given σ T l.given (subst (λ b. CoversTuple w p b F D.given σ T) l.places c))
+  -- so it does where the places are those of another case
+  pub one_covers_alike : (ps : List Pattern) (b c : List Bool) (F : Known) (Ms Ns : List (Option Term)) (σ : ℕ → Image) (T : Spine) → c ≡ b → covered_places Ns ≡ covered_places Ms → OneCovers w ps c F Ns σ T → OneCovers w ps b F Ms σ T
+  one_covers_alike ps b c F Ms Ns σ T q e (p, m, k) = (p, m, covers_like p b F Ms Ns σ T e (subst (λ b. CoversTuple w p b F Ns σ T) q k))
 
   pub distinct_without : (I : List Item) (σ : ℕ → Image) (g : IsGroundInstance w I σ) → HasNoBlockVariable I → IsDistinct w I σ g
   distinct_without [] σ g h = tt
@@ -107,7 +107,7 @@ module _ (Σ : Signature) (W : List Block) (S : ℕ → Bool) (ps : List Pattern
 
     one_covered : (C : Case) (Cs : List Case) → ((D : Case) → Rattle.lf.specs.Subordination.Member D Cs → IsLike C D) → AllEnd (IsInstanceCase Σ W S ps) (IsSplit Σ W S) Cs → (Σ' : Signature) → Extends S Σ Σ' → (G : List LfType) (w : World Σ' W S G) (F : Known) (σ : ℕ → Image) (T : Spine) → OneHolds w Cs F σ T → OneCovers w ps (covered_places C.arguments) F C.given σ T
     one_covered C [] l no_case Σ' x G w F σ T h = absurd h
-    one_covered C (D ∷ Ds) l (next_case e a) Σ' x G w F σ T (inl h) = like_covers w ps C D (l D (inl refl)) F σ T (held_covered e Σ' x G w F σ T h)
+    one_covered C (D ∷ Ds) l (next_case e a) Σ' x G w F σ T (inl h) = let k = l D (inl refl) in one_covers_alike w ps (covered_places C.arguments) (covered_places D.arguments) F C.given D.given σ T k.places k.given (held_covered e Σ' x G w F σ T h)
     one_covered C (D ∷ Ds) l (next_case e a) Σ' x G w F σ T (inr h) = one_covered C Ds (λ E m. l E (inr m)) a Σ' x G w F σ T h
 
   pub split_covers : (C : Case) → HasOneBlockVariable C.items → Ends (IsInstanceCase Σ W S ps) (IsSplit Σ W S) C → IsCoveredCase Σ W S ps C

@@ -3,13 +3,11 @@ use Rattle.std.proofs.Common.{◌≡◌, ℕ, zero, suc, ◌+◌, List, [], ◌�
 use Rattle.std.specs.Prelude.{Bool, true, false, cond, Some}
 use Rattle.lf.specs.AtOnce.{shift_by}
 use Rattle.lf.specs.Syntax.{Head, Term, LfType, Kind, pi, atom, skeleton, lift_renaming, rename_type}
-use Rattle.lf.specs.Substitution.{Image, single, reduce}
+use Rattle.lf.specs.Substitution.{single, reduce}
 use Rattle.lf.specs.Typing.{Signature, TypeAt, IsSignature, instantiate_type}
 use Rattle.lf.specs.Variables.{target, binders, FamiliesIn}
 use Rattle.lf.specs.Subordination.{Block, Member, AreTypedBlocks, IsBelowTest, SelfContained}
-use Rattle.lf.specs.Worlds.{lift_over, instance}
 use Rattle.lf.proofs.Strength.{families_renamed, families_substituted, family_target}
-use Rattle.lf.proofs.Target.{target_of}
 use Rattle.lf_unification.specs.Dependency.{free_context}
 use Rattle.lf_unification.specs.OpenTyping.{skeletons_of}
 use Rattle.lf_cases.specs.Case.{Item, free_variable, Case, items_context}
@@ -20,7 +18,7 @@ use Rattle.lf_checks.specs.Ground.{UsesGoal}
 use Rattle.lf_checks.specs.Marks.{Mark, HasSoundMarks, NoneFree, input_places}
 use Rattle.lf_cases.specs.Raised.{raise_by, first_mask, other_masks}
 use Rattle.lf_cases.specs.Reached.{SplitHead, constant_head, bound_head, entry_head, new_entry_head, arguments_count, head_items, head_masks, taken, split_items}
-use Rattle.lf_cases.specs.Split.{Ends, HasNoBlockVariable, HasOneBlockVariable, IsSplit}
+use Rattle.lf_cases.specs.Split.{Ends, HasNoBlockVariable, IsSplit}
 use Rattle.lf_cases.proofs.Subordinate.{below_is_subordination}
 use Rattle.lf_coverage.specs.Calls.{IsBeside, LocalsIn, PlacesIn}
 use Rattle.lf_coverage.specs.CandidateRuns.{within, RefutesCandidate, CandidateRunCoversBeside, CandidateRunCoversClosed, CandidateRunCovers, ClosedSetsAreWithin, CandidateRunCoversOutputs, CandidateRunAnswersOutputs}
@@ -35,9 +33,11 @@ use Rattle.lf_coverage.specs.UnifiedSplit.{HeadIsAnswered}
 use Rattle.lf_coverage.proofs.CandidateRuns.{candidate_is_in_set}
 use Rattle.lf_coverage.proofs.Everywhere.{of_families, metavariables_have}
 use Rattle.lf_coverage.proofs.Families.{all_binders, all_renumbered, raised_families}
+use Rattle.lf_coverage.proofs.GoalItems.{one_without}
 use Rattle.lf_coverage.proofs.HeadSplit.{heads_split, split_cases_typed}
 use Rattle.lf_coverage.proofs.Listed.{offer_of_case}
 use Rattle.lf_coverage.proofs.Leaves.{leaf_is_instance, subgoal_is_typed}
+use Rattle.lf_coverage.proofs.LocalsInSet.{locals_put}
 use Rattle.lf_coverage.proofs.OutputBeside.{output_goal_is_typed}
 use Rattle.lf_coverage.proofs.OutputTyped.{output_goal_is_typed_case}
 use Rattle.lf_coverage.proofs.SubordinateItems.{outputs_quantify_below}
@@ -75,10 +75,6 @@ module _ (S : ℕ → Bool) where
       let X : LfType = raise_by (first_mask ks) D A in
       head_within (other_masks ks) (renumber suc D) n (instantiate_type A N (rename_type ρ B)) (free_variable X ∷ I) (all_renumbered S suc D d) (families_substituted S reduce (single (skeleton A) N) (rename_type ρ B) (families_renamed S ρ B b)) (within_of_families X (raised_families S (first_mask ks) D A d a), i)
 
-  locals_instance : (L : List LfType) (σ : ℕ → Image) → LocalsIn S L → LocalsIn S (instance L σ)
-  locals_instance [] σ l = tt
-  locals_instance (A ∷ L) σ (a, l) = ((λ s. families_substituted S reduce (lift_over L σ) A (a (ap S (sym (target_of reduce (lift_over L σ) A)) ∙ s))), locals_instance L σ l)
-
   module _ (Σ : Signature) (W : List Block) (sc : SelfContained Σ W S) (I : List Item) (q : AllQuantifiersAreBelow (within S) (items_context I)) (x : ℕ) (X : LfType) (at : TypeAt (items_context I) x X) (fx : FamiliesIn S X) where
     head_type : (J : List Item) (n : ℕ) (h : Head) (A : LfType) → SplitHead Σ W I X J n h A → HasNoBlockVariable J → FamiliesIn S A × AllQuantifiersAreBelow (within S) (items_context J)
     head_type _ _ _ A (constant_head k U e t) n = (sc.types_in k U e (ap S t ∙ family_target S X fx), q)
@@ -91,11 +87,6 @@ module _ (S : ℕ → Bool) where
         let (a, j) = head_type J n h A sh nj in
         let Y : LfType = rename_type (shift_by n) X in
         head_within (head_masks below (taken Y) (arguments_count A) A) (taken Y) (arguments_count A) A J (all_binders S [] Y tt (families_renamed S (shift_by n) X fx)) a j
-
-one_without : (I : List Item) → HasNoBlockVariable I → HasOneBlockVariable I
-one_without [] n = tt
-one_without (free_variable A ∷ I) n = one_without I n
-one_without (Rattle.lf_cases.specs.Case.block_variable B υ ∷ I) n = absurd n
 
 -- what a run keeps, beside a set
 record Kept (Σ : Signature) (W : List Block) (below : ℕ → ℕ → Bool) (ps : List Pattern) (S : ℕ → Bool) (C : Case) : Type 0 where
@@ -132,7 +123,7 @@ module _ (Σ : Signature) (ok : IsSignature Σ) (W : List Block) (typed : AreTyp
               let g : AllQuantifiersAreBelow (within S) G = split_within S Σ W k.is_beside.self_contained C.items k.are_within x sp.answered.type at fx below h.items h.moved h.head h.type sh a.no_block in
               let n : ℕ = h.moved + arguments_count h.type in
               subst (λ E. HasNoBlockVariable E.items × AllQuantifiersAreBelow (within S) (items_context E.items) × LocalsIn S E.local) (sym e)
-              (free_without (free_context (skeletons_of after.metavariables) s.well_formed.order), solved_quantifies_below Σ (within S) (split_store below x sp.answered.type h.items h.moved h.head h.type a.kind) after (λ j A z. from_everywhere (within S) A (metavariables_have (BelowEverywhere (within S)) (of_families (λ b a. within S b a ≡ true) (λ a. Unit {0})) G (all_everywhere (within S) G g) j A z)) s C n, locals_instance S C.local (λ i. answer_values after s.well_formed.order (i + n)) k.is_beside.locals)
+              (free_without (free_context (skeletons_of after.metavariables) s.well_formed.order), solved_quantifies_below Σ (within S) (split_store below x sp.answered.type h.items h.moved h.head h.type a.kind) after (λ j A z. from_everywhere (within S) A (metavariables_have (BelowEverywhere (within S)) (of_families (λ b a. within S b a ≡ true) (λ a. Unit {0})) G (all_everywhere (within S) G g) j A z)) s C n, locals_put S C.local (λ i. answer_values after s.well_formed.order (i + n)) k.is_beside.locals)
 
       kept : (D : Case) → Member D Cs → Kept Σ W below ps S D
       kept D d =

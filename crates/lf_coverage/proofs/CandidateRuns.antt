@@ -22,7 +22,9 @@ use Rattle.lf_coverage.specs.Calls.{LocalsIn, PlacesIn}
 use Rattle.lf_coverage.specs.CandidateRuns.{CandidateIsInSet}
 use Rattle.lf_coverage.specs.Heads.{HaveSkeletons}
 use Rattle.lf_coverage.specs.TypedCase.{TypedArguments, given_values}
-use Rattle.lf_coverage.proofs.Candidates.{AllIn, all_then, all_chosen, all_none, all_counted, all_once, hide_same}
+use Rattle.lf_coverage.proofs.Candidates.{hide_same}
+use Rattle.lf_coverage.proofs.EachCandidate.{Each, each_chosen, each_counted, each_none, each_then, of_each_once}
+use Rattle.lf_coverage.proofs.Parts.{some_same}
 use Rattle.lf_coverage.proofs.Strip.{in_set}
 
 in_set_at : (S : ℕ → Bool) (G : List LfType) (i : ℕ) (A : LfType) → TypeAt G i A → in_set S G i ≡ true → S (target A) ≡ true
@@ -31,6 +33,9 @@ in_set_at S (X ∷ G) zero A g e = ap S (ap target g ∙ target_renamed suc X) �
 in_set_at S (X ∷ G) (suc i) A (B, g, q) e = ap S (ap target q ∙ target_renamed suc B) ∙ in_set_at S G i B g e
 
 module _ (Σ : Signature) (W : List Block) (S : ℕ → Bool) (sc : SelfContained Σ W S) (V : ℕ → Bool) where
+  abbrev Chosen : ℕ → Type 0
+  Chosen x = V x ≡ true
+
   -- The variables in F under n binders are, where their families are in S, those of V outside them; the others that a term may have take families of S.
   abbrev Known : (ℕ → Bool) → ℕ → List LfType → Type 0
   Known F n G = (i : ℕ) (A : LfType) → TypeAt G i A → F i ≡ true → (x : ℕ) → lower n i ≡ Some x → S (target A) ≡ true → V x ≡ true
@@ -47,32 +52,32 @@ module _ (Σ : Signature) (W : List Block) (S : ℕ → Bool) (sc : SelfContaine
   other_under F G Γ X a k h (suc i) A (B, g, q) f t u s = subst (FamiliesIn S) (sym q) (families_renamed S suc B (h i B g f t u (ap S (sym (ap target q ∙ target_renamed suc B)) ∙ s)))
 
   mutual
-    from_term : (B F P : ℕ → Bool) (n : ℕ) (G : List LfType) (Γ : List Skeleton) → Known F n G → Other F G Γ → (M N : Term) (A : LfType) (t : Skeleton) → FamiliesIn S A → HasType Σ G M A → TermSkeleton (constant_skeletons Σ) Γ M t → AllIn V (candidates B F P n M N)
+    from_term : (B F P : ℕ → Bool) (n : ℕ) (G : List LfType) (Γ : List Skeleton) → Known F n G → Other F G Γ → (M N : Term) (A : LfType) (t : Skeleton) → FamiliesIn S A → HasType Σ G M A → TermSkeleton (constant_skeletons Σ) Γ M t → Each Chosen (candidates B F P n M N)
     from_term B F P n G Γ k o (lambda M) (lambda N) (pi A C) (arrow a b) (f, g) m s = from_term (under B) (hide F) (hide P) (suc n) (A ∷ G) (a ∷ Γ) (known_under F n G A k) (other_under F G Γ A a (λ e. f) o) M N C b g m s
     from_term B F P n G Γ k o (lambda M) (lambda N) (pi A C) (base a) f m s = absurd s
     from_term B F P n G Γ k o (lambda M) (lambda N) (atom a U) t f m s = absurd m
-    from_term B F P n G Γ k o (lambda M) (root g T) A t f m s = all_none V
-    from_term B F P n G Γ k o (root g S0) (lambda N) A t f m s = all_none V
+    from_term B F P n G Γ k o (lambda M) (root g T) A t f m s = each_none Chosen
+    from_term B F P n G Γ k o (root g S0) (lambda N) A t f m s = each_none Chosen
     from_term B F P n G Γ k o (root h S0) (root g T) (pi A C) t f m s = absurd m
     from_term B F P n G Γ k o (root h S0) (root g T) (atom a U) (arrow b c) f m s = absurd s
     from_term B F P n G Γ k o (root (constant c) S0) (root g T) (atom a U) (base d) f (Y, h, m) (t, e, s) =
-        all_chosen V (is_rigid P g) (candidates_spine B F P n S0 T) [] (λ q. from_spine B F P n G Γ k o S0 T Y (atom a U) t (base d) (sc.types_in c Y h (ap S (spine_target Σ G S0 Y (atom a U) m) ∙ f)) m s) (λ q. all_none V)
-    from_term B F P n G Γ k o (root (metavariable c) S0) (root g T) (atom a U) (base d) f m s = all_none V
+        each_chosen Chosen (is_rigid P g) (candidates_spine B F P n S0 T) [] (λ q. from_spine B F P n G Γ k o S0 T Y (atom a U) t (base d) (sc.types_in c Y h (ap S (spine_target Σ G S0 Y (atom a U) m) ∙ f)) m s) (λ q. each_none Chosen)
+    from_term B F P n G Γ k o (root (metavariable c) S0) (root g T) (atom a U) (base d) f m s = each_none Chosen
     from_term B F P n G Γ k o (root (variable i) S0) (root g T) (atom a U) (base d) f (Y, h, m) (t, e, s) =
         let y : S (target Y) ≡ true = ap S (spine_target Σ G S0 Y (atom a U) m) ∙ f in
-        all_chosen V (is_rigid P g) (cond (F i) (counted (pattern_arguments B [] S0) (lower n i)) (candidates_spine B F P n S0 T)) []
-        (λ q. all_chosen V (F i) (counted (pattern_arguments B [] S0) (lower n i)) (candidates_spine B F P n S0 T)
-        (λ r. all_counted V (pattern_arguments B [] S0) (lower n i) (λ x z. k i Y h r x z y))
+        each_chosen Chosen (is_rigid P g) (cond (F i) (counted (pattern_arguments B [] S0) (lower n i)) (candidates_spine B F P n S0 T)) []
+        (λ q. each_chosen Chosen (F i) (counted (pattern_arguments B [] S0) (lower n i)) (candidates_spine B F P n S0 T)
+        (λ r. each_counted Chosen (pattern_arguments B [] S0) (lower n i) (λ y0 x z. k i Y h r x z y))
         (λ r. from_spine B F P n G Γ k o S0 T Y (atom a U) t (base d) (o i Y h r t e y) m s))
-        (λ q. all_none V)
+        (λ q. each_none Chosen)
 
-    from_spine : (B F P : ℕ → Bool) (n : ℕ) (G : List LfType) (Γ : List Skeleton) → Known F n G → Other F G Γ → (S0 T : Spine) (Y C : LfType) (t u : Skeleton) → FamiliesIn S Y → SpineType Σ G S0 Y C → SpineSkeleton (constant_skeletons Σ) Γ S0 t u → AllIn V (candidates_spine B F P n S0 T)
-    from_spine B F P n G Γ k o nil T Y C t u f m s = all_none V
-    from_spine B F P n G Γ k o (app M S0) nil Y C t u f m s = all_none V
+    from_spine : (B F P : ℕ → Bool) (n : ℕ) (G : List LfType) (Γ : List Skeleton) → Known F n G → Other F G Γ → (S0 T : Spine) (Y C : LfType) (t u : Skeleton) → FamiliesIn S Y → SpineType Σ G S0 Y C → SpineSkeleton (constant_skeletons Σ) Γ S0 t u → Each Chosen (candidates_spine B F P n S0 T)
+    from_spine B F P n G Γ k o nil T Y C t u f m s = each_none Chosen
+    from_spine B F P n G Γ k o (app M S0) nil Y C t u f m s = each_none Chosen
     from_spine B F P n G Γ k o (app M S0) (app N T) (atom a U) C t u f m s = absurd m
     from_spine B F P n G Γ k o (app M S0) (app N T) (pi A Y) C (base a) u f m s = absurd s
     from_spine B F P n G Γ k o (app M S0) (app N T) (pi A Y) C (arrow a b) u (f, g) (m, ms) (s, ss) =
-        all_then V (candidates B F P n M N) (candidates_spine B F P n S0 T) (from_term B F P n G Γ k o M N A a f m s) (from_spine B F P n G Γ k o S0 T (instantiate_type A M Y) C b u (families_substituted S reduce (single (skeleton A) M) Y g) ms ss)
+        each_then Chosen (candidates B F P n M N) (candidates_spine B F P n S0 T) (from_term B F P n G Γ k o M N A a f m s) (from_spine B F P n G Γ k o S0 T (instantiate_type A M Y) C b u (families_substituted S reduce (single (skeleton A) M) Y g) ms ss)
 
   places_substituted : (bs : List Bool) (σ : ℕ → Image) (K : Kind) → PlacesIn S bs K → PlacesIn S bs (substitute_kind reduce σ K)
   places_substituted [] σ K p = tt
@@ -80,12 +85,12 @@ module _ (Σ : Signature) (W : List Block) (S : ℕ → Bool) (sc : SelfContaine
   places_substituted (true ∷ bs) σ (kind_pi A K) (a, p) = (families_substituted S reduce σ A a, places_substituted bs (lift σ) K p)
   places_substituted (false ∷ bs) σ (kind_pi A K) p = places_substituted bs (lift σ) K p
 
-  from_arguments : (B F P : ℕ → Bool) (n : ℕ) (G : List LfType) (Γ : List Skeleton) → Known F n G → Other F G Γ → (Ms : List (Option Term)) (T : Spine) (K : Kind) → PlacesIn S (covered_places Ms) K → TypedArguments Σ G Ms T K → HaveSkeletons (constant_skeletons Σ) Γ Ms → AllIn V (candidates_at B F P n Ms T)
-  from_arguments B F P n G Γ k o [] T K p t h = all_none V
-  from_arguments B F P n G Γ k o (M ∷ Ms) nil K p t h = all_none V
+  from_arguments : (B F P : ℕ → Bool) (n : ℕ) (G : List LfType) (Γ : List Skeleton) → Known F n G → Other F G Γ → (Ms : List (Option Term)) (T : Spine) (K : Kind) → PlacesIn S (covered_places Ms) K → TypedArguments Σ G Ms T K → HaveSkeletons (constant_skeletons Σ) Γ Ms → Each Chosen (candidates_at B F P n Ms T)
+  from_arguments B F P n G Γ k o [] T K p t h = each_none Chosen
+  from_arguments B F P n G Γ k o (M ∷ Ms) nil K p t h = each_none Chosen
   from_arguments B F P n G Γ k o (M ∷ Ms) (app N T) star p t h = absurd t
   from_arguments B F P n G Γ k o (Some M ∷ Ms) (app N T) (kind_pi A K) (a, p) (m, t) ((u, s), h) =
-      all_then V (candidates B F P n M N) (candidates_at B F P n Ms T) (from_term B F P n G Γ k o M N A u a m s) (from_arguments B F P n G Γ k o Ms T (instantiate_kind A M K) (places_substituted (covered_places Ms) (single (skeleton A) M) K p) t h)
+      each_then Chosen (candidates B F P n M N) (candidates_at B F P n Ms T) (from_term B F P n G Γ k o M N A u a m s) (from_arguments B F P n G Γ k o Ms T (instantiate_kind A M K) (places_substituted (covered_places Ms) (single (skeleton A) M) K p) t h)
   from_arguments B F P n G Γ k o (None ∷ Ms) (app N T) (kind_pi A K) p t h = from_arguments B F P n G Γ k o Ms T (instantiate_kind A N K) (places_substituted (covered_places Ms) (single (skeleton A) N) K p) t h
 
   -- under a local context
@@ -126,11 +131,5 @@ candidate_is_in_set Σ W S C p tb nb b x m X at =
     let o : Other Σ W S b.self_contained V (hide_all D F) (onto L (onto O Z)) (context_skeletons (onto L O)) = λ i A g f t u s. o0 i A g (sym (hide_same D θ F i) ∙ f) t u s in
     let h : HaveSkeletons (constant_skeletons Σ) (context_skeletons (onto L O)) C.arguments = subst (λ E. HaveSkeletons (constant_skeletons Σ) (context_skeletons (onto E O)) C.arguments) tb.local tb.by_skeletons.arguments in
     let t : TypedArguments Σ (onto L (onto O Z)) C.arguments T tb.kind = subst (λ E. TypedArguments Σ (onto E (onto O Z)) C.arguments T tb.kind) tb.local tb.arguments in
-    let q : PlacesIn S (covered_places C.arguments) tb.kind = subst (PlacesIn S (covered_places C.arguments)) (same_kind (sym b.of_family ∙ tb.of_family)) b.places in
-    in_set_at S O x X at (all_once V [] (candidates_at (under_all D nothing) (hide_all D F) P (length D) C.arguments T) (from_arguments Σ W S b.self_contained V (under_all D nothing) (hide_all D F) P (length D) (onto L (onto O Z)) (context_skeletons (onto L O)) k o C.arguments T tb.kind q t h) x m)
-  where
-    some_same : {i j : ℕ} → Some i ≡ Some j → i ≡ j
-    some_same e = cc
-
-    same_kind : {K L : Kind} → Some K ≡ Some L → K ≡ L
-    same_kind e = cc
+    let q : PlacesIn S (covered_places C.arguments) tb.kind = subst (PlacesIn S (covered_places C.arguments)) (some_same (sym b.of_family ∙ tb.of_family)) b.places in
+    in_set_at S O x X at (of_each_once (λ y. V y ≡ true) [] (candidates_at (under_all D nothing) (hide_all D F) P (length D) C.arguments T) (from_arguments Σ W S b.self_contained V (under_all D nothing) (hide_all D F) P (length D) (onto L (onto O Z)) (context_skeletons (onto L O)) k o C.arguments T tb.kind q t h) x m)

@@ -1,17 +1,16 @@
 -- A candidate is one of the free variables of its case.
-use Rattle.std.proofs.Common.{◌≡◌, ℕ, zero, suc, List, [], ◌∷◌, length, inl, inr, refl, sym, subst}
-use Rattle.std.specs.Prelude.{Bool, true, false, cond, Option, Some, None}
+use Rattle.std.proofs.Common.{◌≡◌, ℕ, zero, suc, List, [], ◌∷◌, length, refl, subst}
+use Rattle.std.specs.Prelude.{Bool, true, cond, Option, Some, None}
 use Rattle.lf.specs.Syntax.{constant, variable, metavariable, Term, Spine, lambda, root, nil, app, LfType, weaken}
 use Rattle.lf.specs.Substitution.{Image}
 use Rattle.lf.specs.Typing.{TypeAt}
 use Rattle.lf.specs.Variables.{binders, target_arguments, hide, onto, under, nothing}
-use Rattle.lf.specs.Subordination.{Member}
 use Rattle.lf.specs.Worlds.{instance, under_all}
 use Rattle.lf_checks.specs.Strict.{lower, pattern_arguments}
-use Rattle.lf_checks.specs.Tests.{is_in}
 use Rattle.lf_cases.specs.Case.{Item, free_variable, block_variable, items_context}
-use Rattle.lf_cases.specs.Candidates.{candidates, candidates_spine, candidates_at, counted, each_once, flexible, free_among, hide_all, is_rigid, beside_set, then, with_given}
+use Rattle.lf_cases.specs.Candidates.{candidates, candidates_spine, candidates_at, counted, flexible, free_among, hide_all, is_rigid, beside_set, with_given}
 use Rattle.lf_coverage.specs.RunLaws.{CandidateIsVariable}
+use Rattle.lf_coverage.proofs.EachCandidate.{Each, each_chosen, each_counted, each_none, each_then, of_each_once}
 use Rattle.lf_coverage.proofs.Parts.{some_same}
 
 -- The variables in F under n binders are those of V outside them.
@@ -26,57 +25,30 @@ outside_all : (D : List LfType) (V : ℕ → Bool) → Outside (hide_all D V) (l
 outside_all [] V i x f e = subst (λ j. V j ≡ true) (some_same e) f
 outside_all (A ∷ D) V i x f e = outside_under (hide_all D V) (length D) V (outside_all D V) i x f e
 
--- each of the list is in V
-abbrev pub AllIn : (ℕ → Bool) → List ℕ → Type 0
-AllIn V xs = (x : ℕ) → Member x xs → V x ≡ true
-
-pub all_then : (V : ℕ → Bool) (xs ys : List ℕ) → AllIn V xs → AllIn V ys → AllIn V (then xs ys)
-all_then V [] ys h k x m = k x m
-all_then V (z ∷ xs) ys h k x (inl e) = h x (inl e)
-all_then V (z ∷ xs) ys h k x (inr m) = all_then V xs ys (λ y n. h y (inr n)) k x m
-
-pub all_chosen : (V : ℕ → Bool) (b : Bool) (xs ys : List ℕ) → (b ≡ true → AllIn V xs) → (b ≡ false → AllIn V ys) → AllIn V (cond b xs ys)
-all_chosen V true xs ys h k = h refl
-all_chosen V false xs ys h k = k refl
-
-pub all_none : (V : ℕ → Bool) → AllIn V []
-all_none V x m = absurd m
-
-pub all_counted : (V : ℕ → Bool) (b : Bool) (y : Option ℕ) → ((x : ℕ) → y ≡ Some x → V x ≡ true) → AllIn V (counted b y)
-all_counted V true (Some y) h x (inl e) = subst (λ z. V z ≡ true) (sym e) (h y refl)
-all_counted V true (Some y) h x (inr m) = absurd m
-all_counted V true None h x m = absurd m
-all_counted V false y h x m = absurd m
-
 module _ (V : ℕ → Bool) where
+  abbrev Chosen : ℕ → Type 0
+  Chosen x = V x ≡ true
+
   mutual
-    all_candidates : (B F P : ℕ → Bool) (n : ℕ) → Outside F n V → (M N : Term) → AllIn V (candidates B F P n M N)
+    all_candidates : (B F P : ℕ → Bool) (n : ℕ) → Outside F n V → (M N : Term) → Each Chosen (candidates B F P n M N)
     all_candidates B F P n h (lambda M) (lambda N) = all_candidates (under B) (hide F) (hide P) (suc n) (outside_under F n V h) M N
-    all_candidates B F P n h (lambda M) (root g T) = all_none V
-    all_candidates B F P n h (root g S) (lambda N) = all_none V
-    all_candidates B F P n h (root (constant c) S) (root g T) = all_chosen V (is_rigid P g) (candidates_spine B F P n S T) [] (λ e. all_candidates_spine B F P n h S T) (λ e. all_none V)
-    all_candidates B F P n h (root (metavariable m) S) (root g T) = all_none V
-    all_candidates B F P n h (root (variable i) S) (root g T) = all_chosen V (is_rigid P g) (cond (F i) (counted (pattern_arguments B [] S) (lower n i)) (candidates_spine B F P n S T)) [] (λ e. all_chosen V (F i) (counted (pattern_arguments B [] S) (lower n i)) (candidates_spine B F P n S T) (λ f. all_counted V (pattern_arguments B [] S) (lower n i) (λ x q. h i x f q)) (λ f. all_candidates_spine B F P n h S T)) (λ e. all_none V)
+    all_candidates B F P n h (lambda M) (root g T) = each_none Chosen
+    all_candidates B F P n h (root g S) (lambda N) = each_none Chosen
+    all_candidates B F P n h (root (constant c) S) (root g T) = each_chosen Chosen (is_rigid P g) (candidates_spine B F P n S T) [] (λ e. all_candidates_spine B F P n h S T) (λ e. each_none Chosen)
+    all_candidates B F P n h (root (metavariable m) S) (root g T) = each_none Chosen
+    all_candidates B F P n h (root (variable i) S) (root g T) = each_chosen Chosen (is_rigid P g) (cond (F i) (counted (pattern_arguments B [] S) (lower n i)) (candidates_spine B F P n S T)) [] (λ e. each_chosen Chosen (F i) (counted (pattern_arguments B [] S) (lower n i)) (candidates_spine B F P n S T) (λ f. each_counted Chosen (pattern_arguments B [] S) (lower n i) (λ z x q. h i x f q)) (λ f. all_candidates_spine B F P n h S T)) (λ e. each_none Chosen)
 
-    all_candidates_spine : (B F P : ℕ → Bool) (n : ℕ) → Outside F n V → (S T : Spine) → AllIn V (candidates_spine B F P n S T)
-    all_candidates_spine B F P n h nil T = all_none V
-    all_candidates_spine B F P n h (app M S) nil = all_none V
-    all_candidates_spine B F P n h (app M S) (app N T) = all_then V (candidates B F P n M N) (candidates_spine B F P n S T) (all_candidates B F P n h M N) (all_candidates_spine B F P n h S T)
+    all_candidates_spine : (B F P : ℕ → Bool) (n : ℕ) → Outside F n V → (S T : Spine) → Each Chosen (candidates_spine B F P n S T)
+    all_candidates_spine B F P n h nil T = each_none Chosen
+    all_candidates_spine B F P n h (app M S) nil = each_none Chosen
+    all_candidates_spine B F P n h (app M S) (app N T) = each_then Chosen (candidates B F P n M N) (candidates_spine B F P n S T) (all_candidates B F P n h M N) (all_candidates_spine B F P n h S T)
 
-  all_candidates_at : (B F P : ℕ → Bool) (n : ℕ) → Outside F n V → (Ms : List (Option Term)) (T : Spine) → AllIn V (candidates_at B F P n Ms T)
-  all_candidates_at B F P n h [] T = all_none V
-  all_candidates_at B F P n h (Some M ∷ Ms) nil = all_none V
-  all_candidates_at B F P n h (None ∷ Ms) nil = all_none V
-  all_candidates_at B F P n h (Some M ∷ Ms) (app N T) = all_then V (candidates B F P n M N) (candidates_at B F P n Ms T) (all_candidates B F P n h M N) (all_candidates_at B F P n h Ms T)
+  all_candidates_at : (B F P : ℕ → Bool) (n : ℕ) → Outside F n V → (Ms : List (Option Term)) (T : Spine) → Each Chosen (candidates_at B F P n Ms T)
+  all_candidates_at B F P n h [] T = each_none Chosen
+  all_candidates_at B F P n h (Some M ∷ Ms) nil = each_none Chosen
+  all_candidates_at B F P n h (None ∷ Ms) nil = each_none Chosen
+  all_candidates_at B F P n h (Some M ∷ Ms) (app N T) = each_then Chosen (candidates B F P n M N) (candidates_at B F P n Ms T) (all_candidates B F P n h M N) (all_candidates_at B F P n h Ms T)
   all_candidates_at B F P n h (None ∷ Ms) (app N T) = all_candidates_at B F P n h Ms T
-
-  all_first : (y : ℕ) (xs : List ℕ) → V y ≡ true → AllIn V xs → AllIn V (y ∷ xs)
-  all_first y xs e h x (inl q) = subst (λ z. V z ≡ true) (sym q) e
-  all_first y xs e h x (inr m) = h x m
-
-  pub all_once : (seen xs : List ℕ) → AllIn V xs → AllIn V (each_once seen xs)
-  all_once seen [] h = all_none V
-  all_once seen (y ∷ xs) h = all_chosen V (is_in y seen) (each_once seen xs) (y ∷ each_once (y ∷ seen) xs) (λ e. all_once seen xs (λ x m. h x (inr m))) (λ e. all_first y (each_once (y ∷ seen) xs) (h y (inl refl)) (all_once (y ∷ seen) xs (λ z n. h z (inr n))))
 
 -- a free variable has a type
 type_behind : (D G : List LfType) (V : ℕ → Bool) → ((i : ℕ) → V i ≡ true → (X : LfType) × TypeAt G i X) → (i : ℕ) → hide_all D V i ≡ true → (X : LfType) × TypeAt (onto D G) i X
@@ -100,5 +72,5 @@ candidate_is_variable C p x m =
     let D : List LfType = binders [] p.type in
     let V : ℕ → Bool = free_among C.items in
     let P : ℕ → Bool = hide_all D (beside_set (length (items_context C.items)) V (flexible p.clause)) in
-    let e : V x ≡ true = all_once V [] (candidates_at (under_all D nothing) (hide_all D V) P (length D) C.arguments (with_given C p.clause D (target_arguments p.type))) (all_candidates_at V (under_all D nothing) (hide_all D V) P (length D) (outside_all D V) C.arguments (with_given C p.clause D (target_arguments p.type))) x m in
+    let e : V x ≡ true = of_each_once (λ x. free_among C.items x ≡ true) [] (candidates_at (under_all D nothing) (hide_all D V) P (length D) C.arguments (with_given C p.clause D (target_arguments p.type))) (all_candidates_at V (under_all D nothing) (hide_all D V) P (length D) (outside_all D V) C.arguments (with_given C p.clause D (target_arguments p.type))) x m in
     (e, free_has_type C.items x e)

@@ -8,7 +8,7 @@ use Rattle.lf.proofs.Strength.{families_renamed}
 use Rattle.lf_checks.specs.Below.{IsSubordination}
 use Rattle.lf_cases.specs.Case.{Item, free_variable, Case, items_context, covered_places, goal_items, goal_arguments, input_goal, past_place}
 use Rattle.lf_cases.specs.Reached.{SplitHead, arguments_count, split_items}
-use Rattle.lf_cases.specs.Split.{HasNoBlockVariable, HasOneBlockVariable}
+use Rattle.lf_cases.specs.Split.{HasNoBlockVariable}
 use Rattle.lf_coverage.specs.Calls.{AreCasesBesideAll, HeadGives, PlacesIn}
 use Rattle.lf_coverage.specs.HeadOrder.{Offer}
 use Rattle.lf_coverage.specs.Heads.{IsSplitBelow, IsHeadSplit, IsTypedCase}
@@ -16,6 +16,7 @@ use Rattle.lf_coverage.specs.RunLaws.{SolvedSplitIsUnified, SolvedSplitIsAnswer,
 use Rattle.lf_coverage.specs.SplitStore.{split_store, AllFamiliesIn}
 use Rattle.lf_coverage.specs.UnifiedSplit.{HeadIsAnswered, IsAnsweredSplit, IsSolvedSplit, IsUnifiedSplit, SolvesEachHead, SplitsByUnification, UnifierAnswer}
 use Rattle.lf_coverage.proofs.Families.{split_items_keep_families, solved_keeps_families, store_families}
+use Rattle.lf_coverage.proofs.GoalItems.{one_without}
 use Rattle.lf_coverage.proofs.HeadSplit.{answered_by, heads_split, split_cases_typed}
 use Rattle.lf_coverage.proofs.Listed.{offer_of_case}
 use Rattle.lf_coverage.proofs.Leaves.{leaves_cover}
@@ -91,8 +92,3 @@ pub solved_run_covers_inputs : SolvedRunCoversInputs
 solved_run_covers_inputs Σ ok W typed below s ps a m K e c r =
     let (t, l, n) = input_goal_is_typed_case Σ ok W typed a m K e c in
     solved_run_covers Σ ok W typed below s ps (input_goal a m K) (one_without (input_goal a m K).items n) t (λ S b. goal_families S m K (λ i. i) [] (subst (PlacesIn S (covered_places (goal_arguments m K))) (some_same (sym b.of_family ∙ e)) b.places) tt) r
-  where
-    one_without : (I : List Item) → HasNoBlockVariable I → HasOneBlockVariable I
-    one_without [] n = tt
-    one_without (free_variable A ∷ I) n = one_without I n
-    one_without (Rattle.lf_cases.specs.Case.block_variable B υ ∷ I) n = absurd n

@@ -1,9 +1,9 @@
 -- Runs at candidates from the goal of the outputs of a constant's subgoal give what totality asks of it.
-use Rattle.std.proofs.Common.{ℕ, ◌+◌, List, [], ◌∷◌}
-use Rattle.std.specs.Prelude.{Bool, true, false}
-use Rattle.lf.specs.Syntax.{LfType, Kind, kind_pi, star}
+use Rattle.std.proofs.Common.{ℕ, ◌+◌, [], ◌∷◌}
+use Rattle.std.specs.Prelude.{Bool}
+use Rattle.lf.specs.Syntax.{LfType}
 use Rattle.lf.specs.Typing.{Signature}
-use Rattle.lf.specs.Variables.{target, binders, FamiliesIn, KindFamiliesIn}
+use Rattle.lf.specs.Variables.{target, binders, FamiliesIn}
 use Rattle.lf.specs.Subordination.{SelfContained}
 use Rattle.lf.proofs.Strength.{family_target}
 use Rattle.lf_checks.specs.Below.{IsSubordination}
@@ -14,26 +14,14 @@ use Rattle.lf_cases.specs.Pattern.{of_constant, subgoal_pattern}
 use Rattle.lf_cases.proofs.Subordinate.{below_is_subordination, kind_places_below}
 use Rattle.lf_checks.specs.Marks.{output_places}
 use Rattle.lf_totality.proofs.OutputGoals.{constant_goal_covers}
-use Rattle.lf_coverage.specs.Calls.{LocalsIn, PlacesIn}
 use Rattle.lf_coverage.specs.CoveredOutputRuns.{OutputGoalIsBeside, OutputPlacesAreBelow, CandidateRunGivesOutputs, CandidateRunGivesOwnOutputs, FoundRunGivesOutputs}
-use Rattle.lf_coverage.specs.SplitStore.{AllFamiliesIn}
 use Rattle.lf_coverage.proofs.CandidateRunCovers.{candidate_run_covers_outputs}
 use Rattle.lf_coverage.proofs.Families.{all_binders, all_renumbered}
+use Rattle.lf_coverage.proofs.LocalsInSet.{locals_in, places_in}
 use Rattle.lf_coverage.proofs.OutputBeside.{output_goal_is_typed}
 use Rattle.lf_coverage.proofs.RefutingNumbers.{found_run_is_refuted}
 use Rattle.lf_coverage.proofs.StoreSolution.{families_at}
 use Rattle.lf_coverage.proofs.SubordinateRaised.{target_declared}
-
-module _ (S : ℕ → Bool) where
-  places_in : (bs : List Bool) (K : Kind) → KindFamiliesIn S K → PlacesIn S bs K
-  places_in [] K k = tt
-  places_in (b ∷ bs) star k = tt
-  places_in (true ∷ bs) (kind_pi A K) (a, k) = (a, places_in bs K k)
-  places_in (false ∷ bs) (kind_pi A K) (a, k) = places_in bs K k
-
-  locals_in : (D : List LfType) → AllFamiliesIn S D → LocalsIn S D
-  locals_in [] d = tt
-  locals_in (A ∷ D) (a, d) = ((λ s. a), locals_in D d)
 
 -- the families in the type of a subgoal
 subgoal_families : (Σ : Signature) (S : ℕ → Bool) (T : LfType) → FamiliesIn S T → (i : ℕ) (A : LfType) → IsSubgoal (constant_clause T) i A → FamiliesIn S A

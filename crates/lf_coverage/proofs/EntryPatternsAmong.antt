@@ -38,7 +38,7 @@ others_renamed : (ρ : ℕ → ℕ) (M : Term) (S : Spine) → rename_spine ρ (
 others_renamed ρ M nil = refl
 others_renamed ρ M (app N S) = ap (app (rename ρ M)) (others_renamed ρ N S)
 
-others_count : (M : Term) (S : Spine) → argument_count (but_last M S) ≡ argument_count S
+pub others_count : (M : Term) (S : Spine) → argument_count (but_last M S) ≡ argument_count S
 others_count M nil = refl
 others_count M (app N S) = ap suc (others_count N S)
 
@@ -76,7 +76,7 @@ first_last n (c ∷ bs) b = first_last (n + length c.block.entries) bs b ∙ sum
     sum a b c = omega arith
 
 -- values put into what is renamed
-lift_past : (δ : ℕ → Image) (y : Image) → substitute_image (lift δ) (rename_image suc y) ≡ rename_image suc (substitute_image δ y)
+pub lift_past : (δ : ℕ → Image) (y : Image) → substitute_image (lift δ) (rename_image suc y) ≡ rename_image suc (substitute_image δ y)
 lift_past δ (keep j) = refl
 lift_past δ (put a N) = ap (put a) (substitute_renamed reduce (lift δ) suc N ∙ sym (rename_substituted reduce reduction_is_natural suc δ N))
 

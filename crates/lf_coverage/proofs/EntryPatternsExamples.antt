@@ -1,9 +1,9 @@
 -- Worked cases with block variables by number that are instances of entries.
-use Rattle.std.proofs.Common.{◌≡◌, ℕ, zero, suc, [], ◌∷◌, inl, inr, refl, sym, ◌∙◌, subst}
+use Rattle.std.proofs.Common.{◌≡◌, ℕ, [], ◌∷◌, inl, inr, refl, sym, ◌∙◌}
 use Rattle.lf.specs.Syntax.{constant, root, nil, app, base}
-use Rattle.lf.specs.Substitution.{Image, keep, put, substitute_type, reduce}
+use Rattle.lf.specs.Substitution.{Image, keep, put}
 use Rattle.lf.specs.AtOnce.{in_front}
-use Rattle.lf.specs.Typing.{ImageHasType, IsTypedSubstitution}
+use Rattle.lf.specs.Typing.{IsTypedSubstitution}
 use Rattle.lf_totality.specs.Examples.{Copying, copy_block, copy_heads, exp, var}
 use Rattle.lf_totality.specs.ExamplesGroups.{on_one}
 use Rattle.lf_coverage.specs.EntryConstants.{with_entries}
@@ -16,6 +16,7 @@ use Rattle.lf_coverage.specs.Leaf.{IsTypedPattern}
 use Rattle.lf_coverage.specs.TypedNumbered.{IsTypedNumberedCase}
 use Rattle.lf_coverage.proofs.EntryPatternsAsked.{asked_leaf}
 use Rattle.lf_coverage.proofs.EntryPatternsOne.{one_instance, one_leaf}
+use Rattle.lf_coverage.proofs.VariableTyped.{value_is_typed}
 
 -- Copying
 copy_instance : IsInstanceOfPattern Copying 4 one_copy copy_entry_head
@@ -38,8 +39,7 @@ abbrev on_five : ℕ → Image
 on_five = in_front (put (base 0) (root (constant 5) nil)) keep
 
 on_five_typed : IsTypedSubstitution (with_entries Laters 4 (asking_block ∷ answering_block ∷ [])) (exp ∷ []) [] on_five
-on_five_typed zero A e = subst (λ B. ImageHasType (with_entries Laters 4 (asking_block ∷ answering_block ∷ [])) [] (put (base 0) (root (constant 5) nil)) (substitute_type reduce on_five B)) (sym e) (refl, (exp, refl, refl))
-on_five_typed (suc i) A (B, g, e) = absurd g
+on_five_typed = value_is_typed (with_entries Laters 4 (asking_block ∷ answering_block ∷ [])) exp [] on_five (refl, (exp, refl, refl))
 
 pub later_is_leaf : LaterIsLeaf
 later_is_leaf = (refl, asked_leaf answered_case.blocks [] (root (constant 6) nil) (root (constant 5) nil) refl (exp, refl, refl) (on_one 1 (root (constant 5) nil), refl, refl) ((nil, refl), tt) ((nil, refl), tt) typed)

@@ -14,6 +14,7 @@ use Rattle.lf_cases.specs.Case.{Item, free_variable, block_variable, Case, items
 use Rattle.lf_cases.specs.Missing.{put_in}
 use Rattle.lf_cases.specs.Pattern.{Pattern, Known, Holds, given_at}
 use Rattle.lf_cases.specs.Split.{HasNoBlockVariable, HasOneBlockVariable, HoldsDistinctly, OneHolds, IsLike, Ends, AllEnd, at_leaf, by_split, no_case, next_case}
+use Rattle.lf_cases.proofs.Split.{one_covers_alike}
 use Rattle.lf_coverage.specs.EntryConstants.{IsFreeFrom}
 use Rattle.lf_coverage.specs.EntryPatternsRuns.{HoldsByNumber, HoldsApart, OneHoldsApart, IsLikeByNumber, IsNumberedSplit, IsNumberedLeaf}
 use Rattle.lf_coverage.specs.EntryPatternsLaws.{NumberedRunCovers, NumberedCoversCase, NumberedRunCoversCase, SplitIsNumberedSplit, HeadRunIsByNumber, numbered_all}
@@ -21,22 +22,19 @@ use Rattle.lf_coverage.specs.Heads.{IsTypedCase, SplitsByHeads}
 use Rattle.lf_coverage.specs.NumberedArguments.{read_all}
 use Rattle.lf_coverage.specs.NumberedCase.{NumberedCase}
 use Rattle.lf_coverage.specs.Numbering.{numbering, numbered, own_spine}
-use Rattle.lf_coverage.specs.OwnTerms.{BlockVariable, blocks_of, rename_blocks}
+use Rattle.lf_coverage.specs.OwnTerms.{BlockVariable, blocks_of}
 use Rattle.lf_coverage.specs.Reading.{read, entry_reading}
 use Rattle.lf_coverage.proofs.EntryPatternsLeaf.{numbered_leaf_is_covered}
 use Rattle.lf_coverage.proofs.EntryPatternsNumbers.{distinct_apart, apart_distinct, zeroth_is, first_is}
-use Rattle.lf_coverage.proofs.EntryPatternsRuns.{run_covers, one_covers_alike}
+use Rattle.lf_coverage.proofs.EntryPatternsRuns.{run_covers}
 use Rattle.lf_coverage.proofs.HeadSplit.{places_put_in as places_put}
 use Rattle.lf_coverage.proofs.Leaves.{given_skeleton}
 use Rattle.lf_coverage.proofs.NumberedArguments.{numbered_holds_same_tuples, under_same}
 use Rattle.lf_coverage.proofs.Numbering.{to_number, from_number}
 use Rattle.lf_coverage.proofs.NumberingSteps.{HasInstances}
 use Rattle.lf_coverage.proofs.Parts.{some_same}
+use Rattle.lf_coverage.proofs.RenamedBlocks.{renamed_length}
 use Rattle.lf_coverage.proofs.Runs.{head_split_is_split, split_cases_are_typed}
-
-renamed_length : (ρ : ℕ → ℕ) (bs : List BlockVariable) → length (rename_blocks ρ bs) ≡ length bs
-renamed_length ρ [] = refl
-renamed_length ρ (b ∷ bs) = ap suc (renamed_length ρ bs)
 
 longer_by_one : (bs : List BlockVariable) (b : BlockVariable) → length (bs ++ b ∷ []) ≡ suc (length bs)
 longer_by_one [] b = refl

@@ -27,6 +27,7 @@ use Rattle.lf_cases.specs.Missing.{IsTypedInstance, StandsAmong, put_in}
 use Rattle.lf_cases.specs.Pattern.{Origin, of_constant, of_entry, Pattern, given_at, ground_in}
 use Rattle.lf_cases.proofs.Assemble.{end_typed}
 use Rattle.lf_cases.proofs.GroundTypes.{either_left, outside_types}
+use Rattle.lf_cases.proofs.Split.{given_same as given_alike}
 use Rattle.lf_totality.proofs.Core.{out_index, outer_at}
 use Rattle.lf_totality.proofs.GoalHolds.{arguments_under}
 use Rattle.lf_totality.proofs.OutputCases.{either_in, goal_within}
@@ -47,7 +48,6 @@ use Rattle.lf_coverage.proofs.Choices.{second_of}
 use Rattle.lf_coverage.proofs.EntryPatternsAmong.{StandsAs, stands_as}
 use Rattle.lf_coverage.proofs.HeadSplit.{places_put_in as places_put}
 use Rattle.lf_coverage.proofs.EntryPatternsMatching.{entries_signature}
-use Rattle.lf_coverage.proofs.EntryPatternsRuns.{given_alike}
 use Rattle.lf_coverage.proofs.EntryPatternsTyped.{variable_is_typed}
 use Rattle.lf_coverage.proofs.ItemsContext.{items_are_context}
 use Rattle.lf_coverage.proofs.Leaf.{v, v_out, v_typed, v_terms, v_given, v_places, value_is, leaves_terms, leaves_deep}
@@ -89,7 +89,7 @@ given_back σ (None ∷ Ms) zero M e = absurd cc
 given_back σ (Some N ∷ Ms) (suc i) M e = given_back σ Ms i M e
 given_back σ (None ∷ Ms) (suc i) M e = given_back σ Ms i M e
 
-before_own : (P : Image → Type 0) (later : List LfType) (θ : ℕ → Image) → ((i : ℕ) → P (θ i)) → (k : ℕ) → P (before later θ k)
+pub before_own : (P : Image → Type 0) (later : List LfType) (θ : ℕ → Image) → ((i : ℕ) → P (θ i)) → (k : ℕ) → P (before later θ k)
 before_own P [] θ h k = h (suc k)
 before_own P (D ∷ ds) θ h k = before_own P ds (λ i. θ (suc i)) (λ i. h (suc i)) k
 

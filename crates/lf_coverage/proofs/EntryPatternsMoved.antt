@@ -52,7 +52,7 @@ onto_types (B ∷ X) H (suc i) A (D, g, e) = next (onto_types X H i D g)
     next (inl h) = inl (D, h, e)
     next (inr (j, q)) = inr (j, step i j (length X) q)
 
-own_given : (o : ℕ → Option Spine) (Ms : List (Option Term)) (i : ℕ) (M : Term) → AllOnOwnTerms o Ms → given_at Ms i ≡ Some M → OnOwnTerms o M
+pub own_given : (o : ℕ → Option Spine) (Ms : List (Option Term)) (i : ℕ) (M : Term) → AllOnOwnTerms o Ms → given_at Ms i ≡ Some M → OnOwnTerms o M
 own_given o [] i M a e = absurd cc
 own_given o (Some N ∷ Ms) zero M (n, a) e = subst (OnOwnTerms o) (some_same e) n
 own_given o (None ∷ Ms) zero M a e = absurd cc

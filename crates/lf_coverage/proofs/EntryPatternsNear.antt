@@ -1,22 +1,25 @@
 -- Variables that are among the newest, and those behind them; entries before another are constants.
-use Rattle.std.proofs.Common.{◌≡◌, ℕ, zero, suc, ◌+◌, ◌<◌, List, [], ◌∷◌, length, refl, sym, ap, ◌∙◌, subst, arith}
-use Rattle.std.specs.Prelude.{true, false}
+use Rattle.std.proofs.Common.{◌≡◌, ℕ, zero, suc, ◌+◌, ◌<◌, List, [], ◌∷◌, length, refl, sym, ap, ◌∙◌, subst, arith, inl, inr, true≢false}
+use Rattle.std.specs.Prelude.{true, false, ◌⊎◌}
 use Rattle.lf.specs.Syntax.{constant, Spine, LfType, Skeleton, skeleton, pi, atom}
 use Rattle.lf.specs.Substitution.{Image, put, reduce}
 use Rattle.lf.specs.Entries.{quantifiers}
 use Rattle.lf.specs.Eta.{eta_expand}
 use Rattle.lf.specs.SkeletonTyping.{SkeletonAt}
 use Rattle.lf.specs.Skeletons.{context_skeletons}
-use Rattle.lf.specs.Variables.{binders, onto}
+use Rattle.lf.specs.Variables.{binders, onto, everything}
 use Rattle.lf.specs.Worlds.{lift_over, instance}
 use Rattle.lf.proofs.TypeLaws.{skeleton_substituted}
-use Rattle.lf_checks.specs.Clause.{among}
+use Rattle.lf_checks.specs.Clause.{among, outside}
 use Rattle.lf_cases.specs.Cover.{before}
-use Rattle.lf_totality.proofs.Core.{out_index}
+use Rattle.lf_totality.proofs.Core.{out_index, outside_at}
 use Rattle.lf_coverage.specs.EntryConstants.{entry_images}
 use Rattle.lf_coverage.specs.TermMatching.{bound}
 use Rattle.lf_coverage.proofs.EntryPatternsCarried.{out_sum}
 use Rattle.lf_coverage.proofs.Forms.{binders_length}
+use Rattle.lf_totality.proofs.Theorem.{outside_from}
+use Rattle.lf_coverage.proofs.Choices.{decided}
+use Rattle.lf_coverage.proofs.NearOrFar.{near_or_far}
 
 pub bound_near : (n i : ℕ) → i < n → bound n i ≡ true
 bound_near zero i l = absurd (omega (arith, l))
@@ -70,3 +73,17 @@ entry_constant_is m U (E ∷ es) η (suc j) e = entry_constant_is m U es η j e
 pub before_images : (m : ℕ) (U : Spine) (later : List LfType) (E : LfType) (es : List LfType) (η : ℕ → Image) (j : ℕ) → before later (entry_images m U (onto later (E ∷ es)) η) j ≡ entry_images m U es η j
 before_images m U [] E es η j = refl
 before_images m U (D ∷ ds) E es η j = before_images m U ds E es η j
+
+-- A clause's own variables are the newest.
+pub own_near : (T : LfType) (i : ℕ) → outside T everything i ≡ false → i < length (binders [] T)
+own_near T i o = by (near_or_far (length (binders [] T)) i)
+  where
+    by : (i < length (binders [] T)) ⊎ ((l : ℕ) × (i ≡ l + length (binders [] T))) → i < length (binders [] T)
+    by (inl n) = n
+    by (inr (l, e)) = absurd (true≢false (sym (outside_at T everything l) ∙ ap (outside T everything) (out_far T l ∙ sym e) ∙ o))
+
+pub near_own : (T : LfType) (i : ℕ) → i < length (binders [] T) → outside T everything i ≡ false
+near_own T i n = decided (outside T everything i) (λ o. let (l, e, z) = outside_from T everything i o in absurd (never l (e ∙ out_far T l))) (λ o. o)
+  where
+    never : (l : ℕ) → i ≡ l + length (binders [] T) → ⊥
+    never l e = omega (arith, e, n)

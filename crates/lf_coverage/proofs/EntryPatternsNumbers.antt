@@ -38,7 +38,7 @@ pub last_at : (bs : List BlockVariable) (b : BlockVariable) → block_at (bs ++ 
 last_at [] b = refl
 last_at (c ∷ bs) b = last_at bs b
 
-old_or_last : (bs : List BlockVariable) (n : BlockVariable) (k : ℕ) (b : BlockVariable) → block_at (bs ++ n ∷ []) k ≡ Some b → (block_at bs k ≡ Some b) ⊎ ((k ≡ length bs) × (b ≡ n))
+pub old_or_last : (bs : List BlockVariable) (n : BlockVariable) (k : ℕ) (b : BlockVariable) → block_at (bs ++ n ∷ []) k ≡ Some b → (block_at bs k ≡ Some b) ⊎ ((k ≡ length bs) × (b ≡ n))
 old_or_last [] n zero b e = inr (refl, sym (some_same e))
 old_or_last [] n (suc k) b e = absurd cc
 old_or_last (c ∷ bs) n zero b e = inl e

@@ -18,6 +18,7 @@ use Rattle.lf_cases.specs.Case.{as_term, HasArguments}
 use Rattle.lf_cases.specs.Missing.{put_in}
 use Rattle.lf_cases.specs.OutputGoal.{renumber}
 use Rattle.lf_cases.specs.Pattern.{Known, HasGiven}
+use Rattle.lf_cases.proofs.OutputItems.{length_renumber}
 use Rattle.lf_totality.proofs.OutputCases.{in_covers}
 use Rattle.lf_coverage.specs.EntryConstants.{EntryConstant, entry_constant, with_entries}
 use Rattle.lf_coverage.specs.EntryPatternsRuns.{ZerothIs, HoldsApart, OneHoldsApart}
@@ -64,7 +65,7 @@ carry_past (A ∷ D) E σ i = ap (carry (A ∷ D) E σ) (next i (length D)) ∙ 
     next : (i n : ℕ) → i + suc n ≡ suc (i + n)
     next i n = omega arith
 
-put_at : (υ : ℕ → Image) (bs : List BlockVariable) (k : ℕ) (b : BlockVariable) → block_at bs k ≡ Some b → (d : BlockVariable) × (block_at (put_in_blocks υ bs) k ≡ Some d) × (d.block ≡ b.block)
+pub put_at : (υ : ℕ → Image) (bs : List BlockVariable) (k : ℕ) (b : BlockVariable) → block_at bs k ≡ Some b → (d : BlockVariable) × (block_at (put_in_blocks υ bs) k ≡ Some d) × (d.block ≡ b.block)
 put_at υ [] k b e = absurd cc
 put_at υ (c ∷ bs) zero b e = (_, refl, ap (λ (d : BlockVariable). d.block) (some_same e))
 put_at υ (c ∷ bs) (suc k) b e = put_at υ bs k b e
@@ -134,10 +135,6 @@ same_over_length [] (A ∷ E) f e = absurd cc
 same_over_length (A ∷ L) [] f e = absurd cc
 same_over_length (A ∷ L) (B ∷ E) f e = ap (λ g c. weaken_read (g c)) (same_over_length L E f (omega (arith, e)))
 
-renumber_length : (r : ℕ → ℕ) (L : List LfType) → length (renumber r L) ≡ length L
-renumber_length r [] = refl
-renumber_length r (A ∷ L) = ap suc (renumber_length r L)
-
 onto_length : (O X : List LfType) → length (onto O X) ≡ length X + length O
 onto_length [] X = none (length X)
   where
@@ -167,7 +164,7 @@ new_block_holds_as Σ Σ' ok S x W typed first free C tc B member G w θ σ inst
     let ρ_fits = values_fit Σ' x.ok G first (blocks_of (with_new_block B C).blocks) (with_instance (length C.blocks) φ θ) (onto B.some C.variables) ρ inst'.values in
     let ρ_past = value_past Σ' x.ok G first (blocks_of (with_new_block B C).blocks) (with_instance (length C.blocks) φ θ) (onto B.some C.variables) ρ inst'.values in
     let L : List LfType = C.local in
-    let shape : (T : Spine) → HasArguments (lift_over C.local ρ) (read_all (read_over C.local f') (put_in (lift_over C.local (λ i. keep (i + length B.some))) C.arguments)) T → HasNumberedArguments first (with_new_block B C) (with_instance (length C.blocks) φ θ) ρ T = λ T h. subst (λ r. HasArguments r (read_all (read_over (renumber (shift_by (length B.some)) C.local) f') (with_new_block B C).arguments) T) (lift_same C.local (renumber (shift_by (length B.some)) C.local) ρ (sym (renumber_length (shift_by (length B.some)) C.local))) (subst (λ g. HasArguments (lift_over C.local ρ) (read_all g (with_new_block B C).arguments) T) (same_over_length C.local (renumber (shift_by (length B.some)) C.local) f' (sym (renumber_length (shift_by (length B.some)) C.local))) (subst (λ Ms. HasArguments (lift_over C.local ρ) (read_all (read_over C.local f') Ms) T) (all_renamed 0 (lift_renaming_by (length C.local) (shift_by (length B.some))) (lift_over C.local (λ i. keep (i + length B.some))) (lifted_keep C.local (shift_by (length B.some))) C.arguments) h)) in
+    let shape : (T : Spine) → HasArguments (lift_over C.local ρ) (read_all (read_over C.local f') (put_in (lift_over C.local (λ i. keep (i + length B.some))) C.arguments)) T → HasNumberedArguments first (with_new_block B C) (with_instance (length C.blocks) φ θ) ρ T = λ T h. subst (λ r. HasArguments r (read_all (read_over (renumber (shift_by (length B.some)) C.local) f') (with_new_block B C).arguments) T) (lift_same C.local (renumber (shift_by (length B.some)) C.local) ρ (sym (length_renumber (shift_by (length B.some)) C.local))) (subst (λ g. HasArguments (lift_over C.local ρ) (read_all g (with_new_block B C).arguments) T) (same_over_length C.local (renumber (shift_by (length B.some)) C.local) f' (sym (length_renumber (shift_by (length B.some)) C.local))) (subst (λ Ms. HasArguments (lift_over C.local ρ) (read_all (read_over C.local f') Ms) T) (all_renamed 0 (lift_renaming_by (length C.local) (shift_by (length B.some))) (lift_over C.local (λ i. keep (i + length B.some))) (lifted_keep C.local (shift_by (length B.some))) C.arguments) h)) in
     record {
       arguments = λ T h. shape T (arguments_moved Σ Σ' ok S x W typed first free C tc w θ σ inst (onto B.some C.variables) f' ρ ρ_fits ρ_past (λ i. keep (i + length B.some)) υ_past υ_fits follows agrees C.local C.arguments T tc.arguments tc.arguments_on_own h);
       given = λ τ h. subst (λ Ms. HasGiven ρ (read_all f' Ms) τ) (all_renamed 0 (shift_by (length B.some)) (λ i. keep (i + length B.some)) (λ i. refl) C.given) (given_moved Σ Σ' ok S x W typed first free C tc w θ σ inst (onto B.some C.variables) f' ρ ρ_fits ρ_past (λ i. keep (i + length B.some)) υ_past υ_fits follows agrees C.given tc.given tc.given_on_own τ h);

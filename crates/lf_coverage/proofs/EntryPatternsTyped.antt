@@ -42,7 +42,7 @@ use Rattle.lf_coverage.proofs.OwnTerms.{entry_from}
 use Rattle.lf_coverage.proofs.Parts.{some_same}
 use mathlib.Core.Path.{fun_ext}
 
-terms_of_block : (bs : List BlockVariable) (k : ℕ) (b : BlockVariable) → block_at bs k ≡ Some b → terms_at bs k ≡ Some b.terms
+pub terms_of_block : (bs : List BlockVariable) (k : ℕ) (b : BlockVariable) → block_at bs k ≡ Some b → terms_at bs k ≡ Some b.terms
 terms_of_block [] k b e = absurd cc
 terms_of_block (c ∷ bs) zero b e = ap (λ (d : BlockVariable). Some d.terms) (some_same e)
 terms_of_block (c ∷ bs) (suc k) b e = terms_of_block bs k b e

@@ -30,6 +30,10 @@ pub else_cases : {A : Type 0} (x y : Option A) (v : A) → or_else x y ≡ Some 
 else_cases None y v e = inr e
 else_cases (Some u) y v e = inl e
 
+pub else_none : {A : Type 0} (x : Option A) → or_else x None ≡ x
+else_none None = refl
+else_none (Some u) = refl
+
 -- what is declared without entries has its type
 old_types : (Σ : Signature) → IsSignature Σ → (c : ℕ) (A : LfType) → or_else (Σ.types c) None ≡ Some A → IsType Σ [] A
 old_types Σ ok c A e = at (else_cases (Σ.types c) None A e)

@@ -52,10 +52,10 @@ use Rattle.lf_coverage.specs.TypedNumbered.{IsTypedNumberedCase}
 use Rattle.lf_coverage.proofs.Choices.{decided}
 use Rattle.lf_coverage.proofs.EntryPatternsCarried.{out_back}
 use Rattle.lf_coverage.proofs.NearOrFar.{near_or_far}
-use Rattle.lf_coverage.proofs.EntryPatternsNear.{out_far, from_instance, behind_skeleton}
+use Rattle.lf_coverage.proofs.EntryPatternsNear.{out_far, from_instance, behind_skeleton, near_own}
 use Rattle.lf_coverage.proofs.EntryPatternsMatching.{entries_signature}
 use Rattle.lf_coverage.proofs.EntryPatternsValues.{typed_inside}
-use Rattle.lf_coverage.proofs.EntryTermsPlaced.{K, O, Q, σ, far_is, near_is, near_own, own_is, scope_is, scope₁, type₁, σ_fits, σ_uses}
+use Rattle.lf_coverage.proofs.EntryTermsPlaced.{K, O, Q, σ, far_is, near_is, own_is, scope_is, scope₁, type₁, σ_fits, σ_uses}
 use Rattle.lf_coverage.proofs.EntryTermsTried.{OuterFacts, tried_facts}
 use Rattle.lf_coverage.proofs.EntryTermsUses.{goal_uses}
 use Rattle.lf_coverage.proofs.GivenValues.{StandsForItself, StandsForGiven, given_cases}
@@ -190,7 +190,7 @@ module _ (Σ : Signature) (ok : IsSignature Σ) (W : List Block) (typed : AreTyp
               no e = cc
 
       by : (j < length F) ⊎ ((l : ℕ) × (j ≡ l + length F)) → ImageSkeleton κ (context_skeletons (onto X G)) (γ j) t
-      by (inl n) = let (A, x, e) = skeleton_has_variable G j t (from_instance F p.clause.outer X φ j t n h) in near A x e (near_own Σ ok W typed first free C tc p tp φ f.outer_typed f.fixed j n)
+      by (inl n) = let (A, x, e) = skeleton_has_variable G j t (from_instance F p.clause.outer X φ j t n h) in near A x e (near_own p.clause.type j n)
       by (inr (l, e)) = subst (λ y. ImageSkeleton κ (context_skeletons (onto X G)) y t) (sym (ap γ e ∙ γ_far l)) (inside_onto X G l t (behind_skeleton (instance F φ) X l t (subst (λ i. SkeletonAt (context_skeletons H) i t) (e ∙ ap (λ n. l + n) (sym (length_instance F φ))) h)))
 
   -- What is known in a type is put in at once.

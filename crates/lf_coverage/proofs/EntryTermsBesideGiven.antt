@@ -90,7 +90,7 @@ images_same G Ms Ns n i e = by (given_cases G Ms n i) (given_cases G Ns n i)
     by (inr (E, P, x, r, z)) (inr (F, Q, y, s, w)) = z ∙ ap (λ A. put (skeleton A) P) (variable_type_unique G i E F x y) ∙ ap (put (skeleton F)) (some_same (sym r ∙ e ∙ s)) ∙ sym w
 
 -- what stands for a given term
-image_given : (G : List LfType) (Ms : List (Option Term)) (n i : ℕ) (A : LfType) (M : Term) → TypeAt G i A → given_at Ms i ≡ Some M → given_images G Ms n i ≡ put (skeleton A) M
+pub image_given : (G : List LfType) (Ms : List (Option Term)) (n i : ℕ) (A : LfType) (M : Term) → TypeAt G i A → given_at Ms i ≡ Some M → given_images G Ms n i ≡ put (skeleton A) M
 image_given G Ms n i A M g e = by (given_cases G Ms n i)
   where
     by : StandsForItself G Ms n i ⊎ StandsForGiven G Ms n i → given_images G Ms n i ≡ put (skeleton A) M

@@ -37,8 +37,8 @@ use Rattle.lf_coverage.specs.TypedNumbered.{IsTypedNumberedCase}
 use Rattle.lf_coverage.proofs.Choices.{decided, second_of}
 use Rattle.lf_coverage.proofs.EntryPatternsCarried.{out_back}
 use Rattle.lf_coverage.proofs.EntryPatternsEntry.{τ, τ_near, τ_far, arguments, entry_value_found}
-use Rattle.lf_coverage.proofs.EntryPatternsNear.{out_far}
-use Rattle.lf_coverage.proofs.EntryTermsPlaced.{own_near, σ_uses}
+use Rattle.lf_coverage.proofs.EntryPatternsNear.{out_far, own_near}
+use Rattle.lf_coverage.proofs.EntryTermsPlaced.{σ_uses}
 use Rattle.lf_coverage.proofs.EntryTermsTried.{OuterFacts, given_is_tried, tried_facts}
 use Rattle.lf_coverage.proofs.EntryTermsUses.{goal_uses}
 use Rattle.lf_coverage.proofs.Matched.{Third, given_there, goal_part, goal_third, own_type}
@@ -105,7 +105,7 @@ module _ (Σ : Signature) (ok : IsSignature Σ) (W : List Block) (typed : AreTyp
       let x : X i ≡ true = second_of (outside p.clause.type everything i) (X i) y o in
       let (A, k) = in_type (scope p.clause) i (both_r (both (h.used i) (V i)) (in_context (scope p.clause) i) x) in
       let w = both_l (both (h.used i) (V i)) (in_context (scope p.clause) i) x in
-      τ_near Σ ok W typed first free C tc p tp h i (own_near Σ ok W typed first free C tc p tp φ f.outer_typed f.fixed i o)
+      τ_near Σ ok W typed first free C tc p tp h i (own_near p.clause.type i o)
       ∙ ap (λ b. pick b (h.values i) (keep (i + length C.variables))) (both_l (h.used i) (V i) w)
       ∙ used_found i A k o (both_l (h.used i) (V i) w) (both_r (h.used i) (V i) w))
 

@@ -40,7 +40,7 @@ same_list d (x ∷ xs) (y ∷ ys) = by (d x y) (same_list d xs ys)
     by (yes e) (no n) = no (λ q. n cc)
     by (no n) q = no (λ q. n cc)
 
-same_block : (B D : Block) → Dec (B ≡ D)
+pub same_block : (B D : Block) → Dec (B ≡ D)
 same_block B D = by (same_list ℕ_discrete B.label D.label) (same_list same_type B.some D.some) (same_list same_type B.entries D.entries)
   where
     by : Dec (B.label ≡ D.label) → Dec (B.some ≡ D.some) → Dec (B.entries ≡ D.entries) → Dec (B ≡ D)
@@ -66,7 +66,7 @@ some_variable (c ∷ bs) P d = by (d zero c) (some_variable bs (λ k. P (suc k))
     by (no n) (yes (k, b, e, q)) = yes (suc k, b, e, q)
     by (no n) (no m) = no (λ (k, b, e, q). first_or n m k b e q)
 
-three_decided : {A B C : Type 0} → Dec A → Dec B → Dec C → Dec (A × B × C)
+pub three_decided : {A B C : Type 0} → Dec A → Dec B → Dec C → Dec (A × B × C)
 three_decided (yes a) (yes b) (yes c) = yes (a, b, c)
 three_decided (no n) b c = no (λ h. n h.0)
 three_decided (yes a) (no n) c = no (λ h. n h.1)
@@ -104,7 +104,7 @@ matches_decided C p φ = three_decided (goal_decided (ground_in p (covered_place
 pub by_number_decided : (first : ℕ) (C : NumberedCase) (p : Pattern) → Dec (MatchesByNumber first C p)
 by_number_decided first C p = tried_decided first C p.origin p.at_first (MatchesWith C p) (matches_decided C p)
 
-decided_with : {A B : Type 0} → A ↔ B → Dec B → (A ↔ B) × Dec A
+pub decided_with : {A B : Type 0} → A ↔ B → Dec B → (A ↔ B) × Dec A
 decided_with h (yes b) = (h, yes (h.1 b))
 decided_with h (no n) = (h, no (λ a. n (h.0 a)))
 

@@ -1,7 +1,7 @@
 -- By number a goal of inputs is typed beside the head of a closed type, and what is typed beside one has the types of its places.
 use Rattle.std.proofs.Common.{◌≡◌, ℕ, zero, suc, List, [], ◌∷◌, length, refl, sym, ap, ap₂, ◌∙◌, subst}
 use Rattle.std.specs.Prelude.{Bool, true, false, Option, Some, None}
-use Rattle.lf.specs.Syntax.{Term, Spine, nil, app, LfType, Kind, kind_pi, star, pi, atom, Skeleton, base, kind_skeleton}
+use Rattle.lf.specs.Syntax.{Term, Spine, nil, app, LfType, Kind, kind_pi, star, atom, Skeleton, base, kind_skeleton}
 use Rattle.lf.specs.Substitution.{Image, keep, substitute_spine, lift, reduce}
 use Rattle.lf.specs.SkeletonTyping.{HeadSkeletons, SpineSkeleton, SubstitutionBySkeletons}
 use Rattle.lf.specs.Skeletons.{constant_skeletons, context_skeletons}
@@ -36,7 +36,7 @@ use Rattle.lf_coverage.specs.OwnTerms.{blocks_of}
 use Rattle.lf_coverage.specs.TypedCase.{IsTypedBeside, TypedArguments}
 use Rattle.lf_coverage.specs.TypedNumbered.{IsTypedNumberedCase}
 use Rattle.lf_coverage.proofs.EntryPatternsMatching.{entries_signature}
-use Rattle.lf_coverage.proofs.EntrySignature.{closed_over, entries_kept}
+use Rattle.lf_coverage.proofs.EntrySignature.{closed_over, entries_kept, grown_contexts}
 use Rattle.lf_coverage.proofs.EntryTermsBesideGiven.{images_same}
 use Rattle.lf_coverage.proofs.EntryTermsConstants.{lift_keep}
 use Rattle.lf_coverage.proofs.GivenValues.{given_fits}
@@ -44,14 +44,11 @@ use Rattle.lf_coverage.proofs.HeadMatching.{typed_places}
 use Rattle.lf_coverage.proofs.InputTyped.{input_goal_typed}
 use Rattle.lf_coverage.proofs.ItemsContext.{items_are_context}
 use Rattle.lf_coverage.proofs.MeetReady.{arguments_fit, given_near}
+use Rattle.lf_coverage.proofs.NumberedHeads.{target_over}
 use Rattle.lf_coverage.proofs.Parts.{some_same}
 use Rattle.lf_coverage.proofs.SolvedCase.{free_context_is, free_typed}
 use Rattle.lf_coverage.proofs.TypedNumbered.{numbered_case_is_typed}
 use mathlib.Core.Path.{fun_ext}
-
-target_over : (O : List LfType) (P : LfType) → target (pi_over O P) ≡ target P
-target_over [] P = refl
-target_over (A ∷ O) P = target_over O (pi A P)
 
 pub clause_is_closed : ClauseIsClosed
 clause_is_closed Σ ok W typed c i = let (o, t) = clause_typed Σ ok W typed c i in (pi_over c.outer c.type, closed_over Σ c.outer c.type o t, target_over c.outer c.type)
@@ -90,10 +87,6 @@ none_fit κ Γ [] = tt
 none_fit κ Γ (A ∷ D) = none_fit κ Γ D
 
 module _ (Σ : Signature) (ok : IsSignature Σ) (W : List Block) (typed : AreTypedBlocks Σ W) (first : ℕ) (free : IsFreeFrom Σ first) where
-  context_more : (Bs : List Block) (D : List LfType) → IsContext Σ D → IsContext (with_entries Σ first Bs) D
-  context_more Bs [] c = c
-  context_more Bs (A ∷ D) (c, a) = (context_more Bs D c, growth_keeps_types Σ (with_entries Σ first Bs) (entries_kept Σ first Bs) (λ b K q. q) D A a)
-
   arguments_more : (Bs : List Block) (G : List LfType) (Ms : List (Option Term)) (T : Spine) (K : Kind) → TypedArguments Σ G Ms T K → TypedArguments (with_entries Σ first Bs) G Ms T K
   arguments_more Bs G [] nil star h = h
   arguments_more Bs G [] nil (kind_pi A K) h = absurd h
@@ -138,7 +131,7 @@ module _ (Σ : Signature) (ok : IsSignature Σ) (W : List Block) (typed : AreTyp
     tc = subst (IsTypedNumberedCase Σ first W) goal_is (numbered_case_is_typed Σ ok W typed first free (input_goal a m K) b.by_skeletons b.local_typed)
 
     context₁ : IsContext Σ₁ X
-    context₁ = context_more [] X (items_are_context Σ ok W typed I b.by_skeletons.items)
+    context₁ = grown_contexts Σ (with_entries Σ first []) (entries_kept Σ first []) (λ b K q. q) X (items_are_context Σ ok W typed I b.by_skeletons.items)
 
     same_kind : b.kind ≡ K
     same_kind = some_same (sym b.of_family ∙ kd)

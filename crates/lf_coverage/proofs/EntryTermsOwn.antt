@@ -14,7 +14,7 @@ use Rattle.lf_coverage.specs.OwnTerms.{weaken_own, OnOwnTerms, AllOnOwnTerms}
 use Rattle.lf_coverage.specs.TermMatching.{bound}
 use Rattle.lf_coverage.specs.TypedNumbered.{own_over}
 use Rattle.lf_coverage.proofs.EntryPatternsFound.{bound_under, deep_own, found_at_own}
-use Rattle.lf_coverage.proofs.Parts.{some_same}
+use Rattle.lf_coverage.proofs.EntryPatternsMoved.{own_given}
 
 own_over_deep : (D : List LfType) (o : ℕ → Option Spine) → own_over D o ≡ deep_own (length D) o
 own_over_deep [] o = refl
@@ -34,18 +34,11 @@ found_goal_own o B F n x (atom a S) Ms N h e s = found_at_own o B F n x S Ms N h
     none : (n : ℕ) → n + 0 ≡ n
     none n = omega arith
 
-given_own : (o : ℕ → Option Spine) (Ms : List (Option Term)) (i : ℕ) (M : Term) → AllOnOwnTerms o Ms → given_at Ms i ≡ Some M → OnOwnTerms o M
-given_own o [] i M s e = absurd cc
-given_own o (Some N ∷ Ms) zero M (s, r) e = subst (OnOwnTerms o) (some_same e) s
-given_own o (None ∷ Ms) zero M s e = absurd cc
-given_own o (Some N ∷ Ms) (suc i) M (s, r) e = given_own o Ms i M r e
-given_own o (None ∷ Ms) (suc i) M s e = given_own o Ms i M s e
-
 pub found_placed_own : (o : ℕ → Option Spine) (C : NumberedCase) (p : Pattern) (φ : ℕ → Image) (i : ℕ) (N : Term) → length C.local ≡ quantifiers p.type → AllOnOwnTerms o C.given → AllOnOwnTerms (own_over C.local o) C.arguments → found_placed C p φ i ≡ Some N → OnOwnTerms o N
 found_placed_own o C p φ i N l g a e = by (given_at C.given i) refl
   where
     by : (m : Option Term) → given_at C.given i ≡ m → OnOwnTerms o N
-    by (Some M) r = given_own o C.given i N g (r ∙ sym (ap (λ x. or_else x (found_goal nothing nothing zero i (placed_type p φ) C.arguments)) r) ∙ e)
+    by (Some M) r = own_given o C.given i N g (r ∙ sym (ap (λ x. or_else x (found_goal nothing nothing zero i (placed_type p φ) C.arguments)) r) ∙ e)
     by None r = found_goal_own o nothing nothing zero i (placed_type p φ) C.arguments N (λ j b. absurd cc) (sym (ap (λ x. or_else x (found_goal nothing nothing zero i (placed_type p φ) C.arguments)) r) ∙ e) (subst (λ k. AllOnOwnTerms (deep_own k o) C.arguments) (l ∙ sym (quantifiers_put _ p.type) ∙ none (quantifiers (placed_type p φ))) (subst (λ u. AllOnOwnTerms u C.arguments) (own_over_deep C.local o) a))
       where
         none : (k : ℕ) → k ≡ 0 + k

@@ -1,6 +1,6 @@
 -- A pattern with what stands outside its clause put in: it is typed over the clause's own variables and the case's; and what is read off it, where that
 -- has its skeleton, gives values under which it is the pattern with both put in at once.
-use Rattle.std.proofs.Common.{◌≡◌, ℕ, ◌+◌, ◌-◌, ◌<◌, List, [], ◌∷◌, length, refl, sym, ap, ◌∙◌, subst, inl, inr, true≢false, arith}
+use Rattle.std.proofs.Common.{◌≡◌, ℕ, ◌+◌, ◌-◌, ◌<◌, List, [], ◌∷◌, length, refl, sym, ap, ◌∙◌, subst, inl, inr}
 use Rattle.std.specs.Prelude.{Bool, true, false, cond, Some, ◌⊎◌}
 use Rattle.lf.specs.Syntax.{constant, Term, Spine, LfType, Skeleton, skeleton, rename_spine}
 use Rattle.lf.specs.Substitution.{Image, keep, put, rename_image, substitute, substitute_image, substitute_type, reduce, after}
@@ -51,7 +51,7 @@ use Rattle.lf_coverage.proofs.Carried.{beside_nothing, beyond_at}
 use Rattle.lf_coverage.proofs.Choices.{decided}
 use Rattle.lf_coverage.proofs.EntryPatternsCarried.{out_back}
 use Rattle.lf_coverage.proofs.NearOrFar.{near_or_far}
-use Rattle.lf_coverage.proofs.EntryPatternsNear.{out_far, from_instance, behind_skeleton, AConstant}
+use Rattle.lf_coverage.proofs.EntryPatternsNear.{out_far, from_instance, behind_skeleton, AConstant, own_near, near_own}
 use Rattle.lf_coverage.proofs.EntryPatternsMatching.{entries_signature, more_type, more_context}
 use Rattle.lf_coverage.proofs.EntryPatternsStrict.{Places}
 use Rattle.lf_coverage.proofs.EntryTermsUses.{goal_uses}
@@ -118,21 +118,8 @@ module _ (Σ : Signature) (ok : IsSignature Σ) (W : List Block) (typed : AreTyp
   placed₁ = substitution_keeps_types Σ₁ ok₁ O K σ p.type (record { typed = σ_typed; source_skeletons = skeleton_context_of Σ₁ ok₁ O scope₁; target_skeletons = skeleton_context_of Σ₁ ok₁ K context₁ }) type₁
 
   -- The clause's own variables are the newest, and stay.
-  pub own_near : (i : ℕ) → outside p.clause.type everything i ≡ false → i < length Q
-  own_near i o = by (near_or_far (length Q) i)
-    where
-      by : (i < length Q) ⊎ ((l : ℕ) × (i ≡ l + length Q)) → i < length Q
-      by (inl n) = n
-      by (inr (l, e)) = absurd (true≢false (sym (outside_at p.clause.type everything l) ∙ ap (outside p.clause.type everything) (out_far p.clause.type l ∙ sym e) ∙ o))
-
-  pub near_own : (i : ℕ) → i < length Q → outside p.clause.type everything i ≡ false
-  near_own i n = decided (outside p.clause.type everything i) (λ o. let (l, e, z) = outside_from p.clause.type everything i o in absurd (never l (e ∙ out_far p.clause.type l))) (λ o. o)
-    where
-      never : (l : ℕ) → i ≡ l + length Q → ⊥
-      never l e = omega (arith, e, n)
-
   pub near_is : (i : ℕ) → outside p.clause.type everything i ≡ false → σ i ≡ keep i
-  near_is i o = lift_over_near Q φ i (own_near i o)
+  near_is i o = lift_over_near Q φ i (own_near p.clause.type i o)
 
   pub far_is : (l : ℕ) → σ (l + length Q) ≡ rename_image (shift_by (length Q)) (φ l)
   far_is l = lift_over_far Q φ l
@@ -225,7 +212,7 @@ module _ (Σ : Signature) (ok : IsSignature Σ) (W : List Block) (typed : AreTyp
             (λ u.
             let (A, x, e) = skeleton_has_variable O j t (from_instance Q p.clause.outer X φ j t n at_K) in
             let y : TypeAt (scope p.clause) j A = subst (λ G. TypeAt G j A) (sym scope_is) x in
-            let o : outside p.clause.type everything j ≡ false = near_own j n in
+            let o : outside p.clause.type everything j ≡ false = near_own p.clause.type j n in
             let (N, q) = there j A y o u in
             subst (λ z. ImageSkeleton κ (skeletons_beside R X) z t) (sym (own_is j o ∙ found_is j (scope p.clause) A (found_placed C p φ j) N y q) ∙ patch_same V X ω j u) (e, more Σ₁ R X N (skeleton A) (skel j A N y o u q)))
             (λ u. subst (λ b. ImageSkeleton κ (skeletons_beside R X) (pick b (ω j) (keep (beyond X j))) t) (sym u) (beyond_at R X j t h))

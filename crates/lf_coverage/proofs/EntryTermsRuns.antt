@@ -28,12 +28,12 @@ use Rattle.lf_coverage.proofs.NumberedSplits.{places_renamed}
 use Rattle.lf_coverage.proofs.StuckRuns.{goal_places}
 
 -- A case of a run from a goal of inputs has no given terms and no local context, and its places are those of the goal.
-record IsInputCase (m : List Bool) (C : NumberedCase) : Type 0 where
-  given : C.given ≡ []
-  local : C.local ≡ []
-  places : covered_places C.arguments ≡ m
+pub record IsInputCase (m : List Bool) (C : NumberedCase) : Type 0 where
+  pub given : C.given ≡ []
+  pub local : C.local ≡ []
+  pub places : covered_places C.arguments ≡ m
 
-comes_as_input : (Σ : Signature) (W : List Block) (first : ℕ) (below : ℕ → ℕ → Bool) (m : List Bool) (G C : NumberedCase) → IsInputCase m G → ComesByNumbers Σ W first below G C → IsInputCase m C
+pub comes_as_input : (Σ : Signature) (W : List Block) (first : ℕ) (below : ℕ → ℕ → Bool) (m : List Bool) (G C : NumberedCase) → IsInputCase m G → ComesByNumbers Σ W first below G C → IsInputCase m C
 comes_as_input Σ W first below m G C h no_split = h
 comes_as_input Σ W first below m G C h (then_block {D = D} B r w) =
     let k = comes_as_input Σ W first below m G D h r in
@@ -43,7 +43,7 @@ comes_as_input Σ W first below m G C h (then_split {D = D} x X j U A K after r 
     let υ : ℕ → Image = λ l. answer_values after s.well_formed.order (l + arguments_count A) in
     record { given = ap (put_in υ) k.given; local = ap (λ L. instance L υ) k.local; places = places_put (lift_over D.local υ) D.arguments ∙ k.places }
 
-goal_is_input : (first a : ℕ) (m : List Bool) (K : Kind) → MentionChosenOnly nothing m K → IsInputCase m (numbered first (input_goal a m K))
+pub goal_is_input : (first a : ℕ) (m : List Bool) (K : Kind) → MentionChosenOnly nothing m K → IsInputCase m (numbered first (input_goal a m K))
 goal_is_input first a m K v = record { given = refl; local = refl; places = places_put (numbering first (input_goal a m K).items).images (input_goal a m K).arguments ∙ goal_places nothing m K v }
 
 pub input_run_is_decided : InputRunIsDecided

@@ -1,7 +1,6 @@
 -- What is tried for what stands outside a clause is typed, and on own terms, and has constants for its fixed variables.
-use Rattle.std.proofs.Common.{◌≡◌, ℕ, suc, List, [], ◌∷◌, refl, sym, ap, ◌∙◌, subst}
+use Rattle.std.proofs.Common.{◌≡◌, ℕ, List, ◌∷◌, refl, sym, ap, ◌∙◌, subst}
 use Rattle.std.specs.Prelude.{Bool, true}
-use Rattle.lf.specs.Syntax.{LfType}
 use Rattle.lf.specs.Substitution.{Image}
 use Rattle.lf.specs.Entries.{quantifiers}
 use Rattle.lf.specs.Typing.{Signature, IsTypedSubstitution, IsSignature}
@@ -19,13 +18,10 @@ use Rattle.lf_coverage.specs.NumberedCase.{NumberedCase}
 use Rattle.lf_coverage.specs.NumberedInstance.{first_constant}
 use Rattle.lf_coverage.specs.OwnTerms.{blocks_of, own_terms, ImageOnOwnTerms}
 use Rattle.lf_coverage.specs.TypedNumbered.{IsTypedNumberedCase}
+use Rattle.lf_coverage.proofs.EntryPatternsItems.{before_own}
 use Rattle.lf_coverage.proofs.EntryPatternsNear.{AConstant, entry_constant_is, before_images}
 use Rattle.lf_coverage.proofs.EntryPatternsTyped.{variable_is_typed}
 use Rattle.lf_coverage.proofs.Standing.{before_typed}
-
-before_all : (P : Image → Type 0) (later : List LfType) (θ : ℕ → Image) → ((i : ℕ) → P (θ i)) → (j : ℕ) → P (before later θ j)
-before_all P [] θ h j = h (suc j)
-before_all P (D ∷ ds) θ h j = before_all P ds (λ i. θ (suc i)) (λ i. h (suc i)) j
 
 -- An instance has something that is tried, and with something that is tried values stand as an instance asks.
 pub given_is_tried : (first : ℕ) (C : NumberedCase) {c : Clause} (o : Origin c) (b : Bool) (τ : ℕ → Image) (s : StandsByNumber first C o b τ) → IsTried first C o b (outside_given first C o b τ s)
@@ -53,5 +49,5 @@ module _ (Σ : Signature) (ok : IsSignature Σ) (W : List Block) (typed : AreTyp
       record {
         outer_typed = subst (IsTypedSubstitution (with_entries Σ first (blocks_of C.blocks)) (onto es B.some) C.variables) (sym r) (before_typed (with_entries Σ first (blocks_of C.blocks)) C.variables later E (onto es B.some) θ (subst (λ D. IsTypedSubstitution (with_entries Σ first (blocks_of C.blocks)) D C.variables θ) shape t));
         fixed = λ j f. subst AConstant (sym (ap (λ g. g j) r ∙ ap (λ ds. before later (entry_images m U ds (some_images B.some U)) j) (sym e) ∙ before_images m U later E es (some_images B.some U) j)) (entry_constant_is m U es (some_images B.some U) j f);
-        own = λ j. subst (ImageOnOwnTerms (own_terms first C.blocks)) (sym (ap (λ g. g j) r)) (before_all (ImageOnOwnTerms (own_terms first C.blocks)) later θ o j);
+        own = λ j. subst (ImageOnOwnTerms (own_terms first C.blocks)) (sym (ap (λ g. g j) r)) (before_own (ImageOnOwnTerms (own_terms first C.blocks)) later θ o j);
       }

@@ -8,11 +8,11 @@ use Rattle.lf.specs.Variables.{target, target_arguments, binders}
 use Rattle.lf.specs.Subordination.{Block}
 use Rattle.lf_checks.specs.Clause.{Clause, IsClause, from_constant, from_entry}
 use Rattle.lf_checks.specs.Marks.{Mark, output_places}
-use Rattle.lf_cases.specs.Case.{Item, free_variable}
+use Rattle.lf_cases.specs.Case.{Item, free_variable, block_variable}
 use Rattle.lf_cases.specs.OutputGoal.{outside_items, outside_number, closed_over, kept_number, kept_items, renumber, over_item, raised_variable, goal_number, goal_masks, output_goal, output_items}
 use Rattle.lf_cases.specs.Pattern.{Origin, origin}
 use Rattle.lf_cases.specs.Raised.{raise_by, first_mask, other_masks}
-use Rattle.lf_cases.specs.Split.{HasOneBlockVariable}
+use Rattle.lf_cases.specs.Split.{HasNoBlockVariable, HasOneBlockVariable}
 use Rattle.lf_coverage.proofs.SolvedCase.{free_without}
 
 -- What items keep where free variables come, the goal has of what stands outside the clause.
@@ -41,3 +41,8 @@ module _ (P : List Item → Type 0) (next : (A : LfType) (I : List Item) → P I
 pub one_outside : {Σ : Signature} {W : List Block} {c : Clause} (d : IsClause Σ W c) → HasOneBlockVariable (outside_items (origin d))
 one_outside (from_constant k U e) = tt
 one_outside (from_entry B later E es m e) = free_without B.some
+
+pub one_without : (I : List Item) → HasNoBlockVariable I → HasOneBlockVariable I
+one_without [] n = tt
+one_without (free_variable A ∷ I) n = one_without I n
+one_without (block_variable B υ ∷ I) n = absurd n

@@ -1,9 +1,9 @@
 -- The variables that are ground by the covered places hold those in their types.
 use Rattle.std.proofs.Common.{◌≡◌, ℕ, List, [], ◌∷◌, inl, inr, refl, sym, ap, ◌∙◌, subst}
-use Rattle.std.specs.Prelude.{Bool, true, false, ◌⊎◌}
-use Rattle.lf.specs.Syntax.{LfType}
-use Rattle.lf.specs.Typing.{TypeAt}
-use Rattle.lf.specs.Variables.{target_arguments, UsesType, everything, nothing}
+use Rattle.std.specs.Prelude.{Bool, true, false, ◌⊎◌, Some}
+use Rattle.lf.specs.Syntax.{LfType, Kind}
+use Rattle.lf.specs.Typing.{Signature, TypeAt, IsContext, IsType, IsSignature}
+use Rattle.lf.specs.Variables.{target, target_arguments, UsesType, everything, nothing}
 use Rattle.lf.proofs.Agreement.{uses_type_within}
 use Rattle.lf.proofs.Partial.{uses_type_all}
 use Rattle.lf_checks.specs.Clause.{Clause, scope, variables, outside}
@@ -40,12 +40,15 @@ outputs_are [] = refl
 outputs_are (true ∷ m) = ap (λ b. true ∷ b) (outputs_are m)
 outputs_are (false ∷ m) = ap (λ b. false ∷ b) (outputs_are m)
 
-pub head_ground_holds_types : HeadGroundHoldsTypes
-head_ground_holds_types Σ ok W typed c i K k m v u =
-    let ty = clause_typed Σ ok W typed c i in
+-- what the covered places of the head of a typed clause make ground holds the variables in its types
+pub typed_ground_holds : (Σ : Signature) → IsSignature Σ → (c : Clause) → IsContext Σ c.outer → IsType Σ c.outer c.type → (K : Kind) → Σ.kinds (target c.type) ≡ Some K → (m : List Bool) → MentionChosenOnly nothing m K → UsesPlaces (ground_by everything m c) m (target_arguments c.type) → HoldsTypes (ground_by everything m c) (scope c)
+typed_ground_holds Σ ok c o t K k m v u =
     subst (λ b. UsesPlaces (ground_by everything b c) b (target_arguments c.type) → HoldsTypes (ground_by everything b c) (scope c)) (inputs_are m)
-    (λ w. first_closed Σ ok (λ a. inputs_at m) c K ty.0 ty.1 k (subst (λ b. MentionChosenOnly nothing b K) (sym (inputs_are m)) v) w)
+    (λ w. first_closed Σ ok (λ a. inputs_at m) c K o t k (subst (λ b. MentionChosenOnly nothing b K) (sym (inputs_are m)) v) w)
     u
+
+pub head_ground_holds_types : HeadGroundHoldsTypes
+head_ground_holds_types Σ ok W typed c i K k m v u = let (o, t) = clause_typed Σ ok W typed c i in typed_ground_holds Σ ok c o t K k m v u
 
 pub either_three : (a b d : Bool) → either (either a b) d ≡ either a (either b d)
 either_three true b d = refl

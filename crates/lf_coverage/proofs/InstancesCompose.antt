@@ -1,9 +1,9 @@
 -- Typed instances of cases compose, where no item is a block variable; and so each case that the strategy reaches is a typed instance of the goal.
 use Rattle.std.proofs.Common.{◌≡◌, ℕ, zero, suc, List, [], ◌∷◌, refl, sym, ap, ap₂, ◌∙◌, subst}
 use Rattle.std.specs.Prelude.{Bool, Option, Some, None}
-use Rattle.lf.specs.Syntax.{variable, Term, nil, app, LfType, atom, Skeleton, base, arrow, skeleton}
-use Rattle.lf.specs.Substitution.{Image, keep, put, lift, rename_image, substitute, substitute_image, substitute_type, reduce, after}
-use Rattle.lf.specs.SkeletonTyping.{TermSkeleton, TypeBySkeletons, SubstitutionBySkeletons}
+use Rattle.lf.specs.Syntax.{variable, Term, LfType, Skeleton, skeleton}
+use Rattle.lf.specs.Substitution.{Image, keep, put, substitute, substitute_image, substitute_type, reduce, after}
+use Rattle.lf.specs.SkeletonTyping.{TermSkeleton, SubstitutionBySkeletons}
 use Rattle.lf.specs.Skeletons.{constant_skeletons, family_skeletons, context_skeletons}
 use Rattle.lf.specs.AtOnce.{in_front}
 use Rattle.lf.specs.Eta.{eta_long}
@@ -12,20 +12,18 @@ use Rattle.lf.specs.Variables.{onto}
 use Rattle.lf.specs.Subordination.{Block, AreTypedBlocks}
 use Rattle.lf.specs.Worlds.{lift_over, instance}
 use Rattle.lf.proofs.Composition.{substitutions_compose}
-use Rattle.lf.proofs.Eta.{rename_eta_expand}
 use Rattle.lf.proofs.EtaTyping.{eta_long_has_type}
-use Rattle.lf.proofs.Renaming.{substitute_identity}
 use Rattle.lf.proofs.SkeletonTypes.{substitutions_compose_type, substitution_keeps_types_by_skeletons}
 use Rattle.lf.proofs.Substitution.{TypedSubstitution, skeleton_context_of, substitution_keeps_typing, typed_substitution_by_skeletons}
 use Rattle.lf.proofs.ToSkeletons.{type_by_skeletons}
-use Rattle.lf.proofs.TypeLaws.{skeleton_substituted, substitute_identity_type}
+use Rattle.lf.proofs.TypeLaws.{skeleton_substituted}
 use Rattle.lf.proofs.Weakening.{declared_is_type}
 use Rattle.lf_cases.specs.Case.{Item, free_variable, block_variable, Case, items_context}
 use Rattle.lf_cases.specs.Split.{HasNoBlockVariable}
 use Rattle.lf_cases.specs.Missing.{AreTypedItems, BlockAmong, IsTypedInstance, IsInstanceOfGoal, put_in}
 use Rattle.lf_cases.specs.Pattern.{Pattern}
 use Rattle.lf_cases.specs.Reached.{Reached, goal_is_reached, split_is_reached}
-use Rattle.lf_cases.proofs.LongValues.{long_at, long_past, long_same}
+use Rattle.lf_cases.proofs.LongValues.{long_at}
 use Rattle.lf_cases.proofs.OutputItems.{lifted}
 use Rattle.lf_coverage.specs.Heads.{HaveSkeletons, IsTypedCase}
 use Rattle.lf_coverage.specs.MeetStore.{IsOpen}
@@ -33,13 +31,14 @@ use Rattle.lf_coverage.specs.TypedLocal.{HasTypedLocal}
 use Rattle.lf_coverage.specs.Laws.{InstancesCompose, ReachedIsInstance}
 use Rattle.lf_coverage.proofs.GroundTyped.{front_typed}
 use Rattle.lf_coverage.proofs.ItemsContext.{items_are_context}
+use Rattle.lf_coverage.proofs.LongValuesStay.{local_stays, terms_stay, type_stays}
 use Rattle.lf_coverage.proofs.SolvedCase.{typed_instance}
 use Rattle.lf_coverage.proofs.SplitInstance.{split_case_is_instance}
 use Rattle.lf_coverage.proofs.StoreSolution.{long_at_is}
 use Rattle.lf_coverage.proofs.Transfer.{lift_instance, after_over, lifted_instance}
 use mathlib.Core.Path.{fun_ext}
 
-front_after : (x : Image) (τ ρ : ℕ → Image) (i : ℕ) → after ρ (in_front x τ) i ≡ in_front (substitute_image ρ x) (after ρ τ) i
+pub front_after : (x : Image) (τ ρ : ℕ → Image) (i : ℕ) → after ρ (in_front x τ) i ≡ in_front (substitute_image ρ x) (after ρ τ) i
 front_after x τ ρ zero = refl
 front_after x τ ρ (suc i) = refl
 
@@ -48,12 +47,12 @@ module _ (Σ : Signature) (C J G : List LfType) (σ ρ : ℕ → Image) (fσ : S
   pub first_under : (L : List LfType) → SubstitutionBySkeletons (constant_skeletons Σ) (context_skeletons (onto L C)) (context_skeletons (onto (instance L σ) J)) (lift_over L σ)
   first_under L = lifted Σ L C J σ fσ
 
-  term_twice : (L : List LfType) (M : Term) (t : Skeleton) → TermSkeleton (constant_skeletons Σ) (context_skeletons (onto L C)) M t → substitute reduce (lift_over L ρ) (substitute reduce (lift_over L σ) M) ≡ substitute reduce (lift_over L (after ρ σ)) M
+  pub term_twice : (L : List LfType) (M : Term) (t : Skeleton) → TermSkeleton (constant_skeletons Σ) (context_skeletons (onto L C)) M t → substitute reduce (lift_over L ρ) (substitute reduce (lift_over L σ) M) ≡ substitute reduce (lift_over L (after ρ σ)) M
   term_twice L M t m =
       substitutions_compose (constant_skeletons Σ) (context_skeletons (onto L C)) (context_skeletons (onto (instance L σ) J)) (context_skeletons (onto (instance (instance L σ) ρ) G)) (lift_over L σ) (lift_over L ρ) M t (first_under L) (lifted_instance Σ J G L σ ρ fρ) m
       ∙ ap (λ f. substitute reduce f M) (after_over L σ ρ)
 
-  terms_twice : (L : List LfType) (Ms : List (Option Term)) → HaveSkeletons (constant_skeletons Σ) (context_skeletons (onto L C)) Ms → put_in (lift_over L ρ) (put_in (lift_over L σ) Ms) ≡ put_in (lift_over L (after ρ σ)) Ms
+  pub terms_twice : (L : List LfType) (Ms : List (Option Term)) → HaveSkeletons (constant_skeletons Σ) (context_skeletons (onto L C)) Ms → put_in (lift_over L ρ) (put_in (lift_over L σ) Ms) ≡ put_in (lift_over L (after ρ σ)) Ms
   terms_twice L [] h = refl
   terms_twice L (Some M ∷ Ms) ((t, m), h) = ap₂ (λ N Ns. Some N ∷ Ns) (term_twice L M t m) (terms_twice L Ms h)
   terms_twice L (None ∷ Ms) h = ap (λ Ns. None ∷ Ns) (terms_twice L Ms h)
@@ -110,51 +109,6 @@ instances_compose Σ ok W typed goal C D tg tl ng nc i j =
       same_local = j.same_local ∙ ap (λ L. instance L j.values) i.same_local ∙ local_twice Σ (items_context goal.items) (items_context C.items) (items_context D.items) i.values j.values f h goal.local tl;
       same_arguments = j.same_arguments ∙ ap₂ (λ L Ms. put_in (lift_over L j.values) Ms) i.same_local i.same_arguments ∙ ap (λ f. put_in f (put_in (lift_over goal.local i.values) goal.arguments)) (lift_instance goal.local i.values j.values) ∙ terms_twice Σ (items_context goal.items) (items_context C.items) (items_context D.items) i.values j.values f h goal.local goal.arguments tg.arguments;
     }
-
--- The variables of a context as terms: each is its eta-long form.
-moved_at : (O : List LfType) (ρ : ℕ → ℕ) (i : ℕ) → rename_image suc (long_at O (λ j. keep (ρ j)) i) ≡ long_at O (λ j. keep (suc (ρ j))) i
-moved_at [] ρ i = refl
-moved_at (A ∷ O) ρ zero = ap (put (skeleton A)) (rename_eta_expand suc (skeleton A) (variable (ρ zero)) nil)
-moved_at (A ∷ O) ρ (suc i) = moved_at O (λ j. ρ (suc j)) i
-
-moved_past : (L O : List LfType) (ρ : ℕ → ℕ) (i : ℕ) → rename_image suc (long_past L O (λ j. keep (ρ j)) i) ≡ long_past L O (λ j. keep (suc (ρ j))) i
-moved_past [] O ρ i = moved_at O ρ i
-moved_past (A ∷ L) O ρ zero = refl
-moved_past (A ∷ L) O ρ (suc i) = moved_past L O (λ j. ρ (suc j)) i
-
--- so they stand under a local context
-long_under : (L O : List LfType) → lift_over L (long_at O keep) ≡ long_past L O keep
-long_under [] O = refl
-long_under (A ∷ L) O = ap lift (long_under L O) ∙ fun_ext one
-  where
-    one : (i : ℕ) → lift (long_past L O keep) i ≡ long_past (A ∷ L) O keep i
-    one zero = refl
-    one (suc i) = moved_past L O (λ j. j) i
-
-module _ (Σ : Signature) (O : List LfType) where
-  type_stays : (L : List LfType) (A : LfType) → TypeBySkeletons (family_skeletons Σ) (constant_skeletons Σ) (context_skeletons (onto L O)) A → substitute_type reduce (lift_over L (long_at O keep)) A ≡ A
-  type_stays L A k =
-      ap (λ f. substitute_type reduce f A) (long_under L O)
-      ∙ long_same (constant_skeletons Σ) (family_skeletons Σ) L O (context_skeletons (onto L O)) keep A (λ i t g. g) k
-      ∙ substitute_identity_type reduce A
-
-  term_stays : (L : List LfType) (M : Term) (t : Skeleton) → TermSkeleton (constant_skeletons Σ) (context_skeletons (onto L O)) M t → substitute reduce (lift_over L (long_at O keep)) M ≡ M
-  term_stays L M t m =
-      ap (λ f. substitute reduce f M) (long_under L O)
-      ∙ argument (long_same (constant_skeletons Σ) (λ a. Some (arrow t (base 0))) L O (context_skeletons (onto L O)) keep (atom 0 (app M nil)) (λ i u g. g) (arrow t (base 0), refl, (m, refl)))
-      ∙ substitute_identity reduce M
-    where
-      argument : atom 0 (app (substitute reduce (long_past L O keep) M) nil) ≡ atom 0 (app (substitute reduce keep M) nil) → substitute reduce (long_past L O keep) M ≡ substitute reduce keep M
-      argument e = cc
-
-  terms_stay : (L : List LfType) (Ms : List (Option Term)) → HaveSkeletons (constant_skeletons Σ) (context_skeletons (onto L O)) Ms → put_in (lift_over L (long_at O keep)) Ms ≡ Ms
-  terms_stay L [] h = refl
-  terms_stay L (Some M ∷ Ms) ((t, m), h) = ap₂ (λ N Ns. Some N ∷ Ns) (term_stays L M t m) (terms_stay L Ms h)
-  terms_stay L (None ∷ Ms) h = ap (λ Ns. None ∷ Ns) (terms_stay L Ms h)
-
-  local_stays : (L : List LfType) → IsContext Σ (onto L O) → instance L (long_at O keep) ≡ L
-  local_stays [] c = refl
-  local_stays (A ∷ L) (c, t) = ap₂ (λ X Y. X ∷ Y) (type_stays L A (type_by_skeletons Σ (onto L O) A t)) (local_stays L c)
 
 -- A typed case is a typed instance of itself.
 whole : (Σ : Signature) → IsSignature Σ → (W : List Block) → AreTypedBlocks Σ W → (C : Case) → IsTypedCase Σ W C → HasTypedLocal Σ C → HasNoBlockVariable C.items → IsInstanceOfGoal Σ W C C

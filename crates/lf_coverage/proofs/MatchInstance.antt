@@ -39,7 +39,7 @@ same_blocks : (Σ : Signature) {c : Clause} (o : Origin c) → IsConstants o →
 same_blocks Σ (of_constant U) k W I a = a
 same_blocks Σ (of_entry B later E es e) k W I a = absurd k
 
-same_self : (Ms : List (Option Term)) (T : Spine) → ArePlaces Ms T → SamePlaces (covered_places Ms) T T
+pub same_self : (Ms : List (Option Term)) (T : Spine) → ArePlaces Ms T → SamePlaces (covered_places Ms) T T
 same_self [] nil h = tt
 same_self [] (app N T) h = h
 same_self (Some M ∷ Ms) nil h = h

@@ -91,7 +91,7 @@ is_own (of_constant U) k i X g = own_in_scope U [] everything (λ j Y q. absurd 
 is_own (of_entry B later E es q) k i X g = absurd k
 
 -- The values agree where a pattern uses them.
-places_agree : (U : ℕ → Bool) (σ τ : ℕ → Image) → SameOn U σ τ → (Ms : List (Option Term)) (S : Spine) → UsesPlaces U (covered_places Ms) S → ArePlaces Ms (substitute_spine reduce σ S) → ArePlaces Ms (substitute_spine reduce τ S)
+pub places_agree : (U : ℕ → Bool) (σ τ : ℕ → Image) → SameOn U σ τ → (Ms : List (Option Term)) (S : Spine) → UsesPlaces U (covered_places Ms) S → ArePlaces Ms (substitute_spine reduce σ S) → ArePlaces Ms (substitute_spine reduce τ S)
 places_agree U σ τ h [] nil u e = e
 places_agree U σ τ h [] (app Q S) u e = e
 places_agree U σ τ h (Some M ∷ Ms) nil u e = e

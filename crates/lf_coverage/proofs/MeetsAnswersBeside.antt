@@ -11,25 +11,12 @@ use Rattle.lf_checks.specs.ModeForms.{argument_count}
 use Rattle.lf_cases.specs.Cover.{before}
 use Rattle.lf_coverage.specs.EntryConstants.{entry_images}
 use Rattle.lf_coverage.specs.EntryPatterns.{last_of, but_last, some_images}
-use Rattle.lf_coverage.specs.NumberedInstance.{block_at, move, move_spine}
+use Rattle.lf_coverage.specs.NumberedInstance.{block_at}
 use Rattle.lf_coverage.specs.OwnTerms.{BlockVariable, put_in_blocks}
 use Rattle.lf_coverage.specs.WritingRoom.{move_image}
+use Rattle.lf_coverage.proofs.EntryPatternsAmong.{others_count}
 use Rattle.lf_coverage.proofs.EntryValues.{after_entries}
 use Rattle.lf_coverage.proofs.Parts.{none_some, some_same}
-
-last_moved : (γ : ℕ → ℕ) (M : Term) (S : Spine) → last_of (move γ M) (move_spine γ S) ≡ move γ (last_of M S)
-last_moved γ M nil = refl
-last_moved γ M (app N S) = last_moved γ N S
-
-others_moved : (γ : ℕ → ℕ) (M : Term) (S : Spine) → but_last (move γ M) (move_spine γ S) ≡ move_spine γ (but_last M S)
-others_moved γ M nil = refl
-others_moved γ M (app N S) = ap (app (move γ M)) (others_moved γ N S)
-
-pub some_images_moved : (γ : ℕ → ℕ) (O : List LfType) (U : Spine) (i : ℕ) → some_images O (move_spine γ U) i ≡ move_image γ (some_images O U i)
-some_images_moved γ [] U i = refl
-some_images_moved γ (A ∷ O) nil i = refl
-some_images_moved γ (A ∷ O) (app M U) zero = ap (put (skeleton A)) (last_moved γ M U)
-some_images_moved γ (A ∷ O) (app M U) (suc i) = ap (λ V. some_images O V i) (others_moved γ M U) ∙ some_images_moved γ O (but_last M U) i
 
 pub before_moved : (γ : ℕ → ℕ) (later : List LfType) (θ : ℕ → Image) → before later (λ i. move_image γ (θ i)) ≡ (λ i. move_image γ (before later θ i))
 before_moved γ [] θ = refl
@@ -43,10 +30,6 @@ last_put υ M (app N S) = last_put υ N S
 others_put : (υ : ℕ → Image) (M : Term) (S : Spine) → but_last (substitute reduce υ M) (substitute_spine reduce υ S) ≡ substitute_spine reduce υ (but_last M S)
 others_put υ M nil = refl
 others_put υ M (app N S) = ap (app (substitute reduce υ M)) (others_put υ N S)
-
-others_count : (M : Term) (S : Spine) → argument_count (but_last M S) ≡ argument_count S
-others_count M nil = refl
-others_count M (app N S) = ap suc (others_count N S)
 
 suc_same : {i j : ℕ} → suc i ≡ suc j → i ≡ j
 suc_same e = cc

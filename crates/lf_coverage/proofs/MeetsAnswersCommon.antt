@@ -1,18 +1,18 @@
 -- What is read off a solved store of a case and a pattern that is put beside it is shared by both.
-use Rattle.std.proofs.Common.{◌≡◌, ◌≤◌, ℕ, zero, suc, ◌+◌, List, [], ◌∷◌, length, inr, refl, sym, ap, ◌∙◌, subst, arith}
-use Rattle.std.specs.Prelude.{false, Option, Some}
-use Rattle.lf.specs.Syntax.{Spine, LfType, Kind}
+use Rattle.std.proofs.Common.{◌≡◌, ◌≤◌, ℕ, zero, ◌+◌, List, [], length, refl, ap, ◌∙◌, subst, arith}
+use Rattle.std.specs.Prelude.{false}
+use Rattle.lf.specs.Syntax.{LfType, Kind}
 use Rattle.lf.specs.Entries.{quantifiers}
 use Rattle.lf.specs.Substitution.{Image, substitute_image}
 use Rattle.lf.specs.Typing.{Signature, IsSignature}
 use Rattle.lf.specs.Variables.{binders}
-use Rattle.lf.specs.Subordination.{Block, AreTypedBlocks, Member}
+use Rattle.lf.specs.Subordination.{Block, AreTypedBlocks}
 use Rattle.lf_unification.specs.Solving.{IsWellFormed, Solved}
 use Rattle.lf_unification.specs.Unifiers.{Store}
 use Rattle.lf_checks.specs.Clause.{Clause}
 use Rattle.lf_cases.specs.Cover.{outer_images}
 use Rattle.lf_cases.specs.Missing.{blocks_with}
-use Rattle.lf_cases.specs.Pattern.{Origin, of_constant, of_entry, Pattern}
+use Rattle.lf_cases.specs.Pattern.{Origin, Pattern}
 use Rattle.lf_cases.proofs.OutputItems.{lift_over_far}
 use Rattle.lf_totality.proofs.Core.{outer_at}
 use Rattle.lf_coverage.specs.EntryConstants.{with_entries, IsFreeFrom}
@@ -21,28 +21,19 @@ use Rattle.lf_coverage.specs.EntryTerms.{IsTried}
 use Rattle.lf_coverage.specs.Leaf.{IsTypedPattern}
 use Rattle.lf_coverage.specs.MeetsAnswers.{FitsPattern}
 use Rattle.lf_coverage.specs.NumberedCallsMeeting.{SharesInstance}
-use Rattle.lf_coverage.specs.NumberedCallsStores.{Identifies, identified, move_blocks, meet_store_by_number}
-use Rattle.lf_coverage.specs.NumberedCase.{NumberedCase, AreTypedBlockVariables, AreTypedVariables}
-use Rattle.lf_coverage.specs.NumberedInstance.{block_at, moved_constant, move_spine}
-use Rattle.lf_coverage.specs.OwnTerms.{BlockVariable, blocks_of, own_terms}
+use Rattle.lf_coverage.specs.NumberedCallsStores.{Identifies, identified, meet_store_by_number}
+use Rattle.lf_coverage.specs.NumberedCase.{NumberedCase, AreTypedVariables}
+use Rattle.lf_coverage.specs.NumberedInstance.{moved_constant}
+use Rattle.lf_coverage.specs.OwnTerms.{blocks_of, own_terms}
 use Rattle.lf_coverage.specs.TypedNumbered.{IsTypedNumberedCase}
 use Rattle.lf_coverage.proofs.EntryPatternsNear.{binders_count, out_far}
 use Rattle.lf_coverage.proofs.MeetsAnswersBeside.{image_behind}
 use Rattle.lf_coverage.proofs.MeetsAnswersForm.{φ, T, X, n, placed_store, store_is}
 use Rattle.lf_coverage.proofs.MeetsAnswersPattern.{clause_values, read_has_pattern}
 use Rattle.lf_coverage.proofs.MeetsAnswersRead.{blocks_same, read_case, read_is_instance, read_typed}
-use Rattle.lf_coverage.proofs.MeetsAnswersEquations.{blocks_stay}
 use Rattle.lf_coverage.proofs.MeetsAnswersSame.{σ, υ}
-use Rattle.lf_coverage.proofs.Parts.{none_some, some_same}
-
--- block variables are typed where there are more worlds
-more_worlds : (Σ : Signature) (W V : List Block) → ((B : Block) → Member B W → Member B V) → (X : List LfType) (o : ℕ → Option Spine) (bs : List BlockVariable) → AreTypedBlockVariables Σ W X o bs → AreTypedBlockVariables Σ V X o bs
-more_worlds Σ W V f X o [] t = tt
-more_worlds Σ W V f X o (b ∷ bs) (m, s, u, t) = (f b.block m, s, u, more_worlds Σ W V f X o bs t)
-
-with_more : {c : Clause} (p : Origin c) (W : List Block) (B : Block) → Member B W → Member B (blocks_with p W)
-with_more (of_constant U) W B m = m
-with_more (of_entry D later E es e) W B m = inr m
+use Rattle.lf_coverage.proofs.MoreWorlds.{more_worlds, with_more}
+use Rattle.lf_coverage.proofs.MovedConstants.{blocks_stay}
 
 pub variables_with : (Σ : Signature) (first : ℕ) (W : List Block) {c : Clause} (p : Origin c) (D : NumberedCase) → AreTypedVariables Σ first W D → AreTypedVariables Σ first (blocks_with p W) D
 variables_with Σ first W p D t = record { variables = t.variables; on_own_terms = t.on_own_terms; blocks = more_worlds (with_entries Σ first (blocks_of D.blocks)) W (blocks_with p W) (with_more p W) D.variables (own_terms first D.blocks) D.blocks t.blocks }
@@ -52,16 +43,6 @@ zero_stays π h = by (π zero) (h zero)
   where
     by : (m : ℕ) → m ≤ zero → m ≡ zero
     by m l = omega (arith, l)
-
-pub moved_before : (γ : ℕ → ℕ) (bs : List BlockVariable) (k : ℕ) (d : BlockVariable) → block_at (move_blocks γ bs) k ≡ Some d → (b : BlockVariable) × (block_at bs k ≡ Some b) × (d ≡ record { block = b.block; terms = move_spine γ b.terms })
-moved_before γ [] k d e = absurd (none_some e)
-moved_before γ (b ∷ bs) zero d e = (b, refl, sym (some_same e))
-moved_before γ (b ∷ bs) (suc k) d e = moved_before γ bs k d e
-
-pub moved_there : (γ : ℕ → ℕ) (bs : List BlockVariable) (k : ℕ) (b : BlockVariable) → block_at bs k ≡ Some b → block_at (move_blocks γ bs) k ≡ Some (record { block = b.block; terms = move_spine γ b.terms })
-moved_there γ [] k b e = absurd (none_some e)
-moved_there γ (d ∷ bs) zero b e = ap (λ (c : BlockVariable). Some (record { block = c.block; terms = move_spine γ c.terms })) (some_same e)
-moved_there γ (d ∷ bs) (suc k) b e = moved_there γ bs k b e
 
 module _ (Σ : Signature) (ok : IsSignature Σ) (W : List Block) (typed : AreTypedBlocks Σ W) (first : ℕ) (free : IsFreeFrom Σ first) (C : NumberedCase) (tc : IsTypedNumberedCase Σ first W C) (p : Pattern) (tp : IsTypedPattern Σ p) (K : Kind) (fits : FitsPattern Σ W C p K) (π : ℕ → ℕ) (ids : Identifies C π) (oldest : (k : ℕ) → π k ≤ k) where
   abbrev γ : ℕ → ℕ

@@ -23,8 +23,7 @@ use Rattle.lf_coverage.specs.NewBlock.{rename_all, with_new_block}
 use Rattle.lf_coverage.specs.SplitStore.{open_spine, open_locals, context_metavariables}
 use Rattle.lf_coverage.proofs.Choices.{decided}
 use Rattle.lf_coverage.proofs.EntryPatternsNumbers.{inside_list}
-use Rattle.lf_coverage.proofs.MeetsAnswersBack.{renamed_length}
-use Rattle.lf_coverage.proofs.MeetsAnswersNew.{moved_blocks_length}
+use Rattle.lf_coverage.proofs.RenamedBlocks.{renamed_length, moved_length}
 use Rattle.lf_coverage.proofs.WritingChoice.{from_is}
 use mathlib.Core.Path.{fun_ext}
 
@@ -143,7 +142,7 @@ module _ (first : ℕ) (C : NumberedCase) (π : ℕ → ℕ) (ids : Identifies C
   E = identified first π C
 
   length_is : length E.blocks ≡ n
-  length_is = moved_blocks_length (moved_constant first (blocks_of C.blocks) (blocks_of C.blocks) π) C.blocks
+  length_is = moved_length (moved_constant first (blocks_of C.blocks) (blocks_of C.blocks) π) C.blocks
 
   inside : (k : ℕ) (b : BlockVariable) → block_at E.blocks k ≡ Some b → k < n
   inside k b e = subst (λ m. k < m) length_is (inside_list E.blocks k b e)

@@ -1,35 +1,13 @@
 -- Whether block variables are one by numbers is decided, and block variables are searched.
-use Rattle.std.proofs.Common.{◌≡◌, ℕ, zero, suc, ◌⊎◌, List, [], ◌∷◌, inl, inr, refl, sym, ap, ap₂, ◌∙◌, subst}
+use Rattle.std.proofs.Common.{◌≡◌, ℕ, zero, suc, ◌⊎◌, List, [], ◌∷◌, inl, inr, refl, sym, ◌∙◌, subst}
 use Rattle.std.specs.Prelude.{Bool, true, false, Option, Some, None}
-use Rattle.lf.specs.Subordination.{Block}
-use Rattle.lf_checks.proofs.SmallerDecided.{same_type}
 use Rattle.lf_coverage.specs.NumberedCallsStores.{Identifies}
 use Rattle.lf_coverage.specs.NumberedCase.{NumberedCase}
 use Rattle.lf_coverage.specs.NumberedInstance.{block_at}
 use Rattle.lf_coverage.specs.OwnTerms.{BlockVariable}
+use Rattle.lf_coverage.proofs.EntryTermsDecided.{same_block}
 use Rattle.lf_coverage.proofs.Parts.{none_some, some_same}
 use native.Mathlib.Decide.{ℕ_discrete}
-
--- Blocks are the same or not.
-same_list : {A : Type 0} → ((x y : A) → Dec (x ≡ y)) → (xs ys : List A) → Dec (xs ≡ ys)
-same_list d [] [] = yes refl
-same_list d [] (y ∷ ys) = no (λ e. cc)
-same_list d (x ∷ xs) [] = no (λ e. cc)
-same_list d (x ∷ xs) (y ∷ ys) = by (d x y) (same_list d xs ys)
-  where
-    by : Dec (x ≡ y) → Dec (xs ≡ ys) → Dec (x ∷ xs ≡ y ∷ ys)
-    by (yes e) (yes q) = yes (ap₂ (λ z zs. z ∷ zs) e q)
-    by (yes e) (no n) = no (λ q. n cc)
-    by (no n) q = no (λ q. n cc)
-
-pub same_block : (B D : Block) → Dec (B ≡ D)
-same_block B D = by (same_list ℕ_discrete B.label D.label) (same_list same_type B.some D.some) (same_list same_type B.entries D.entries)
-  where
-    by : Dec (B.label ≡ D.label) → Dec (B.some ≡ D.some) → Dec (B.entries ≡ D.entries) → Dec (B ≡ D)
-    by (yes l) (yes s) (yes e) = yes (ap (λ k. record { label = k; some = B.some; entries = B.entries }) l ∙ ap (λ k. record { label = D.label; some = k; entries = B.entries }) s ∙ ap (λ k. record { label = D.label; some = D.some; entries = k }) e)
-    by (no n) s e = no (λ q. n (ap (λ (C : Block). C.label) q))
-    by (yes l) (no n) e = no (λ q. n (ap (λ (C : Block). C.some) q))
-    by (yes l) (yes s) (no n) = no (λ q. n (ap (λ (C : Block). C.entries) q))
 
 -- each of the block variables is so, or not
 each_block : (bs : List BlockVariable) (P : ℕ → BlockVariable → Type 0) → ((k : ℕ) (b : BlockVariable) → Dec (P k b)) → Dec ((k : ℕ) (b : BlockVariable) → block_at bs k ≡ Some b → P k b)
@@ -49,12 +27,6 @@ pub both_decided : {A B : Type 0} → Dec A → Dec B → Dec (A × B)
 both_decided (yes a) (yes b) = yes (a, b)
 both_decided (no n) b = no (λ h. n h.0)
 both_decided (yes a) (no n) = no (λ h. n h.1)
-
-pub three_decided : {A B C : Type 0} → Dec A → Dec B → Dec C → Dec (A × B × C)
-three_decided (yes a) (yes b) (yes c) = yes (a, b, c)
-three_decided (no n) b c = no (λ h. n h.0)
-three_decided (yes a) (no n) c = no (λ h. n h.1)
-three_decided (yes a) (yes b) (no n) = no (λ h. n h.2)
 
 pub is_false : (b : Bool) → Dec (b ≡ false)
 is_false true = no (λ e. cc)

@@ -1,5 +1,5 @@
 -- A constant's pattern, or an entry's beside a block variable of the case: where unification solves the store, they share a typed instance.
-use Rattle.std.proofs.Common.{◌≡◌, ◌≤◌, ℕ, zero, ◌+◌, List, ◌∷◌, length, refl, sym, ap, ◌∙◌, subst}
+use Rattle.std.proofs.Common.{◌≡◌, ◌≤◌, ℕ, zero, List, ◌∷◌, length, refl, sym, ap, ◌∙◌, subst}
 use Rattle.std.specs.Prelude.{Bool, true, false, Some}
 use Rattle.lf.specs.Syntax.{Spine, LfType, Kind}
 use Rattle.lf.specs.Substitution.{Image, keep, substitute_image, substitute_spine, reduce}
@@ -27,13 +27,14 @@ use Rattle.lf_coverage.specs.WritingRoom.{move_image}
 use Rattle.lf_coverage.proofs.EntryPatternsNear.{before_images}
 use Rattle.lf_coverage.proofs.EntryPatternsTyped.{typed_at}
 use Rattle.lf_coverage.proofs.EntryValues.{count_some}
-use Rattle.lf_coverage.proofs.MeetsAnswersBeside.{before_moved, images_put, put_at, some_images_moved}
+use Rattle.lf_coverage.proofs.IdentifiedConstants.{variable_stays}
+use Rattle.lf_coverage.proofs.MeetsAnswersBeside.{before_moved, images_put, put_at}
 use Rattle.lf_coverage.proofs.MeetsAnswersForm.{φ}
-use Rattle.lf_coverage.proofs.MeetsAnswersMoved.{entry_moved, images_moved}
 use Rattle.lf_coverage.proofs.MeetsAnswersRead.{blocks_same}
-use Rattle.lf_coverage.proofs.MeetsAnswersEquations.{blocks_stay, count_moved}
+use Rattle.lf_coverage.proofs.MeetsAnswersEquations.{count_moved}
 use Rattle.lf_coverage.proofs.MeetsAnswersSame.{υ}
-use Rattle.lf_coverage.proofs.MeetsAnswersCommon.{D, moved_before, moved_there, outside_value, placed_form, placed_solved, shares, zero_stays}
+use Rattle.lf_coverage.proofs.MeetsAnswersCommon.{D, outside_value, placed_form, placed_solved, shares, zero_stays}
+use Rattle.lf_coverage.proofs.MovedConstants.{blocks_stay, moved_at, moved_from}
 use mathlib.Core.Path.{fun_ext}
 
 -- A constant's pattern, and an entry's beside a block variable of the case
@@ -73,14 +74,11 @@ module _ (Σ : Signature) (ok : IsSignature Σ) (W : List Block) (typed : AreTyp
           no : false ≡ true → ⊥
           no r = cc
 
-      stay : (l : List LfType) (F : LfType) (ds : List LfType) → onto l (F ∷ ds) ≡ B.entries → γ (m + length ds) ≡ m + length ds
-      stay l F ds q = entry_moved Σ ok W typed first free C tc.variables π ids k (record { block = B; terms = U }) at l F ds q ∙ ap (λ j. first_constant first (blocks_of C.blocks) j + length ds) fixed
-
-      image_moved : (i : ℕ) → entry_images m (move_spine γ U) B.entries (some_images B.some (move_spine γ U)) i ≡ move_image γ (variable_images first C.blocks k B U i)
-      image_moved i = ap (λ η. entry_images m (move_spine γ U) B.entries η i) (fun_ext (some_images_moved γ B.some U)) ∙ sym (images_moved γ m m U (some_images B.some U) B.entries stay i)
+      stays : (i : ℕ) → entry_images m (move_spine γ U) B.entries (some_images B.some (move_spine γ U)) i ≡ move_image γ (variable_images first C.blocks k B U i)
+      stays i = sym (variable_stays Σ ok W typed first free C tc.variables π ids k B U at fixed i)
 
       outer_is : before later (variable_images first J.blocks k B (move_spine γ U)) ≡ (λ i. move_image γ (φ₀ i))
-      outer_is = ap (λ Bs. before later (entry_images (first_constant first Bs k) (move_spine γ U) B.entries (some_images B.some (move_spine γ U)))) (blocks_stay γ C.blocks) ∙ ap (before later) (fun_ext image_moved) ∙ before_moved γ later (variable_images first C.blocks k B U)
+      outer_is = ap (λ Bs. before later (entry_images (first_constant first Bs k) (move_spine γ U) B.entries (some_images B.some (move_spine γ U)))) (blocks_stay γ C.blocks) ∙ ap (before later) (fun_ext stays) ∙ before_moved γ later (variable_images first C.blocks k B U)
 
       -- the part of the block before the entry
       part : (j : ℕ) (V : Spine) (l : ℕ) → before later (entry_images j V B.entries (some_images B.some V)) l ≡ entry_images j V es (some_images B.some V) l
@@ -101,11 +99,11 @@ module _ (Σ : Signature) (ok : IsSignature Σ) (W : List Block) (typed : AreTyp
           shares Σ ok W typed first free C tc p tp K fits π ids oldest φ₀ tried finish form s (
             k,
             V,
-            put_at χ (move_blocks γ C.blocks) k (record { block = B; terms = move_spine γ U }) (moved_there γ C.blocks k (record { block = B; terms = U }) at),
+            put_at χ (move_blocks γ C.blocks) k (record { block = B; terms = move_spine γ U }) (moved_at γ C.blocks k (record { block = B; terms = U }) at),
             (λ r. z r ∙ zero_stays π oldest),
             (λ l Z g.
                 outside_value Σ ok W typed first free C tc p tp K fits π ids oldest φ₀ tried finish form s l
-                ∙ ap (λ f. substitute_image χ (f l)) (sym (ap (before later) (fun_ext image_moved) ∙ before_moved γ later (variable_images first C.blocks k B U)))
+                ∙ ap (λ f. substitute_image χ (f l)) (sym (ap (before later) (fun_ext stays) ∙ before_moved γ later (variable_images first C.blocks k B U)))
                 ∙ ap (substitute_image χ) (part m (move_spine γ U) l)
                 ∙ images_put χ m (move_spine γ U) es B.some count l Z g
                 ∙ ap (λ j. entry_images j V es (some_images B.some V) l) same
@@ -114,7 +112,7 @@ module _ (Σ : Signature) (ok : IsSignature Σ) (W : List Block) (typed : AreTyp
 
     pub of_entries : (U : Spine) → block_at J.blocks k ≡ Some (record { block = B; terms = U }) → IsWellFormed ΣJ (meet_store_by_number π J p (before later (variable_images first J.blocks k B U)) K) → Solved ΣJ (meet_store_by_number π J p (before later (variable_images first J.blocks k B U)) K) finish → ShareAs (of_entry B later E es e)
     of_entries U at form s =
-        let (c, there, q) = moved_before γ C.blocks k (record { block = B; terms = U }) at in
+        let (c, there, q) = moved_from γ C.blocks k (record { block = B; terms = U }) at in
         let terms : U ≡ move_spine γ c.terms = ap (λ (d : BlockVariable). d.terms) q in
         let here : block_at C.blocks k ≡ Some (record { block = B; terms = c.terms }) = there ∙ ap (λ D. Some (record { block = D; terms = c.terms })) (sym (ap (λ (d : BlockVariable). d.block) q)) in
         beside c.terms here (subst (λ V. IsWellFormed ΣJ (meet_store_by_number π J p (before later (variable_images first J.blocks k B V)) K)) terms form) (subst (λ V. Solved ΣJ (meet_store_by_number π J p (before later (variable_images first J.blocks k B V)) K) finish) terms s)

@@ -15,7 +15,7 @@ use Rattle.lf_unification.proofs.RigidSteps.{solves_rest}
 use Rattle.lf_checks.specs.ModeForms.{argument_count}
 use Rattle.lf_coverage.specs.NumberedCallsStores.{identity_equations, move_blocks, some_kind, terms_equations}
 use Rattle.lf_coverage.specs.NumberedInstance.{block_at, move_spine}
-use Rattle.lf_coverage.specs.OwnTerms.{BlockVariable, blocks_of, rename_blocks, terms_at}
+use Rattle.lf_coverage.specs.OwnTerms.{BlockVariable, rename_blocks, terms_at}
 use Rattle.lf_coverage.specs.SplitStore.{open_spine}
 use Rattle.lf_coverage.proofs.Choices.{decided}
 use Rattle.lf_coverage.proofs.Parts.{none_some, some_same}
@@ -24,10 +24,6 @@ use Rattle.lf_coverage.proofs.Parts.{none_some, some_same}
 pub count_opened : (k : ℕ) (S : Spine) → argument_count (open_spine k S) ≡ argument_count S
 count_opened k nil = refl
 count_opened k (app M S) = ap suc (count_opened k S)
-
-pub count_renamed : (ρ : ℕ → ℕ) (S : Spine) → argument_count (rename_spine ρ S) ≡ argument_count S
-count_renamed ρ nil = refl
-count_renamed ρ (app M S) = ap suc (count_renamed ρ S)
 
 pub count_moved : (γ : ℕ → ℕ) (S : Spine) → argument_count (move_spine γ S) ≡ argument_count S
 count_moved γ nil = refl
@@ -90,12 +86,3 @@ pub moved_terms : (γ : ℕ → ℕ) (bs : List BlockVariable) (k : ℕ) (b : Bl
 moved_terms γ [] k b e = absurd (none_some e)
 moved_terms γ (d ∷ bs) zero b e = ap (λ (c : BlockVariable). Some (move_spine γ c.terms)) (some_same e)
 moved_terms γ (d ∷ bs) (suc k) b e = moved_terms γ bs k b e
-
-pub terms_there : (bs : List BlockVariable) (k : ℕ) (b : BlockVariable) → block_at bs k ≡ Some b → terms_at bs k ≡ Some b.terms
-terms_there [] k b e = absurd (none_some e)
-terms_there (d ∷ bs) zero b e = ap (λ (c : BlockVariable). Some c.terms) (some_same e)
-terms_there (d ∷ bs) (suc k) b e = terms_there bs k b e
-
-pub blocks_stay : (γ : ℕ → ℕ) (bs : List BlockVariable) → blocks_of (move_blocks γ bs) ≡ blocks_of bs
-blocks_stay γ [] = refl
-blocks_stay γ (b ∷ bs) = ap (λ Bs. b.block ∷ Bs) (blocks_stay γ bs)

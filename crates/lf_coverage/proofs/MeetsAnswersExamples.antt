@@ -14,7 +14,6 @@ use Rattle.lf_totality.specs.Examples.{Copying, copy_block, cp, cp_kind, exp, va
 use Rattle.lf_totality.proofs.Copying.{copying_ok}
 use Rattle.lf_coverage.specs.ExamplesCopying.{copy_app_head, copy_entry_head, copy_worlds}
 use Rattle.lf_coverage.specs.ExamplesNumbered.{one_copy, two_copies}
-use Rattle.lf_coverage.specs.Leaf.{IsTypedPattern}
 use Rattle.lf_coverage.specs.MeetsAnswers.{FitsPattern, IsPlace, entries_at}
 use Rattle.lf_coverage.specs.MeetsAnswersExamples.{OneCopyIsRefuted, OpenCopiesShare, TwoCopiesShare, beside_copy, new_outer, one_of_two, open_copies}
 use Rattle.lf_coverage.specs.NumberedCallsRows.{copy_outer}
@@ -23,28 +22,13 @@ use Rattle.lf_coverage.specs.OwnTerms.{TypeOnOwnTerms, own_terms}
 use Rattle.lf_coverage.specs.SplitStore.{context_metavariables}
 use Rattle.lf_coverage.specs.TypedNumbered.{IsTypedNumberedCase}
 use Rattle.lf_coverage.proofs.ContextStore.{context_store_ready}
+use Rattle.lf_coverage.proofs.CopyingByNumber.{copying_free, two_copies_typed, entry_head_typed}
 use Rattle.lf_coverage.proofs.EntrySignature.{with_entries_is_signature}
 use Rattle.lf_coverage.proofs.ExamplesCopyingSplit.{copy_typed}
 use Rattle.lf_coverage.proofs.ExamplesUnified.{no_argument}
 use Rattle.lf_coverage.proofs.MeetsAnswersPlaces.{IsThere, is_there}
 use Rattle.lf_coverage.proofs.MeetsAnswersShares.{solved_by_number_shares}
-use Rattle.lf_coverage.proofs.NumberedCallsCopying.{copying_free}
 use Rattle.lf_coverage.proofs.NumberedCallsRows.{copies_are_equated}
-
-pattern_typed : IsTypedPattern Copying copy_entry_head
-pattern_typed = record { outer_typed = (tt, (star, refl, tt)); clause_typed = (tt, (star, refl, tt)); type_typed = (cp_kind, refl, ((exp, refl, refl), ((exp, refl, refl), tt))) }
-
--- cp b.x c.x
-pub two_typed : IsTypedNumberedCase Copying 4 copy_worlds two_copies
-two_typed = record {
-  variables = record { variables = tt; on_own_terms = λ i A g. absurd g; blocks = (inl refl, (keep, (λ i A g. absurd g), refl), tt, (inl refl, (keep, (λ i A g. absurd g), refl), tt, tt)) };
-  local = tt;
-  local_on_own = tt;
-  given = tt;
-  given_on_own = tt;
-  arguments = ((base 0, (base 0, refl, refl)), ((base 0, (base 0, refl, refl)), tt));
-  arguments_on_own = (((nil, refl), tt), (((nil, refl), tt), tt));
-}
 
 two_fit : FitsPattern Copying copy_worlds two_copies copy_entry_head cp_kind
 two_fit = record { of_worlds = inl refl; of_family = refl; same_family = refl; all_places = refl; same_local = refl; given_own = λ i u. absurd cc }
@@ -96,7 +80,7 @@ pub two_copies_share : TwoCopiesShare
 two_copies_share = (
   two_place,
   (_, two_solved),
-  solved_by_number_shares Copying copying_ok copy_worlds copy_typed 4 copying_free two_copies two_typed copy_entry_head pattern_typed cp_kind two_fit (λ k. 0) one_of_two copy_outer two_place two_ready _ two_solved,
+  solved_by_number_shares Copying copying_ok copy_worlds copy_typed 4 copying_free two_copies two_copies_typed copy_entry_head entry_head_typed cp_kind two_fit (λ k. 0) one_of_two copy_outer two_place two_ready _ two_solved,
   apart_place,
   apart_refuted,
 )
@@ -156,7 +140,7 @@ open_solved : Solved Entries open_store open_after
 open_solved = run_solved Entries open_ok open_ready open_run refl
 
 pub open_copies_share : OpenCopiesShare
-open_copies_share = (open_place, (_, open_solved), solved_by_number_shares Copying copying_ok copy_worlds copy_typed 4 copying_free open_copies open_typed copy_entry_head pattern_typed cp_kind open_fit (λ k. k) beside_copy new_outer open_place open_ready _ open_solved)
+open_copies_share = (open_place, (_, open_solved), solved_by_number_shares Copying copying_ok copy_worlds copy_typed 4 copying_free open_copies open_typed copy_entry_head entry_head_typed cp_kind open_fit (λ k. k) beside_copy new_outer open_place open_ready _ open_solved)
 
 -- cp b.x b.x and cp-app
 abbrev one_store : ℕ → Store

@@ -1,6 +1,6 @@
 -- A pattern that is put beside a case whose block variables are one: it is typed over the clause's own variables and the case's; and all that stands there is
 -- moved from what is on own terms.
-use Rattle.std.proofs.Common.{◌≡◌, ℕ, zero, suc, List, [], ◌∷◌, length, refl, sym, ap, ap₂, ◌∙◌, subst}
+use Rattle.std.proofs.Common.{◌≡◌, ℕ, zero, List, [], ◌∷◌, length, refl, sym, ap, ap₂, ◌∙◌, subst}
 use Rattle.std.specs.Prelude.{Option, None, false}
 use Rattle.lf.specs.Syntax.{Spine, LfType, Kind}
 use Rattle.lf.specs.Entries.{quantifiers}
@@ -28,19 +28,20 @@ use Rattle.lf_coverage.specs.NewBlock.{rename_all}
 use Rattle.lf_coverage.specs.NumberedCallsStores.{Identifies, identified, identity_equations, meet_store_by_number}
 use Rattle.lf_coverage.specs.NumberedCase.{NumberedCase}
 use Rattle.lf_coverage.specs.NumberedInstance.{moved_constant, move_type, move_types}
-use Rattle.lf_coverage.specs.OwnTerms.{BlockVariable, blocks_of, own_terms, rename_blocks, weaken_own, ImageOnOwnTerms, TypeOnOwnTerms}
+use Rattle.lf_coverage.specs.OwnTerms.{BlockVariable, blocks_of, own_terms, rename_blocks, weaken_own, TypeOnOwnTerms}
 use Rattle.lf_coverage.specs.SplitStore.{open_spine, open_locals, context_metavariables}
 use Rattle.lf_coverage.specs.TypedNumbered.{IsTypedNumberedCase, own_over, LocalOnOwnTerms}
 use Rattle.lf_coverage.specs.WritingRoom.{move_image}
 use Rattle.lf_coverage.proofs.EntryPatternsMatching.{more_context, more_type}
 use Rattle.lf_coverage.proofs.EntryPatternsNear.{binders_count}
 use Rattle.lf_coverage.proofs.EntryTermsTried.{OuterFacts, tried_facts}
-use Rattle.lf_coverage.proofs.MeetsAnswersMoved.{context_moved, kinds_moved, old_stays, onto_moved, types_moved}
+use Rattle.lf_coverage.proofs.IdentifiedConstants.{context_stays, kinds_stay, old_stays, types_stay}
+use Rattle.lf_coverage.proofs.MovedConstants.{onto_moved}
 use Rattle.lf_coverage.proofs.NumberedTyped.{put_old_type}
 use Rattle.lf_coverage.proofs.NumberedTypedFree.{old_own}
-use Rattle.lf_coverage.proofs.OwnStoresCase.{local_typed}
+use Rattle.lf_coverage.proofs.OwnStoresCase.{local_typed, over_images}
 use Rattle.lf_coverage.proofs.OwnStoresEntry.{ok₁}
-use Rattle.lf_coverage.proofs.OwnTerms.{image_under, own_as_renamed, type_renamed}
+use Rattle.lf_coverage.proofs.OwnStoresOffers.{at_own}
 use Rattle.lf_coverage.proofs.Reading.{IsOld}
 use Rattle.lf_coverage.proofs.WritingGap.{same_old}
 use Rattle.lf_coverage.proofs.WritingMove.{lift_moved, move_type_substituted, moved_image}
@@ -53,17 +54,6 @@ lift_over_moved γ (A ∷ D) φ = ap lift (lift_over_moved γ D φ) ∙ fun_ext 
 own_over_old : (Σ : Signature) (D : List LfType) (o : ℕ → Option Spine) → ((c : ℕ) → IsOld Σ c → o c ≡ None) → (c : ℕ) → IsOld Σ c → own_over D o c ≡ None
 own_over_old Σ [] o h c p = h c p
 own_over_old Σ (A ∷ D) o h c p = ap weaken_own (own_over_old Σ D o h c p)
-
-pub over_images : (D : List LfType) (σ : ℕ → Image) (p : ℕ → Option Spine) → ((i : ℕ) → ImageOnOwnTerms p (σ i)) → (i : ℕ) → ImageOnOwnTerms (own_over (instance D σ) p) (lift_over D σ i)
-over_images [] σ p v i = v i
-over_images (A ∷ D) σ p v zero = tt
-over_images (A ∷ D) σ p v (suc i) = image_under (own_over (instance D σ) p) (lift_over D σ i) (over_images D σ p v i)
-
--- a variable of a context, of which a part is on own terms
-pub at_own : (o : ℕ → Option Spine) (V D : List LfType) → ((i : ℕ) (Y : LfType) → TypeAt V i Y → TypeOnOwnTerms o Y) → LocalOnOwnTerms o D → (i : ℕ) (Y : LfType) → TypeAt (onto D V) i Y → TypeOnOwnTerms (own_over D o) Y
-at_own o V [] v l i Y g = v i Y g
-at_own o V (A ∷ D) v (l, a) zero Y e = subst (TypeOnOwnTerms (λ c. weaken_own (own_over D o c))) (sym e) (type_renamed (own_over D o) (λ c. weaken_own (own_over D o c)) suc A (λ c. own_as_renamed (own_over D o c)) a)
-at_own o V (A ∷ D) v (l, a) (suc i) Y (B, g, e) = subst (TypeOnOwnTerms (λ c. weaken_own (own_over D o c))) (sym e) (type_renamed (own_over D o) (λ c. weaken_own (own_over D o c)) suc B (λ c. own_as_renamed (own_over D o c)) (at_own o V D v l i B g))
 
 -- the store, for its variables
 abbrev pub placed_store : (ℕ → ℕ) → NumberedCase → Kind → ℕ → LfType → List LfType → Store
@@ -126,7 +116,7 @@ module _ (Σ : Signature) (ok : IsSignature Σ) (W : List Block) (typed : AreTyp
   old_type = subst (λ G. IsType Σ G p.type) scope_is tp.type_typed
 
   pub case_context : IsContext (with_entries Σ first (blocks_of C.blocks)) (move_types (moved_constant first (blocks_of C.blocks) (blocks_of C.blocks) π) C.variables)
-  case_context = context_moved Σ ok W typed first free C tc.variables π ids C.variables tc.variables.variables
+  case_context = context_stays Σ ok W typed first free C tc.variables π ids C.variables tc.variables.variables
 
   pub outer_context : IsContext (with_entries Σ first (blocks_of C.blocks)) p.clause.outer
   outer_context = more_context Σ ok W typed first free C tc p.clause.outer tp.outer_typed
@@ -135,7 +125,7 @@ module _ (Σ : Signature) (ok : IsSignature Σ) (W : List Block) (typed : AreTyp
   scope_context = more_context Σ ok W typed first free C tc (scope p.clause) tp.clause_typed
 
   pub outer_typed : IsTypedSubstitution (with_entries Σ first (blocks_of C.blocks)) p.clause.outer (move_types (moved_constant first (blocks_of C.blocks) (blocks_of C.blocks) π) C.variables) φ
-  outer_typed i A g = subst (ImageHasType Σ₁ V (φ i)) (move_type_substituted γ φ₀ A ∙ ap (substitute_type reduce φ) (same_old Σ γ p.clause.outer A old (declared_is_type Σ ok p.clause.outer i A tp.outer_typed g))) (moved_image γ Σ₁ Σ₁ (types_moved Σ ok W typed first free C tc.variables π ids) (kinds_moved Σ ok W typed first free C tc.variables π ids) C.variables (φ₀ i) (substitute_type reduce φ₀ A) (facts.outer_typed i A g))
+  outer_typed i A g = subst (ImageHasType Σ₁ V (φ i)) (move_type_substituted γ φ₀ A ∙ ap (substitute_type reduce φ) (same_old Σ γ p.clause.outer A old (declared_is_type Σ ok p.clause.outer i A tp.outer_typed g))) (moved_image γ Σ₁ Σ₁ (types_stay Σ ok W typed first free C tc.variables π ids) (kinds_stay Σ ok W typed first free C tc.variables π ids) C.variables (φ₀ i) (substitute_type reduce φ₀ A) (facts.outer_typed i A g))
 
   both : IsContext Σ₁ X × IsTypedSubstitution Σ₁ (onto Q p.clause.outer) X ρ
   both = local_typed Σ₁ known p.clause.outer V φ outer_context case_context outer_typed Q (subst (IsContext Σ₁) scope_is scope_context)

@@ -29,7 +29,8 @@ use Rattle.lf_coverage.specs.WritingRoom.{move_image}
 use Rattle.lf_coverage.proofs.Carried.{carry, carry_same}
 use Rattle.lf_coverage.proofs.EntryPatternsSplits.{carry_past, put_same}
 use Rattle.lf_coverage.proofs.EntryValues.{put_add as put_last}
-use Rattle.lf_coverage.proofs.MeetsAnswersMoved.{all_moved, context_moved, onto_moved, term_moved}
+use Rattle.lf_coverage.proofs.IdentifiedConstants.{all_stay, context_stays, term_stays}
+use Rattle.lf_coverage.proofs.MovedConstants.{onto_moved, type_from}
 use Rattle.lf_coverage.proofs.OwnStoresEntry.{ok₁}
 use Rattle.lf_coverage.proofs.OwnValuesInstances.{some_mapped}
 use Rattle.lf_coverage.proofs.Parts.{none_some, some_same}
@@ -65,12 +66,6 @@ typed_values Σ Y o γ (A ∷ X) σ h past =
     front : (N : Term) → σ zero ≡ put (skeleton A) N → (i : ℕ) → σ i ≡ in_front (put (skeleton A) N) (λ j. σ (suc j)) i
     front N e zero = e
     front N e (suc i) = refl
-
--- a variable among moved types is one of the types
-pub type_before : (γ : ℕ → ℕ) (X : List LfType) (i : ℕ) (B : LfType) → TypeAt (move_types γ X) i B → (A : LfType) × TypeAt X i A × (B ≡ move_type γ A)
-type_before γ [] i B g = absurd g
-type_before γ (A ∷ X) zero B e = (weaken A, refl, e ∙ sym (move_type_renamed γ suc A))
-type_before γ (A ∷ X) (suc i) B (D, g, e) = let (E, h, q) = type_before γ X i D g in (weaken E, (E, h, refl), e ∙ ap weaken q ∙ sym (move_type_renamed γ suc E))
 
 first_stays : (n : ℕ) (υ : ℕ → Image) (γ : ℕ → ℕ) (bs ds : List BlockVariable) (k : ℕ) (b : BlockVariable) → block_at bs k ≡ Some b → first_constant n (blocks_of (put_in_blocks υ (move_blocks γ bs) ++ ds)) k ≡ first_constant n (blocks_of bs) k
 first_stays n υ γ [] ds k b e = absurd (none_some e)
@@ -124,13 +119,13 @@ module _ (Σ : Signature) (ok : IsSignature Σ) (W : List Block) (typed : AreTyp
     near i A g = sym (carry_same X Y υ i (in_covers X i A g))
 
     near_moved : (i : ℕ) (B : LfType) → TypeAt (move_types γ X) i B → υ i ≡ σ i
-    near_moved i B g = let (A, h, q) = type_before γ X i B g in near i A h
+    near_moved i B g = let (A, h, q) = type_from γ X i B g in near i A h
 
     near_skeletons : SameIn (context_skeletons X) υ σ
     near_skeletons i t g = let (A, h, e) = skeleton_has_variable X i t g in near i A h
 
     context : IsContext Σ₁ (move_types γ X)
-    context = context_moved Σ ok W typed first free C tc.variables π ids X tc.variables.variables
+    context = context_stays Σ ok W typed first free C tc.variables π ids X tc.variables.variables
 
     value_at : (i : ℕ) (A : LfType) → TypeAt X i A → (N : Term) × (σ i ≡ put (skeleton A) N) × HasType (with_entries Σ first (blocks_of D.blocks)) Y N (substitute_type reduce σ (move_type γ A)) × OnOwnTerms (own_terms first D.blocks) N
     value_at i A g =
@@ -142,7 +137,7 @@ module _ (Σ : Signature) (ok : IsSignature Σ) (W : List Block) (typed : AreTyp
       where
         by : (y : Image) → ImageSkeleton (constant_skeletons Σ₁) (context_skeletons X) y t → ImageSkeleton (constant_skeletons Σ₁) (context_skeletons X) (move_image γ y) t
         by (keep j) h = h
-        by (put a N) (e, n) = (e, term_moved Σ ok W typed first free C tc.variables π ids (context_skeletons X) N a n)
+        by (put a N) (e, n) = (e, term_stays Σ ok W typed first free C tc.variables π ids (context_skeletons X) N a n)
 
     some_same_values : (O : List LfType) (τ : ℕ → Image) → SubstitutionBySkeletons (constant_skeletons Σ₁) (context_skeletons O) (context_skeletons X) τ → substitute_spine reduce υ (some_spine O τ) ≡ substitute_spine reduce σ (some_spine O τ)
     some_same_values O τ s = some_mapped (substitute_spine reduce υ) (substitute_spine reduce σ) (substitute reduce υ) (substitute reduce σ) refl (put_last υ) (put_last σ) O τ (λ i A h. same_in (constant_skeletons Σ₁) (context_skeletons X) υ σ near_skeletons (as_term (skeleton A) (τ i)) (skeleton A) (term_fits (skeleton A) (τ i) (s i (skeleton A) (variable_has_skeleton O i A h))))
@@ -165,7 +160,7 @@ module _ (Σ : Signature) (ok : IsSignature Σ) (W : List Block) (typed : AreTyp
         ∙ ap₂ (λ B U. Some (record { block = B; terms = U })) q (sym (same k b c e to) ∙ terms_same C.blocks tc.variables.blocks k b e)
 
     over : IsContext Σ₁ (onto (move_types γ C.local) (move_types γ X))
-    over = subst (IsContext Σ₁) (onto_moved γ C.local X) (context_moved Σ ok W typed first free C tc.variables π ids (onto C.local X) tc.local)
+    over = subst (IsContext Σ₁) (onto_moved γ C.local X) (context_stays Σ ok W typed first free C tc.variables π ids (onto C.local X) tc.local)
 
     -- The lemma
     pub put_in_is_instance : IsNumberedInstanceOf Σ first D C π (carry C.variables D.variables υ)
@@ -175,7 +170,7 @@ module _ (Σ : Signature) (ok : IsSignature Σ) (W : List Block) (typed : AreTyp
         values = subst (λ g. AreTypedValues (with_entries Σ first (blocks_of D.blocks)) Y (own_terms first D.blocks) g X σ) (sym stays) (typed_values (with_entries Σ first (blocks_of D.blocks)) Y (own_terms first D.blocks) γ X σ value_at (carry_past X Y υ));
       };
       family = family;
-      given = given ∙ put_same (constant_skeletons Σ₁) (context_skeletons X) υ σ near_skeletons (move_all γ C.given) (all_moved Σ ok W typed first free C tc.variables π ids (context_skeletons X) C.given tc.given) ∙ ap (λ g. put_in σ (move_all g C.given)) (sym stays);
+      given = given ∙ put_same (constant_skeletons Σ₁) (context_skeletons X) υ σ near_skeletons (move_all γ C.given) (all_stay Σ ok W typed first free C tc.variables π ids (context_skeletons X) C.given tc.given) ∙ ap (λ g. put_in σ (move_all g C.given)) (sym stays);
       local = local ∙ (instance_agree Σ₁ (move_types γ C.local) (move_types γ X) υ σ over near_moved).0 ∙ ap (λ g. instance (move_types g C.local) σ) (sym stays);
-      arguments = arguments ∙ put_same (constant_skeletons Σ₁) (context_skeletons (onto C.local X)) (lift_over C.local υ) (lift_over C.local σ) (same_over C.local X υ σ near_skeletons) (move_all γ C.arguments) (all_moved Σ ok W typed first free C tc.variables π ids (context_skeletons (onto C.local X)) C.arguments tc.arguments) ∙ ap (λ g. put_in (lift_over C.local σ) (move_all g C.arguments)) (sym stays);
+      arguments = arguments ∙ put_same (constant_skeletons Σ₁) (context_skeletons (onto C.local X)) (lift_over C.local υ) (lift_over C.local σ) (same_over C.local X υ σ near_skeletons) (move_all γ C.arguments) (all_stay Σ ok W typed first free C tc.variables π ids (context_skeletons (onto C.local X)) C.arguments tc.arguments) ∙ ap (λ g. put_in (lift_over C.local σ) (move_all g C.arguments)) (sym stays);
     }

@@ -4,16 +4,16 @@ use Rattle.lf.specs.Syntax.{constant, variable, metavariable, Term, Spine, lambd
 use Rattle.lf.specs.Eta.{append}
 use Rattle.lf.specs.Substitution.{Image, keep, put, lift, substitute, substitute_image, substitute_spine, reduce}
 use Rattle.lf.proofs.Renaming.{Puts, Puts-lift, OnPut-all}
-use Rattle.lf_unification.specs.Filling.{fill, fill_spine, moved}
+use Rattle.lf_unification.specs.Filling.{moved}
 use Rattle.lf_unification.specs.OpenTyping.{under_locals}
 use Rattle.lf_coverage.specs.NumberedInstance.{move, move_spine, move_type}
 use Rattle.lf_coverage.specs.OwnTerms.{weaken_own, BeginsWith, OnOwnTerms, SpineOnOwnTerms, TypeOnOwnTerms, ImageOnOwnTerms}
 use Rattle.lf_coverage.specs.SplitStore.{open_variable, open_term, open_spine, open_type}
 use Rattle.lf_coverage.specs.TypedNumbered.{own_over}
 use Rattle.lf_coverage.specs.WritingRoom.{move_image}
-use Rattle.lf_coverage.proofs.OwnStoresOpened.{filled_own, filled_under}
+use Rattle.lf_coverage.proofs.OwnStoresOpened.{filled_own, filled_under, open_append}
 use Rattle.lf_coverage.proofs.OwnStoresTerms.{BeginsUpTo, IsFlexible, Owned, SpineOwned, TypeOwned, at_head, flexible_renamed}
-use Rattle.lf_coverage.proofs.OwnTerms.{RedOwn, substitute_own, substitute_append, substitute_under, image_under, plug_own, reduce_own}
+use Rattle.lf_coverage.proofs.OwnTerms.{RedOwn, substitute_own, substitute_append, substitute_under, plug_own, reduce_own, images_under}
 use Rattle.lf_coverage.proofs.WritingMove.{move_spine_renamed}
 
 -- own terms with other constants
@@ -32,10 +32,6 @@ move_append γ (app M U) T = ap (app (move γ M)) (move_append γ U T)
 begins_put : (γ : ℕ → ℕ) (σ : ℕ → Image) (u : Option Spine) (S : Spine) → BeginsWith u S → BeginsWith (substitute_own σ (move_own γ u)) (substitute_spine reduce σ (move_spine γ S))
 begins_put γ σ None S b = tt
 begins_put γ σ (Some U) S (T, e) = (substitute_spine reduce σ (move_spine γ T), ap (λ V. substitute_spine reduce σ (move_spine γ V)) e ∙ ap (substitute_spine reduce σ) (move_append γ U T) ∙ substitute_append σ (move_spine γ U) (move_spine γ T))
-
-images_under : (o : ℕ → Option Spine) (σ : ℕ → Image) → ((i : ℕ) → ImageOnOwnTerms o (σ i)) → (i : ℕ) → ImageOnOwnTerms (λ c. weaken_own (o c)) (lift σ i)
-images_under o σ h zero = tt
-images_under o σ h (suc i) = image_under o (σ i) (h i)
 
 under_put : (γ : ℕ → ℕ) (σ : ℕ → Image) (u w : Option Spine) → w ≡ substitute_own σ (move_own γ u) → weaken_own w ≡ substitute_own (lift σ) (move_own γ (weaken_own u))
 under_put γ σ u w e = ap weaken_own e ∙ substitute_under σ (move_own γ u) ∙ ap (substitute_own (lift σ)) (move_under γ u)
@@ -61,14 +57,6 @@ image_put_moved γ o o' σ (put a N) h v m = put_moved γ o o' σ N (λ i. OnPut
 
 -- opened, and filled
 module _ (μ : ℕ → Skeleton) (γ : ℕ → ℕ) where
-  fill_append : (β : ℕ → Option Term) (U T : Spine) → fill_spine μ β (append U T) ≡ append (fill_spine μ β U) (fill_spine μ β T)
-  fill_append β nil T = refl
-  fill_append β (app M U) T = ap (app (fill μ β M)) (fill_append β U T)
-
-  open_append : (k : ℕ) (U T : Spine) → open_spine k (append U T) ≡ append (open_spine k U) (open_spine k T)
-  open_append k nil T = refl
-  open_append k (app M U) T = ap (app (open_term k M)) (open_append k U T)
-
   open_flexible : (k i : ℕ) → IsFlexible μ (open_variable k i)
   open_flexible zero i = tt
   open_flexible (suc k) zero = tt

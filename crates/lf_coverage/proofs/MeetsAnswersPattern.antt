@@ -53,28 +53,31 @@ use Rattle.lf_coverage.specs.SplitStore.{context_metavariables, open_spine, open
 use Rattle.lf_coverage.specs.TypedNumbered.{IsTypedNumberedCase, own_over}
 use Rattle.lf_coverage.specs.WritingRoom.{move_image}
 use Rattle.lf_coverage.proofs.EntryPatternsMatching.{more_type}
-use Rattle.lf_coverage.proofs.EntryTermsPlaced.{own_near}
 use Rattle.lf_coverage.proofs.EntryTermsTried.{OuterFacts, tried_facts}
 use Rattle.lf_coverage.proofs.Forms.{lift_over_near, local_has_type}
+use Rattle.lf_coverage.proofs.GivenEquations.{given_solved}
+use Rattle.lf_coverage.proofs.IdentifiedConstants.{term_stays}
 use Rattle.lf_coverage.proofs.Leaves.{given_is}
-use Rattle.lf_coverage.proofs.MeetsAnswersForm.{P, X, T, ρ, n, context, own_length, over_images, placed_store, placed_typed, scope_context, type_typed}
-use Rattle.lf_coverage.proofs.MeetsAnswersMoved.{length_moved, term_moved}
+use Rattle.lf_coverage.proofs.MeetsAnswersForm.{P, X, T, ρ, n, context, own_length, placed_store, placed_typed, scope_context, type_typed}
 use Rattle.lf_coverage.proofs.MeetsAnswersOwn.{move_own, image_put_moved}
 use Rattle.lf_coverage.proofs.MeetsAnswersRead.{read_case, blocks_same, image_own, answer_context}
 use Rattle.lf_coverage.proofs.MeetsAnswersEquations.{kind_put}
 use Rattle.lf_coverage.proofs.MeetsAnswersSame.{O, σ, υ, β, answer, declared, known, moves, own_after, own_is, solves, stands_before, values_fit, values_typed}
 use Rattle.lf_coverage.proofs.Meeting.{open_length, term_filled, under_same}
-use Rattle.lf_coverage.proofs.EntryPatternsNear.{binders_count}
+use Rattle.lf_coverage.proofs.EntryPatternsNear.{binders_count, own_near}
 use Rattle.lf_coverage.proofs.EntryTermsOwn.{quantifiers_put}
+use Rattle.lf_coverage.proofs.MovedConstants.{length_moved}
+use Rattle.lf_coverage.proofs.OwnStoresCase.{over_images}
 use Rattle.lf_coverage.proofs.OwnStoresOpened.{own_over_shifts}
 use Rattle.lf_coverage.proofs.OwnStoresValues.{value, value_is}
 use Rattle.lf_coverage.proofs.OwnTerms.{rename_own, substitute_own}
 use Rattle.lf_coverage.proofs.Parts.{some_same}
+use Rattle.lf_coverage.proofs.SolvedMeets.{uses_goal_all}
 use Rattle.lf_coverage.proofs.StoreSolution.{value_at}
 use Rattle.lf_coverage.proofs.WritingMove.{lift_moved, move_spine_renamed}
 use Rattle.lf_coverage.proofs.WritingTyped.{typed_after}
 use mathlib.Core.Path.{fun_ext}
-use Rattle.lf_coverage.proofs.MeetsAnswersGiven.{fits_count, given_from, given_solved, no_suc, suc_same, uses_goal_all}
+use Rattle.lf_coverage.proofs.MeetsAnswersGiven.{fits_count, given_from, no_suc, suc_same}
 
 module _ (Σ : Signature) (ok : IsSignature Σ) (W : List Block) (typed : AreTypedBlocks Σ W) (first : ℕ) (free : IsFreeFrom Σ first) (C : NumberedCase) (tc : IsTypedNumberedCase Σ first W C) (p : Pattern) (tp : IsTypedPattern Σ p) (π : ℕ → ℕ) (ids : Identifies C π) (φ₀ : ℕ → Image) (tried : IsTried first C p.origin false φ₀) (K : Kind) (finish : Store) (s : Solved (with_entries Σ first (blocks_of C.blocks)) (placed_store π (identified first π C) K (n Σ ok W typed first free C tc p tp π ids φ₀ tried) (T Σ ok W typed first free C tc p tp π ids φ₀ tried) (X Σ ok W typed first free C tc p tp π ids φ₀ tried)) finish) (size : length C.local ≡ length (binders [] p.type)) (form : IsWellFormed (with_entries Σ first (blocks_of C.blocks)) (placed_store π (identified first π C) K (n Σ ok W typed first free C tc p tp π ids φ₀ tried) (T Σ ok W typed first free C tc p tp π ids φ₀ tried) (X Σ ok W typed first free C tc p tp π ids φ₀ tried))) (of_family : Σ.kinds C.family ≡ Some K) (same_family : target p.type ≡ C.family) (all_places : length C.arguments ≡ kind_quantifiers K) (given_own : (i : ℕ) → is_given C.given i ≡ true → outside p.clause.type everything i ≡ false) where
   abbrev Σ₁ : Signature
@@ -134,7 +137,7 @@ module _ (Σ : Signature) (ok : IsSignature Σ) (W : List Block) (typed : AreTyp
 
   -- the clause's own variables stay
   pub near : (i : ℕ) → outside p.clause.type everything i ≡ false → (i < length (binders [] p.clause.type)) × (clause_values i ≡ ς i)
-  near i e = let l = own_near Σ ok W typed first free C tc p tp φ₀ facts.outer_typed facts.fixed i e in (l, ap (substitute_image ς) (lift_over_near (binders [] p.clause.type) _ i l))
+  near i e = let l = own_near p.clause.type i e in (l, ap (substitute_image ς) (lift_over_near (binders [] p.clause.type) _ i l))
 
   own_value : (i : ℕ) → outside p.clause.type everything i ≡ false → (A : LfType) × (N : Term) × TypeAt Y i A × (ς i ≡ put (skeleton A) N)
   own_value i e =
@@ -174,7 +177,7 @@ module _ (Σ : Signature) (ok : IsSignature Σ) (W : List Block) (typed : AreTyp
   case_term : (L : List LfType) (M : Term) (t : Skeleton) → TermSkeleton κ (context_skeletons (onto L C.variables)) M t → fill ν (under_locals L b) (open_term (length L) (rename (lift_renaming_by (length L) (shift_by k)) (move γ M))) ≡ substitute reduce (lift_over L χ) (move γ M)
   case_term L M t m =
       let q : ℕ → ℕ = lift_renaming_by (length L) (shift_by k) in
-      read L (rename q (move γ M)) t (renaming_keeps_skeletons κ (context_skeletons (onto L C.variables)) (context_skeletons (onto L Y)) q (move γ M) t (over_moves L) (term_moved Σ ok W typed first free C tc.variables π ids (context_skeletons (onto L C.variables)) M t m))
+      read L (rename q (move γ M)) t (renaming_keeps_skeletons κ (context_skeletons (onto L C.variables)) (context_skeletons (onto L Y)) q (move γ M) t (over_moves L) (term_stays Σ ok W typed first free C tc.variables π ids (context_skeletons (onto L C.variables)) M t m))
       ∙ substitute_renamed reduce (lift_over L ς) q (move γ M)
       ∙ ap (λ f. substitute reduce f (move γ M)) (lift_after L (shift_by k) ς)
 

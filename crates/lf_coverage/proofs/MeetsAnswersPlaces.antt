@@ -19,11 +19,12 @@ use Rattle.lf_coverage.specs.NumberedCase.{NumberedCase}
 use Rattle.lf_coverage.specs.NumberedInstance.{block_at}
 use Rattle.lf_coverage.specs.OwnTerms.{BlockVariable, rename_blocks}
 use Rattle.lf_coverage.proofs.EntryPatternsNumbers.{last_at}
+use Rattle.lf_coverage.proofs.EntryTermsDecided.{same_block, three_decided}
 use Rattle.lf_coverage.proofs.MatchInstance.{implied}
-use Rattle.lf_coverage.proofs.MeetsAnswersBack.{renamed_length}
 use Rattle.lf_coverage.proofs.Parts.{some_same}
 use native.Mathlib.Decide.{ℕ_discrete}
-use Rattle.lf_coverage.proofs.MeetsAnswersDecided.{same_block, both_decided, three_decided, is_false, search_blocks}
+use Rattle.lf_coverage.proofs.MeetsAnswersDecided.{both_decided, is_false, search_blocks}
+use Rattle.lf_coverage.proofs.RenamedBlocks.{renamed_length}
 
 -- What a place is.
 module _ (first : ℕ) (E : NumberedCase) (f : ℕ → ℕ) (b : Bool) where

@@ -31,14 +31,14 @@ use Rattle.lf_coverage.proofs.Carried.{carry}
 use Rattle.lf_coverage.proofs.EntryPatternsMatching.{more_context}
 use Rattle.lf_coverage.proofs.EntryValues.{put_some}
 use Rattle.lf_coverage.proofs.Forms.{far_type}
+use Rattle.lf_coverage.proofs.IdentifiedConstants.{kinds_stay, old_stays, types_stay}
 use Rattle.lf_coverage.proofs.ItemsContext.{outer_context}
 use Rattle.lf_coverage.proofs.MeetsAnswersForm.{P, X, T, n, case_context, context, placed_length, placed_store}
 use Rattle.lf_coverage.proofs.MeetsAnswersInstance.{put_in_is_instance}
-use Rattle.lf_coverage.proofs.MeetsAnswersMoved.{kinds_moved, old_stays, types_moved}
 use Rattle.lf_coverage.proofs.MeetsAnswersOwn.{spine_put_moved}
-use Rattle.lf_coverage.proofs.MeetsAnswersEquations.{blocks_stay}
 use Rattle.lf_coverage.proofs.MeetsAnswersSame.{O, answer, declared, found, known, own_after, own_is, same, υ, values_typed, σ as answer_of}
 use Rattle.lf_coverage.proofs.MeetsAnswersSides.{owned}
+use Rattle.lf_coverage.proofs.MovedConstants.{blocks_stay}
 use Rattle.lf_coverage.proofs.OwnStoresAnswer.{types_owned, values_owned}
 use Rattle.lf_coverage.proofs.OwnStoresSteps.{StoreOwned}
 use Rattle.lf_coverage.proofs.OwnStoresTerms.{ValueOnOwnTerms}
@@ -144,7 +144,7 @@ module _ (Σ : Signature) (ok : IsSignature Σ) (W : List Block) (typed : AreTyp
   some_moved_typed : (B : Block) → Member B W → (τ : ℕ → Image) → IsTypedSubstitution Σ₁ B.some C.variables τ → IsTypedSubstitution Σ₁ B.some V (λ i. move_image γ (τ i))
   some_moved_typed B m τ u i A g =
       let c : IsContext Σ B.some = outer_context Σ B.entries B.some (typed B m) in
-      subst (ImageHasType Σ₁ V (move_image γ (τ i))) (move_type_substituted γ τ A ∙ ap (substitute_type reduce (λ j. move_image γ (τ j))) (same_old Σ γ B.some A (old_stays Σ ok W typed first free C tc.variables π ids) (declared_is_type Σ ok B.some i A c g))) (moved_image γ Σ₁ Σ₁ (types_moved Σ ok W typed first free C tc.variables π ids) (kinds_moved Σ ok W typed first free C tc.variables π ids) C.variables (τ i) (substitute_type reduce τ A) (u i A g))
+      subst (ImageHasType Σ₁ V (move_image γ (τ i))) (move_type_substituted γ τ A ∙ ap (substitute_type reduce (λ j. move_image γ (τ j))) (same_old Σ γ B.some A (old_stays Σ ok W typed first free C tc.variables π ids) (declared_is_type Σ ok B.some i A c g))) (moved_image γ Σ₁ Σ₁ (types_stay Σ ok W typed first free C tc.variables π ids) (kinds_stay Σ ok W typed first free C tc.variables π ids) C.variables (τ i) (substitute_type reduce τ A) (u i A g))
 
   blocks_typed : (bs : List BlockVariable) → AreTypedBlockVariables Σ₁ W C.variables (own_terms first C.blocks) bs → AreTypedBlockVariables Σ₁ W F o (put_in_blocks χ (move_blocks γ bs))
   blocks_typed [] t = tt

@@ -37,12 +37,14 @@ use Rattle.lf_coverage.specs.OwnTerms.{BlockVariable, blocks_of, own_terms, put_
 use Rattle.lf_coverage.specs.SplitStore.{answer_values, context_metavariables, open_some, open_spine, open_type}
 use Rattle.lf_coverage.specs.TypedNumbered.{IsTypedNumberedCase, own_over}
 use Rattle.lf_coverage.proofs.EntryPatternsOutside.{found_at_number}
-use Rattle.lf_coverage.proofs.EntryPatternsTyped.{typed_at}
+use Rattle.lf_coverage.proofs.EntryPatternsTyped.{typed_at, terms_of_block}
 use Rattle.lf_coverage.proofs.EntryValues.{count_some}
+use Rattle.lf_coverage.proofs.HeadItems.{length_renamed}
+use Rattle.lf_coverage.proofs.IdentifiedConstants.{spine_stays}
 use Rattle.lf_coverage.proofs.MeetsAnswersForm.{P, X, T, n, context, own_length, placed_length, placed_store}
-use Rattle.lf_coverage.proofs.MeetsAnswersMoved.{skeletons_moved, spine_moved}
 use Rattle.lf_coverage.proofs.MeetsAnswersOwn.{move_own}
 use Rattle.lf_coverage.proofs.Meeting.{stand_under}
+use Rattle.lf_coverage.proofs.MovedConstants.{contexts_kept, blocks_stay}
 use Rattle.lf_coverage.proofs.OpenTerms.{fill_open_spine}
 use Rattle.lf_coverage.proofs.OwnStoresEntry.{OwnHead, ok₁, own_head}
 use Rattle.lf_coverage.proofs.OwnStoresOpened.{filled_own, own_over_shifts}
@@ -54,7 +56,7 @@ use Rattle.lf_coverage.proofs.Transfer.{onto_skeleton}
 use Rattle.lf_coverage.proofs.WritingChoice.{from_is}
 use Rattle.lf_coverage.proofs.WritingMove.{move_spine_renamed}
 use Rattle.lf_coverage.proofs.WritingSame.{some_skeleton}
-use Rattle.lf_coverage.proofs.MeetsAnswersEquations.{blocks_stay, count_moved, count_opened, count_renamed, identity_read, made_at, moved_terms, some_star, spine_solved, terms_there}
+use Rattle.lf_coverage.proofs.MeetsAnswersEquations.{count_moved, count_opened, identity_read, made_at, moved_terms, some_star, spine_solved}
 
 module _ (Σ : Signature) (ok : IsSignature Σ) (W : List Block) (typed : AreTypedBlocks Σ W) (first : ℕ) (free : IsFreeFrom Σ first) (C : NumberedCase) (tc : IsTypedNumberedCase Σ first W C) (p : Pattern) (tp : IsTypedPattern Σ p) (π : ℕ → ℕ) (ids : Identifies C π) (φ₀ : ℕ → Image) (tried : IsTried first C p.origin false φ₀) (K : Kind) (finish : Store) (s : Solved (with_entries Σ first (blocks_of C.blocks)) (placed_store π (identified first π C) K (n Σ ok W typed first free C tc p tp π ids φ₀ tried) (T Σ ok W typed first free C tc p tp π ids φ₀ tried) (X Σ ok W typed first free C tc p tp π ids φ₀ tried)) finish) where
   abbrev Σ₁ : Signature
@@ -138,11 +140,11 @@ module _ (Σ : Signature) (ok : IsSignature Σ) (W : List Block) (typed : AreTyp
 
   -- the case's variables stand behind the clause's own
   pub moves : (i : ℕ) (t : Skeleton) → SkeletonAt (context_skeletons C.variables) i t → SkeletonAt (context_skeletons (X Σ ok W typed first free C tc p tp π ids φ₀ tried)) (shift_by (n Σ ok W typed first free C tc p tp π ids φ₀ tried) i) t
-  moves i t g = subst (λ m. SkeletonAt (context_skeletons Y) (i + m) t) (placed_length Σ ok W typed first free C tc p tp π ids φ₀ tried) (onto_skeleton (P Σ ok W typed first free C tc p tp π ids φ₀ tried) (move_types γ C.variables) i t (subst (λ Γ. SkeletonAt Γ i t) (sym (skeletons_moved γ C.variables)) g))
+  moves i t g = subst (λ m. SkeletonAt (context_skeletons Y) (i + m) t) (placed_length Σ ok W typed first free C tc p tp π ids φ₀ tried) (onto_skeleton (P Σ ok W typed first free C tc p tp π ids φ₀ tried) (move_types γ C.variables) i t (subst (λ Γ. SkeletonAt Γ i t) (sym (contexts_kept γ C.variables)) g))
 
   -- arguments over the case's variables, filled
   spine_there : (U : Spine) (t u : Skeleton) → SpineSkeleton (constant_skeletons Σ₁) (context_skeletons C.variables) U t u → SpineSkeleton (constant_skeletons Σ₁) (context_skeletons Y) (rename_spine (shift_by k) (move_spine γ U)) t u
-  spine_there U t u m = renaming_keeps_spine_skeletons (constant_skeletons Σ₁) (context_skeletons C.variables) (context_skeletons Y) (shift_by k) (move_spine γ U) t u moves (spine_moved Σ ok W typed first free C tc.variables π ids (context_skeletons C.variables) U t u m)
+  spine_there U t u m = renaming_keeps_spine_skeletons (constant_skeletons Σ₁) (context_skeletons C.variables) (context_skeletons Y) (shift_by k) (move_spine γ U) t u moves (spine_stays Σ ok W typed first free C tc.variables π ids (context_skeletons C.variables) U t u m)
 
   filled_after : (U : Spine) (t u : Skeleton) → SpineSkeleton (constant_skeletons Σ₁) (context_skeletons C.variables) U t u → fill_spine μ found (open_spine zero (rename_spine (shift_by k) (move_spine γ U))) ≡ substitute_spine reduce υ (move_spine γ U)
   filled_after U t u m = fill_open_spine Σ₁ μ zero (context_skeletons Y) (context_skeletons O) σ found (stand_under Σ₁ μ found Y O σ values_fit stands_after []) values_fit (rename_spine (shift_by k) (move_spine γ U)) t u (spine_there U t u m) ∙ substitute_renamed_spine reduce σ (shift_by k) (move_spine γ U)
@@ -155,7 +157,7 @@ module _ (Σ : Signature) (ok : IsSignature Σ) (W : List Block) (typed : AreTyp
   block_skeleton j b e = let (m, (τ, u, z), o) = typed_at Σ₁ W C.variables (own_terms first C.blocks) C.blocks tc.variables.blocks j b e in subst (λ U. SpineSkeleton (constant_skeletons Σ₁) (context_skeletons C.variables) U (skeleton (pi_over b.block.some (atom 0 nil))) (base 0)) (sym z) (some_skeleton (constant_skeletons Σ₁) b.block.some (context_skeletons C.variables) τ (atom 0 nil) (typed_substitution_by_skeletons Σ₁ known b.block.some C.variables τ u))
 
   block_count : (j : ℕ) (b : BlockVariable) → block_at C.blocks j ≡ Some b → argument_count (open_spine zero (rename_spine (shift_by k) (move_spine γ b.terms))) ≡ length b.block.some
-  block_count j b e = let (m, (τ, u, z), o) = typed_at Σ₁ W C.variables (own_terms first C.blocks) C.blocks tc.variables.blocks j b e in count_opened zero (rename_spine (shift_by k) (move_spine γ b.terms)) ∙ count_renamed (shift_by k) (move_spine γ b.terms) ∙ count_moved γ b.terms ∙ ap argument_count z ∙ count_some b.block.some τ
+  block_count j b e = let (m, (τ, u, z), o) = typed_at Σ₁ W C.variables (own_terms first C.blocks) C.blocks tc.variables.blocks j b e in count_opened zero (rename_spine (shift_by k) (move_spine γ b.terms)) ∙ length_renamed (shift_by k) (move_spine γ b.terms) ∙ count_moved γ b.terms ∙ ap argument_count z ∙ count_some b.block.some τ
 
   -- Block variables that are one have the same terms.
   pub same : (j : ℕ) (b c : BlockVariable) → block_at C.blocks j ≡ Some b → block_at C.blocks (π j) ≡ Some c → substitute_spine reduce υ (move_spine (moved_constant first (blocks_of C.blocks) (blocks_of C.blocks) π) b.terms) ≡ substitute_spine reduce υ (move_spine (moved_constant first (blocks_of C.blocks) (blocks_of C.blocks) π) c.terms)
@@ -195,7 +197,7 @@ module _ (Σ : Signature) (ok : IsSignature Σ) (W : List Block) (typed : AreTyp
           ∙ ap (λ i. substitute_own υ (terms_at (move_blocks γ C.blocks) i)) (none (π j))
           ∙ ap (substitute_own υ) (moved_terms γ C.blocks (π j) d there)
           ∙ ap Some (sym (same j b d at there))
-          ∙ ap (λ x. substitute_own υ (move_own γ x)) (sym (ap (terms_at C.blocks) (number ∙ none j) ∙ terms_there C.blocks j b at))
+          ∙ ap (λ x. substitute_own υ (move_own γ x)) (sym (ap (terms_at C.blocks) (number ∙ none j) ∙ terms_of_block C.blocks j b at))
 
   -- so it is where the answer is put in by filling
   pub own_filled : (c : ℕ) → own_after (moved_constant first (blocks_of C.blocks) (blocks_of C.blocks) π c) ≡ filled_own μ found zero (move_own (moved_constant first (blocks_of C.blocks) (blocks_of C.blocks) π) (own_over (instance (binders [] p.clause.type) φ₀) (own_terms first C.blocks) c))

@@ -19,7 +19,8 @@ use Rattle.lf_coverage.specs.NumberedInstance.{moved_constant}
 use Rattle.lf_coverage.specs.OwnTerms.{blocks_of}
 use Rattle.lf_coverage.specs.TypedNumbered.{IsTypedNumberedCase}
 use Rattle.lf_coverage.proofs.MeetsAnswersEntries.{of_constants, of_entries}
-use Rattle.lf_coverage.proofs.MeetsAnswersNew.{moved_blocks_length, of_new}
+use Rattle.lf_coverage.proofs.MeetsAnswersNew.{of_new}
+use Rattle.lf_coverage.proofs.RenamedBlocks.{moved_length}
 
 module _ (Σ : Signature) (ok : IsSignature Σ) (W : List Block) (typed : AreTypedBlocks Σ W) (first : ℕ) (free : IsFreeFrom Σ first) (C : NumberedCase) (tc : IsTypedNumberedCase Σ first W C) (K : Kind) (A : LfType) (π : ℕ → ℕ) (ids : Identifies C π) (oldest : (k : ℕ) → π k ≤ k) (finish : Store) where
   abbrev pattern : Bool → {c : Clause} → Origin c → Pattern
@@ -44,7 +45,7 @@ module _ (Σ : Signature) (ok : IsSignature Σ) (W : List Block) (typed : AreTyp
       by false n tp f form s = of_new Σ ok W typed first free C tc B f.of_worlds π ids (ap π (sym same) ∙ fixed ∙ same) K A oldest finish later E es e tp f U at form s
         where
           same : length (identified first π C).blocks ≡ length C.blocks
-          same = moved_blocks_length (moved_constant first (blocks_of C.blocks) (blocks_of C.blocks) π) C.blocks
+          same = moved_length (moved_constant first (blocks_of C.blocks) (blocks_of C.blocks) π) C.blocks
 
 pub solved_by_number_shares : SolvedByNumberShares
 solved_by_number_shares Σ ok W typed first free C tc p tp K f π J φ place form finish s = at_place Σ ok W typed first free C tc K p.type π place.identifies place.oldest finish p.at_first p.clause p.origin tp f J φ place.beside form s

@@ -1,8 +1,7 @@
 -- The store of a case and a pattern that is put beside it stands on own terms, as the answer makes them: also where block variables are one.
 use Rattle.std.proofs.Common.{◌≡◌, ℕ, zero, suc, List, [], ◌∷◌, length, refl, sym, ap, ◌∙◌, subst}
 use Rattle.std.specs.Prelude.{cond, Bool, true, false, Option, Some, None}
-use Rattle.lf.specs.Syntax.{Term, Spine, nil, app, LfType, pi, atom, Kind, kind_pi, star, Skeleton, skeleton, variable, rename, rename_spine}
-use Rattle.lf.specs.Entries.{quantifiers}
+use Rattle.lf.specs.Syntax.{Term, Spine, nil, app, LfType, Kind, kind_pi, star, Skeleton, skeleton, variable, rename, rename_spine}
 use Rattle.lf.specs.Eta.{eta_long}
 use Rattle.lf.specs.Substitution.{Image}
 use Rattle.lf.specs.AtOnce.{shift_by, lift_renaming_by}
@@ -22,7 +21,7 @@ use Rattle.lf_coverage.specs.MeetStore.{open_arguments, place_equations, one_giv
 use Rattle.lf_coverage.specs.NewBlock.{rename_all}
 use Rattle.lf_coverage.specs.NumberedCallsStores.{Identifies, identified, identity_equations, move_blocks, some_kind, terms_equations}
 use Rattle.lf_coverage.specs.NumberedCase.{NumberedCase}
-use Rattle.lf_coverage.specs.NumberedInstance.{block_at, moved_constant, move, move_all, move_spine, move_type, move_types}
+use Rattle.lf_coverage.specs.NumberedInstance.{block_at, moved_constant, move, move_all, move_types}
 use Rattle.lf_coverage.specs.OwnTerms.{BlockVariable, blocks_of, own_terms, rename_blocks, terms_at, AllOnOwnTerms, SpineOnOwnTerms}
 use Rattle.lf_coverage.specs.SplitStore.{open_some, open_spine, open_term, open_type, open_locals, type_in}
 use Rattle.lf_coverage.specs.TypedNumbered.{IsTypedNumberedCase, own_over}
@@ -30,11 +29,11 @@ use Rattle.lf_coverage.proofs.EntryPatternsNear.{binders_count}
 use Rattle.lf_coverage.proofs.EntryPatternsTyped.{typed_at}
 use Rattle.lf_coverage.proofs.EntryTermsOwn.{quantifiers_put}
 use Rattle.lf_coverage.proofs.MeetsAnswersForm.{X, T, n, own_length, placed_store, type_moved, type_own, variables_moved, variables_own}
-use Rattle.lf_coverage.proofs.MeetsAnswersInstance.{type_before}
-use Rattle.lf_coverage.proofs.MeetsAnswersMoved.{length_moved}
 use Rattle.lf_coverage.proofs.MeetsAnswersOwn.{move_own, filled_over_moved, opened_moved, spine_opened_moved, type_opened_moved}
 use Rattle.lf_coverage.proofs.MeetsAnswersSame.{found, own_after, own_filled}
 use Rattle.lf_coverage.proofs.Meeting.{open_length}
+use Rattle.lf_coverage.proofs.MeetsTupleForms.{block_from}
+use Rattle.lf_coverage.proofs.MovedConstants.{length_moved, arguments_moved, type_from}
 use Rattle.lf_coverage.proofs.OwnLong.{variable_own as own_long}
 use Rattle.lf_coverage.proofs.OwnStoresHeads.{over_renamed}
 use Rattle.lf_coverage.proofs.OwnStoresOffers.{binders_own}
@@ -48,25 +47,11 @@ use Rattle.lf_coverage.proofs.WritingGap.{long_moved}
 use Rattle.lf_coverage.proofs.WritingMove.{move_renamed, move_spine_renamed}
 use mathlib.Core.Path.{fun_ext}
 
-arguments_moved : (γ : ℕ → ℕ) (A : LfType) → target_arguments (move_type γ A) ≡ move_spine γ (target_arguments A)
-arguments_moved γ (pi A B) = arguments_moved γ B
-arguments_moved γ (atom a S) = refl
-
-pub quantifiers_moved : (γ : ℕ → ℕ) (A : LfType) → quantifiers (move_type γ A) ≡ quantifiers A
-quantifiers_moved γ (pi A B) = ap suc (quantifiers_moved γ B)
-quantifiers_moved γ (atom a S) = refl
-
 -- a block variable's terms, found by its number
 block_there : (bs : List BlockVariable) (k : ℕ) (U : Spine) → terms_at bs k ≡ Some U → (b : BlockVariable) × (block_at bs k ≡ Some b) × (b.terms ≡ U)
 block_there [] k U e = absurd (none_some e)
 block_there (b ∷ bs) zero U e = (b, refl, some_same e)
 block_there (b ∷ bs) (suc k) U e = block_there bs k U e
-
--- a made block variable comes from one of the case
-made_from : (ρ γ : ℕ → ℕ) (bs : List BlockVariable) (k : ℕ) (d : BlockVariable) → block_at (rename_blocks ρ (move_blocks γ bs)) k ≡ Some d → (b : BlockVariable) × (block_at bs k ≡ Some b) × (d.terms ≡ rename_spine ρ (move_spine γ b.terms))
-made_from ρ γ [] k d e = absurd (none_some e)
-made_from ρ γ (b ∷ bs) zero d e = (b, refl, ap (λ (c : BlockVariable). c.terms) (sym (some_same e)))
-made_from ρ γ (b ∷ bs) (suc k) d e = made_from ρ γ bs k d e
 
 module _ (μ : ℕ → Skeleton) (o : ℕ → Option Spine) (β : ℕ → Option Term) where
   abbrev AllOwned : List BlockVariable → Type 0
@@ -128,13 +113,13 @@ module _ (Σ : Signature) (ok : IsSignature Σ) (W : List Block) (typed : AreTyp
   type_owned : (m : ℕ) (A : LfType) (y : Option LfType) → type_in Y m ≡ y → open_some y ≡ Some A → TypeOwned μ o α A
   type_owned m A None q e = absurd (none_some e)
   type_owned m A (Some B) q e =
-      let (B₀, g, r) = type_before γ (onto D₀ C.variables) m B (subst (λ Z. TypeAt Z m B) (variables_moved Σ ok W typed first free C tc p tp π ids φ₀ tried) (found_type Y m B q)) in
+      let (B₀, g, r) = type_from γ (onto D₀ C.variables) m B (subst (λ Z. TypeAt Z m B) (variables_moved Σ ok W typed first free C tc p tp π ids φ₀ tried) (found_type Y m B q)) in
       subst (TypeOwned μ o α) (ap (open_type zero) (sym r) ∙ some_same e) (type_opened_moved μ γ zero oQ o α B₀ filled (variables_own Σ ok W typed first free C tc p tp π ids φ₀ tried m B₀ g))
 
   -- the terms of block variables
   blocks_owned : AllOwned μ o α (rename_blocks (shift_by k) (move_blocks γ C.blocks))
   blocks_owned j d e =
-      let (b, at, q) = made_from (shift_by k) γ C.blocks j d e in
+      let (b, at, q) = block_from (shift_by k) γ C.blocks j d e in
       let (m, t, own) = typed_at (with_entries Σ first (blocks_of C.blocks)) W C.variables oC C.blocks tc.variables.blocks j b at in
       subst (λ U. SpineOwned μ o α (open_spine zero U)) (move_spine_renamed γ (shift_by k) b.terms ∙ sym q) (spine_opened_moved μ γ zero oQ o α (rename_spine (shift_by k) b.terms) filled (spine_renamed oC oQ (shift_by k) b.terms shifted own))
 

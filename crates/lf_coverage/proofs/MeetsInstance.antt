@@ -27,8 +27,9 @@ use Rattle.lf_coverage.specs.OwnTerms.{blocks_of}
 use Rattle.lf_coverage.specs.TypedNumbered.{IsTypedNumberedCase}
 use Rattle.lf_coverage.proofs.EntryTermsBesideGiven.{beside_with_all_tried}
 use Rattle.lf_coverage.proofs.MeetsInstanceGiven.{outer_becomes, with_given}
-use Rattle.lf_coverage.proofs.MeetsInstancePlaces.{HasValues, one_by, pattern_values, case_with, worlds_with}
+use Rattle.lf_coverage.proofs.MeetsInstancePlaces.{HasValues, one_by, pattern_values}
 use Rattle.lf_coverage.proofs.MeetsInstanceShared.{unified}
+use Rattle.lf_coverage.proofs.MoreWorlds.{case_with_more, with_more}
 use Rattle.lf_coverage.proofs.NumberedMeetsMoved.{identified_has_instances}
 use Rattle.lf_coverage.proofs.Parts.{none_some}
 use Rattle.lf_coverage.proofs.RefutedSplits.{run_in_extension}
@@ -72,14 +73,14 @@ first_for first C (of_entry B later E es e) b φ (k, U, at, z, r) = λ y. (recor
 given_known : (Σ : Signature) → IsSignature Σ → (W : List Block) (first : ℕ) → IsFreeFrom Σ first → (C : NumberedCase) → IsTypedNumberedCase Σ first W C → {c : Clause} (o : Origin c) (P : LfType) (b : Bool) → b ≡ true → IsTypedPattern Σ (record { clause = c; origin = o; type = P; at_first = b }) → AreTypedBlocks Σ (blocks_with o W) → (φ : ℕ → Image) → IsTried first C o b φ → IsTypedBesideWith Σ first C (record { clause = c; origin = o; type = P; at_first = b }) φ → ((i : ℕ) → is_given C.given i ≡ true → outside c.type everything i ≡ false) → (s : SharesInstance Σ first W C (record { clause = c; origin = o; type = P; at_first = b })) → (w : HasValues Σ first s.common o P b) × ((k : ℕ) (N : Term) → given_at C.given k ≡ Some N → (k < length (binders [] c.type)) × (w.used k ≡ true))
 given_known Σ ok W first free C tc (of_constant U) P b f tp typed φ t tb own s = with_given Σ ok first free W typed C s.common tc.variables s.typed_variables s.numbers s.values s.of_case.is_instance (of_constant U) P b tp φ tb own s.of_case.given (pattern_values Σ first s.common (record { clause = constant_clause U; origin = of_constant U; type = P; at_first = b }) s.of_pattern) keep (λ l A d. absurd d) (λ l A d. absurd d)
 given_known Σ ok W first free C tc (of_entry B later E es e) P b f tp typed φ (k, U, at, z, r) tb own s =
-    let tv = (case_with Σ first W (B ∷ W) (worlds_with (of_entry B later E es e) W) C tc).variables in
+    let tv = (case_with_more Σ first W (B ∷ W) (with_more (of_entry B later E es e) W) C tc).variables in
     let (j, S, there, y, a) = s.of_pattern.stands in
     let same : s.numbers k ≡ j = ap s.numbers (z f) ∙ s.zeroth ∙ sym (y f) in
     with_given Σ ok first free (B ∷ W) typed C s.common tv s.typed_variables s.numbers s.values s.of_case.is_instance (of_entry B later E es e) P b tp φ tb own s.of_case.given (pattern_values Σ first s.common (record { clause = entry_clause B es E; origin = of_entry B later E es e; type = P; at_first = b }) s.of_pattern) (before later (variable_images first s.common.blocks j B S)) a (λ l A d. ap (λ (g : ℕ → Image). Rattle.lf.specs.Substitution.substitute_image s.values (Rattle.lf_coverage.specs.WritingRoom.move_image (Rattle.lf_coverage.specs.NumberedInstance.moved_constant first (blocks_of C.blocks) (blocks_of s.common.blocks) s.numbers) (g l))) r ∙ outer_becomes Σ ok first free (B ∷ W) typed C s.common tv s.typed_variables s.numbers s.values s.of_case.is_instance B later E es e k U at j S there same l A d)
 
 pub shared_beside_is_unifier : SharedBesideIsUnifier
 shared_beside_is_unifier Σ ok W first free C p tp typed f t own K s =
-    let worlds : AreTypedBlocks Σ W = λ B m. typed B (worlds_with p.origin W B m) in
+    let worlds : AreTypedBlocks Σ W = λ B m. typed B (with_more p.origin W B m) in
     let (φ, y) = tried_for first C p.origin p.at_first t.outer t.stands in
     let tb : IsTypedBesideWith Σ first C p φ = beside_with_all_tried Σ ok W worlds first free C p tp f t own φ y in
     let (w, g) = given_known Σ ok W first free C t.typed p.origin p.type p.at_first f tp typed φ y tb own s in

@@ -1,7 +1,7 @@
 -- Block variables with one more at their end, the number of this one in an instance, and typed values in front of others.
-use Rattle.std.proofs.Common.{◌≡◌, ℕ, zero, suc, ◌<◌, ◌⊎◌, List, [], ◌∷◌, ◌++◌, length, inl, inr, refl, sym, ap, ◌∙◌, subst, arith}
+use Rattle.std.proofs.Common.{◌≡◌, ℕ, zero, suc, ◌<◌, List, [], ◌∷◌, refl, sym, ap, ◌∙◌, subst, arith}
 use Rattle.std.specs.Prelude.{cond, Option, Some}
-use Rattle.lf.specs.Syntax.{Term, Spine, LfType, skeleton, weaken, rename_spine}
+use Rattle.lf.specs.Syntax.{Term, Spine, LfType, skeleton, weaken}
 use Rattle.lf.specs.Substitution.{Image, put, substitute_type, reduce}
 use Rattle.lf.specs.AtOnce.{in_front}
 use Rattle.lf.specs.Typing.{Signature, TypeAt, ImageHasType, HasType, IsTypedSubstitution, IsContext, IsSignature}
@@ -10,34 +10,13 @@ use Rattle.lf.proofs.Checker.{number_itself}
 use Rattle.lf.proofs.Closed.{agree_type}
 use Rattle.lf.proofs.TypeLaws.{skeleton_renamed, substitute_renamed_type}
 use Rattle.lf_coverage.specs.EntryConstants.{entry_images}
-use Rattle.lf_coverage.specs.NumberedInstance.{AreTypedValues, block_at, move_type}
-use Rattle.lf_coverage.specs.OwnTerms.{BlockVariable, rename_blocks, ImageOnOwnTerms, OnOwnTerms}
+use Rattle.lf_coverage.specs.NumberedInstance.{AreTypedValues, move_type}
+use Rattle.lf_coverage.specs.OwnTerms.{ImageOnOwnTerms, OnOwnTerms}
 use Rattle.lf_coverage.proofs.EntrySignature.{not_same}
 use Rattle.lf_coverage.proofs.Meeting.{joined, joined_near}
-use Rattle.lf_coverage.proofs.Parts.{some_same}
 use Rattle.lf_coverage.proofs.Reading.{IsOld}
 use Rattle.lf_coverage.proofs.WritingGap.{same_old}
 use mathlib.Core.Path.{fun_ext}
-
--- a block variable of a list with one more at its end
-pub in_added : (bs : List BlockVariable) (d : BlockVariable) (k : ℕ) (b : BlockVariable) → block_at (bs ++ d ∷ []) k ≡ Some b → (block_at bs k ≡ Some b) ⊎ ((k ≡ length bs) × (d ≡ b))
-in_added [] d zero b e = inr (refl, some_same e)
-in_added [] d (suc k) b e = absurd cc
-in_added (c ∷ bs) d zero b e = inl e
-in_added (c ∷ bs) d (suc k) b e = by (in_added bs d k b e)
-  where
-    by : (block_at bs k ≡ Some b) ⊎ ((k ≡ length bs) × (d ≡ b)) → (block_at (c ∷ bs) (suc k) ≡ Some b) ⊎ ((suc k ≡ length (c ∷ bs)) × (d ≡ b))
-    by (inl q) = inl q
-    by (inr (q, r)) = inr (ap suc q, r)
-
-pub renamed_back : (ρ : ℕ → ℕ) (bs : List BlockVariable) (k : ℕ) (d : BlockVariable) → block_at (rename_blocks ρ bs) k ≡ Some d → (b : BlockVariable) × (block_at bs k ≡ Some b) × (d ≡ record { block = b.block; terms = rename_spine ρ b.terms })
-renamed_back ρ [] k d e = absurd cc
-renamed_back ρ (b ∷ bs) zero d e = (b, refl, sym (some_same e))
-renamed_back ρ (b ∷ bs) (suc k) d e = renamed_back ρ bs k d e
-
-pub renamed_count : (ρ : ℕ → ℕ) (bs : List BlockVariable) → length (rename_blocks ρ bs) ≡ length bs
-renamed_count ρ [] = refl
-renamed_count ρ (b ∷ bs) = ap suc (renamed_count ρ bs)
 
 -- Values in front of typed values, for variables whose types have constants of the signature alone
 module _ (Σ Σm : Signature) (ok : IsSignature Σ) (more : (c : ℕ) (A : LfType) → Σ.types c ≡ Some A → Σm.types c ≡ Some A) (kinds : Σm.kinds ≡ Σ.kinds) (Y : List LfType) (o : ℕ → Option Spine) (γ : ℕ → ℕ) (old : (c : ℕ) → IsOld Σ c → γ c ≡ c) (X : List LfType) (σ : ℕ → Image) (v : AreTypedValues Σm Y o γ X σ) where

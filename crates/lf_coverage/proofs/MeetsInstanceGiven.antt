@@ -35,22 +35,23 @@ use Rattle.lf_coverage.proofs.EntryPatternsNear.{before_images, out_far}
 use Rattle.lf_coverage.proofs.EntryPatternsTyped.{typed_at}
 use Rattle.lf_coverage.proofs.EntrySignature.{entries_kept, grown_contexts}
 use Rattle.lf_coverage.proofs.EntryValues.{after_entries}
+use Rattle.lf_coverage.proofs.GivenEquations.{far_back}
 use Rattle.lf_coverage.proofs.GivenValues.{StandsForItself, StandsForGiven, given_cases, given_there}
 use Rattle.lf_coverage.proofs.GroundTyped.{front_typed}
 use Rattle.lf_coverage.proofs.Matched.{own_type}
-use Rattle.lf_coverage.proofs.MeetReady.{far_back}
-use Rattle.lf_coverage.proofs.MeetsInstanceOuter.{some_images_moved, some_images_put, entries_agree}
-use Rattle.lf_coverage.proofs.MeetsInstancePartial.{goal_agrees, put_together, together_first, together_second, values_put, values_together}
+use Rattle.lf_coverage.proofs.Matching.{goal_agrees}
+use Rattle.lf_coverage.proofs.MeetsInstanceOuter.{some_images_put, entries_agree}
+use Rattle.lf_coverage.proofs.MeetsInstancePartial.{put_together, together_first, together_second, values_put, values_together}
 use Rattle.lf_coverage.proofs.MeetsInstanceOutside.{given_onward}
 use Rattle.lf_coverage.proofs.MeetsInstancePlaces.{HasValues, given_back}
-use Rattle.lf_coverage.proofs.MeetsInstanceTypes.{KeepBlocks, AreTypedIn, context_moved, entry_moved, images_moved, kinds_moved, old_stay, onto_twice, types_moved}
+use Rattle.lf_coverage.proofs.MovedBlocks.{KeepBlocks, AreTypedIn, entry_moved, kinds_moved, old_stay, types_moved}
+use Rattle.lf_coverage.proofs.MovedConstants.{context_moved, onto_twice, block_images_moved}
 use Rattle.lf_coverage.proofs.NearOrFar.{near_or_far}
 use Rattle.lf_coverage.proofs.OwnStoresEntry.{ok₁}
 use Rattle.lf_coverage.proofs.Parts.{some_same}
 use Rattle.lf_coverage.proofs.Reading.{IsOld}
 use Rattle.lf_coverage.proofs.WritingGap.{same_old, some_moved}
 use Rattle.lf_coverage.proofs.WritingMove.{move_type_substituted, moved_image, skeleton_moved}
-use mathlib.Core.Path.{fun_ext}
 
 module _ (Σ : Signature) (ok : IsSignature Σ) (first : ℕ) (free : IsFreeFrom Σ first) (V : List Block) (typed : AreTypedBlocks Σ V) (C M : NumberedCase) (tc : AreTypedVariables Σ first V C) (tm : AreTypedVariables Σ first V M) (ν : ℕ → ℕ) (σ : ℕ → Image) (h : IsTypedInstanceOf Σ first M C ν σ) where
   abbrev Σ₁ : Signature
@@ -107,7 +108,7 @@ module _ (Σ : Signature) (ok : IsSignature Σ) (first : ℕ) (free : IsFreeFrom
       let is : (η : ℕ → Image) (p : ℕ) (T : Spine) → before later (entry_images p T B.entries η) l ≡ entry_images p T es η l = λ η p T. ap (λ L. before later (entry_images p T L η) l) (sym e) ∙ before_images p T later E es η l in
       let inner : (x : ℕ) (D : LfType) → TypeAt B.some x D → after σ (some_images B.some R) x ≡ some_images B.some S x = λ x D d. ap (λ T. substitute_image σ (some_images B.some T x)) long ∙ some_images_put σ B.some (λ y. move_image ε (υ y)) x D d ∙ ap (λ T. some_images B.some (substitute_spine reduce σ T) x) (sym long) ∙ ap (λ T. some_images B.some T x) terms in
       ap (λ x. substitute_image σ (move_image ε x)) (is (some_images B.some U) m U)
-      ∙ ap (substitute_image σ) (images_moved ε m n U (some_images B.some U) es (λ later' F ds r. entry_moved Σ ok first free C.blocks M.blocks ν keeps case_blocks k (record { block = B; terms = U }) at (onto later (E ∷ later')) F ds (onto_twice later E later' (F ∷ ds) ∙ ap (λ L. onto later (E ∷ L)) r ∙ e) ∙ ap (λ x. first_constant first (blocks_of M.blocks) x + length ds) q) l ∙ ap (λ f. entry_images n R es f l) (fun_ext (some_images_moved ε B.some U)))
+      ∙ ap (substitute_image σ) (block_images_moved ε m n U B.some es (λ later' F ds r. entry_moved Σ ok first free C.blocks M.blocks ν keeps case_blocks k (record { block = B; terms = U }) at (onto later (E ∷ later')) F ds (onto_twice later E later' (F ∷ ds) ∙ ap (λ L. onto later (E ∷ L)) r ∙ e) ∙ ap (λ x. first_constant first (blocks_of M.blocks) x + length ds) q) l)
       ∙ after_entries n R S es (some_images B.some R) σ terms l
       ∙ entries_agree n S es B.some (after σ (some_images B.some R)) (some_images B.some S) inner l A g
       ∙ sym (is (some_images B.some S) n S)

@@ -1,9 +1,8 @@
 -- Values of a clause's own variables in front of those of a case: where what stands outside the clause is put into the case's variables, both together are
 -- typed values.
 use Rattle.std.proofs.Common.{◌≡◌, ℕ, zero, suc, ◌+◌, List, [], ◌∷◌, length, refl, sym, ap, ◌∙◌, subst, arith}
-use Rattle.lf.specs.Syntax.{Term, LfType, Skeleton, arrow, skeleton, weaken, rename, rename_type}
+use Rattle.lf.specs.Syntax.{Term, LfType, weaken, rename}
 use Rattle.lf.specs.Substitution.{Image, keep, put, rename_image, substitute, substitute_image, substitute_type, reduce, after}
-use Rattle.lf.specs.SkeletonTyping.{SkeletonAt, TermSkeleton, RenamingBySkeletons}
 use Rattle.lf.specs.Skeletons.{constant_skeletons, family_skeletons, context_skeletons}
 use Rattle.lf.specs.AtOnce.{in_front, shift_by, lift_renaming_by}
 use Rattle.lf.specs.Typing.{Signature, TypeAt, ImageHasType, IsTypedSubstitution, IsType, IsContext, IsSignature}
@@ -12,12 +11,10 @@ use Rattle.lf.specs.Worlds.{lift_over, instance}
 use Rattle.lf.proofs.Closed.{Agree, agree_type}
 use Rattle.lf.proofs.Renaming.{substitute_renamed}
 use Rattle.lf.proofs.SkeletonTypes.{substitutions_compose_type}
-use Rattle.lf.proofs.SkeletonTyping.{renaming_keeps_skeletons}
 use Rattle.lf.proofs.Substitution.{TypedSubstitution, lifted_substitution_typed, skeleton_context_of, substitution_keeps_types, typed_substitution_by_skeletons}
-use Rattle.lf.proofs.ToSkeletons.{type_by_skeletons, variable_has_skeleton, skeleton_has_variable}
-use Rattle.lf.proofs.TypeLaws.{skeleton_renamed, substitute_renamed_type}
+use Rattle.lf.proofs.ToSkeletons.{type_by_skeletons}
+use Rattle.lf.proofs.TypeLaws.{substitute_renamed_type}
 use Rattle.lf_cases.proofs.OutputItems.{lift_after}
-use Rattle.lf_coverage.proofs.Forms.{far_type}
 use Rattle.lf_coverage.proofs.GroundTyped.{front_typed}
 use Rattle.lf_coverage.proofs.Meeting.{joined, joined_far}
 use mathlib.Core.Path.{fun_ext}
@@ -80,13 +77,5 @@ module _ (Σ : Signature) (ok : IsSignature Σ) (outer Q H : List LfType) (co : 
   both_put L c χ t h B b = put_both L c χ (put_typed L c χ t h) h B b
 
 -- what is moved past a context
-pub past_skeletons : (O Q : List LfType) → RenamingBySkeletons (context_skeletons Q) (context_skeletons (onto O Q)) (shift_by (length O))
-past_skeletons O Q i t k = let (A, h, e) = skeleton_has_variable Q i t k in
-    subst (SkeletonAt (context_skeletons (onto O Q)) (i + length O)) (skeleton_renamed (shift_by (length O)) A ∙ e) (variable_has_skeleton (onto O Q) (i + length O) (rename_type (shift_by (length O)) A) (far_type O Q i A h))
-
-pub past_under : (Σ : Signature) (O Q L : List LfType) (M : Term) (t : Skeleton) → TermSkeleton (constant_skeletons Σ) (context_skeletons (onto L Q)) M t → TermSkeleton (constant_skeletons Σ) (context_skeletons (onto L (onto O Q))) (rename (lift_renaming_by (length L) (shift_by (length O))) M) t
-past_under Σ O Q [] M t m = renaming_keeps_skeletons (constant_skeletons Σ) (context_skeletons Q) (context_skeletons (onto O Q)) (shift_by (length O)) M t (past_skeletons O Q) m
-past_under Σ O Q (A ∷ L) M t m = past_under Σ O Q L (Rattle.lf.specs.Syntax.lambda M) (arrow (skeleton A) t) m
-
 pub past_put : (O L : List LfType) (χ ψ : ℕ → Image) (M : Term) → substitute reduce (lift_over L (joined O χ ψ)) (rename (lift_renaming_by (length L) (shift_by (length O))) M) ≡ substitute reduce (lift_over L ψ) M
 past_put O L χ ψ M = substitute_renamed reduce (lift_over L (joined O χ ψ)) (lift_renaming_by (length L) (shift_by (length O))) M ∙ ap (λ k. substitute reduce k M) (lift_after L (shift_by (length O)) (joined O χ ψ) ∙ ap (lift_over L) (fun_ext (joined_far O χ ψ)))

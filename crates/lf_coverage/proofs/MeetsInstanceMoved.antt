@@ -26,14 +26,17 @@ use Rattle.lf_coverage.proofs.EntryPatternsTyped.{typed_at}
 use Rattle.lf_coverage.proofs.EntrySignature.{earlier_kept, with_entries_is_signature}
 use Rattle.lf_coverage.proofs.Forms.{lift_same}
 use Rattle.lf_coverage.proofs.GroundTyped.{front_typed}
+use Rattle.lf_coverage.proofs.ItemsContext.{outer_context}
 use Rattle.lf_coverage.proofs.MeetsInstanceNumbers.{renumbering, renumbering_keeps, constants_agree, both_moved, both_moved_spine, both_moved_type}
-use Rattle.lf_coverage.proofs.MeetsInstanceTypes.{KeepBlocks, AreTypedIn, behind_context, context_moved, old_stay, types_moved, kinds_moved}
+use Rattle.lf_coverage.proofs.MovedBlocks.{KeepBlocks, AreTypedIn, old_stay, types_moved, kinds_moved}
+use Rattle.lf_coverage.proofs.MovedConstants.{context_moved, blocks_stay, moved_from, contexts_kept, onto_moved, length_moved, all_kept, lifts_moved}
 use Rattle.lf_coverage.proofs.NumberedArguments.{skeleton_only}
+use Rattle.lf_coverage.proofs.OwnTerms.{blocks_append}
 use Rattle.lf_coverage.proofs.Parts.{some_same}
 use Rattle.lf_coverage.proofs.Reading.{IsOld, type_only}
 use Rattle.lf_coverage.proofs.WritingGap.{some_moved}
 use Rattle.lf_coverage.proofs.WritingMove.{move_substituted, move_spine_substituted, move_type_substituted, moved_typed, skeleton_moved}
-use Rattle.lf_coverage.proofs.MeetsInstanceLists.{blocks_both, blocks_stay, blocks_typed, both_typed, moved_back, some_only, contexts_kept, types_onto, length_moved, lifts_moved, some_kept, all_kept}
+use Rattle.lf_coverage.proofs.MeetsInstanceLists.{blocks_typed, both_typed, some_only, some_kept}
 use mathlib.Core.Path.{fun_ext}
 
 module _ (Σ : Signature) (ok : IsSignature Σ) (first : ℕ) (free : IsFreeFrom Σ first) (W V : List Block) (typed : AreTypedBlocks Σ W) (typed_more : AreTypedBlocks Σ V) (C M : NumberedCase) (tc : AreTypedVariables Σ first W C) (tm : AreTypedVariables Σ first V M) (ν : ℕ → ℕ) (σ : ℕ → Image) (h : IsTypedInstanceOf Σ first M C ν σ) (π : ℕ → ℕ) (i : Identifies C π) (same : (k : ℕ) (b : BlockVariable) → block_at C.blocks k ≡ Some b → ν (π k) ≡ ν k) (only : (j k : ℕ) (b c : BlockVariable) → block_at C.blocks j ≡ Some b → block_at C.blocks k ≡ Some c → ν j ≡ ν k → π j ≡ π k) where
@@ -80,7 +83,7 @@ module _ (Σ : Signature) (ok : IsSignature Σ) (first : ℕ) (free : IsFreeFrom
   oke = with_entries_is_signature Σ ok first free (blocks_of (C.blocks ++ M.blocks)) (blocks_typed Σ (C.blocks ++ M.blocks) (both_typed Σ C.blocks M.blocks case_blocks instance_blocks))
 
   pub more : (c : ℕ) (A : LfType) → (with_entries Σ first (blocks_of C.blocks)).types c ≡ Some A → (with_entries Σ first (blocks_of (C.blocks ++ M.blocks))).types c ≡ Some A
-  more c A e = subst (λ Bs. (with_entries Σ first Bs).types c ≡ Some A) (sym (blocks_both C.blocks M.blocks)) (earlier_kept Σ first (blocks_of C.blocks) (blocks_of M.blocks) c A e)
+  more c A e = subst (λ Bs. (with_entries Σ first Bs).types c ≡ Some A) (sym (blocks_append C.blocks M.blocks)) (earlier_kept Σ first (blocks_of C.blocks) (blocks_of M.blocks) c A e)
 
   pub grows : Extends nothing (with_entries Σ first (blocks_of (identified first π C).blocks)) (with_entries Σ first (blocks_of (C.blocks ++ M.blocks)))
   grows = subst (λ Bs. Extends nothing (with_entries Σ first Bs) Σe) (sym (blocks_stay γ C.blocks)) (record { ok = oke; types_stay = more; kinds_stay = λ a K e. e; no_new = λ c A e q. absurd (no q) })
@@ -144,11 +147,11 @@ module _ (Σ : Signature) (ok : IsSignature Σ) (first : ℕ) (free : IsFreeFrom
 
   pub some_identified : (k : ℕ) (d : BlockVariable) → block_at (identified first π C).blocks k ≡ Some d → AreSomeTerms (with_entries Σ first (blocks_of (C.blocks ++ M.blocks))) (move_types γ C.variables) d.block.some d.terms
   some_identified k d e =
-      let (b, at, q) = moved_back γ C.blocks k d e in
+      let (b, at, q) = moved_from γ C.blocks k d e in
       let (υ, t, s) = some_terms k b at in
       subst (λ (x : BlockVariable). AreSomeTerms Σe (move_types γ C.variables) x.block.some x.terms) (sym q) (
         (λ j. move_image γ (υ j)),
-        some_kept γ Σ Σ₁ Σe ok case_old case_types case_kinds b.block.some C.variables υ (behind_context Σ b.block.entries b.block.some (case_blocks k b at)) t,
+        some_kept γ Σ Σ₁ Σe ok case_old case_types case_kinds b.block.some C.variables υ (outer_context Σ b.block.entries b.block.some (case_blocks k b at)) t,
         ap (move_spine γ) s ∙ some_moved γ b.block.some υ,
       )
 
@@ -160,8 +163,8 @@ module _ (Σ : Signature) (ok : IsSignature Σ) (first : ℕ) (free : IsFreeFrom
 
   pub terms_one : (k : ℕ) (b c : BlockVariable) → block_at (identified first π C).blocks k ≡ Some b → block_at (identified first π C).blocks (π k) ≡ Some c → substitute_spine reduce ψ b.terms ≡ substitute_spine reduce ψ c.terms
   terms_one k b c e q =
-      let (x, at, r) = moved_back γ C.blocks k b e in
-      let (y, to, s) = moved_back γ C.blocks (π k) c q in
+      let (x, at, r) = moved_from γ C.blocks k b e in
+      let (y, to, s) = moved_from γ C.blocks (π k) c q in
       let d : BlockVariable = record { block = x.block; terms = substitute_spine reduce σ (move_spine ε x.terms) } in
       ap (λ (z : BlockVariable). substitute_spine reduce ψ z.terms) r
       ∙ terms_put k x d at (h.blocks k x at)
@@ -170,7 +173,7 @@ module _ (Σ : Signature) (ok : IsSignature Σ) (first : ℕ) (free : IsFreeFrom
 
   -- the arguments
   pub arguments_typed : (L : List LfType) (Ms : List (Option Term)) → HaveSkeletons (constant_skeletons (with_entries Σ first (blocks_of C.blocks))) (context_skeletons (onto L C.variables)) Ms → HaveSkeletons (constant_skeletons (with_entries Σ first (blocks_of (C.blocks ++ M.blocks)))) (context_skeletons (onto (move_types γ L) (move_types γ C.variables))) (move_all γ Ms)
-  arguments_typed L Ms s = subst (λ Γ. HaveSkeletons (constant_skeletons Σe) Γ (move_all γ Ms)) (sym (ap context_skeletons (sym (types_onto γ L C.variables)) ∙ contexts_kept γ (onto L C.variables))) (all_kept γ Σ₁ Σe case_types (context_skeletons (onto L C.variables)) Ms s)
+  arguments_typed L Ms s = subst (λ Γ. HaveSkeletons (constant_skeletons Σe) Γ (move_all γ Ms)) (sym (ap context_skeletons (sym (onto_moved γ L C.variables)) ∙ contexts_kept γ (onto L C.variables))) (all_kept γ Σ₁ Σe case_types (context_skeletons (onto L C.variables)) Ms s)
 
   pub arguments_put : (L : List LfType) (Ms : List (Option Term)) (T : Spine) → HaveSkeletons (constant_skeletons (with_entries Σ first (blocks_of C.blocks))) (context_skeletons (onto L C.variables)) Ms → ArePlaces (put_in (lift_over L σ) (move_all ε Ms)) T → HasArguments (lift_over (move_types γ L) ψ) (move_all γ Ms) (move_spine δ T)
   arguments_put L [] nil s a = tt

@@ -26,17 +26,18 @@ use Rattle.lf_coverage.specs.NumberedCase.{NumberedCase, AreTypedVariables, some
 use Rattle.lf_coverage.specs.NumberedInstance.{AreTypedValues, IsTypedInstanceOf, block_at, first_constant, moved_constant, moved_entry, move, move_all, move_spine, move_type}
 use Rattle.lf_coverage.specs.OwnTerms.{BlockVariable, blocks_of, own_terms, rename_blocks, ImageOnOwnTerms}
 use Rattle.lf_coverage.specs.TypedNumbered.{IsTypedNumberedCase}
-use Rattle.lf_coverage.proofs.EntryPatternsNumbers.{inside_list}
+use Rattle.lf_coverage.proofs.EntryPatternsNumbers.{inside_list, old_or_last}
 use Rattle.lf_coverage.proofs.EntryPatternsOutside.{some_images_are}
 use Rattle.lf_coverage.proofs.EntryPatternsTyped.{typed_at, variable_is_typed}
 use Rattle.lf_coverage.proofs.EntrySignature.{behind_kept, else_cases, entries_kept}
 use Rattle.lf_coverage.proofs.EntryValues.{put_locals, some_equal}
 use Rattle.lf_coverage.proofs.Forms.{lift_same}
+use Rattle.lf_coverage.proofs.ItemsContext.{outer_context}
 use Rattle.lf_coverage.proofs.Meeting.{joined, joined_near, joined_far}
 use Rattle.lf_coverage.proofs.MeetsInstanceJoined.{past_put}
 use Rattle.lf_coverage.proofs.MeetsInstanceNumbers.{both_moved, both_moved_spine, both_moved_type}
-use Rattle.lf_coverage.proofs.MeetsInstanceTypes.{behind_context, locals_moved}
 use Rattle.lf_coverage.proofs.MeetsInstanceLists.{some_only}
+use Rattle.lf_coverage.proofs.MovedConstants.{locals_moved}
 use Rattle.lf_coverage.proofs.NewInstance.{new_blocks_are}
 use Rattle.lf_coverage.proofs.NumberedArguments.{skeleton_only}
 use Rattle.lf_coverage.proofs.NumberedCallsOwn.{unmoved, unmoved_spine, unmoved_type}
@@ -44,9 +45,10 @@ use Rattle.lf_coverage.proofs.OwnStoresEntry.{ok₁}
 use Rattle.lf_coverage.proofs.OwnTerms.{entry_from}
 use Rattle.lf_coverage.proofs.Parts.{none_some}
 use Rattle.lf_coverage.proofs.Reading.{IsOld, type_only}
+use Rattle.lf_coverage.proofs.RenamedBlocks.{renamed_from, renamed_length}
 use Rattle.lf_coverage.proofs.WritingChoice.{from_is}
 use Rattle.lf_coverage.proofs.WritingMove.{move_renamed, move_spine_renamed}
-use Rattle.lf_coverage.proofs.MeetsInstanceFront.{in_added, renamed_back, renamed_count, behind_entries_typed, behind_entries_own, with_number, number_new, number_other, front_values}
+use Rattle.lf_coverage.proofs.MeetsInstanceFront.{behind_entries_typed, behind_entries_own, with_number, number_new, number_other, front_values}
 use mathlib.Core.Path.{fun_ext}
 
 module _ (Σ : Signature) (ok : IsSignature Σ) (first : ℕ) (free : IsFreeFrom Σ first) (V : List Block) (typed : AreTypedBlocks Σ V) (C M : NumberedCase) (tc : IsTypedNumberedCase Σ first V C) (tm : AreTypedVariables Σ first V M) (ν : ℕ → ℕ) (σ : ℕ → Image) (h : IsTypedInstanceOf Σ first M C ν σ) (B : Block) (member : Member B V) (j : ℕ) (U : Spine) (there : block_at M.blocks j ≡ Some (record { block = B; terms = U })) where
@@ -124,7 +126,7 @@ module _ (Σ : Signature) (ok : IsSignature Σ) (first : ℕ) (free : IsFreeFrom
 
   -- the terms of the block variable
   some_context : IsContext Σ B.some
-  some_context = behind_context Σ B.entries B.some (typed B member)
+  some_context = outer_context Σ B.entries B.some (typed B member)
 
   some_typed : IsTypedSubstitution (with_entries Σ first (blocks_of M.blocks)) B.some M.variables (some_images B.some U)
   some_typed = behind_entries_typed Σm (first_constant first (blocks_of M.blocks) j) U η B.some M.variables B.entries (variable_is_typed Σ ok V typed first free M tm j B U there).0
@@ -152,11 +154,11 @@ module _ (Σ : Signature) (ok : IsSignature Σ) (first : ℕ) (free : IsFreeFrom
       ∙ sym known.2
 
   pub new_blocks : (k : ℕ) (b : BlockVariable) → block_at (with_new_block B C).blocks k ≡ Some b → block_at M.blocks (numbers k) ≡ Some (record { block = b.block; terms = substitute_spine reduce values (move_spine ε' b.terms) })
-  new_blocks k b e = by (in_added (rename_blocks ρ C.blocks) (record { block = B; terms = local_arguments B.some }) k b e)
+  new_blocks k b e = by (old_or_last (rename_blocks ρ C.blocks) (record { block = B; terms = local_arguments B.some }) k b e)
     where
-      by : (block_at (rename_blocks ρ C.blocks) k ≡ Some b) ⊎ ((k ≡ length (rename_blocks ρ C.blocks)) × (record { block = B; terms = local_arguments B.some } ≡ b)) → block_at M.blocks (numbers k) ≡ Some (record { block = b.block; terms = substitute_spine reduce values (move_spine ε' b.terms) })
+      by : (block_at (rename_blocks ρ C.blocks) k ≡ Some b) ⊎ ((k ≡ length (rename_blocks ρ C.blocks)) × (b ≡ record { block = B; terms = local_arguments B.some })) → block_at M.blocks (numbers k) ≡ Some (record { block = b.block; terms = substitute_spine reduce values (move_spine ε' b.terms) })
       by (inl q) =
-          let (d, at, r) = renamed_back ρ C.blocks k b q in
+          let (d, at, r) = renamed_from ρ C.blocks k b q in
           let same : substitute_spine reduce σ (move_spine ε d.terms) ≡ substitute_spine reduce values (move_spine ε' (rename_spine ρ d.terms)) =
           ap (substitute_spine reduce σ) (spine_same d.terms (some_only Σ₁ (ok₁ Σ ok V typed first free C tc.variables) C.variables d.block.some d.terms (typed_at Σ₁ V C.variables (own_terms first C.blocks) C.blocks tc.variables.blocks k d at).1))
           ∙ sym (ap (substitute_spine reduce values) (move_spine_renamed ε' ρ d.terms) ∙ substitute_renamed_spine reduce values ρ (move_spine ε' d.terms) ∙ ap (λ f. substitute_spine reduce f (move_spine ε' d.terms)) (fun_ext (joined_far B.some η σ))) in
@@ -165,11 +167,11 @@ module _ (Σ : Signature) (ok : IsSignature Σ) (first : ℕ) (free : IsFreeFrom
           ∙ ap (λ S. Some (record { block = d.block; terms = S })) same
           ∙ ap (λ (x : BlockVariable). Some (record { block = x.block; terms = substitute_spine reduce values (move_spine ε' x.terms) })) (sym r)
       by (inr (q, r)) =
-          ap (λ i. block_at M.blocks (numbers i)) (q ∙ renamed_count ρ C.blocks)
+          ap (λ i. block_at M.blocks (numbers i)) (q ∙ renamed_length ρ C.blocks)
           ∙ ap (block_at M.blocks) (number_new (length C.blocks) j ν)
           ∙ there
           ∙ ap (λ S. Some (record { block = B; terms = S })) (sym new_terms)
-          ∙ ap (λ (x : BlockVariable). Some (record { block = x.block; terms = substitute_spine reduce values (move_spine ε' x.terms) })) r
+          ∙ ap (λ (x : BlockVariable). Some (record { block = x.block; terms = substitute_spine reduce values (move_spine ε' x.terms) })) (sym r)
 
   pub new_instance : IsTypedInstanceOf Σ first M (with_new_block B C) numbers values
   new_instance = record { blocks = new_blocks; values = new_values }

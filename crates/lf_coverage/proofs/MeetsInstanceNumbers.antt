@@ -12,7 +12,8 @@ use Rattle.lf_coverage.proofs.Choices.{decided}
 use Rattle.lf_coverage.proofs.EntryPatternsAmong.{first_earlier}
 use Rattle.lf_coverage.proofs.EntryPatternsNumbers.{earlier_at, inside_list}
 use Rattle.lf_coverage.proofs.EntrySignature.{else_cases}
-use Rattle.lf_coverage.proofs.MeetsInstanceTypes.{KeepBlocks, AreTypedIn, old_stay, entry_moved}
+use Rattle.lf_coverage.proofs.MovedBlocks.{KeepBlocks, AreTypedIn, old_stay, entry_moved}
+use Rattle.lf_coverage.proofs.NumberedMeets.{at_number}
 use Rattle.lf_coverage.proofs.Parts.{none_some, some_same}
 use Rattle.lf_coverage.proofs.Reading.{IsOld, OnlyConstants, SpineOnlyConstants, TypeOnlyConstants}
 use Rattle.lf_coverage.proofs.WritingChoice.{from_is}
@@ -51,17 +52,6 @@ renumbered π n m (inr f) = n + m
 abbrev pub renumbering : (ν π : ℕ → ℕ) → ℕ → ℕ → ℕ
 renumbering ν π n m = renumbered π n m (sought ν n m)
 
-pub number_at : (bs : List BlockVariable) (k : ℕ) → k < length bs → (b : BlockVariable) × (block_at bs k ≡ Some b)
-number_at [] k l = absurd (none k l)
-  where
-    none : (i : ℕ) → i < 0 → ⊥
-    none i l = omega (arith, l)
-number_at (b ∷ bs) zero l = (b, refl)
-number_at (b ∷ bs) (suc k) l = number_at bs k (less l)
-  where
-    less : {m n : ℕ} → suc m < suc n → m < n
-    less l = omega (arith, l)
-
 later_at : (bs cs : List BlockVariable) (k : ℕ) → block_at (bs ++ cs) (length bs + k) ≡ block_at cs k
 later_at [] cs k = ap (block_at cs) (none k)
   where
@@ -80,7 +70,7 @@ module _ (bs ms : List BlockVariable) (ν π : ℕ → ℕ) (keeps : KeepBlocks 
   number_is_one k b e = by (sought ν (length bs) (ν k))
     where
       by : (x : Sought ν (length bs) (ν k)) → renumbered π (length bs) (ν k) x ≡ π k
-      by (inl (j, l, q)) = let (c, h) = number_at bs j l in only j k c b h e q
+      by (inl (j, l, q)) = let (c, h) = at_number bs j l in only j k c b h e q
       by (inr f) = absurd (f k (inside_list bs k b e) refl)
 
   pub renumbering_keeps : KeepBlocks ms (bs ++ ms) (renumbering ν π (length bs))
@@ -88,7 +78,7 @@ module _ (bs ms : List BlockVariable) (ν π : ℕ → ℕ) (keeps : KeepBlocks 
     where
       by : (x : Sought ν (length bs) m) → (c : BlockVariable) × (block_at (bs ++ ms) (renumbered π (length bs) m x) ≡ Some c) × (c.block ≡ d.block)
       by (inl (j, l, q)) =
-          let (b, h) = number_at bs j l in
+          let (b, h) = at_number bs j l in
           let (c, r, s) = keeps j b h in
           let (f, t, u) = ones j b h in
           (f, earlier_at bs ms (π j) f t, u ∙ sym s ∙ ap (λ (x : BlockVariable). x.block) (some_same (sym r ∙ ap (block_at ms) q ∙ at)))

@@ -1,7 +1,7 @@
 -- What a block variable of the case gives to what stands before an entry becomes, in an instance, what the instance's block variable gives.
 use Rattle.std.proofs.Common.{◌≡◌, ℕ, zero, suc, ◌+◌, List, [], ◌∷◌, ◌++◌, length, refl, sym, ap, ◌∙◌, subst}
 use Rattle.std.specs.Prelude.{Some}
-use Rattle.lf.specs.Syntax.{Term, Spine, nil, app, LfType, skeleton}
+use Rattle.lf.specs.Syntax.{Term, Spine, LfType, skeleton}
 use Rattle.lf.specs.Substitution.{Image, put, substitute, substitute_image, substitute_spine, reduce, after}
 use Rattle.lf.specs.AtOnce.{in_front}
 use Rattle.lf.specs.Typing.{Signature, TypeAt, IsTypedSubstitution, IsContext, IsSignature}
@@ -10,10 +10,10 @@ use Rattle.lf.specs.Subordination.{Block, AreTypedBlocks}
 use Rattle.lf_cases.specs.Case.{as_term}
 use Rattle.lf_cases.specs.Cover.{before}
 use Rattle.lf_coverage.specs.EntryConstants.{entry_images, with_entries, IsFreeFrom}
-use Rattle.lf_coverage.specs.EntryPatterns.{last_of, but_last, some_images, variable_images}
+use Rattle.lf_coverage.specs.EntryPatterns.{some_images, variable_images}
 use Rattle.lf_coverage.specs.NumberedCallsStores.{Identifies, identified}
 use Rattle.lf_coverage.specs.NumberedCase.{NumberedCase, AreTypedVariables, some_spine}
-use Rattle.lf_coverage.specs.NumberedInstance.{IsTypedInstanceOf, block_at, first_constant, moved_constant, move, move_spine, move_types}
+use Rattle.lf_coverage.specs.NumberedInstance.{IsTypedInstanceOf, block_at, first_constant, moved_constant, move_spine, move_types}
 use Rattle.lf_coverage.specs.OwnTerms.{BlockVariable, blocks_of}
 use Rattle.lf_coverage.specs.WritingRoom.{move_image}
 use Rattle.lf_coverage.proofs.EntryPatternsAmong.{first_earlier}
@@ -23,29 +23,15 @@ use Rattle.lf_coverage.proofs.EntryPatternsTyped.{variable_is_typed}
 use Rattle.lf_coverage.proofs.EntryPlaces.{whole}
 use Rattle.lf_coverage.proofs.EntryValues.{after_entries, put_add}
 use Rattle.lf_coverage.proofs.MeetsInstanceMoved.{δ, ψ, case_blocks, case_kinds, case_old, case_types, instance_blocks, keeps, ones, some_terms, terms_put}
-use Rattle.lf_coverage.proofs.MeetsInstanceLists.{blocks_stay, some_kept}
+use Rattle.lf_coverage.proofs.MeetsInstanceLists.{some_kept}
 use Rattle.lf_coverage.proofs.MeetsInstanceNumbers.{renumbering, renumbering_keeps, number_is_one}
-use Rattle.lf_coverage.proofs.MeetsInstanceTypes.{entry_moved, images_moved, later_context, onto_twice}
+use Rattle.lf_coverage.proofs.MovedBlocks.{entry_moved}
+use Rattle.lf_coverage.proofs.MovedConstants.{later_context, onto_twice, blocks_stay, block_images_moved}
 use Rattle.lf_coverage.proofs.Standing.{before_typed}
 use Rattle.lf_coverage.proofs.WritingGap.{some_moved}
 use mathlib.Core.Path.{fun_ext}
 
--- the `some` variables' terms, with other constants
-last_moved : (γ : ℕ → ℕ) (M : Term) (S : Spine) → move γ (last_of M S) ≡ last_of (move γ M) (move_spine γ S)
-last_moved γ M nil = refl
-last_moved γ M (app N S) = last_moved γ N S
-
-others_moved : (γ : ℕ → ℕ) (M : Term) (S : Spine) → move_spine γ (but_last M S) ≡ but_last (move γ M) (move_spine γ S)
-others_moved γ M nil = refl
-others_moved γ M (app N S) = ap (app (move γ M)) (others_moved γ N S)
-
-pub some_images_moved : (γ : ℕ → ℕ) (O : List LfType) (U : Spine) (i : ℕ) → move_image γ (some_images O U i) ≡ some_images O (move_spine γ U) i
-some_images_moved γ [] U i = refl
-some_images_moved γ (A ∷ O) nil i = refl
-some_images_moved γ (A ∷ O) (app M U) zero = ap (put (skeleton A)) (last_moved γ M U)
-some_images_moved γ (A ∷ O) (app M U) (suc i) = some_images_moved γ O (but_last M U) i ∙ ap (λ V. some_images O V i) (others_moved γ M U)
-
--- and with values put in
+-- the `some` variables' terms, with values put in
 pub some_images_put : (σ : ℕ → Image) (O : List LfType) (υ : ℕ → Image) (i : ℕ) (A : LfType) → TypeAt O i A → substitute_image σ (some_images O (some_spine O υ) i) ≡ some_images O (substitute_spine reduce σ (some_spine O υ)) i
 some_images_put σ [] υ i A g = absurd g
 some_images_put σ (B ∷ O) υ i A g =
@@ -95,8 +81,7 @@ module _ (Σ : Signature) (ok : IsSignature Σ) (first : ℕ) (free : IsFreeFrom
   outer_moved : (l : ℕ) → move_image γ (before later (variable_images first C.blocks k B U) l) ≡ φ l
   outer_moved l =
       ap (move_image γ) (before_is m U (some_images B.some U) l)
-      ∙ images_moved γ m m U (some_images B.some U) es case_entry l
-      ∙ ap (λ f. entry_images m (move_spine γ U) es f l) (fun_ext (some_images_moved γ B.some U))
+      ∙ block_images_moved γ m m U B.some es case_entry l
       ∙ sym (outer_is l)
 
   pub outer_typed : IsTypedSubstitution (with_entries Σ first (blocks_of (C.blocks ++ M.blocks))) (onto es B.some) (move_types (moved_constant first (blocks_of C.blocks) (blocks_of C.blocks) π) C.variables) (before later (variable_images first (identified first π C).blocks k B (move_spine (moved_constant first (blocks_of C.blocks) (blocks_of C.blocks) π) U)))
@@ -133,4 +118,4 @@ module _ (Σ : Signature) (ok : IsSignature Σ) (first : ℕ) (free : IsFreeFrom
         ap (substitute_image P) (outer_is l)
         ∙ after_entries m (move_spine γ U) (move_spine Δ U') es (some_images B.some (move_spine γ U)) P terms l
         ∙ entries_agree m (move_spine Δ U') es B.some (after P (some_images B.some (move_spine γ U))) (some_images B.some (move_spine Δ U')) inner l A g
-        ∙ sym (ap (move_image Δ) (before_is n U' (some_images B.some U') l) ∙ images_moved Δ n m U' (some_images B.some U') es instance_entry l ∙ ap (λ f. entry_images m (move_spine Δ U') es f l) (fun_ext (some_images_moved Δ B.some U')))
+        ∙ sym (ap (move_image Δ) (before_is n U' (some_images B.some U') l) ∙ block_images_moved Δ n m U' B.some es instance_entry l)

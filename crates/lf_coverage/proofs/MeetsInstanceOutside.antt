@@ -73,13 +73,6 @@ image_put ρ σ (keep i) = refl
 image_put ρ σ (put a N) = ap (put a) (rename_substituted reduce reduction_is_natural ρ σ N)
 
 -- what is given, moved
-pub given_moved : (γ : ℕ → ℕ) (Ms : List (Option Term)) (i : ℕ) (N : Term) → given_at (move_all γ Ms) i ≡ Some N → (M : Term) × (given_at Ms i ≡ Some M) × (N ≡ move γ M)
-given_moved γ [] i N e = absurd cc
-given_moved γ (Some M ∷ Ms) zero N e = (M, refl, sym (some_same e))
-given_moved γ (None ∷ Ms) zero N e = absurd cc
-given_moved γ (Some M ∷ Ms) (suc i) N e = given_moved γ Ms i N e
-given_moved γ (None ∷ Ms) (suc i) N e = given_moved γ Ms i N e
-
 pub given_onward : (γ : ℕ → ℕ) (σ : ℕ → Image) (Ms : List (Option Term)) (i : ℕ) (M : Term) → given_at Ms i ≡ Some M → given_at (put_in σ (move_all γ Ms)) i ≡ Some (substitute reduce σ (move γ M))
 given_onward γ σ [] i M e = absurd cc
 given_onward γ σ (Some N ∷ Ms) zero M e = ap (λ P. Some (substitute reduce σ (move γ P))) (some_same e)

@@ -1,13 +1,13 @@
 -- Values of some variables of a context: put together with others where they agree, and with values put into them.
 use Rattle.std.proofs.Common.{◌≡◌, ℕ, zero, suc, ◌⊎◌, List, [], ◌∷◌, inl, inr, refl, sym, ap, ◌∙◌, subst}
-use Rattle.std.specs.Prelude.{Bool, true, false, cond, Option, Some, None}
-use Rattle.lf.specs.Syntax.{Term, Spine, nil, app, LfType, pi, atom, Skeleton, skeleton, weaken}
-use Rattle.lf.specs.Substitution.{Image, keep, put, lift, substitute_image, substitute_spine, substitute_type, reduce, after}
+use Rattle.std.specs.Prelude.{Bool, true, false, cond}
+use Rattle.lf.specs.Syntax.{LfType, Skeleton, skeleton, weaken}
+use Rattle.lf.specs.Substitution.{Image, keep, put, substitute_image, substitute_type, reduce, after}
 use Rattle.lf.specs.SkeletonTyping.{SkeletonAt, ImageSkeleton, SubstitutionBySkeletons}
 use Rattle.lf.specs.Skeletons.{constant_skeletons, family_skeletons}
 use Rattle.lf.specs.Typing.{Signature, TypeAt, ImageHasType, IsTypedSubstitution, IsType, IsContext, IsSignature}
-use Rattle.lf.specs.Variables.{target_arguments, Values, SameOn, UsesType, under}
-use Rattle.lf.proofs.Agreement.{SameOn-under, agree_on, agree_on_type, uses_type_within}
+use Rattle.lf.specs.Variables.{Values, UsesType}
+use Rattle.lf.proofs.Agreement.{agree_on_type, uses_type_within}
 use Rattle.lf.proofs.Closed.{agree, agree_type}
 use Rattle.lf.proofs.Partial.{ImageHasType-has_skeleton, skeletons_beside, type_by_skeletons_beside}
 use Rattle.lf.proofs.Patch.{beyond, patch, patch_same, patched}
@@ -16,14 +16,11 @@ use Rattle.lf.proofs.Substitution.{skeleton_context_of, substitution_keeps_typin
 use Rattle.lf.proofs.ToSkeletons.{type_by_skeletons}
 use Rattle.lf.proofs.TypeLaws.{skeleton_renamed, skeleton_substituted}
 use Rattle.lf.proofs.Weakening.{declared_is_type}
-use Rattle.lf_checks.specs.Ground.{UsesGoal}
-use Rattle.lf_checks.specs.Marks.{UsesPlaces}
 use Rattle.lf_checks.specs.Tests.{both, either}
 use Rattle.lf_checks.proofs.StrictTypes.{either_cases}
-use Rattle.lf_cases.specs.Case.{covered_places}
 use Rattle.lf_totality.proofs.OutputCases.{in_context, in_covers, in_type}
 use Rattle.lf.proofs.Kept.{typed_uses_type}
-use Rattle.lf_coverage.specs.Matching.{ArePlaces}
+use Rattle.lf_coverage.proofs.Carried.{beyond_at}
 use Rattle.lf_coverage.proofs.Choices.{either_first, either_second}
 use Rattle.lf_coverage.proofs.Matched.{type_third}
 use Rattle.lf_coverage.proofs.Meeting.{joined, joined_near}
@@ -80,10 +77,6 @@ beyond_cases Γ (B ∷ O) (suc i) t g = by (beyond_cases Γ O i t g)
     by (inl (A, h, e)) = inl (weaken A, (A, h, refl), skeleton_renamed suc A ∙ e)
     by (inr (j, e, h)) = inr (j, ap suc e, h)
 
-beyond_skeleton : (Γ : List Skeleton) (O : List LfType) (j : ℕ) (t : Skeleton) → SkeletonAt Γ j t → SkeletonAt (skeletons_beside Γ O) (beyond O j) t
-beyond_skeleton Γ [] j t g = g
-beyond_skeleton Γ (A ∷ O) j t g = beyond_skeleton Γ O j t g
-
 joined_beyond : (O : List LfType) (σ τ : ℕ → Image) (j : ℕ) → joined O σ τ (beyond O j) ≡ τ j
 joined_beyond [] σ τ j = refl
 joined_beyond (A ∷ O) σ τ j = joined_beyond O (λ i. σ (suc i)) τ j
@@ -104,7 +97,7 @@ module _ (Σ : Signature) (ok : IsSignature Σ) (V : ℕ → Bool) (G O P : List
     where
       by : ((A : LfType) × TypeAt O i A × (skeleton A ≡ s)) ⊎ ((j : ℕ) × (i ≡ beyond O j) × SkeletonAt Γ j s) → ImageSkeleton (constant_skeletons Σ) (skeletons_beside Γ P) (σ' i) s
       by (inl (A, h, e)) = subst (λ x. ImageSkeleton (constant_skeletons Σ) (skeletons_beside Γ P) x s) (sym (near i A h)) (subst (ImageSkeleton (constant_skeletons Σ) (skeletons_beside Γ P) (σ i)) (skeleton_substituted reduce σ A ∙ e) (ImageHasType-has_skeleton Σ ok Γ P (σ i) (substitute_type reduce σ A) (t i A h)))
-      by (inr (j, e, h)) = subst (λ x. ImageSkeleton (constant_skeletons Σ) (skeletons_beside Γ P) x s) (sym (ap σ' e ∙ joined_beyond O σ (λ l. keep (beyond P l)) j)) (beyond_skeleton Γ P j s h)
+      by (inr (j, e, h)) = subst (λ x. ImageSkeleton (constant_skeletons Σ) (skeletons_beside Γ P) x s) (sym (ap σ' e ∙ joined_beyond O σ (λ l. keep (beyond P l)) j)) (beyond_at Γ P j s h)
 
   image_near : (x : Image) (A : LfType) → ImageHasType Σ O x A → substitute_image σ' x ≡ substitute_image σ x
   image_near (keep i) A h = near i A h
@@ -128,16 +121,3 @@ module _ (Σ : Signature) (ok : IsSignature Σ) (V : ℕ → Bool) (G O P : List
     typed = λ i A k u. let h = declared_is_type Σ ok G i A cg k in subst (ImageHasType Σ P (substitute_image σ (g i))) (put_both A h (v.closed i A k u)) (image_put (g i) (substitute_type reduce g A) (value_type Σ ok V G O g A cg co v h (v.closed i A k u)) (v.typed i A k u));
     closed = v.closed;
   }
-
--- The arguments of a pattern at the covered places, where values agree on what it uses there
-places_agree : (U : ℕ → Bool) (f g : ℕ → Image) → SameOn U f g → (Ms : List (Option Term)) (S : Spine) → UsesPlaces U (covered_places Ms) S → ArePlaces Ms (substitute_spine reduce f S) → ArePlaces Ms (substitute_spine reduce g S)
-places_agree U f g h [] nil u a = tt
-places_agree U f g h [] (app M S) u a = absurd a
-places_agree U f g h (Some N ∷ Ms) nil u a = absurd a
-places_agree U f g h (None ∷ Ms) nil u a = absurd a
-places_agree U f g h (Some N ∷ Ms) (app M S) (m, u) (e, a) = (e ∙ agree_on reduce U f g M h m, places_agree U f g h Ms S u a)
-places_agree U f g h (None ∷ Ms) (app M S) u a = places_agree U f g h Ms S u a
-
-pub goal_agrees : (U : ℕ → Bool) (f g : ℕ → Image) → SameOn U f g → (Ms : List (Option Term)) (P : LfType) → UsesGoal U (covered_places Ms) P → ArePlaces Ms (target_arguments (substitute_type reduce f P)) → ArePlaces Ms (target_arguments (substitute_type reduce g P))
-goal_agrees U f g h Ms (pi A B) (ua, u) a = goal_agrees (under U) (lift f) (lift g) (SameOn-under U f g h) Ms B u a
-goal_agrees U f g h Ms (atom c S) u a = places_agree U f g h Ms S u a

@@ -37,16 +37,19 @@ use Rattle.lf_coverage.proofs.Choices.{either_first, either_second}
 use Rattle.lf_coverage.proofs.EntryPatternsNear.{out_far}
 use Rattle.lf_coverage.proofs.EntrySignature.{entries_kept, grown_contexts}
 use Rattle.lf_coverage.proofs.FreshValues.{Longer, longer, values_moved, arguments_moved, goal_moved}
+use Rattle.lf_coverage.proofs.HeadSplit.{places_put_in}
+use Rattle.lf_coverage.proofs.MatchInstance.{same_self}
 use Rattle.lf_coverage.proofs.MeetsInstanceJoined.{AgreePast}
 use Rattle.lf_coverage.proofs.MeetsInstanceMoved.{δ, ψ, agree, arguments_typed, arguments_put, case_context, case_values, instance_context, instance_kinds, instance_types, oke, okm, old_kept, some_identified, terms_one}
-use Rattle.lf_coverage.proofs.MeetsInstanceLists.{length_moved, places_moved, places_put_in, places_same}
 use Rattle.lf_coverage.proofs.MeetsInstanceNumbers.{both_moved}
 use Rattle.lf_coverage.proofs.MeetsInstanceStore.{store_solved}
+use Rattle.lf_coverage.proofs.MeetsTupleForms.{places_stay}
+use Rattle.lf_coverage.proofs.MovedConstants.{length_moved, given_moved}
 use Rattle.lf_coverage.proofs.NumberedArguments.{skeleton_only}
 use Rattle.lf_coverage.proofs.Reading.{IsOld}
 use Rattle.lf_coverage.proofs.WritingGap.{same_old}
 use Rattle.lf_coverage.proofs.WritingMove.{move_substituted, move_type_substituted, moved_image}
-use Rattle.lf_coverage.proofs.MeetsInstanceOutside.{past, past_far, image_put, given_moved, given_onward, given_typed, arguments_of, places_turned, with_outer}
+use Rattle.lf_coverage.proofs.MeetsInstanceOutside.{past, past_far, image_put, given_onward, given_typed, arguments_of, places_turned, with_outer}
 
 -- The lemma: where the place of the pattern beside the case becomes that in the instance, the instance solves the store.
 module _ (Σ : Signature) (ok : IsSignature Σ) (first : ℕ) (free : IsFreeFrom Σ first) (W V : List Block) (typed : AreTypedBlocks Σ W) (typed_more : AreTypedBlocks Σ V) (C M : NumberedCase) (tc : AreTypedVariables Σ first W C) (tm : AreTypedVariables Σ first V M) (ν : ℕ → ℕ) (σ : ℕ → Image) (h : IsTypedInstanceOf Σ first M C ν σ) (hg : M.given ≡ put_in σ (move_all (moved_constant first (blocks_of C.blocks) (blocks_of M.blocks) ν) C.given)) (ha : M.arguments ≡ put_in (lift_over C.local σ) (move_all (moved_constant first (blocks_of C.blocks) (blocks_of M.blocks) ν) C.arguments)) (π : ℕ → ℕ) (i : Identifies C π) (same : (k : ℕ) (b : BlockVariable) → block_at C.blocks k ≡ Some b → ν (π k) ≡ ν k) (only : (j k : ℕ) (b c : BlockVariable) → block_at C.blocks j ≡ Some b → block_at C.blocks k ≡ Some c → ν j ≡ ν k → π j ≡ π k) (ga : HaveSkeletons (constant_skeletons (with_entries Σ first (blocks_of C.blocks))) (context_skeletons C.variables) C.given) (ta : HaveSkeletons (constant_skeletons (with_entries Σ first (blocks_of C.blocks))) (context_skeletons (onto C.local C.variables)) C.arguments) (p : Pattern) (tp : IsTypedPattern Σ p) (l : length C.local ≡ length (binders [] p.type)) where
@@ -121,7 +124,7 @@ module _ (Σ : Signature) (ok : IsSignature Σ) (first : ℕ) (free : IsFreeFrom
     tuple_is = arguments_of Δ (substitute_type reduce τ p.type) ∙ ap target_arguments (move_type_substituted Δ τ p.type ∙ ap (substitute_type reduce υ) (same_old Σ Δ (scope p.clause) p.type (old_kept Σ ok first free W V typed typed_more C M tc tm ν σ h π i same only) tp.type_typed))
 
     chosen : covered_places M.arguments ≡ covered_places (move_all γ C.arguments)
-    chosen = ap covered_places ha ∙ places_put_in (lift_over C.local σ) (move_all (moved_constant first (blocks_of C.blocks) (blocks_of M.blocks) ν) C.arguments) ∙ places_moved (moved_constant first (blocks_of C.blocks) (blocks_of M.blocks) ν) C.arguments ∙ sym (places_moved γ C.arguments)
+    chosen = ap covered_places ha ∙ places_put_in (lift_over C.local σ) (move_all (moved_constant first (blocks_of C.blocks) (blocks_of M.blocks) ν) C.arguments) ∙ places_stay (moved_constant first (blocks_of C.blocks) (blocks_of M.blocks) ν) C.arguments ∙ sym (places_stay γ C.arguments)
 
     lengths : length (move_types γ C.local) ≡ length (binders [] p.type)
     lengths = length_moved γ C.local ∙ l
@@ -169,7 +172,7 @@ module _ (Σ : Signature) (ok : IsSignature Σ) (first : ℕ) (free : IsFreeFrom
     same_places =
         let b : List Bool = covered_places M.arguments in
         let T' : Spine = move_spine Δ T in
-        let one : SamePlaces b T' (target_arguments (substitute_type reduce υ p.type)) = subst (SamePlaces b T') tuple_is (places_turned Δ b T (places_same M.arguments T places)) in
+        let one : SamePlaces b T' (target_arguments (substitute_type reduce υ p.type)) = subst (SamePlaces b T') tuple_is (places_turned Δ b T (same_self M.arguments T places)) in
         subst (λ c. SamePlaces c R (target_arguments (substitute_type reduce χ p.type))) chosen
         (subst (λ n. SamePlaces b (rename_spine (lift_renaming_by n ρ) T') (target_arguments (substitute_type reduce χ p.type))) (sym lengths)
         (goal_moved [] used ρ υ χ (λ k u. fresh.same k (either_first (used k) (past L k) u)) b p.type T' uses one))

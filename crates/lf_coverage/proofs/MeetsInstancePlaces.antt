@@ -1,12 +1,12 @@
 -- The places of a pattern beside a case whose block variables are one as an instance that they share makes them: that of a constant's clause, and that of an
 -- entry of a block variable of the case.
-use Rattle.std.proofs.Common.{◌≡◌, ◌≤◌, ℕ, zero, suc, ◌<◌, List, [], ◌∷◌, ◌++◌, length, inr, refl, sym, ap, ◌∙◌, arith}
+use Rattle.std.proofs.Common.{◌≡◌, ◌≤◌, ℕ, zero, suc, ◌<◌, List, [], ◌∷◌, ◌++◌, length, refl, sym, ap, ◌∙◌, arith}
 use Rattle.std.specs.Prelude.{Bool, true, false, cond, Option, Some, None}
-use Rattle.lf.specs.Syntax.{Term, Spine, LfType, Kind, Skeleton}
+use Rattle.lf.specs.Syntax.{Term, LfType, Kind, Skeleton}
 use Rattle.lf.specs.Substitution.{Image, put, substitute_image, substitute_type, reduce}
 use Rattle.lf.specs.Typing.{Signature, TypeAt, IsTypedSubstitution, IsSignature}
 use Rattle.lf.specs.Variables.{target_arguments, binders, nothing, Values}
-use Rattle.lf.specs.Subordination.{Block, Member, AreTypedBlocks}
+use Rattle.lf.specs.Subordination.{Block, AreTypedBlocks}
 use Rattle.lf.specs.Worlds.{lift_over}
 use Rattle.lf.specs.Extension.{Extends}
 use Rattle.lf_unification.specs.Unifiers.{Solution}
@@ -14,7 +14,7 @@ use Rattle.lf_checks.specs.Clause.{Clause, scope}
 use Rattle.lf_checks.specs.Ground.{UsesGoal}
 use Rattle.lf_cases.specs.Case.{covered_places}
 use Rattle.lf_cases.specs.Cover.{AgreesOutside}
-use Rattle.lf_cases.specs.Missing.{blocks_with, put_in}
+use Rattle.lf_cases.specs.Missing.{put_in}
 use Rattle.lf_cases.specs.Pattern.{Origin, of_constant, of_entry, Pattern, given_at}
 use Rattle.lf_coverage.specs.EntryConstants.{with_entries, IsFreeFrom}
 use Rattle.lf_coverage.specs.EntryPatterns.{StandsByNumber}
@@ -22,9 +22,9 @@ use Rattle.lf_coverage.specs.Leaf.{IsTypedPattern}
 use Rattle.lf_coverage.specs.Matching.{ArePlaces}
 use Rattle.lf_coverage.specs.NumberedCallsMeeting.{SharesInstance, HasPattern}
 use Rattle.lf_coverage.specs.NumberedCallsStores.{Identifies, identified, meet_store_by_number}
-use Rattle.lf_coverage.specs.NumberedCase.{NumberedCase, AreTypedBlockVariables, AreTypedVariables}
+use Rattle.lf_coverage.specs.NumberedCase.{NumberedCase, AreTypedVariables}
 use Rattle.lf_coverage.specs.NumberedInstance.{IsTypedInstanceOf, block_at, moved_constant, move_all, move_types}
-use Rattle.lf_coverage.specs.OwnTerms.{BlockVariable, blocks_of, own_terms}
+use Rattle.lf_coverage.specs.OwnTerms.{BlockVariable, blocks_of}
 use Rattle.lf_coverage.specs.TermMatching.{bound}
 use Rattle.lf_coverage.specs.TypedNumbered.{IsTypedNumberedCase}
 use Rattle.lf_coverage.specs.WritingRoom.{move_image}
@@ -146,33 +146,10 @@ given_back γ σ (None ∷ Ms) zero N e = absurd cc
 given_back γ σ (Some M ∷ Ms) (suc i) N e = given_back γ σ Ms i N e
 given_back γ σ (None ∷ Ms) (suc i) N e = given_back γ σ Ms i N e
 
-pub worlds_with : {c : Clause} (o : Origin c) (W : List Block) (B : Block) → Member B W → Member B (blocks_with o W)
-worlds_with (of_constant U) W B m = m
-worlds_with (of_entry D later E es e) W B m = inr m
-
--- Block variables are typed where there are more worlds.
-pub more_blocks : (Σ : Signature) (W V : List Block) → ((B : Block) → Member B W → Member B V) → (X : List LfType) (o : ℕ → Option Spine) (bs : List BlockVariable) → AreTypedBlockVariables Σ W X o bs → AreTypedBlockVariables Σ V X o bs
-more_blocks Σ W V f X o [] t = tt
-more_blocks Σ W V f X o (b ∷ bs) (m, s, u, t) = (f b.block m, s, u, more_blocks Σ W V f X o bs t)
-
-pub case_with : (Σ : Signature) (first : ℕ) (W V : List Block) → ((B : Block) → Member B W → Member B V) → (C : NumberedCase) → IsTypedNumberedCase Σ first W C → IsTypedNumberedCase Σ first V C
-case_with Σ first W V f C t = record {
-  variables = record { variables = t.variables.variables; on_own_terms = t.variables.on_own_terms; blocks = more_blocks (with_entries Σ first (blocks_of C.blocks)) W V f C.variables (own_terms first C.blocks) C.blocks t.variables.blocks };
-  local = t.local;
-  local_on_own = t.local_on_own;
-  given = t.given;
-  given_on_own = t.given_on_own;
-  arguments = t.arguments;
-  arguments_on_own = t.arguments_on_own;
-}
-
 -- An instance of a case at which these block variables are one, and a pattern that it has
 module _ (Σ : Signature) (ok : IsSignature Σ) (first : ℕ) (free : IsFreeFrom Σ first) (V : List Block) (typed : AreTypedBlocks Σ V) (C M : NumberedCase) (tc : IsTypedNumberedCase Σ first V C) (tm : AreTypedVariables Σ first V M) (ν : ℕ → ℕ) (σ : ℕ → Image) (h : IsTypedInstanceOf Σ first M C ν σ) (hg : M.given ≡ put_in σ (move_all (moved_constant first (blocks_of C.blocks) (blocks_of M.blocks) ν) C.given)) (ha : M.arguments ≡ put_in (lift_over C.local σ) (move_all (moved_constant first (blocks_of C.blocks) (blocks_of M.blocks) ν) C.arguments)) (π : ℕ → ℕ) (i : Identifies C π) (same : (k : ℕ) (b : BlockVariable) → block_at C.blocks k ≡ Some b → ν (π k) ≡ ν k) (only : (j k : ℕ) (b c : BlockVariable) → block_at C.blocks j ≡ Some b → block_at C.blocks k ≡ Some c → ν j ≡ ν k → π j ≡ π k) where
   abbrev γ : ℕ → ℕ
   γ = moved_constant first (blocks_of C.blocks) (blocks_of C.blocks) π
-
-  abbrev pub Extended : Signature
-  Extended = with_entries Σ first (blocks_of (C.blocks ++ M.blocks))
 
   pub extends : Extends nothing (with_entries Σ first (blocks_of (identified first π C).blocks)) (with_entries Σ first (blocks_of (C.blocks ++ M.blocks)))
   extends = grows Σ ok first free V V typed typed C M tc.variables tm ν σ h π i same only

@@ -1,7 +1,7 @@
 -- An instance that a case by number and a pattern share solves the store of the place that the pattern has in it: a constant's, an entry of a block variable of
 -- the case, or an entry of a new one.
-use Rattle.std.proofs.Common.{◌≡◌, ℕ, zero, suc, ◌<◌, List, [], ◌∷◌, ◌++◌, length, inl, inr, refl, sym, ap, ap₂, ◌∙◌, subst}
-use Rattle.std.specs.Prelude.{Bool, true, false, Option, Some, None}
+use Rattle.std.proofs.Common.{◌≡◌, ℕ, zero, ◌<◌, List, [], ◌∷◌, ◌++◌, length, inl, inr, refl, sym, ap, ap₂, ◌∙◌, subst}
+use Rattle.std.specs.Prelude.{Bool, true, false, Option, Some}
 use Rattle.lf.specs.Syntax.{Term, Spine, LfType, Kind}
 use Rattle.lf.specs.Substitution.{Image, keep}
 use Rattle.lf.specs.AtOnce.{shift_by}
@@ -21,8 +21,8 @@ use Rattle.lf_coverage.specs.EntryConstants.{with_entries, IsFreeFrom}
 use Rattle.lf_coverage.specs.EntryPatterns.{variable_images}
 use Rattle.lf_coverage.specs.Leaf.{IsTypedPattern}
 use Rattle.lf_coverage.specs.MeetsInstance.{HasFirstFor}
-use Rattle.lf_coverage.specs.NewBlock.{rename_all, with_new_block}
-use Rattle.lf_coverage.specs.NumberedCallsStores.{Identifies, IsPutBeside, constant_beside, entry_beside, new_beside, identified, meet_store_by_number, move_blocks}
+use Rattle.lf_coverage.specs.NewBlock.{with_new_block}
+use Rattle.lf_coverage.specs.NumberedCallsStores.{Identifies, IsPutBeside, constant_beside, entry_beside, new_beside, identified, meet_store_by_number}
 use Rattle.lf_coverage.specs.NumberedCase.{NumberedCase, AreTypedVariables}
 use Rattle.lf_coverage.specs.NumberedInstance.{IsNumberedInstanceOf, IsTypedInstanceOf, block_at, moved_constant, move_all, move_spine}
 use Rattle.lf_coverage.specs.NumberedMeets.{HasFirst}
@@ -30,27 +30,20 @@ use Rattle.lf_coverage.specs.OwnTerms.{BlockVariable, blocks_of}
 use Rattle.lf_coverage.specs.TypedNumbered.{IsTypedNumberedCase}
 use Rattle.lf_coverage.proofs.Choices.{decided}
 use Rattle.lf_coverage.proofs.EntryPatternsNumbers.{inside_list}
+use Rattle.lf_coverage.proofs.IdentifiedNewBlock.{identifies_new, new_at, same_identified}
+use Rattle.lf_coverage.proofs.ItemsContext.{outer_context}
 use Rattle.lf_coverage.proofs.MeetsInstanceNew.{new_instance, all_same, values}
 use Rattle.lf_coverage.proofs.MeetsInstanceFront.{with_number, number_new}
-use Rattle.lf_coverage.proofs.MeetsInstanceNewPlace.{identifies_new, same_new, only_new, new_at, same_identified}
-use Rattle.lf_coverage.proofs.MeetsInstanceNumbers.{Sought, sought, number_at}
+use Rattle.lf_coverage.proofs.MeetsInstanceNewPlace.{same_new, only_new}
+use Rattle.lf_coverage.proofs.MeetsInstanceNumbers.{Sought, sought}
 use Rattle.lf_coverage.proofs.MeetsInstanceOuter.{outer_typed, instance_typed, outer_put}
-use Rattle.lf_coverage.proofs.MeetsInstancePlaces.{HasValues, extends, solution_at, case_with, worlds_with}
-use Rattle.lf_coverage.proofs.MeetsInstanceTypes.{behind_context, locals_moved}
-use Rattle.lf_coverage.proofs.NumberedMeetsMoved.{moved_at}
+use Rattle.lf_coverage.proofs.MeetsInstancePlaces.{HasValues, extends, solution_at}
+use Rattle.lf_coverage.proofs.MoreWorlds.{case_with_more, with_more}
+use Rattle.lf_coverage.proofs.MovedConstants.{locals_moved, moved_at}
+use Rattle.lf_coverage.proofs.NumberedMeets.{at_number}
 use Rattle.lf_coverage.proofs.OwnStoresNewBlock.{new_block_stays_typed}
 use Rattle.lf_coverage.proofs.Parts.{some_same}
-
-given_renamed : (ρ : ℕ → ℕ) (Ms : List (Option Term)) (k : ℕ) (N : Term) → given_at (rename_all ρ Ms) k ≡ Some N → (M : Term) × (given_at Ms k ≡ Some M)
-given_renamed ρ [] k N e = absurd cc
-given_renamed ρ (Some M ∷ Ms) zero N e = (M, refl)
-given_renamed ρ (None ∷ Ms) zero N e = absurd cc
-given_renamed ρ (Some M ∷ Ms) (suc k) N e = given_renamed ρ Ms k N e
-given_renamed ρ (None ∷ Ms) (suc k) N e = given_renamed ρ Ms k N e
-
-moved_count : (γ : ℕ → ℕ) (bs : List BlockVariable) → length (move_blocks γ bs) ≡ length bs
-moved_count γ [] = refl
-moved_count γ (b ∷ bs) = ap suc (moved_count γ bs)
+use Rattle.lf_coverage.proofs.RenamedBlocks.{moved_length, given_from}
 
 module _ (Σ : Signature) (ok : IsSignature Σ) (W : List Block) (first : ℕ) (free : IsFreeFrom Σ first) (C M : NumberedCase) (tc : IsTypedNumberedCase Σ first W C) (ν : ℕ → ℕ) (zeroth : ν zero ≡ zero) (σ : ℕ → Image) (h : IsNumberedInstanceOf Σ first M C ν σ) (π : ℕ → ℕ) (ids : Identifies C π) (same : (k : ℕ) → ν (π k) ≡ ν k) (only : (j k : ℕ) (b c : BlockVariable) → block_at C.blocks j ≡ Some b → block_at C.blocks k ≡ Some c → ν j ≡ ν k → π j ≡ π k) (next : π (length C.blocks) ≡ length C.blocks) (K : Kind) where
   abbrev D : NumberedCase
@@ -93,7 +86,7 @@ module _ (Σ : Signature) (ok : IsSignature Σ) (W : List Block) (first : ℕ) (
       V = B ∷ W
 
       tv : IsTypedNumberedCase Σ first (B ∷ W) C
-      tv = case_with Σ first W V (worlds_with (of_entry B later E es e) W) C tc
+      tv = case_with_more Σ first W V (with_more (of_entry B later E es e) W) C tc
 
       abbrev ω : ℕ → Image
       ω = before later (variable_images first M.blocks j B U)
@@ -158,7 +151,7 @@ module _ (Σ : Signature) (ok : IsSignature Σ) (W : List Block) (first : ℕ) (
         only' = only_new first C B π ids next ν j same only other
 
         abbrev at : block_at (with_new_block B C).blocks (length C.blocks) ≡ Some (record { block = B; terms = local_arguments B.some })
-        at = new_at first C B π ids next
+        at = new_at B C
 
         abbrev δ : ℕ → ℕ
         δ = moved_constant first (blocks_of (with_new_block B C).blocks) (blocks_of (with_new_block B C).blocks) π
@@ -167,10 +160,10 @@ module _ (Σ : Signature) (ok : IsSignature Σ) (W : List Block) (first : ℕ) (
         φ = before later (variable_images first (identified first π (with_new_block B C)).blocks (length C.blocks) B (move_spine δ (local_arguments B.some)))
 
         cases : identified first π (with_new_block B C) ≡ with_new_block B (identified first π C)
-        cases = same_identified first C B π ids next Σ free (behind_context Σ B.entries B.some (typed B (inl refl)))
+        cases = same_identified first C B π ids next Σ free (outer_context Σ B.entries B.some (typed B (inl refl)))
 
         counts : length (identified first π C).blocks ≡ length C.blocks
-        counts = moved_count γ C.blocks
+        counts = moved_length γ C.blocks
 
         outer_is : φ ≡ before later (variable_images first (with_new_block B (identified first π C)).blocks (length (identified first π C).blocks) B (local_arguments B.some))
         outer_is = ap₂ (λ (J : NumberedCase) S. before later (variable_images first J.blocks n B S)) cases (locals_moved δ B.some) ∙ ap (λ m. before later (variable_images first (with_new_block B (identified first π C)).blocks m B R)) (sym counts)
@@ -179,7 +172,7 @@ module _ (Σ : Signature) (ok : IsSignature Σ) (W : List Block) (first : ℕ) (
         of_new =
             let p : Pattern = record { clause = entry_clause B es E; origin = of_entry B later E es e; type = P; at_first = b } in
             let Σe : Signature = with_entries Σ first (blocks_of ((with_new_block B C).blocks ++ M.blocks)) in
-            let (H, β, u) = solution_at Σ ok first free V typed N M tn tm ν' σ' h' given' arguments' π ids' same' only' (of_entry B later E es e) P b tp (length_renumber (shift_by (length B.some)) C.local ∙ l) q (λ k Q r. let (Z, s) = given_renamed (shift_by (length B.some)) C.given k Q r in g k Z s) K φ
+            let (H, β, u) = solution_at Σ ok first free V typed N M tn tm ν' σ' h' given' arguments' π ids' same' only' (of_entry B later E es e) P b tp (length_renumber (shift_by (length B.some)) C.local ∙ l) q (λ k Q r. let (Z, s, e) = given_from (shift_by (length B.some)) C.given k Q r in g k Z s) K φ
             (outer_typed Σ ok first free V V typed typed N M tn.variables tm ν' σ' h' π ids' same' only' B later E es e n R at next)
             ω
             (instance_typed Σ ok first free V V typed typed N M tn.variables tm ν' σ' h' π ids' same' only' B later E es e n R at next j U there (number_new n j ν))
@@ -201,7 +194,7 @@ module _ (Σ : Signature) (ok : IsSignature Σ) (W : List Block) (first : ℕ) (
         where
           by : Sought ν (length C.blocks) j → IsUnifiedAt (of_entry B later E es e) P b
           by (inl (k, lt, r)) =
-              let (d, at) = number_at C.blocks k lt in
+              let (d, at) = at_number C.blocks k lt in
               let (c, to, s, fixed) = ids k d at in
               let block : c.block ≡ B = s ∙ ap (λ (x : BlockVariable). x.block) (some_same (sym (h.is_instance.blocks k d at) ∙ ap (block_at M.blocks) r ∙ there)) in
               of_old (π k) c.terms (to ∙ ap (λ D. Some (record { block = D; terms = c.terms })) block) fixed (λ y. let (f, m) = has y in only k zero d f at m (r ∙ z y ∙ sym zeroth)) (same k ∙ r)

@@ -32,7 +32,10 @@ use Rattle.lf_coverage.specs.SplitStore.{open_spine, open_locals, context_metava
 use Rattle.lf_coverage.proofs.EntryPatternsNear.{binders_count}
 use Rattle.lf_coverage.proofs.Meeting.{joined, open_length, are_instance, solves_both}
 use Rattle.lf_coverage.proofs.MeetsInstanceJoined.{AgreePast}
-use Rattle.lf_coverage.proofs.MeetsInstanceFilled.{identities_solved, renamed_from, terms_from, near_value, all_typed, values_typed, filling, terms_filled, places_filled, givens_filled, pattern_filled, μ}
+use Rattle.lf_coverage.proofs.MeetsInstanceFilled.{terms_from, all_typed, values_typed, filling, terms_filled, places_filled, givens_filled, pattern_filled, μ}
+use Rattle.lf_coverage.proofs.MeetsTuplePattern.{joined_less}
+use Rattle.lf_coverage.proofs.PlacesSolved.{identities_solved}
+use Rattle.lf_coverage.proofs.RenamedBlocks.{renamed_from}
 
 -- the quantifiers of a type stay as many
 pub count_placed : (f : ℕ → Image) (P : LfType) → length (binders [] (substitute_type reduce f P)) ≡ length (binders [] P)
@@ -75,7 +78,7 @@ module _ (Σ : Signature) (ok : IsSignature Σ) (J : NumberedCase) (p : Pattern)
   identities = identities_solved M β π bs zero bs (λ j d U e q.
       let (b, at, x) = renamed_from (shift_by n) J.blocks j d e in
       let (c, to, y) = terms_from (shift_by n) J.blocks (π (zero + j)) U q in
-      ap (λ V. fill_spine M β (open_spine zero V)) x
+      ap (λ (c : BlockVariable). fill_spine M β (open_spine zero c.terms)) x
       ∙ terms_filled Σ ok p.clause.outer J.variables H co cq ch φ ψ tφ tψ L cl χ tl agrees b.block.some b.terms (some j b at)
       ∙ ones j b c at (ap (λ i. block_at J.blocks (π i)) (none j) ∙ to)
       ∙ sym (terms_filled Σ ok p.clause.outer J.variables H co cq ch φ ψ tφ tψ L cl χ tl agrees c.block.some c.terms (some (π (zero + j)) c to))
@@ -93,7 +96,7 @@ module _ (Σ : Signature) (ok : IsSignature Σ) (J : NumberedCase) (p : Pattern)
 
   given : SolvesAll M β (given_equations (onto (instance (binders [] p.clause.type) φ) J.variables) zero (rename_all (shift_by n) J.given))
   given = givens_filled Σ ok p.clause.outer J.variables H co cq ch φ ψ tφ tψ L cl χ tl agrees J.given zero givens (λ i N e.
-      let (l, (a, q)) = given_put i N e in (a, ap (joined (instance L φ) χ ψ) (none i) ∙ near_value (instance L φ) χ ψ i (subst (λ m. i < m) (sym (length_instance L φ)) l) ∙ q))
+      let (l, (a, q)) = given_put i N e in (a, ap (joined (instance L φ) χ ψ) (none i) ∙ joined_less (instance L φ) χ ψ i (subst (λ m. i < m) (sym (length_instance L φ)) l) ∙ q))
     where
       none : (i : ℕ) → i + 0 ≡ i
       none i = omega arith

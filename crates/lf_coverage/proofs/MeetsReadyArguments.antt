@@ -31,11 +31,6 @@ use Rattle.lf_coverage.proofs.WritingMove.{move_type_substituted, moved_typed}
 use mathlib.Core.Path.{fun_ext}
 
 -- The covered places stay.
-pub covered_renamed : (ρ : ℕ → ℕ) (Ms : List (Option Term)) → covered_places (rename_all ρ Ms) ≡ covered_places Ms
-covered_renamed ρ [] = refl
-covered_renamed ρ (Some M ∷ Ms) = ap (λ m. true ∷ m) (covered_renamed ρ Ms)
-covered_renamed ρ (None ∷ Ms) = ap (λ m. false ∷ m) (covered_renamed ρ Ms)
-
 pub places_renamed : (ρ : ℕ → ℕ) (Ms : List (Option Term)) (T : Spine) → ArePlaces Ms T → ArePlaces (rename_all ρ Ms) (rename_spine ρ T)
 places_renamed ρ [] nil a = tt
 places_renamed ρ [] (app N T) a = absurd a

@@ -1,5 +1,5 @@
 -- A case that is typed beside a pattern, with what stands outside its clause put in, is typed so at its place, where the clause's own variables are in front.
-use Rattle.std.proofs.Common.{◌≡◌, ℕ, zero, ◌+◌, ◌-◌, ◌<◌, ◌⊎◌, List, [], length, inl, inr, refl, sym, ap, ap₂, ◌∙◌, subst, arith}
+use Rattle.std.proofs.Common.{◌≡◌, ℕ, zero, ◌+◌, ◌-◌, ◌⊎◌, List, [], length, inl, inr, refl, sym, ap, ap₂, ◌∙◌, subst, arith}
 use Rattle.std.specs.Prelude.{Bool, true, false, cond, Option, Some, None}
 use Rattle.lf.specs.Syntax.{Term, LfType, skeleton, rename, rename_type}
 use Rattle.lf.specs.Substitution.{Image, keep, put, rename_image, substitute, substitute_image, substitute_type, after, reduce}
@@ -23,7 +23,6 @@ use Rattle.lf_cases.specs.Candidates.{given_images}
 use Rattle.lf_cases.specs.Pattern.{Pattern, is_given, given_at}
 use Rattle.lf_totality.proofs.Core.{out_index, outside_at}
 use Rattle.lf_totality.proofs.RaisedOutputs.{binders_over}
-use Rattle.lf_totality.proofs.Theorem.{outside_from}
 use Rattle.lf_coverage.specs.EntryConstants.{with_entries}
 use Rattle.lf_coverage.specs.EntryPatternsMatching.{placed_type}
 use Rattle.lf_coverage.specs.EntryTerms.{beside_values, IsTypedBesideWith}
@@ -33,14 +32,15 @@ use Rattle.lf_coverage.specs.NewBlock.{rename_all}
 use Rattle.lf_coverage.specs.NumberedCase.{NumberedCase}
 use Rattle.lf_coverage.specs.OwnTerms.{blocks_of}
 use Rattle.lf_coverage.proofs.EntryPatternsCarried.{out_back}
-use Rattle.lf_coverage.proofs.EntryPatternsNear.{binders_count, out_far}
-use Rattle.lf_coverage.proofs.Forms.{far_type}
+use Rattle.lf_coverage.proofs.EntryPatternsNear.{binders_count, out_far, own_near, near_own}
+use Rattle.lf_coverage.proofs.Forms.{far_type, local_has_type}
 use Rattle.lf_coverage.proofs.GivenValues.{StandsForItself, StandsForGiven, given_cases, given_there, image_near, near_typed, onto_context}
 use Rattle.lf_coverage.proofs.Meeting.{joined, joined_near, joined_far, which_type}
 use Rattle.lf_coverage.proofs.MeetsReadyStores.{placed_behind, placed_context, placed_values}
-use Rattle.lf_coverage.proofs.MeetsReadyTurned.{below, far_moved, given_from, given_renamed, inside, near_keep}
-use Rattle.lf_coverage.proofs.NearOrFar.{near_or_far}
+use Rattle.lf_coverage.proofs.MeetsReadyTurned.{far_moved, near_keep}
 use Rattle.lf_coverage.proofs.Parts.{none_some, some_same}
+use Rattle.lf_coverage.proofs.RenamedBlocks.{given_from, given_renamed}
+use Rattle.lf_coverage.proofs.WritingBack.{within}
 use mathlib.Core.Path.{fun_ext}
 
 module _ (Σ0 : Signature) (first : ℕ) (C : NumberedCase) (ok : IsSignature (with_entries Σ0 first (blocks_of C.blocks))) (cv : IsContext (with_entries Σ0 first (blocks_of C.blocks)) C.variables) (cl : IsContext (with_entries Σ0 first (blocks_of C.blocks)) (onto C.local C.variables)) (sg : HaveSkeletons (constant_skeletons (with_entries Σ0 first (blocks_of C.blocks))) (context_skeletons C.variables) C.given) (sa : HaveSkeletons (constant_skeletons (with_entries Σ0 first (blocks_of C.blocks))) (context_skeletons (onto C.local C.variables)) C.arguments) (p : Pattern) (tp : IsTypedPattern (with_entries Σ0 first (blocks_of C.blocks)) p) (own_given : (i : ℕ) → is_given C.given i ≡ true → outside p.clause.type everything i ≡ false) (φ : ℕ → Image) (φ_typed : IsTypedSubstitution (with_entries Σ0 first (blocks_of C.blocks)) p.clause.outer C.variables φ) (b : IsTypedBesideWith Σ0 first C p φ) where
@@ -133,23 +133,6 @@ module _ (Σ0 : Signature) (first : ℕ) (C : NumberedCase) (ok : IsSignature (w
       true_false : true ≡ false → ⊥
       true_false e = cc
 
-  own_is_inside : (i : ℕ) → outside p.clause.type everything i ≡ false → i < length Q
-  own_is_inside i o = by (near_or_far (length Q) i)
-    where
-      by : (i < length Q) ⊎ ((l : ℕ) × (i ≡ l + length Q)) → i < length Q
-      by (inl n) = n
-      by (inr (l, e)) = absurd (no_both (ap (outside p.clause.type everything) (e ∙ sym (out_far p.clause.type l)) ∙ outside_at p.clause.type everything l) o)
-
-  inside_is_own : (i : ℕ) → i < length Q → outside p.clause.type everything i ≡ false
-  inside_is_own i l = by (outside p.clause.type everything i) refl
-    where
-      never : (k : ℕ) → i ≡ k + length Q → ⊥
-      never k e = omega (arith, e, l)
-
-      by : (y : Bool) → outside p.clause.type everything i ≡ y → y ≡ false
-      by false e = refl
-      by true e = let (k, q, z) = outside_from p.clause.type everything i e in absurd (never k (q ∙ out_far p.clause.type k))
-
   none_far : (k : ℕ) → given_at C.given (k + n) ≡ None
   none_far k = by (given_at C.given (k + n)) refl
     where
@@ -166,7 +149,7 @@ module _ (Σ0 : Signature) (first : ℕ) (C : NumberedCase) (ok : IsSignature (w
       own o l (inr (B, M, t, r, e)) y q = own_given_term M l (ap (λ c. cond c (φ (i - n)) (given_images O C.given m i)) o ∙ e ∙ ap (λ (Z : LfType). put (skeleton Z) M) (variable_type_unique O i B A t h)) r
 
       by : TypeAt Q i A ⊎ ((k : ℕ) × (B : LfType) × TypeAt p.clause.outer k B × (i ≡ k + length Q) × (A ≡ rename_type (shift_by (length Q)) B)) → Stands i A
-      by (inl q) = own (inside_is_own i (inside Q i A q)) (near_keep Q φ i A q) (given_cases O C.given m i) (given_at C.given i) refl
+      by (inl q) = own (near_own p.clause.type i (within Q i A q)) (near_keep Q φ i A q) (given_cases O C.given m i) (given_at C.given i) refl
       by (inr (k, B, t, e, r)) =
           let o : i ≡ out_index p.clause.type k = e ∙ sym (out_far p.clause.type k) in
           far_outside k B t (ap skeleton r ∙ skeleton_renamed (shift_by (length Q)) B) (e ∙ ap (λ l. k + l) (binders_count p.clause.type))
@@ -234,7 +217,7 @@ module _ (Σ0 : Signature) (first : ℕ) (C : NumberedCase) (ok : IsSignature (w
   Λ_fits = typed_substitution_by_skeletons Σ ok O X Λ Λ_typed
 
   own_variable : (i : ℕ) (M : Term) → given_at C.given i ≡ Some M → (A : LfType) × TypeAt O i A
-  own_variable i M q = let (A, h) = below Q p.clause.outer i (own_is_inside i (own_given i (given_there C.given i M q))) in (A, subst (λ L. TypeAt L i A) (sym scope_is) h)
+  own_variable i M q = let (A, h) = local_has_type Q p.clause.outer i (own_near p.clause.type i (own_given i (given_there C.given i M q))) in (A, subst (λ L. TypeAt L i A) (sym scope_is) h)
 
   -- the values of the variables of the store have their skeletons
   g_fits : SubstitutionBySkeletons (constant_skeletons Σ) (context_skeletons X) (context_skeletons X) g

@@ -36,15 +36,16 @@ use Rattle.lf_coverage.proofs.EntryPatternsMatching.{entries_signature}
 use Rattle.lf_coverage.proofs.EntryPatternsTyped.{typed_at, variable_is_typed}
 use Rattle.lf_coverage.proofs.EntrySignature.{entries_kept}
 use Rattle.lf_coverage.proofs.EntryTermsBesideGiven.{beside_with_all_tried}
+use Rattle.lf_coverage.proofs.IdentifiedConstants.{old_stays}
 use Rattle.lf_coverage.proofs.MeetsReadyGivenPlaced.{beside_at_place}
-use Rattle.lf_coverage.proofs.MeetsReadyIdentified.{blocks_stay, moved_from, types, kinds, variable_moved}
+use Rattle.lf_coverage.proofs.MeetsReadyIdentified.{types, kinds, variable_moved}
 use Rattle.lf_coverage.proofs.MeetsReadyMeets.{beside_more, place_ready}
-use Rattle.lf_coverage.proofs.MeetsReadyMoved.{moved_old, onto_moved}
-use Rattle.lf_coverage.proofs.MeetsReadyNewBlock.{all_commute, length_moved, local_commutes}
 use Rattle.lf_coverage.proofs.MeetsReadyRuns.{one_more_block}
-use Rattle.lf_coverage.proofs.MeetsReadyTurnedBeside.{beside_turned, front_old, instance_turned, over_turned}
+use Rattle.lf_coverage.proofs.MeetsReadyTurnedBeside.{beside_turned, front_old, instance_turned}
+use Rattle.lf_coverage.proofs.MovedConstants.{onto_moved, blocks_stay, moved_from, length_moved, lifts_moved}
 use Rattle.lf_coverage.proofs.NumberedBesideTerms.{pattern_more}
 use Rattle.lf_coverage.proofs.Parts.{some_same}
+use Rattle.lf_coverage.proofs.RenamedBlocks.{all_commute, local_commutes}
 use Rattle.lf_coverage.proofs.Standing.{before_is, before_typed, entry_index}
 use Rattle.lf_coverage.proofs.WritingGap.{kind_only, same_old}
 use Rattle.lf_coverage.proofs.WritingMove.{move_type_substituted}
@@ -65,13 +66,13 @@ module _ (Σ : Signature) (ok : IsSignature Σ) (W : List Block) (typed : AreTyp
   place_turned p tp φ K e b =
       let n : ℕ = quantifiers p.clause.type in
       let Q : List LfType = binders [] p.clause.type in
-      let old = moved_old Σ ok W typed first free C tc.variables π is in
+      let old = old_stays Σ ok W typed first free C tc.variables π is in
       let V : List LfType = C.variables in
       let X : List LfType = binders V (substitute_type reduce φ p.clause.type) in
       let X' : List LfType = binders (move_types γ V) (substitute_type reduce (turned φ) p.clause.type) in
       let q : move_types γ Q ≡ Q = front_old Σ γ old Q p.clause.outer (subst (IsContext Σ) (binders_over [] p.clause.type p.clause.outer) tp.clause_typed) in
       let x : move_types γ X ≡ X' = ap (move_types γ) (binders_substituted p.clause.type φ V) ∙ onto_moved γ (instance Q φ) V ∙ ap (λ D. onto D (move_types γ V)) (instance_turned γ Q φ ∙ ap (λ D. instance D (turned φ)) q) ∙ sym (binders_substituted p.clause.type (turned φ) (move_types γ V)) in
-      let t : move_type γ (placed_type p φ) ≡ placed_type p (turned φ) = move_type_substituted γ (lift_over Q φ) p.type ∙ ap₂ (λ σ Z. substitute_type reduce σ Z) (over_turned γ Q φ) (same_old Σ γ (scope p.clause) p.type old tp.type_typed) in
+      let t : move_type γ (placed_type p φ) ≡ placed_type p (turned φ) = move_type_substituted γ (lift_over Q φ) p.type ∙ ap₂ (λ σ Z. substitute_type reduce σ Z) (lifts_moved γ Q φ) (same_old Σ γ (scope p.clause) p.type old tp.type_typed) in
       let l : move_types γ (renumber (shift_by n) C.local) ≡ renumber (shift_by n) (move_types γ C.local) = local_commutes γ (shift_by n) C.local in
       let ms : move_all γ (rename_all (shift_by n) C.given) ≡ rename_all (shift_by n) (move_all γ C.given) = all_commute γ (shift_by n) C.given in
       let ns : move_all γ (rename_all (lift_renaming_by (length C.local) (shift_by n)) C.arguments) ≡ rename_all (lift_renaming_by (length (move_types γ C.local)) (shift_by n)) (move_all γ C.arguments) = all_commute γ (lift_renaming_by (length C.local) (shift_by n)) C.arguments ∙ ap (λ k. rename_all (lift_renaming_by k (shift_by n)) (move_all γ C.arguments)) (sym (length_moved γ C.local)) in

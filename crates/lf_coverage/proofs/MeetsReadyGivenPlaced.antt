@@ -1,7 +1,7 @@
 -- A case that is typed beside a pattern has its local context and its arguments typed at its place, where the clause's own variables are in front.
 use Rattle.std.proofs.Common.{◌≡◌, ℕ, zero, ◌+◌, List, [], length, sym, ap, ap₂, ◌∙◌, subst}
-use Rattle.std.specs.Prelude.{true, false, Option}
-use Rattle.lf.specs.Syntax.{Term, Spine, LfType, atom, Kind, base, kind_skeleton}
+use Rattle.std.specs.Prelude.{true, false}
+use Rattle.lf.specs.Syntax.{Spine, LfType, atom, Kind, base, kind_skeleton}
 use Rattle.lf.specs.Substitution.{Image, keep, substitute_spine, substitute_type, substitute_kind, reduce}
 use Rattle.lf.specs.AtOnce.{shift_by, lift_renaming_by}
 use Rattle.lf.specs.Entries.{quantifiers}
@@ -47,20 +47,11 @@ module _ (Σ0 : Signature) (first : ℕ) (C : NumberedCase) (ok : IsSignature (w
   abbrev Σ : Signature
   Σ = with_entries Σ0 first (blocks_of C.blocks)
 
-  abbrev V : List LfType
-  V = C.variables
-
-  abbrev Q : List LfType
-  Q = binders [] p.clause.type
-
   abbrev O : List LfType
   O = scope p.clause
 
   abbrev n : ℕ
   n = quantifiers p.clause.type
-
-  abbrev m : ℕ
-  m = length C.variables
 
   abbrev Y : List LfType
   Y = onto C.variables (scope p.clause)
@@ -68,24 +59,15 @@ module _ (Σ0 : Signature) (first : ℕ) (C : NumberedCase) (ok : IsSignature (w
   abbrev X : List LfType
   X = binders C.variables (substitute_type reduce φ p.clause.type)
 
-  abbrev Λ : ℕ → Image
-  Λ = lift_over Q φ
-
   abbrev T : LfType
   T = placed_type p φ
 
-  abbrev β : ℕ → Image
-  β = beside_values C p φ
-
-  abbrev Ms : List (Option Term)
-  Ms = rename_all (shift_by n) C.given
-
   abbrev g : ℕ → Image
-  g = given_images X Ms zero
+  g = given_images X (rename_all (shift_by n) C.given) zero
 
   -- the case's variables moved past the clause's own, which stay, with φ for what is outside
   abbrev ξ : ℕ → Image
-  ξ = joined C.variables (λ i. keep (i + n)) Λ
+  ξ = joined C.variables (λ i. keep (i + n)) (lift_over (binders [] p.clause.type) φ)
 
   cx : IsContext Σ X
   cx = Rattle.lf_coverage.proofs.MeetsReadyGiven.cx Σ0 first C ok cv cl sg sa p tp own_given φ φ_typed b
@@ -96,20 +78,20 @@ module _ (Σ0 : Signature) (first : ℕ) (C : NumberedCase) (ok : IsSignature (w
   cy : IsContext Σ Y
   cy = Rattle.lf_coverage.proofs.MeetsReadyGiven.cy Σ0 first C ok cv cl sg sa p tp own_given φ φ_typed b
 
-  near : Agree V ξ (λ i. keep (i + n))
+  near : Agree C.variables ξ (λ i. keep (i + n))
   near = Rattle.lf_coverage.proofs.MeetsReadyGiven.near Σ0 first C ok cv cl sg sa p tp own_given φ φ_typed b
 
-  same_end : substitute_type reduce ξ (substitute_type reduce β p.type) ≡ substitute_type reduce g T
+  same_end : substitute_type reduce ξ (substitute_type reduce (beside_values C p φ) p.type) ≡ substitute_type reduce g T
   same_end = type_key Σ0 first C ok cv cl sg sa p tp own_given φ φ_typed b p.type tp.type_typed
 
   local_of : (P : LfType) (s : ℕ → Image) → binders [] (substitute_type reduce s P) ≡ instance (binders [] P) s
   local_of P s = binders_substituted P s [] ∙ onto_nothing (instance (binders [] P) s)
 
-  case_local : C.local ≡ binders [] (substitute_type reduce β p.type)
-  case_local = b.local ∙ sym (local_of p.type β)
+  case_local : C.local ≡ binders [] (substitute_type reduce (beside_values C p φ) p.type)
+  case_local = b.local ∙ sym (local_of p.type (beside_values C p φ))
 
   moved_local : instance C.local ξ ≡ instance (binders [] T) g
-  moved_local = ap (λ L. instance L ξ) case_local ∙ sym (local_of (substitute_type reduce β p.type) ξ) ∙ ap (binders []) same_end ∙ local_of T g
+  moved_local = ap (λ L. instance L ξ) case_local ∙ sym (local_of (substitute_type reduce (beside_values C p φ) p.type) ξ) ∙ ap (binders []) same_end ∙ local_of T g
 
   arguments_typed : TypedArguments Σ (onto (renumber (shift_by n) C.local) X) (rename_all (lift_renaming_by (length C.local) (shift_by n)) C.arguments) (substitute_spine reduce (lift_over (binders [] T) g) (target_arguments T)) b.kind
   arguments_typed =
@@ -117,19 +99,19 @@ module _ (Σ0 : Signature) (first : ℕ) (C : NumberedCase) (ok : IsSignature (w
       let K : Kind = b.kind in
       let D : List LfType = binders [] p.type in
       let S : Spine = target_arguments p.type in
-      let R : Spine = substitute_spine reduce (lift_over D β) S in
-      let cl' : IsContext Σ (onto L Y) = subst (IsContext Σ) (onto_onto L V O) (onto_context Σ ok (onto L V) O cl co) in
+      let R : Spine = substitute_spine reduce (lift_over D (beside_values C p φ)) S in
+      let cl' : IsContext Σ (onto L Y) = subst (IsContext Σ) (onto_onto L C.variables O) (onto_context Σ ok (onto L C.variables) O cl co) in
       let (dc, ds) = local_typed Σ ok Y X ξ cy cx (ξ_typed Σ0 first C ok cv cl sg sa p tp own_given φ φ_typed b) L cl' in
       let w : TypedSubstitution Σ ok (onto L Y) (onto (instance L ξ) X) (lift_over L ξ) = record { typed = ds; source_skeletons = skeleton_context_of Σ ok (onto L Y) cl'; target_skeletons = skeleton_context_of Σ ok (onto (instance L ξ) X) dc } in
-      let rs : SpineSkeleton (constant_skeletons Σ) (context_skeletons (onto L Y)) R (kind_skeleton 0 K) (base 0) = subst (λ E. SpineSkeleton (constant_skeletons Σ) (context_skeletons (onto E Y)) R (kind_skeleton 0 K) (base 0)) (sym b.local) (substitution_keeps_spine_skeletons (constant_skeletons Σ) (context_skeletons (onto D O)) (context_skeletons (onto (instance D β) Y)) (lift_over D β) S (kind_skeleton 0 K) (base 0) (lifted Σ D O Y β (β_fits Σ0 first C ok cv cl sg sa p tp own_given φ φ_typed b)) (kind_spine_has_skeleton Σ 0 (onto D O) S K (fits (end_typed Σ ok p.type O tp.type_typed)))) in
+      let rs : SpineSkeleton (constant_skeletons Σ) (context_skeletons (onto L Y)) R (kind_skeleton 0 K) (base 0) = subst (λ E. SpineSkeleton (constant_skeletons Σ) (context_skeletons (onto E Y)) R (kind_skeleton 0 K) (base 0)) (sym b.local) (substitution_keeps_spine_skeletons (constant_skeletons Σ) (context_skeletons (onto D O)) (context_skeletons (onto (instance D (beside_values C p φ)) Y)) (lift_over D (beside_values C p φ)) S (kind_skeleton 0 K) (base 0) (lifted Σ D O Y (beside_values C p φ) (β_fits Σ0 first C ok cv cl sg sa p tp own_given φ φ_typed b)) (kind_spine_has_skeleton Σ 0 (onto D O) S K (fits (end_typed Σ ok p.type O tp.type_typed)))) in
       let put : TypedArguments Σ (onto (instance L ξ) X) (put_in (lift_over L ξ) C.arguments) (substitute_spine reduce (lift_over L ξ) R) (substitute_kind reduce (lift_over L ξ) K) = arguments_put Σ ok (onto L Y) (onto (instance L ξ) X) (lift_over L ξ) w C.arguments R K (kind_by_skeletons Σ (onto L Y) K (family_kind Σ ok (onto L Y) (target p.type) K b.of_family)) rs b.arguments in
-      let P : LfType = substitute_type reduce β p.type in
+      let P : LfType = substitute_type reduce (beside_values C p φ) p.type in
       let spine : substitute_spine reduce (lift_over L ξ) R ≡ substitute_spine reduce (lift_over (binders [] T) g) (target_arguments T) =
-      ap₂ (λ E Z. substitute_spine reduce (lift_over E ξ) Z) case_local (sym (arguments_under [] p.type β)) ∙ sym (arguments_under [] P ξ) ∙ ap target_arguments same_end ∙ arguments_under [] T g in
+      ap₂ (λ E Z. substitute_spine reduce (lift_over E ξ) Z) case_local (sym (arguments_under [] p.type (beside_values C p φ))) ∙ sym (arguments_under [] P ξ) ∙ ap target_arguments same_end ∙ arguments_under [] T g in
       subst (TypedArguments Σ (onto (renumber (shift_by n) L) X) (rename_all (lift_renaming_by (length L) (shift_by n)) C.arguments) (substitute_spine reduce (lift_over (binders [] T) g) (target_arguments T))) (closed_kind_substituted Σ reduce (lift_over L ξ) K (ok.kinds_ok (target p.type) K b.of_family))
       (subst (λ Z. TypedArguments Σ (onto (renumber (shift_by n) L) X) (rename_all (lift_renaming_by (length L) (shift_by n)) C.arguments) Z (substitute_kind reduce (lift_over L ξ) K)) spine
-      (subst (λ Ns. TypedArguments Σ (onto (renumber (shift_by n) L) X) Ns (substitute_spine reduce (lift_over L ξ) R) (substitute_kind reduce (lift_over L ξ) K)) (all_put_renamed Σ V ξ (shift_by n) near L C.arguments cl sa)
-      (subst (λ E. TypedArguments Σ (onto E X) (put_in (lift_over L ξ) C.arguments) (substitute_spine reduce (lift_over L ξ) R) (substitute_kind reduce (lift_over L ξ) K)) (local_renamed Σ V ξ (shift_by n) near L cl) put)))
+      (subst (λ Ns. TypedArguments Σ (onto (renumber (shift_by n) L) X) Ns (substitute_spine reduce (lift_over L ξ) R) (substitute_kind reduce (lift_over L ξ) K)) (all_put_renamed Σ C.variables ξ (shift_by n) near L C.arguments cl sa)
+      (subst (λ E. TypedArguments Σ (onto E X) (put_in (lift_over L ξ) C.arguments) (substitute_spine reduce (lift_over L ξ) R) (substitute_kind reduce (lift_over L ξ) K)) (local_renamed Σ C.variables ξ (shift_by n) near L cl) put)))
     where
       fits : IsType Σ (binders O p.type) (atom (target p.type) (target_arguments p.type)) → SpineFitsKind Σ (onto (binders [] p.type) O) (target_arguments p.type) b.kind
       fits (K', e, s) = subst (SpineFitsKind Σ (onto (binders [] p.type) O) (target_arguments p.type)) (some_same (sym e ∙ b.of_family)) (subst (λ G. SpineFitsKind Σ G (target_arguments p.type) K') (binders_over [] p.type O) s)
@@ -137,6 +119,6 @@ module _ (Σ0 : Signature) (first : ℕ) (C : NumberedCase) (ok : IsSignature (w
   pub beside_at_place : IsTypedAtPlace Σ C p φ b.kind
   beside_at_place = record {
     given = given_typed Σ0 first C ok cv cl sg sa p tp own_given φ φ_typed b;
-    local = sym (local_renamed Σ V ξ (shift_by n) near C.local cl) ∙ moved_local;
+    local = sym (local_renamed Σ C.variables ξ (shift_by n) near C.local cl) ∙ moved_local;
     arguments = arguments_typed;
   }

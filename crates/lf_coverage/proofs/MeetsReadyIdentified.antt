@@ -1,54 +1,30 @@
 -- A typed case with block variables one is typed over the signature with entries, and so is what a block variable of it gives the variables of its block.
-use Rattle.std.proofs.Common.{◌≡◌, ℕ, zero, suc, List, [], ◌∷◌, length, ◌+◌, Some, refl, sym, ap, ◌∙◌, subst}
-use Rattle.lf.specs.Syntax.{Term, Spine, nil, app, LfType, Kind, skeleton}
-use Rattle.lf.specs.Substitution.{Image, put, substitute_type, reduce}
+use Rattle.std.proofs.Common.{◌≡◌, ℕ, List, Some, sym, ap, ◌∙◌, subst}
+use Rattle.lf.specs.Syntax.{Spine, LfType, Kind}
+use Rattle.lf.specs.Substitution.{Image, substitute_type, reduce}
 use Rattle.lf.specs.Skeletons.{constant_skeletons, context_skeletons}
 use Rattle.lf.specs.Typing.{Signature, ImageHasType, IsContext, IsSignature, IsTypedSubstitution}
 use Rattle.lf.specs.Variables.{onto}
 use Rattle.lf.specs.Subordination.{Block, AreTypedBlocks, Member}
 use Rattle.lf.proofs.Weakening.{declared_is_type}
 use Rattle.lf_coverage.specs.EntryConstants.{IsFreeFrom, with_entries}
-use Rattle.lf_coverage.specs.EntryPatterns.{last_of, but_last, some_images, variable_images}
+use Rattle.lf_coverage.specs.EntryPatterns.{some_images, variable_images}
 use Rattle.lf_coverage.specs.Heads.{HaveSkeletons}
 use Rattle.lf_coverage.specs.MeetsReady.{IsPlainlyTyped, IdentifiedIsTyped}
-use Rattle.lf_coverage.specs.NumberedCallsStores.{Identifies, identified, move_blocks}
+use Rattle.lf_coverage.specs.NumberedCallsStores.{Identifies, identified}
 use Rattle.lf_coverage.specs.NumberedCase.{NumberedCase, AreSomeTerms}
-use Rattle.lf_coverage.specs.NumberedInstance.{block_at, first_constant, moved_constant, move, move_spine, move_type, move_types}
+use Rattle.lf_coverage.specs.NumberedInstance.{block_at, first_constant, moved_constant, move_spine, move_type, move_types}
 use Rattle.lf_coverage.specs.OwnTerms.{BlockVariable, blocks_of}
 use Rattle.lf_coverage.specs.TypedNumbered.{IsTypedNumberedCase}
 use Rattle.lf_coverage.specs.WritingRoom.{move_image, move_kind}
 use Rattle.lf_coverage.proofs.EntryPatternsTyped.{typed_at, variable_is_typed}
+use Rattle.lf_coverage.proofs.IdentifiedConstants.{kinds_stay, old_stays, types_stay, variable_stays}
 use Rattle.lf_coverage.proofs.ItemsContext.{outer_context}
-use Rattle.lf_coverage.proofs.MeetsReadyMoved.{all_skeletons, entry_moved, images_moved, moved_context, moved_kinds, moved_old, moved_types, onto_moved, same_skeletons}
-use Rattle.lf_coverage.proofs.Parts.{some_same}
+use Rattle.lf_coverage.proofs.MovedConstants.{all_kept, blocks_stay, context_moved, contexts_kept, moved_from, onto_moved}
 use Rattle.lf_coverage.proofs.Reading.{IsOld}
 use Rattle.lf_coverage.proofs.WritingGap.{same_old, some_moved}
 use Rattle.lf_coverage.proofs.WritingMove.{move_type_substituted, moved_image}
 use mathlib.Core.Path.{fun_ext}
-
-pub blocks_stay : (γ : ℕ → ℕ) (bs : List BlockVariable) → blocks_of (move_blocks γ bs) ≡ blocks_of bs
-blocks_stay γ [] = refl
-blocks_stay γ (b ∷ bs) = ap (λ Bs. b.block ∷ Bs) (blocks_stay γ bs)
-
-pub moved_from : (γ : ℕ → ℕ) (bs : List BlockVariable) (k : ℕ) (d : BlockVariable) → block_at (move_blocks γ bs) k ≡ Some d → (b : BlockVariable) × (block_at bs k ≡ Some b) × (d ≡ record { block = b.block; terms = move_spine γ b.terms })
-moved_from γ [] k d e = absurd cc
-moved_from γ (b ∷ bs) zero d e = (b, refl, sym (some_same e))
-moved_from γ (b ∷ bs) (suc k) d e = moved_from γ bs k d e
-
--- terms of block variables, moved
-last_moved : (γ : ℕ → ℕ) (M : Term) (S : Spine) → move γ (last_of M S) ≡ last_of (move γ M) (move_spine γ S)
-last_moved γ M nil = refl
-last_moved γ M (app N S) = last_moved γ N S
-
-others_moved : (γ : ℕ → ℕ) (M : Term) (S : Spine) → move_spine γ (but_last M S) ≡ but_last (move γ M) (move_spine γ S)
-others_moved γ M nil = refl
-others_moved γ M (app N S) = ap (app (move γ M)) (others_moved γ N S)
-
-some_images_moved : (γ : ℕ → ℕ) (O : List LfType) (U : Spine) (i : ℕ) → move_image γ (some_images O U i) ≡ some_images O (move_spine γ U) i
-some_images_moved γ [] U i = refl
-some_images_moved γ (A ∷ O) nil i = refl
-some_images_moved γ (A ∷ O) (app M U) zero = ap (put (skeleton A)) (last_moved γ M U)
-some_images_moved γ (A ∷ O) (app M U) (suc i) = some_images_moved γ O (but_last M U) i ∙ ap (λ V. some_images O V i) (others_moved γ M U)
 
 module _ (Σ : Signature) (ok : IsSignature Σ) (W : List Block) (typed : AreTypedBlocks Σ W) (first : ℕ) (free : IsFreeFrom Σ first) (C : NumberedCase) (tc : IsTypedNumberedCase Σ first W C) (π : ℕ → ℕ) (is : Identifies C π) where
   abbrev Bs : List Block
@@ -61,13 +37,13 @@ module _ (Σ : Signature) (ok : IsSignature Σ) (W : List Block) (typed : AreTyp
   γ = moved_constant first (blocks_of C.blocks) (blocks_of C.blocks) π
 
   pub types : (c : ℕ) (A : LfType) → (with_entries Σ first (blocks_of C.blocks)).types c ≡ Some A → (with_entries Σ first (blocks_of C.blocks)).types (γ c) ≡ Some (move_type γ A)
-  types = moved_types Σ ok W typed first free C tc.variables π is
+  types = types_stay Σ ok W typed first free C tc.variables π is
 
   pub kinds : (a : ℕ) (K : Kind) → (with_entries Σ first (blocks_of C.blocks)).kinds a ≡ Some K → (with_entries Σ first (blocks_of C.blocks)).kinds a ≡ Some (move_kind γ K)
-  kinds = moved_kinds Σ ok W typed first free C tc.variables π is
+  kinds = kinds_stay Σ ok W typed first free C tc.variables π is
 
   old : (c : ℕ) → IsOld Σ c → γ c ≡ c
-  old = moved_old Σ ok W typed first free C tc.variables π is
+  old = old_stays Σ ok W typed first free C tc.variables π is
 
   -- values for the variables of a context of the signature itself
   pub values_moved : (G X : List LfType) (θ : ℕ → Image) → IsContext Σ G → IsTypedSubstitution Σ₁ G X θ → IsTypedSubstitution Σ₁ G (move_types γ X) (λ i. move_image γ (θ i))
@@ -78,7 +54,7 @@ module _ (Σ : Signature) (ok : IsSignature Σ) (W : List Block) (typed : AreTyp
 
   pub plain : IsPlainlyTyped (with_entries Σ first (blocks_of C.blocks)) W (identified first π C)
   plain = record {
-    variables = moved_context γ Σ₁ Σ₁ types kinds C.variables tc.variables.variables;
+    variables = context_moved γ Σ₁ Σ₁ types kinds C.variables tc.variables.variables;
     blocks = λ k d e.
         let (b, at, q) = moved_from γ C.blocks k d e in
         let (m, (υ, s, t), o) = typed_at Σ₁ W C.variables _ C.blocks tc.variables.blocks k b at in
@@ -86,15 +62,15 @@ module _ (Σ : Signature) (ok : IsSignature Σ) (W : List Block) (typed : AreTyp
           m,
           ((λ i. move_image γ (υ i)), values_moved b.block.some C.variables υ (outer_context Σ b.block.entries b.block.some (typed b.block m)) s, ap (move_spine γ) t ∙ some_moved γ b.block.some υ),
         );
-    local = subst (IsContext Σ₁) (onto_moved γ C.local C.variables) (moved_context γ Σ₁ Σ₁ types kinds (onto C.local C.variables) tc.local);
-    given = subst (λ Γ. HaveSkeletons (constant_skeletons Σ₁) Γ (identified first π C).given) (sym (same_skeletons γ C.variables)) (all_skeletons γ Σ₁ Σ₁ types kinds (context_skeletons C.variables) C.given tc.given);
-    arguments = subst (λ Γ. HaveSkeletons (constant_skeletons Σ₁) Γ (identified first π C).arguments) (sym (same_skeletons γ (onto C.local C.variables)) ∙ ap context_skeletons (onto_moved γ C.local C.variables)) (all_skeletons γ Σ₁ Σ₁ types kinds (context_skeletons (onto C.local C.variables)) C.arguments tc.arguments);
+    local = subst (IsContext Σ₁) (onto_moved γ C.local C.variables) (context_moved γ Σ₁ Σ₁ types kinds (onto C.local C.variables) tc.local);
+    given = subst (λ Γ. HaveSkeletons (constant_skeletons Σ₁) Γ (identified first π C).given) (sym (contexts_kept γ C.variables)) (all_kept γ Σ₁ Σ₁ types (context_skeletons C.variables) C.given tc.given);
+    arguments = subst (λ Γ. HaveSkeletons (constant_skeletons Σ₁) Γ (identified first π C).arguments) (sym (contexts_kept γ (onto C.local C.variables)) ∙ ap context_skeletons (onto_moved γ C.local C.variables)) (all_kept γ Σ₁ Σ₁ types (context_skeletons (onto C.local C.variables)) C.arguments tc.arguments);
   }
 
   -- A block variable that stays itself gives what it gave, moved.
   pub variable_moved : (k : ℕ) (B : Block) (U : Spine) → block_at C.blocks k ≡ Some (record { block = B; terms = U }) → π k ≡ k → (i : ℕ) → move_image γ (variable_images first C.blocks k B U i) ≡ variable_images first (identified first π C).blocks k B (move_spine γ U) i
   variable_moved k B U at fixed i =
-      images_moved γ (first_constant first Bs k) (first_constant first Bs k) U (move_spine γ U) refl (some_images B.some U) (some_images B.some (move_spine γ U)) (some_images_moved γ B.some U) B.entries (λ later E es e. entry_moved Σ ok W typed first free C tc.variables π is k (record { block = B; terms = U }) at later E es e ∙ ap (λ j. first_constant first Bs j + length es) fixed) i
+      variable_stays Σ ok W typed first free C tc.variables π is k B U at fixed i
       ∙ ap (λ Cs. variable_images_of Cs i) (sym same_blocks)
     where
       variable_images_of : List Block → ℕ → Image

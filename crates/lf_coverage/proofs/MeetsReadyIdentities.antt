@@ -1,11 +1,11 @@
 -- Equations that say that block variables are one are typed up to fillings that solve them: the terms of both are typed for the same `some` variables.
-use Rattle.std.proofs.Common.{◌≡◌, ℕ, zero, suc, ◌+◌, List, [], ◌∷◌, refl, sym, ap, ap₂, ◌∙◌, subst, arith}
+use Rattle.std.proofs.Common.{◌≡◌, ℕ, zero, suc, ◌+◌, List, [], ◌∷◌, refl, sym, ap, ◌∙◌, subst, arith}
 use Rattle.std.specs.Prelude.{Bool, true, false, cond, Option, Some, None}
-use Rattle.lf.specs.Syntax.{constant, variable, metavariable, Term, Spine, lambda, root, nil, app, LfType, pi, atom, Kind, kind_pi, star, Skeleton, base, arrow, skeleton, rename_head}
+use Rattle.lf.specs.Syntax.{Term, Spine, nil, app, LfType, Kind, kind_pi, star, skeleton}
 use Rattle.lf.specs.Substitution.{Image, keep, put, substitute_type, substitute_kind, reduce}
 use Rattle.lf.specs.AtOnce.{in_front}
 use Rattle.lf.specs.Eta.{append}
-use Rattle.lf.specs.SkeletonTyping.{HeadSkeletons, SkeletonAt, TermSkeleton, SpineSkeleton, TypeBySkeletons, ImageSkeleton, KindBySkeletons, SubstitutionBySkeletons}
+use Rattle.lf.specs.SkeletonTyping.{HeadSkeletons, TermSkeleton, ImageSkeleton, KindBySkeletons, SubstitutionBySkeletons}
 use Rattle.lf.specs.Skeletons.{constant_skeletons, family_skeletons, context_skeletons}
 use Rattle.lf.specs.Typing.{Signature, TypeAt, HasType, SpineFitsKind, IsKind, IsContext, IsSignature, IsTypedSubstitution, ImageHasType}
 use Rattle.lf.specs.Variables.{everything, same_number}
@@ -30,13 +30,13 @@ use Rattle.lf_coverage.specs.NumberedCallsStores.{some_kind, terms_equations, id
 use Rattle.lf_coverage.specs.NumberedCase.{some_spine, AreSomeTerms}
 use Rattle.lf_coverage.specs.NumberedInstance.{block_at}
 use Rattle.lf_coverage.specs.OwnTerms.{BlockVariable, terms_at}
-use Rattle.lf_coverage.specs.SplitStore.{open_variable, open_term, open_spine, open_type, context_metavariables}
+use Rattle.lf_coverage.specs.SplitStore.{open_spine, context_metavariables}
 use Rattle.lf_coverage.proofs.Carried.{like_type}
 use Rattle.lf_coverage.proofs.ContextStore.{context_declared}
+use Rattle.lf_coverage.proofs.GivenEquations.{both_typed}
 use Rattle.lf_coverage.proofs.InputTyped.{kind_front}
-use Rattle.lf_coverage.proofs.MeetsReadySolved.{both_typed}
 use Rattle.lf_coverage.proofs.OpenSkeletons.{kind_opened_by}
-use Rattle.lf_coverage.proofs.OpenTyped.{open_kind, indices_opened}
+use Rattle.lf_coverage.proofs.OpenTyped.{open_kind, indices_opened, open_same_kind}
 use Rattle.lf_coverage.proofs.Parts.{some_same}
 
 -- the values as terms
@@ -48,37 +48,6 @@ put_is : (O : List LfType) (υ : ℕ → Image) (i : ℕ) (A : LfType) → TypeA
 put_is [] υ i A g = absurd g
 put_is (B ∷ O) υ zero A e = ap (λ a. put a (as_term a (υ zero))) (sym (ap skeleton e ∙ skeleton_renamed suc B))
 put_is (B ∷ O) υ (suc i) A (D, g, e) = put_is O (λ j. υ (suc j)) i D g ∙ ap (λ a. put a (as_term a (υ (suc i)))) (sym (ap skeleton e ∙ skeleton_renamed suc D))
-
--- what is closed has no metavariable for a variable
-abbrev StaysIn : ℕ → List Skeleton → Type 0
-StaysIn k Γ = (i : ℕ) (t : Skeleton) → SkeletonAt Γ i t → open_variable k i ≡ variable i
-
-stays_under : (k : ℕ) (Γ : List Skeleton) (a : Skeleton) → StaysIn k Γ → StaysIn (suc k) (a ∷ Γ)
-stays_under k Γ a h zero t g = refl
-stays_under k Γ a h (suc i) t g = ap (rename_head suc) (h i t g)
-
-module _ (κ : HeadSkeletons) (φ : ℕ → Option Skeleton) where
-  mutual
-    open_same : (k : ℕ) (Γ : List Skeleton) → StaysIn k Γ → (M : Term) (t : Skeleton) → TermSkeleton κ Γ M t → open_term k M ≡ M
-    open_same k Γ h (lambda M) (arrow a b) m = ap lambda (open_same (suc k) (a ∷ Γ) (stays_under k Γ a h) M b m)
-    open_same k Γ h (lambda M) (base c) m = absurd m
-    open_same k Γ h (root g S) (arrow a b) m = absurd m
-    open_same k Γ h (root (constant c) S) (base d) (t, g, m) = ap (root (constant c)) (open_same_spine k Γ h S t (base d) m)
-    open_same k Γ h (root (metavariable c) S) (base d) (t, g, m) = ap (root (metavariable c)) (open_same_spine k Γ h S t (base d) m)
-    open_same k Γ h (root (variable i) S) (base d) (t, g, m) = ap₂ root (h i t g) (open_same_spine k Γ h S t (base d) m)
-
-    open_same_spine : (k : ℕ) (Γ : List Skeleton) → StaysIn k Γ → (S : Spine) (t u : Skeleton) → SpineSkeleton κ Γ S t u → open_spine k S ≡ S
-    open_same_spine k Γ h nil t u m = refl
-    open_same_spine k Γ h (app M S) (arrow a b) u (m, n) = ap₂ app (open_same k Γ h M a m) (open_same_spine k Γ h S b u n)
-    open_same_spine k Γ h (app M S) (base c) u m = absurd m
-
-  open_same_type : (k : ℕ) (Γ : List Skeleton) → StaysIn k Γ → (A : LfType) → TypeBySkeletons φ κ Γ A → open_type k A ≡ A
-  open_same_type k Γ h (pi A B) (a, b) = ap₂ pi (open_same_type k Γ h A a) (open_same_type (suc k) (skeleton A ∷ Γ) (stays_under k Γ (skeleton A) h) B b)
-  open_same_type k Γ h (atom a S) (t, e, m) = ap (atom a) (open_same_spine k Γ h S t (base a) m)
-
-  open_same_kind : (k : ℕ) (Γ : List Skeleton) → StaysIn k Γ → (K : Kind) → KindBySkeletons φ κ Γ K → open_kind k K ≡ K
-  open_same_kind k Γ h (kind_pi A K) (a, b) = ap₂ kind_pi (open_same_type k Γ h A a) (open_same_kind (suc k) (skeleton A ∷ Γ) (stays_under k Γ (skeleton A) h) K b)
-  open_same_kind k Γ h star b = refl
 
 kind_of_some : (Σ : Signature) (O : List LfType) (K : Kind) → IsContext Σ O → IsKind Σ O K → IsKind Σ [] (some_kind O K)
 kind_of_some Σ [] K c k = k

@@ -39,14 +39,17 @@ use Rattle.lf_coverage.specs.TypedNumbered.{IsTypedNumberedCase}
 use Rattle.lf_coverage.proofs.EntryPatternsMatching.{entries_signature}
 use Rattle.lf_coverage.proofs.EntrySignature.{entries_kept}
 use Rattle.lf_coverage.proofs.GivenValues.{local_renames}
-use Rattle.lf_coverage.proofs.MeetsReadyArguments.{covered_renamed, places_renamed, turned_arguments, typed_renamed}
+use Rattle.lf_coverage.proofs.IdentifiedConstants.{old_stays}
+use Rattle.lf_coverage.proofs.MeetsReadyArguments.{places_renamed, turned_arguments, typed_renamed}
 use Rattle.lf_coverage.proofs.MeetsReadyClosed.{closed_instance, closed_renumbered, none_given, none_put, onto_nothing}
-use Rattle.lf_coverage.proofs.MeetsReadyIdentified.{blocks_stay, kinds, types, plain}
+use Rattle.lf_coverage.proofs.MeetsReadyIdentified.{kinds, types, plain}
 use Rattle.lf_coverage.proofs.MeetsReadyMeets.{place_ready, beside_more}
-use Rattle.lf_coverage.proofs.MeetsReadyMoved.{context_old, moved_old, onto_moved}
-use Rattle.lf_coverage.proofs.MeetsReadyPlaces.{Placed, case_with_more, settled, with_more}
+use Rattle.lf_coverage.proofs.MeetsReadyPlaces.{Placed, settled}
 use Rattle.lf_coverage.proofs.MeetsReadyStores.{placed_behind, placed_typed}
+use Rattle.lf_coverage.proofs.MoreWorlds.{case_with_more, with_more}
+use Rattle.lf_coverage.proofs.MovedConstants.{context_old, onto_moved, blocks_stay}
 use Rattle.lf_coverage.proofs.NumberedBesideTerms.{pattern_more}
+use Rattle.lf_coverage.proofs.NumberedSplits.{places_renamed as covered_renamed}
 use Rattle.lf_coverage.proofs.OwnStoresNewBlock.{extends, renames}
 use Rattle.lf_coverage.proofs.Parts.{some_same}
 
@@ -114,7 +117,7 @@ module _ (Σ : Signature) (ok : IsSignature Σ) (V : List Block) (typed : AreTyp
   cv = (plain Σ ok V typed first free D td π is).variables
 
   local_is : J.local ≡ binders [] p.type
-  local_is = ap (move_types γ) same_local ∙ context_old Σ γ (moved_old Σ ok V typed first free D td.variables π is) (binders [] p.type) closed
+  local_is = ap (move_types γ) same_local ∙ context_old Σ γ (old_stays Σ ok V typed first free D td.variables π is) (binders [] p.type) closed
 
   placed_local : binders [] T ≡ binders [] p.type
   placed_local = binders_substituted p.type (lift_over (binders [] p.clause.type) φ) [] ∙ onto_nothing (instance (binders [] p.type) (lift_over (binders [] p.clause.type) φ)) ∙ closed_instance Σ (binders [] p.type) (lift_over (binders [] p.clause.type) φ) closed
@@ -137,7 +140,7 @@ module _ (Σ : Signature) (ok : IsSignature Σ) (V : List Block) (typed : AreTyp
       let r : IsTypedRenaming (move_types γ (onto D.local D.variables)) (onto L X) ρ = subst (λ G. IsTypedRenaming G (onto L X) ρ) (sym (onto_moved γ D.local D.variables)) (local_renames Σ₁ ok₁ J.local J.variables X (shift_by n) (placed_behind Σ₁ ok₁ J.variables cv p tp₁ φ outer)) in
       let q : SpineSkeleton (constant_skeletons Σ₁) (context_skeletons (onto L X)) (R []) (kind_skeleton 0 K) (base 0) = subst (λ E. SpineSkeleton (constant_skeletons Σ₁) (context_skeletons (onto E X)) (R []) (kind_skeleton 0 K) (base 0)) (sym locals_same) (subst (λ S. SpineSkeleton (constant_skeletons Σ₁) (context_skeletons (onto (binders [] T) X)) S (kind_skeleton 0 K) (base 0)) (sym (none_put X (binders [] T) (target_arguments T))) (kind_spine_has_skeleton Σ₁ 0 (onto (binders [] T) X) (target_arguments T) K fits)) in
       subst (TypedArguments Σ₁ (onto L X) (rename_all ρ J.arguments) (R [])) (substitute_identity_kind reduce K)
-      (turned_arguments Σ Σ₁ ok₁ x γ (moved_old Σ ok V typed first free D td.variables π is) (types Σ ok V typed first free D td π is) (kinds Σ ok V typed first free D td π is) (onto D.local D.variables) (onto L X) ρ r nothing [] keep keep D.arguments h.tuple (R []) K (ok.kinds_ok (target p.type) K e) h.mention h.typed h.are (λ i t g. absurd g) (λ i u. absurd cc) q)
+      (turned_arguments Σ Σ₁ ok₁ x γ (old_stays Σ ok V typed first free D td.variables π is) (types Σ ok V typed first free D td π is) (kinds Σ ok V typed first free D td π is) (onto D.local D.variables) (onto L X) ρ r nothing [] keep keep D.arguments h.tuple (R []) K (ok.kinds_ok (target p.type) K e) h.mention h.typed h.are (λ i t g. absurd g) (λ i u. absurd cc) q)
 
   pub beside_place : IsTypedAtPlace Σ₁ J p φ K
   beside_place = subst (λ Ms. AreTypedBeside Σ₁ X L (rename_all (shift_by n) (move_all γ Ms)) (rename_all (lift_renaming_by (length J.local) (shift_by n)) J.arguments) T K) (sym none) (record {

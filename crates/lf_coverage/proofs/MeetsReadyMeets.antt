@@ -1,8 +1,8 @@
 -- What is typed over the signature with entries is so over each that extends it; so are the stores of a typed case and a pattern at each place well formed there.
-use Rattle.std.proofs.Common.{◌≡◌, ℕ, List, [], ◌∷◌, sym, ap, ◌∙◌, subst, Option, Some, None}
-use Rattle.lf.specs.Syntax.{Term, Spine, nil, app, LfType, Kind, kind_pi, star}
-use Rattle.lf.specs.Substitution.{Image, keep, put, substitute_type, reduce}
-use Rattle.lf.specs.Typing.{Signature, ImageHasType, IsSignature, IsTypedSubstitution, instantiate_kind}
+use Rattle.std.proofs.Common.{◌≡◌, ℕ, List, [], sym, ap, ◌∙◌, subst, Option, Some}
+use Rattle.lf.specs.Syntax.{Term, LfType, Kind}
+use Rattle.lf.specs.Substitution.{Image, substitute_type, reduce}
+use Rattle.lf.specs.Typing.{Signature, IsSignature, IsTypedSubstitution}
 use Rattle.lf.specs.Variables.{nothing, onto, target}
 use Rattle.lf.specs.Subordination.{Block, AreTypedBlocks}
 use Rattle.lf.specs.Extension.{Extends}
@@ -16,37 +16,21 @@ use Rattle.lf_coverage.specs.MeetsReady.{AreTypedBeside, IsPlainlyTyped, IsTyped
 use Rattle.lf_coverage.specs.NumberedCallsStores.{Identifies, IsPutBeside, identified, meet_store_by_number}
 use Rattle.lf_coverage.specs.NumberedCase.{NumberedCase}
 use Rattle.lf_coverage.specs.OwnTerms.{blocks_of}
-use Rattle.lf_coverage.specs.TypedCase.{TypedArguments}
 use Rattle.lf_coverage.specs.TypedNumbered.{IsTypedNumberedCase}
 use Rattle.lf_coverage.proofs.EntryPatternsMatching.{entries_signature}
-use Rattle.lf_coverage.proofs.EntrySignature.{entries_kept}
-use Rattle.lf_coverage.proofs.MeetsReadyIdentified.{blocks_stay}
+use Rattle.lf_coverage.proofs.EntrySignature.{entries_kept, grown_image}
 use Rattle.lf_coverage.proofs.MeetsReadyPlaces.{Placed, placed_case, placed_same, settled}
 use Rattle.lf_coverage.proofs.MeetsReadyStores.{placed_store_is_ready}
-use Rattle.lf_coverage.proofs.NumberedBesideTerms.{pattern_more}
+use Rattle.lf_coverage.proofs.MovedConstants.{blocks_stay}
+use Rattle.lf_coverage.proofs.NumberedBesideTerms.{pattern_more, arguments_more}
 use Rattle.lf_coverage.proofs.Transfer.{have_more}
 
 module _ (Σ Σ' : Signature) (x : Extends nothing Σ Σ') where
-  pub image_more : (X : List LfType) (y : Image) (A : LfType) → ImageHasType Σ X y A → ImageHasType Σ' X y A
-  image_more X (keep j) A h = h
-  image_more X (put a N) A (e, n) = (e, extension_keeps_typing nothing Σ Σ' x X N A n)
-
   pub substitution_more : (G X : List LfType) (θ : ℕ → Image) → IsTypedSubstitution Σ G X θ → IsTypedSubstitution Σ' G X θ
-  substitution_more G X θ s i A g = image_more X (θ i) (substitute_type reduce θ A) (s i A g)
-
-  pub arguments_more : (G : List LfType) (Ms : List (Option Term)) (T : Spine) (K : Kind) → TypedArguments Σ G Ms T K → TypedArguments Σ' G Ms T K
-  arguments_more G [] nil star h = h
-  arguments_more G [] nil (kind_pi A K) h = absurd h
-  arguments_more G [] (app N T) K h = absurd h
-  arguments_more G (Some M ∷ Ms) nil K h = absurd h
-  arguments_more G (None ∷ Ms) nil K h = absurd h
-  arguments_more G (Some M ∷ Ms) (app N T) star h = absurd h
-  arguments_more G (None ∷ Ms) (app N T) star h = absurd h
-  arguments_more G (Some M ∷ Ms) (app N T) (kind_pi A K) (m, h) = (extension_keeps_typing nothing Σ Σ' x G M A m, arguments_more G Ms T (instantiate_kind A M K) h)
-  arguments_more G (None ∷ Ms) (app N T) (kind_pi A K) h = arguments_more G Ms T (instantiate_kind A N K) h
+  substitution_more G X θ s i A g = grown_image Σ Σ' x.types_stay x.kinds_stay X (θ i) (substitute_type reduce θ A) (s i A g)
 
   pub beside_more : (X L : List LfType) (Ms Ns : List (Option Term)) (T : LfType) (K : Kind) → AreTypedBeside Σ X L Ms Ns T K → AreTypedBeside Σ' X L Ms Ns T K
-  beside_more X L Ms Ns T K b = record { given = λ i A M g q. extension_keeps_typing nothing Σ Σ' x X M _ (b.given i A M g q); local = b.local; arguments = arguments_more (onto L X) Ns _ K b.arguments }
+  beside_more X L Ms Ns T K b = record { given = λ i A M g q. extension_keeps_typing nothing Σ Σ' x X M _ (b.given i A M g q); local = b.local; arguments = arguments_more nothing Σ Σ' x [] (onto L X) Ns _ K b.arguments }
 
   pub plain_more : (V : List Block) (J : NumberedCase) → IsPlainlyTyped Σ V J → IsPlainlyTyped Σ' V J
   plain_more V J t = record {

@@ -1,20 +1,17 @@
 -- The stores of the cases of a run from a goal of outputs with the subgoal are well formed.
 use Rattle.std.proofs.Common.{◌≡◌, ℕ, zero, suc, ◌+◌, ◌<◌, List, [], ◌∷◌, length, refl, sym, ◌∙◌, arith}
-use Rattle.std.specs.Prelude.{Bool, true, false, Option, Some, None}
+use Rattle.std.specs.Prelude.{Bool, true, false, Option}
 use Rattle.lf.specs.Syntax.{Term, LfType}
-use Rattle.lf.specs.Substitution.{Image}
 use Rattle.lf.specs.Typing.{Signature}
 use Rattle.lf.specs.Variables.{binders, everything}
 use Rattle.lf.specs.Subordination.{Block}
 use Rattle.lf_checks.specs.Clause.{outside}
-use Rattle.lf_cases.specs.Missing.{put_in}
 use Rattle.lf_cases.specs.OutputGoal.{kept_terms, output_goal}
 use Rattle.lf_cases.specs.Pattern.{is_given, origin, subgoal_pattern}
 use Rattle.lf_cases.specs.Reached.{arguments_count}
 use Rattle.lf_totality.proofs.Theorem.{outside_from}
 use Rattle.lf_coverage.specs.EntryPatternsOutputs.{numbered_output_goal}
 use Rattle.lf_coverage.specs.MeetsReady.{OutputRunMeetStoreIsReady}
-use Rattle.lf_coverage.specs.NewBlock.{rename_all}
 use Rattle.lf_coverage.specs.NumberedCase.{NumberedCase}
 use Rattle.lf_coverage.specs.OwnStores.{ComesByNumbers, no_split, then_block, then_split}
 use Rattle.lf_coverage.specs.SplitStore.{answer_values}
@@ -22,24 +19,12 @@ use Rattle.lf_coverage.proofs.EntryPatternsNear.{out_far}
 use Rattle.lf_coverage.proofs.Leaves.{subgoal_is_typed}
 use Rattle.lf_coverage.proofs.MeetsReadyGivenMeets.{given_meet_store_is_ready}
 use Rattle.lf_coverage.proofs.NumberedBesideStays.{numbered_output_run_stays_beside}
+use Rattle.lf_coverage.proofs.RenamedBlocks.{is_given_renamed}
+use Rattle.lf_coverage.proofs.StayTyped.{is_given_put}
 
 -- Terms are given for the first n variables at most.
 abbrev GivenBelow : ℕ → List (Option Term) → Type 0
 GivenBelow n Ms = (i : ℕ) → is_given Ms i ≡ true → i < n
-
-given_renamed : (ρ : ℕ → ℕ) (Ms : List (Option Term)) (i : ℕ) → is_given (rename_all ρ Ms) i ≡ is_given Ms i
-given_renamed ρ [] i = refl
-given_renamed ρ (Some M ∷ Ms) zero = refl
-given_renamed ρ (None ∷ Ms) zero = refl
-given_renamed ρ (Some M ∷ Ms) (suc i) = given_renamed ρ Ms i
-given_renamed ρ (None ∷ Ms) (suc i) = given_renamed ρ Ms i
-
-given_put : (σ : ℕ → Image) (Ms : List (Option Term)) (i : ℕ) → is_given (put_in σ Ms) i ≡ is_given Ms i
-given_put σ [] i = refl
-given_put σ (Some M ∷ Ms) zero = refl
-given_put σ (None ∷ Ms) zero = refl
-given_put σ (Some M ∷ Ms) (suc i) = given_put σ Ms i
-given_put σ (None ∷ Ms) (suc i) = given_put σ Ms i
 
 kept_below : (U : ℕ → Bool) (D : List LfType) (ρ : ℕ → ℕ) → GivenBelow (length D) (kept_terms U D ρ)
 kept_below U [] ρ i e = absurd cc
@@ -48,8 +33,8 @@ kept_below U (A ∷ D) ρ (suc i) e = let l = kept_below (λ j. U (suc j)) D (λ
 
 comes_below : (n : ℕ) (Σ : Signature) (W : List Block) (first : ℕ) (below : ℕ → ℕ → Bool) (G C : NumberedCase) → GivenBelow n G.given → ComesByNumbers Σ W first below G C → GivenBelow n C.given
 comes_below n Σ W first below G C h no_split = h
-comes_below n Σ W first below G C h (then_block {D = D} B r w) = λ i e. comes_below n Σ W first below G D h r i (sym (given_renamed _ D.given i) ∙ e)
-comes_below n Σ W first below G C h (then_split {D = D} x X j U A K after r g o e s) = λ i e. comes_below n Σ W first below G D h r i (sym (given_put (λ l. answer_values after s.well_formed.order (l + arguments_count A)) D.given i) ∙ e)
+comes_below n Σ W first below G C h (then_block {D = D} B r w) = λ i e. comes_below n Σ W first below G D h r i (sym (is_given_renamed _ D.given i) ∙ e)
+comes_below n Σ W first below G C h (then_split {D = D} x X j U A K after r g o e s) = λ i e. comes_below n Σ W first below G D h r i (sym (is_given_put (λ l. answer_values after s.well_formed.order (l + arguments_count A)) D.given i) ∙ e)
 
 -- these are the clause's own
 own_below : (T : LfType) (Ms : List (Option Term)) → GivenBelow (length (binders [] T)) Ms → (i : ℕ) → is_given Ms i ≡ true → outside T everything i ≡ false
@@ -66,5 +51,5 @@ pub output_run_meet_store_is_ready : OutputRunMeetStoreIsReady
 output_run_meet_store_is_ready Σ ok W typed first free below m c d U all_out closed i A sub needs sound none K e C r π is z J φ at Σe x =
     given_meet_store_is_ready Σ ok W typed first free C (subgoal_pattern c (origin d) A) (subgoal_is_typed Σ ok W typed c d i A sub) refl
     (numbered_output_run_stays_beside Σ ok W typed first free below m c d U all_out closed i A sub needs sound none K e C r)
-    (own_below c.type C.given (comes_below (length (binders [] c.type)) Σ W first below (numbered_output_goal first below m (origin d) U A K) C (λ j q. kept_below _ (binders [] c.type) _ j (sym (given_put _ (output_goal below m (origin d) U A K).given j) ∙ q)) r))
+    (own_below c.type C.given (comes_below (length (binders [] c.type)) Σ W first below (numbered_output_goal first below m (origin d) U A K) C (λ j q. kept_below _ (binders [] c.type) _ j (sym (is_given_put _ (output_goal below m (origin d) U A K).given j) ∙ q)) r))
     K e π is z J φ at Σe x

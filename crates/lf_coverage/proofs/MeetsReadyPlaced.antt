@@ -1,54 +1,46 @@
 -- A store of a pattern's type over variables, with given terms and arguments that are typed beside it, is well formed behind equations that are typed.
-use Rattle.std.proofs.Common.{◌≡◌, ℕ, zero, suc, ◌+◌, List, [], ◌∷◌, length, inl, inr, refl, sym, ap, ap₂, ◌∙◌, subst, arith}
-use Rattle.std.specs.Prelude.{Option, Some, None, ◌⊎◌}
-use Rattle.lf.specs.Syntax.{variable, Term, Spine, LfType, atom, Kind, Skeleton, base, skeleton, kind_skeleton, rename_spine, rename_type}
-use Rattle.lf.specs.Substitution.{Image, put, substitute, substitute_spine, substitute_type, substitute_image, after, reduce}
-use Rattle.lf.specs.SkeletonTyping.{SkeletonAt, TermSkeleton, SpineSkeleton, TypeBySkeletons, ImageSkeleton, SubstitutionBySkeletons}
-use Rattle.lf.specs.Skeletons.{constant_skeletons, family_skeletons, context_skeletons}
+use Rattle.std.proofs.Common.{◌≡◌, ℕ, zero, ◌+◌, List, [], length, inl, inr, refl, sym, ap, ◌∙◌, subst}
+use Rattle.std.specs.Prelude.{Option, Some, ◌⊎◌}
+use Rattle.lf.specs.Syntax.{Term, Spine, LfType, atom, Kind, base, skeleton, kind_skeleton, rename_spine, rename_type}
+use Rattle.lf.specs.Substitution.{Image, substitute_spine, substitute_type, after, reduce}
+use Rattle.lf.specs.SkeletonTyping.{SkeletonAt, TermSkeleton, SpineSkeleton, ImageSkeleton, SubstitutionBySkeletons}
+use Rattle.lf.specs.Skeletons.{constant_skeletons, context_skeletons}
 use Rattle.lf.specs.AtOnce.{shift_by, lift_renaming_by}
-use Rattle.lf.specs.Eta.{eta_long}
 use Rattle.lf.specs.Typing.{Signature, TypeAt, HasType, SpineFitsKind, IsType, IsKind, IsContext, IsSignature, IsTypedRenaming}
 use Rattle.lf.specs.Variables.{target, target_arguments, binders, onto}
 use Rattle.lf.specs.Worlds.{lift_over, instance}
 use Rattle.lf.proofs.Closed.{closed_kind_substituted}
-use Rattle.lf.proofs.EtaTyping.{eta_long_has_type}
 use Rattle.lf.proofs.SkeletonTyping.{substitution_keeps_spine_skeletons}
 use Rattle.lf.proofs.Substitution.{family_kind}
-use Rattle.lf.proofs.SkeletonTypes.{substitution_keeps_types_by_skeletons}
 use Rattle.lf.proofs.Decidability.{variable_type_unique}
-use Rattle.lf.proofs.ToSkeletons.{variable_has_skeleton, skeleton_has_variable, typed_has_skeleton, kind_spine_has_skeleton, type_by_skeletons, kind_by_skeletons}
+use Rattle.lf.proofs.ToSkeletons.{variable_has_skeleton, skeleton_has_variable, typed_has_skeleton, kind_spine_has_skeleton, kind_by_skeletons}
 use Rattle.lf.proofs.TypeLaws.{skeleton_renamed, skeleton_substituted}
-use Rattle.lf.proofs.Weakening.{renaming_keeps_types, declared_is_type}
-use Rattle.lf_unification.specs.Filling.{fill}
 use Rattle.lf_unification.specs.Lists.{followed}
-use Rattle.lf_unification.specs.OpenTyping.{OpenHasType, skeletons_of}
+use Rattle.lf_unification.specs.OpenTyping.{skeletons_of}
 use Rattle.lf_unification.specs.PartialInstance.{EquationsAreTyped, IsFilling, PartialInstance}
 use Rattle.lf_unification.specs.Solving.{IsWellFormed}
 use Rattle.lf_unification.specs.Unifiers.{Equation, SolvesAll, Store}
-use Rattle.lf_unification.proofs.Decompose.{OpenHasType-convert}
 use Rattle.lf_unification.proofs.EquationLemmas.{solves_first}
 use Rattle.lf_unification.proofs.RigidSteps.{solves_rest}
 use Rattle.lf_cases.specs.Candidates.{given_images}
-use Rattle.lf_cases.specs.Case.{as_term}
 use Rattle.lf_cases.specs.OutputGoal.{renumber}
 use Rattle.lf_cases.specs.Pattern.{given_at}
 use Rattle.lf_cases.proofs.Assemble.{binders_typed, end_typed}
 use Rattle.lf_cases.proofs.OutputItems.{lifted, lift_renumber}
 use Rattle.lf_totality.proofs.RaisedOutputs.{binders_over}
-use Rattle.lf_coverage.specs.MeetStore.{open_arguments, place_equations, one_given, given_equations}
+use Rattle.lf_coverage.specs.MeetStore.{open_arguments, place_equations, given_equations}
 use Rattle.lf_coverage.specs.MeetsReady.{AreTypedBeside}
-use Rattle.lf_coverage.specs.SplitStore.{open_term, open_spine, open_type, open_locals, type_in, context_metavariables}
+use Rattle.lf_coverage.specs.SplitStore.{open_spine, open_locals, context_metavariables}
 use Rattle.lf_coverage.specs.TypedCase.{TypedArguments}
-use Rattle.lf_coverage.proofs.ContextFillings.{skU, MS, values, ok_opened, places, same_opened}
+use Rattle.lf_coverage.proofs.ContextFillings.{values, places}
 use Rattle.lf_coverage.proofs.ContextStore.{context_store_ready}
 use Rattle.lf_coverage.proofs.Forms.{far_type}
-use Rattle.lf_coverage.proofs.GivenValues.{StandsForItself, StandsForGiven, given_cases, far_renames, type_put, spine_put}
-use Rattle.lf_coverage.proofs.MeetReady.{far_back}
-use Rattle.lf_coverage.proofs.MeetsReadySolved.{both_typed, given_solved, renumbered_still, spine_still}
-use Rattle.lf_coverage.proofs.OpenSkeletons.{filled_values, filled_value, filled_fits, filled_term, type_by_opened}
-use Rattle.lf_coverage.proofs.OpenTyped.{open_kind, family_open, term_opened}
+use Rattle.lf_coverage.proofs.GivenEquations.{both_typed, given_agree, given_are_typed}
+use Rattle.lf_coverage.proofs.GivenValues.{StandsForItself, StandsForGiven, given_cases, far_renames, spine_put}
+use Rattle.lf_coverage.proofs.MeetsReadySolved.{renumbered_still, spine_still}
+use Rattle.lf_coverage.proofs.OpenSkeletons.{filled_fits}
+use Rattle.lf_coverage.proofs.OpenTyped.{open_kind, family_open}
 use Rattle.lf_coverage.proofs.Parts.{some_same}
-use Rattle.lf_coverage.proofs.StoreSolution.{found_type, value_at}
 use Rattle.lf_coverage.proofs.Transfer.{lift_instance}
 
 -- the store
@@ -101,65 +93,12 @@ module _ (Σ : Signature) (ok : IsSignature Σ) (X : List LfType) (joint_context
   given_term : (i : ℕ) (A : LfType) (M : Term) → TypeAt X i A → given_at Ms i ≡ Some M → HasType Σ X M (substitute_type reduce g A)
   given_term = tb.given
 
+  solved : (β : ℕ → Option Term) → U β → SolvesAll (skeletons_of (context_metavariables X)) β (given_equations X zero Ms)
+  solved β u = solves_first (skeletons_of (context_metavariables X)) β (given_equations X zero Ms) _ (solves_rest (skeletons_of (context_metavariables X)) β ids _ u.2.1)
+
   -- a filling of the store gives the variables the given terms' values
   agrees : (β : ℕ → Option Term) (u : U β) (i : ℕ) → after (values Σ ok X joint_context U half β u) g i ≡ values Σ ok X joint_context U half β u (i + zero)
-  agrees β (F, w, u) i = by (given_cases X Ms zero i)
-    where
-      μ : ℕ → Skeleton
-      μ = skeletons_of (context_metavariables X)
-
-      one : (A : LfType) (M : Term) → TypeAt X i A → given_at Ms i ≡ Some M → put (skeleton A) (substitute reduce (filled_values Σ X F β w) M) ≡ filled_values Σ X F β w (i + zero)
-      one A M h q =
-          let B : LfType = rename_type (shift_by zero) A in
-          let at : TypeAt X (i + zero) B = far_type [] X i A h in
-          let (N, b, v, m) = filled_value Σ X F β w (i + zero) B at in
-          let here : fill (skeletons_of (context_metavariables X)) β (open_term zero (eta_long (skeleton B) (variable (i + zero)))) ≡ fill (skeletons_of (context_metavariables X)) β (open_term zero M) = given_solved (skeletons_of (context_metavariables X)) β X zero Ms (solves_first (skeletons_of (context_metavariables X)) β (given_equations X zero Ms) _ (solves_rest (skeletons_of (context_metavariables X)) β ids _ u.1)) i M B q at in
-          let left : fill (skeletons_of (context_metavariables X)) β (open_term zero (eta_long (skeleton B) (variable (i + zero)))) ≡ as_term (skeleton B) (filled_values Σ X F β w (i + zero)) = filled_term Σ X F β w [] (eta_long (skeleton B) (variable (i + zero))) (skeleton B) (typed_has_skeleton Σ X (eta_long (skeleton B) (variable (i + zero))) B (eta_long_has_type Σ ok X (variable (i + zero)) B joint_context at)) ∙ value_at (constant_skeletons Σ) (context_skeletons F) (skeleton B) (filled_values Σ X F β w) (i + zero) (filled_fits Σ X F β w (i + zero) (skeleton B) (variable_has_skeleton X (i + zero) B at)) in
-          let right : fill (skeletons_of (context_metavariables X)) β (open_term zero M) ≡ substitute reduce (filled_values Σ X F β w) M = filled_term Σ X F β w [] M (skeleton (substitute_type reduce g A)) (typed_has_skeleton Σ X M (substitute_type reduce g A) (given_term i A M h q)) in
-          let same : N ≡ substitute reduce (filled_values Σ X F β w) M = sym (ap (as_term (skeleton B)) v) ∙ sym left ∙ here ∙ right in
-          ap₂ put (sym (skeleton_renamed (shift_by zero) A)) (sym same) ∙ sym v
-
-      by : StandsForItself X Ms zero i ⊎ StandsForGiven X Ms zero i → after (filled_values Σ X F β w) g i ≡ filled_values Σ X F β w (i + zero)
-      by (inl (e, none)) = ap (substitute_image (filled_values Σ X F β w)) e
-      by (inr (A, M, h, q, e)) = ap (substitute_image (filled_values Σ X F β w)) e ∙ one A M h q
-
-  -- so a given term has its variable's type up to these
-  given_opened : (i : ℕ) (M : Term) (A : LfType) → given_at Ms i ≡ Some M → TypeAt X (i + zero) A → OpenHasType Σ [] (context_metavariables X) U [] (open_term zero M) (open_type zero A)
-  given_opened i M A q at =
-      let (B, b, e) = far_back [] X i A at in
-      let B1 : LfType = rename_type (shift_by zero) B in
-      let B2 : LfType = substitute_type reduce g B in
-      let k : TypeBySkeletons (family_skeletons Σ) (constant_skeletons Σ) (context_skeletons X) B = type_by_skeletons Σ X B (declared_is_type Σ ok X i B joint_context b) in
-      let k1 : TypeBySkeletons (family_skeletons Σ) (constant_skeletons Σ) (context_skeletons X) B1 = type_by_skeletons Σ X B1 (renaming_keeps_types Σ ok X X (shift_by zero) B far (declared_is_type Σ ok X i B joint_context b)) in
-      let k2 : TypeBySkeletons (family_skeletons Σ) (constant_skeletons Σ) (context_skeletons X) B2 = substitution_keeps_types_by_skeletons (family_skeletons Σ) (constant_skeletons Σ) (context_skeletons X) (context_skeletons X) g B fg k in
-      subst (λ Z. OpenHasType Σ [] (context_metavariables X) U [] (open_term zero M) (open_type zero Z)) (sym e)
-      (OpenHasType-convert Σ ok [] (context_metavariables X) U (skU Σ ok X joint_context U half) (MS Σ ok X joint_context U half) [] (λ j Y h. absurd h) (open_term zero M) (open_type zero B1) (open_type zero B2) (ok_opened Σ ok X joint_context U half [] B1 k1) (ok_opened Σ ok X joint_context U half [] B2 k2)
-      (same_opened Σ ok X joint_context U half [] [] [] refl refl B1 B2 k1 k2 (skeleton_renamed (shift_by zero) B ∙ sym (skeleton_substituted reduce g B)) (λ β u. sym (type_put Σ X X (half β u).0 g (values Σ ok X joint_context U half β u) zero fg (filled_fits Σ X (half β u).0 β (half β u).1) (agrees β u) [] B k)))
-      (term_opened Σ ok X U [] M B2 (given_term i B M b q)))
-
-  givens : (Ps : List (Option Term)) (k : ℕ) → ((i : ℕ) (M : Term) (A : LfType) → given_at Ps i ≡ Some M → TypeAt X (i + k) A → OpenHasType Σ [] (context_metavariables X) U [] (open_term zero M) (open_type zero A)) → EquationsAreTyped Σ [] (context_metavariables X) U (given_equations X k Ps)
-  givens [] k h = tt
-  givens (N ∷ Ps) k h = by (type_in X k) refl N refl (givens Ps (suc k) (λ i M A e at. h (suc i) M A e (subst (λ j. TypeAt X j A) (next i k) at)))
-    where
-      next : (i k : ℕ) → i + suc k ≡ suc i + k
-      next i k = omega arith
-
-      none : (k : ℕ) → k ≡ 0 + k
-      none k = omega arith
-
-      by : (y : Option LfType) → type_in X k ≡ y → (x : Option Term) → N ≡ x → EquationsAreTyped Σ [] (context_metavariables X) U (given_equations X (suc k) Ps) → EquationsAreTyped Σ [] (context_metavariables X) U (one_given k y x (given_equations X (suc k) Ps))
-      by None e x q rest = rest
-      by (Some A) e None q rest = rest
-      by (Some A) e (Some M) q rest =
-          let at : TypeAt X k A = found_type X k A e in (
-            record {
-              local_typed = tt;
-              type_typed = λ F β w u. type_by_opened Σ X [] (context_skeletons F) A (type_by_skeletons Σ X A (declared_is_type Σ ok X k A joint_context at));
-              left_typed = term_opened Σ ok X U [] (eta_long (skeleton A) (variable k)) A (eta_long_has_type Σ ok X (variable k) A joint_context at);
-              right_typed = h zero M A q (subst (λ j. TypeAt X j A) (none k) at);
-            },
-            rest,
-          )
+  agrees = given_agree Σ ok [] X joint_context joint_context Ms given_term fg U half solved
 
   -- the equations of the places
   abbrev S : Spine
@@ -192,4 +131,4 @@ module _ (Σ : Signature) (ok : IsSignature Σ) (X : List LfType) (joint_context
 
   -- The lemma
   pub placed_ready : EquationsAreTyped Σ [] (context_metavariables X) U ids → IsWellFormed Σ (placed_store X ids Ms Ns T K)
-  placed_ready h = context_store_ready Σ ok X joint_context (placed_store X ids Ms Ns T K).equations (both_typed Σ (context_metavariables X) U ids _ h (both_typed Σ (context_metavariables X) U (given_equations X zero Ms) _ (givens Ms zero given_opened) placed))
+  placed_ready h = context_store_ready Σ ok X joint_context (placed_store X ids Ms Ns T K).equations (both_typed Σ (context_metavariables X) U ids _ h (both_typed Σ (context_metavariables X) U (given_equations X zero Ms) _ (given_are_typed Σ ok [] X joint_context joint_context Ms given_term fg U half solved) placed))

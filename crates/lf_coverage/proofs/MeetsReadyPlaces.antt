@@ -1,5 +1,5 @@
 -- Beside each place of a pattern a typed case, with block variables one and perhaps a new one, is typed, and so is what stands outside the pattern's clause.
-use Rattle.std.proofs.Common.{◌≡◌, ℕ, suc, ◌⊎◌, List, [], ◌∷◌, length, inl, inr, refl, sym, ap, ◌∙◌, subst, Option, Some}
+use Rattle.std.proofs.Common.{◌≡◌, ℕ, ◌⊎◌, List, ◌∷◌, length, inl, inr, refl, sym, ap, ◌∙◌, subst, Some}
 use Rattle.std.specs.Prelude.{Bool}
 use Rattle.lf.specs.Syntax.{Spine, LfType}
 use Rattle.lf.specs.Substitution.{Image}
@@ -9,46 +9,26 @@ use Rattle.lf.specs.Subordination.{Block, AreTypedBlocks, Member}
 use Rattle.lf_checks.specs.Clause.{Clause}
 use Rattle.lf_cases.specs.Cover.{before}
 use Rattle.lf_cases.specs.Missing.{blocks_with}
-use Rattle.lf_cases.specs.Pattern.{Origin, of_constant, of_entry}
+use Rattle.lf_cases.specs.Pattern.{Origin}
 use Rattle.lf_cases.proofs.BlockEntries.{onto_onto}
 use Rattle.lf_coverage.specs.EntryConstants.{IsFreeFrom, with_entries}
 use Rattle.lf_coverage.specs.EntryPatterns.{variable_images}
 use Rattle.lf_coverage.specs.MeetsReady.{IsPlainlyTyped, PlacedCaseIsTyped}
 use Rattle.lf_coverage.specs.NewBlock.{with_new_block}
-use Rattle.lf_coverage.specs.NumberedCallsStores.{Identifies, IsPutBeside, constant_beside, entry_beside, new_beside, identified, move_blocks}
-use Rattle.lf_coverage.specs.NumberedCase.{NumberedCase, AreTypedBlockVariables}
+use Rattle.lf_coverage.specs.NumberedCallsStores.{Identifies, IsPutBeside, constant_beside, entry_beside, new_beside, identified}
+use Rattle.lf_coverage.specs.NumberedCase.{NumberedCase}
 use Rattle.lf_coverage.specs.NumberedInstance.{block_at}
 use Rattle.lf_coverage.specs.OwnTerms.{BlockVariable, blocks_of}
 use Rattle.lf_coverage.specs.TypedNumbered.{IsTypedNumberedCase}
-use Rattle.lf_coverage.proofs.MeetsReadyIdentified.{blocks_stay, moved_from, plain, variable_typed}
-use Rattle.lf_coverage.proofs.MeetsReadyNewBlock.{more_identifies, new_block_commutes}
+use Rattle.lf_coverage.proofs.IdentifiedNewBlock.{identifies_new, same_identified}
+use Rattle.lf_coverage.proofs.ItemsContext.{outer_context}
+use Rattle.lf_coverage.proofs.MeetsReadyIdentified.{plain, variable_typed}
+use Rattle.lf_coverage.proofs.MoreWorlds.{case_with_more}
+use Rattle.lf_coverage.proofs.MovedConstants.{blocks_stay, moved_from}
 use Rattle.lf_coverage.proofs.OwnStoresNewBlock.{new_block_stays_typed}
 use Rattle.lf_coverage.proofs.Parts.{some_same}
+use Rattle.lf_coverage.proofs.RenamedBlocks.{moved_length}
 use Rattle.lf_coverage.proofs.Standing.{before_typed}
-
--- a typed case is typed where there are more worlds
-more_worlds : (Σ : Signature) (W V : List Block) → ((B : Block) → Member B W → Member B V) → (X : List LfType) (o : ℕ → Option Spine) (bs : List BlockVariable) → AreTypedBlockVariables Σ W X o bs → AreTypedBlockVariables Σ V X o bs
-more_worlds Σ W V f X o [] t = tt
-more_worlds Σ W V f X o (b ∷ bs) (m, s, u, t) = (f b.block m, s, u, more_worlds Σ W V f X o bs t)
-
-pub with_more : {c : Clause} (o : Origin c) (W : List Block) (B : Block) → Member B W → Member B (blocks_with o W)
-with_more (of_constant U) W B m = m
-with_more (of_entry D later E es e) W B m = inr m
-
-pub case_with_more : (Σ : Signature) (first : ℕ) (W V : List Block) → ((B : Block) → Member B W → Member B V) → (C : NumberedCase) → IsTypedNumberedCase Σ first W C → IsTypedNumberedCase Σ first V C
-case_with_more Σ first W V f C t = record {
-  variables = record { variables = t.variables.variables; on_own_terms = t.variables.on_own_terms; blocks = more_worlds (with_entries Σ first (blocks_of C.blocks)) W V f C.variables _ C.blocks t.variables.blocks };
-  local = t.local;
-  local_on_own = t.local_on_own;
-  given = t.given;
-  given_on_own = t.given_on_own;
-  arguments = t.arguments;
-  arguments_on_own = t.arguments_on_own;
-}
-
-pub length_stays : (γ : ℕ → ℕ) (bs : List BlockVariable) → length (move_blocks γ bs) ≡ length bs
-length_stays γ [] = refl
-length_stays γ (b ∷ bs) = ap suc (length_stays γ bs)
 
 -- The case that has become J by identifying block variables: C itself, or C with a new block variable; and what stands outside the clause.
 pub record Placed (Σ : Signature) (first : ℕ) (V : List Block) (C : NumberedCase) (π : ℕ → ℕ) (c : Clause) (J : NumberedCase) (φ : ℕ → Image) : Type 0 where
@@ -77,12 +57,12 @@ module _ (Σ : Signature) (ok : IsSignature Σ) (W : List Block) (first : ℕ) (
   settled c o b typed J φ (new_beside B later E es e U n fixed at) =
       let V : List Block = B ∷ W in
       let td : IsTypedNumberedCase Σ first V C = case_with_more Σ first W V (λ D m. inr m) C tc in
-      let l : length (identified first π C).blocks ≡ length C.blocks = length_stays _ C.blocks in
+      let l : length (identified first π C).blocks ≡ length C.blocks = moved_length _ C.blocks in
       let f : π (length C.blocks) ≡ length C.blocks = ap π (sym l) ∙ fixed ∙ l in
       let D : NumberedCase = with_new_block B C in
       let tn : IsTypedNumberedCase Σ first V D = new_block_stays_typed Σ ok V typed first free C td B (inl refl) in
-      let id : Identifies D π = more_identifies first C π is B f in
-      let same : with_new_block B (identified first π C) ≡ identified first π D = new_block_commutes Σ ok V typed first free C td π is B (typed B (inl refl)) f in
+      let id : Identifies D π = identifies_new first C B π is f in
+      let same : with_new_block B (identified first π C) ≡ identified first π D = sym (same_identified first C B π is f Σ free (outer_context Σ B.entries B.some (typed B (inl refl)))) in
       let k : ℕ = length (identified first π C).blocks in
       record {
         from = D;

@@ -1,64 +1,34 @@
 -- The stores of the cases of a run from a goal of inputs with the heads of clauses are well formed; and those of constants' patterns where no block variables are
 -- one.
-use Rattle.std.proofs.Common.{◌≡◌, ℕ, zero, ◌+◌, List, [], ◌∷◌, length, inl, inr, refl, sym, ap, ap₂, ◌∙◌, subst, arith}
-use Rattle.std.specs.Prelude.{Bool, Option, Some, None}
-use Rattle.lf.specs.Syntax.{Kind}
-use Rattle.lf.specs.Substitution.{Image, keep}
-use Rattle.lf.specs.AtOnce.{shift_by}
+use Rattle.std.proofs.Common.{◌≡◌, ℕ, List, [], ◌∷◌, length, inl, inr, refl, sym, ap, ap₂, ◌∙◌, subst}
+use Rattle.std.specs.Prelude.{Bool}
+use Rattle.lf.specs.Substitution.{keep}
 use Rattle.lf.specs.Typing.{Signature, IsContext}
 use Rattle.lf.specs.Variables.{nothing, onto}
 use Rattle.lf.specs.Subordination.{Block, AreTypedBlocks}
-use Rattle.lf.specs.Worlds.{instance, lift_over}
 use Rattle.lf.specs.Extension.{Extends}
 use Rattle.lf_unification.specs.Solving.{IsWellFormed}
 use Rattle.lf_checks.specs.Clause.{Clause, IsClause, from_constant, from_entry}
 use Rattle.lf_checks.specs.Marks.{MentionChosenOnly, TypedPlaces}
 use Rattle.lf_cases.specs.Case.{covered_places, input_goal}
-use Rattle.lf_cases.specs.Missing.{blocks_with, put_in}
-use Rattle.lf_cases.specs.OutputGoal.{renumber}
+use Rattle.lf_cases.specs.Missing.{blocks_with}
 use Rattle.lf_cases.specs.Pattern.{Origin, of_constant, of_entry, head_pattern, origin}
-use Rattle.lf_cases.specs.Reached.{arguments_count}
-use Rattle.lf_coverage.specs.EntryConstants.{EntryConstant, entry_constant, with_entries}
+use Rattle.lf_coverage.specs.EntryConstants.{with_entries}
 use Rattle.lf_coverage.specs.MeetStore.{IsConstants}
 use Rattle.lf_coverage.specs.MeetsReady.{InputRunHasTypedPlaces, InputRunMeetStoreIsReady, ApartStoreIsReady, RefutedInputIsApartTuple, OneBlockInputIsApartTuple}
-use Rattle.lf_coverage.specs.NewBlock.{rename_all}
 use Rattle.lf_coverage.specs.NumberedCallsStores.{Identifies, IsPutBeside, constant_beside, identified, meet_store_by_number, move_blocks}
 use Rattle.lf_coverage.specs.NumberedCase.{NumberedCase}
-use Rattle.lf_coverage.specs.NumberedInstance.{first_constant, moved_constant, moved_entry, move_all, move_types}
-use Rattle.lf_coverage.specs.Numbering.{numbering, numbered}
-use Rattle.lf_coverage.specs.OwnStores.{ComesByNumbers, no_split, then_block, then_split}
+use Rattle.lf_coverage.specs.NumberedInstance.{move_all, move_types}
+use Rattle.lf_coverage.specs.Numbering.{numbered}
 use Rattle.lf_coverage.specs.OwnTerms.{BlockVariable, blocks_of}
-use Rattle.lf_coverage.specs.SplitStore.{answer_values}
 use Rattle.lf_coverage.proofs.EntryTermsInputs.{clause_is_closed, closed_is_typed, input_goal_is_beside_by_number, beside_has_typed_places}
-use Rattle.lf_coverage.proofs.HeadSplit.{places_put_in}
+use Rattle.lf_coverage.proofs.EntryTermsRuns.{comes_as_input, goal_is_input}
 use Rattle.lf_coverage.proofs.Leaves.{head_is_typed}
 use Rattle.lf_coverage.proofs.MeetsReadyInputs.{input_meet_store_is_ready}
 use Rattle.lf_coverage.proofs.NumberedBesideStays.{numbered_run_stays_beside}
 use Rattle.lf_coverage.proofs.NumberedCallsOwn.{unmoved_all, unmoved_spine, unmoved_types}
-use Rattle.lf_coverage.proofs.NumberedSplits.{places_renamed}
+use Rattle.lf_coverage.proofs.NumberedCallsShared.{constants_stay}
 use Rattle.lf_coverage.proofs.NumberedTuplesRoom.{refuted_is_apart_tuple, one_block_is_apart_tuple}
-use Rattle.lf_coverage.proofs.StuckRuns.{goal_places}
-use Rattle.lf_coverage.proofs.WritingChoice.{from_is}
-use mathlib.Core.Path.{fun_ext}
-
--- A case of a run from a goal of inputs has no given terms and no local context, and its places are those of the goal.
-record IsInputCase (m : List Bool) (C : NumberedCase) : Type 0 where
-  given : C.given ≡ []
-  local : C.local ≡ []
-  places : covered_places C.arguments ≡ m
-
-comes_as_input : (Σ : Signature) (W : List Block) (first : ℕ) (below : ℕ → ℕ → Bool) (m : List Bool) (G C : NumberedCase) → IsInputCase m G → ComesByNumbers Σ W first below G C → IsInputCase m C
-comes_as_input Σ W first below m G C h no_split = h
-comes_as_input Σ W first below m G C h (then_block {D = D} B r w) =
-    let k = comes_as_input Σ W first below m G D h r in
-    record { given = ap (rename_all (shift_by _)) k.given; local = ap (renumber (shift_by _)) k.local; places = places_renamed _ D.arguments ∙ k.places }
-comes_as_input Σ W first below m G C h (then_split {D = D} x X j U A K after r g o e s) =
-    let k = comes_as_input Σ W first below m G D h r in
-    let υ : ℕ → Image = λ l. answer_values after s.well_formed.order (l + arguments_count A) in
-    record { given = ap (put_in υ) k.given; local = ap (λ L. instance L υ) k.local; places = places_put_in (lift_over D.local υ) D.arguments ∙ k.places }
-
-goal_is_input : (first a : ℕ) (m : List Bool) (K : Kind) → MentionChosenOnly nothing m K → IsInputCase m (numbered first (input_goal a m K))
-goal_is_input first a m K v = record { given = refl; local = refl; places = places_put_in (numbering first (input_goal a m K).items).images (input_goal a m K).arguments ∙ goal_places nothing m K v }
 
 -- the worlds of a clause with its block
 pub one_more_block : (Σ : Signature) (W : List Block) → AreTypedBlocks Σ W → (B : Block) → IsContext Σ (onto B.entries B.some) → AreTypedBlocks Σ (B ∷ W)
@@ -88,25 +58,13 @@ input_run_meet_store_is_ready Σ ok W typed first free below a m K kd v C r c i 
     input_meet_store_is_ready Σ ok W first free C tc none (head_pattern c (origin i)) (head_is_typed Σ ok W typed c i) (clause_blocks Σ W typed c i) tt local K (ap Σ.kinds e ∙ kd) places π is J φ at Σe x
 
 -- Where each block variable stays, so does the case.
-constant_stays : (first : ℕ) (bs : List BlockVariable) (c : ℕ) → moved_constant first (blocks_of bs) (blocks_of bs) (λ k. k) c ≡ c
-constant_stays first bs c = by (entry_constant zero first (blocks_of bs) c) refl
-  where
-    none : (j : ℕ) → zero + j ≡ j
-    none j = omega arith
-
-    by : (e : Option EntryConstant) → entry_constant zero first (blocks_of bs) c ≡ e → moved_entry first (blocks_of bs) (λ k. k) c e ≡ c
-    by None q = refl
-    by (Some e) q =
-        let (j, b, at, number, block, from, place, later, entries, rest) = from_is zero first bs c e q in
-        ap (λ k. first_constant first (blocks_of bs) k + length e.before) (number ∙ none j) ∙ ap (λ n. n + length e.before) (sym from) ∙ sym place
-
 blocks_unmoved : (bs : List BlockVariable) → move_blocks (λ c. c) bs ≡ bs
 blocks_unmoved [] = refl
 blocks_unmoved (b ∷ bs) = ap₂ (λ U cs. record { block = b.block; terms = U } ∷ cs) (unmoved_spine b.terms) (blocks_unmoved bs)
 
 pub none_is_one : (first : ℕ) (C : NumberedCase) → identified first (λ k. k) C ≡ C
 none_is_one first C =
-    ap (λ γ. record { blocks = move_blocks γ C.blocks; variables = move_types γ C.variables; given = move_all γ C.given; local = move_types γ C.local; family = C.family; arguments = move_all γ C.arguments }) (fun_ext (constant_stays first C.blocks))
+    ap (λ γ. record { blocks = move_blocks γ C.blocks; variables = move_types γ C.variables; given = move_all γ C.given; local = move_types γ C.local; family = C.family; arguments = move_all γ C.arguments }) (constants_stay first C.blocks)
     ∙ ap₂ (λ bs X. record { blocks = bs; variables = X; given = move_all (λ c. c) C.given; local = move_types (λ c. c) C.local; family = C.family; arguments = move_all (λ c. c) C.arguments }) (blocks_unmoved C.blocks) (unmoved_types C.variables)
     ∙ ap₂ (λ Ms D. record { blocks = C.blocks; variables = C.variables; given = Ms; local = D; family = C.family; arguments = move_all (λ c. c) C.arguments }) (unmoved_all C.given) (unmoved_types C.local)
     ∙ ap (λ Ns. record { blocks = C.blocks; variables = C.variables; given = C.given; local = C.local; family = C.family; arguments = Ns }) (unmoved_all C.arguments)

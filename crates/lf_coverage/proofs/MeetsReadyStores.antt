@@ -1,5 +1,5 @@
 -- The store of a case by number and a pattern at its place is well formed, where both are typed and the case is typed beside the pattern.
-use Rattle.std.proofs.Common.{◌≡◌, ℕ, zero, suc, List, [], ◌∷◌, length, refl, sym, ap, ◌∙◌, subst, arith, ◌+◌}
+use Rattle.std.proofs.Common.{◌≡◌, ℕ, zero, List, [], length, sym, ap, ◌∙◌, subst, arith, ◌+◌}
 use Rattle.std.specs.Prelude.{Some}
 use Rattle.lf.specs.Syntax.{LfType, Kind, rename_spine, rename_type}
 use Rattle.lf.specs.Substitution.{Image, keep, put, rename_image, substitute_type, reduce}
@@ -41,7 +41,7 @@ use Rattle.lf_coverage.proofs.MeetsReadyIdentities.{identities_typed}
 use Rattle.lf_coverage.proofs.MeetsReadyPlaced.{placed_ready}
 use Rattle.lf_coverage.proofs.OwnForms.{rename_some}
 use Rattle.lf_coverage.proofs.OwnStoresCase.{local_typed}
-use Rattle.lf_coverage.proofs.Parts.{some_same}
+use Rattle.lf_coverage.proofs.RenamedBlocks.{renamed_from}
 
 pub renamed_substitution : (Σ : Signature) → IsSignature Σ → (G C D : List LfType) (θ : ℕ → Image) (ρ : ℕ → ℕ) → IsTypedRenaming C D ρ → IsTypedSubstitution Σ G C θ → IsTypedSubstitution Σ G D (λ i. rename_image ρ (θ i))
 renamed_substitution Σ ok G C D θ ρ r s i A g = subst (ImageHasType Σ D (rename_image ρ (θ i))) (rename_substituted_type reduce reduction_is_natural ρ θ A) (by (θ i) (substitute_type reduce θ A) (s i A g))
@@ -49,11 +49,6 @@ renamed_substitution Σ ok G C D θ ρ r s i A g = subst (ImageHasType Σ D (ren
     by : (x : Image) (Z : LfType) → ImageHasType Σ C x Z → ImageHasType Σ D (rename_image ρ x) (rename_type ρ Z)
     by (keep j) Z t = r j Z t
     by (put a N) Z (e, t) = (skeleton_renamed ρ Z ∙ e, renaming_keeps_typing Σ ok C D ρ N Z r t)
-
-renamed_from : (ρ : ℕ → ℕ) (bs : List BlockVariable) (k : ℕ) (d : BlockVariable) → block_at (rename_blocks ρ bs) k ≡ Some d → (b : BlockVariable) × (block_at bs k ≡ Some b) × (d ≡ record { block = b.block; terms = rename_spine ρ b.terms })
-renamed_from ρ [] k d e = absurd cc
-renamed_from ρ (b ∷ bs) zero d e = (b, refl, sym (some_same e))
-renamed_from ρ (b ∷ bs) (suc k) d e = renamed_from ρ bs k d e
 
 -- A pattern's type at its place is one over the clause's own variables in front of those of the case.
 module _ (Σ : Signature) (ok : IsSignature Σ) (V : List LfType) (cv : IsContext Σ V) (p : Pattern) (tp : IsTypedPattern Σ p) (φ : ℕ → Image) (φ_typed : IsTypedSubstitution Σ p.clause.outer V φ) where

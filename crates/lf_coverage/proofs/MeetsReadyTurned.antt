@@ -1,7 +1,7 @@
 -- Typed values put into arguments of their places' types; what a substitution does near and far under binders; and given terms, renamed.
-use Rattle.std.proofs.Common.{◌≡◌, ℕ, zero, suc, ◌+◌, List, [], ◌∷◌, length, refl, sym, ap, ap₂, ◌∙◌, subst, arith, ◌<◌}
+use Rattle.std.proofs.Common.{◌≡◌, ℕ, zero, suc, ◌+◌, List, [], ◌∷◌, length, refl, sym, ap, ap₂, ◌∙◌, subst, arith}
 use Rattle.std.specs.Prelude.{Option, Some, None}
-use Rattle.lf.specs.Syntax.{Term, Spine, nil, app, LfType, Kind, kind_pi, star, base, skeleton, kind_skeleton, rename, rename_type}
+use Rattle.lf.specs.Syntax.{Term, Spine, nil, app, LfType, Kind, kind_pi, star, base, skeleton, kind_skeleton}
 use Rattle.lf.specs.Substitution.{Image, keep, put, rename_image, lift, single, substitute, substitute_spine, substitute_type, substitute_kind, reduce}
 use Rattle.lf.specs.AtOnce.{shift_by, lift_renaming_by}
 use Rattle.lf.specs.SkeletonTyping.{TermSkeleton, SpineSkeleton, KindBySkeletons}
@@ -17,13 +17,11 @@ use Rattle.lf.proofs.TypeLaws.{skeleton_substituted, substitution_as_renaming_ty
 use Rattle.lf.proofs.Closed.{Agree}
 use Rattle.lf_cases.specs.Missing.{put_in}
 use Rattle.lf_cases.specs.OutputGoal.{renumber}
-use Rattle.lf_cases.specs.Pattern.{given_at}
 use Rattle.lf_cases.proofs.Raised.{rename_identity}
 use Rattle.lf_coverage.specs.Heads.{HaveSkeletons}
 use Rattle.lf_coverage.specs.NewBlock.{rename_all}
 use Rattle.lf_coverage.specs.TypedCase.{TypedArguments}
 use Rattle.lf_coverage.proofs.EntryPatternsSplits.{all_renamed, lifted_keep}
-use Rattle.lf_coverage.proofs.Parts.{some_same}
 use Rattle.lf_coverage.proofs.StayTyped.{instance_agree}
 use Rattle.lf_coverage.proofs.Transfer.{same_in}
 use mathlib.Core.Path.{fun_ext}
@@ -90,32 +88,3 @@ module _ (Σ : Signature) (V : List LfType) (ξ : ℕ → Image) (ρ : ℕ → �
 
   pub all_put_renamed : (L : List LfType) (Ms : List (Option Term)) → IsContext Σ (onto L V) → HaveSkeletons (constant_skeletons Σ) (context_skeletons (onto L V)) Ms → put_in (lift_over L ξ) Ms ≡ rename_all (lift_renaming_by (length L) ρ) Ms
   all_put_renamed L Ms c s = all_same L Ms c s ∙ all_renamed 0 (lift_renaming_by (length L) ρ) (lift_over L (λ i. keep (ρ i))) (lifted_keep L ρ) Ms
-
--- renamed given terms
-pub given_renamed : (ρ : ℕ → ℕ) (Ms : List (Option Term)) (i : ℕ) (M : Term) → given_at Ms i ≡ Some M → given_at (rename_all ρ Ms) i ≡ Some (rename ρ M)
-given_renamed ρ [] i M e = absurd cc
-given_renamed ρ (Some N ∷ Ms) zero M e = ap (λ P. Some (rename ρ P)) (some_same e)
-given_renamed ρ (None ∷ Ms) zero M e = absurd cc
-given_renamed ρ (Some N ∷ Ms) (suc i) M e = given_renamed ρ Ms i M e
-given_renamed ρ (None ∷ Ms) (suc i) M e = given_renamed ρ Ms i M e
-
-pub given_from : (ρ : ℕ → ℕ) (Ms : List (Option Term)) (i : ℕ) (N : Term) → given_at (rename_all ρ Ms) i ≡ Some N → (M : Term) × (given_at Ms i ≡ Some M) × (N ≡ rename ρ M)
-given_from ρ [] i N e = absurd cc
-given_from ρ (Some M ∷ Ms) zero N e = (M, refl, sym (some_same e))
-given_from ρ (None ∷ Ms) zero N e = absurd cc
-given_from ρ (Some M ∷ Ms) (suc i) N e = given_from ρ Ms i N e
-given_from ρ (None ∷ Ms) (suc i) N e = given_from ρ Ms i N e
-
--- a variable of a context is one of as many as it has
-pub inside : (D : List LfType) (i : ℕ) (A : LfType) → TypeAt D i A → i < length D
-inside [] i A g = absurd g
-inside (B ∷ D) zero A e = omega arith
-inside (B ∷ D) (suc i) A (C, g, e) = let l = inside D i C g in omega (arith, l)
-
-pub below : (D G : List LfType) (i : ℕ) → i < length D → (A : LfType) × TypeAt (onto D G) i A
-below [] G i l = absurd (never i l)
-  where
-    never : (i : ℕ) → i < 0 → ⊥
-    never i l = omega (arith, l)
-below (B ∷ D) G zero l = (rename_type suc B, refl)
-below (B ∷ D) G (suc i) l = let (A, h) = below D G i (omega (arith, l)) in (rename_type suc A, (A, h, refl))

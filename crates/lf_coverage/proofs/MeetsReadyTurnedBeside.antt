@@ -1,52 +1,34 @@
 -- What is typed beside a type stays so where constants are moved; so a case that is typed at a place of a pattern is so there with block variables one.
 use Rattle.std.proofs.Common.{◌≡◌, ℕ, zero, suc, List, [], ◌∷◌, refl, sym, ap, ap₂, ◌∙◌, subst}
 use Rattle.std.specs.Prelude.{Option, Some, None}
-use Rattle.lf.specs.Syntax.{Term, Spine, nil, app, LfType, pi, atom, Kind, kind_pi, star, skeleton}
-use Rattle.lf.specs.Substitution.{Image, put, lift, single, substitute_spine, substitute_type, substitute_kind, reduce}
-use Rattle.lf.specs.Typing.{Signature, TypeAt, HasType, IsContext, instantiate_kind}
+use Rattle.lf.specs.Syntax.{Term, Spine, nil, app, LfType, pi, atom, Kind, kind_pi, star}
+use Rattle.lf.specs.Substitution.{Image, put, lift, substitute_spine, substitute_type, reduce}
+use Rattle.lf.specs.Typing.{Signature, HasType, IsContext, instantiate_kind}
 use Rattle.lf.specs.Variables.{target_arguments, binders, onto}
 use Rattle.lf.specs.Worlds.{lift_over, instance}
 use Rattle.lf_cases.specs.Candidates.{given_images}
-use Rattle.lf_cases.specs.Pattern.{given_at}
 use Rattle.lf_coverage.specs.MeetsReady.{AreTypedBeside}
 use Rattle.lf_coverage.specs.NumberedInstance.{move, move_all, move_spine, move_type, move_types}
 use Rattle.lf_coverage.specs.TypedCase.{TypedArguments}
 use Rattle.lf_coverage.specs.WritingRoom.{move_image, move_kind}
-use Rattle.lf_coverage.proofs.MeetsReadyMoved.{onto_moved}
-use Rattle.lf_coverage.proofs.Parts.{some_same}
+use Rattle.lf_coverage.proofs.MovedConstants.{onto_moved, type_from, given_moved, lifts_moved}
 use Rattle.lf_coverage.proofs.Reading.{IsOld}
 use Rattle.lf_coverage.proofs.WritingGap.{same_old}
-use Rattle.lf_coverage.proofs.WritingMove.{move_type_renamed, move_type_substituted, move_spine_substituted, lift_moved, moved_typed, skeleton_moved}
+use Rattle.lf_coverage.proofs.WritingMove.{move_type_substituted, move_spine_substituted, moved_typed, skeleton_moved, move_kind_instance}
 use mathlib.Core.Path.{fun_ext}
 
 module _ (γ : ℕ → ℕ) where
   abbrev turned : (ℕ → Image) → ℕ → Image
   turned σ i = move_image γ (σ i)
 
-  -- kinds
-  kind_substituted : (σ : ℕ → Image) (K : Kind) → move_kind γ (substitute_kind reduce σ K) ≡ substitute_kind reduce (turned σ) (move_kind γ K)
-  kind_substituted σ (kind_pi A K) = ap₂ kind_pi (move_type_substituted γ σ A) (kind_substituted (lift σ) K ∙ ap (λ τ. substitute_kind reduce τ (move_kind γ K)) (sym (fun_ext (lift_moved γ σ))))
-  kind_substituted σ star = refl
-
-  single_turned : (a : Rattle.lf.specs.Syntax.Skeleton) (N : Term) (i : ℕ) → move_image γ (single a N i) ≡ single a (move γ N) i
-  single_turned a N zero = refl
-  single_turned a N (suc i) = refl
-
-  kind_instance : (A : LfType) (M : Term) (K : Kind) → move_kind γ (instantiate_kind A M K) ≡ instantiate_kind (move_type γ A) (move γ M) (move_kind γ K)
-  kind_instance A M K = kind_substituted (single (skeleton A) M) K ∙ ap (λ τ. substitute_kind reduce τ (move_kind γ K)) (fun_ext (single_turned (skeleton A) M)) ∙ ap (λ a. substitute_kind reduce (single a (move γ M)) (move_kind γ K)) (sym (skeleton_moved γ A))
-
   -- contexts and what is under them
-  pub over_turned : (D : List LfType) (σ : ℕ → Image) → turned (lift_over D σ) ≡ lift_over D (turned σ)
-  over_turned [] σ = refl
-  over_turned (A ∷ D) σ = sym (fun_ext (lift_moved γ (lift_over D σ))) ∙ ap lift (over_turned D σ)
-
   over_same : (D : List LfType) (σ : ℕ → Image) → lift_over (move_types γ D) σ ≡ lift_over D σ
   over_same [] σ = refl
   over_same (A ∷ D) σ = ap lift (over_same D σ)
 
   pub instance_turned : (D : List LfType) (σ : ℕ → Image) → move_types γ (instance D σ) ≡ instance (move_types γ D) (turned σ)
   instance_turned [] σ = refl
-  instance_turned (A ∷ D) σ = ap₂ (λ B E. B ∷ E) (move_type_substituted γ (lift_over D σ) A ∙ ap (λ τ. substitute_type reduce τ (move_type γ A)) (over_turned D σ ∙ sym (over_same D (turned σ)))) (instance_turned D σ)
+  instance_turned (A ∷ D) σ = ap₂ (λ B E. B ∷ E) (move_type_substituted γ (lift_over D σ) A ∙ ap (λ τ. substitute_type reduce τ (move_type γ A)) (lifts_moved γ D σ ∙ sym (over_same D (turned σ)))) (instance_turned D σ)
 
   binders_turned : (G : List LfType) (T : LfType) → move_types γ (binders G T) ≡ binders (move_types γ G) (move_type γ T)
   binders_turned G (pi A B) = binders_turned (A ∷ G) B
@@ -66,18 +48,6 @@ module _ (γ : ℕ → ℕ) where
   given_turned (A ∷ X) (Some M ∷ Ms) n (suc i) = given_turned X Ms (suc n) i
   given_turned (A ∷ X) (None ∷ Ms) n (suc i) = given_turned X Ms (suc n) i
 
-  given_from : (Ms : List (Option Term)) (i : ℕ) (N : Term) → given_at (move_all γ Ms) i ≡ Some N → (M : Term) × (given_at Ms i ≡ Some M) × (N ≡ move γ M)
-  given_from [] i N e = absurd cc
-  given_from (Some M ∷ Ms) zero N e = (M, refl, sym (some_same e))
-  given_from (None ∷ Ms) zero N e = absurd cc
-  given_from (Some M ∷ Ms) (suc i) N e = given_from Ms i N e
-  given_from (None ∷ Ms) (suc i) N e = given_from Ms i N e
-
-  at_from : (X : List LfType) (i : ℕ) (B : LfType) → TypeAt (move_types γ X) i B → (A : LfType) × TypeAt X i A × (B ≡ move_type γ A)
-  at_from [] i B g = absurd g
-  at_from (A ∷ X) zero B e = (Rattle.lf.specs.Syntax.rename_type suc A, refl, e ∙ sym (move_type_renamed γ suc A))
-  at_from (A ∷ X) (suc i) B (D, g, e) = let (E, h, q) = at_from X i D g in (Rattle.lf.specs.Syntax.rename_type suc E, (E, h, refl), e ∙ ap (Rattle.lf.specs.Syntax.rename_type suc) q ∙ sym (move_type_renamed γ suc E))
-
   module _ (Σ : Signature) (types : (c : ℕ) (A : LfType) → Σ.types c ≡ Some A → Σ.types (γ c) ≡ Some (move_type γ A)) (kinds : (a : ℕ) (K : Kind) → Σ.kinds a ≡ Some K → Σ.kinds a ≡ Some (move_kind γ K)) where
     arguments_turned : (G : List LfType) (Ms : List (Option Term)) (T : Spine) (K : Kind) → TypedArguments Σ G Ms T K → TypedArguments Σ (move_types γ G) (move_all γ Ms) (move_spine γ T) (move_kind γ K)
     arguments_turned G [] nil star h = h
@@ -87,8 +57,8 @@ module _ (γ : ℕ → ℕ) where
     arguments_turned G (None ∷ Ms) nil K h = absurd h
     arguments_turned G (Some M ∷ Ms) (app N T) star h = absurd h
     arguments_turned G (None ∷ Ms) (app N T) star h = absurd h
-    arguments_turned G (Some M ∷ Ms) (app N T) (kind_pi A K) (m, h) = (moved_typed γ Σ Σ types kinds G M A m, subst (TypedArguments Σ (move_types γ G) (move_all γ Ms) (move_spine γ T)) (kind_instance A M K) (arguments_turned G Ms T (instantiate_kind A M K) h))
-    arguments_turned G (None ∷ Ms) (app N T) (kind_pi A K) h = subst (TypedArguments Σ (move_types γ G) (move_all γ Ms) (move_spine γ T)) (kind_instance A N K) (arguments_turned G Ms T (instantiate_kind A N K) h)
+    arguments_turned G (Some M ∷ Ms) (app N T) (kind_pi A K) (m, h) = (moved_typed γ Σ Σ types kinds G M A m, subst (TypedArguments Σ (move_types γ G) (move_all γ Ms) (move_spine γ T)) (move_kind_instance γ A M K) (arguments_turned G Ms T (instantiate_kind A M K) h))
+    arguments_turned G (None ∷ Ms) (app N T) (kind_pi A K) h = subst (TypedArguments Σ (move_types γ G) (move_all γ Ms) (move_spine γ T)) (move_kind_instance γ A N K) (arguments_turned G Ms T (instantiate_kind A N K) h)
 
     -- The lemma
     pub beside_turned : (X L : List LfType) (Ms Ns : List (Option Term)) (T : LfType) (K : Kind) → AreTypedBeside Σ X L Ms Ns T K → AreTypedBeside Σ (move_types γ X) (move_types γ L) (move_all γ Ms) (move_all γ Ns) (move_type γ T) (move_kind γ K)
@@ -96,11 +66,11 @@ module _ (γ : ℕ → ℕ) where
         let g : ℕ → Image = given_images X Ms zero in
         let h : ℕ → Image = given_images (move_types γ X) (move_all γ Ms) zero in
         let same : turned g ≡ h = fun_ext (given_turned X Ms zero) in
-        let under : turned (lift_over (binders [] T) g) ≡ lift_over (binders [] (move_type γ T)) h = over_turned (binders [] T) g ∙ ap (lift_over (binders [] T)) same ∙ sym (over_same (binders [] T) h) ∙ ap (λ D. lift_over D h) (binders_turned [] T) in
+        let under : turned (lift_over (binders [] T) g) ≡ lift_over (binders [] (move_type γ T)) h = lifts_moved γ (binders [] T) g ∙ ap (lift_over (binders [] T)) same ∙ sym (over_same (binders [] T) h) ∙ ap (λ D. lift_over D h) (binders_turned [] T) in
         record {
           given = λ i B N t q.
-              let (A, at, e) = at_from X i B t in
-              let (M, r, z) = given_from Ms i N q in
+              let (A, at, e) = type_from γ X i B t in
+              let (M, r, z) = given_moved γ Ms i N q in
               subst (λ R. HasType Σ (move_types γ X) R (substitute_type reduce h B)) (sym z) (subst (HasType Σ (move_types γ X) (move γ M)) (move_type_substituted γ g A ∙ ap₂ (λ τ Z. substitute_type reduce τ Z) same (sym e)) (moved_typed γ Σ Σ types kinds X M (substitute_type reduce g A) (b.given i A M at r)));
           local = ap (move_types γ) b.local ∙ instance_turned (binders [] T) g ∙ ap₂ instance (binders_turned [] T) same;
           arguments = subst (λ G. TypedArguments Σ G (move_all γ Ns) (substitute_spine reduce (lift_over (binders [] (move_type γ T)) h) (target_arguments (move_type γ T))) (move_kind γ K)) (onto_moved γ L X)

@@ -9,25 +9,27 @@ use Rattle.lf.specs.Subordination.{Block, AreTypedBlocks}
 use Rattle.lf.specs.Extension.{Extends}
 use Rattle.lf_checks.specs.Clause.{Clause, constant_clause, entry_clause}
 use Rattle.lf_cases.specs.Cover.{before}
-use Rattle.lf_cases.specs.Pattern.{Pattern, Origin, IsMeant, of_constant, of_entry}
+use Rattle.lf_cases.specs.Pattern.{Pattern, Origin, IsMeant, of_constant, of_entry, Known}
 use Rattle.lf_coverage.specs.EntryConstants.{with_entries, IsFreeFrom}
 use Rattle.lf_coverage.specs.Leaf.{IsTypedPattern}
+use Rattle.lf_coverage.specs.MeetStore.{IsConstants}
 use Rattle.lf_coverage.specs.MeetsInstance.{HasFirstFor}
-use Rattle.lf_coverage.specs.MeetsTuple.{MeetsAt, SharesTuple, IsGivenBeside, EntriesTupleMeets, TupleMeets, RefutedHasNoTuple, RefutedIsApart}
+use Rattle.lf_coverage.specs.MeetsTuple.{MeetsAt, SharesTuple, IsGivenBeside, EntriesTupleMeets, TupleMeets, RefutedHasNoTuple, RefutedIsApart, ConstantsTupleMeets, RefutedConstantHasNoTuple}
 use Rattle.lf_coverage.specs.NumberedCalls.{HasOwnBlock}
-use Rattle.lf_coverage.specs.NumberedCallsMeeting.{known_of}
+use Rattle.lf_coverage.specs.NumberedCallsMeeting.{known_of, IsKnownFor}
 use Rattle.lf_coverage.specs.NumberedCallsStores.{constant_beside, identified}
 use Rattle.lf_coverage.specs.NumberedCase.{NumberedCase}
 use Rattle.lf_coverage.specs.NumberedMeets.{HasFirst}
 use Rattle.lf_coverage.specs.OwnTerms.{blocks_of}
 use Rattle.lf_coverage.specs.TypedNumbered.{IsTypedNumberedCase}
 use Rattle.lf_coverage.proofs.EntryTermsBesideGiven.{beside_with_all_tried}
-use Rattle.lf_coverage.proofs.MeetsTupleCase.{blocks_stay, instance_here, nothing_given, refuted_meets_none, typed_here}
+use Rattle.lf_coverage.proofs.MeetsTupleCase.{instance_here, nothing_given, refuted_meets_none, typed_here}
 use Rattle.lf_coverage.proofs.MeetsTupleEntries.{IsBeside}
 use Rattle.lf_coverage.proofs.MeetsTupleFront.{outer_values, placed}
 use Rattle.lf_coverage.proofs.MeetsTuplePlaces.{at_any, at_old, given_same}
 use Rattle.lf_coverage.proofs.MeetsTupleTwins.{are_one, is_oldest, oldest_of, stays_beyond}
 use Rattle.lf_coverage.proofs.MeetsTupleWriting.{AreOne}
+use Rattle.lf_coverage.proofs.MovedConstants.{blocks_stay}
 
 module _ (Σ : Signature) (ok : IsSignature Σ) (W : List Block) (first : ℕ) (free : IsFreeFrom Σ first) (C : NumberedCase) (tc : IsTypedNumberedCase Σ first W C) where
   -- An entry's pattern
@@ -103,3 +105,18 @@ refuted_has_no_tuple Σ ok W typed first free C tc p g tp has l K refuted V tV S
 
 pub refuted_is_apart : RefutedIsApart
 refuted_is_apart Σ ok W typed first free C tc p g tp has l K refuted none = record { no_instance = none; no_tuple = refuted_has_no_tuple Σ ok W typed first free C tc p g tp has l K refuted }
+
+-- Of constants, nothing is asked of a block variable.
+first_for_constant : {c : Clause} (o : Origin c) (b : Bool) (C : NumberedCase) → IsConstants o → HasFirstFor o b C
+first_for_constant (of_constant U) b C i = tt
+first_for_constant (of_entry B later E es e) b C i = absurd i
+
+pub constants_tuple_meets : ConstantsTupleMeets
+constants_tuple_meets Σ ok W first free C tc none p tp i l K s = any_meets Σ ok W first free C tc p.origin p.type p.at_first (beside_nothing Σ first C p none) tp (first_for_constant p.origin p.at_first C i) l K s
+
+known_for_constant : {c : Clause} (o : Origin c) (b : Bool) (C : NumberedCase) (θ : ℕ → ℕ → Image) (F : Known) → IsConstants o → IsKnownFor o b C θ F
+known_for_constant (of_constant U) b C θ F i = tt
+known_for_constant (of_entry B later E es e) b C θ F i = absurd i
+
+pub refuted_constant_has_no_tuple : RefutedConstantHasNoTuple
+refuted_constant_has_no_tuple Σ ok W first free C tc none p tp i l K refuted V typed S Σ' x G w F σ T h t = refuted_meets_none Σ first C p K refuted (constants_tuple_meets Σ ok W first free C tc none p tp i l K (record { worlds = V; typed = typed; set = S; extension = Σ'; extends = x; context = G; world = w; known = F; values = σ; tuple = T; holds = h; is_known = known_for_constant p.origin p.at_first C h.instances F i; has = t }))

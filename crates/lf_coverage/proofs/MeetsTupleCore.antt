@@ -33,16 +33,17 @@ use Rattle.lf_coverage.proofs.EntrySignature.{grown_image}
 use Rattle.lf_coverage.proofs.EntryValues.{put_term}
 use Rattle.lf_coverage.proofs.MeetsTupleForms.{store_form}
 use Rattle.lf_coverage.proofs.MeetsTupleLike.{image_fits}
-use Rattle.lf_coverage.proofs.MeetsTupleRead.{term_written, writing_fits}
-use Rattle.lf_coverage.proofs.MeetsTupleRoom.{arguments_turned, places_turned, term_turned, tuple_turned}
+use Rattle.lf_coverage.proofs.MeetsTupleRoom.{places_turned, term_turned, tuple_turned}
 use Rattle.lf_coverage.proofs.MeetsTupleStore.{unified}
 use Rattle.lf_coverage.proofs.MeetsTupleWriting.{AreOne, written_as}
+use Rattle.lf_coverage.proofs.MovedConstants.{arguments_moved}
 use Rattle.lf_coverage.proofs.NumberedArguments.{skeleton_only}
 use Rattle.lf_coverage.proofs.Reading.{IsOld}
 use Rattle.lf_coverage.proofs.WritingGap.{term_moved}
 use Rattle.lf_coverage.proofs.WritingInstance.{entries_extend, own_types}
 use Rattle.lf_coverage.proofs.WritingMove.{moved_image}
 use Rattle.lf_coverage.proofs.WritingMoved.{read_stays, readings_moved}
+use Rattle.lf_coverage.proofs.WritingRead.{term_written, writing_fits}
 use Rattle.lf_coverage.proofs.WritingRoom.{kinds_moved, old_stays, put_moved, room_is_made, types_moved}
 
 -- a moved image that is a variable was it
@@ -115,7 +116,7 @@ module _ (Σ Σ' : Signature) (ok : IsSignature Σ) (V : List Block) (typed : Ar
     }
 
     same₂ : SamePlaces (covered_places C.arguments) (move_spine γ T) (target_arguments (substitute_type reduce τ₂ P))
-    same₂ = subst (SamePlaces (covered_places C.arguments) (move_spine γ T)) (sym (arguments_turned γ (substitute_type reduce τ P)) ∙ ap target_arguments (turned P tp)) (places_turned γ (covered_places C.arguments) T (target_arguments (substitute_type reduce τ P)) same)
+    same₂ = subst (SamePlaces (covered_places C.arguments) (move_spine γ T)) (sym (arguments_moved γ (substitute_type reduce τ P)) ∙ ap target_arguments (turned P tp)) (places_turned γ (covered_places C.arguments) T (target_arguments (substitute_type reduce τ P)) same)
 
     pub met : (Σf : Signature) × Extends nothing (with_entries Σ first (blocks_of C.blocks)) Σf × (H : List LfType) × (β : ℕ → Option Term) × Solution Σf [] (store_form π (identified first π C) K (binders (identified first π C).variables (substitute_type reduce (λ k. move_image δ (φ k)) U)) (quantifiers U) (length (binders [] (substitute_type reduce (lift_over (binders [] U) (λ k. move_image δ (φ k))) P))) (length (identified first π C).local) (substitute_type reduce (lift_over (binders [] U) (λ k. move_image δ (φ k))) P)) H β
     met =
@@ -127,9 +128,9 @@ module _ (Σ Σ' : Signature) (ok : IsSignature Σ) (V : List Block) (typed : Ar
         let t : ImageHasType Σ₁ C.variables (put (skeleton X) N) (substitute_type reduce g X) = subst (λ y. ImageHasType Σ₁ C.variables y (substitute_type reduce g X)) q (tg.typed i X k o) in
         let s : TermSkeleton (constant_skeletons Σ₁) (context_skeletons C.variables) N (skeleton (substitute_type reduce g X)) = typed_has_skeleton Σ₁ C.variables N (substitute_type reduce g X) t.1 in
         let fit : ImageSkeleton (constant_skeletons Σe) (context_skeletons (move_types γ G)) (τ₂ i) (skeleton X) = subst (ImageSkeleton (constant_skeletons Σe) (context_skeletons (move_types γ G)) (τ₂ i)) (skeleton_substituted reduce τ₂ X) (image_fits Σe (move_types γ G) (τ₂ i) (substitute_type reduce τ₂ X) (grown_image Σ₂ Σe (own_types Σ Σ₂ u first C θ₂ σ₂ r) (λ a L e. e) (move_types γ G) (τ₂ i) (substitute_type reduce τ₂ X) (v₂.typed i X k m))) in
-        sym (put_term (constant_skeletons Σe) (context_skeletons (move_types γ G)) (context_skeletons F) ρ (writing_fits Σ Σ₂ u first C θ₂ σ₂ r π F ρ h) (skeleton X) (τ₂ i) fit)
+        sym (put_term (constant_skeletons Σe) (context_skeletons (move_types γ G)) (context_skeletons F) ρ (writing_fits Σ Σ₂ u first C θ₂ σ₂ r F ρ h) (skeleton X) (τ₂ i) fit)
         ∙ ap (substitute reduce ρ) (sym (term_moved γ (skeleton X) (τ i)) ∙ ap (move γ) (alike i X N k m o q) ∙ value_turned N (skeleton (substitute_type reduce g X)) s)
-        ∙ term_written Σ Σ₂ u first C θ₂ σ₂ r π F ρ h N (skeleton (substitute_type reduce g X)) s own
+        ∙ term_written Σ Σ₂ u first C θ₂ σ₂ r F ρ h N (skeleton (substitute_type reduce g X)) s own
         ∙ ap (λ y. as_term (skeleton X) (substitute_image (after ρ σ₂) (move_image δ y))) (sym q) in
         let (H, β, z) = unified Σ Σ₂ u first C θ₂ σ₂ r π one₂ tc F ρ h K (move_spine γ T) held₂ U P O ct tp l used τ₂ v₂ uses same₂ known g tg all φ outer tφ written given in
         (Σe, entries_extend Σ Σ₂ V S (move_types γ G) u first C θ₂ σ₂ r, H, β, z)

@@ -28,10 +28,10 @@ use Rattle.lf_coverage.specs.NumberedInstance.{block_at, first_constant, moved_c
 use Rattle.lf_coverage.specs.OwnTerms.{blocks_of}
 use Rattle.lf_coverage.specs.TypedNumbered.{IsTypedNumberedCase}
 use Rattle.lf_coverage.specs.WritingRoom.{move_image}
-use Rattle.lf_coverage.proofs.MeetsTupleCase.{blocks_stay}
 use Rattle.lf_coverage.proofs.MeetsTupleEntry.{before_is_term, before_is_typed, before_moved, before_value, given_before}
 use Rattle.lf_coverage.proofs.MeetsTupleFront.{placed}
 use Rattle.lf_coverage.proofs.MeetsTupleWriting.{AreOne}
+use Rattle.lf_coverage.proofs.MovedConstants.{blocks_stay}
 use mathlib.Core.Path.{fun_ext}
 
 -- What is known of a pattern's clause beside a case: typed values, given for the clause's own variables; where new block variables come, none.

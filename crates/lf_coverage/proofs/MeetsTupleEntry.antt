@@ -1,7 +1,7 @@
 -- What a block variable of a case gives for what stands before an entry: typed terms, on own terms, which its instance makes those of the instance.
 use Rattle.std.proofs.Common.{◌≡◌, ℕ, zero, suc, ◌+◌, List, [], ◌∷◌, length, refl, sym, ap, ◌∙◌, subst}
 use Rattle.std.specs.Prelude.{Bool, Option, Some}
-use Rattle.lf.specs.Syntax.{constant, Term, Spine, nil, app, LfType, Skeleton, skeleton, weaken}
+use Rattle.lf.specs.Syntax.{constant, Term, Spine, LfType, Skeleton, skeleton, weaken}
 use Rattle.lf.specs.Substitution.{Image, put, substitute_image}
 use Rattle.lf.specs.Eta.{eta_expand}
 use Rattle.lf.specs.Typing.{Signature, TypeAt, IsTypedSubstitution, IsSignature}
@@ -13,10 +13,10 @@ use Rattle.lf.proofs.TypeLaws.{skeleton_renamed}
 use Rattle.lf_cases.specs.Case.{as_term}
 use Rattle.lf_cases.specs.Cover.{before}
 use Rattle.lf_coverage.specs.EntryConstants.{entry_images, with_entries, IsFreeFrom}
-use Rattle.lf_coverage.specs.EntryPatterns.{last_of, but_last, some_images, variable_images}
+use Rattle.lf_coverage.specs.EntryPatterns.{some_images, variable_images}
 use Rattle.lf_coverage.specs.NumberedCallsStores.{Identifies}
 use Rattle.lf_coverage.specs.NumberedCase.{NumberedCase, IsNumberedInstance, value_in}
-use Rattle.lf_coverage.specs.NumberedInstance.{block_at, first_constant, moved_constant, move, move_spine}
+use Rattle.lf_coverage.specs.NumberedInstance.{block_at, first_constant, moved_constant, move_spine}
 use Rattle.lf_coverage.specs.OwnTerms.{blocks_of, own_terms, OnOwnTerms, ImageOnOwnTerms}
 use Rattle.lf_coverage.specs.Reading.{entry_reading}
 use Rattle.lf_coverage.specs.TypedNumbered.{IsTypedNumberedCase}
@@ -26,10 +26,10 @@ use Rattle.lf_coverage.proofs.EntryPatternsNear.{before_images}
 use Rattle.lf_coverage.proofs.EntryPatternsOutside.{some_images_are, variable_is_instance}
 use Rattle.lf_coverage.proofs.EntryPatternsTyped.{typed_at, variable_is_typed}
 use Rattle.lf_coverage.proofs.EntrySignature.{with_entries_is_signature}
-use Rattle.lf_coverage.proofs.MeetsTupleMoved.{entry_moved, images_moved}
+use Rattle.lf_coverage.proofs.IdentifiedConstants.{variable_stays}
+use Rattle.lf_coverage.proofs.MovedConstants.{onto_twice}
 use Rattle.lf_coverage.proofs.NumberedTypedFree.{among_worlds}
 use Rattle.lf_coverage.proofs.Reading.{read_image}
-use mathlib.Core.Path.{fun_ext}
 
 -- the number among all the variables of a block of one that stands before the entry
 abbrev pub before_number : List LfType → ℕ → ℕ
@@ -44,30 +44,11 @@ before_type : (later : List LfType) (E : LfType) (L : List LfType) (j : ℕ) (X 
 before_type [] E L j X g = (weaken X, (X, g, refl), skeleton_renamed suc X)
 before_type (D ∷ later) E L j X g = let (A, h, e) = before_type later E L j X g in (weaken A, (A, h, refl), skeleton_renamed suc A ∙ e)
 
-onto_twice : (xs : List LfType) (E : LfType) (bs X : List LfType) → onto (onto xs (E ∷ bs)) X ≡ onto xs (E ∷ onto bs X)
-onto_twice [] E bs X = refl
-onto_twice (A ∷ xs) E bs X = ap (λ L. A ∷ L) (onto_twice xs E bs X)
-
 -- What a block variable gives are terms.
 entries_put : (m : ℕ) (U : Spine) (O es : List LfType) (η : ℕ → Image) → ((j : ℕ) (A : LfType) → TypeAt O j A → (N : Term) × (η j ≡ put (skeleton A) N)) → (j : ℕ) (A : LfType) → TypeAt (onto es O) j A → (N : Term) × (entry_images m U es η j ≡ put (skeleton A) N)
 entries_put m U O [] η h j A g = h j A g
 entries_put m U O (E ∷ es) η h zero A e = (eta_expand (skeleton E) (constant (m + length es)) U, ap (λ a. put a (eta_expand (skeleton E) (constant (m + length es)) U)) (sym (ap skeleton e ∙ skeleton_renamed suc E)))
 entries_put m U O (E ∷ es) η h (suc j) A (D, g, e) = let (N, q) = entries_put m U O es η h j D g in (N, q ∙ ap (λ a. put a N) (sym (ap skeleton e ∙ skeleton_renamed suc D)))
-
--- the `some` terms, moved
-last_moved : (γ : ℕ → ℕ) (M : Term) (S : Spine) → move γ (last_of M S) ≡ last_of (move γ M) (move_spine γ S)
-last_moved γ M nil = refl
-last_moved γ M (app N S) = last_moved γ N S
-
-others_moved : (γ : ℕ → ℕ) (M : Term) (S : Spine) → move_spine γ (but_last M S) ≡ but_last (move γ M) (move_spine γ S)
-others_moved γ M nil = refl
-others_moved γ M (app N S) = ap (app (move γ M)) (others_moved γ N S)
-
-some_moved : (γ : ℕ → ℕ) (O : List LfType) (U : Spine) (j : ℕ) → move_image γ (some_images O U j) ≡ some_images O (move_spine γ U) j
-some_moved γ [] U j = refl
-some_moved γ (A ∷ O) nil j = refl
-some_moved γ (A ∷ O) (app M U) zero = ap (put (skeleton A)) (last_moved γ M U)
-some_moved γ (A ∷ O) (app M U) (suc j) = some_moved γ O (but_last M U) j ∙ ap (λ V. some_images O V j) (others_moved γ M U)
 
 image_value : (first : ℕ) (C : NumberedCase) (θ : ℕ → ℕ → Image) (σ : ℕ → Image) (a b : Skeleton) (N : Term) (x : Image) → x ≡ put b N → as_term a (substitute_image σ (read_image (entry_reading first (blocks_of C.blocks) θ (length C.variables)) x)) ≡ value_in first C θ σ N
 image_value first C θ σ a b N x e = ap (λ y. as_term a (substitute_image σ (read_image (entry_reading first (blocks_of C.blocks) θ (length C.variables)) y))) e
@@ -116,6 +97,5 @@ module _ (Σ : Signature) (ok : IsSignature Σ) (V : List Block) (typed : AreTyp
   before_moved π i f j =
       let γ : ℕ → ℕ = moved_constant first (blocks_of C.blocks) (blocks_of C.blocks) π in
       ap (move_image γ) (before_is later (variable_images first C.blocks k B U) j)
-      ∙ images_moved γ n n U (some_images B.some U) B.entries (λ l F ds q. entry_moved Σ ok V typed first free C tc.variables π i k (record { block = B; terms = U }) at l F ds q ∙ ap (λ m. first_constant first (blocks_of C.blocks) m + length ds) f) (before_number later j)
-      ∙ ap (λ η. entry_images n (move_spine γ U) B.entries η (before_number later j)) (fun_ext (some_moved γ B.some U))
+      ∙ variable_stays Σ ok V typed first free C tc.variables π i k B U at f (before_number later j)
       ∙ sym (before_is later (entry_images n (move_spine γ U) B.entries (some_images B.some (move_spine γ U))) j)

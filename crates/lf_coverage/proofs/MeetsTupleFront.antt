@@ -1,6 +1,6 @@
 -- What is known of a clause's variables beside a case: the given terms, and what stands outside the clause. A tuple that both have is so a unifier.
-use Rattle.std.proofs.Common.{◌≡◌, ◌<◌, ℕ, zero, suc, ◌+◌, ◌-◌, ◌⊎◌, List, [], ◌∷◌, length, inl, inr, refl, sym, ap, ◌∙◌, subst}
-use Rattle.std.specs.Prelude.{Bool, true, false, cond, Option, Some, None}
+use Rattle.std.proofs.Common.{◌≡◌, ◌<◌, ℕ, ◌+◌, ◌-◌, List, [], length, refl, sym, ap, ◌∙◌, subst}
+use Rattle.std.specs.Prelude.{Bool, true, false, cond, Option, Some}
 use Rattle.lf.specs.Syntax.{Term, Spine, LfType, Kind, Skeleton, skeleton}
 use Rattle.lf.specs.Substitution.{Image, put, substitute_type, reduce}
 use Rattle.lf.specs.Entries.{quantifiers}
@@ -11,7 +11,6 @@ use Rattle.lf.specs.Worlds.{World, lift_over}
 use Rattle.lf.specs.Extension.{Extends}
 use Rattle.lf.proofs.Agreement.{uses_type_within}
 use Rattle.lf.proofs.Partial.{uses_type_all}
-use Rattle.lf.proofs.TypeLaws.{skeleton_renamed}
 use Rattle.lf_unification.specs.Unifiers.{Solution}
 use Rattle.lf_checks.specs.Clause.{scope, outside}
 use Rattle.lf_checks.specs.Ground.{UsesGoal}
@@ -31,37 +30,21 @@ use Rattle.lf_coverage.specs.NumberedArguments.{HasNumberedArguments}
 use Rattle.lf_coverage.specs.NumberedCallsStores.{identified}
 use Rattle.lf_coverage.specs.NumberedCase.{NumberedCase, IsNumberedInstance, value_in}
 use Rattle.lf_coverage.specs.NumberedInstance.{moved_constant}
-use Rattle.lf_coverage.specs.OwnTerms.{blocks_of, own_terms, OnOwnTerms, AllOnOwnTerms}
+use Rattle.lf_coverage.specs.OwnTerms.{blocks_of, own_terms, OnOwnTerms}
 use Rattle.lf_coverage.specs.TypedNumbered.{IsTypedNumberedCase}
 use Rattle.lf_coverage.specs.WritingRoom.{move_image}
 use Rattle.lf_coverage.proofs.Choices.{decided}
 use Rattle.lf_coverage.proofs.EntryPatternsCarried.{out_back, out_type}
-use Rattle.lf_coverage.proofs.EntryPatternsNear.{out_far}
+use Rattle.lf_coverage.proofs.EntryPatternsNear.{out_far, own_near}
+use Rattle.lf_coverage.proofs.EntryTermsBesideGiven.{image_given}
+use Rattle.lf_coverage.proofs.EntryPatternsMoved.{own_given as terms_own}
 use Rattle.lf_coverage.proofs.Forms.{local_has_type}
 use Rattle.lf_coverage.proofs.Leaves.{given_is}
 use Rattle.lf_coverage.proofs.Matched.{given_there}
 use Rattle.lf_coverage.proofs.MeetsTupleCore.{met}
 use Rattle.lf_coverage.proofs.MeetsTupleForms.{store_form}
 use Rattle.lf_coverage.proofs.MeetsTupleWriting.{AreOne}
-use Rattle.lf_coverage.proofs.NearOrFar.{near_or_far}
-use Rattle.lf_coverage.proofs.Parts.{some_same}
 use mathlib.Core.Path.{fun_ext}
-
-own_given : (o : ℕ → Option Spine) (Ms : List (Option Term)) (i : ℕ) (M : Term) → AllOnOwnTerms o Ms → given_at Ms i ≡ Some M → OnOwnTerms o M
-own_given o [] i M a e = absurd cc
-own_given o (Some N ∷ Ms) zero M (n, a) e = subst (OnOwnTerms o) (some_same e) n
-own_given o (None ∷ Ms) zero M a e = absurd cc
-own_given o (Some N ∷ Ms) (suc i) M (n, a) e = own_given o Ms i M a e
-own_given o (None ∷ Ms) (suc i) M a e = own_given o Ms i M a e
-
--- the image of a given term
-given_image : (G : List LfType) (Ms : List (Option Term)) (n i : ℕ) (A : LfType) (M : Term) → TypeAt G i A → given_at Ms i ≡ Some M → given_images G Ms n i ≡ put (skeleton A) M
-given_image [] Ms n i A M g e = absurd g
-given_image (B ∷ G) [] n i A M g e = absurd cc
-given_image (B ∷ G) (Some N ∷ Ms) n zero A M g e = ap (put (skeleton B)) (some_same e) ∙ ap (λ a. put a M) (sym (ap skeleton g ∙ skeleton_renamed suc B))
-given_image (B ∷ G) (None ∷ Ms) n zero A M g e = absurd cc
-given_image (B ∷ G) (Some N ∷ Ms) n (suc i) A M (D, g, q) e = given_image G Ms (suc n) i D M g e ∙ ap (λ a. put a M) (sym (ap skeleton q ∙ skeleton_renamed suc D))
-given_image (B ∷ G) (None ∷ Ms) n (suc i) A M (D, g, q) e = given_image G Ms (suc n) i D M g e ∙ ap (λ a. put a M) (sym (ap skeleton q ∙ skeleton_renamed suc D))
 
 put_same : {a b : Skeleton} {M N : Term} → put a M ≡ put b N → M ≡ N
 put_same e = cc
@@ -98,7 +81,7 @@ outer_values Σ C p X none φ t = record {
     at : (k : ℕ) → beside_values C p φ (out_index p.clause.type k) ≡ φ k
     at k = ap (λ c. cond c (φ (out_index p.clause.type k - quantifiers p.clause.type)) (given_images (scope p.clause) C.given (length C.variables) (out_index p.clause.type k))) (outside_at p.clause.type everything k) ∙ ap φ (out_back p.clause.type k)
 
-module _ (Σ Σ' : Signature) (ok : IsSignature Σ) (V : List Block) (typed : AreTypedBlocks Σ V) (first : ℕ) (free : IsFreeFrom Σ first) (C : NumberedCase) (tc : IsTypedNumberedCase Σ first V C) (S : ℕ → Bool) (x : Extends S Σ Σ') {G : List LfType} (w : World Σ' V S G) (θ : ℕ → ℕ → Image) (σ : ℕ → Image) (inst : IsNumberedInstance w first C θ σ) (π : ℕ → ℕ) (one : AreOne C θ π) (K : Kind) (T : Spine) (held : HasNumberedArguments first C θ σ T) (p : Pattern) (tp : IsTypedPattern Σ p) (l : length C.local ≡ length (binders [] p.type)) (used : ℕ → Bool) (τ : ℕ → Image) (v : Values Σ' used (scope p.clause) G τ) (uses : UsesGoal used (covered_places C.arguments) p.type) (same : SamePlaces (covered_places C.arguments) T (target_arguments (substitute_type reduce τ p.type))) (φ : ℕ → Image) (tφ : IsTypedSubstitution (with_entries Σ first (blocks_of C.blocks)) p.clause.outer C.variables φ) (tg : Values (with_entries Σ first (blocks_of C.blocks)) (known_in C p) (scope p.clause) C.variables (beside_values C p φ)) (outer_terms : (k : ℕ) (X : LfType) → TypeAt p.clause.outer k X → (N : Term) × (φ k ≡ put (skeleton X) N) × OnOwnTerms (own_terms first C.blocks) N × (as_term (skeleton X) (τ (out_index p.clause.type k)) ≡ value_in first C θ σ N)) (given_own : (i : ℕ) → is_given C.given i ≡ true → outside p.clause.type everything i ≡ false) (given_same : (i : ℕ) (M : Term) → used i ≡ true → given_at C.given i ≡ Some M → (a : Skeleton) × (τ i ≡ put a (value_in first C θ σ M))) where
+module _ (Σ Σ' : Signature) (ok : IsSignature Σ) (V : List Block) (typed : AreTypedBlocks Σ V) (first : ℕ) (free : IsFreeFrom Σ first) (C : NumberedCase) (tc : IsTypedNumberedCase Σ first V C) (S : ℕ → Bool) (x : Extends S Σ Σ') {G : List LfType} (w : World Σ' V S G) (θ : ℕ → ℕ → Image) (σ : ℕ → Image) (inst : IsNumberedInstance w first C θ σ) (π : ℕ → ℕ) (one : AreOne C θ π) (K : Kind) (T : Spine) (held : HasNumberedArguments first C θ σ T) (p : Pattern) (tp : IsTypedPattern Σ p) (l : length C.local ≡ length (binders [] p.type)) (used : ℕ → Bool) (τ : ℕ → Image) (v : Values Σ' used (scope p.clause) G τ) (uses : UsesGoal used (covered_places C.arguments) p.type) (same : SamePlaces (covered_places C.arguments) T (target_arguments (substitute_type reduce τ p.type))) (φ : ℕ → Image) (tφ : IsTypedSubstitution (with_entries Σ first (blocks_of C.blocks)) p.clause.outer C.variables φ) (tg : Values (with_entries Σ first (blocks_of C.blocks)) (known_in C p) (scope p.clause) C.variables (beside_values C p φ)) (outer_terms : (k : ℕ) (X : LfType) → TypeAt p.clause.outer k X → (N : Term) × (φ k ≡ put (skeleton X) N) × OnOwnTerms (own_terms first C.blocks) N × (as_term (skeleton X) (τ (out_index p.clause.type k)) ≡ value_in first C θ σ N)) (own_given : (i : ℕ) → is_given C.given i ≡ true → outside p.clause.type everything i ≡ false) (given_same : (i : ℕ) (M : Term) → used i ≡ true → given_at C.given i ≡ Some M → (a : Skeleton) × (τ i ≡ put a (value_in first C θ σ M))) where
   abbrev U : LfType
   U = p.clause.type
 
@@ -126,13 +109,6 @@ module _ (Σ Σ' : Signature) (ok : IsSignature Σ) (V : List Block) (typed : Ar
   no : true ≡ false → ⊥
   no e = cc
 
-  near : (i : ℕ) → outside p.clause.type everything i ≡ false → i < length D
-  near i o = by (near_or_far (length D) i)
-    where
-      by : (i < length D) ⊎ ((j : ℕ) × (i ≡ j + length D)) → i < length D
-      by (inl h) = h
-      by (inr (j, e)) = absurd (no (sym (outside_at p.clause.type everything j) ∙ ap (outside p.clause.type everything) (out_far p.clause.type j ∙ sym e) ∙ o))
-
   terms : (i : ℕ) (X : LfType) → TypeAt (scope p.clause) i X → known_in C p i ≡ true → (N : Term) × (g i ≡ put (skeleton X) N) × OnOwnTerms (own_terms first C.blocks) N × (used i ≡ true → as_term (skeleton X) (τ i) ≡ value_in first C θ σ N)
   terms i X h z = decided (outside p.clause.type everything i) outer own
     where
@@ -146,14 +122,14 @@ module _ (Σ Σ' : Signature) (ok : IsSignature Σ) (V : List Block) (typed : Ar
       own : outside p.clause.type everything i ≡ false → (N : Term) × (g i ≡ put (skeleton X) N) × OnOwnTerms (own_terms first C.blocks) N × (used i ≡ true → as_term (skeleton X) (τ i) ≡ value_in first C θ σ N)
       own o =
           let (M, e) = given_there C.given i (first_of (is_given C.given i) (outside p.clause.type everything i) z o) in
-          (M, own_at i o ∙ given_image (scope p.clause) C.given (length C.variables) i X M h e, own_given (own_terms first C.blocks) C.given i M tc.given_on_own e, λ u. let (a, q) = given_same i M u e in ap (as_term (skeleton X)) q)
+          (M, own_at i o ∙ image_given (scope p.clause) C.given (length C.variables) i X M h e, terms_own (own_terms first C.blocks) C.given i M tc.given_on_own e, λ u. let (a, q) = given_same i M u e in ap (as_term (skeleton X)) q)
 
   given : (i : ℕ) (M : Term) → given_at C.given i ≡ Some M → (i < length (binders [] p.clause.type)) × (known_in C p i ≡ true) × (a : Skeleton) × (g i ≡ put a M)
   given i M e =
-      let o : outside p.clause.type everything i ≡ false = given_own i (given_is C.given i M e) in
-      let l : i < length (binders [] p.clause.type) = near i o in
+      let o : outside p.clause.type everything i ≡ false = own_given i (given_is C.given i M e) in
+      let l : i < length (binders [] p.clause.type) = own_near p.clause.type i o in
       let (X, h) = local_has_type (binders [] p.clause.type) p.clause.outer i l in
-      (l, either_first (is_given C.given i) (outside p.clause.type everything i) (given_is C.given i M e), skeleton X, own_at i o ∙ given_image (scope p.clause) C.given (length C.variables) i X M (subst (λ Z. TypeAt Z i X) (sym scope_is) h) e)
+      (l, either_first (is_given C.given i) (outside p.clause.type everything i) (given_is C.given i M e), skeleton X, own_at i o ∙ image_given (scope p.clause) C.given (length C.variables) i X M (subst (λ Z. TypeAt Z i X) (sym scope_is) h) e)
 
   abbrev δ : ℕ → ℕ
   δ = moved_constant first (blocks_of C.blocks) (blocks_of C.blocks) π

@@ -1,14 +1,13 @@
 -- Values that are the same, as terms, on what a pattern uses make the same of it; and values of one part of a context put into those of another.
 use Rattle.std.proofs.Common.{◌≡◌, ℕ, zero, suc, List, [], ◌∷◌, refl, sym, ap, ◌∙◌, subst}
 use Rattle.std.specs.Prelude.{Bool, true, false}
-use Rattle.lf.specs.Syntax.{Spine, variable, nil, app, LfType, Kind, kind_pi, star, pi, atom, Skeleton, skeleton, rename}
+use Rattle.lf.specs.Syntax.{Spine, nil, app, LfType, Kind, kind_pi, star, pi, atom, Skeleton, skeleton, rename}
 use Rattle.lf.specs.Substitution.{Image, keep, put, lift, rename_image, substitute_spine, substitute_type, reduce}
 use Rattle.lf.specs.SkeletonTyping.{ImageSkeleton, TermSkeleton, SubstitutionBySkeletons}
 use Rattle.lf.specs.Skeletons.{constant_skeletons, context_skeletons}
 use Rattle.lf.specs.Typing.{Signature, TypeAt, ImageHasType, SpineFitsKind, IsTypedSubstitution, IsType, IsContext, IsSignature, instantiate_kind}
 use Rattle.lf.specs.Variables.{target_arguments, under, UsesType, Values}
 use Rattle.lf.proofs.Agreement.{agree_on_type, uses_type_within}
-use Rattle.lf.proofs.Eta.{rename_eta_expand}
 use Rattle.lf.proofs.Patch.{pick}
 use Rattle.lf.proofs.Substitution.{typed_substitution_by_skeletons}
 use Rattle.lf.proofs.SkeletonTyping.{lift_by_skeletons}
@@ -20,14 +19,11 @@ use Rattle.lf_checks.specs.Marks.{SamePlaces, UsesPlaces}
 use Rattle.lf_checks.specs.Tests.{either}
 use Rattle.lf_cases.specs.Case.{as_term}
 use Rattle.lf_coverage.proofs.Carried.{like_term, like_type}
+use Rattle.lf_coverage.proofs.OwnInstance.{moved_term}
 
 pub image_fits : (Σ : Signature) (G : List LfType) (x : Image) (A : LfType) → ImageHasType Σ G x A → ImageSkeleton (constant_skeletons Σ) (context_skeletons G) x (skeleton A)
 image_fits Σ G (keep j) A h = variable_has_skeleton G j A h
 image_fits Σ G (put a N) A (e, n) = (sym e, subst (TermSkeleton (constant_skeletons Σ) (context_skeletons G) N) e (typed_has_skeleton Σ G N A n))
-
-pub term_renamed : (ρ : ℕ → ℕ) (a : Skeleton) (x : Image) → as_term a (rename_image ρ x) ≡ rename ρ (as_term a x)
-term_renamed ρ a (keep i) = sym (rename_eta_expand ρ a (variable i) nil)
-term_renamed ρ a (put b N) = refl
 
 -- Values that are the same on U, as terms
 abbrev pub Alike : List LfType → (ℕ → Bool) → (ℕ → Image) → (ℕ → Image) → Type 0
@@ -37,9 +33,9 @@ alike_under : (O : List LfType) (U : ℕ → Bool) (ω v : ℕ → Image) (A : L
 alike_under O U ω v A h zero X g u = refl
 alike_under O U ω v A h (suc i) X (Y, g, e) u =
     ap (λ a. as_term a (rename_image suc (ω i))) (ap skeleton e ∙ skeleton_renamed suc Y)
-    ∙ term_renamed suc (skeleton Y) (ω i)
+    ∙ moved_term suc (skeleton Y) (ω i)
     ∙ ap (rename suc) (h i Y g u)
-    ∙ sym (term_renamed suc (skeleton Y) (v i))
+    ∙ sym (moved_term suc (skeleton Y) (v i))
     ∙ ap (λ a. as_term a (rename_image suc (v i))) (sym (ap skeleton e ∙ skeleton_renamed suc Y))
 
 module _ (Σ : Signature) where

@@ -24,16 +24,18 @@ use Rattle.lf_cases.proofs.OutputItems.{length_instance, lift_over_far}
 use Rattle.lf_coverage.proofs.Forms.{lift_over_near, local_type, local_has_type}
 use Rattle.lf_coverage.proofs.FreshValues.{Longer, longer, arguments_moved, goal_moved, lift_over_moved, values_moved}
 use Rattle.lf_coverage.proofs.ItemsContext.{instance_context, outer_context}
-use Rattle.lf_coverage.proofs.MeetsTupleLike.{mixed, mixed_goal, mixed_known, mixed_typed, term_renamed}
-use Rattle.lf_coverage.proofs.MeetsTupleWhole.{image_after, image_written, long, whole, whole_goal, whole_typed, whole_used}
+use Rattle.lf_coverage.proofs.MeetsInstanceOutside.{image_put}
+use Rattle.lf_coverage.proofs.MeetsTupleLike.{mixed, mixed_goal, mixed_known, mixed_typed}
+use Rattle.lf_coverage.proofs.MeetsTupleWhole.{image_written, long, whole, whole_goal, whole_typed, whole_used}
 use Rattle.lf_coverage.proofs.Meeting.{joined, joined_far, which_type}
 use Rattle.lf_coverage.proofs.NearOrFar.{near_or_far}
 use Rattle.lf_coverage.proofs.NumberedTuplesFresh.{LongerWritten}
+use Rattle.lf_coverage.proofs.OwnInstance.{moved_term}
 use Rattle.lf_coverage.proofs.WritingBack.{within}
 use mathlib.Core.Path.{fun_ext}
 
 -- the first of two values
-joined_less : (O : List LfType) (σ τ : ℕ → Image) (i : ℕ) → i < length O → joined O σ τ i ≡ σ i
+pub joined_less : (O : List LfType) (σ τ : ℕ → Image) (i : ℕ) → i < length O → joined O σ τ i ≡ σ i
 joined_less [] σ τ i l = absurd (none l)
   where
     none : i < 0 → ⊥
@@ -81,11 +83,11 @@ module _ (Σ : Signature) (ok : IsSignature Σ) (G F : List LfType) (cg : IsCont
   κ1_is i k = ap (rename_image l1.moves) (whole_used Σ ok Q F cq cf ψ tψ (onto D O) cy known g tg i k)
 
   ω_is : (i : ℕ) → used i ≡ true → ω i ≡ rename_image l1.moves (rename_image l0.moves (substitute_image ρ (τ i)))
-  ω_is i u = whole_used Σ ok G l0.written cg l0.is_context ρ0 tρ0 (onto D O) cy used τ v i u ∙ ap (rename_image l1.moves) (sym (image_after l0.moves ρ (τ i)))
+  ω_is i u = whole_used Σ ok G l0.written cg l0.is_context ρ0 tρ0 (onto D O) cy used τ v i u ∙ ap (rename_image l1.moves) (sym (image_put l0.moves ρ (τ i)))
 
   twice : (a : Skeleton) (x y : Image) → as_term a x ≡ as_term a y → as_term a (rename_image l1.moves (rename_image l0.moves x)) ≡ as_term a (rename_image l1.moves (rename_image l0.moves y))
   twice a x y e =
-      term_renamed l1.moves a (rename_image l0.moves x) ∙ ap (rename l1.moves) (term_renamed l0.moves a x ∙ ap (rename l0.moves) e ∙ sym (term_renamed l0.moves a y)) ∙ sym (term_renamed l1.moves a (rename_image l0.moves y))
+      moved_term l1.moves a (rename_image l0.moves x) ∙ ap (rename l1.moves) (moved_term l0.moves a x ∙ ap (rename l0.moves) e ∙ sym (moved_term l0.moves a y)) ∙ sym (moved_term l1.moves a (rename_image l0.moves y))
 
   pub alike1 : (i : ℕ) (X : LfType) → TypeAt (onto D O) i X → used i ≡ true → known i ≡ true → as_term (skeleton X) (ω i) ≡ as_term (skeleton X) (κ1 i)
   alike1 i X h u k = ap (as_term (skeleton X)) (ω_is i u) ∙ twice (skeleton X) (substitute_image ρ (τ i)) (substitute_image ψ (g i)) (alike i X h u k) ∙ ap (as_term (skeleton X)) (sym (κ1_is i k))
@@ -128,9 +130,9 @@ module _ (Σ : Signature) (ok : IsSignature Σ) (G F : List LfType) (cg : IsCont
 
   moved_put : (x : Image) → moved (substitute_image ψ x) ≡ substitute_image case_values x
   moved_put x =
-      ap (λ y. rename_image l2.moves (rename_image l1.moves y)) (image_after l0.moves ψ x)
-      ∙ ap (rename_image l2.moves) (image_after l1.moves (λ i. rename_image l0.moves (ψ i)) x)
-      ∙ image_after l2.moves (λ i. rename_image l1.moves (rename_image l0.moves (ψ i))) x
+      ap (λ y. rename_image l2.moves (rename_image l1.moves y)) (image_put l0.moves ψ x)
+      ∙ ap (rename_image l2.moves) (image_put l1.moves (λ i. rename_image l0.moves (ψ i)) x)
+      ∙ image_put l2.moves (λ i. rename_image l1.moves (rename_image l0.moves (ψ i))) x
 
   pub values_known : (i : ℕ) → i < length D → known i ≡ true → values i ≡ substitute_image case_values (g i)
   values_known i l k = values_near i l ∙ l2_known i k ∙ moved_put (g i)

@@ -31,25 +31,24 @@ use Rattle.lf_coverage.specs.Reading.{read, entry_reading}
 use Rattle.lf_coverage.specs.TypedNumbered.{IsTypedNumberedCase}
 use Rattle.lf_coverage.proofs.EntryPatternsLeaf.{given_read}
 use Rattle.lf_coverage.proofs.EntryPatternsSplits.{new_block_holds_as}
+use Rattle.lf_coverage.proofs.IdentifiedNewBlock.{new_at, same_identified}
 use Rattle.lf_coverage.proofs.ItemsContext.{outer_context}
 use Rattle.lf_coverage.proofs.MeetsTupleCase.{instance_here, typed_here}
 use Rattle.lf_coverage.proofs.MeetsTupleEntries.{IsBeside, entry_unifier}
 use Rattle.lf_coverage.proofs.MeetsTupleFront.{outer_values}
-use Rattle.lf_coverage.proofs.MeetsTupleMoved.{locals_moved}
-use Rattle.lf_coverage.proofs.MeetsTupleNew.{case_same, moved_length, new_at, one_new}
+use Rattle.lf_coverage.proofs.MeetsTupleNew.{one_new}
 use Rattle.lf_coverage.proofs.MeetsTupleRoom.{in_worlds}
 use Rattle.lf_coverage.proofs.MeetsTupleTwins.{are_one, is_oldest, oldest_of, stays_beyond, stays_past}
 use Rattle.lf_coverage.proofs.MeetsTupleWriting.{AreOne}
+use Rattle.lf_coverage.proofs.MovedConstants.{locals_moved, moved_at}
 use Rattle.lf_coverage.proofs.NewInstance.{new_instance_is_of_new_block}
-use Rattle.lf_coverage.proofs.NumberedMeetsMoved.{moved_at}
+use Rattle.lf_coverage.proofs.NumberedSplits.{places_renamed}
 use Rattle.lf_coverage.proofs.OwnStoresNewBlock.{new_block_stays_typed}
 use Rattle.lf_coverage.proofs.Parts.{none_some}
+use Rattle.lf_coverage.proofs.RenamedBlocks.{moved_length}
 use Rattle.lf_coverage.proofs.SameInstance.{instance_unique}
 use Rattle.lf_coverage.proofs.WritingChoice.{choose, choice_sound, choice_complete}
-
-some_among : (later : List LfType) (E : LfType) (ds : List LfType) → among (onto later (E ∷ ds)) zero ≡ true
-some_among [] E ds = refl
-some_among (D ∷ later) E ds = refl
+use Rattle.lf_coverage.proofs.WritingInstance.{some_among}
 
 put_same : {a b : Skeleton} {M N : Term} → put a M ≡ put b N → M ≡ N
 put_same e = cc
@@ -57,11 +56,6 @@ put_same e = cc
 past : (bs : List BlockVariable) → block_at bs (length bs) ≡ None
 past [] = refl
 past (b ∷ bs) = past bs
-
-places_renamed : (ρ : ℕ → ℕ) (Ms : List (Option Term)) → covered_places (rename_all ρ Ms) ≡ covered_places Ms
-places_renamed ρ [] = refl
-places_renamed ρ (Some M ∷ Ms) = ap (λ b. true ∷ b) (places_renamed ρ Ms)
-places_renamed ρ (None ∷ Ms) = ap (λ b. false ∷ b) (places_renamed ρ Ms)
 
 -- the values that a tuple has for given terms
 pub given_same : (Σ : Signature) (first : ℕ) (C : NumberedCase) (p : Pattern) (s : SharesTuple Σ first C p) (i : ℕ) (M : Term) → s.has.used i ≡ true → given_at C.given i ≡ Some M → (a : Skeleton) × (s.has.values i ≡ put a (value_in first C s.holds.instances s.holds.values M))
@@ -129,7 +123,7 @@ module _ (Σ : Signature) (ok : IsSignature Σ) (W : List Block) (first : ℕ) (
       let td : IsTypedNumberedCase Σ first s.worlds (with_new_block B C) = new_block_stays_typed Σ ok V s.typed first free C tcV B member in
       let stays : π n ≡ n = stays_past C θ s.extension s.world at_instance n (past C.blocks) in
       let cb = outer_context Σ B.entries B.some (s.typed B member) in
-      let one₂ : AreOne (with_new_block B C) (with_instance (length C.blocks) φ θ) π = one_new Σ ok V s.typed first free C B cb td.variables π one.identifies (is_oldest C θ) stays θ φ one apart in
+      let one₂ : AreOne (with_new_block B C) (with_instance (length C.blocks) φ θ) π = one_new first C B π one.identifies (is_oldest C θ) stays θ φ one apart in
       let held = (new_block_holds_as Σ s.extension ok s.set s.extends V s.typed first free C tcV B member s.context s.world θ σ s.holds.is_ground φ ρ i inst old).arguments s.tuple s.holds.has_arguments in
       let places : covered_places C.arguments ≡ covered_places (with_new_block B C).arguments = sym (places_renamed (lift_renaming_by (length C.local) (shift_by (length B.some))) C.arguments) in
       let nothing : (with_new_block B C).given ≡ [] = ap (rename_all (shift_by (length B.some))) none in
@@ -142,7 +136,7 @@ module _ (Σ : Signature) (ok : IsSignature Σ) (W : List Block) (first : ℕ) (
       let δ : ℕ → ℕ = moved_constant first (blocks_of (with_new_block B C).blocks) (blocks_of (with_new_block B C).blocks) π in
       let u : HasUnifier (with_entries Σ first (blocks_of (identified first π (with_new_block B C)).blocks)) (meet_store_by_number π (identified first π (with_new_block B C)) p (before later (variable_images first (identified first π (with_new_block B C)).blocks n B (move_spine δ (local_arguments B.some)))) K) = entry_unifier Σ s.extension ok V s.typed first free (with_new_block B C) td s.set s.extends s.world θ₂ ρ inst π one₂ K s.tuple held B later E es e P b tp (length_renumber (shift_by (length B.some)) C.local ∙ l) n (local_arguments B.some) (new_at B C) stays (λ r. absurd (no (sym f ∙ r))) beside s.has.used s.has.values s.has.typed (subst (λ c. UsesGoal s.has.used c P) places s.has.uses) (subst (λ c. SamePlaces c s.tuple (target_arguments (substitute_type reduce s.has.values P))) places s.has.same) (agrees_with (θ₂ n) (o ∙ ap (before later) (sym last))) (λ j M v z. absurd (none_given j M (subst (λ Ms. given_at Ms j ≡ Some M) nothing z))) in
       let J : NumberedCase = with_new_block B (identified first π C) in
-      let u₂ : HasUnifier (with_entries Σ first (blocks_of (with_new_block B (identified first π C)).blocks)) (meet_store_by_number π (with_new_block B (identified first π C)) p (before later (variable_images first (with_new_block B (identified first π C)).blocks n B (move_spine δ (local_arguments B.some)))) K) = subst (λ J. HasUnifier (with_entries Σ first (blocks_of J.blocks)) (meet_store_by_number π J p (before later (variable_images first J.blocks n B (move_spine δ (local_arguments B.some)))) K)) (case_same Σ ok V s.typed first free C B cb td.variables π one.identifies (is_oldest C θ) stays) u in
+      let u₂ : HasUnifier (with_entries Σ first (blocks_of (with_new_block B (identified first π C)).blocks)) (meet_store_by_number π (with_new_block B (identified first π C)) p (before later (variable_images first (with_new_block B (identified first π C)).blocks n B (move_spine δ (local_arguments B.some)))) K) = subst (λ J. HasUnifier (with_entries Σ first (blocks_of J.blocks)) (meet_store_by_number π J p (before later (variable_images first J.blocks n B (move_spine δ (local_arguments B.some)))) K)) (same_identified first C B π one.identifies stays Σ free cb) u in
       let count : n ≡ length (identified first π C).blocks = sym (moved_length γ C.blocks) in
       let u₃ : HasUnifier (with_entries Σ first (blocks_of (with_new_block B (identified first π C)).blocks)) (meet_store_by_number π (with_new_block B (identified first π C)) p (before later (variable_images first (with_new_block B (identified first π C)).blocks (length (identified first π C).blocks) B (local_arguments B.some))) K) = subst (λ k. HasUnifier (with_entries Σ first (blocks_of J.blocks)) (meet_store_by_number π J p (before later (variable_images first J.blocks k B (local_arguments B.some))) K)) count (subst (λ U. HasUnifier (with_entries Σ first (blocks_of J.blocks)) (meet_store_by_number π J p (before later (variable_images first J.blocks n B U)) K)) (locals_moved δ B.some) u₂) in
       record {

@@ -1,11 +1,10 @@
 -- Tuples, values and arguments of patterns whose constants move to where there is room for entries.
-use Rattle.std.proofs.Common.{◌≡◌, ℕ, suc, List, [], ◌∷◌, inl, inr, refl, sym, ap, ◌∙◌, subst}
+use Rattle.std.proofs.Common.{◌≡◌, ℕ, suc, List, [], ◌∷◌, inl, inr, sym, ap, ◌∙◌, subst}
 use Rattle.std.specs.Prelude.{Bool, true, false, Option, Some, None}
-use Rattle.lf.specs.Syntax.{Term, Spine, lambda, nil, app, LfType, pi, atom, Skeleton}
-use Rattle.lf.specs.Substitution.{Image, lift, substitute, reduce}
+use Rattle.lf.specs.Syntax.{Term, Spine, lambda, nil, app, LfType, Skeleton}
+use Rattle.lf.specs.Substitution.{Image, substitute, reduce}
 use Rattle.lf.specs.SkeletonTyping.{HeadSkeletons, TermSkeleton}
 use Rattle.lf.specs.Typing.{Signature}
-use Rattle.lf.specs.Variables.{target_arguments}
 use Rattle.lf.specs.Subordination.{Block, Member}
 use Rattle.lf.specs.Worlds.{World, OpenInstance, no_variables, single_variable, whole_instance, begin_instance, next_entry, single_beside, lift_over}
 use Rattle.lf_checks.specs.Marks.{SamePlaces}
@@ -14,14 +13,14 @@ use Rattle.lf_cases.specs.Cover.{InstanceIn, InstanceBefore}
 use Rattle.lf_coverage.specs.Heads.{HaveSkeletons}
 use Rattle.lf_coverage.specs.NumberedArguments.{read_over, read_all}
 use Rattle.lf_coverage.specs.NumberedCase.{AreTypedBlockVariables, AreInstances}
-use Rattle.lf_coverage.specs.NumberedInstance.{move, move_spine, move_type}
+use Rattle.lf_coverage.specs.NumberedInstance.{move, move_spine}
 use Rattle.lf_coverage.specs.OwnTerms.{BlockVariable}
 use Rattle.lf_coverage.specs.Reading.{read}
 use Rattle.lf_coverage.specs.WritingRoom.{move_image}
+use Rattle.lf_coverage.proofs.MovedConstants.{lifts_moved}
 use Rattle.lf_coverage.proofs.Parts.{lambda_same}
 use Rattle.lf_coverage.proofs.Reading.{OnlyConstants}
-use Rattle.lf_coverage.proofs.WritingMove.{lift_moved, move_substituted, same_moved}
-use mathlib.Core.Path.{fun_ext}
+use Rattle.lf_coverage.proofs.WritingMove.{move_substituted, same_moved}
 
 -- An instance in a context is of one of its worlds' blocks.
 mutual
@@ -41,11 +40,6 @@ pub blocks_here : {Σ' : Signature} {V : List Block} {S : ℕ → Bool} {G : Lis
 blocks_here w Σ W X o f σ θ k [] t i = tt
 blocks_here w Σ W X o f σ θ k (b ∷ bs) (m, s, p, t) (i, e, is) = (in_worlds w b.block (θ k) i, s, p, blocks_here w Σ W X o f σ θ (suc k) bs t is)
 
--- values under binders, with other constants
-lift_over_turned : (γ : ℕ → ℕ) (L : List LfType) (σ : ℕ → Image) → (λ i. move_image γ (lift_over L σ i)) ≡ lift_over L (λ i. move_image γ (σ i))
-lift_over_turned γ [] σ = refl
-lift_over_turned γ (A ∷ L) σ = fun_ext (λ i. sym (lift_moved γ (lift_over L σ) i)) ∙ ap lift (lift_over_turned γ L σ)
-
 pub places_turned : (γ : ℕ → ℕ) (b : List Bool) (T S : Spine) → SamePlaces b T S → SamePlaces b (move_spine γ T) (move_spine γ S)
 places_turned γ [] nil nil s = tt
 places_turned γ [] nil (app N S) s = absurd s
@@ -55,10 +49,6 @@ places_turned γ (x ∷ b) (app M T) nil s = absurd s
 places_turned γ (true ∷ b) (app M T) (app N S) (e, s) = (ap (move γ) e, places_turned γ b T S s)
 places_turned γ (false ∷ b) (app M T) (app N S) s = places_turned γ b T S s
 
-pub arguments_turned : (γ : ℕ → ℕ) (A : LfType) → target_arguments (move_type γ A) ≡ move_spine γ (target_arguments A)
-arguments_turned γ (pi A B) = arguments_turned γ B
-arguments_turned γ (atom a S) = refl
-
 -- The terms and the tuple of a case
 module _ (γ : ℕ → ℕ) (P : ℕ → Type 0) (f : ℕ → Option (ℕ × ℕ)) (stays : (c : ℕ) → P c → f c ≡ None → γ c ≡ c) where
   read_over_stays : (L : List LfType) (M : Term) → OnlyConstants P M → move γ (read (read_over L f) M) ≡ read (read_over L f) M
@@ -66,7 +56,7 @@ module _ (γ : ℕ → ℕ) (P : ℕ → Type 0) (f : ℕ → Option (ℕ × ℕ
   read_over_stays (A ∷ L) M m = lambda_same (read_over_stays L (lambda M) m)
 
   pub term_turned : (L : List LfType) (σ : ℕ → Image) (M : Term) → OnlyConstants P M → move γ (substitute reduce (lift_over L σ) (read (read_over L f) M)) ≡ substitute reduce (lift_over L (λ i. move_image γ (σ i))) (read (read_over L f) M)
-  term_turned L σ M m = move_substituted γ (lift_over L σ) (read (read_over L f) M) ∙ ap (λ k. substitute reduce k (move γ (read (read_over L f) M))) (lift_over_turned γ L σ) ∙ ap (substitute reduce (lift_over L (λ i. move_image γ (σ i)))) (read_over_stays L M m)
+  term_turned L σ M m = move_substituted γ (lift_over L σ) (read (read_over L f) M) ∙ ap (λ k. substitute reduce k (move γ (read (read_over L f) M))) (lifts_moved γ L σ) ∙ ap (substitute reduce (lift_over L (λ i. move_image γ (σ i)))) (read_over_stays L M m)
 
   pub tuple_turned : (L : List LfType) (σ : ℕ → Image) (Ms : List (Option Term)) (T : Spine) (κ : HeadSkeletons) (Δ : List Skeleton) → ((M : Term) (t : Skeleton) → TermSkeleton κ Δ M t → OnlyConstants P M) → HaveSkeletons κ Δ Ms → HasArguments (lift_over L σ) (read_all (read_over L f) Ms) T → HasArguments (lift_over L (λ i. move_image γ (σ i))) (read_all (read_over L f) Ms) (move_spine γ T)
   tuple_turned L σ [] nil κ Δ only s a = tt

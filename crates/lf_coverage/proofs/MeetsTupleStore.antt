@@ -41,20 +41,22 @@ use Rattle.lf_coverage.specs.WritingLaws.{IsInstanceWithRoom}
 use Rattle.lf_coverage.specs.WritingRoom.{move_image}
 use Rattle.lf_coverage.proofs.EntryPatternsNear.{binders_count}
 use Rattle.lf_coverage.proofs.EntrySignature.{grown_contexts, grown_image}
+use Rattle.lf_coverage.proofs.IdentifiedConstants.{kinds_stay, old_stays, types_stay}
 use Rattle.lf_coverage.proofs.Meeting.{open_length, solves_both}
 use Rattle.lf_coverage.proofs.MeetsTupleForms.{all_renamed, block_from, given_from, places_stay, store_form, terms_to}
-use Rattle.lf_coverage.proofs.MeetsTupleMoved.{kinds_moved, length_moved, old_stays, types_moved}
 use Rattle.lf_coverage.proofs.MeetsTupleParts as parts
 use Rattle.lf_coverage.proofs.MeetsTuplePattern.{case_values, last, l2, put_typed, spine_same as same_spines, tuple, tuple_of_case, tuple_of_pattern, values, values_context, values_far, values_known, values_typed}
-use Rattle.lf_coverage.proofs.MeetsTupleRead.{arguments_written}
-use Rattle.lf_coverage.proofs.MeetsTupleReadTyped.{more_context}
-use Rattle.lf_coverage.proofs.MeetsTupleSolving.{case_places, filling, given_solved, identity_solved, instance_is_typed, moves, pattern_filled}
-use Rattle.lf_coverage.proofs.MeetsTupleWriting.{AreOne, WritesAs}
-use Rattle.lf_coverage.proofs.NumberedTuples.{binders_put}
+use Rattle.lf_coverage.proofs.MeetsTupleSolving.{filling, identity_solved, instance_is_typed, pattern_filled, fits, stands}
+use Rattle.lf_coverage.proofs.MeetsTupleWriting.{AreOne}
+use Rattle.lf_coverage.proofs.MovedConstants.{length_moved}
+use Rattle.lf_coverage.proofs.NumberedTuplesWritten.{binders_put}
 use Rattle.lf_coverage.proofs.Parts.{some_same}
+use Rattle.lf_coverage.proofs.PlacesSolved.{case_places, given_solved, past_skeletons}
 use Rattle.lf_coverage.proofs.WritingGap.{same_old}
 use Rattle.lf_coverage.proofs.WritingInstance.{own_types}
 use Rattle.lf_coverage.proofs.WritingMove.{move_type_substituted, moved_image}
+use Rattle.lf_coverage.proofs.WritingRead.{arguments_written, WritesAs}
+use Rattle.lf_coverage.proofs.WritingReadTyped.{more_context}
 use mathlib.Core.Path.{fun_ext}
 
 module _ (Σ Σ' : Signature) {W : List Block} {S : ℕ → Bool} {G : List LfType} (w : World Σ' W S G) (first : ℕ) (C : NumberedCase) (θ : ℕ → ℕ → Image) (σ : ℕ → Image) (r : IsInstanceWithRoom Σ w first C θ σ) (π : ℕ → ℕ) (one : AreOne C θ π) (tc : IsTypedNumberedCase Σ first W C) (F : List LfType) (ρ : ℕ → Image) (h : WritesAs Σ' first (blocks_of C.blocks) θ (moved_constant first (blocks_of C.blocks) (blocks_of C.blocks) π) G F ρ) (K : Kind) (T : Spine) (held : HasArguments (lift_over C.local σ) (read_all (read_over C.local (entry_reading first (blocks_of C.blocks) θ (length C.variables))) C.arguments) T) where
@@ -115,7 +117,7 @@ module _ (Σ Σ' : Signature) {W : List Block} {S : ℕ → Bool} {G : List LfTy
     grown = record { typed = λ i A k u. grown_image Σ' Σe (own_types Σ Σ' w first C θ σ r) (λ a L e. e) G (τ i) (substitute_type reduce τ A) (v.typed i A k u); closed = v.closed }
 
     image_moved : (x : Image) (A : LfType) → ImageHasType Σ₁ C.variables x A → ImageHasType Σe Q (move_image γ x) (move_type γ A)
-    image_moved x A t = grown_image Σ₁ Σe more r.extends.kinds_stay Q (move_image γ x) (move_type γ A) (moved_image γ Σ₁ Σ₁ (types_moved Σ r.signature W r.blocks first r.free C r.variables π one.identifies) (kinds_moved Σ r.signature W r.blocks first r.free C r.variables π one.identifies) C.variables x A t)
+    image_moved x A t = grown_image Σ₁ Σe more r.extends.kinds_stay Q (move_image γ x) (move_type γ A) (moved_image γ Σ₁ Σ₁ (types_stay Σ r.signature W r.blocks first r.free C r.variables π one.identifies) (kinds_stay Σ r.signature W r.blocks first r.free C r.variables π one.identifies) C.variables x A t)
 
     tg₂ : Values (with_entries Σ' first (blocks_of C.blocks)) known (onto (binders [] U) O) Q g₂
     tg₂ = record {
@@ -134,7 +136,7 @@ module _ (Σ Σ' : Signature) {W : List Block} {S : ℕ → Bool} {G : List LfTy
     outer₂ k = ap (move_image γ) (outer k)
 
     cg : IsContext (with_entries Σ' first (blocks_of C.blocks)) G
-    cg = more_context Σ Σ' w first C θ σ r π F ρ h
+    cg = more_context Σ Σ' w first C θ σ r F ρ h
 
     abbrev X : List LfType
     X = onto (instance (binders [] U) φ₂) Q
@@ -182,7 +184,7 @@ module _ (Σ Σ' : Signature) {W : List Block} {S : ℕ → Bool} {G : List LfTy
     bs = rename_blocks (shift_by n) (move_blocks γ C.blocks)
 
     to_store : RenamingBySkeletons (context_skeletons Q) (context_skeletons X) (shift_by n)
-    to_store = moves Σe ok (instance D φ₂) Q H cx ch χ tχ ψ far
+    to_store = past_skeletons (instance D φ₂) Q
 
     identities : SolvesAll μ β (identity_equations π bs zero bs)
     identities = identity_solved Σe ok X H cx ch χ tχ π bs zero bs each
@@ -207,7 +209,7 @@ module _ (Σ Σ' : Signature) {W : List Block} {S : ℕ → Bool} {G : List LfTy
             )
 
     givens : SolvesAll μ β (given_equations X zero (rename_all (shift_by n) (move_all γ C.given)))
-    givens = given_solved Σe ok X H cx ch χ tχ (rename_all (shift_by n) (move_all γ C.given)) zero (all_renamed (constant_skeletons Σe) (context_skeletons Q) (context_skeletons X) (shift_by n) to_store (move_all γ C.given) (arguments_fit [] C.given tc.given)) each
+    givens = given_solved Σe X H χ (filling Σe ok X H cx ch χ tχ) (fits Σe ok X H cx ch χ tχ) (stands Σe ok X H cx ch χ tχ) (rename_all (shift_by n) (move_all γ C.given)) zero (all_renamed (constant_skeletons Σe) (context_skeletons Q) (context_skeletons X) (shift_by n) to_store (move_all γ C.given) (arguments_fit [] C.given tc.given)) each
       where
         none : (i : ℕ) → i + zero ≡ i
         none i = omega arith
@@ -233,9 +235,9 @@ module _ (Σ Σ' : Signature) {W : List Block} {S : ℕ → Bool} {G : List LfTy
     places =
         let V : Spine = tuple Σe ok G F cg h.context ρ h.typed D O cy used τ grown Q cq (after ρ σ) tψ known g₂ tg₂ all φ₂ outer₂ tφ₂ alike C.local T in
         let b : List Bool = covered_places C.arguments in
-        case_places Σe ok (instance D φ₂) Q H cx ch χ tχ ψ far C.local (open_locals (binders [] PT)) (open_length (binders [] PT) ∙ sym lp) (move_all γ C.arguments) (open_spine (length (binders [] PT)) (target_arguments PT)) V K
+        case_places Σe (instance D φ₂) Q H χ (filling Σe ok X H cx ch χ tχ) (fits Σe ok X H cx ch χ tχ) (stands Σe ok X H cx ch χ tχ) ψ far C.local (open_locals (binders [] PT)) (open_length (binders [] PT) ∙ sym lp) (move_all γ C.arguments) (open_spine (length (binders [] PT)) (target_arguments PT)) V K
         (arguments_fit C.local C.arguments tc.arguments)
-        (tuple_of_case Σe ok G F cg h.context ρ h.typed D O cy used τ grown Q cq (after ρ σ) tψ known g₂ tg₂ all φ₂ outer₂ tφ₂ alike C.local (move_all γ C.arguments) T (arguments_written Σ Σ' w first C θ σ r π F ρ h C.local C.arguments T tc.arguments tc.arguments_on_own held))
+        (tuple_of_case Σe ok G F cg h.context ρ h.typed D O cy used τ grown Q cq (after ρ σ) tψ known g₂ tg₂ all φ₂ outer₂ tφ₂ alike C.local (move_all γ C.arguments) T (arguments_written Σ Σ' w first C θ σ r F ρ h C.local C.arguments T tc.arguments tc.arguments_on_own held))
         (subst (λ c. SamePlaces c V (fill_spine μ (under_locals (open_locals (binders [] PT)) β) (open_spine (length (binders [] PT)) (target_arguments PT)))) (sym (places_stay γ C.arguments)) (subst (SamePlaces b V) (sym (pattern_filled Σe ok X H cx ch χ tχ PT pt)) (tuple_of_pattern Σe ok G F cg h.context ρ h.typed D O cy used τ grown Q cq (after ρ σ) tψ known g₂ tg₂ all φ₂ outer₂ tφ₂ alike b P C.local T (growth_keeps_types Σ Σe own_more r.extends.kinds_stay (onto D O) P tp) l uses same)))
 
     solved : Solution (with_entries Σ' first (blocks_of C.blocks)) [] (store_form π (identified first π C) K X n (length C.local) (length C.local) PT) H β

@@ -8,7 +8,7 @@ use Rattle.lf.specs.Skeletons.{constant_skeletons, context_skeletons, family_ske
 use Rattle.lf.specs.Typing.{Signature, IsTypedSubstitution, IsType, IsContext, IsSignature}
 use Rattle.lf.specs.Variables.{target_arguments, binders, Values}
 use Rattle.lf.specs.Worlds.{lift_over}
-use Rattle.lf.proofs.Renaming.{reduction_is_natural, rename_substituted, substitute_renamed}
+use Rattle.lf.proofs.Renaming.{substitute_renamed}
 use Rattle.lf.proofs.SkeletonTypes.{substitutions_compose_type}
 use Rattle.lf.proofs.Substitution.{typed_substitution_by_skeletons}
 use Rattle.lf.proofs.ToSkeletons.{type_by_skeletons}
@@ -16,8 +16,9 @@ use Rattle.lf_checks.specs.Ground.{UsesGoal}
 use Rattle.lf_checks.specs.Marks.{SamePlaces}
 use Rattle.lf_coverage.proofs.Forms.{lift_same}
 use Rattle.lf_coverage.proofs.FreshValues.{goal_moved}
-use Rattle.lf_coverage.proofs.NumberedTuples.{binders_put, goal_put}
+use Rattle.lf_coverage.proofs.MeetsInstanceOutside.{image_put}
 use Rattle.lf_coverage.proofs.NumberedTuplesFresh.{LongerWritten, longer_written, spine_both}
+use Rattle.lf_coverage.proofs.NumberedTuplesWritten.{binders_put, goal_put}
 use Rattle.lf_coverage.proofs.WritingTyped.{typed_after}
 use mathlib.Core.Path.{fun_ext}
 
@@ -25,10 +26,6 @@ use mathlib.Core.Path.{fun_ext}
 pub image_written : (f : ℕ → ℕ) (k : ℕ → Image) (x : Image) → substitute_image k (rename_image f x) ≡ substitute_image (λ i. k (f i)) x
 image_written f k (keep i) = refl
 image_written f k (put a N) = ap (put a) (substitute_renamed reduce k f N)
-
-pub image_after : (f : ℕ → ℕ) (k : ℕ → Image) (x : Image) → rename_image f (substitute_image k x) ≡ substitute_image (λ i. rename_image f (k i)) x
-image_after f k (keep i) = refl
-image_after f k (put a N) = ap (put a) (rename_substituted reduce reduction_is_natural f k N)
 
 -- The typed values of a longer context that are written, over what they are written over
 module _ (Σ : Signature) (ok : IsSignature Σ) (G F : List LfType) (cg : IsContext Σ G) (cf : IsContext Σ F) (ρ : ℕ → Image) (tρ : IsTypedSubstitution Σ G F ρ) (Y : List LfType) (cy : IsContext Σ Y) (U : ℕ → Bool) (τ : ℕ → Image) (v : Values Σ U Y G τ) where
@@ -46,7 +43,7 @@ module _ (Σ : Signature) (ok : IsSignature Σ) (G F : List LfType) (cg : IsCont
       ap (substitute_image long.writes) (sym (long.long.same i u))
       ∙ image_written long.long.moves long.writes (τ i)
       ∙ ap (λ k. substitute_image k (τ i)) (fun_ext long.same)
-      ∙ sym (image_after long.moves ρ (τ i))
+      ∙ sym (image_put long.moves ρ (τ i))
 
   -- and what a pattern has, written
   pub whole_goal : (b : List Bool) (P : LfType) (L : List LfType) (T : Spine) → IsType Σ Y P → length L ≡ length (binders [] P) → UsesGoal U b P → SamePlaces b T (target_arguments (substitute_type reduce τ P)) → SamePlaces b (rename_spine (lift_renaming_by (length L) long.moves) (substitute_spine reduce (lift_over L ρ) T)) (target_arguments (substitute_type reduce whole P))

@@ -1,12 +1,12 @@
 -- Each ground instance can be written, also where block variables stand for one instance: its entries are the constants of the one that stays itself.
-use Rattle.std.proofs.Common.{◌≡◌, ℕ, zero, List, [], ◌∷◌, ◌+◌, length, Option, Some, refl, sym, ap, ◌∙◌, subst, arith}
+use Rattle.std.proofs.Common.{◌≡◌, ℕ, zero, List, ◌+◌, length, Option, Some, refl, sym, ap, ◌∙◌, subst, arith}
 use Rattle.std.specs.Prelude.{Bool, true, false}
 use Rattle.lf.specs.Syntax.{constant, LfType, base, skeleton, root, nil}
 use Rattle.lf.specs.Substitution.{Image, keep, put, substitute_spine, substitute_image, reduce, after}
 use Rattle.lf.specs.Eta.{eta_expand}
 use Rattle.lf.specs.SkeletonTyping.{SubstitutionBySkeletons}
 use Rattle.lf.specs.Skeletons.{constant_skeletons, context_skeletons}
-use Rattle.lf.specs.Typing.{Signature, IsTypedSubstitution, IsContext}
+use Rattle.lf.specs.Typing.{Signature, IsTypedSubstitution}
 use Rattle.lf.specs.Variables.{onto, same_number}
 use Rattle.lf.specs.Subordination.{Block}
 use Rattle.lf.specs.Worlds.{World}
@@ -19,7 +19,7 @@ use Rattle.lf_cases.proofs.Instances.{instance_typed}
 use Rattle.lf_coverage.specs.EntryConstants.{EntryConstant, entry_constant, entry_constant_type, entry_images, with_entries}
 use Rattle.lf_coverage.specs.NumberedCallsStores.{Identifies}
 use Rattle.lf_coverage.specs.NumberedCase.{NumberedCase, some_spine}
-use Rattle.lf_coverage.specs.NumberedInstance.{block_at, first_constant, moved_constant}
+use Rattle.lf_coverage.specs.NumberedInstance.{block_at, first_constant, moved_constant, moved_entry}
 use Rattle.lf_coverage.specs.OwnTerms.{BlockVariable, blocks_of}
 use Rattle.lf_coverage.specs.WritingLaws.{IsInstanceWithRoom}
 use Rattle.lf_coverage.proofs.BeforeEntry.{behind_after}
@@ -28,7 +28,8 @@ use Rattle.lf_coverage.proofs.EntryValues.{put_some}
 use Rattle.lf_coverage.proofs.SameInstance.{instance_unique}
 use Rattle.lf_coverage.proofs.WritingBuild.{Result, build}
 use Rattle.lf_coverage.proofs.WritingChoice.{choose, HasConstants, from_is, choice_sound, choice_complete}
-use Rattle.lf_coverage.proofs.WritingInstance.{instance_at, entry_has_type, own_types, written_signature, blocks_more}
+use Rattle.lf_coverage.proofs.WritingInstance.{instance_at, entry_has_type, own_types, written_signature, blocks_more, some_among}
+use Rattle.lf_coverage.proofs.WritingRead.{WritesAs}
 use Rattle.lf_coverage.proofs.WritingTyped.{HaveTypes, behind_typed}
 use Rattle.lf_coverage.proofs.WritingValues.{AreWritten, terms_behind, written_at}
 use mathlib.Core.Path.{fun_ext}
@@ -38,16 +39,6 @@ pub record AreOne (C : NumberedCase) (θ : ℕ → ℕ → Image) (π : ℕ → 
   pub identifies : Identifies C π
   pub same : (k : ℕ) (b : BlockVariable) → block_at C.blocks k ≡ Some b → θ (π k) ≡ θ k
   pub only : (j k : ℕ) (b c : BlockVariable) → block_at C.blocks j ≡ Some b → block_at C.blocks k ≡ Some c → among b.block.entries zero ≡ true → c.block ≡ b.block → (v : ℕ) → θ j zero ≡ keep v → θ k zero ≡ keep v → π j ≡ π k
-
--- ρ writes terms of G over F: an entry of an instance is the constant that its own moves to by γ, on the instance's `some` terms.
-pub record WritesAs (Σ : Signature) (first : ℕ) (Bs : List Block) (θ : ℕ → ℕ → Image) (γ : ℕ → ℕ) (G F : List LfType) (ρ : ℕ → Image) : Type 0 where
-  pub context : IsContext (with_entries Σ first Bs) F
-  pub typed : IsTypedSubstitution (with_entries Σ first Bs) G F ρ
-  pub entries : (c : ℕ) (e : EntryConstant) → entry_constant zero first Bs c ≡ Some e → (v : ℕ) → θ e.number e.place ≡ keep v → ρ v ≡ put (skeleton e.entry) (eta_expand (skeleton e.entry) (constant (γ c)) (substitute_spine reduce ρ (some_spine e.block.some (behind_entries e.block.entries (θ e.number)))))
-
-some_among : (later : List LfType) (E : LfType) (ds : List LfType) → among (onto later (E ∷ ds)) zero ≡ true
-some_among [] E ds = refl
-some_among (D ∷ later) E ds = refl
 
 -- an instance, for a block variable that stays itself
 abbrev only_if : Bool → (ℕ → Image) → ℕ → Image
@@ -116,7 +107,7 @@ module _ (Σ Σ' : Signature) {W : List Block} {S : ℕ → Bool} {G : List LfTy
       let (j', b', h, x, y, stays) = chosen_is b.block (θ (zero + j)) i a m z in
       let goes : j' ≡ π j = sym stays ∙ sym (one.only j j' b b' at h.at a (sym x) u (ap (λ k. θ k zero) (sym (left j)) ∙ f) (ap (λ k. θ k zero) (sym (left j')) ∙ ap (λ φ. φ zero) (sym y) ∙ f)) in
       let mf : m ≡ first_constant first (blocks_of C.blocks) (π e.number) = h.from ∙ ap (first_constant first (blocks_of C.blocks)) (goes ∙ ap π (sym (num ∙ left j))) in
-      let moved : m + length e.before ≡ moved_constant first (blocks_of C.blocks) (blocks_of C.blocks) π c = ap (λ k. k + length e.before) mf ∙ ap (Rattle.lf_coverage.specs.NumberedInstance.moved_entry first (blocks_of C.blocks) π c) (sym q) in
+      let moved : m + length e.before ≡ moved_constant first (blocks_of C.blocks) (blocks_of C.blocks) π c = ap (λ k. k + length e.before) mf ∙ ap (moved_entry first (blocks_of C.blocks) π c) (sym q) in
       let w0 : AreWritten m b.block.some b.block.entries (after result.written.values (θ (zero + j))) = result.chosen b.block (θ (zero + j)) i m z in
       let U = terms_behind b.block.some b.block.entries (after result.written.values (θ (zero + j))) in
       sym (ap (substitute_image result.written.values) (ap (λ k. θ k (place_of later)) (sym num) ∙ ap (θ e.number) (sym pl) ∙ p))
@@ -127,4 +118,4 @@ module _ (Σ Σ' : Signature) {W : List Block} {S : ℕ → Bool} {G : List LfTy
       ∙ ap (λ V. put (skeleton e.entry) (eta_expand (skeleton e.entry) (constant (moved_constant first (blocks_of C.blocks) (blocks_of C.blocks) π c)) V)) (terms_written b.block (θ (zero + j)) i ∙ ap (λ k. substitute_spine reduce result.written.values (some_spine b.block.some (behind_entries b.block.entries (θ k)))) (sym num) ∙ ap (λ (D : Block). substitute_spine reduce result.written.values (some_spine D.some (behind_entries D.entries (θ e.number)))) (sym blk))
 
   pub written_as : (F : List LfType) × (ρ : ℕ → Image) × WritesAs Σ' first (blocks_of C.blocks) θ (moved_constant first (blocks_of C.blocks) (blocks_of C.blocks) π) G F ρ
-  written_as = (result.written.left, result.written.values, record { context = result.written.context; typed = result.written.typed; entries = entries })
+  written_as = (result.written.left, result.written.values, record { context = result.written.context; typed = result.written.typed; entries = entries; others_stay = λ c q. ap (moved_entry first (blocks_of C.blocks) π c) q })

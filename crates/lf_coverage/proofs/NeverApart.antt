@@ -32,10 +32,10 @@ use Rattle.lf_coverage.specs.Leaf.{IsTypedPattern}
 use Rattle.lf_coverage.specs.MeetStore.{IsConstants, meet_store}
 use Rattle.lf_coverage.specs.TypedCase.{IsTypedBeside, given_values}
 use Rattle.lf_coverage.proofs.FreshValues.{Longer, longer, values_moved, arguments_moved, goal_moved}
+use Rattle.lf_coverage.proofs.GivenEquations.{far_back}
 use Rattle.lf_coverage.proofs.GivenValues.{StandsForItself, StandsForGiven, given_cases, given_there, given_fits, values_near}
 use Rattle.lf_coverage.proofs.InstancesCompose.{instance_is_typed}
 use Rattle.lf_coverage.proofs.ItemsContext.{items_are_context}
-use Rattle.lf_coverage.proofs.MeetReady.{far_back}
 use Rattle.lf_coverage.proofs.Meeting.{joined, joined_near, joined_far, both_fit, never_with, no_block_with}
 use Rattle.lf_coverage.proofs.StayTyped.{value_type}
 use Rattle.lf_coverage.proofs.Choices.{either_first, either_second}

@@ -1,11 +1,11 @@
 -- What `instance_of` answers by number where a case and a pattern have what it needs.
 use Rattle.std.proofs.Common.{◌≡◌, ℕ, zero, ◌≤◌, ◌⊎◌, List, [], ◌∷◌, length, inl, inr, refl, sym, ap, ◌∙◌, subst, arith}
-use Rattle.std.specs.Prelude.{Bool, Some}
+use Rattle.std.specs.Prelude.{Some}
 use Rattle.lf.specs.Syntax.{Kind}
 use Rattle.lf.specs.Substitution.{Image, keep}
 use Rattle.lf.specs.Typing.{Signature, IsContext}
 use Rattle.lf.specs.Variables.{target, binders, nothing, onto}
-use Rattle.lf.specs.Subordination.{Block, Member, AreTypedBlocks, IsTypedBlock}
+use Rattle.lf.specs.Subordination.{Block, Member, AreTypedBlocks}
 use Rattle.lf.specs.Extension.{Extends}
 use Rattle.lf_unification.specs.Solving.{IsWellFormed}
 use Rattle.lf_checks.specs.Clause.{Clause}
@@ -20,45 +20,35 @@ use Rattle.lf_coverage.specs.EntryConstants.{with_entries}
 use Rattle.lf_coverage.specs.MeetsAnswers.{ArePlacesReady, AreRefuted, FitsPattern, IsMetByNumber, IsOfWorlds, IsPlace, IsRefutedByNumber, entries_at}
 use Rattle.lf_coverage.specs.MeetsReady.{HasTypedPlaces}
 use Rattle.lf_coverage.specs.MeetsTuple.{IsGivenBeside}
-use Rattle.lf_coverage.specs.NumberedAnswers.{BesideHasTypedBlock, ClauseHeadsHaveTypedBlocks, NeededFits, NeededIsAnswered, NeededMetIsMeeting, NeededPlacesAreReady, ReachedIsAnswered, RefutedByNumberIsApart}
-use Rattle.lf_coverage.specs.NumberedBesideGiven.{GivesOutside}
-use Rattle.lf_coverage.specs.NumberedCalls.{IsHeadFor, IsSubgoalFor, NumberedMatchedIs, NumberedMatchedNeeds}
+use Rattle.lf_coverage.specs.NumberedAnswers.{BesideHasTypedBlock, ClauseHeadsHaveTypedBlocks, NeededBlocksAreTyped, NeededFits, NeededIsAnswered, NeededMetIsMeeting, NeededPlacesAreReady, ReachedIsAnswered, RefutedByNumberIsApart}
+use Rattle.lf_coverage.specs.NumberedCalls.{HasTypedBlock, IsHeadFor, IsSubgoalFor, NumberedMatchedIs, NumberedMatchedNeeds}
 use Rattle.lf_coverage.specs.NumberedCallsMeeting.{SharesInstance}
 use Rattle.lf_coverage.specs.NumberedCallsStores.{MeetsByNumber, meet_store_by_number}
 use Rattle.lf_coverage.specs.NumberedCase.{NumberedCase}
 use Rattle.lf_coverage.specs.OwnTerms.{blocks_of, own_terms}
 use Rattle.lf_coverage.specs.TypedNumbered.{IsTypedNumberedCase}
 use Rattle.lf_coverage.proofs.MeetsAnswersAnswer.{meeting_answer, met_is_meeting}
-use Rattle.lf_coverage.proofs.MeetsAnswersMoved.{member}
-use Rattle.lf_coverage.proofs.MeetsAnswersRuns.{beside_fits, covered_count, of_worlds, places_count}
+use Rattle.lf_coverage.proofs.MeetsAnswersRuns.{beside_fits, covered_count, places_count}
 use Rattle.lf_coverage.proofs.MeetsAnswersSearch.{places_are_searched}
-use Rattle.lf_coverage.proofs.MeetsInstancePlaces.{case_with, more_blocks, worlds_with}
+use Rattle.lf_coverage.proofs.MoreWorlds.{case_with_more, more_worlds, with_more}
 use Rattle.lf_coverage.proofs.MeetsInstance.{refuted_beside_shares_none, refuted_shares_none}
 use Rattle.lf_coverage.proofs.MeetsReadyGivenMeets.{given_meet_store_is_ready}
 use Rattle.lf_coverage.proofs.MeetsReadyInputs.{input_meet_store_is_ready}
 use Rattle.lf_coverage.proofs.MeetsReadyMeets.{place_signature}
 use Rattle.lf_coverage.proofs.MeetsTupleAll.{own_block_is_first, refuted_is_apart}
+use Rattle.lf_coverage.proofs.NumberedNeedsBlocks.{beside_has_own_typed, clause_has_typed_block, with_own_typed}
 use Rattle.lf_coverage.proofs.NumberedNeedsDecided.{needed_instance_is_decided}
 use Rattle.lf_coverage.proofs.NumberedNeedsSplits.{reached_has_needs}
 use Rattle.lf_coverage.proofs.Parts.{some_same}
 
-worlds_typed : (Σ : Signature) (W : List Block) → AreTypedBlocks Σ W → {c : Clause} (o : Origin c) → IsOfWorlds o W → AreTypedBlocks Σ (blocks_with o W)
-worlds_typed Σ W typed (of_constant U) i = typed
-worlds_typed Σ W typed (of_entry B later E es e) i = λ D m. by D m
-  where
-    by : (D : Block) → (D ≡ B) ⊎ Member D W → IsTypedBlock Σ D
-    by D (inl q) = typed D (subst (λ X. Member X W) (sym q) i)
-    by D (inr m) = typed D m
-
 pub clause_heads_have_typed_blocks : ClauseHeadsHaveTypedBlocks
-clause_heads_have_typed_blocks Σ W typed a ps heads p l = let (c, i, e, q) = heads p l in worlds_typed Σ W typed p.origin (subst (λ (r : Pattern). IsOfWorlds r.origin W) (sym q) (of_worlds Σ W i))
+clause_heads_have_typed_blocks Σ W typed a ps heads p l = let (c, i, e, q) = heads p l in with_own_typed Σ W typed p.origin (subst (λ (r : Pattern). HasTypedBlock Σ r.origin) (sym q) (clause_has_typed_block Σ W typed i))
 
 pub beside_has_typed_block : BesideHasTypedBlock
-beside_has_typed_block Σ W typed first C p t = worlds_typed Σ W typed p.origin (by p.origin p.at_first t.outer t.stands)
-  where
-    by : {c : Clause} (o : Origin c) (b : Bool) (φ : ℕ → Image) → GivesOutside first C o b φ → IsOfWorlds o W
-    by (of_constant U) b φ g = tt
-    by (of_entry B later E es e) b φ (k, U, at, z, r) = member _ W C.variables _ C.blocks t.typed.variables.blocks k _ at
+beside_has_typed_block Σ W typed first C p t = with_own_typed Σ W typed p.origin (beside_has_own_typed Σ W typed first C p t)
+
+pub needed_blocks_are_typed : NeededBlocksAreTyped
+needed_blocks_are_typed Σ first W C p n = with_own_typed Σ W n.setting.blocks p.origin n.pattern.typed_block
 
 -- a clause is of the worlds with its own block
 own_world : {c : Clause} (o : Origin c) (W : List Block) → IsOfWorlds o (blocks_with o W)
@@ -76,7 +66,7 @@ shares_back Σ first W C p s =
     let t = s.typed_variables in
     record {
       common = s.common;
-      typed_variables = record { variables = t.variables; on_own_terms = t.on_own_terms; blocks = more_blocks (with_entries Σ first (blocks_of s.common.blocks)) (blocks_with p.origin (blocks_with p.origin W)) (blocks_with p.origin W) (own_twice p.origin W) s.common.variables (own_terms first s.common.blocks) s.common.blocks t.blocks };
+      typed_variables = record { variables = t.variables; on_own_terms = t.on_own_terms; blocks = more_worlds (with_entries Σ first (blocks_of s.common.blocks)) (blocks_with p.origin (blocks_with p.origin W)) (blocks_with p.origin W) (own_twice p.origin W) s.common.variables (own_terms first s.common.blocks) s.common.blocks t.blocks };
       numbers = s.numbers;
       zeroth = s.zeroth;
       values = s.values;
@@ -130,7 +120,7 @@ module _ (Σ : Signature) (first : ℕ) (W : List Block) (C : NumberedCase) (p :
 
   -- the case over the worlds with the pattern's own block
   case_more : IsTypedNumberedCase Σ first (blocks_with p.origin W) C
-  case_more = case_with Σ first W (blocks_with p.origin W) (worlds_with p.origin W) C n.case
+  case_more = case_with_more Σ first W (blocks_with p.origin W) (with_more p.origin W) C n.case
 
   fits : IsHeadFor Σ first C p ⊎ IsSubgoalFor Σ first W C p → (K : Kind) → Σ.kinds C.family ≡ Some K → FitsPattern Σ (blocks_with p.origin W) C p K
   fits (inl h) K kd = head_fits h K kd
@@ -152,30 +142,30 @@ pub needed_fits : NeededFits
 needed_fits Σ first W C p n = fits Σ first W C p n n.pattern.beside
 
 pub needed_places_are_ready : NeededPlacesAreReady
-needed_places_are_ready Σ first W C p n = ready Σ first W C p n n.pattern.beside
+needed_places_are_ready Σ first W C p n = ready Σ first W C p n n.pattern.beside (needed_blocks_are_typed Σ first W C p n)
 
 pub refuted_by_number_is_apart : RefutedByNumberIsApart
-refuted_by_number_is_apart Σ first W C p n typed K kd r =
-    let all : AreRefuted Σ first C p K = λ π J φ x s. (needed_places_are_ready Σ first W C p n typed K kd π J φ x, r π J φ x s) in
-    refuted_is_apart Σ n.setting.signature W n.setting.blocks first n.setting.free C n.case p (given_beside Σ first W C p n n.pattern.beside) n.pattern.typed (own_block_is_first p.origin p.at_first C n.pattern.own_block) n.pattern.same_length K all (shares_none Σ first W C p n n.pattern.beside typed K all)
+refuted_by_number_is_apart Σ first W C p n K kd r =
+    let all : AreRefuted Σ first C p K = λ π J φ x s. (needed_places_are_ready Σ first W C p n K kd π J φ x, r π J φ x s) in
+    refuted_is_apart Σ n.setting.signature W n.setting.blocks first n.setting.free C n.case p (given_beside Σ first W C p n n.pattern.beside) n.pattern.typed (own_block_is_first p.origin p.at_first C n.pattern.own_block) n.pattern.same_length K all (shares_none Σ first W C p n n.pattern.beside (needed_blocks_are_typed Σ first W C p n) K all)
 
 pub needed_met_is_meeting : NeededMetIsMeeting
-needed_met_is_meeting Σ first W C p n typed K kd m = by (met_is_meeting Σ n.setting.signature (blocks_with p.origin W) typed first n.setting.free C (case_more Σ first W C p n) p n.pattern.typed K (needed_fits Σ first W C p n K kd) ready_here m)
+needed_met_is_meeting Σ first W C p n K kd m = by (met_is_meeting Σ n.setting.signature (blocks_with p.origin W) (needed_blocks_are_typed Σ first W C p n) first n.setting.free C (case_more Σ first W C p n) p n.pattern.typed K (needed_fits Σ first W C p n K kd) ready_here m)
   where
     ready_here : ArePlacesReady Σ first C p K
-    ready_here π J φ x = needed_places_are_ready Σ first W C p n typed K kd π J φ x (entries_at Σ first J) (Extends-self nothing (entries_at Σ first J) (place_signature Σ n.setting.signature W first n.setting.free C n.case p typed π x.identifies J φ x.beside))
+    ready_here π J φ x = needed_places_are_ready Σ first W C p n K kd π J φ x (entries_at Σ first J) (Extends-self nothing (entries_at Σ first J) (place_signature Σ n.setting.signature W first n.setting.free C n.case p (needed_blocks_are_typed Σ first W C p n) π x.identifies J φ x.beside))
 
     by : MeetsByNumber Σ first (blocks_with p.origin W) C p → MeetsByNumber Σ first W C p
     by (inl s) = inl (shares_back Σ first W C p s)
     by (inr o) = inr o
 
 pub needed_is_answered : NeededIsAnswered
-needed_is_answered Σ first W C p n typed K kd answers = by (needed_instance_is_decided Σ first W C p n).1 (places_are_searched Σ first C p K answers)
+needed_is_answered Σ first W C p n K kd answers = by (needed_instance_is_decided Σ first W C p n).1 (places_are_searched Σ first C p K answers)
   where
     by : Dec (IsInstanceOfPattern Σ first C p) → IsRefutedByNumber Σ first C p K ⊎ IsMetByNumber Σ first C p K → (m : Matched) × NumberedMatchedIs Σ first W C p m
     by (yes i) a = (instance, i)
-    by (no q) (inl r) = (apart, refuted_by_number_is_apart Σ first W C p n typed K kd (λ π J φ x s. r π J φ x))
-    by (no q) (inr m) = meeting_answer Σ first W C p q (needed_met_is_meeting Σ first W C p n typed K kd m)
+    by (no q) (inl r) = (apart, refuted_by_number_is_apart Σ first W C p n K kd (λ π J φ x s. r π J φ x))
+    by (no q) (inr m) = meeting_answer Σ first W C p q (needed_met_is_meeting Σ first W C p n K kd m)
 
 pub reached_is_answered : ReachedIsAnswered
-reached_is_answered Σ first W below ps goal n typed D r p l K kd answers = needed_is_answered Σ first W D p (reached_has_needs Σ first W below ps goal n D r p l).0 (typed p l) K kd answers
+reached_is_answered Σ first W below ps goal n D r p l K kd answers = needed_is_answered Σ first W D p (reached_has_needs Σ first W below ps goal n D r p l).0 K kd answers

@@ -3,7 +3,6 @@ use Rattle.std.proofs.Common.{◌≡◌, ℕ, zero, suc, ◌≤◌, ◌⊎◌, [
 use Rattle.std.specs.Prelude.{false, Option, Some}
 use Rattle.lf.specs.Syntax.{Spine, constant, root, nil, app}
 use Rattle.lf.specs.Substitution.{Image}
-use Rattle.lf.specs.Subordination.{AreTypedBlocks}
 use Rattle.lf_unification.specs.Steps.{CanRefute, constants_differ, no_step}
 use Rattle.lf_checks.specs.Clause.{from_constant, from_entry}
 use Rattle.lf_cases.specs.Cover.{before}
@@ -25,12 +24,13 @@ use Rattle.lf_coverage.specs.NumberedInstance.{block_at}
 use Rattle.lf_coverage.specs.OwnTerms.{BlockVariable}
 use Rattle.lf_coverage.proofs.ExamplesCopyingSplit.{copy_typed}
 use Rattle.lf_coverage.proofs.Leaves.{head_is_typed}
-use Rattle.lf_coverage.proofs.MeetsAnswersExamples.{two_copies_share, two_typed}
+use Rattle.lf_coverage.proofs.MeetsAnswersExamples.{two_copies_share}
 use Rattle.lf_coverage.proofs.MeetsAnswersPlaces.{IsThere, is_there}
 use Rattle.lf_coverage.proofs.MeetsTupleExamples.{copies_are_refuted}
 use Rattle.lf_coverage.proofs.NumberedAnswers.{needed_met_is_meeting, refuted_by_number_is_apart}
-use Rattle.lf_coverage.proofs.NumberedCallsCopying.{copies_are_matched, copying_free}
-use Rattle.lf_coverage.proofs.NumberedNeedsLaws.{head_is_for}
+use Rattle.lf_coverage.proofs.CopyingByNumber.{copying_free, two_copies_typed}
+use Rattle.lf_coverage.proofs.NumberedCallsCopying.{copies_are_matched}
+use Rattle.lf_coverage.proofs.NumberedNeedsFor.{head_is_for}
 use Rattle.lf_coverage.proofs.Parts.{none_some, some_same}
 
 setting : IsSetting Copying 4 copy_worlds
@@ -40,14 +40,10 @@ head_for : (p : Pattern) → p ≡ head_pattern p.clause p.origin → IsHeadFor 
 head_for p e = record { is_head = e; none_given = refl; no_local = refl; kind = cp_kind; of_family = refl; covered_only = (tt, (tt, tt)); tuple = app (root (constant 4) nil) (app (root (constant 6) nil) nil); at_places = (refl, (refl, tt)); typed_places = ((exp, refl, refl), ((exp, refl, refl), tt)) }
 
 app_needs : NumberedMatchedNeeds Copying 4 copy_worlds two_copies copy_app_head
-app_needs = record { setting = setting; case = two_typed; pattern = head_is_for Copying 4 copy_worlds two_copies copy_app_head (head_is_typed Copying copying_ok copy_worlds copy_typed cp_app (from_constant 3 cp_app.type refl)) refl (head_for copy_app_head refl) }
+app_needs = record { setting = setting; case = two_copies_typed; pattern = head_is_for Copying 4 copy_worlds two_copies copy_app_head (head_is_typed Copying copying_ok copy_worlds copy_typed cp_app (from_constant 3 cp_app.type refl)) tt refl (head_for copy_app_head refl) }
 
 entry_needs : NumberedMatchedNeeds Copying 4 copy_worlds two_copies copy_entry_head
-entry_needs = record { setting = setting; case = two_typed; pattern = head_is_for Copying 4 copy_worlds two_copies copy_entry_head (head_is_typed Copying copying_ok copy_worlds copy_typed copy_entry (from_entry copy_block [] (cp (var 0) (var 0)) (exp ∷ []) (inl refl) refl)) refl (head_for copy_entry_head refl) }
-
-typed_blocks : AreTypedBlocks Copying (copy_block ∷ copy_worlds)
-typed_blocks B (inl q) = copy_typed B (inl q)
-typed_blocks B (inr m) = copy_typed B m
+entry_needs = record { setting = setting; case = two_copies_typed; pattern = head_is_for Copying 4 copy_worlds two_copies copy_entry_head (head_is_typed Copying copying_ok copy_worlds copy_typed copy_entry (from_entry copy_block [] (cp (var 0) (var 0)) (exp ∷ []) (inl refl) refl)) (copy_typed copy_block (inl refl)) refl (head_for copy_entry_head refl) }
 
 -- cp-app
 app_refuted : ArePlacesRefuted Copying 4 two_copies copy_app_head cp_kind
@@ -56,7 +52,7 @@ app_refuted π J φ x stays =
     subst (λ D. CanRefute (entries_at Copying 4 D) (meet_store_by_number π D copy_app_head φ cp_kind)) (sym e) (subst (λ f. CanRefute (entries_at Copying 4 (identified 4 π two_copies)) (meet_store_by_number π (identified 4 π two_copies) copy_app_head f cp_kind)) (sym q) (copies_are_refuted π x.oldest))
 
 pub two_copies_are_apart : TwoCopiesAreApart
-two_copies_are_apart = (app_needs, app_refuted, refuted_by_number_is_apart Copying 4 copy_worlds two_copies copy_app_head app_needs copy_typed cp_kind refl app_refuted)
+two_copies_are_apart = (app_needs, app_refuted, refuted_by_number_is_apart Copying 4 copy_worlds two_copies copy_app_head app_needs cp_kind refl app_refuted)
 
 pub copies_have_no_applied : CopiesHaveNoApplied
 copies_have_no_applied s = let (needs, refuted, a) = two_copies_are_apart in a.no_tuple s.worlds s.typed s.set s.extension s.extends s.context s.world s.known s.values s.tuple s.holds s.is_known s.has
@@ -130,7 +126,7 @@ entry_met : IsMetByNumber Copying 4 two_copies copy_entry_head cp_kind
 entry_met = let (place, solved, shares, apart, refuted) = two_copies_share in record { numbers = λ k. 0; case = _; outer = _; place = place; met = inl solved }
 
 pub two_copies_are_stuck : TwoCopiesAreStuck
-two_copies_are_stuck = (entry_needs, entry_answered, entry_met, needed_met_is_meeting Copying 4 copy_worlds two_copies copy_entry_head entry_needs typed_blocks cp_kind refl entry_met, stuck_is)
+two_copies_are_stuck = (entry_needs, entry_answered, entry_met, needed_met_is_meeting Copying 4 copy_worlds two_copies copy_entry_head entry_needs cp_kind refl entry_met, stuck_is)
   where
     stuck_is : NumberedMatchedIs Copying 4 copy_worlds two_copies copy_entry_head stuck
     stuck_is = let (a, b, c, d, s, f, g) = copies_are_matched in s

@@ -9,10 +9,11 @@ use Rattle.lf_coverage.specs.NumberedAnswersRuns.{BesideRunHasNeeds, BesideRunIs
 use Rattle.lf_coverage.specs.OwnTerms.{blocks_of}
 use Rattle.lf_coverage.proofs.Leaves.{head_is_typed}
 use Rattle.lf_coverage.proofs.MeetsAnswersRuns.{input_run_fits}
-use Rattle.lf_coverage.proofs.MeetsReadyRuns.{clause_blocks, input_run_has_typed_places}
-use Rattle.lf_coverage.proofs.NumberedAnswers.{beside_has_typed_block, needed_is_answered}
+use Rattle.lf_coverage.proofs.MeetsReadyRuns.{input_run_has_typed_places}
+use Rattle.lf_coverage.proofs.NumberedAnswers.{needed_is_answered}
 use Rattle.lf_coverage.proofs.NumberedBesideStays.{numbered_run_stays_beside}
-use Rattle.lf_coverage.proofs.NumberedNeedsLaws.{head_is_for, subgoal_is_for}
+use Rattle.lf_coverage.proofs.NumberedNeedsBlocks.{clause_has_typed_block}
+use Rattle.lf_coverage.proofs.NumberedNeedsFor.{head_is_for, subgoal_is_for}
 
 pub input_run_has_needs : InputRunHasNeeds
 input_run_has_needs Σ W first z below a m K kd v C r c i e =
@@ -21,7 +22,7 @@ input_run_has_needs Σ W first z below a m K kd v C r c i e =
     record {
       setting = z;
       case = tc;
-      pattern = head_is_for Σ first W C (head_pattern c (origin i)) (head_is_typed Σ z.signature W z.blocks c i) f.same_family (record {
+      pattern = head_is_for Σ first W C (head_pattern c (origin i)) (head_is_typed Σ z.signature W z.blocks c i) (clause_has_typed_block Σ W z.blocks i) f.same_family (record {
         is_head = refl;
         none_given = none;
         no_local = bare;
@@ -37,14 +38,12 @@ input_run_has_needs Σ W first z below a m K kd v C r c i e =
 pub beside_run_has_needs : BesideRunHasNeeds
 beside_run_has_needs Σ W first z below p tp f goal b C r own others =
     let h = numbered_run_stays_beside Σ z.signature W z.blocks first z.free below p tp goal b C r in
-    record { setting = z; case = h.typed; pattern = subgoal_is_for Σ first W C p tp own (record { at_first = f; typed_beside = h; known_places = others }) }
+    record { setting = z; case = h.typed; pattern = subgoal_is_for Σ first W z.blocks C p tp own (record { at_first = f; typed_beside = h; known_places = others }) }
 
 pub input_run_is_answered : InputRunIsAnswered
 input_run_is_answered Σ W first z below a m K kd v C r c i e answers =
     let f = input_run_fits Σ z.signature W z.blocks first z.free below a m K kd v C r c i e in
-    needed_is_answered Σ first W C (head_pattern c (origin i)) (input_run_has_needs Σ W first z below a m K kd v C r c i e) (clause_blocks Σ W z.blocks c i) K f.of_family answers
+    needed_is_answered Σ first W C (head_pattern c (origin i)) (input_run_has_needs Σ W first z below a m K kd v C r c i e) K f.of_family answers
 
 pub beside_run_is_answered : BesideRunIsAnswered
-beside_run_is_answered Σ W first z below p tp f goal b C r own others K kd answers =
-    let h = numbered_run_stays_beside Σ z.signature W z.blocks first z.free below p tp goal b C r in
-    needed_is_answered Σ first W C p (beside_run_has_needs Σ W first z below p tp f goal b C r own others) (beside_has_typed_block Σ W z.blocks first C p h) K kd answers
+beside_run_is_answered Σ W first z below p tp f goal b C r own others K kd answers = needed_is_answered Σ first W C p (beside_run_has_needs Σ W first z below p tp f goal b C r own others) K kd answers

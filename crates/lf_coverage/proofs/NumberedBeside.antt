@@ -29,7 +29,7 @@ use Rattle.lf_coverage.proofs.EntryFound.{PlacedAmong, placed_among, EachBlock, 
 use Rattle.lf_coverage.proofs.EntrySignature.{else_second}
 use Rattle.lf_coverage.proofs.Everywhere.{metavariables_have}
 use Rattle.lf_coverage.proofs.Forms.{far_type}
-use Rattle.lf_coverage.proofs.NumberedBesideTypes.{all_takes, free_keeps, head_takes, near_below, run_keeps, take_below, taken_below, takes_all, takes_at, takes_kept, takes_onto, takes_pruned, takes_renamed}
+use Rattle.lf_coverage.proofs.NumberedBesideTypes.{all_takes, free_keeps, head_takes, near_below, quantified_takes, run_keeps, take_below, taken_below, takes_all, takes_at, takes_kept, takes_onto, takes_pruned, takes_renamed}
 use Rattle.lf_coverage.proofs.Listed.{offer_of_case}
 use Rattle.lf_coverage.proofs.OwnStoresNewBlock.{new_block_stays_typed}
 use Rattle.lf_coverage.proofs.OwnTerms.{entry_from}
@@ -136,13 +136,13 @@ module _ (Σ : Signature) (W : List Block) (below : ℕ → ℕ → Bool) (test 
       none : (k : ℕ) → k + 0 ≡ k
       none k = omega arith
 
-  module _ (takes : AllTakeBelow below C.variables) (x : ℕ) (X : LfType) (at : TypeAt C.variables x X) where
-    -- Each head that is offered quantifies only over what is below.
-    offer_below : (h : Head) (U : Spine) (A : LfType) → IsNumberedOffer Σ first C X h U A → QuantifiersAreBelow below A
-    offer_below h U A (offer_signature k V e t) = quantified below V (λ a b z. (test b a).1 (below_in_constant k V e z))
-    offer_below h U A (offer_taken j B l g t) = near_below below (taken X) C.variables j B l (taken_below below [] X tt (takes_at below C.variables takes x X at)) (subst (λ L. TypeAt L j B) (binders_over [] X C.variables) g)
-    offer_below h U A (offer_entry c S V q e t) = below_renamed below (shift_by (length (taken X))) (left_type S V) (entry_left c S V q e)
+  -- Each head that is offered for a variable that takes only such quantifies only over what is below.
+  offer_below : (X : LfType) → TakesBelow below X → (h : Head) (U : Spine) (A : LfType) → IsNumberedOffer Σ first C X h U A → QuantifiersAreBelow below A
+  offer_below X k h U A (offer_signature c V e t) = quantified below V (λ a b z. (test b a).1 (below_in_constant c V e z))
+  offer_below X k h U A (offer_taken j B l g t) = near_below below (taken X) C.variables j B l (taken_below below [] X tt k) (subst (λ L. TypeAt L j B) (binders_over [] X C.variables) g)
+  offer_below X k h U A (offer_entry c S V q e t) = below_renamed below (shift_by (length (taken X))) (left_type S V) (entry_left c S V q e)
 
+  module _ (takes : AllTakeBelow below C.variables) (x : ℕ) (X : LfType) (at : TypeAt C.variables x X) where
     -- the items of its store
     items_take : (A : LfType) → QuantifiersAreBelow below A → AllTakeBelow below (items_context (split_items below X (free_variables C.variables) zero A))
     items_take A q =
@@ -161,7 +161,31 @@ module _ (Σ : Signature) (W : List Block) (below : ℕ → ℕ → Bool) (test 
         s.well_formed.order s.well_formed.is_order))
 
 pub offers_quantify_below : OffersQuantifyBelow
-offers_quantify_below Σ W below test first free C tc takes x X at h U A f = offer_below Σ W below test first free C tc takes x X at h U A f
+offers_quantify_below Σ W below test first free C tc takes x X at h U A f = offer_below Σ W below test first free C tc X (takes_at below C.variables takes x X at) h U A f
+
+module _ (Σ : Signature) (ok : IsSignature Σ) (W : List Block) (typed : AreTypedBlocks Σ W) (below : ℕ → ℕ → Bool) (test : (f : ℕ) → IsBelowTest Σ W (below f) f) (first : ℕ) (free : IsFreeFrom Σ first) (C : NumberedCase) (tc : IsTypedNumberedCase Σ first W C) (x : ℕ) (Cs : List NumberedCase) (sp : IsUnifiedByNumber Σ first W below C x Cs) (k : TakesBelow below sp.type) where
+  head_below : (o : NumberedOffer) → IsOfferTo Σ first W C x sp.type o → QuantifiersAreBelow below o.left
+  head_below o (of_case h U A f) = offer_below Σ W below test first free C tc sp.type k h U A f
+  head_below o (of_new_block B c U A b n f) = offer_below Σ W below test first free o.case (new_block_stays_typed Σ ok W typed first free C tc B b) o.type (takes_renamed below (shift_by (length B.some)) sp.type k) o.head U A f
+
+  s : IsSubordination Σ W below
+  s = below_is_subordination Σ ok W typed below test
+
+  answered : IsAnsweredByNumber Σ first W below C x Cs
+  answered = record {
+    type = sp.type;
+    at = sp.at;
+    takes_below = take_below below Σ W s sp.type k;
+    offers = sp.offers;
+    each = sp.each;
+    every = sp.every;
+    arguments_below = λ o f. take_below below Σ W s o.left (quantified_takes below o.left (head_below o f));
+    listed = sp.listed;
+  }
+
+  pub taker_answered : (an : IsAnsweredByNumber Σ first W below C x Cs) × (an.type ≡ sp.type)
+  unfolding answered
+  taker_answered = (answered, refl)
 
 module _ (Σ : Signature) (ok : IsSignature Σ) (W : List Block) (typed : AreTypedBlocks Σ W) (below : ℕ → ℕ → Bool) (test : (f : ℕ) → IsBelowTest Σ W (below f) f) (worlds : WorldsTakeBelow below W) (first : ℕ) (free : IsFreeFrom Σ first) (C : NumberedCase) (tc : IsTypedNumberedCase Σ first W C) (takes : AllTakeBelow below C.variables) (x : ℕ) (Cs : List NumberedCase) (sp : IsUnifiedByNumber Σ first W below C x Cs) where
   -- what is known of an offer: its case is typed, its variables take only what is below, and its head quantifies over what is below
@@ -180,33 +204,17 @@ module _ (Σ : Signature) (ok : IsSignature Σ) (W : List Block) (typed : AreTyp
     offered = f;
   }
 
-  head_below : (o : NumberedOffer) → Offers o → QuantifiersAreBelow below o.left
-  head_below o k = offer_below Σ W below test first free o.case k.typed_case k.takes_so o.variable o.type k.place o.head o.terms o.left k.offered
-
-  s : IsSubordination Σ W below
-  s = below_is_subordination Σ ok W typed below test
-
-  answered : IsAnsweredByNumber Σ first W below C x Cs
-  answered = record {
-    type = sp.type;
-    at = sp.at;
-    takes_below = take_below below Σ W s sp.type (takes_at below C.variables takes x sp.type sp.at);
-    offers = sp.offers;
-    each = sp.each;
-    every = sp.every;
-    arguments_below = λ o f. take_below below Σ W s o.left (Rattle.lf_coverage.proofs.NumberedBesideTypes.quantified_takes below o.left (head_below o (known o f)));
-    listed = sp.listed;
-  }
+  at_variable : TakesBelow below sp.type
+  at_variable = takes_at below C.variables takes x sp.type sp.at
 
   cases_take : (D : NumberedCase) → Member D Cs → AllTakeBelow below D.variables
   cases_take D m =
       let (o, k, a) = offer_of_case sp.listed D m in
       let f : Offers o = known o (sp.each o k) in
-      case_takes Σ W below test first free o.case f.typed_case f.takes_so o.variable o.type f.place o.head o.terms o.left (head_below o f) a.kind D a.finds
+      case_takes Σ W below test first free o.case f.typed_case f.takes_so o.variable o.type f.place o.head o.terms o.left (head_below Σ ok W typed below test first free C tc x Cs sp at_variable o (sp.each o k)) a.kind D a.finds
 
   pub is_answered : ((an : IsAnsweredByNumber Σ first W below C x Cs) × (an.type ≡ sp.type)) × ((D : NumberedCase) → Member D Cs → AllTakeBelow below D.variables)
-  unfolding answered
-  is_answered = ((answered, refl), cases_take)
+  is_answered = (taker_answered Σ ok W typed below test first free C tc x Cs sp at_variable, cases_take)
 
 pub unified_by_number_is_answered : UnifiedByNumberIsAnswered
 unified_by_number_is_answered Σ ok W typed below test worlds first free C tc takes x Cs sp = is_answered Σ ok W typed below test worlds first free C tc takes x Cs sp

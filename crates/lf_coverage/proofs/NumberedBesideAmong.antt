@@ -84,9 +84,6 @@ module _ (B : Block) where
       none a = omega arith
   past_kept V (A ∷ D) ρ I f b = let (n, h, k) = past_kept (λ j. V (suc j)) D ρ I f b in by (V zero) n h k
     where
-      κ : ℕ → ℕ
-      κ = kept_number (λ j. V (suc j)) D ρ
-
       by : (v : Bool) (n : ℕ) → ((k : ℕ) → kept_number (λ j. V (suc j)) D ρ (far D k) ≡ ρ k + n) → Moved (kept_items (λ j. V (suc j)) D ρ I) f n → (l : ℕ) × ((k : ℕ) → cond v (lift_renaming (kept_number (λ j. V (suc j)) D ρ)) (past_place (kept_number (λ j. V (suc j)) D ρ)) (suc (far D k)) ≡ ρ k + l) × Moved (cond v (free_variable (rename_type (kept_number (λ j. V (suc j)) D ρ) A) ∷ kept_items (λ j. V (suc j)) D ρ I) (kept_items (λ j. V (suc j)) D ρ I)) f l
       by true n h k = (suc n, (λ j. ap suc (h j) ∙ next (ρ j) n), moved_one (rename_type (kept_number (λ j. V (suc j)) D ρ) A) (kept_items (λ j. V (suc j)) D ρ I) f n k)
         where

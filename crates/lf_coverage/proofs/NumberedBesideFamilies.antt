@@ -1,5 +1,5 @@
 -- The families in the types of the free variables, along a run by number.
-use Rattle.std.proofs.Common.{◌≡◌, ℕ, zero, suc, List, [], ◌∷◌, length, inl, inr, refl, sym, ap, ◌∙◌, subst, Some}
+use Rattle.std.proofs.Common.{◌≡◌, ℕ, zero, suc, List, [], ◌∷◌, length, sym, ap, ◌∙◌, subst, Some}
 use Rattle.std.specs.Prelude.{Bool, true, false, cond}
 use Rattle.std.specs.List.{AllByRecursion}
 use Rattle.lf.specs.Syntax.{Head, Spine, nil, app, LfType, Kind, pi, atom, kind_pi, star, skeleton, lift_renaming, rename_spine, rename_type, rename_kind}
@@ -13,8 +13,7 @@ use Rattle.lf.proofs.Target.{target_of}
 use Rattle.lf_unification.specs.Dependency.{free_context}
 use Rattle.lf_unification.specs.Offering.{pi_over, local_arguments}
 use Rattle.lf_unification.specs.OpenTyping.{skeletons_of}
-use Rattle.lf_unification.specs.Search.{occurs_type}
-use Rattle.lf_checks.specs.Clause.{Clause, IsClause, from_constant, from_entry, IsSubgoal, is_variable, with_newest}
+use Rattle.lf_checks.specs.Clause.{Clause, IsClause, from_constant, from_entry, IsSubgoal}
 use Rattle.lf_checks.specs.Marks.{Mark, output_places}
 use Rattle.lf_cases.specs.Case.{Item, free_variable, block_variable, covered_places, goal_arguments, items_context, input_goal}
 use Rattle.lf_cases.specs.OutputGoal.{closed_over, free_variables, goal_masks, goal_number, kept_items, kept_number, output_goal, output_items, outside_items, outside_number, over_item, raised_variable, renumber}
@@ -25,7 +24,7 @@ use Rattle.lf.specs.Worlds.{instance}
 use Rattle.lf_cases.proofs.Subordinate.{below_is_subordination}
 use Rattle.lf_coverage.specs.Calls.{PlacesIn}
 use Rattle.lf_coverage.specs.EntryConstants.{IsFreeFrom, entry_images, with_entries}
-use Rattle.lf_cases.specs.Split.{Ends, AllEnd, at_leaf, by_split, no_case, next_case}
+use Rattle.lf_cases.specs.Split.{Ends}
 use Rattle.lf_coverage.specs.NewBlock.{with_new_block}
 use Rattle.lf_coverage.specs.NumberedBeside.{AllTakeBelow, IsUnifiedByNumber, WorldsTakeBelow}
 use Rattle.lf_coverage.specs.NumberedBesideFamilies.{WorldsAreIn, WorldsWithoutSome, FreeAreIn, UnifiedByNumberKeepsFamilies, UnifiesEachByNumber, UnifiedEachIsAnswer, UnifiedEachCoversInputs, UnifiedEachGivesOutputs}
@@ -42,15 +41,17 @@ use Rattle.lf_coverage.proofs.EntryPatternsOutputs.{numbered_output_goal_is_type
 use Rattle.lf_coverage.proofs.Everywhere.{free_has, run_has}
 use Rattle.lf_coverage.proofs.Families.{InEverywhere, all_binders, all_onto, all_renumbered, as_everywhere, from_everywhere, head_families, raised_families, store_families}
 use Rattle.lf_coverage.proofs.Forms.{far_type}
+use Rattle.lf_coverage.proofs.GoalItems.{one_without}
 use Rattle.lf_coverage.proofs.NumberedBeside.{EntryOf, entry_of, unified_by_number_is_answered}
-use Rattle.lf_coverage.proofs.NumberedBesideGoals.{inputs_take_below, numbered_takes_below, outputs_take_below}
-use Rattle.lf_coverage.proofs.NumberedBesideRuns.{unified_run, one_without}
+use Rattle.lf_coverage.proofs.NumberedBesideGoals.{inputs_take_below, numbered_takes_below, outputs_take_below, subgoal_has}
+use Rattle.lf_coverage.proofs.NumberedBesideRuns.{unified_run}
 use Rattle.lf_coverage.proofs.NumberedHeads.{target_over}
 use Rattle.lf_coverage.proofs.Listed.{offer_of_case}
 use Rattle.lf_coverage.proofs.NumberedSplitsRuns.{answered_by_number_covers_case, answered_by_number_gives_outputs, answered_by_number_stays_typed}
 use Rattle.lf_coverage.proofs.OutputRuns.{clause_families, kind_renamed}
 use Rattle.lf_coverage.proofs.OwnStoresNewBlock.{new_block_stays_typed}
 use Rattle.lf_coverage.proofs.Parts.{some_same}
+use Rattle.lf_coverage.proofs.Runs.{other_run}
 use Rattle.lf_coverage.proofs.SolvedCase.{free_context_is}
 use Rattle.lf_coverage.proofs.StoreSolution.{families_at}
 use Rattle.lf_coverage.proofs.Strip.{kind_substituted}
@@ -111,15 +112,6 @@ module _ (S : ℕ → Bool) where
   numbering_in first (free_variable A ∷ I) (a, h) = (families_substituted S reduce (numbering first I).images A a, numbering_in first I h)
   numbering_in first (block_variable B υ ∷ I) h = numbering_in first I h
 
-  -- A subgoal is one of the clause's own quantifiers.
-  subgoal_in : (V : ℕ → Bool) (G : List LfType) (X : LfType) (i : ℕ) (A : LfType) → ((j : ℕ) (B : LfType) → V j ≡ false → TypeAt G j B → FamiliesIn S B) → FamiliesIn S X → is_variable V X i ≡ false → TypeAt (binders G X) i A → FamiliesIn S A
-  subgoal_in V G (pi Y B) i A h (y, b) e g = subgoal_in (with_newest (occurs_type zero B) V) (Y ∷ G) B i A next b e g
-    where
-      next : (j : ℕ) (Z : LfType) → with_newest (occurs_type zero B) V j ≡ false → TypeAt (Y ∷ G) j Z → FamiliesIn S Z
-      next zero Z v r = subst (FamiliesIn S) (sym r) (families_renamed S suc Y y)
-      next (suc j) Z v (C, k, r) = subst (FamiliesIn S) (sym r) (families_renamed S suc C (h j C v k))
-  subgoal_in V G (atom a T) i A h q e g = h i A e g
-
 module _ (Σ : Signature) (W : List Block) (S : ℕ → Bool) (sc : SelfContained Σ W S) (worlds : WorldsAreIn S W) where
   outside_in : (c : Clause) (d : IsClause Σ W c) → FreeAreIn S (outside_items (origin d))
   outside_in c (from_constant k U e) = tt
@@ -129,7 +121,7 @@ module _ (Σ : Signature) (W : List Block) (S : ℕ → Bool) (sc : SelfContaine
   goal_in below m c d t U i A (v, g) K f =
       let V : ℕ → Bool = closed_over (binders [] c.type) U in
       let q : FamiliesIn S c.type = clause_families Σ W S sc d t in
-      let a : FamiliesIn S A = subgoal_in S everything c.outer c.type i A (λ j B e h. absurd cc) q v g in
+      let a : FamiliesIn S A = subgoal_has (FamiliesIn S) (families_renamed S suc) (λ Y B h. h) everything c.outer c.type i A (λ j B e h. absurd cc) q v g in
       let r : ℕ → ℕ = goal_number (origin d) V in
       outputs_in S (goal_masks below m (origin d) V A K) (renumber r (binders [] A)) (output_places (m (target A))) (rename_spine (lift_renaming_by (length (binders [] A)) r) (target_arguments A)) K (kept_items V (binders [] c.type) (outside_number (origin d)) (outside_items (origin d)))
       (all_renumbered S r (binders [] A) (all_binders S [] A tt a))
@@ -180,14 +172,8 @@ module _ (Σ : Signature) (ok : IsSignature Σ) (W : List Block) (typed : AreTyp
         let (f, ks) = keeps_families C t fs x Cs sp in
         ((x, sp, f), λ D m. (answered_by_number_stays_typed Σ ok W typed below first free C t x Cs an D m, k D m, ks D m))
 
-    mutual
-      pub each_run : {C : NumberedCase} → IsTypedNumberedCase Σ first W C × AllTakeBelow below C.variables × AllFamiliesIn S C.variables → Ends Leaf (UnifiesEachByNumber Σ first W below) C → Ends Leaf (UnifiesByNumber Σ first W below S) C
-      each_run k (at_leaf l) = at_leaf l
-      each_run {C} k (by_split Cs s r) = let (a, ks) = split_kept C Cs k s in by_split Cs a (each_runs ks r)
-
-      each_runs : {Cs : List NumberedCase} → ((D : NumberedCase) → Member D Cs → Kept D) → AllEnd Leaf (UnifiesEachByNumber Σ first W below) Cs → AllEnd Leaf (UnifiesByNumber Σ first W below S) Cs
-      each_runs k no_case = no_case
-      each_runs k (next_case {C = C} e r) = next_case (each_run (k C (inl refl)) e) (each_runs (λ D m. k D (inr m)) r)
+    pub each_run : {C : NumberedCase} → IsTypedNumberedCase Σ first W C × AllTakeBelow below C.variables × AllFamiliesIn S C.variables → Ends Leaf (UnifiesEachByNumber Σ first W below) C → Ends Leaf (UnifiesByNumber Σ first W below S) C
+    each_run k r = other_run {Kept = Kept} (λ C k l. l) split_kept k r
 
 pub unified_by_number_keeps_families : UnifiedByNumberKeepsFamilies
 unified_by_number_keeps_families Σ ok W typed below S sc worlds first free C tc fs x Cs sp = keeps_families Σ ok W typed below S sc worlds first free C tc fs x Cs sp

@@ -22,6 +22,16 @@ use Rattle.lf_coverage.proofs.NumberedBesideTypes.{all_quantified, free_take, it
 use Rattle.lf_coverage.proofs.Subordinate.{quantified, below_renamed, below_binders, below_renumbered, inputs_quantify_below}
 use Rattle.lf_coverage.proofs.SubordinateItems.{KindIsBelow, kind_is_below, kind_renamed, kind_substituted}
 
+-- A subgoal is one of the clause's own quantifiers: it has a fact of types that the clause's type has, where both parts of an arrow have it.
+module _ (Fact : LfType → Type 0) (renamed : (A : LfType) → Fact A → Fact (rename_type suc A)) (parts : (A B : LfType) → Fact (pi A B) → Fact A × Fact B) where
+  pub subgoal_has : (V : ℕ → Bool) (G : List LfType) (X : LfType) (i : ℕ) (A : LfType) → ((j : ℕ) (B : LfType) → V j ≡ false → TypeAt G j B → Fact B) → Fact X → is_variable V X i ≡ false → TypeAt (binders G X) i A → Fact A
+  subgoal_has V G (pi Y B) i A h q e g = let (y, b) = parts Y B q in subgoal_has (with_newest (occurs_type zero B) V) (Y ∷ G) B i A (next y) b e g
+    where
+      next : Fact Y → (j : ℕ) (Z : LfType) → with_newest (occurs_type zero B) V j ≡ false → TypeAt (Y ∷ G) j Z → Fact Z
+      next y zero Z v r = subst Fact (sym r) (renamed Y y)
+      next y (suc j) Z v (C, k, r) = subst Fact (sym r) (renamed C (h j C v k))
+  subgoal_has V G (atom a S) i A h q e g = h i A e g
+
 module _ (below : ℕ → ℕ → Bool) where
   -- the variables of the clause that are kept, and the outputs
   kept_take : (V : ℕ → Bool) (D : List LfType) (ρ : ℕ → ℕ) (I : List Item) → AllTakeBelow below D → ItemsTakeBelow below I → ItemsTakeBelow below (kept_items V D ρ I)
@@ -42,34 +52,27 @@ module _ (below : ℕ → ℕ → Bool) where
       let K1 : Kind = rename_kind (lift_renaming (over_item D)) K in
       outputs_take (other_masks ks) (renumber suc D) m (rename_spine (over_item D) S) (instantiate_kind A N K1) (free_variable (raise_by (first_mask ks) D A) ∷ I) (below_renumbered below suc D d) (raise_takes below (first_mask ks) D A d (quantified_takes below A a), i) (kind_substituted below (single (skeleton A) N) K1 (kind_renamed below (lift_renaming (over_item D)) K k))
 
-  -- A subgoal is one of the clause's own quantifiers.
-  subgoal_below : (V : ℕ → Bool) (G : List LfType) (X : LfType) (i : ℕ) (A : LfType) → ((j : ℕ) (B : LfType) → V j ≡ false → TypeAt G j B → QuantifiersAreBelow below B) → QuantifiersAreBelow below X → is_variable V X i ≡ false → TypeAt (binders G X) i A → QuantifiersAreBelow below A
-  subgoal_below V G (pi Y B) i A h (q, y, b) e g = subgoal_below (with_newest (occurs_type zero B) V) (Y ∷ G) B i A next b e g
-    where
-      next : (j : ℕ) (Z : LfType) → with_newest (occurs_type zero B) V j ≡ false → TypeAt (Y ∷ G) j Z → QuantifiersAreBelow below Z
-      next zero Z v r = subst (QuantifiersAreBelow below) (sym r) (below_renamed below suc Y y)
-      next (suc j) Z v (C, k, r) = subst (QuantifiersAreBelow below) (sym r) (below_renamed below suc C (h j C v k))
-  subgoal_below V G (atom a S) i A h q e g = h i A e g
-
   numbering_takes : (first : ℕ) (I : List Item) → ItemsTakeBelow below I → AllTakeBelow below (numbering first I).variables
   numbering_takes first [] h = tt
   numbering_takes first (free_variable A ∷ I) (a, h) = (takes_substituted below (numbering first I).images A a, numbering_takes first I h)
   numbering_takes first (block_variable B υ ∷ I) h = numbering_takes first I h
 
-module _ (Σ : Signature) (W : List Block) (below : ℕ → ℕ → Bool) (test : (f : ℕ) → IsBelowTest Σ W (below f) f) (worlds : WorldsTakeBelow below W) where
-  -- the type of a clause, and what stands outside it
-  clause_below : (c : Clause) → IsClause Σ W c → QuantifiersAreBelow below c.type
+module _ (Σ : Signature) (W : List Block) (below : ℕ → ℕ → Bool) (test : (f : ℕ) → IsBelowTest Σ W (below f) f) where
+  -- the type of a clause
+  pub clause_below : (c : Clause) → IsClause Σ W c → QuantifiersAreBelow below c.type
   clause_below c (from_constant k U e) = quantified below U (λ a b q. (test b a).1 (below_in_constant k U e q))
   clause_below c (from_entry B later E es i e) = quantified below E (λ a b q. (test b a).1 (below_in_entry B E i (subst (Member E) e (member_onto later E es)) q))
 
+module _ (Σ : Signature) (W : List Block) (below : ℕ → ℕ → Bool) (test : (f : ℕ) → IsBelowTest Σ W (below f) f) (worlds : WorldsTakeBelow below W) where
+  -- what stands outside a clause
   outside_takes : (c : Clause) (d : IsClause Σ W c) → ItemsTakeBelow below (outside_items (origin d))
   outside_takes c (from_constant k U e) = tt
   outside_takes c (from_entry B later E es i e) = free_take below B.some (worlds B i)
 
   goal_takes : (m : ℕ → List Mark) (c : Clause) (d : IsClause Σ W c) (V : ℕ → Bool) (i : ℕ) (A : LfType) → IsSubgoal c i A → (K : Kind) → Σ.kinds (target A) ≡ Some K → ItemsTakeBelow below (output_items (goal_masks below m (origin d) V A K) (renumber (goal_number (origin d) V) (binders [] A)) (output_places (m (target A))) (rename_spine (lift_renaming_by (length (binders [] A)) (goal_number (origin d) V)) (target_arguments A)) K (kept_items V (binders [] c.type) (outside_number (origin d)) (outside_items (origin d))))
   goal_takes m c d V i A (v, g) K f =
-      let q : QuantifiersAreBelow below c.type = clause_below c d in
-      let a : QuantifiersAreBelow below A = subgoal_below below everything c.outer c.type i A (λ j B e h. absurd cc) q v g in
+      let q : QuantifiersAreBelow below c.type = clause_below Σ W below test c d in
+      let a : QuantifiersAreBelow below A = subgoal_has (QuantifiersAreBelow below) (below_renamed below suc) (λ Y B (u, y, b). (y, b)) everything c.outer c.type i A (λ j B e h. absurd cc) q v g in
       let r : ℕ → ℕ = goal_number (origin d) V in
       outputs_take below (goal_masks below m (origin d) V A K) (renumber r (binders [] A)) (output_places (m (target A))) (rename_spine (lift_renaming_by (length (binders [] A)) r) (target_arguments A)) K (kept_items V (binders [] c.type) (outside_number (origin d)) (outside_items (origin d)))
       (below_renumbered below r (binders [] A) (below_binders below [] A tt a))

@@ -1,28 +1,29 @@
 -- Runs by number along which nothing is asked of families are runs of which it is known.
-use Rattle.std.proofs.Common.{ℕ, List, [], ◌∷◌, inl, inr, refl, sym, subst}
+use Rattle.std.proofs.Common.{ℕ, List, sym, subst}
 use Rattle.std.specs.Prelude.{Bool}
 use Rattle.lf.specs.Typing.{Signature, IsSignature}
 use Rattle.lf.specs.Variables.{FamiliesIn}
 use Rattle.lf.specs.Subordination.{Block, AreTypedBlocks, IsBelowTest, Member}
 use Rattle.lf_checks.specs.Below.{IsSubordination}
-use Rattle.lf_cases.specs.Case.{Item, free_variable, block_variable, input_goal}
+use Rattle.lf_cases.specs.Case.{input_goal}
 use Rattle.lf_cases.specs.OutputGoal.{output_goal}
 use Rattle.lf_cases.specs.Pattern.{origin}
-use Rattle.lf_cases.specs.Split.{HasNoBlockVariable, HasOneBlockVariable}
 use Rattle.lf_cases.proofs.Subordinate.{below_is_subordination}
 use Rattle.lf_coverage.specs.Calls.{IsBeside}
 use Rattle.lf_coverage.specs.EntryConstants.{IsFreeFrom}
-use Rattle.lf_cases.specs.Split.{Ends, AllEnd, at_leaf, by_split, no_case, next_case}
+use Rattle.lf_cases.specs.Split.{Ends}
 use Rattle.lf_coverage.specs.NumberedBeside.{AllTakeBelow, IsUnifiedByNumber, WorldsTakeBelow}
 use Rattle.lf_coverage.specs.NumberedBesideRuns.{UnifiedByNumberIsSplit, UnifiedByNumberCovers, UnifiedByNumberIsAnswer, UnifiedByNumberCoversInputs, UnifiedByNumberGivesOutputs}
 use Rattle.lf_coverage.specs.NumberedCase.{NumberedCase}
 use Rattle.lf_coverage.specs.NumberedSplits.{IsAnsweredByNumber}
 use Rattle.lf_coverage.specs.TypedNumbered.{IsTypedNumberedCase}
 use Rattle.lf_coverage.proofs.EntryPatternsOutputs.{numbered_output_goal_is_typed}
+use Rattle.lf_coverage.proofs.GoalItems.{one_without}
 use Rattle.lf_coverage.proofs.NumberedBeside.{unified_by_number_is_answered}
 use Rattle.lf_coverage.proofs.NumberedBesideGoals.{inputs_take_below, numbered_takes_below, outputs_take_below}
 use Rattle.lf_coverage.proofs.NumberedSplits.{answered_by_number_is_split}
 use Rattle.lf_coverage.proofs.NumberedSplitsRuns.{answered_by_number_stays_typed, answered_by_number_covers, answered_by_number_is_answer, answered_by_number_gives_outputs}
+use Rattle.lf_coverage.proofs.Runs.{other_run}
 use Rattle.lf_coverage.proofs.TypedCases.{input_goal_is_typed_case}
 use Rattle.lf_coverage.proofs.TypedNumbered.{numbered_case_is_typed}
 
@@ -43,14 +44,8 @@ module _ (Σ : Signature) (ok : IsSignature Σ) (W : List Block) (typed : AreTyp
         let ((an, e), k) = unified_by_number_is_answered Σ ok W typed below test worlds first free C t q x Cs sp in
         ((x, an, subst Families (sym e) f), λ D m. (answered_by_number_stays_typed Σ ok W typed below first free C t x Cs an D m, k D m))
 
-    mutual
-      pub unified_run : {C : NumberedCase} → IsTypedNumberedCase Σ first W C × AllTakeBelow below C.variables → Ends Leaf (λ D Ds. (x : ℕ) × (sp : IsUnifiedByNumber Σ first W below D x Ds) × Families sp.type) C → Ends Leaf (λ D Ds. (x : ℕ) × (sp : IsAnsweredByNumber Σ first W below D x Ds) × Families sp.type) C
-      unified_run k (at_leaf l) = at_leaf l
-      unified_run {C} k (by_split Cs s r) = let (a, ks) = split_kept C Cs k s in by_split Cs a (unified_runs ks r)
-
-      unified_runs : {Cs : List NumberedCase} → ((D : NumberedCase) → Member D Cs → Kept D) → AllEnd Leaf Unifies Cs → AllEnd Leaf Answers Cs
-      unified_runs k no_case = no_case
-      unified_runs k (next_case {C = C} e r) = next_case (unified_run (k C (inl refl)) e) (unified_runs (λ D m. k D (inr m)) r)
+    pub unified_run : {C : NumberedCase} → IsTypedNumberedCase Σ first W C × AllTakeBelow below C.variables → Ends Leaf (λ D Ds. (x : ℕ) × (sp : IsUnifiedByNumber Σ first W below D x Ds) × Families sp.type) C → Ends Leaf (λ D Ds. (x : ℕ) × (sp : IsAnsweredByNumber Σ first W below D x Ds) × Families sp.type) C
+    unified_run k r = other_run {Kept = Kept} (λ C k l. l) split_kept k r
 
   pub s : IsSubordination Σ W below
   s = below_is_subordination Σ ok W typed below test
@@ -65,11 +60,6 @@ unified_by_number_covers Σ ok W typed below test worlds S sc first free ps C tc
 
 pub unified_by_number_is_answer : UnifiedByNumberIsAnswer
 unified_by_number_is_answer Σ ok W typed below test worlds first free ps goal n t l q r = answered_by_number_is_answer Σ ok W typed below (below_is_subordination Σ ok W typed below test) first free ps goal n t l (unified_run Σ ok W typed below test worlds first free (λ A. (S : ℕ → Bool) → IsBeside Σ W S goal → FamiliesIn S A) _ (numbered_case_is_typed Σ ok W typed first free goal t l, numbered_takes_below below first goal q) r)
-
-pub one_without : (I : List Item) → HasNoBlockVariable I → HasOneBlockVariable I
-one_without [] n = tt
-one_without (free_variable A ∷ I) n = one_without I n
-one_without (block_variable B υ ∷ I) n = absurd n
 
 pub unified_by_number_covers_inputs : UnifiedByNumberCoversInputs
 unified_by_number_covers_inputs Σ ok W typed below test worlds first free ps a m K e c r =

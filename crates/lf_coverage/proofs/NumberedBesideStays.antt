@@ -35,7 +35,7 @@ use Rattle.lf_coverage.specs.OwnTerms.{BlockVariable, blocks_of, own_terms, put_
 use Rattle.lf_coverage.specs.SplitStore.{answer_values}
 use Rattle.lf_coverage.specs.TypedCase.{IsTypedBeside}
 use Rattle.lf_coverage.specs.TypedNumbered.{IsTypedNumberedCase}
-use Rattle.lf_coverage.proofs.EntryPatternsAmong.{at_renamed, first_earlier, first_renamed}
+use Rattle.lf_coverage.proofs.EntryPatternsAmong.{at_renamed, first_earlier, first_renamed, others_count}
 use Rattle.lf_coverage.proofs.EntryPatternsMatching.{entries_signature}
 use Rattle.lf_coverage.proofs.EntryPatternsNumbers.{earlier_at}
 use Rattle.lf_coverage.proofs.EntryPatternsSplits.{all_renamed, lifted_keep}
@@ -47,6 +47,7 @@ use Rattle.lf_coverage.proofs.NumberedBesideTerms.{beside_more, pattern_more}
 use Rattle.lf_coverage.proofs.OwnStoresNewBlock.{new_block_stays_typed, extends, renames}
 use Rattle.lf_coverage.proofs.OwnStoresSplit.{numbered_split_stays_typed, values_typed}
 use Rattle.lf_coverage.proofs.Leaves.{subgoal_is_typed}
+use Rattle.lf_coverage.proofs.OwnTerms.{put_in_keeps}
 use Rattle.lf_coverage.proofs.Parts.{some_same}
 use Rattle.lf_coverage.proofs.SolvedCase.{free_context_is, free_typed}
 use Rattle.lf_coverage.proofs.Standing.{entry_index, before_is, index_type}
@@ -61,10 +62,6 @@ last_put υ M (app N S) = last_put υ N S
 others_put : (υ : ℕ → Image) (M : Term) (S : Spine) → substitute_spine reduce υ (but_last M S) ≡ but_last (substitute reduce υ M) (substitute_spine reduce υ S)
 others_put υ M nil = refl
 others_put υ M (app N S) = ap (app (substitute reduce υ M)) (others_put υ N S)
-
-others_count : (M : Term) (S : Spine) → argument_count (but_last M S) ≡ argument_count S
-others_count M nil = refl
-others_count M (app N S) = ap suc (others_count N S)
 
 some_put : (υ : ℕ → Image) (O : List LfType) (U : Spine) → argument_count U ≡ length O → (i : ℕ) (A : LfType) → TypeAt O i A → (a : Skeleton) → substitute reduce υ (as_term a (some_images O U i)) ≡ as_term a (some_images O (substitute_spine reduce υ U) i)
 some_put υ [] U e i A g a = absurd g
@@ -153,12 +150,8 @@ put_block υ [] k B U e = absurd cc
 put_block υ (c ∷ bs) zero B U e = ap (λ (d : BlockVariable). Some (record { block = d.block; terms = substitute_spine reduce υ d.terms })) (some_same e)
 put_block υ (c ∷ bs) (suc k) B U e = put_block υ bs k B U e
 
-same_blocks : (υ : ℕ → Image) (bs : List BlockVariable) → blocks_of (put_in_blocks υ bs) ≡ blocks_of bs
-same_blocks υ [] = refl
-same_blocks υ (b ∷ bs) = ap (λ Bs. b.block ∷ Bs) (same_blocks υ bs)
-
 -- a local context renumbered
-local_moved : (r : ℕ → ℕ) (L : List LfType) → renumber r L ≡ instance L (λ i. keep (r i))
+pub local_moved : (r : ℕ → ℕ) (L : List LfType) → renumber r L ≡ instance L (λ i. keep (r i))
 local_moved r [] = refl
 local_moved r (A ∷ L) = ap₂ ◌∷◌ (sym (ap (λ f. substitute_type reduce f A) (fun_ext (lifted_keep L r)) ∙ substitution_as_renaming_type reduce (lift_renaming_by (length L) r) A)) (local_moved r L)
 
@@ -180,9 +173,6 @@ module _ (Σ : Signature) (ok : IsSignature Σ) (W : List Block) (typed : AreTyp
       υ : ℕ → Image
       υ i = keep (i + length B.some)
 
-      new : BlockVariable
-      new = record { block = B; terms = local_arguments B.some }
-
       blocks : (k : ℕ) (E : Block) (U : Spine) → block_at C.blocks k ≡ Some (record { block = E; terms = U }) → (block_at (with_new_block B C).blocks k ≡ Some (record { block = E; terms = substitute_spine reduce (λ i. keep (i + length B.some)) U })) × (first_constant first (blocks_of (with_new_block B C).blocks) k ≡ first_constant first (blocks_of C.blocks) k)
       blocks k E U q =
           let a = at_renamed first (shift_by (length B.some)) C.blocks k E U q in
@@ -194,7 +184,7 @@ module _ (Σ : Signature) (ok : IsSignature Σ) (W : List Block) (typed : AreTyp
   run_stays below C _ tb (then_split {D = E} x X h U A K after r at f e s) =
       let te : IsTypedBesideByNumber Σ first W E p = run_stays below C E tb r in
       let υ : ℕ → Image = λ i. answer_values after s.well_formed.order (i + arguments_count A) in
-      let q : blocks_of (put_in_blocks υ E.blocks) ≡ blocks_of E.blocks = same_blocks υ E.blocks in
+      let q : blocks_of (put_in_blocks υ E.blocks) ≡ blocks_of E.blocks = put_in_keeps υ E.blocks in
       let Σ₁ : Signature = with_entries Σ first (blocks_of E.blocks) in
       let D : NumberedCase = solved_numbered E (arguments_count A) after s.well_formed.order in
       put_in_stays Σ ok W typed first free p tp E te D (numbered_split_stays_typed Σ ok W typed first free below E te.typed x X at h U A f K e after s)

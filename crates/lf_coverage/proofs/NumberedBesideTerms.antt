@@ -27,7 +27,7 @@ module _ (S : ℕ → Bool) (Σ Σ' : Signature) (x : Extends S Σ Σ') (W : Lis
   items_more (free_variable A ∷ I) (t, a) = (items_more I t, extension_keeps_types S Σ Σ' x (items_context I) A a)
   items_more (block_variable B υ ∷ I) (t, m, v) = (items_more I t, m, extension_keeps_values S Σ Σ' x everything B.some (items_context I) υ v)
 
-  arguments_more : (G : List LfType) (Ms : List (Option Term)) (T : Spine) (K : Kind) → TypedArguments Σ G Ms T K → TypedArguments Σ' G Ms T K
+  pub arguments_more : (G : List LfType) (Ms : List (Option Term)) (T : Spine) (K : Kind) → TypedArguments Σ G Ms T K → TypedArguments Σ' G Ms T K
   arguments_more G [] nil star h = h
   arguments_more G [] nil (kind_pi A K) h = absurd h
   arguments_more G [] (app N T) K h = absurd h

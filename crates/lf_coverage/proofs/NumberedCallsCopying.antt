@@ -1,5 +1,5 @@
 -- Worked answers of the calls by number: of copying.
-use Rattle.std.proofs.Common.{◌≡◌, ℕ, zero, suc, ◌+◌, [], ◌∷◌, inl, inr, refl, sym, ◌∙◌, subst, ◌≤◌, arith}
+use Rattle.std.proofs.Common.{◌≡◌, ℕ, ◌+◌, [], ◌∷◌, inl, inr, refl, sym, ◌∙◌, subst, ◌≤◌, arith}
 use Rattle.std.specs.Prelude.{true, Some, None}
 use Rattle.lf.specs.Syntax.{Head, constant, variable, root, nil, app, Term, Spine, base}
 use Rattle.lf.specs.Substitution.{Image, keep, put, substitute, substitute_type, reduce}
@@ -10,9 +10,8 @@ use Rattle.lf_checks.specs.Marks.{SamePlaces}
 use Rattle.lf_cases.specs.Case.{HasArguments}
 use Rattle.lf_cases.specs.Pattern.{Pattern}
 use Rattle.lf_checks.specs.Clause.{from_entry}
-use Rattle.lf_totality.specs.Examples.{Copying, copy_block, copy_entry, copying_kinds, copying_types, cp, cp_kind, exp, var}
+use Rattle.lf_totality.specs.Examples.{Copying, copy_block, copy_entry, cp, cp_kind, exp, var}
 use Rattle.lf_totality.proofs.Copying.{copying_ok}
-use Rattle.lf_coverage.specs.EntryConstants.{IsFreeFrom}
 use Rattle.lf_coverage.specs.EntryPatterns.{IsInstanceOfPattern}
 use Rattle.lf_coverage.specs.ExamplesCopying.{copy_app_head, copy_entry_head, copy_goal, copy_worlds}
 use Rattle.lf_coverage.specs.ExamplesNumbered.{one_copy, two_copies}
@@ -23,10 +22,12 @@ use Rattle.lf_coverage.specs.NumberedCallsMeeting.{HasPattern, SharesInstance, I
 use Rattle.lf_coverage.specs.NumberedCallsReached.{numbered_goal}
 use Rattle.lf_coverage.specs.NumberedCase.{NumberedCase}
 use Rattle.lf_coverage.specs.Numbering.{numbered}
+use Rattle.lf_coverage.proofs.CopyingByNumber.{copying_free}
 use Rattle.lf_coverage.proofs.EntryPatternsExamples.{copy_is_instance}
 use Rattle.lf_coverage.proofs.ExamplesCopyingSplit.{copy_typed}
 use Rattle.lf_coverage.proofs.ExamplesNumbered.{blocks_are_identified}
 use Rattle.lf_coverage.proofs.Leaves.{head_is_typed}
+use Rattle.lf_coverage.proofs.Parts.{none_some}
 
 -- An instance of a pattern has the pattern.
 pub instance_has_pattern : (Σ : Rattle.lf.specs.Typing.Signature) (first : ℕ) (C : NumberedCase) (p : Pattern) → IsInstanceOfPattern Σ first C p → HasPattern Σ first C p
@@ -71,10 +72,7 @@ goal_shares = record {
 }
 
 goal_is_none : IsInstanceOfPattern Copying 4 (numbered 4 copy_goal) copy_entry_head → ⊥
-goal_is_none i = no_block (i.stands.2)
-  where
-    no_block : {b : Rattle.lf_coverage.specs.OwnTerms.BlockVariable} → None ≡ Some b → ⊥
-    no_block e = cc
+goal_is_none i = none_some i.stands.2
 
 -- cp b.x b.x is apart from cp (app E1 E2) (app F1 F2).
 with_arguments : {h k : Head} {M : Term} {S : Spine} → root h nil ≡ root k (app M S) → ⊥
@@ -129,26 +127,11 @@ copies_are_reached below = (
 two_are_many : 2 ≤ 1 → ⊥
 two_are_many l = omega (arith, l)
 
--- no constant and no family of copying has the number 4 or a greater one
-pub copying_free : IsFreeFrom Copying 4
-copying_free = record { types_free = types; kinds_free = kinds }
-  where
-    types : (c : ℕ) → 4 ≤ c → copying_types c ≡ None
-    types zero l = absurd (omega (arith, l))
-    types (suc zero) l = absurd (omega (arith, l))
-    types (suc (suc zero)) l = absurd (omega (arith, l))
-    types (suc (suc (suc zero))) l = absurd (omega (arith, l))
-    types (suc (suc (suc (suc c)))) l = refl
-
-    kinds : (a : ℕ) → 4 ≤ a → copying_kinds a ≡ None
-    kinds zero l = absurd (omega (arith, l))
-    kinds (suc zero) l = absurd (omega (arith, l))
-    kinds (suc (suc a)) l = refl
-
 -- u is a head for cp b.x b.x, whose arguments have the type exp.
 entry_for : IsFor Copying 4 copy_worlds one_copy copy_entry_head
 entry_for = record {
   typed = head_is_typed Copying copying_ok copy_worlds copy_typed copy_entry (from_entry copy_block [] (cp (var 0) (var 0)) (exp ∷ []) (inl refl) refl);
+  typed_block = copy_typed copy_block (inl refl);
   same_family = refl;
   same_length = refl;
   given_own = λ i e. absurd cc;

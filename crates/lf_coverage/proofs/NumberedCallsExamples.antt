@@ -1,6 +1,6 @@
 -- Worked answers of the calls by number: of a family that only an entry inhabits, of what unification leaves open, and of what is deep.
 use Rattle.std.proofs.Common.{◌≡◌, ℕ, zero, suc, ◌+◌, [], ◌∷◌, inl, inr, refl, sym, ap, subst, arith}
-use Rattle.std.specs.Prelude.{Bool, true, false, Option, Some, None, ◌⊎◌}
+use Rattle.std.specs.Prelude.{Bool, true, false, Some, None, ◌⊎◌}
 use Rattle.lf.specs.Syntax.{constant, variable, root, nil, app, Term, LfType, Kind, base, kind_pi, star}
 use Rattle.lf.specs.Substitution.{keep, lift, put}
 use Rattle.lf.specs.AtOnce.{in_front}
@@ -15,7 +15,7 @@ use Rattle.lf_unification.specs.Unifiers.{Store}
 use Rattle.lf_cases.specs.Case.{free_variable}
 use Rattle.lf_totality.specs.Examples.{nat, var}
 use Rattle.lf_coverage.specs.Calls.{PlacesIn}
-use Rattle.lf_coverage.specs.EntryConstants.{or_else, with_entries}
+use Rattle.lf_coverage.specs.EntryConstants.{with_entries}
 use Rattle.lf_coverage.specs.EntryPatterns.{IsInstanceOfPattern}
 use Rattle.lf_coverage.specs.Examples.{number}
 use Rattle.lf_coverage.specs.ExamplesMeetings.{zeros}
@@ -30,11 +30,12 @@ use Rattle.lf_coverage.specs.NumberedCallsReached.{numbered_goal, numbered_split
 use Rattle.lf_coverage.specs.NumberedCallsStores.{IsOpenByNumber, constant_beside}
 use Rattle.lf_coverage.specs.NumberedSplitsExamples.{Bare, exp, exp_block, has, has_head, open_case, entry_case}
 use Rattle.lf_coverage.specs.TooDeep.{IsDeepCase}
+use Rattle.lf_coverage.proofs.EntrySignature.{else_none}
 use Rattle.lf_coverage.proofs.ExamplesMeetings.{meetings_are_answered}
 use Rattle.lf_coverage.proofs.ExamplesOrder.{numbers_get_deep}
 use Rattle.lf_coverage.proofs.NumberedCallsCopying.{instance_has_pattern, one_member}
 use Rattle.lf_coverage.proofs.NumberedCallsLaws.{missing_is_uncovered}
-use Rattle.lf_coverage.proofs.Parts.{some_same}
+use Rattle.lf_coverage.proofs.Parts.{none_some, some_same}
 use Rattle.lf_coverage.proofs.NumberedCallsOpen.{entry_is_instance, open_gives_entry, open_is_split_answer}
 use Rattle.lf_coverage.proofs.NumberedSplitsExamples.{blocks_typed, open_typed, bare_ok}
 use Rattle.lf_coverage.proofs.NumberedSplitsExamplesRun.{open_is_covered}
@@ -59,10 +60,7 @@ open_shares = record {
 }
 
 open_is_none : IsInstanceOfPattern Bare 2 open_case has_head → ⊥
-open_is_none i = no_block (i.stands.2)
-  where
-    no_block : {b : Rattle.lf_coverage.specs.OwnTerms.BlockVariable} → None ≡ Some b → ⊥
-    no_block e = cc
+open_is_none i = none_some i.stands.2
 
 no_second : (below : ℕ → ℕ → Bool) (a : NumberedSplitAnswer) → NumberedSplitIs Bare 2 (exp_block ∷ []) below open_case 1 a → ⊥
 no_second below (numbered_cases Cs) s = s.lists.unified.at.1
@@ -130,12 +128,8 @@ open_is_missing below = (
 )
 
 -- F z = z is left.
-none_added : (y : Option LfType) → or_else y None ≡ y
-none_added None = refl
-none_added (Some A) = refl
-
 no_entries : with_entries Zeros 3 [] ≡ Zeros
-no_entries = ap (λ t. record { types = t; kinds = Zeros.kinds }) (fun_ext (λ c. none_added (Zeros.types c)))
+no_entries = ap (λ t. record { types = t; kinds = Zeros.kinds }) (fun_ext (λ c. else_none (Zeros.types c)))
 
 zero_is_open : IsOpenByNumber Zeros 3 applied_zero zeros
 zero_is_open =

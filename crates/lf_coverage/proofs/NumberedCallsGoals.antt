@@ -2,18 +2,15 @@
 use Rattle.std.proofs.Common.{◌≡◌, ℕ, zero, suc, List, [], ◌∷◌, refl, sym, ap, ◌∙◌, subst, true≢false}
 use Rattle.std.specs.Prelude.{Bool, true, false}
 use Rattle.lf.specs.Syntax.{LfType, weaken}
-use Rattle.lf.specs.Substitution.{Image, reduce}
 use Rattle.lf.specs.Typing.{Signature, TypeAt}
 use Rattle.lf.specs.Subordination.{Block}
-use Rattle.lf.specs.Worlds.{lift_over, instance}
-use Rattle.lf.proofs.Strength.{families_substituted}
-use Rattle.lf.proofs.Target.{target_of}
+use Rattle.lf.specs.Worlds.{lift_over}
 use Rattle.lf_cases.specs.Candidates.{free_among, hide_all}
 use Rattle.lf_cases.specs.Case.{Item, free_variable, block_variable, Case, input_goal}
 use Rattle.lf_cases.specs.OutputGoal.{free_variables}
 use Rattle.lf_cases.specs.Reached.{items_onto}
 use Rattle.lf_cases.specs.Split.{HasNoBlockVariable}
-use Rattle.lf_coverage.specs.Calls.{IsBeside, LocalsIn, PlacesIn}
+use Rattle.lf_coverage.specs.Calls.{IsBeside, PlacesIn}
 use Rattle.lf_coverage.specs.NumberedCalls.{IsBesideByNumber}
 use Rattle.lf_coverage.specs.NumberedCallsLaws.{CoveredIsCoveredGoal, NumberedCandidateIsFree, NumberedInputGoalIsTyped}
 use Rattle.lf_coverage.specs.NumberedCallsReached.{block_items, with_entry_variables}
@@ -24,6 +21,7 @@ use Rattle.lf_coverage.specs.TypedNumbered.{IsTypedNumberedCase}
 use Rattle.lf_coverage.proofs.Candidates.{candidate_is_variable}
 use Rattle.lf_coverage.proofs.EntryPatternsForms.{numbered_covers_case}
 use Rattle.lf_coverage.proofs.HeadSplit.{places_put_in as places_put}
+use Rattle.lf_coverage.proofs.LocalsInSet.{locals_put}
 use Rattle.lf_coverage.proofs.TypedCases.{input_goal_is_typed_case}
 use Rattle.lf_coverage.proofs.TypedNumbered.{numbered_case_is_typed}
 
@@ -33,7 +31,7 @@ hidden [] U n i = n i
 hidden (E ∷ es) U n zero = refl
 hidden (E ∷ es) U n (suc i) = hidden es U n i
 
-none_free : (bs : List BlockVariable) (i : ℕ) → free_among (block_items bs) i ≡ false
+pub none_free : (bs : List BlockVariable) (i : ℕ) → free_among (block_items bs) i ≡ false
 none_free [] i = refl
 none_free (b ∷ bs) i = hidden b.block.entries (free_among (block_items bs)) (none_free bs) i
 
@@ -45,18 +43,14 @@ free_has_type (B ∷ X) bs (suc i) e = let (A, h) = free_has_type X bs i e in (w
 pub numbered_candidate_is_free : NumberedCandidateIsFree
 numbered_candidate_is_free first C p x m = free_has_type C.variables C.blocks x (candidate_is_variable (with_entry_variables first C) p x m).0
 
--- a local context with values put in has the same families
-locals_in : (S : ℕ → Bool) (D : List LfType) (σ : ℕ → Image) → LocalsIn S D → LocalsIn S (instance D σ)
-locals_in S [] σ l = tt
-locals_in S (A ∷ D) σ (h, l) = (λ e. families_substituted S reduce (lift_over D σ) A (h (subst (λ a. S a ≡ true) (target_of reduce (lift_over D σ) A) e)), locals_in S D σ l)
-
-beside_by_number : (Σ : Signature) (W : List Block) (S : ℕ → Bool) (first : ℕ) (C : Case) → IsBeside Σ W S C → IsBesideByNumber Σ W S (numbered first C)
+-- The sets beside which a goal is to be covered are those of its numbered form.
+pub beside_by_number : (Σ : Signature) (W : List Block) (S : ℕ → Bool) (first : ℕ) (C : Case) → IsBeside Σ W S C → IsBesideByNumber Σ W S (numbered first C)
 beside_by_number Σ W S first C b = record {
   self_contained = b.self_contained;
   kind = b.kind;
   of_family = b.of_family;
   places = subst (λ bs. PlacesIn S bs b.kind) (sym (places_put (lift_over C.local (numbering first C.items).images) C.arguments)) b.places;
-  locals = locals_in S C.local (numbering first C.items).images b.locals;
+  locals = locals_put S C.local (numbering first C.items).images b.locals;
 }
 
 pub covered_is_covered_goal : CoveredIsCoveredGoal

@@ -1,10 +1,9 @@
 -- What the answers of the calls by number say of the tuples that a case holds.
-use Rattle.std.proofs.Common.{◌≡◌, ℕ, zero, List, [], ◌∷◌, length, inl, refl, sym, ap, subst}
+use Rattle.std.proofs.Common.{◌≡◌, ℕ, zero, List, [], ◌∷◌, length, inl, refl, ap}
 use Rattle.std.specs.Prelude.{Bool, Option, Some, None}
-use Rattle.lf.specs.Syntax.{Term, Spine, LfType, Kind, base, constant, root, nil, app}
+use Rattle.lf.specs.Syntax.{Term, Spine, LfType, base, constant, root, nil, app}
 use Rattle.lf.specs.Substitution.{Image, keep, put, substitute, reduce}
 use Rattle.lf.specs.Typing.{Signature, IsSignature}
-use Rattle.lf.specs.Variables.{target}
 use Rattle.lf.specs.Subordination.{Block, AreTypedBlocks}
 use Rattle.lf.specs.Worlds.{World, lift_over}
 use Rattle.lf_cases.specs.Case.{covered_places, HasArguments}
@@ -12,27 +11,23 @@ use Rattle.lf_checks.specs.Clause.{Clause}
 use Rattle.lf_cases.specs.Pattern.{CoversTuple, Known, Origin, of_constant, of_entry, Pattern, HasGiven, given_at}
 use Rattle.lf_coverage.specs.EntryConstants.{IsFreeFrom}
 use Rattle.lf_coverage.specs.EntryPatternsRuns.{HoldsByNumber, ZerothIs}
-use Rattle.lf_cases.specs.Split.{Ends, AllEnd, at_leaf, by_split, no_case, next_case}
-use Rattle.lf_coverage.specs.NewBlock.{with_new_block}
+use Rattle.lf_cases.specs.Split.{Ends}
 use Rattle.lf_coverage.specs.NumberedArguments.{read_over, read_all}
 use Rattle.lf_coverage.specs.NumberedCalls.{IsBesideByNumber}
 use Rattle.lf_coverage.specs.NumberedCallsLaws.{InstanceCovers, ApartCoversNone, AnsweredByNumberIsSplitAnswer, AnswersForGoal, AnsweredByNumberIsCovered, ReachedByNumberIsTyped, MissingIsCoveredByNone, MissingIsUncovered}
 use Rattle.lf_coverage.specs.NumberedCallsMeeting.{HasTuple, IsKnownFor, known_of, zeroth_known}
-use Rattle.lf_coverage.specs.NumberedCallsOutside.{IsSplitCaseByNumber}
 use Rattle.lf_coverage.specs.NumberedCallsReached.{ReachedByNumber, numbered_goal, numbered_split}
 use Rattle.lf_coverage.specs.NumberedCase.{NumberedCase}
 use Rattle.lf_coverage.specs.NumberedInstance.{block_at}
-use Rattle.lf_coverage.specs.NumberedSplits.{NumberedOffer, IsOfferTo, of_case, of_new_block, NumberedUnifierFinds}
 use Rattle.lf_coverage.specs.NumberedSplitsRuns.{AnswersByNumber}
 use Rattle.lf_coverage.specs.OwnTerms.{BlockVariable, blocks_of}
 use Rattle.lf_coverage.specs.Reading.{entry_reading}
 use Rattle.lf_coverage.specs.TypedNumbered.{IsTypedNumberedCase}
 use Rattle.lf_coverage.proofs.EntryPatternsLeaf.{numbered_leaf_is_covered}
-use Rattle.lf_coverage.proofs.Forms.{far_type}
+use Rattle.lf_coverage.proofs.NumberedSplitCases.{split_case_is_typed}
 use Rattle.lf_coverage.proofs.NumberedSplits.{answered_by_number_is_split}
 use Rattle.lf_coverage.proofs.NumberedSplitsRuns.{answered_by_number_covers}
-use Rattle.lf_coverage.proofs.OwnStoresNewBlock.{new_block_stays_typed}
-use Rattle.lf_coverage.proofs.OwnStoresSplit.{numbered_split_stays_typed}
+use Rattle.lf_coverage.proofs.Runs.{other_run}
 
 pub instance_covers : InstanceCovers
 instance_covers Σ ok W typed first free C tc p tp n g i S = numbered_leaf_is_covered Σ ok W typed S first free (p ∷ []) C (record { typed = tc; pattern = p; listed = inl refl; pattern_typed = tp; same_length = n; given_own = g; is_instance = i })
@@ -49,30 +44,17 @@ answered_by_number_is_split_answer Σ ok W typed below s first free C tc x Cs l 
 
 -- splits for a goal are splits beside each set beside which it is to be covered
 module _ (Σ : Signature) (first : ℕ) (W : List Block) (below : ℕ → ℕ → Bool) (S : ℕ → Bool) (goal : NumberedCase) (b : IsBesideByNumber Σ W S goal) (Leaf : NumberedCase → Type 0) where
-  mutual
-    goal_run : {C : NumberedCase} → Ends Leaf (AnswersForGoal Σ first W below goal) C → Ends Leaf (AnswersByNumber Σ first W below S) C
-    goal_run (at_leaf l) = at_leaf l
-    goal_run (by_split Cs (x, sp, f) r) = by_split Cs (x, sp, f S b) (goal_runs r)
-
-    goal_runs : {Cs : List NumberedCase} → AllEnd Leaf (AnswersForGoal Σ first W below goal) Cs → AllEnd Leaf (AnswersByNumber Σ first W below S) Cs
-    goal_runs no_case = no_case
-    goal_runs (next_case e r) = next_case (goal_run e) (goal_runs r)
+  goal_run : {C : NumberedCase} → Ends Leaf (AnswersForGoal Σ first W below goal) C → Ends Leaf (AnswersByNumber Σ first W below S) C
+  goal_run r = other_run {Kept = λ C. Unit {0}} (λ C k l. l) (λ C Cs k (x, sp, f). ((x, sp, f S b), λ D m. tt)) tt r
 
 pub answered_by_number_is_covered : AnsweredByNumberIsCovered
 answered_by_number_is_covered Σ ok W typed below s first free ps goal tc n r = λ S b. answered_by_number_covers Σ ok W typed below s S b.self_contained first free ps goal tc n (goal_run Σ first W below S goal b _ r)
 
 -- the case that is read off is typed
 module _ (Σ : Signature) (ok : IsSignature Σ) (W : List Block) (typed : AreTypedBlocks Σ W) (first : ℕ) (free : IsFreeFrom Σ first) (below : ℕ → ℕ → Bool) where
-  pub split_case_is_typed : (C : NumberedCase) → IsTypedNumberedCase Σ first W C → (x : ℕ) (D : NumberedCase) → IsSplitCaseByNumber Σ first W below C x D → IsTypedNumberedCase Σ first W D
-  split_case_is_typed C tc x D sp = by sp.offer sp.is_offered sp.kind sp.of_family sp.finds
-    where
-      by : (o : NumberedOffer) → IsOfferTo Σ first W C x sp.type o → (K : Kind) → Σ.kinds (target o.type) ≡ Some K → NumberedUnifierFinds Σ first below o K (Some D) → IsTypedNumberedCase Σ first W D
-      by o (of_case h U A f) K q (after0, d, z) = subst (IsTypedNumberedCase Σ first W) (sym z) (numbered_split_stays_typed Σ ok W typed first free below C tc x sp.type sp.at h U A f K q after0 d)
-      by o (of_new_block B c U A b n f) K q (after0, d, z) = subst (IsTypedNumberedCase Σ first W) (sym z) (numbered_split_stays_typed Σ ok W typed first free below (with_new_block B C) (new_block_stays_typed Σ ok W typed first free C tc B b) o.variable o.type (far_type B.some C.variables x sp.type sp.at) o.head U A f K q after0 d)
-
   reached_typed : (ps : List Pattern) (goal : NumberedCase) → IsTypedNumberedCase Σ first W goal → {D : NumberedCase} → ReachedByNumber Σ first W below ps goal D → IsTypedNumberedCase Σ first W D
   reached_typed ps goal t numbered_goal = t
-  reached_typed ps goal t (numbered_split {C = C} {D = D} x r n f s) = split_case_is_typed C (reached_typed ps goal t r) x D s
+  reached_typed ps goal t (numbered_split {C = C} {D = D} x r n f s) = split_case_is_typed Σ ok W typed first free below C (reached_typed ps goal t r) x D s
 
 pub reached_by_number_is_typed : ReachedByNumberIsTyped
 reached_by_number_is_typed Σ ok W typed first free below ps goal t D r = reached_typed Σ ok W typed first free below ps goal t r

@@ -1,22 +1,17 @@
 -- A split by number at which an equation is left outside the pattern fragment.
-use Rattle.std.proofs.Common.{◌≡◌, ℕ, zero, suc, ◌≤◌, List, [], ◌∷◌, inl, refl, sym, ap, ◌∙◌, subst, arith}
-use Rattle.std.specs.Prelude.{Bool, false, Option, None}
-use Rattle.lf.specs.Syntax.{Spine, Term, LfType, Kind, app, arrow, base, constant, metavariable, variable, nil, pi, root, star, kind_pi}
-use Rattle.lf.specs.Typing.{Signature, TypeAt, IsSignature}
+use Rattle.std.proofs.Common.{◌≡◌, ℕ, zero, suc, [], ◌∷◌, inl, refl, ap, ◌∙◌, arith}
+use Rattle.std.specs.Prelude.{Bool, false, Option}
+use Rattle.lf.specs.Syntax.{LfType, app, arrow, base, constant, metavariable, variable, nil, pi, root, star}
+use Rattle.lf.specs.Typing.{Signature, IsSignature}
 use Rattle.lf.specs.Subordination.{AreTypedBlocks}
-use Rattle.lf_unification.specs.OpenTyping.{skeletons_of}
-use Rattle.lf_unification.specs.Inversion.{IsPattern}
-use Rattle.lf_unification.specs.Patterns.{pattern}
-use Rattle.lf_unification.specs.Putting.{put_at_rigid, put_at_unbound, put_in_argument, put_nowhere}
-use Rattle.lf_unification.specs.Reach.{is_given}
 use Rattle.lf_unification.specs.Solving.{IsWellFormed, Left, LeftOver}
 use Rattle.lf_unification.specs.Steps.{Run, bind, drop_equal, no_step, then_run}
 use Rattle.lf_unification.specs.Unifiers.{Store, on_left}
 use Rattle.lf_unification.proofs.Runs.{run_left}
-use Rattle.lf_totality.specs.Examples.{nat, on_two, var, z}
+use Rattle.lf_totality.specs.Examples.{nat, on_two, z}
 use Rattle.lf_coverage.specs.EntryConstants.{IsFreeFrom, with_entries}
 use Rattle.lf_coverage.specs.Examples.{two_nats}
-use Rattle.lf_coverage.specs.ExamplesStuck.{Zeros, zero_types}
+use Rattle.lf_coverage.specs.ExamplesStuck.{Zeros}
 use Rattle.lf_coverage.specs.NumberedCallsExamples.{LeavingIsOutside, leaving_case, left_equation}
 use Rattle.lf_coverage.specs.NumberedCallsOutside.{SplitLeavesByNumber}
 use Rattle.lf_coverage.specs.NumberedCase.{NumberedCase}
@@ -27,25 +22,17 @@ use Rattle.lf_coverage.specs.SplitStore.{context_metavariables}
 use Rattle.lf_coverage.specs.TypedNumbered.{IsTypedNumberedCase}
 use Rattle.lf_coverage.proofs.EntrySignature.{with_entries_is_signature}
 use Rattle.lf_coverage.proofs.ExamplesStuck.{zeros_ok}
+use Rattle.lf_coverage.proofs.FlexibleLeft.{flexible_is_left, some_left, store_left}
+use Rattle.lf_coverage.proofs.FreeFrom.{free_from}
+use Rattle.lf_coverage.proofs.NoArgument.{no_argument_of}
 use Rattle.lf_coverage.proofs.OwnStoresStart.{numbered_store_is_ready}
+use Rattle.lf_coverage.proofs.UsedVariables.{types_of_two}
 
 no_blocks : AreTypedBlocks Zeros []
 no_blocks B m = absurd m
 
 free : IsFreeFrom Zeros 3
-free = record { types_free = types; kinds_free = kinds }
-  where
-    types : (c : ℕ) → 3 ≤ c → zero_types c ≡ None
-    types zero l = absurd (omega (arith, l))
-    types (suc zero) l = absurd (omega (arith, l))
-    types (suc (suc zero)) l = absurd (omega (arith, l))
-    types (suc (suc (suc c))) l = refl
-
-    kinds : (a : ℕ) → 3 ≤ a → Zeros.kinds a ≡ None
-    kinds zero l = absurd (omega (arith, l))
-    kinds (suc zero) l = refl
-    kinds (suc (suc zero)) l = absurd (omega (arith, l))
-    kinds (suc (suc (suc a))) l = refl
+free = free_from Zeros 3 (λ c. refl) (λ a. refl)
 
 abbrev Entries : Signature
 Entries = with_entries Zeros 3 []
@@ -55,7 +42,7 @@ entries_ok = with_entries_is_signature Zeros zeros_ok 3 free [] no_blocks
 
 leaving_typed : IsTypedNumberedCase Zeros 3 [] leaving_case
 leaving_typed = record {
-  variables = record { variables = ((tt, ((star, refl, tt), (star, refl, tt))), (two_nats, refl, ((nat, refl, refl), ((pi nat nat, refl, ((nat, refl, refl), refl)), tt)))); on_own_terms = own; blocks = tt };
+  variables = record { variables = ((tt, ((star, refl, tt), (star, refl, tt))), (two_nats, refl, ((nat, refl, refl), ((pi nat nat, refl, ((nat, refl, refl), refl)), tt)))); on_own_terms = types_of_two (λ i A. TypeOnOwnTerms (own_terms 3 leaving_case.blocks) A) (on_two 2 z (root (variable 0) (app z nil))) (pi nat nat) ((tt, tt), (((tt, tt), tt), tt)) (tt, tt); blocks = tt };
   local = ((tt, ((star, refl, tt), (star, refl, tt))), (two_nats, refl, ((nat, refl, refl), ((pi nat nat, refl, ((nat, refl, refl), refl)), tt))));
   local_on_own = tt;
   given = tt;
@@ -63,11 +50,6 @@ leaving_typed = record {
   arguments = ((base 0, (base 0, refl, refl)), ((base 0, (arrow (base 0) (base 0), refl, ((base 0, refl, refl), refl))), tt));
   arguments_on_own = ((tt, tt), (((tt, tt), tt), tt));
 }
-  where
-    own : (i : ℕ) (A : LfType) → TypeAt leaving_case.variables i A → TypeOnOwnTerms (own_terms 3 leaving_case.blocks) A
-    own zero A e = subst (TypeOnOwnTerms (own_terms 3 leaving_case.blocks)) (sym e) ((tt, tt), (((tt, tt), tt), tt))
-    own (suc zero) A (B, g, e) = subst (TypeOnOwnTerms (own_terms 3 leaving_case.blocks)) (sym (e ∙ ap Rattle.lf.specs.Syntax.weaken g)) (tt, tt)
-    own (suc (suc i)) A (B, (D, g, p), e) = absurd g
 
 abbrev left_type : LfType
 left_type = on_two 2 z (root (variable 1) (app z nil))
@@ -76,58 +58,10 @@ abbrev left_types : ℕ → Option LfType
 left_types = context_metavariables (on_two 2 z (root (variable 0) (app z nil)) ∷ pi nat nat ∷ [])
 
 abbrev left_after : Store
-left_after = record { metavariables = left_types; bindings = record { of = 0; value = root (constant 2) nil } ∷ []; equations = left_equation ∷ [] }
+left_after = store_left (on_two 2 z (root (variable 0) (app z nil))) 0 0 (root (constant 2) nil) 0 0 nat
 
-no_variable : {x : ℕ} → z ≡ var x → ⊥
-no_variable e = cc
-
-first : {X Y : Term} {A B : Spine} → app X A ≡ app Y B → X ≡ Y
-first e = cc
-
-constant_fails : (xs : List ℕ) → app z nil ≡ pattern (arrow (base 0) (base 0)) xs → ⊥
-constant_fails [] e = cc
-constant_fails (x ∷ xs) e = no_variable (first e)
-
-no_pattern : (m : ℕ) (xs : List ℕ) → root (metavariable 1) (app z nil) ≡ root (metavariable m) (pattern (skeletons_of left_types m) xs) → ⊥
-no_pattern m xs e = by m (let p : 1 ≡ m = cc in p) (let q : app z nil ≡ pattern (skeletons_of left_types m) xs = cc in q)
-  where
-    by : (m : ℕ) → 1 ≡ m → app z nil ≡ pattern (skeletons_of left_types m) xs → ⊥
-    by zero p q = absurd cc
-    by (suc zero) p q = constant_fails xs q
-    by (suc (suc m)) p q = absurd cc
-
-constant_is_none : (m : ℕ) (S : Spine) → z ≡ root (metavariable m) S → ⊥
-constant_is_none m S e = cc
-
-sides_differ : root (metavariable 1) (app z nil) ≡ z → ⊥
-sides_differ e = cc
-
-one_is_zero : suc zero ≡ zero → ⊥
-one_is_zero e = cc
-
-left_over : LeftOver left_types left_after left_equation
-left_over = record {
-  shown = left_equation;
-  same_local = refl;
-  put_left = put_at_unbound (one_is_zero, tt) (put_in_argument (put_at_rigid (constant 0) tt put_nowhere) put_nowhere);
-  put_right = put_at_rigid (constant 0) tt put_nowhere;
-  inside_left = (is_given (pi nat nat, refl), (tt, tt));
-  inside_right = tt;
-  outside = record {
-    differ = sides_differ;
-    left_root = λ h. h;
-    right_root = λ h. h;
-    flexible = inl tt;
-    stuck_left = λ m xs p e. absurd (no_pattern m xs e);
-    stuck_right = λ m xs p e. absurd (constant_is_none m _ e);
-  };
-}
-
-no_argument : IsPattern [] (base 2) []
-no_argument = record { places = λ Γ. tt; distinct = λ i j e. e }
-
-some_left : left_equation ∷ [] ≡ [] → ⊥
-some_left e = cc
+abbrev left_over : LeftOver left_types left_after left_equation
+left_over = flexible_is_left (on_two 2 z (root (variable 0) (app z nil))) 0 0 (root (constant 2) nil) 0 0 nat
 
 abbrev proof_offer : NumberedOffer
 proof_offer = record { case = leaving_case; variable = 0; type = left_type; head = constant 2; terms = nil; left = on_two 2 z z }
@@ -143,13 +77,13 @@ module _ (below : ℕ → ℕ → Bool) where
   ready = numbered_store_is_ready Zeros zeros_ok [] no_blocks 3 free below leaving_case leaving_typed 0 left_type refl (constant 2) nil (on_two 2 z z) is_offered two_nats refl
 
   run : Run Entries store left_after
-  run = then_run (bind {A = on_two 2 z (root (metavariable 1) (app z nil))} on_left [] 0 [] (root (constant 2) nil) (on_two 2 z (root (metavariable 1) (app z nil))) refl tt no_argument (record { inverted = record { inversion = root (constant 2) nil; is = refl }; reached = λ k. false; avoids = ((λ k A v e. absurd v), tt, λ v. v); within = tt })) (then_run drop_equal no_step)
+  run = then_run (bind {A = on_two 2 z (root (metavariable 1) (app z nil))} on_left [] 0 [] (root (constant 2) nil) (on_two 2 z (root (metavariable 1) (app z nil))) refl tt (no_argument_of 2) (record { inverted = record { inversion = root (constant 2) nil; is = refl }; reached = λ k. false; avoids = ((λ k A v e. absurd v), tt, λ v. v); within = tt })) (then_run drop_equal no_step)
 
   is_left : Left Entries store left_after
   is_left = run_left Entries entries_ok ready run some_left (left_over, tt)
 
   leaves : SplitLeavesByNumber Zeros 3 [] below leaving_case 0 leaving_case left_equation
-  unfolding left_over
+  unfolding flexible_is_left
   leaves = record { type = left_type; at = refl; offer = proof_offer; is_offered = of_case (constant 2) nil (on_two 2 z z) is_offered; is_over = refl; kind = two_nats; of_family = refl; after = left_after; left = is_left; equation = left_equation; listed = inl refl; left_over = left_over; is_shown = refl }
 
 of_this_case : (x : ℕ) (X : LfType) (o : NumberedOffer) → IsOfferTo Zeros 3 [] leaving_case x X o → o.case.family ≡ 2

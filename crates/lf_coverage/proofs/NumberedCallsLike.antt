@@ -1,18 +1,17 @@
 -- What the strategy reaches by number is like the goal.
-use Rattle.std.proofs.Common.{◌≡◌, ℕ, ◌+◌, List, [], ◌∷◌, length, refl, ap, ◌∙◌, subst, sym}
-use Rattle.std.specs.Prelude.{Bool, true, false, Option, Some, None}
-use Rattle.lf.specs.Syntax.{Term, Kind}
+use Rattle.std.proofs.Common.{ℕ, ◌+◌, List, length, refl, ◌∙◌, subst, sym}
+use Rattle.std.specs.Prelude.{Bool, Some}
+use Rattle.lf.specs.Syntax.{Kind}
 use Rattle.lf.specs.AtOnce.{shift_by, lift_renaming_by}
 use Rattle.lf.specs.Typing.{Signature}
 use Rattle.lf.specs.Subordination.{Block}
 use Rattle.lf.specs.Worlds.{lift_over}
 use Rattle.lf_unification.specs.Dependency.{ListedMetavariable}
 use Rattle.lf_unification.specs.Unifiers.{Store}
-use Rattle.lf_cases.specs.Case.{covered_places}
 use Rattle.lf_cases.specs.Pattern.{Pattern}
 use Rattle.lf_cases.specs.Reached.{arguments_count}
 use Rattle.lf_coverage.specs.EntryPatternsRuns.{IsLikeByNumber}
-use Rattle.lf_coverage.specs.NewBlock.{rename_all, with_new_block}
+use Rattle.lf_coverage.specs.NewBlock.{with_new_block}
 use Rattle.lf_coverage.specs.NumberedCallsLaws.{ReachedIsLikeGoal}
 use Rattle.lf_coverage.specs.NumberedCallsOutside.{IsSplitCaseByNumber}
 use Rattle.lf_coverage.specs.NumberedCallsReached.{ReachedByNumber, numbered_goal, numbered_split}
@@ -21,11 +20,7 @@ use Rattle.lf_coverage.specs.NumberedSplits.{NumberedOffer, IsOfferTo, of_case, 
 use Rattle.lf_coverage.specs.OwnStores.{solved_numbered}
 use Rattle.lf_coverage.specs.SplitStore.{answer_values}
 use Rattle.lf_coverage.proofs.HeadSplit.{places_put_in as places_put}
-
-places_moved : (ρ : ℕ → ℕ) (Ms : List (Option Term)) → covered_places (rename_all ρ Ms) ≡ covered_places Ms
-places_moved ρ [] = refl
-places_moved ρ (Some M ∷ Ms) = ap (λ bs. true ∷ bs) (places_moved ρ Ms)
-places_moved ρ (None ∷ Ms) = ap (λ bs. false ∷ bs) (places_moved ρ Ms)
+use Rattle.lf_coverage.proofs.NumberedSplits.{places_renamed}
 
 alike : (C D E : NumberedCase) → IsLikeByNumber C D → IsLikeByNumber D E → IsLikeByNumber C E
 alike C D E c d = record { family = d.family ∙ c.family; places = d.places ∙ c.places; given = d.given ∙ c.given }
@@ -34,9 +29,9 @@ pub solved_alike : (C : NumberedCase) (k : ℕ) (s : Store) (order : List Listed
 solved_alike C k s order = record { family = refl; places = places_put (lift_over C.local (λ i. answer_values s order (i + k))) C.arguments; given = places_put (λ i. answer_values s order (i + k)) C.given }
 
 pub new_alike : (B : Block) (C : NumberedCase) → IsLikeByNumber C (with_new_block B C)
-new_alike B C = record { family = refl; places = places_moved (lift_renaming_by (length C.local) (shift_by (length B.some))) C.arguments; given = places_moved (shift_by (length B.some)) C.given }
+new_alike B C = record { family = refl; places = places_renamed (lift_renaming_by (length C.local) (shift_by (length B.some))) C.arguments; given = places_renamed (shift_by (length B.some)) C.given }
 
-split_alike : (Σ : Signature) (first : ℕ) (W : List Block) (below : ℕ → ℕ → Bool) (C : NumberedCase) (x : ℕ) (D : NumberedCase) → IsSplitCaseByNumber Σ first W below C x D → IsLikeByNumber C D
+pub split_alike : (Σ : Signature) (first : ℕ) (W : List Block) (below : ℕ → ℕ → Bool) (C : NumberedCase) (x : ℕ) (D : NumberedCase) → IsSplitCaseByNumber Σ first W below C x D → IsLikeByNumber C D
 split_alike Σ first W below C x D sp = by sp.offer sp.is_offered sp.kind sp.finds
   where
     read_off : (o : NumberedOffer) (K : Kind) → NumberedUnifierFinds Σ first below o K (Some D) → IsLikeByNumber o.case D

@@ -11,7 +11,6 @@ use Rattle.lf.specs.Typing.{Signature, TypeAt, HasType, IsType, IsContext, IsSig
 use Rattle.lf.specs.Variables.{onto, everything}
 use Rattle.lf.specs.Worlds.{lift_over, instance}
 use Rattle.lf.proofs.Agreement.{agree_on_type}
-use Rattle.lf.proofs.Eta.{rename_eta_expand}
 use Rattle.lf.proofs.Kept.{typed_uses_type}
 use Rattle.lf.proofs.Partial.{uses_type_all}
 use Rattle.lf.proofs.SkeletonTyping.{lift_by_skeletons}
@@ -33,6 +32,7 @@ use Rattle.lf_coverage.proofs.OwnLong.{variable_own as own_long}
 use Rattle.lf_coverage.proofs.OwnInstance.{items_stay}
 use Rattle.lf_coverage.proofs.SolvedCase.{free_context_is, free_typed}
 use Rattle.lf_coverage.proofs.Transfer.{instance_fits}
+use Rattle.lf_coverage.proofs.WritingValues.{term_moved}
 
 -- Constants that don't move leave all terms.
 mutual
@@ -58,10 +58,6 @@ pub unmoved_all : (Ms : List (Option Term)) → move_all (λ c. c) Ms ≡ Ms
 unmoved_all [] = refl
 unmoved_all (Some M ∷ Ms) = ap₂ (λ N Ns. Some N ∷ Ns) (unmoved M) (unmoved_all Ms)
 unmoved_all (None ∷ Ms) = ap (λ Ns. None ∷ Ns) (unmoved_all Ms)
-
-moved_term : (a : Skeleton) (x : Image) → as_term a (rename_image suc x) ≡ rename suc (as_term a x)
-moved_term a (keep i) = sym (rename_eta_expand suc a (variable i) nil)
-moved_term a (put b N) = refl
 
 -- values that leave each variable of a context as it is
 abbrev pub Leaves : List LfType → (ℕ → Image) → Type 0
@@ -126,7 +122,7 @@ module _ (Σ : Signature) (ok : IsSignature Σ) (Y : List LfType) (context : IsC
     leaves_over : (D : List LfType) → Leaves (onto D Y) (lift_over D σ)
     leaves_over [] i X h = leaves i X h
     leaves_over (A ∷ D) zero X e = refl
-    leaves_over (A ∷ D) (suc i) X (B, h, e) = subst (λ a. as_term a (rename_image suc (lift_over D σ i)) ≡ as_term a (keep (suc i))) (sym (ap skeleton e ∙ skeleton_renamed suc B)) (moved_term (skeleton B) (lift_over D σ i) ∙ ap (rename suc) (leaves_over D i B h) ∙ sym (moved_term (skeleton B) (keep i)))
+    leaves_over (A ∷ D) (suc i) X (B, h, e) = subst (λ a. as_term a (rename_image suc (lift_over D σ i)) ≡ as_term a (keep (suc i))) (sym (ap skeleton e ∙ skeleton_renamed suc B)) (term_moved (skeleton B) (lift_over D σ i) ∙ ap (rename suc) (leaves_over D i B h) ∙ sym (term_moved (skeleton B) (keep i)))
 
     term_stays : (D : List LfType) (M : Term) (t : Skeleton) → TermSkeleton (constant_skeletons Σ) (context_skeletons (onto D Y)) M t → substitute reduce (lift_over D σ) M ≡ M
     term_stays D M t m = leaves_terms Σ (free_variables (onto D Y)) (lift_over D σ) (subst (λ Z. SubstitutionBySkeletons (constant_skeletons Σ) (context_skeletons Z) (context_skeletons Z) (lift_over D σ)) (sym (free_context_is (onto D Y))) (fits_over D)) (subst (λ Z. Leaves Z (lift_over D σ)) (sym (free_context_is (onto D Y))) (leaves_over D)) M t (subst (λ Z. TermSkeleton (constant_skeletons Σ) (context_skeletons Z) M t) (sym (free_context_is (onto D Y))) m)

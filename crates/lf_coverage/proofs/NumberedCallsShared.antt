@@ -1,14 +1,12 @@
 -- An instance of a pattern by number shares one with it.
-use Rattle.std.proofs.Common.{◌≡◌, ℕ, zero, suc, ◌+◌, List, [], ◌∷◌, length, inr, refl, sym, ap, ◌∙◌, subst, arith}
+use Rattle.std.proofs.Common.{◌≡◌, ℕ, zero, suc, ◌+◌, List, [], ◌∷◌, length, refl, sym, ap, ◌∙◌, subst, arith}
 use Rattle.std.specs.Prelude.{Option, Some, None}
-use Rattle.lf.specs.Syntax.{Spine, LfType}
 use Rattle.lf.specs.Substitution.{Image, substitute_spine, reduce}
 use Rattle.lf.specs.Typing.{Signature, IsSignature}
-use Rattle.lf.specs.Subordination.{Block, AreTypedBlocks, Member}
+use Rattle.lf.specs.Subordination.{Block, AreTypedBlocks}
 use Rattle.lf.specs.Worlds.{lift_over, instance}
-use Rattle.lf_checks.specs.Clause.{Clause}
 use Rattle.lf_cases.specs.Missing.{blocks_with, put_in}
-use Rattle.lf_cases.specs.Pattern.{Origin, of_constant, of_entry, Pattern}
+use Rattle.lf_cases.specs.Pattern.{Pattern}
 use Rattle.lf_coverage.specs.EntryConstants.{EntryConstant, entry_constant, with_entries, IsFreeFrom}
 use Rattle.lf_coverage.specs.EntryPatterns.{IsInstanceOfPattern}
 use Rattle.lf_coverage.specs.NumberedCallsLaws.{InstanceShares, InstanceIsNotApart, MissingIsNoInstance}
@@ -17,6 +15,7 @@ use Rattle.lf_coverage.specs.NumberedCase.{NumberedCase, AreTypedBlockVariables}
 use Rattle.lf_coverage.specs.NumberedInstance.{AreTypedValues, IsNumberedInstanceOf, block_at, moved_constant, moved_entry, first_constant, move_all, move_spine, move_types}
 use Rattle.lf_coverage.specs.OwnTerms.{BlockVariable, blocks_of, own_terms}
 use Rattle.lf_coverage.specs.TypedNumbered.{IsTypedNumberedCase}
+use Rattle.lf_coverage.proofs.MoreWorlds.{more_worlds, with_more}
 use Rattle.lf_coverage.proofs.NumberedCallsCopying.{instance_has_pattern}
 use Rattle.lf_coverage.proofs.NumberedCallsOwn.{Fits, Leaves, own_values, terms_stay, local_stays, some_stay, unmoved_all, unmoved_spine, unmoved_types}
 use Rattle.lf_coverage.proofs.OwnStoresEntry.{ok₁}
@@ -37,17 +36,8 @@ constant_stays first bs c = by (entry_constant zero first (blocks_of bs) c) refl
         let (j, b, at, number, block, from, place, later, entries, rest) = from_is zero first bs c e q in
         ap (λ k. first_constant first (blocks_of bs) k + length e.before) (number ∙ none j) ∙ ap (λ n. n + length e.before) (sym from) ∙ sym place
 
-constants_stay : (first : ℕ) (bs : List BlockVariable) → moved_constant first (blocks_of bs) (blocks_of bs) (λ k. k) ≡ (λ c. c)
+pub constants_stay : (first : ℕ) (bs : List BlockVariable) → moved_constant first (blocks_of bs) (blocks_of bs) (λ k. k) ≡ (λ c. c)
 constants_stay first bs = fun_ext (constant_stays first bs)
-
--- block variables are typed where there are more worlds
-more_worlds : (Σ : Signature) (W V : List Block) → ((B : Block) → Member B W → Member B V) → (X : List LfType) (o : ℕ → Option Spine) (bs : List BlockVariable) → AreTypedBlockVariables Σ W X o bs → AreTypedBlockVariables Σ V X o bs
-more_worlds Σ W V f X o [] t = tt
-more_worlds Σ W V f X o (b ∷ bs) (m, s, u, t) = (f b.block m, s, u, more_worlds Σ W V f X o bs t)
-
-with_more : {c : Clause} (p : Origin c) (W : List Block) (B : Block) → Member B W → Member B (blocks_with p W)
-with_more (of_constant U) W B m = m
-with_more (of_entry D later E es e) W B m = inr m
 
 module _ (Σ : Signature) (ok : IsSignature Σ) (W : List Block) (typed : AreTypedBlocks Σ W) (first : ℕ) (free : IsFreeFrom Σ first) (C : NumberedCase) (tc : IsTypedNumberedCase Σ first W C) where
   abbrev Σ₁ : Signature

@@ -1,5 +1,5 @@
 -- Candidates by number beside a set of families, and what they take: both look at skeletons alone.
-use Rattle.std.proofs.Common.{◌≡◌, ℕ, List, [], ◌∷◌, refl, sym, ap, ap₂, ◌∙◌, subst, Some}
+use Rattle.std.proofs.Common.{◌≡◌, ℕ, List, [], ◌∷◌, refl, sym, ap, ap₂, ◌∙◌, subst}
 use Rattle.std.specs.Prelude.{Bool, true, false}
 use Rattle.lf.specs.Syntax.{LfType, Kind, pi, atom, kind_pi, star, Skeleton, base, arrow, skeleton}
 use Rattle.lf.specs.Skeletons.{constant_skeletons}
@@ -16,28 +16,26 @@ use Rattle.lf_coverage.specs.Subordinate.{QuantifiersAreBelow, AllQuantifiersAre
 use Rattle.lf_coverage.proofs.NumberedCandidatesFound.{PlacesHave, each_candidate}
 use Rattle.lf_coverage.proofs.NumberedCandidatesPlaces.{LocalHave}
 use Rattle.lf_coverage.proofs.NumberedCandidatesWalk.{Takes}
+use Rattle.lf_coverage.proofs.Parts.{some_same}
 use Rattle.lf_coverage.proofs.Subordinate.{quantified}
 use Rattle.lf_coverage.proofs.SubordinateItems.{KindIsBelow, kind_is_below}
 use Rattle.lf_coverage.proofs.WritingLow.{skeleton_target, target_is}
 
-same_kind : {K L : Kind} → Some K ≡ Some L → K ≡ L
-same_kind e = cc
-
 -- The families in a skeleton
 module _ (S : ℕ → Bool) where
-  abbrev pub In : Skeleton → Type 0
+  abbrev In : Skeleton → Type 0
   In (arrow a b) = In a × In b
   In (base c) = S c ≡ true
 
-  pub own_in : (t : Skeleton) → In t → S (skeleton_target t) ≡ true
+  own_in : (t : Skeleton) → In t → S (skeleton_target t) ≡ true
   own_in (arrow a b) (h, k) = own_in b k
   own_in (base c) h = h
 
-  pub to_in : (A : LfType) → FamiliesIn S A → In (skeleton A)
+  to_in : (A : LfType) → FamiliesIn S A → In (skeleton A)
   to_in (pi A B) (a, b) = (to_in A a, to_in B b)
   to_in (atom a T) h = h
 
-  pub from_in : (A : LfType) → In (skeleton A) → FamiliesIn S A
+  from_in : (A : LfType) → In (skeleton A) → FamiliesIn S A
   from_in (pi A B) (a, b) = (from_in A a, from_in B b)
   from_in (atom a T) h = h
 
@@ -59,25 +57,25 @@ module _ (S : ℕ → Bool) where
 pub numbered_candidate_is_in_set : NumberedCandidateIsInSet
 numbered_candidate_is_in_set Σ W first free S C q p tb same b x m X at =
     takes_in S (with_entries Σ first (blocks_of C.blocks)) X
-    (each_candidate S (In S) (λ a b h. h) (own_in S) Σ W first free (λ c Y e o. to_in S Y (b.self_contained.types_in c Y e (ap S (target_is Y) ∙ o))) (λ B E i j o. to_in S E (b.self_contained.entries_in B E i j (ap S (target_is E) ∙ o))) C q p tb same (locals_in S (with_entries Σ first (blocks_of C.blocks)) C.local b.locals) (places_in S (covered_places C.arguments) tb.beside.kind (subst (PlacesIn S (covered_places C.arguments)) (same_kind (sym b.of_family ∙ tb.beside.of_family)) b.places)) x m X at)
+    (each_candidate S (In S) (λ a b h. h) (own_in S) Σ W first free (λ c Y e o. to_in S Y (b.self_contained.types_in c Y e (ap S (target_is Y) ∙ o))) (λ B E i j o. to_in S E (b.self_contained.entries_in B E i j (ap S (target_is E) ∙ o))) C q p tb same (locals_in S (with_entries Σ first (blocks_of C.blocks)) C.local b.locals) (places_in S (covered_places C.arguments) tb.beside.kind (subst (PlacesIn S (covered_places C.arguments)) (some_same (sym b.of_family ∙ tb.beside.of_family)) b.places)) x m X at)
 
 -- What is quantified in a skeleton
 module _ (below : ℕ → ℕ → Bool) where
-  abbrev pub Low : Skeleton → Type 0
+  abbrev Low : Skeleton → Type 0
   Low (arrow a b) = (below (skeleton_target b) (skeleton_target a) ≡ true) × Low a × Low b
   Low (base c) = Unit {0}
 
-  abbrev pub any : ℕ → Bool
+  abbrev any : ℕ → Bool
   any a = true
 
-  pub low_parts : (a b : Skeleton) → Low (arrow a b) → Low a × Low b
+  low_parts : (a b : Skeleton) → Low (arrow a b) → Low a × Low b
   low_parts a b (q, h, k) = (h, k)
 
-  pub to_low : (A : LfType) → QuantifiersAreBelow below A → Low (skeleton A)
+  to_low : (A : LfType) → QuantifiersAreBelow below A → Low (skeleton A)
   to_low (pi A B) (q, a, b) = (ap₂ below (sym (target_is B)) (sym (target_is A)) ∙ q, to_low A a, to_low B b)
   to_low (atom a T) q = tt
 
-  pub from_low : (A : LfType) → Low (skeleton A) → QuantifiersAreBelow below A
+  from_low : (A : LfType) → Low (skeleton A) → QuantifiersAreBelow below A
   from_low (pi A B) (q, a, b) = (ap₂ below (target_is B) (target_is A) ∙ q, from_low A a, from_low B b)
   from_low (atom a T) q = tt
 

@@ -7,7 +7,8 @@ use Rattle.lf.specs.Typing.{TypeAt, ImageHasType, IsContext}
 use Rattle.lf.specs.Variables.{binders, FamiliesIn, KindFamiliesIn, UsesType, Values, same_number, target}
 use Rattle.lf.specs.Subordination.{Block, Member, SelfContained, IsDeclared}
 use Rattle.lf_checks.specs.Clause.{scope}
-use Rattle.lf_cases.specs.Cover.{before, AreTerms}
+use Rattle.lf_checks.specs.Worlded.{IsTerm}
+use Rattle.lf_cases.specs.Cover.{before}
 use Rattle.lf_cases.specs.Pattern.{Pattern}
 use Rattle.lf_cases.specs.Split.{at_leaf, by_split, no_case, next_case, Ends}
 use Rattle.lf_coverage.specs.EntryConstants.{with_entries}
@@ -24,49 +25,33 @@ use Rattle.lf_coverage.proofs.NumberedCandidatesExamples.{entry_case_typed, judg
 use Rattle.lf_coverage.proofs.NumberedCandidatesExamplesOffer.{blocks_typed, free, judged_ok, worlds}
 use Rattle.lf_coverage.proofs.NumberedCandidatesGoals.{numbered_candidate_run_covers_inputs}
 use Rattle.lf_coverage.proofs.Parts.{none_some, some_same}
+use Rattle.lf_coverage.proofs.UsedVariables.{at_one, types_at_one}
 
 abbrev values : ℕ → Image
 values = before [] (variable_images 4 judged_entry.blocks 0 judged_block (app (var 0) nil))
 
 values_typed : Values (with_entries Judged 4 worlds) (same_number 1) (scope judged_clause) (tp ∷ []) values
-values_typed = record { typed = typed; closed = closed }
+values_typed = record {
+  typed = types_at_one 1 (λ i A. ImageHasType (with_entries Judged 4 worlds) (tp ∷ []) (values i) (substitute_type reduce values A)) (scope judged_clause) exp exp_at (refl, (pi tp exp, refl, ((tp, refl, refl), refl)));
+  closed = types_at_one 1 (λ i A. UsesType (same_number 1) A) (scope judged_clause) exp exp_at tt;
+}
   where
     exp_at : (A : LfType) → TypeAt (scope judged_clause) 1 A → A ≡ exp
     exp_at A (B, g, e) = e ∙ ap weaken g
-
-    typed : (i : ℕ) (A : LfType) → TypeAt (scope judged_clause) i A → same_number 1 i ≡ true → ImageHasType (with_entries Judged 4 worlds) (tp ∷ []) (values i) (substitute_type reduce values A)
-    typed zero A g u = absurd cc
-    typed (suc zero) A g u = subst (λ B. ImageHasType (with_entries Judged 4 worlds) (tp ∷ []) (values 1) (substitute_type reduce values B)) (sym (exp_at A g)) (refl, (pi tp exp, refl, ((tp, refl, refl), refl)))
-    typed (suc (suc i)) A g u = absurd cc
-
-    closed : (i : ℕ) (A : LfType) → TypeAt (scope judged_clause) i A → same_number 1 i ≡ true → UsesType (same_number 1) A
-    closed zero A g u = absurd cc
-    closed (suc zero) A g u = subst (UsesType (same_number 1)) (sym (exp_at A g)) tt
-    closed (suc (suc i)) A g u = absurd cc
 
 is_instance : IsInstanceOfPattern Judged 4 judged_entry judged_head
 is_instance = record {
   used = same_number 1;
   values = values;
   typed = values_typed;
-  on_own_terms = on_own;
+  on_own_terms = at_one 1 (λ i. ImageOnOwnTerms (own_terms 4 judged_entry.blocks) (values i)) ((nil, refl), (tt, tt));
   uses = ((refl, tt), tt);
   strict = ((refl, tt), tt);
-  terms = terms;
+  terms = λ i o u. at_one 1 (λ j. IsTerm (values j)) tt i u;
   given = λ i M u e. absurd cc;
   stands = (0, app (var 0) nil, refl, (λ e. absurd cc), λ k X t. refl);
   same = (refl, tt);
 }
-  where
-    on_own : (i : ℕ) → same_number 1 i ≡ true → ImageOnOwnTerms (own_terms 4 judged_entry.blocks) (values i)
-    on_own zero u = absurd cc
-    on_own (suc zero) u = ((nil, refl), (tt, tt))
-    on_own (suc (suc i)) u = absurd cc
-
-    terms : AreTerms judged_clause (same_number 1) values
-    terms zero o u = absurd cc
-    terms (suc zero) o u = tt
-    terms (suc (suc i)) o u = absurd cc
 
 pattern_typed : IsTypedPattern Judged judged_head
 pattern_typed = record { outer_typed = context; clause_typed = context; type_typed = (kind_pi exp star, refl, ((exp, (exp, refl, refl), refl), tt)) }

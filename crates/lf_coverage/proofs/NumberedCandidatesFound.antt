@@ -27,11 +27,13 @@ use Rattle.lf_coverage.specs.NumberedCase.{NumberedCase}
 use Rattle.lf_coverage.specs.OwnTerms.{blocks_of, own_terms}
 use Rattle.lf_coverage.specs.Reading.{read}
 use Rattle.lf_coverage.specs.TypedCase.{TypedArguments}
-use Rattle.lf_coverage.proofs.EntrySignature.{else_second}
-use Rattle.lf_coverage.proofs.NumberedCandidatesPlaces.{LocalHave, behind_some, bound_apart, entries_not_bound, entries_not_free, entries_read, entry_of_worlds, free_are_good, no_entry, others_have, over_target, read_as}
-use Rattle.lf_coverage.proofs.NumberedCandidatesWalk.{ConstantsIn, Each, InBehind, Takes, Way, each_none, each_then, from_term, of_each_once}
+use Rattle.lf_coverage.proofs.EachCandidate.{Each, each_none, each_then, of_each_once}
+use Rattle.lf_coverage.proofs.EntrySignature.{else_none, else_second}
+use Rattle.lf_coverage.proofs.NumberedCandidatesPlaces.{LocalHave, behind_some, bound_apart, entries_not_bound, entries_not_free, entries_read, entry_of_worlds, free_are_good, no_entry, others_have, read_as}
+use Rattle.lf_coverage.proofs.NumberedCandidatesWalk.{ConstantsIn, InBehind, Takes, Way, from_term}
 use Rattle.lf_coverage.proofs.OwnTerms.{entry_from}
 use Rattle.lf_coverage.proofs.Parts.{some_same}
+use Rattle.lf_coverage.proofs.PatternPruned.{over_target}
 use Rattle.lf_coverage.proofs.SolvedCase.{free_context_is}
 use Rattle.lf_coverage.proofs.WritingLow.{skeleton_target}
 
@@ -76,10 +78,6 @@ module _ (Own : ℕ → Bool) (In : Skeleton → Type 0) (parts : (a b : Skeleto
     type_of c t None e = absurd cc
     type_of c t (Some Y) e = (Y, refl, sym (some_same e))
 
-    first_of : (x : Option LfType) → or_else x None ≡ x
-    first_of None = refl
-    first_of (Some Y) = refl
-
     constants_in : ConstantsIn (constant_skeletons Σ₁) Own In parts own f
     constants_in c t e o = ((λ z. whole z), λ m v z. left m v z)
       where
@@ -87,7 +85,7 @@ module _ (Own : ℕ → Bool) (In : Skeleton → Type 0) (parts : (a b : Skeleto
         whole z =
             let k : entry_constant zero first (blocks_of C.blocks) c ≡ None = no_entry first C.blocks C.variables C.local D same c z in
             let (Y, y, s) = type_of c t (Σ₁.types c) e in
-            let there : Σ.types c ≡ Some Y = sym (first_of (Σ.types c)) ∙ ap (λ x. or_else (Σ.types c) (entry_type x)) (sym k) ∙ y in
+            let there : Σ.types c ≡ Some Y = sym (else_none (Σ.types c)) ∙ ap (λ x. or_else (Σ.types c) (entry_type x)) (sym k) ∙ y in
             subst In (sym s) (declared c Y there (ap (λ z. Own (skeleton_target z)) (sym s) ∙ o))
 
         left : (m v : ℕ) → entries_read first C.blocks C.variables C.local (binders [] p.type) same c ≡ Some (m, v) → InBehind (constant_skeletons Σ₁) Own In parts own m t
@@ -99,7 +97,7 @@ module _ (Own : ℕ → Bool) (In : Skeleton → Type 0) (parts : (a b : Skeleto
             let there : Y ≡ pi_over ec.block.some P = some_same (sym y ∙ else_second (Σ.types c) (entry_type (entry_constant zero first (blocks_of C.blocks) c)) (entry_type (Some ec)) (free.types_free c (entry_from zero first (blocks_of C.blocks) c ec k)) (ap entry_type k)) in
             let r : skeleton P ≡ skeleton ec.entry = skeleton_substituted reduce (entry_images ec.from (local_arguments ec.block.some) ec.before keep) ec.entry in
             let st : t ≡ skeleton (pi_over ec.block.some P) = s ∙ ap skeleton there in
-            let oe : Own (skeleton_target (skeleton ec.entry)) ≡ true = ap (λ z. Own (skeleton_target z)) (sym r) ∙ ap Own (sym (over_target (constant_skeletons Σ₁) Own In parts own ec.block.some P)) ∙ ap (λ z. Own (skeleton_target z)) (sym st) ∙ o in
+            let oe : Own (skeleton_target (skeleton ec.entry)) ≡ true = ap (λ z. Own (skeleton_target z)) (sym r) ∙ ap Own (sym (over_target ec.block.some P)) ∙ ap (λ z. Own (skeleton_target z)) (sym st) ∙ o in
             subst (λ n. InBehind (constant_skeletons Σ₁) Own In parts own n t) (sym l) (subst (InBehind (constant_skeletons Σ₁) Own In parts own (length ec.block.some)) (sym st) (behind_some (constant_skeletons Σ₁) Own In parts own ec.block.some P (subst In (sym r) (entries ec.block ec.entry mw me oe))))
 
     -- Each candidate

@@ -1,25 +1,20 @@
 -- Runs by number of splits at candidates from the goal of inputs, and from that of a subgoal's outputs.
-use Rattle.std.proofs.Common.{◌≡◌, ℕ, zero, suc, List, [], ◌∷◌, length, inl, inr, refl, sym, ap, ◌∙◌, subst, Some}
-use Rattle.std.specs.Prelude.{Bool, true, false}
-use Rattle.lf.specs.Syntax.{LfType, Kind, Skeleton, arrow, pi, atom, kind_pi, star, skeleton}
-use Rattle.lf.specs.Typing.{Signature, TypeAt}
-use Rattle.lf.specs.Variables.{target, binders, everything, FamiliesIn, KindFamiliesIn}
-use Rattle.lf.specs.Subordination.{Block, IsBelowTest, Member, SelfContained, below_in_constant, below_in_entry}
-use Rattle.lf.specs.Worlds.{lift_over}
-use Rattle.lf.proofs.Strength.{family_target}
-use Rattle.lf.proofs.TypeLaws.{skeleton_renamed}
-use Rattle.lf_unification.specs.Search.{occurs_type}
+use Rattle.std.proofs.Common.{◌≡◌, ℕ, zero, suc, List, [], ◌∷◌, length, inl, inr, refl, sym, ap, ◌∙◌, Some}
+use Rattle.std.specs.Prelude.{Bool, true}
+use Rattle.lf.specs.Syntax.{LfType, Kind}
+use Rattle.lf.specs.Typing.{Signature}
+use Rattle.lf.specs.Variables.{target, binders, everything, FamiliesIn}
+use Rattle.lf.specs.Subordination.{Block, IsBelowTest, Member, SelfContained}
+use Rattle.lf.proofs.Strength.{families_renamed, family_target}
 use Rattle.lf_checks.specs.Below.{IsSubordination}
-use Rattle.lf_checks.specs.Clause.{Clause, IsClause, from_constant, from_entry, IsSubgoal, is_variable, with_newest}
+use Rattle.lf_checks.specs.Clause.{Clause, IsClause, IsSubgoal}
 use Rattle.lf_checks.specs.Marks.{Mark}
-use Rattle.lf_cases.specs.Case.{Case, covered_places, input_goal}
+use Rattle.lf_cases.specs.Case.{covered_places, input_goal}
 use Rattle.lf_cases.specs.OutputGoal.{output_goal}
 use Rattle.lf_cases.specs.Pattern.{Pattern, Origin, origin, subgoal_pattern}
 use Rattle.lf_cases.specs.Split.{Ends, at_leaf, by_split}
-use Rattle.lf_cases.proofs.BlockEntries.{member_onto}
-use Rattle.lf_cases.proofs.OutputItems.{length_instance}
+use Rattle.lf_cases.proofs.OutputItems.{length_instance, length_renumber}
 use Rattle.lf_cases.proofs.Subordinate.{below_is_subordination, kind_places_below}
-use Rattle.lf_coverage.specs.Calls.{IsBeside, LocalsIn, PlacesIn}
 use Rattle.lf_coverage.specs.EntryTermsInputs.{closed_head}
 use Rattle.lf_coverage.specs.EntryPatternsRuns.{IsNumberedLeaf}
 use Rattle.lf_coverage.specs.Leaf.{IsTypedPattern}
@@ -27,41 +22,21 @@ use Rattle.lf_coverage.specs.NumberedCalls.{IsBesideByNumber}
 use Rattle.lf_coverage.specs.NumberedCandidatesRuns.{NumberedCandidateRunCoversHeads, NumberedCandidateRunCoversInputs, NumberedCandidateRunCoversOutputs, NumberedCandidateRunGivesOutputs, UnifiesCandidate}
 use Rattle.lf_coverage.specs.NumberedCase.{NumberedCase}
 use Rattle.lf_coverage.specs.Numbering.{numbered, numbering}
-use Rattle.lf_coverage.specs.SplitStore.{AllFamiliesIn}
 use Rattle.lf_coverage.specs.Subordinate.{QuantifiersAreBelow, AllQuantifiersAreBelow}
 use Rattle.lf_coverage.proofs.EntryPatternsForms.{numbered_run_covers_case, one_numbered}
 use Rattle.lf_coverage.proofs.EntryPatternsOutputs.{numbered_output_goal_is_typed, numbered_runs_give_outputs}
 use Rattle.lf_coverage.proofs.EntryTermsInputs.{clause_is_closed, closed_is_typed, input_goal_is_beside_by_number}
 use Rattle.lf_coverage.proofs.Families.{all_binders}
-use Rattle.lf_coverage.proofs.HeadSplit.{places_put_in}
+use Rattle.lf_coverage.proofs.GoalItems.{one_without}
 use Rattle.lf_coverage.proofs.Leaves.{subgoal_is_typed}
+use Rattle.lf_coverage.proofs.LocalsInSet.{locals_in, locals_moved, locals_put, places_in}
 use Rattle.lf_coverage.proofs.NumberedBesideGiven.{numbered_output_goal_is_beside}
-use Rattle.lf_coverage.proofs.NumberedBesideRuns.{one_without}
-use Rattle.lf_coverage.proofs.NumberedCandidates.{In, Low, from_in, from_low, low_parts, to_in, to_low}
-use Rattle.lf_coverage.proofs.NumberedCandidatesRuns.{candidate_run, length_moved, locals_moved, locals_put, low_put, numbered_candidate_run_covers}
+use Rattle.lf_coverage.proofs.NumberedBesideGoals.{clause_below, subgoal_has}
+use Rattle.lf_coverage.proofs.NumberedCallsGoals.{beside_by_number}
+use Rattle.lf_coverage.proofs.NumberedCandidatesRuns.{candidate_run, low_put, numbered_candidate_run_covers}
 use Rattle.lf_coverage.proofs.OutputRuns.{clause_families}
-use Rattle.lf_coverage.proofs.Subordinate.{quantified, below_binders, below_renumbered}
+use Rattle.lf_coverage.proofs.Subordinate.{below_binders, below_renamed, below_renumbered}
 use Rattle.lf_coverage.proofs.TypedCases.{input_goal_is_typed_case}
-
--- A fact of skeletons that a clause's type has, its subgoals have.
-module _ (Fact : Skeleton → Type 0) (parts : (a b : Skeleton) → Fact (arrow a b) → Fact a × Fact b) where
-  subgoal_has : (V : ℕ → Bool) (G : List LfType) (X : LfType) (i : ℕ) (A : LfType) → ((j : ℕ) (B : LfType) → V j ≡ false → TypeAt G j B → Fact (skeleton B)) → Fact (skeleton X) → is_variable V X i ≡ false → TypeAt (binders G X) i A → Fact (skeleton A)
-  subgoal_has V G (pi Y B) i A h q e g = let (y, b) = parts (skeleton Y) (skeleton B) q in subgoal_has (with_newest (occurs_type zero B) V) (Y ∷ G) B i A (next y) b e g
-    where
-      next : Fact (skeleton Y) → (j : ℕ) (Z : LfType) → with_newest (occurs_type zero B) V j ≡ false → TypeAt (Y ∷ G) j Z → Fact (skeleton Z)
-      next y zero Z v r = subst Fact (sym (ap skeleton r ∙ skeleton_renamed suc Y)) y
-      next y (suc j) Z v (C, k, r) = subst Fact (sym (ap skeleton r ∙ skeleton_renamed suc C)) (h j C v k)
-  subgoal_has V G (atom a S) i A h q e g = h i A e g
-
--- The sets beside which a goal is to be covered are those of its numbered form.
-beside_numbered : (Σ : Signature) (W : List Block) (first : ℕ) (S : ℕ → Bool) (C : Case) → IsBeside Σ W S C → IsBesideByNumber Σ W S (numbered first C)
-beside_numbered Σ W first S C b = record {
-  self_contained = b.self_contained;
-  kind = b.kind;
-  of_family = b.of_family;
-  places = subst (λ m. PlacesIn S m b.kind) (sym (places_put_in (lift_over C.local (numbering first C.items).images) C.arguments)) b.places;
-  locals = locals_put S C.local (numbering first C.items).images b.locals;
-}
 
 pub numbered_candidate_run_covers_inputs : NumberedCandidateRunCoversInputs
 numbered_candidate_run_covers_inputs Σ ok W typed below test first free ps heads a m K e c U t ta r =
@@ -70,7 +45,7 @@ numbered_candidate_run_covers_inputs Σ ok W typed below test first free ps head
     let tq : IsTypedPattern Σ (closed_head U) = closed_is_typed Σ ok U t in
     let sizes : (p : Pattern) → Member p ps → zero ≡ length (binders [] p.type) = λ p i. ap length (sym (heads p i)) in (
       numbered_candidate_run_covers Σ ok W typed below test first free ps (closed_head U) tq (numbered first (input_goal a m K)) (one_numbered first (input_goal a m K).items (one_without (input_goal a m K).items n)) tb sizes tt r,
-      λ S b. numbered_run_covers_case Σ ok W typed S first free ps (input_goal a m K) (one_without (input_goal a m K).items n) tc (candidate_run Σ ok W typed below test first free ps (closed_head U) tq zero sizes S tb (beside_numbered Σ W first S (input_goal a m K) b) tt refl r),
+      λ S b. numbered_run_covers_case Σ ok W typed S first free ps (input_goal a m K) (one_without (input_goal a m K).items n) tc (candidate_run Σ ok W typed below test first free ps (closed_head U) tq zero sizes S tb (beside_by_number Σ W S first (input_goal a m K) b) tt refl r),
     )
 
 -- a run has a pattern
@@ -88,41 +63,27 @@ numbered_candidate_run_covers_heads Σ ok W typed below test first free a ps hea
 -- The goal of a subgoal's outputs
 module _ (Σ : Signature) (W : List Block) (below : ℕ → ℕ → Bool) (c : Clause) (d : IsClause Σ W c) (i : ℕ) (A : LfType) (sub : IsSubgoal c i A) where
   module _ (test : (f : ℕ) → IsBelowTest Σ W (below f) f) where
-    clause_low : (c : Clause) → IsClause Σ W c → QuantifiersAreBelow below c.type
-    clause_low c (from_constant k U e) = quantified below U (λ a b q. (test b a).1 (below_in_constant k U e q))
-    clause_low c (from_entry B later E es j e) = quantified below E (λ a b q. (test b a).1 (below_in_entry B E j (subst (Member E) e (member_onto later E es)) q))
-
     subgoal_low : QuantifiersAreBelow below A
-    subgoal_low = from_low below A (subgoal_has (Low below) (low_parts below) everything c.outer c.type i A (λ j B e h. absurd cc) (to_low below c.type (clause_low c d)) sub.0 sub.1)
+    subgoal_low = subgoal_has (QuantifiersAreBelow below) (below_renamed below suc) (λ Y B (u, y, b). (y, b)) everything c.outer c.type i A (λ j B e h. absurd cc) (clause_below Σ W below test c d) sub.0 sub.1
 
     pub goal_low : (first : ℕ) (m : ℕ → List Mark) (o : Origin c) (U : ℕ → Bool) (K : Kind) → AllQuantifiersAreBelow below (numbered first (output_goal below m o U A K)).local
     goal_low first m o U K = low_put below (output_goal below m o U A K).local (numbering first (output_goal below m o U A K).items).images (below_renumbered below _ (binders [] A) (below_binders below [] A tt subgoal_low))
 
   pub goal_size : (first : ℕ) (m : ℕ → List Mark) (o : Origin c) (U : ℕ → Bool) (K : Kind) → length (numbered first (output_goal below m o U A K)).local ≡ length (binders [] A)
-  goal_size first m o U K = length_instance (output_goal below m o U A K).local (numbering first (output_goal below m o U A K).items).images ∙ length_moved _ (binders [] A)
+  goal_size first m o U K = length_instance (output_goal below m o U A K).local (numbering first (output_goal below m o U A K).items).images ∙ length_renumber _ (binders [] A)
 
   -- beside a set that has the clause's family
   module _ (S : ℕ → Bool) (sc : SelfContained Σ W S) (t : S (target c.type) ≡ true) where
     pub families : FamiliesIn S A
-    families = from_in S A (subgoal_has (In S) (λ a b h. h) everything c.outer c.type i A (λ j B e h. absurd cc) (to_in S c.type (clause_families Σ W S sc d t)) sub.0 sub.1)
-
-    places_in : (bs : List Bool) (K : Kind) → KindFamiliesIn S K → PlacesIn S bs K
-    places_in [] K k = tt
-    places_in (b ∷ bs) star k = tt
-    places_in (true ∷ bs) (kind_pi A K) (a, k) = (a, places_in bs K k)
-    places_in (false ∷ bs) (kind_pi A K) (a, k) = places_in bs K k
-
-    locals_in : (D : List LfType) → AllFamiliesIn S D → LocalsIn S D
-    locals_in [] d = tt
-    locals_in (A ∷ D) (a, d) = ((λ s. a), locals_in D d)
+    families = subgoal_has (FamiliesIn S) (families_renamed S suc) (λ Y B h. h) everything c.outer c.type i A (λ j B e h. absurd cc) (clause_families Σ W S sc d t) sub.0 sub.1
 
     pub goal_beside : (first : ℕ) (m : ℕ → List Mark) (o : Origin c) (U : ℕ → Bool) (K : Kind) → Σ.kinds (target A) ≡ Some K → IsBesideByNumber Σ W S (numbered first (output_goal below m o U A K))
     goal_beside first m o U K e = record {
       self_contained = sc;
       kind = K;
       of_family = e;
-      places = places_in (covered_places (numbered first (output_goal below m o U A K)).arguments) K (sc.kinds_in (target A) K e (family_target S A families));
-      locals = locals_put S (output_goal below m o U A K).local (numbering first (output_goal below m o U A K).items).images (locals_moved S _ (binders [] A) (locals_in (binders [] A) (all_binders S [] A tt families)));
+      places = places_in S (covered_places (numbered first (output_goal below m o U A K)).arguments) K (sc.kinds_in (target A) K e (family_target S A families));
+      locals = locals_put S (output_goal below m o U A K).local (numbering first (output_goal below m o U A K).items).images (locals_moved S _ (binders [] A) (locals_in S (binders [] A) (all_binders S [] A tt families)));
     }
 
 one_size : (n : ℕ) (q : Pattern) → n ≡ length (binders [] q.type) → (p : Pattern) → Member p (q ∷ []) → n ≡ length (binders [] p.type)

@@ -21,11 +21,13 @@ use Rattle.lf_coverage.specs.NumberedCallsReached.{among_items, block_items}
 use Rattle.lf_coverage.specs.NumberedCase.{AreTypedBlockVariables}
 use Rattle.lf_coverage.specs.NumberedInstance.{first_constant}
 use Rattle.lf_coverage.specs.OwnTerms.{BlockVariable, blocks_of}
-use Rattle.lf_coverage.specs.Reading.{entry_reading, read_entry, weaken_read}
+use Rattle.lf_coverage.specs.Reading.{entry_reading, read_entry}
 use Rattle.lf_coverage.proofs.EntryFound.{EachBlock, PlacedAmong, entry_found, placed_among}
-use Rattle.lf_coverage.proofs.NumberedCandidatesRead.{Elsewhere, weaken_some}
+use Rattle.lf_coverage.proofs.NumberedCallsGoals.{none_free}
+use Rattle.lf_coverage.proofs.NumberedCandidatesRead.{Elsewhere, weaken_none, weaken_some}
 use Rattle.lf_coverage.proofs.NumberedCandidatesWalk.{Good, InBehind, Other, Takes}
 use Rattle.lf_coverage.proofs.Parts.{none_some, some_same}
+use Rattle.lf_coverage.proofs.SameInstance.{behind_free as hidden_far}
 use Rattle.lf_coverage.proofs.WritingLow.{skeleton_target}
 use Rattle.lf_coverage.proofs.WritingRoots.{pair_second}
 
@@ -45,37 +47,17 @@ over_some (A ∷ L) g c m v e =
 
 over_none : (L : List LfType) (g : ℕ → Option (ℕ × ℕ)) (c : ℕ) → read_over L g c ≡ None → g c ≡ None
 over_none [] g c e = e
-over_none (A ∷ L) g c e = over_none L g c (none (read_over L g c) e)
-  where
-    none : (y : Option (ℕ × ℕ)) → weaken_read y ≡ None → y ≡ None
-    none None z = refl
-    none (Some (m, v)) z = absurd cc
+over_none (A ∷ L) g c e = over_none L g c (weaken_none (read_over L g c) e)
 
 -- Variables that are bound, and those that are free
 bound_far : (D : List LfType) (w : ℕ) → under_all D nothing (w + length D) ≡ false
 bound_far [] w = refl
 bound_far (A ∷ D) w = ap (under_all (A ∷ D) nothing) (next w (length D)) ∙ bound_far D w
 
-hidden_far : (D : List LfType) (U : ℕ → Bool) (w : ℕ) → hide_all D U (w + length D) ≡ U w
-hidden_far [] U w = ap U (none w)
-  where
-    none : (v : ℕ) → v + 0 ≡ v
-    none v = omega arith
-hidden_far (A ∷ D) U w = ap (hide_all (A ∷ D) U) (next w (length D)) ∙ hidden_far D U w
-
-hidden_none : (D : List LfType) (U : ℕ → Bool) → ((i : ℕ) → U i ≡ false) → (i : ℕ) → hide_all D U i ≡ false
-hidden_none [] U h i = h i
-hidden_none (A ∷ D) U h zero = refl
-hidden_none (A ∷ D) U h (suc i) = hidden_none D U h i
-
 pub bound_apart : (D : List LfType) (U : ℕ → Bool) (i : ℕ) → under_all D nothing i ≡ true → hide_all D U i ≡ false
 bound_apart [] U i e = absurd (true≢false (sym e))
 bound_apart (A ∷ D) U zero e = refl
 bound_apart (A ∷ D) U (suc i) e = bound_apart D U i e
-
-blocks_free : (bs : List BlockVariable) (i : ℕ) → free_among (block_items bs) i ≡ false
-blocks_free [] i = refl
-blocks_free (b ∷ bs) i = hidden_none b.block.entries (free_among (block_items bs)) (blocks_free bs) i
 
 behind_free : (V : List LfType) (J : List Item) (w : ℕ) → free_among (items_onto (free_variables V) J) (w + length V) ≡ free_among J w
 behind_free [] J w = ap (free_among J) (none w)
@@ -126,7 +108,7 @@ module _ (first : ℕ) (bs : List BlockVariable) (V L D : List LfType) (same : l
   entries_not_bound c m v z = let (w, e, k, p, q) = read_as c m v z in ap (under_all D nothing) q ∙ bound_far D (w + length V)
 
   pub entries_not_free : Elsewhere (read_over L (entry_reading first (blocks_of bs) (among_items (blocks_of bs)) (length V))) (hide_all D (free_among (items_onto (free_variables V) (block_items bs))))
-  entries_not_free c m v z = let (w, e, k, p, q) = read_as c m v z in ap free_in_text q ∙ hidden_far D (free_among (items_onto (free_variables V) (block_items bs))) (w + length V) ∙ behind_free V (block_items bs) w ∙ blocks_free bs w
+  entries_not_free c m v z = let (w, e, k, p, q) = read_as c m v z in ap free_in_text q ∙ hidden_far D (free_among (items_onto (free_variables V) (block_items bs))) (w + length V) ∙ behind_free V (block_items bs) w ∙ none_free bs w
 
   pub no_entry : (c : ℕ) → entries_read c ≡ None → entry_constant zero first (blocks_of bs) c ≡ None
   no_entry c z = by (entry_constant zero first (blocks_of bs) c) (over_none L (entry_reading first (blocks_of bs) (among_items (blocks_of bs)) (length V)) c z)
@@ -178,7 +160,3 @@ module _ (κ : HeadSkeletons) (Own : ℕ → Bool) (In : Skeleton → Type 0) (p
     where
       none : (n : ℕ) → n + 0 ≡ n
       none n = omega arith
-
-  pub over_target : (O : List LfType) (P : LfType) → skeleton_target (skeleton (pi_over O P)) ≡ skeleton_target (skeleton P)
-  over_target [] P = refl
-  over_target (A ∷ O) P = over_target O (pi A P)

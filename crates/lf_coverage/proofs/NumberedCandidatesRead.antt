@@ -22,6 +22,10 @@ weaken_some (Some (n, w)) m v e = (w, ap (λ k. Some (k, w)) (ap first (some_sam
     second : ℕ × ℕ → ℕ
     second (a, b) = b
 
+pub weaken_none : (x : Option (ℕ × ℕ)) → weaken_read x ≡ None → x ≡ None
+weaken_none None e = refl
+weaken_none (Some (m, v)) e = absurd cc
+
 elsewhere_under : (f : ℕ → Option (ℕ × ℕ)) (U : ℕ → Bool) → Elsewhere f U → Elsewhere (λ c. weaken_read (f c)) (under U)
 elsewhere_under f U h c m v e = let (w, p, q) = weaken_some (f c) m v e in ap (under U) q ∙ h c m w p
 

@@ -1,7 +1,7 @@
 -- Types whose own family is in a set, with those of the arguments whose own family is.
 use Rattle.std.proofs.Common.{◌≡◌, ℕ, zero, suc, List, ◌∷◌, sym, ap, ◌∙◌, subst}
 use Rattle.std.specs.Prelude.{Bool, true}
-use Rattle.lf.specs.Syntax.{LfType, pi, atom, base, skeleton}
+use Rattle.lf.specs.Syntax.{LfType, pi, atom, skeleton}
 use Rattle.lf.specs.Typing.{Signature}
 use Rattle.lf.specs.Variables.{target, binders, FamiliesIn, Within}
 use Rattle.lf.specs.Subordination.{Block, SelfContained}
@@ -16,7 +16,7 @@ use Rattle.lf_coverage.specs.Heads.{ArgumentsAreBelow}
 use Rattle.lf_coverage.specs.NumberedCandidates.{TakesIn}
 use Rattle.lf_coverage.proofs.HeadRaised.{AllTypesIn, families_within, part, part_low}
 use Rattle.lf_coverage.proofs.Parts.{first_same, second_same, no_arrow}
-use Rattle.lf_coverage.proofs.WritingLow.{families_same, skeleton_target, target_is}
+use Rattle.lf_coverage.proofs.WritingLow.{base_same, families_same, skeleton_target, target_is}
 
 pub takes_in_target : (S : ℕ → Bool) (A : LfType) → TakesIn S A → S (target A) ≡ true
 takes_in_target S (pi A B) (a, b) = takes_in_target S B b
@@ -31,9 +31,6 @@ takes_same S (pi A B) (pi C D) e (a, b) = ((λ t. families_same S A C (first_sam
 takes_same S (pi A B) (atom c T) e h = absurd (no_arrow e)
 takes_same S (atom a T) (pi C D) e h = absurd (no_arrow (sym e))
 takes_same S (atom a T) (atom c U) e h = subst (λ d. S d ≡ true) (base_same e) h
-  where
-    base_same : {a b : ℕ} → base a ≡ base b → a ≡ b
-    base_same e = cc
 
 -- a type that takes arguments, one whose own family is in the set
 module _ (Σ : Signature) (W : List Block) (below : ℕ → ℕ → Bool) (s : IsSubordination Σ W below) (Low : ℕ → Bool) (sc : SelfContained Σ W Low) (Σ' : Signature) (x : Extends Low Σ Σ') where

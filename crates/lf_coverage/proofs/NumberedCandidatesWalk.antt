@@ -1,50 +1,18 @@
 -- A walk through a text of a case by number and one of a pattern, by skeletons: what is known of each candidate.
-use Rattle.std.proofs.Common.{◌≡◌, ℕ, zero, suc, List, [], ◌∷◌, inl, inr, refl, sym, ap, ◌∙◌, subst, true≢false}
+use Rattle.std.proofs.Common.{◌≡◌, ℕ, zero, suc, List, [], ◌∷◌, refl, sym, ap, ◌∙◌, subst, true≢false}
 use Rattle.std.specs.Prelude.{Bool, true, false, cond, Option, Some, None}
 use Rattle.lf.specs.Syntax.{constant, variable, metavariable, Term, Spine, lambda, root, nil, app, Skeleton, base, arrow}
 use Rattle.lf.specs.SkeletonTyping.{HeadSkeletons, SkeletonAt, SpineSkeleton, TermSkeleton}
 use Rattle.lf.specs.Variables.{hide, under}
-use Rattle.lf.specs.Subordination.{Member}
 use Rattle.lf_checks.specs.Strict.{head_variable, is_bound, lower, pattern_arguments, with_seen}
-use Rattle.lf_checks.specs.Tests.{is_in}
 use Rattle.lf_checks.proofs.EtaTest.{both_l, both_r}
-use Rattle.lf_cases.specs.Candidates.{candidates, candidates_spine, counted, each_once, is_rigid, then}
+use Rattle.lf_cases.specs.Candidates.{candidates, candidates_spine, counted, is_rigid}
 use Rattle.lf_coverage.specs.Reading.{drop_arguments, read, read_constant, read_spine, weaken_read}
 use Rattle.lf_coverage.proofs.Abstracted.{expanded_back}
+use Rattle.lf_coverage.proofs.EachCandidate.{Each, each_chosen, each_counted, each_none, each_then}
 use Rattle.lf_coverage.proofs.EtaArguments.{bound_argument}
-use Rattle.lf_coverage.proofs.NumberedCandidatesRead.{Elsewhere, read_eta, weaken_some}
+use Rattle.lf_coverage.proofs.NumberedCandidatesRead.{Elsewhere, read_eta, weaken_none, weaken_some}
 use Rattle.lf_coverage.proofs.WritingLow.{skeleton_target}
-
--- Each of a list
-abbrev pub Each : (ℕ → Type 0) → List ℕ → Type 0
-Each P xs = (x : ℕ) → Member x xs → P x
-
-module _ (P : ℕ → Type 0) where
-  pub each_none : Each P []
-  each_none x m = absurd m
-
-  pub each_then : (xs ys : List ℕ) → Each P xs → Each P ys → Each P (then xs ys)
-  each_then [] ys h k x m = k x m
-  each_then (z ∷ xs) ys h k x (inl e) = h x (inl e)
-  each_then (z ∷ xs) ys h k x (inr m) = each_then xs ys (λ y n. h y (inr n)) k x m
-
-  each_chosen : (b : Bool) (xs ys : List ℕ) → (b ≡ true → Each P xs) → (b ≡ false → Each P ys) → Each P (cond b xs ys)
-  each_chosen true xs ys h k = h refl
-  each_chosen false xs ys h k = k refl
-
-  each_counted : (b : Bool) (y : Option ℕ) → (b ≡ true → (x : ℕ) → y ≡ Some x → P x) → Each P (counted b y)
-  each_counted true (Some y) h x (inl e) = subst P (sym e) (h refl y refl)
-  each_counted true (Some y) h x (inr m) = absurd m
-  each_counted true None h x m = absurd m
-  each_counted false y h x m = absurd m
-
-  each_front : (y : ℕ) (xs : List ℕ) → P y → Each P xs → Each P (y ∷ xs)
-  each_front y xs e h x (inl q) = subst P (sym q) e
-  each_front y xs e h x (inr m) = h x m
-
-  pub of_each_once : (seen xs : List ℕ) → Each P xs → Each P (each_once seen xs)
-  of_each_once seen [] h = each_none
-  of_each_once seen (y ∷ xs) h = each_chosen (is_in y seen) (each_once seen xs) (y ∷ each_once (y ∷ seen) xs) (λ e. of_each_once seen xs (λ x m. h x (inr m))) (λ e. each_front y (each_once (y ∷ seen) xs) (h y (inl refl)) (of_each_once (y ∷ seen) xs (λ z n. h z (inr n))))
 
 -- A fact of skeletons that those under whose heads the walk goes have: `Own` is asked of a head's own family.
 module _ (κ : HeadSkeletons) (Own : ℕ → Bool) (In : Skeleton → Type 0) (parts : (a b : Skeleton) → In (arrow a b) → In a × In b) (own : (t : Skeleton) → In t → Own (skeleton_target t) ≡ true) where
@@ -122,11 +90,7 @@ module _ (κ : HeadSkeletons) (Own : ℕ → Bool) (In : Skeleton → Type 0) (p
         not_free c m v e = let (u, p, q) = weaken_some (f c) m v e in ap (hide F) q ∙ w.not_free c m u p
 
         constants : ConstantsIn (λ c. weaken_read (f c))
-        constants c t e o = ((λ z. (w.constants c t e o).0 (none (f c) z)), λ m v z. let (u, p, q) = weaken_some (f c) m v z in (w.constants c t e o).1 m u p)
-          where
-            none : (y : Option (ℕ × ℕ)) → weaken_read y ≡ None → y ≡ None
-            none None z = refl
-            none (Some (m, v)) z = absurd cc
+        constants c t e o = ((λ z. (w.constants c t e o).0 (weaken_none (f c) z)), λ m v z. let (u, p, q) = weaken_some (f c) m v z in (w.constants c t e o).1 m u p)
 
     from_constant : (B F Q : ℕ → Bool) (n : ℕ) (Γ Δ : List Skeleton) (f : ℕ → Option (ℕ × ℕ)) → Way P B F n Γ Δ f → (d : ℕ) (S : Spine) (N : Term) (y : Option (ℕ × ℕ)) → f d ≡ y → (t : Skeleton) → ((f d ≡ None → In t) × ((m v : ℕ) → f d ≡ Some (m, v) → InBehind m t)) → ((T : Spine) → In t → Each P (candidates_spine B F Q n (read_spine f S) T)) → ((m : ℕ) (T : Spine) → InBehind m t → Each P (candidates_spine B F Q n (drop_arguments m (read_spine f S)) T)) → Each P (candidates B F Q n (read_constant y d (read_spine f S)) N)
     from_constant B F Q n Γ Δ f w d S (lambda N) None e t k whole left = each_none P

@@ -14,15 +14,17 @@ use Rattle.lf_cases.specs.Pattern.{Origin, of_constant, of_entry, Pattern}
 use Rattle.lf_coverage.specs.EntryPatterns.{StandsByNumber, variable_images}
 use Rattle.lf_coverage.specs.NewBlock.{with_new_block}
 use Rattle.lf_coverage.specs.NumberedCallsMeeting.{SharesInstance}
-use Rattle.lf_coverage.specs.NumberedCallsStores.{Identifies, IsPutBeside, constant_beside, entry_beside, new_beside, identified, move_blocks}
+use Rattle.lf_coverage.specs.NumberedCallsStores.{Identifies, IsPutBeside, constant_beside, entry_beside, new_beside, identified}
 use Rattle.lf_coverage.specs.NumberedCase.{NumberedCase}
 use Rattle.lf_coverage.specs.NumberedInstance.{block_at, moved_constant, move_spine}
 use Rattle.lf_coverage.specs.NumberedMeets.{HasFirst, IsSharedAt, SharedHasPlace, NoPlaceSharesNone}
 use Rattle.lf_coverage.specs.OwnTerms.{BlockVariable, blocks_of, rename_blocks}
 use Rattle.lf_coverage.proofs.Choices.{decided}
 use Rattle.lf_coverage.proofs.EntryPatternsNumbers.{inside_list, last_at}
-use Rattle.lf_coverage.proofs.NumberedMeetsMoved.{identified_instance, moved_at}
+use Rattle.lf_coverage.proofs.MovedConstants.{moved_at}
+use Rattle.lf_coverage.proofs.NumberedMeetsMoved.{identified_instance}
 use Rattle.lf_coverage.proofs.Parts.{some_same}
+use Rattle.lf_coverage.proofs.RenamedBlocks.{moved_length, renamed_length}
 
 -- the first number below n for which ν is v, or else d
 abbrev first_with : (ℕ → ℕ) → ℕ → ℕ → ℕ → ℕ
@@ -100,7 +102,7 @@ is_first ν (suc n) k d l = decided (same_number k n)
     below f = omega (arith, l, f)
 
 -- each number of a list is a block variable's
-at_number : (bs : List BlockVariable) (k : ℕ) → k < length bs → (b : BlockVariable) × (block_at bs k ≡ Some b)
+pub at_number : (bs : List BlockVariable) (k : ℕ) → k < length bs → (b : BlockVariable) × (block_at bs k ≡ Some b)
 at_number [] k l = absurd (none k l)
   where
     none : (i : ℕ) → i < 0 → ⊥
@@ -114,14 +116,6 @@ at_number (b ∷ bs) (suc k) l = at_number bs k (less l)
 past : (bs : List BlockVariable) → block_at bs (length bs) ≡ None
 past [] = refl
 past (b ∷ bs) = past bs
-
-moved_length : (γ : ℕ → ℕ) (bs : List BlockVariable) → length (move_blocks γ bs) ≡ length bs
-moved_length γ [] = refl
-moved_length γ (b ∷ bs) = ap suc (moved_length γ bs)
-
-renamed_length : (ρ : ℕ → ℕ) (bs : List BlockVariable) → length (rename_blocks ρ bs) ≡ length bs
-renamed_length ρ [] = refl
-renamed_length ρ (b ∷ bs) = ap suc (renamed_length ρ bs)
 
 -- a block variable is the first one that is the same in the instance; other numbers stay
 abbrev one_of : (ℕ → ℕ) → ℕ → ℕ → Option BlockVariable → ℕ

@@ -1,7 +1,7 @@
 -- An instance of a case by number in which block variables are one is an instance of the case with these one.
-use Rattle.std.proofs.Common.{◌≡◌, ℕ, zero, suc, ◌+◌, List, [], ◌∷◌, length, refl, sym, ap, ap₂, ◌∙◌, subst, arith}
+use Rattle.std.proofs.Common.{◌≡◌, ℕ, zero, ◌+◌, List, [], ◌∷◌, length, refl, sym, ap, ap₂, ◌∙◌, subst, arith}
 use Rattle.std.specs.Prelude.{Option, Some, None}
-use Rattle.lf.specs.Syntax.{Term, Spine, LfType, constant, variable, metavariable, lambda, root, nil, app, pi, atom, skeleton, arrow}
+use Rattle.lf.specs.Syntax.{Term, Spine, LfType, constant, variable, metavariable, lambda, root, nil, app, pi, atom}
 use Rattle.lf.specs.Substitution.{Image, put, lift, substitute_spine, substitute_type, reduce}
 use Rattle.lf.specs.AtOnce.{in_front}
 use Rattle.lf.specs.Typing.{Signature, HasType}
@@ -10,14 +10,15 @@ use Rattle.lf.specs.Worlds.{lift_over, instance}
 use Rattle.lf_cases.specs.Cover.{place_of}
 use Rattle.lf_cases.specs.Missing.{put_in}
 use Rattle.lf_coverage.specs.EntryConstants.{EntryConstant, entry_constant, with_entries}
-use Rattle.lf_coverage.specs.NumberedCallsStores.{Identifies, identified, move_blocks}
+use Rattle.lf_coverage.specs.NumberedCallsStores.{Identifies, identified}
 use Rattle.lf_coverage.specs.NumberedCase.{NumberedCase}
-use Rattle.lf_coverage.specs.NumberedInstance.{AreTypedValues, IsNumberedInstanceOf, block_at, first_constant, moved_constant, moved_entry, move, move_all, move_spine, move_type, move_types}
+use Rattle.lf_coverage.specs.NumberedInstance.{AreTypedValues, IsNumberedInstanceOf, first_constant, moved_constant, moved_entry, move, move_all, move_spine, move_type, move_types}
 use Rattle.lf_coverage.specs.NumberedMeets.{IdentifiedHasInstances}
 use Rattle.lf_coverage.specs.OwnTerms.{BlockVariable, blocks_of, own_terms}
 use Rattle.lf_coverage.proofs.EntryPatternsOutside.{found_at_number}
-use Rattle.lf_coverage.proofs.Parts.{some_same}
+use Rattle.lf_coverage.proofs.MovedConstants.{blocks_stay, moved_at, moved_from}
 use Rattle.lf_coverage.proofs.WritingChoice.{from_is}
+use Rattle.lf_coverage.proofs.WritingMove.{skeleton_moved}
 use mathlib.Core.Path.{fun_ext}
 
 -- moved twice
@@ -45,27 +46,9 @@ twice_all δ γ [] = refl
 twice_all δ γ (Some M ∷ Ms) = ap₂ (λ N Ns. Some N ∷ Ns) (twice δ γ M) (twice_all δ γ Ms)
 twice_all δ γ (None ∷ Ms) = ap (λ Ns. None ∷ Ns) (twice_all δ γ Ms)
 
-skeleton_stays : (γ : ℕ → ℕ) (A : LfType) → skeleton (move_type γ A) ≡ skeleton A
-skeleton_stays γ (pi A B) = ap₂ arrow (skeleton_stays γ A) (skeleton_stays γ B)
-skeleton_stays γ (atom a S) = refl
-
 lift_stays : (γ : ℕ → ℕ) (L : List LfType) (σ : ℕ → Image) → lift_over (move_types γ L) σ ≡ lift_over L σ
 lift_stays γ [] σ = refl
 lift_stays γ (A ∷ L) σ = ap lift (lift_stays γ L σ)
-
-blocks_stay : (γ : ℕ → ℕ) (bs : List BlockVariable) → blocks_of (move_blocks γ bs) ≡ blocks_of bs
-blocks_stay γ [] = refl
-blocks_stay γ (b ∷ bs) = ap (λ Bs. b.block ∷ Bs) (blocks_stay γ bs)
-
-pub moved_at : (γ : ℕ → ℕ) (bs : List BlockVariable) (k : ℕ) (b : BlockVariable) → block_at bs k ≡ Some b → block_at (move_blocks γ bs) k ≡ Some (record { block = b.block; terms = move_spine γ b.terms })
-moved_at γ [] k b e = absurd cc
-moved_at γ (d ∷ bs) zero b e = ap (λ (c : BlockVariable). Some (record { block = c.block; terms = move_spine γ c.terms })) (some_same e)
-moved_at γ (d ∷ bs) (suc k) b e = moved_at γ bs k b e
-
-moved_from : (γ : ℕ → ℕ) (bs : List BlockVariable) (k : ℕ) (d : BlockVariable) → block_at (move_blocks γ bs) k ≡ Some d → (b : BlockVariable) × (block_at bs k ≡ Some b) × (d ≡ record { block = b.block; terms = move_spine γ b.terms })
-moved_from γ [] k d e = absurd cc
-moved_from γ (b ∷ bs) zero d e = (b, refl, sym (some_same e))
-moved_from γ (b ∷ bs) (suc k) d e = moved_from γ bs k d e
 
 values_stay : (Σ : Signature) (Y : List LfType) (o : ℕ → Option Spine) (δ γ : ℕ → ℕ) (X : List LfType) (σ : ℕ → Image) → AreTypedValues Σ Y o (λ c. δ (γ c)) X σ → AreTypedValues Σ Y o δ (move_types γ X) σ
 values_stay Σ Y o δ γ [] σ e = e
@@ -75,7 +58,7 @@ values_stay Σ Y o δ γ (A ∷ X) σ (N, τ, v, t, w, e) = (
   values_stay Σ Y o δ γ X τ v,
   subst (λ B. HasType Σ Y N (substitute_type reduce τ B)) (sym (twice_type δ γ A)) t,
   w,
-  e ∙ ap (λ a. in_front (put a N) τ) (sym (skeleton_stays γ A)),
+  e ∙ ap (λ a. in_front (put a N) τ) (sym (skeleton_moved γ A)),
 )
 
 values_back : (Σ : Signature) (Y : List LfType) (o : ℕ → Option Spine) (δ γ : ℕ → ℕ) (X : List LfType) (σ : ℕ → Image) → AreTypedValues Σ Y o δ (move_types γ X) σ → AreTypedValues Σ Y o (λ c. δ (γ c)) X σ
@@ -86,7 +69,7 @@ values_back Σ Y o δ γ (A ∷ X) σ (N, τ, v, t, w, e) = (
   values_back Σ Y o δ γ X τ v,
   subst (λ B. HasType Σ Y N (substitute_type reduce τ B)) (twice_type δ γ A) t,
   w,
-  e ∙ ap (λ a. in_front (put a N) τ) (skeleton_stays γ A),
+  e ∙ ap (λ a. in_front (put a N) τ) (skeleton_moved γ A),
 )
 
 -- a constant that is moved to the one, and then on

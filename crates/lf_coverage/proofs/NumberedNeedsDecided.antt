@@ -13,14 +13,9 @@ use Rattle.lf_coverage.specs.NumberedCase.{NumberedCase}
 use Rattle.lf_coverage.specs.NumberedNeeds.{NeededInstanceCovers, NeededInstanceIsDecided}
 use Rattle.lf_coverage.proofs.EntryTermsBesideGiven.{beside_is_decided}
 use Rattle.lf_coverage.proofs.EntryTermsComplete.{numbered_instance_matches_any}
-use Rattle.lf_coverage.proofs.EntryTermsDecided.{by_number_decided}
+use Rattle.lf_coverage.proofs.EntryTermsDecided.{by_number_decided, decided_with}
+use Rattle.lf_coverage.proofs.EntryTermsHeads.{head_found}
 use Rattle.lf_coverage.proofs.NumberedCallsLaws.{instance_covers}
-use Rattle.lf_coverage.proofs.NumberedNeedsHeads.{head_found}
-
--- what is so where matching says so is decided
-decided_with : {A B : Type 0} → A ↔ B → Dec B → (A ↔ B) × Dec A
-decided_with h (yes b) = (h, yes (h.1 b))
-decided_with h (no n) = (h, no (λ a. n (h.0 a)))
 
 abbrev IsDecided : Signature → ℕ → NumberedCase → Pattern → Type 0
 IsDecided Σ first C p = (IsInstanceOfPattern Σ first C p ↔ MatchesByNumber first C p) × Dec (IsInstanceOfPattern Σ first C p)

@@ -17,7 +17,7 @@ use Rattle.lf_coverage.specs.EntryTerms.{MatchesByNumber, own_values}
 use Rattle.lf_coverage.specs.EntryTermsInputs.{closed_head}
 use Rattle.lf_coverage.specs.Leaf.{IsTypedPattern}
 use Rattle.lf_coverage.specs.Matching.{ArePlaces}
-use Rattle.lf_coverage.specs.NumberedCalls.{IsHeadFor, IsSubgoalFor}
+use Rattle.lf_coverage.specs.NumberedCalls.{HasTypedBlock, IsHeadFor, IsSubgoalFor}
 use Rattle.lf_coverage.specs.NumberedNeeds.{AreTypedHeads}
 use Rattle.lf_coverage.specs.NumberedNeedsExamples.{OpenSubgoalIsRefused, OtherFamilyIsRefused, OtherTypeIsRefused, Sorts, other_case, p_all, q_all, sort_goal, sort_kind, sort_type, sorts_kinds, sorts_types}
 use Rattle.lf_coverage.specs.Numbering.{numbered}
@@ -67,7 +67,7 @@ p_typed : IsTypedPattern Sorts (closed_head p_all)
 p_typed = closed_is_typed Sorts sorts_ok p_all ((star, refl, tt), (sort_kind, refl, ((sort_type, refl, refl), tt)))
 
 only_p : AreTypedHeads Sorts 2 (closed_head p_all ∷ [])
-only_p r (inl e) = subst (λ (q : Pattern). IsTypedPattern Sorts q × (q ≡ head_pattern q.clause q.origin) × (target q.type ≡ 2)) (sym e) (p_typed, refl, refl)
+only_p r (inl e) = subst (λ (q : Pattern). IsTypedPattern Sorts q × (q ≡ head_pattern q.clause q.origin) × (target q.type ≡ 2) × HasTypedBlock Sorts q.origin) (sym e) (p_typed, refl, refl, tt)
 only_p r (inr m) = absurd m
 
 -- p X would be an instance of q-all, with X for X.

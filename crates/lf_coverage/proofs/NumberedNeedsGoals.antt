@@ -1,5 +1,5 @@
 -- The goals of inputs and of outputs have what the calls by number need.
-use Rattle.std.proofs.Common.{◌≡◌, ℕ, zero, suc, ◌≤◌, List, [], ◌∷◌, length, inl, inr, refl, sym, ap, ◌∙◌, subst, arith}
+use Rattle.std.proofs.Common.{◌≡◌, ℕ, zero, suc, ◌≤◌, List, [], ◌∷◌, length, inl, inr, refl, sym, ap, ◌∙◌, subst, arith, true≢false}
 use Rattle.std.specs.Prelude.{Bool, true, false}
 use Rattle.lf.specs.Syntax.{LfType, pi, atom, Kind, kind_pi, star}
 use Rattle.lf.specs.Typing.{Signature, IsType}
@@ -12,9 +12,9 @@ use Rattle.lf_checks.specs.Marks.{Mark, input, output, free, AreSound, MentionCh
 use Rattle.lf_checks.specs.Tests.{either}
 use Rattle.lf_cases.specs.Case.{covered_places, input_goal}
 use Rattle.lf_cases.specs.OutputGoal.{kept_terms, output_arguments, output_goal}
-use Rattle.lf_cases.specs.Pattern.{Origin, of_constant, of_entry, Pattern, head_pattern, is_given, origin, subgoal_pattern}
+use Rattle.lf_cases.specs.Pattern.{Origin, Pattern, head_pattern, is_given, origin, subgoal_pattern}
 use Rattle.lf_cases.specs.Raised.{other_masks}
-use Rattle.lf_cases.proofs.OutputItems.{length_instance}
+use Rattle.lf_cases.proofs.Split.{given_same as given_alike}
 use Rattle.lf_totality.proofs.GoalHolds.{goal_gives}
 use Rattle.lf_totality.proofs.OutputCases.{goal_within, in_context}
 use Rattle.lf_coverage.specs.EntryTerms.{known_in}
@@ -23,24 +23,24 @@ use Rattle.lf_coverage.specs.Matching.{other_places}
 use Rattle.lf_coverage.specs.EntryPatternsOutputs.{numbered_output_goal}
 use Rattle.lf_coverage.specs.EntryPatternsRuns.{HasOneBlock}
 use Rattle.lf_coverage.specs.NumberedBesideGiven.{IsTypedBesideByNumber}
-use Rattle.lf_coverage.specs.NumberedCalls.{IsSetting, HasOwnBlock, IsFor, IsHeadFor, NumberedCoverNeeds, NumberedInputGoalNeeds, NumberedOutputGoalNeeds}
+use Rattle.lf_coverage.specs.NumberedCalls.{IsSetting, HasTypedBlock, IsFor, IsHeadFor, NumberedCoverNeeds, NumberedInputGoalNeeds, NumberedOutputGoalNeeds}
 use Rattle.lf_coverage.specs.NumberedCase.{NumberedCase}
 use Rattle.lf_coverage.specs.NumberedNeeds.{ClauseHeadsAreTyped, InputGoalHasNeeds, OutputGoalHasNeeds}
 use Rattle.lf_coverage.specs.Numbering.{numbered, numbering}
-use Rattle.lf_coverage.proofs.EntryPatternsOutputs.{numbered_output_goal_is_typed, own_block_has_number_zero}
+use Rattle.lf_coverage.proofs.EntryPatternsOutputs.{numbered_output_goal_is_typed}
 use Rattle.lf_coverage.proofs.EntrySignature.{closed_over}
+use Rattle.lf_coverage.proofs.EntryTermsHeads.{type_of_head}
 use Rattle.lf_coverage.proofs.EntryTermsInputs.{beside_has_typed_places, input_goal_is_beside_by_number}
 use Rattle.lf_coverage.proofs.HeadSplit.{places_put_in}
 use Rattle.lf_coverage.proofs.Leaves.{given_is, head_is_typed, subgoal_is_typed}
 use Rattle.lf_coverage.proofs.NumberedBesideGiven.{numbered_output_goal_is_beside}
 use Rattle.lf_coverage.proofs.NumberedCallsGoals.{numbered_input_goal_is_typed}
-use Rattle.lf_coverage.proofs.NumberedNeedsHeads.{type_of_head}
-use Rattle.lf_coverage.proofs.NumberedNeedsSplits.{same_given, same_others}
+use Rattle.lf_coverage.proofs.NumberedHeads.{target_over}
+use Rattle.lf_coverage.proofs.NumberedNeedsBlocks.{clause_has_typed_block}
+use Rattle.lf_coverage.proofs.NumberedNeedsFor.{head_is_for, subgoal_is_for}
+use Rattle.lf_coverage.proofs.NumberedNeedsSplits.{same_others}
 use Rattle.lf_coverage.proofs.Parts.{some_same}
 use Rattle.lf_coverage.proofs.StuckRuns.{goal_places}
-
-no : false ≡ true → ⊥
-no e = cc
 
 pub clause_heads_are_typed : ClauseHeadsAreTyped
 clause_heads_are_typed Σ ok W typed a ps heads p m =
@@ -48,21 +48,13 @@ clause_heads_are_typed Σ ok W typed a ps heads p m =
       subst (IsTypedPattern Σ) (sym e) (head_is_typed Σ ok W typed c i),
       subst (λ (r : Pattern). r ≡ head_pattern r.clause r.origin) (sym e) refl,
       ap (λ (r : Pattern). target r.type) e ∙ q,
+      subst (λ (r : Pattern). HasTypedBlock Σ r.origin) (sym e) (clause_has_typed_block Σ W typed i),
     )
-
--- a head's entry isn't that of the first block variable alone
-head_own : (C : NumberedCase) {c : Clause} (o : Origin c) → HasOwnBlock o false C
-head_own C (of_constant U) = tt
-head_own C (of_entry B later E es e) = λ z. absurd (no z)
-
-target_over : (O : List LfType) (P : LfType) → target (pi_over O P) ≡ target P
-target_over [] P = refl
-target_over (A ∷ O) P = target_over O (pi A P)
 
 no_blocks : (C : NumberedCase) → C.blocks ≡ [] → HasOneBlock C
 no_blocks C e = subst (λ (n : ℕ). n ≤ 1) (sym (ap length e)) (omega arith)
 
-module _ (Σ : Signature) (first : ℕ) (W : List Block) (r : IsSetting Σ first W) (a : ℕ) (m : List Bool) (K : Kind) (n : NumberedInputGoalNeeds Σ first a m K) (p : Pattern) (tp : IsTypedPattern Σ p) (e : p ≡ head_pattern p.clause p.origin) (q : target p.type ≡ a) where
+module _ (Σ : Signature) (first : ℕ) (W : List Block) (r : IsSetting Σ first W) (a : ℕ) (m : List Bool) (K : Kind) (n : NumberedInputGoalNeeds Σ first a m K) (p : Pattern) (tp : IsTypedPattern Σ p) (e : p ≡ head_pattern p.clause p.origin) (q : target p.type ≡ a) (tb : HasTypedBlock Σ p.origin) where
   abbrev G : NumberedCase
   G = numbered first (input_goal a m K)
 
@@ -87,14 +79,7 @@ module _ (Σ : Signature) (first : ℕ) (W : List Block) (r : IsSetting Σ first
       record { is_head = e; none_given = refl; no_local = refl; kind = K; of_family = n.of_family; covered_only = subst (λ k. MentionChosenOnly nothing k K) (sym places) n.chosen_only; tuple = T; at_places = hT; typed_places = pT }
 
   is_for : IsFor Σ first W G p
-  is_for = record {
-    typed = tp;
-    same_family = q;
-    same_length = sym (ap (λ (r : Pattern). length (binders [] r.type)) e);
-    given_own = λ i g. absurd (no g);
-    own_block = subst (λ (r : Pattern). HasOwnBlock r.origin r.at_first G) (sym e) (head_own G p.origin);
-    beside = inl head_for;
-  }
+  is_for = head_is_for Σ first W G p tp tb q head_for
 
 pub input_goal_has_needs : InputGoalHasNeeds
 input_goal_has_needs Σ first W r below test a m K n C g ps heads =
@@ -104,12 +89,12 @@ input_goal_has_needs Σ first W r below test a m K n C g ps heads =
       subordination = test;
       case = tg;
       one_block = no_blocks (numbered first (input_goal a m K)) none;
-      patterns = λ p l. let (t, e, q) = heads p l in is_for Σ first W r a m K n p t e q;
+      patterns = λ p l. let (t, e, q, b) = heads p l in is_for Σ first W r a m K n p t e q b;
     })
 
 -- A term is given only for variables of the clause itself.
 kept_within : (D : List LfType) (U : ℕ → Bool) (ρ : ℕ → ℕ) (i : ℕ) → is_given (kept_terms U D ρ) i ≡ true → in_context D i ≡ true
-kept_within [] U ρ i e = absurd (no e)
+kept_within [] U ρ i e = absurd (true≢false (sym e))
 kept_within (A ∷ D) U ρ zero e = refl
 kept_within (A ∷ D) U ρ (suc i) e = kept_within D (λ j. U (suc j)) (λ j. ρ (suc j)) i e
 
@@ -130,10 +115,6 @@ others_are_inputs ks D V (free ∷ m) K n s = absurd n
 others_are_inputs ks D V (input ∷ m) (kind_pi A K) n s = ap (λ bs. true ∷ bs) (others_are_inputs ks D _ m K n s.1)
 others_are_inputs ks D V (output ∷ m) (kind_pi A K) n s = ap (λ bs. false ∷ bs) (others_are_inputs (other_masks ks) D _ m K n s)
 
-own_zero : (first : ℕ) (below : ℕ → ℕ → Bool) (m : ℕ → List Mark) {c : Clause} (o : Origin c) (U : ℕ → Bool) (A : LfType) (K : Kind) → HasOwnBlock o true (numbered_output_goal first below m o U A K)
-own_zero first below m (of_constant T) U A K = tt
-own_zero first below m (of_entry B later E es e) U A K = λ q. own_block_has_number_zero first below m B later E es e U A K
-
 module _ (Σ : Signature) (first : ℕ) (W : List Block) (below : ℕ → ℕ → Bool) (m : ℕ → List Mark) (c : Clause) (d : IsClause Σ W c) (U : ℕ → Bool) (A : LfType) (K : Kind) (n : NumberedOutputGoalNeeds Σ first W below m (origin d) U A K) where
   abbrev O : NumberedCase
   O = numbered_output_goal first below m (origin d) U A K
@@ -145,10 +126,10 @@ module _ (Σ : Signature) (first : ℕ) (W : List Block) (below : ℕ → ℕ �
   beside = numbered_output_goal_is_beside Σ n.setting.signature W n.setting.blocks first n.setting.free below m c d U n.outside_ground n.ground_types n.index A n.subgoal n.inputs_ground n.sound_marks n.two_marks K n.of_family
 
   given_same : (i : ℕ) → is_given O.given i ≡ is_given (output_goal below m (origin d) U A K).given i
-  given_same i = same_given O.given (output_goal below m (origin d) U A K).given (places_put_in (numbering first (output_goal below m (origin d) U A K).items).images (output_goal below m (origin d) U A K).given) i
+  given_same i = given_alike O.given (output_goal below m (origin d) U A K).given (places_put_in (numbering first (output_goal below m (origin d) U A K).items).images (output_goal below m (origin d) U A K).given) i
 
   given_is_own : (i : ℕ) → is_given O.given i ≡ true → outside c.type everything i ≡ false
-  given_is_own i e = own_variables c.type everything [] (λ j q. absurd (no q)) i (kept_within (binders [] c.type) U _ i (sym (given_same i) ∙ e))
+  given_is_own i e = own_variables c.type everything [] (λ j q. absurd (true≢false (sym q))) i (kept_within (binders [] c.type) U _ i (sym (given_same i) ∙ e))
 
   known : (i : ℕ) → U i ≡ true → known_in O asked i ≡ true
   known i u = by (outside c.type everything i) refl
@@ -172,14 +153,7 @@ module _ (Σ : Signature) (first : ℕ) (W : List Block) (below : ℕ → ℕ �
       subst (λ b. UsesGoal (known_in O asked) b A) (sym e) (goal_within U (known_in O asked) (input_places (m (target A))) A known n.inputs_ground)
 
   subgoal_for : IsFor Σ first W O asked
-  subgoal_for = record {
-    typed = subgoal_is_typed Σ n.setting.signature W n.setting.blocks c d n.index A n.subgoal;
-    same_family = beside.beside.same_family;
-    same_length = ap length beside.beside.local ∙ length_instance (binders [] A) _;
-    given_own = given_is_own;
-    own_block = own_zero first below m (origin d) U A K;
-    beside = inr (record { at_first = refl; typed_beside = beside; known_places = known_places });
-  }
+  subgoal_for = subgoal_is_for Σ first W n.setting.blocks O asked (subgoal_is_typed Σ n.setting.signature W n.setting.blocks c d n.index A n.subgoal) given_is_own (record { at_first = refl; typed_beside = beside; known_places = known_places })
 
   pub output_needs : NumberedCoverNeeds Σ first W below (asked ∷ []) O
   output_needs =

@@ -1,17 +1,14 @@
 -- Values that are put in step by step are put in at once: where a case comes from another by typed values on own terms, and a further one from it.
 use Rattle.std.proofs.Common.{◌≡◌, ℕ, ◌++◌, List, [], ◌∷◌, refl, sym, ap, ap₂, ◌∙◌, subst}
-use Rattle.std.specs.Prelude.{Option, Some, None}
-use Rattle.lf.specs.Syntax.{variable, Term, LfType, Skeleton, skeleton}
+use Rattle.lf.specs.Syntax.{Term, LfType, skeleton}
 use Rattle.lf.specs.Substitution.{Image, keep, put, substitute, substitute_image, substitute_spine, substitute_type, reduce, after}
-use Rattle.lf.specs.SkeletonTyping.{HeadSkeletons, ImageSkeleton, TermSkeleton, SubstitutionBySkeletons}
+use Rattle.lf.specs.SkeletonTyping.{SubstitutionBySkeletons}
 use Rattle.lf.specs.Skeletons.{constant_skeletons, family_skeletons, context_skeletons}
 use Rattle.lf.specs.Typing.{Signature, TypeAt, HasType, ImageHasType, IsType, IsTypedSubstitution, IsSignature}
 use Rattle.lf.specs.Variables.{nothing, onto}
 use Rattle.lf.specs.Subordination.{Block, AreTypedBlocks}
 use Rattle.lf.specs.Worlds.{lift_over, instance}
 use Rattle.lf.specs.Extension.{Extends}
-use Rattle.lf.proofs.AtOnce.{eta_long_has_skeleton}
-use Rattle.lf.proofs.Composition.{substitutions_compose}
 use Rattle.lf.proofs.ExtensionTyping.{extension_keeps_contexts, extensions_compose}
 use Rattle.lf.proofs.Growth.{growth_keeps_types, growth_keeps_typing}
 use Rattle.lf.proofs.SkeletonTypes.{substitutions_compose_type, substitution_keeps_types_by_skeletons}
@@ -22,15 +19,14 @@ use Rattle.lf.proofs.Weakening.{declared_is_type}
 use Rattle.lf_cases.specs.Case.{as_term}
 use Rattle.lf_cases.specs.Missing.{put_in}
 use Rattle.lf_coverage.specs.EntryConstants.{with_entries, IsFreeFrom}
-use Rattle.lf_coverage.specs.Heads.{HaveSkeletons}
 use Rattle.lf_coverage.specs.NumberedCase.{NumberedCase, AreTypedBlockVariables}
 use Rattle.lf_coverage.specs.OwnTerms.{BlockVariable, blocks_of, own_terms, OnOwnTerms, put_in_blocks}
 use Rattle.lf_coverage.specs.TypedNumbered.{IsTypedNumberedCase}
 use Rattle.lf_coverage.proofs.EntryPatternsMatching.{entries_signature}
 use Rattle.lf_coverage.proofs.EntryValues.{put_add as put_last}
-use Rattle.lf_coverage.proofs.InstancesCompose.{first_under, local_twice}
-use Rattle.lf_coverage.proofs.OwnValuesInstances.{some_mapped}
-use Rattle.lf_coverage.proofs.Transfer.{lift_instance, after_over, lifted_instance, have_more}
+use Rattle.lf_coverage.proofs.InstancesCompose.{local_twice, term_twice, terms_twice}
+use Rattle.lf_coverage.proofs.OwnValuesInstances.{some_mapped, term_fits}
+use Rattle.lf_coverage.proofs.Transfer.{lift_instance, have_more}
 
 -- D is C with typed values on own terms put in, and perhaps further block variables behind.
 pub record IsPutInto (Σ : Signature) (first : ℕ) (C D : NumberedCase) : Type 0 where
@@ -43,10 +39,6 @@ pub record IsPutInto (Σ : Signature) (first : ℕ) (C D : NumberedCase) : Type 
   pub family : D.family ≡ C.family
   pub arguments : D.arguments ≡ put_in (lift_over C.local values) C.arguments
   pub terms : (i : ℕ) (A : LfType) → TypeAt C.variables i A → (N : Term) × (values i ≡ put (skeleton A) N) × HasType (with_entries Σ first (blocks_of D.blocks)) D.variables N (substitute_type reduce values A) × OnOwnTerms (own_terms first D.blocks) N
-
-term_fits : (κ : HeadSkeletons) (Γ : List Skeleton) (a : Skeleton) (y : Image) → ImageSkeleton κ Γ y a → TermSkeleton κ Γ (as_term a y) a
-term_fits κ Γ a (keep j) g = eta_long_has_skeleton κ Γ a (variable j) g
-term_fits κ Γ a (put b N) (e, n) = subst (TermSkeleton κ Γ N) e n
 
 joined : (bs cs ds : List BlockVariable) → (bs ++ cs) ++ ds ≡ bs ++ (cs ++ ds)
 joined [] cs ds = refl
@@ -97,16 +89,6 @@ module _ (Σ : Signature) (ok : IsSignature Σ) (W : List Block) (typed : AreTyp
     target_skeletons = skeleton_context_of Σ₂ ok₂ E.variables te.variables.variables;
   }
 
-  term_twice : (L : List LfType) (M : Term) (t : Skeleton) → TermSkeleton (constant_skeletons Σ₂) (context_skeletons (onto L C.variables)) M t → substitute reduce (lift_over L ρ) (substitute reduce (lift_over L υ) M) ≡ substitute reduce (lift_over L (after ρ υ)) M
-  term_twice L M t m =
-      substitutions_compose (constant_skeletons Σ₂) (context_skeletons (onto L C.variables)) (context_skeletons (onto (instance L υ) D.variables)) (context_skeletons (onto (instance (instance L υ) ρ) E.variables)) (lift_over L υ) (lift_over L ρ) M t (first_under Σ₂ C.variables D.variables E.variables υ ρ first_fits next_fits L) (lifted_instance Σ₂ D.variables E.variables L υ ρ next_fits) m
-      ∙ ap (λ f. substitute reduce f M) (after_over L υ ρ)
-
-  terms_twice : (L : List LfType) (Ms : List (Option Term)) → HaveSkeletons (constant_skeletons Σ₂) (context_skeletons (onto L C.variables)) Ms → put_in (lift_over L ρ) (put_in (lift_over L υ) Ms) ≡ put_in (lift_over L (after ρ υ)) Ms
-  terms_twice L [] h = refl
-  terms_twice L (Some M ∷ Ms) ((t, m), h) = ap₂ (λ N Ns. Some N ∷ Ns) (term_twice L M t m) (terms_twice L Ms h)
-  terms_twice L (None ∷ Ms) h = ap (λ Ns. None ∷ Ns) (terms_twice L Ms h)
-
   blocks_twice : (bs : List BlockVariable) → AreTypedBlockVariables Σ₁ W C.variables (own_terms first C.blocks) bs → put_in_blocks ρ (put_in_blocks υ bs) ≡ put_in_blocks (after ρ υ) bs
   blocks_twice [] t = refl
   blocks_twice (b ∷ bs) (m, (τ, u, z), w, t) = ap₂ (λ U cs. record { block = b.block; terms = U } ∷ cs) (ap (λ S. substitute_spine reduce ρ (substitute_spine reduce υ S)) z ∙ some_mapped (λ S. substitute_spine reduce ρ (substitute_spine reduce υ S)) (substitute_spine reduce (after ρ υ)) (λ N. substitute reduce ρ (substitute reduce υ N)) (substitute reduce (after ρ υ)) refl (λ S N. ap (substitute_spine reduce ρ) (put_last υ S N) ∙ put_last ρ (substitute_spine reduce υ S) (substitute reduce υ N)) (put_last (after ρ υ)) b.block.some τ each ∙ ap (substitute_spine reduce (after ρ υ)) (sym z)) (blocks_twice bs t)
@@ -119,7 +101,7 @@ module _ (Σ : Signature) (ok : IsSignature Σ) (W : List Block) (typed : AreTyp
           image_there (put a N) A (e, n) = (e, growth_keeps_typing Σ₁ Σ₂ whole_more.types_stay whole_more.kinds_stay C.variables N A n)
 
       each : (j : ℕ) (A : LfType) → TypeAt b.block.some j A → substitute reduce ρ (substitute reduce υ (as_term (skeleton A) (τ j))) ≡ substitute reduce (after ρ υ) (as_term (skeleton A) (τ j))
-      each j A h = term_twice [] (as_term (skeleton A) (τ j)) (skeleton A) (term_fits (constant_skeletons Σ₂) (context_skeletons C.variables) (skeleton A) (τ j) (fits j (skeleton A) (variable_has_skeleton b.block.some j A h)))
+      each j A h = term_twice Σ₂ C.variables D.variables E.variables υ ρ first_fits next_fits [] (as_term (skeleton A) (τ j)) (skeleton A) (term_fits (constant_skeletons Σ₂) (context_skeletons C.variables) (skeleton A) (τ j) (fits j (skeleton A) (variable_has_skeleton b.block.some j A h)))
 
   type_twice : (A : LfType) → IsType Σ₁ C.variables A → substitute_type reduce ρ (substitute_type reduce υ A) ≡ substitute_type reduce (after ρ υ) A
   type_twice A t = substitutions_compose_type (family_skeletons Σ₂) (constant_skeletons Σ₂) (context_skeletons C.variables) (context_skeletons D.variables) (context_skeletons E.variables) υ ρ A first_fits next_fits (type_by_skeletons Σ₂ C.variables A (type_there C.variables A t))
@@ -142,9 +124,9 @@ module _ (Σ : Signature) (ok : IsSignature Σ) (W : List Block) (typed : AreTyp
     further = put_in_blocks ρ i.further ++ fs;
     more = whole_more;
     blocks = eb ∙ ap (λ bs. put_in_blocks ρ bs ++ fs) i.blocks ∙ ap (λ bs. bs ++ fs) (put_joined ρ (put_in_blocks υ C.blocks) i.further) ∙ joined (put_in_blocks ρ (put_in_blocks υ C.blocks)) (put_in_blocks ρ i.further) fs ∙ ap (λ bs. bs ++ (put_in_blocks ρ i.further ++ fs)) (blocks_twice C.blocks tc.variables.blocks);
-    given = eg ∙ ap (put_in ρ) i.given ∙ terms_twice [] C.given (have_more nothing Σ₁ Σ₂ whole_more (context_skeletons C.variables) C.given tc.given);
+    given = eg ∙ ap (put_in ρ) i.given ∙ terms_twice Σ₂ C.variables D.variables E.variables υ ρ first_fits next_fits [] C.given (have_more nothing Σ₁ Σ₂ whole_more (context_skeletons C.variables) C.given tc.given);
     local = el ∙ ap (λ L. instance L ρ) i.local ∙ local_twice Σ₂ C.variables D.variables E.variables υ ρ first_fits next_fits C.local (extension_keeps_contexts nothing Σ₁ Σ₂ whole_more (onto C.local C.variables) tc.local);
     family = ef ∙ i.family;
-    arguments = ea ∙ ap₂ (λ L Ms. put_in (lift_over L ρ) Ms) i.local i.arguments ∙ ap (λ f. put_in f (put_in (lift_over C.local υ) C.arguments)) (lift_instance C.local υ ρ) ∙ terms_twice C.local C.arguments (have_more nothing Σ₁ Σ₂ whole_more (context_skeletons (onto C.local C.variables)) C.arguments tc.arguments);
+    arguments = ea ∙ ap₂ (λ L Ms. put_in (lift_over L ρ) Ms) i.local i.arguments ∙ ap (λ f. put_in f (put_in (lift_over C.local υ) C.arguments)) (lift_instance C.local υ ρ) ∙ terms_twice Σ₂ C.variables D.variables E.variables υ ρ first_fits next_fits C.local C.arguments (have_more nothing Σ₁ Σ₂ whole_more (context_skeletons (onto C.local C.variables)) C.arguments tc.arguments);
     terms = next_terms;
   }

@@ -19,6 +19,7 @@ use Rattle.lf_cases.specs.Missing.{put_in}
 use Rattle.lf_cases.proofs.Calls.{inputs_same}
 use Rattle.lf_coverage.specs.Matching.{ArePlaces}
 use Rattle.lf_coverage.proofs.Carried.{carried, carry}
+use Rattle.lf_coverage.proofs.InstancesCompose.{front_after}
 use mathlib.Core.Path.{fun_ext}
 
 -- a tuple has its own terms at the chosen places
@@ -77,10 +78,6 @@ module _ (Σ : Signature) (ok : IsSignature Σ) (G Y : List LfType) (υ : ℕ �
       closed zero B e w = absurd cc
       closed (suc i) B (D, h, e) w = subst (UsesType (hide V)) (sym e) (uses_type_renamed V (hide V) suc D (λ j z. z) (v.closed i D h w))
 
-  front_after : (θ : ℕ → Image) (a : Skeleton) (M : Term) (i : ℕ) → after σ (in_front (put a M) θ) i ≡ in_front (put a (substitute reduce σ M)) (after σ θ) i
-  front_after θ a M zero = refl
-  front_after θ a M (suc i) = refl
-
   -- the term at a chosen place
   place_put : (V : ℕ → Bool) (X : List LfType) (θ : ℕ → Image) (A : LfType) (M : Term) → IsContext Σ X → IsType Σ X A → Values Σ V X G θ → UsesType V A → HasType Σ G M (substitute_type reduce θ A) → HasType Σ Y (substitute reduce σ M) (substitute_type reduce (after σ θ) A)
   place_put V X θ A M x a v u m =
@@ -103,9 +100,9 @@ module _ (Σ : Signature) (ok : IsSignature Σ) (G Y : List LfType) (υ : ℕ �
   places_at V (b ∷ m) X θ (app M T) star x k w v i = absurd i
   places_at V (true ∷ m) X θ (app M T) (kind_pi A K) x (a, k) (u, w) v (n, i) = (
     place_put V X θ A M x a v u n,
-    subst (λ f. TypedPlacesFrom Σ m Y f (substitute_spine reduce σ T) K) (fun_ext (front_after θ (skeleton A) M)) (places_at (under V) m (A ∷ X) (in_front (put (skeleton A) M) θ) T K (x, a) k w (values_chosen V X θ A M v u n) i),
+    subst (λ f. TypedPlacesFrom Σ m Y f (substitute_spine reduce σ T) K) (fun_ext (front_after (put (skeleton A) M) θ σ)) (places_at (under V) m (A ∷ X) (in_front (put (skeleton A) M) θ) T K (x, a) k w (values_chosen V X θ A M v u n) i),
   )
-  places_at V (false ∷ m) X θ (app M T) (kind_pi A K) x (a, k) w v i = subst (λ f. TypedPlacesFrom Σ m Y f (substitute_spine reduce σ T) K) (fun_ext (front_after θ (skeleton A) M)) (places_at (hide V) m (A ∷ X) (in_front (put (skeleton A) M) θ) T K (x, a) k w (values_other V X θ A M v) i)
+  places_at V (false ∷ m) X θ (app M T) (kind_pi A K) x (a, k) w v i = subst (λ f. TypedPlacesFrom Σ m Y f (substitute_spine reduce σ T) K) (fun_ext (front_after (put (skeleton A) M) θ σ)) (places_at (hide V) m (A ∷ X) (in_front (put (skeleton A) M) θ) T K (x, a) k w (values_other V X θ A M v) i)
 
   -- The lemma
   pub typed_places_put : (m : List Bool) (T : Spine) (K : Kind) → IsKind Σ [] K → MentionChosenOnly nothing m K → TypedPlaces Σ m G T K → TypedPlaces Σ m Y (substitute_spine reduce (carry G Y υ) T) K

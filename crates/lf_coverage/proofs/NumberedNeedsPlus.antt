@@ -3,22 +3,20 @@ use Rattle.std.proofs.Common.{◌≡◌, ℕ, zero, suc, ◌≤◌, [], ◌∷�
 use Rattle.std.specs.Prelude.{Bool, true, false, None}
 use Rattle.lf.specs.Syntax.{LfType, weaken}
 use Rattle.lf.specs.Typing.{TypeAt}
-use Rattle.lf.specs.Variables.{UsesType, everything, target}
+use Rattle.lf.specs.Variables.{UsesType, everything}
 use Rattle.lf_checks.specs.Clause.{from_constant, outside, scope}
 use Rattle.lf_checks.specs.Ground.{ground_first}
-use Rattle.lf_cases.specs.Pattern.{Pattern, head_pattern, of_constant}
+use Rattle.lf_cases.specs.Pattern.{AreHeadsOf, of_constant}
 use Rattle.lf_totality.specs.Examples.{Addition, addition_kinds, addition_marks, addition_types, first_below_second, on_three, plus_heads, plus_input_goal, plus_kind, plus_output_case, plus_s, plus_z, var}
 use Rattle.lf_totality.proofs.Addition.{addition_ok}
 use Rattle.lf_coverage.specs.EntryConstants.{IsFreeFrom}
 use Rattle.lf_coverage.specs.ExamplesLeaves.{plus_asked}
-use Rattle.lf_coverage.specs.Leaf.{IsTypedPattern}
 use Rattle.lf_coverage.specs.NumberedCalls.{IsSetting}
 use Rattle.lf_coverage.specs.NumberedNeeds.{AreTypedHeads}
 use Rattle.lf_coverage.specs.NumberedNeedsExamples.{PlusHasNeeds}
 use Rattle.lf_coverage.specs.Numbering.{numbered}
 use Rattle.lf_coverage.proofs.ExamplesSubordinate.{addition_is_tested}
-use Rattle.lf_coverage.proofs.Leaves.{head_is_typed}
-use Rattle.lf_coverage.proofs.NumberedNeedsGoals.{input_goal_has_needs, output_goal_has_needs}
+use Rattle.lf_coverage.proofs.NumberedNeedsGoals.{clause_heads_are_typed, input_goal_has_needs, output_goal_has_needs}
 
 -- no constant and no family has the number 4 or a greater one
 addition_free : IsFreeFrom Addition 4
@@ -40,9 +38,12 @@ addition_setting : IsSetting Addition 4 []
 addition_setting = record { signature = addition_ok; blocks = λ B m. absurd m; free = addition_free }
 
 plus_typed : AreTypedHeads Addition 1 plus_heads
-plus_typed p (inl e) = subst (λ (q : Pattern). IsTypedPattern Addition q × (q ≡ head_pattern q.clause q.origin) × (target q.type ≡ 1)) (sym e) (head_is_typed Addition addition_ok [] (λ B m. absurd m) plus_z (from_constant 2 plus_z.type refl), refl, refl)
-plus_typed p (inr (inl e)) = subst (λ (q : Pattern). IsTypedPattern Addition q × (q ≡ head_pattern q.clause q.origin) × (target q.type ≡ 1)) (sym e) (head_is_typed Addition addition_ok [] (λ B m. absurd m) plus_s (from_constant 3 plus_s.type refl), refl, refl)
-plus_typed p (inr (inr m)) = absurd m
+plus_typed = clause_heads_are_typed Addition addition_ok [] (λ B m. absurd m) 1 plus_heads heads
+  where
+    heads : AreHeadsOf Addition [] 1 plus_heads
+    heads p (inl e) = (plus_z, from_constant 2 plus_z.type refl, refl, e)
+    heads p (inr (inl e)) = (plus_s, from_constant 3 plus_s.type refl, refl, e)
+    heads p (inr (inr m)) = absurd m
 
 abbrev ground : ℕ → Bool
 ground = ground_first addition_marks plus_s

@@ -1,20 +1,19 @@
 -- Each case that the strategy reaches by number is a typed instance of the goal, in which each block variable keeps its number.
-use Rattle.std.proofs.Common.{◌≡◌, ℕ, ◌+◌, ◌++◌, List, [], ◌∷◌, length, refl, sym, ap, ap₂, ◌∙◌, subst}
+use Rattle.std.proofs.Common.{◌≡◌, ℕ, ◌+◌, ◌++◌, List, [], ◌∷◌, length, refl, sym, ap, ap₂, subst}
 use Rattle.std.specs.Prelude.{Bool, Some}
 use Rattle.lf.specs.Syntax.{Head, Term, Spine, LfType, Kind, rename, rename_type}
-use Rattle.lf.specs.Substitution.{Image, keep, substitute, substitute_type, reduce}
+use Rattle.lf.specs.Substitution.{Image, keep, substitute, reduce}
 use Rattle.lf.specs.AtOnce.{lift_renaming_by, shift_by}
 use Rattle.lf.specs.Typing.{Signature, TypeAt, HasType, IsTypedSubstitution, IsSignature}
 use Rattle.lf.specs.Variables.{nothing, onto, target}
 use Rattle.lf.specs.Subordination.{Block, AreTypedBlocks, Member}
-use Rattle.lf.specs.Worlds.{lift_over, instance}
+use Rattle.lf.specs.Worlds.{lift_over}
 use Rattle.lf.specs.Extension.{Extends}
 use Rattle.lf.proofs.TypeLaws.{substitution_as_renaming, substitution_as_renaming_spine, substitution_as_renaming_type}
 use Rattle.lf.proofs.Weakening.{renaming_keeps_typing}
 use Rattle.lf_unification.specs.Offering.{local_arguments}
 use Rattle.lf_unification.specs.Solving.{Solved}
 use Rattle.lf_unification.specs.Unifiers.{Store}
-use Rattle.lf_cases.specs.OutputGoal.{renumber}
 use Rattle.lf_cases.specs.Pattern.{Pattern}
 use Rattle.lf_cases.specs.Reached.{arguments_count}
 use Rattle.lf_totality.proofs.After.{Extends-self}
@@ -30,35 +29,22 @@ use Rattle.lf_coverage.specs.TypedNumbered.{IsTypedNumberedCase}
 use Rattle.lf_coverage.proofs.Carried.{carry}
 use Rattle.lf_coverage.proofs.EntryPatternsMatching.{entries_signature}
 use Rattle.lf_coverage.proofs.EntryPatternsSplits.{all_renamed, lifted_keep}
+use Rattle.lf_coverage.proofs.NumberedBesideStays.{local_moved}
 use Rattle.lf_coverage.proofs.NumberedNeedsInto.{IsPutInto, put_into_twice}
-use Rattle.lf_coverage.proofs.NumberedNeedsSplits.{split_comes}
 use Rattle.lf_coverage.proofs.NumberedNeedsWhole.{whole_put_into}
-use Rattle.lf_coverage.proofs.NumberedReachedInstances.{put_in_is_instance}
+use Rattle.lf_coverage.proofs.NumberedReachedInstances.{nothing_behind, put_in_is_instance}
+use Rattle.lf_coverage.proofs.NumberedSplitCases.{split_comes}
 use Rattle.lf_coverage.proofs.NumberingBlocks.{blocks_renamed}
 use Rattle.lf_coverage.proofs.NumberedTyped.{renamed_terms}
 use Rattle.lf_coverage.proofs.OwnStoresNewBlock.{new_block_stays_typed, extends, renames}
 use Rattle.lf_coverage.proofs.OwnStoresSplit.{image_own, numbered_split_stays_typed, values_typed}
 use Rattle.lf_coverage.proofs.OwnStoresTyped.{numbered_run_stays_typed}
-use Rattle.lf_coverage.proofs.OwnTerms.{own_agrees, own_renamed, own_stays, own_substituted, put_in_own}
-use mathlib.Core.Path.{fun_ext}
-
--- a local context renumbered
-local_moved : (r : ℕ → ℕ) (L : List LfType) → renumber r L ≡ instance L (λ i. keep (r i))
-local_moved r [] = refl
-local_moved r (A ∷ L) = ap₂ ◌∷◌ (sym (ap (λ f. substitute_type reduce f A) (fun_ext (lifted_keep L r)) ∙ substitution_as_renaming_type reduce (lift_renaming_by (length L) r) A)) (local_moved r L)
+use Rattle.lf_coverage.proofs.OwnTerms.{own_agrees, own_renamed, own_stays, own_substituted, put_in_keeps, put_in_own}
 
 -- block variables renumbered
 blocks_moved : (r : ℕ → ℕ) (bs : List BlockVariable) → rename_blocks r bs ≡ put_in_blocks (λ i. keep (r i)) bs
 blocks_moved r [] = refl
 blocks_moved r (b ∷ bs) = ap₂ (λ U cs. record { block = b.block; terms = U } ∷ cs) (sym (substitution_as_renaming_spine reduce r b.terms)) (blocks_moved r bs)
-
-same_blocks : (υ : ℕ → Image) (bs : List BlockVariable) → blocks_of (put_in_blocks υ bs) ≡ blocks_of bs
-same_blocks υ [] = refl
-same_blocks υ (b ∷ bs) = ap (λ Bs. b.block ∷ Bs) (same_blocks υ bs)
-
-nothing_behind : (bs : List BlockVariable) → bs ≡ bs ++ []
-nothing_behind [] = refl
-nothing_behind (b ∷ bs) = ap (λ cs. b ∷ cs) (nothing_behind bs)
 
 module _ (Σ : Signature) (ok : IsSignature Σ) (W : List Block) (typed : AreTypedBlocks Σ W) (first : ℕ) (free : IsFreeFrom Σ first) (below : ℕ → ℕ → Bool) (C : NumberedCase) (tc : IsTypedNumberedCase Σ first W C) where
   module _ (D : NumberedCase) (td : IsTypedNumberedCase Σ first W D) (B : Block) (m : Member B W) where
@@ -100,7 +86,7 @@ module _ (Σ : Signature) (ok : IsSignature Σ) (W : List Block) (typed : AreTyp
       let υ : ℕ → Image = λ j. answer_values finish s.well_formed.order (j + arguments_count A) in
       let E : NumberedCase = solved_numbered D (arguments_count A) finish s.well_formed.order in
       let Σ₁ : Signature = with_entries Σ first (blocks_of D.blocks) in
-      let q : blocks_of (put_in_blocks υ D.blocks) ≡ blocks_of D.blocks = same_blocks υ D.blocks in
+      let q : blocks_of (put_in_blocks υ D.blocks) ≡ blocks_of D.blocks = put_in_keeps υ D.blocks in
       put_into_twice Σ ok W typed first free C D E tc td (numbered_split_stays_typed Σ ok W typed first free below D td y X at h U A f K e finish s) i
       (subst (λ Bs. Extends nothing Σ₁ (with_entries Σ first Bs)) (sym q) (Extends-self nothing Σ₁ (entries_signature Σ ok W typed first free D td))) υ
       (subst (λ Bs. IsTypedSubstitution (with_entries Σ first Bs) D.variables E.variables υ) (sym q) (values_typed Σ ok W typed first free below D td y X at h U A f K e finish s))
@@ -116,7 +102,7 @@ module _ (Σ : Signature) (ok : IsSignature Σ) (W : List Block) (typed : AreTyp
   reached_put_into ps numbered_goal = (tc, whole_put_into Σ ok W typed first free C tc)
   reached_put_into ps (numbered_split {C = D} {D = E} x r n k sp) =
       let (td, i) = reached_put_into ps r in
-      let w : ComesByNumbers Σ W first below D E = split_comes Σ ok W typed first free below D E x sp in
+      let w : ComesByNumbers Σ W first below D E = split_comes Σ W first below D E x sp in
       (numbered_run_stays_typed Σ ok W typed first free below D td E w, run_put_into D E td w i)
 
 pub reached_is_numbered_instance : ReachedIsNumberedInstance

@@ -1,10 +1,10 @@
 -- Worked needs of the calls by number, with block variables.
-use Rattle.std.proofs.Common.{◌≡◌, ℕ, zero, suc, [], ◌∷◌, inl, inr, refl, sym, ap, subst}
+use Rattle.std.proofs.Common.{◌≡◌, ℕ, zero, suc, [], ◌∷◌, inl, inr, refl, ap}
 use Rattle.std.specs.Prelude.{true, false, ◌⊎◌}
 use Rattle.lf.specs.Syntax.{variable, root, nil, kind_pi, star}
-use Rattle.lf.specs.Variables.{everything, target}
+use Rattle.lf.specs.Variables.{everything}
 use Rattle.lf_checks.specs.Clause.{from_entry, outside}
-use Rattle.lf_cases.specs.Pattern.{Pattern, head_pattern, is_given}
+use Rattle.lf_cases.specs.Pattern.{AreHeadsOf, Pattern, is_given}
 use Rattle.lf_coverage.specs.EntryPatternsExamples.{Laters, answered_case, asked, asked_goal, asking_block, asking_clause, asking_entry, later_worlds}
 use Rattle.lf_coverage.specs.Leaf.{IsTypedPattern}
 use Rattle.lf_coverage.specs.NumberedBesideLater.{asked_type, second_goal}
@@ -13,11 +13,11 @@ use Rattle.lf_coverage.specs.NumberedNeeds.{AreTypedHeads}
 use Rattle.lf_coverage.specs.NumberedNeedsRows.{AskedHasNeeds, OpenHasNeeds}
 use Rattle.lf_coverage.specs.NumberedSplitsExamples.{Bare, exp, exp_block, has, has_entry, has_head, open_case, entry_case}
 use Rattle.lf_coverage.proofs.EntryPatternsGoals.{blocks as later_blocks, free as later_free, ok as laters_ok}
-use Rattle.lf_coverage.proofs.Leaves.{head_is_typed, subgoal_is_typed}
+use Rattle.lf_coverage.proofs.Leaves.{subgoal_is_typed}
 use Rattle.lf_coverage.proofs.NumberedBesideLaterRuns.{answered_is_beside, asked_is_beside}
 use Rattle.lf_coverage.proofs.NumberedCallsOpen.{open_gives_entry}
-use Rattle.lf_coverage.proofs.NumberedNeedsGoals.{input_goal_has_needs}
-use Rattle.lf_coverage.proofs.NumberedNeedsLaws.{subgoal_is_for}
+use Rattle.lf_coverage.proofs.NumberedNeedsFor.{subgoal_is_for}
+use Rattle.lf_coverage.proofs.NumberedNeedsGoals.{clause_heads_are_typed, input_goal_has_needs}
 use Rattle.lf_coverage.proofs.NumberedNeedsSplits.{split_keeps_needs}
 use Rattle.lf_coverage.proofs.NumberedSplitsExamples.{bare_ok, blocks_typed, free}
 
@@ -26,8 +26,11 @@ bare_setting : IsSetting Bare 2 (exp_block ∷ [])
 bare_setting = record { signature = bare_ok; blocks = blocks_typed; free = free }
 
 only_u : AreTypedHeads Bare 1 (has_head ∷ [])
-only_u p (inl e) = subst (λ (q : Pattern). IsTypedPattern Bare q × (q ≡ head_pattern q.clause q.origin) × (target q.type ≡ 1)) (sym e) (head_is_typed Bare bare_ok (exp_block ∷ []) blocks_typed has_entry (from_entry exp_block [] (has (root (variable 0) nil)) (exp ∷ []) (inl refl) refl), refl, refl)
-only_u p (inr m) = absurd m
+only_u = clause_heads_are_typed Bare bare_ok (exp_block ∷ []) blocks_typed 1 (has_head ∷ []) heads
+  where
+    heads : AreHeadsOf Bare (exp_block ∷ []) 1 (has_head ∷ [])
+    heads p (inl e) = (has_entry, from_entry exp_block [] (has (root (variable 0) nil)) (exp ∷ []) (inl refl) refl, refl, e)
+    heads p (inr m) = absurd m
 
 pub open_has_needs : OpenHasNeeds
 open_has_needs below test =
@@ -48,10 +51,10 @@ none_given (suc zero) e = absurd cc
 none_given (suc (suc i)) e = absurd cc
 
 goal_for : IsFor Laters 4 later_worlds asked_goal asked
-goal_for = subgoal_is_for Laters 4 later_worlds asked_goal asked asked_typed none_given (record { at_first = refl; typed_beside = asked_is_beside.0; known_places = ((refl, tt), tt) })
+goal_for = subgoal_is_for Laters 4 later_worlds later_blocks asked_goal asked asked_typed none_given (record { at_first = refl; typed_beside = asked_is_beside.0; known_places = ((refl, tt), tt) })
 
 answered_for : IsFor Laters 4 later_worlds answered_case asked
-answered_for = subgoal_is_for Laters 4 later_worlds answered_case asked asked_typed none_given (record { at_first = refl; typed_beside = answered_is_beside.1; known_places = ((refl, tt), tt) })
+answered_for = subgoal_is_for Laters 4 later_worlds later_blocks answered_case asked asked_typed none_given (record { at_first = refl; typed_beside = answered_is_beside.1; known_places = ((refl, tt), tt) })
 
 pub asked_has_needs : AskedHasNeeds
 asked_has_needs = (record { setting = later_setting; case = asked_is_beside.0.typed; pattern = goal_for }, record { setting = later_setting; case = answered_is_beside.1.typed; pattern = answered_for }, λ n. refused n.pattern.beside)

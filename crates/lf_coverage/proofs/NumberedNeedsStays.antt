@@ -1,5 +1,5 @@
 -- The head of a clause for a case of inputs is one for each case that comes from it by new block variables and by splits that unification solves.
-use Rattle.std.proofs.Common.{◌≡◌, ℕ, ◌+◌, List, [], ◌∷◌, length, refl, sym, ap, ◌∙◌, subst}
+use Rattle.std.proofs.Common.{◌≡◌, ℕ, ◌+◌, List, [], length, refl, sym, ap, ◌∙◌, subst}
 use Rattle.std.specs.Prelude.{Bool}
 use Rattle.lf.specs.Syntax.{LfType}
 use Rattle.lf.specs.Substitution.{Image, keep, substitute_spine, reduce}
@@ -29,7 +29,7 @@ use Rattle.lf_coverage.specs.NewBlock.{rename_all, with_new_block}
 use Rattle.lf_coverage.specs.NumberedCalls.{IsHeadFor}
 use Rattle.lf_coverage.specs.NumberedCase.{NumberedCase}
 use Rattle.lf_coverage.specs.OwnStores.{ComesByNumbers, no_split, then_block, then_split, solved_numbered}
-use Rattle.lf_coverage.specs.OwnTerms.{BlockVariable, blocks_of, put_in_blocks}
+use Rattle.lf_coverage.specs.OwnTerms.{blocks_of, put_in_blocks}
 use Rattle.lf_coverage.specs.SplitStore.{answer_values}
 use Rattle.lf_coverage.specs.TypedNumbered.{IsTypedNumberedCase}
 use Rattle.lf_coverage.proofs.Carried.{carry, carry_same}
@@ -40,10 +40,7 @@ use Rattle.lf_coverage.proofs.NumberedNeedsPlaces.{places_more, places_put, type
 use Rattle.lf_coverage.proofs.OwnStoresNewBlock.{new_block_stays_typed, extends, renames}
 use Rattle.lf_coverage.proofs.OwnStoresSplit.{numbered_split_stays_typed, values_typed}
 use Rattle.lf_coverage.proofs.OwnStoresTyped.{numbered_run_stays_typed}
-
-same_blocks : (υ : ℕ → Image) (bs : List BlockVariable) → blocks_of (put_in_blocks υ bs) ≡ blocks_of bs
-same_blocks υ [] = refl
-same_blocks υ (b ∷ bs) = ap (λ Bs. b.block ∷ Bs) (same_blocks υ bs)
+use Rattle.lf_coverage.proofs.OwnTerms.{put_in_keeps}
 
 module _ (Σ : Signature) (ok : IsSignature Σ) (W : List Block) (typed : AreTypedBlocks Σ W) (first : ℕ) (free : IsFreeFrom Σ first) (p : Pattern) where
   -- D has the arguments of C with typed values put in, over a signature with entries that extends that of C.
@@ -96,7 +93,7 @@ module _ (Σ : Signature) (ok : IsSignature Σ) (W : List Block) (typed : AreTyp
       let te : IsTypedNumberedCase Σ first W E = numbered_run_stays_typed Σ ok W typed first free below C tc E r in
       let g : IsHeadFor Σ first E p = run_keeps_head below C E tc r h in
       let υ : ℕ → Image = λ i. answer_values after s.well_formed.order (i + arguments_count A) in
-      let q : blocks_of (put_in_blocks υ E.blocks) ≡ blocks_of E.blocks = same_blocks υ E.blocks in
+      let q : blocks_of (put_in_blocks υ E.blocks) ≡ blocks_of E.blocks = put_in_keeps υ E.blocks in
       let Σ₃ : Signature = with_entries Σ first (blocks_of E.blocks) in
       let D : NumberedCase = solved_numbered E (arguments_count A) after s.well_formed.order in
       head_put E D te (numbered_split_stays_typed Σ ok W typed first free below E te y X at k U A f K e after s)

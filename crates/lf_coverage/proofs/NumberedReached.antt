@@ -14,6 +14,7 @@ use Rattle.lf_checks.specs.Clause.{Clause}
 use Rattle.lf_cases.specs.Case.{covered_places}
 use Rattle.lf_cases.specs.Pattern.{Known, Origin, of_constant, of_entry, Pattern}
 use Rattle.lf_cases.specs.Reached.{arguments_count}
+use Rattle.lf_cases.proofs.Split.{given_there}
 use Rattle.lf_coverage.specs.EntryConstants.{IsFreeFrom}
 use Rattle.lf_coverage.specs.EntryPatternsRuns.{HoldsByNumber, ZerothIs, IsLikeByNumber}
 use Rattle.lf_coverage.specs.NewBlock.{with_new_block}
@@ -26,24 +27,20 @@ use Rattle.lf_coverage.specs.NumberedCase.{NumberedCase, IsNumberedInstance}
 use Rattle.lf_coverage.specs.NumberedInstance.{block_at}
 use Rattle.lf_coverage.specs.NumberedReached.{HoldsBack, KeepsBlocks, SplitCaseHoldsBack, ReachedHoldsBack, ReachedMissingIsUncovered}
 use Rattle.lf_coverage.specs.NumberedSplits.{NumberedOffer, IsOfferTo, of_case, of_new_block, NumberedUnifierFinds}
-use Rattle.lf_coverage.specs.OwnTerms.{BlockVariable, blocks_of, put_in_blocks, rename_blocks}
+use Rattle.lf_coverage.specs.OwnTerms.{BlockVariable, blocks_of, rename_blocks}
 use Rattle.lf_coverage.specs.Reading.{entry_reading}
 use Rattle.lf_coverage.specs.SplitStore.{answer_values}
 use Rattle.lf_coverage.specs.TypedNumbered.{IsTypedNumberedCase}
+use Rattle.lf_coverage.proofs.EntryPatternsSplits.{put_at}
 use Rattle.lf_coverage.proofs.Forms.{far_type}
 use Rattle.lf_coverage.proofs.NumberedCallsLaws.{covered_tuple, some_tuple, some_values, reached_by_number_is_typed}
 use Rattle.lf_coverage.proofs.NumberedCallsLike.{solved_alike, new_alike, reached_is_like_goal}
 use Rattle.lf_coverage.proofs.NumberedReachedNewBlock.{new_block_holds_back}
-use Rattle.lf_coverage.proofs.NumberedReachedSplit.{given_there, solved_holds_back}
+use Rattle.lf_coverage.proofs.NumberedReachedSplit.{solved_holds_back}
 use Rattle.lf_coverage.proofs.OwnStoresNewBlock.{new_block_stays_typed}
 use Rattle.lf_coverage.proofs.Parts.{none_some, some_same}
 
 -- block variables keep their numbers
-put_keeps : (υ : ℕ → Image) (bs : List BlockVariable) (k : ℕ) (b : BlockVariable) → block_at bs k ≡ Some b → (d : BlockVariable) × (block_at (put_in_blocks υ bs) k ≡ Some d) × (d.block ≡ b.block)
-put_keeps υ [] k b e = absurd (none_some e)
-put_keeps υ (c ∷ bs) zero b e = (_, refl, ap (λ (d : BlockVariable). d.block) (some_same e))
-put_keeps υ (c ∷ bs) (suc k) b e = put_keeps υ bs k b e
-
 added_keeps : (ρ : ℕ → ℕ) (ds bs : List BlockVariable) (k : ℕ) (b : BlockVariable) → block_at bs k ≡ Some b → (d : BlockVariable) × (block_at (rename_blocks ρ bs ++ ds) k ≡ Some d) × (d.block ≡ b.block)
 added_keeps ρ ds [] k b e = absurd (none_some e)
 added_keeps ρ ds (c ∷ bs) zero b e = (_, refl, ap (λ (d : BlockVariable). d.block) (some_same e))
@@ -73,10 +70,10 @@ module _ (Σ Σ' : Signature) (ok : IsSignature Σ) (S : ℕ → Bool) (x : Exte
   split_back C tc y D sp = by sp.offer sp.is_offered sp.kind sp.of_family sp.finds
     where
       by : (o : NumberedOffer) → IsOfferTo Σ first W C y sp.type o → (K : Kind) → Σ.kinds (target o.type) ≡ Some K → NumberedUnifierFinds Σ first below o K (Some D) → Back C D
-      by o (of_case h U A f) K q (after0, d, z) = subst (Back C) (sym z) (put_keeps (λ i. answer_values after0 d.well_formed.order (i + arguments_count A)) C.blocks, λ G w θ ρ i. solved_holds_back Σ ok W typed first free below C tc y sp.type sp.at h U A f K q after0 d Σ' S x w θ ρ i (solved_alike C (arguments_count A) after0 d.well_formed.order))
+      by o (of_case h U A f) K q (after0, d, z) = subst (Back C) (sym z) (put_at (λ i. answer_values after0 d.well_formed.order (i + arguments_count A)) C.blocks, λ G w θ ρ i. solved_holds_back Σ ok W typed first free below C tc y sp.type sp.at h U A f K q after0 d Σ' S x w θ ρ i (solved_alike C (arguments_count A) after0 d.well_formed.order))
       by o (of_new_block B c U A b n f) K q (after0, d, z) =
           let E : NumberedCase = with_new_block B C in
-          twice C (with_new_block B C) D (new_back C tc B b) (subst (Back (with_new_block B C)) (sym z) (put_keeps (λ i. answer_values after0 d.well_formed.order (i + arguments_count A)) (with_new_block B C).blocks, λ G w θ ρ i. solved_holds_back Σ ok W typed first free below (with_new_block B C) (new_block_stays_typed Σ ok W typed first free C tc B b) o.variable o.type (far_type B.some C.variables y sp.type sp.at) o.head U A f K q after0 d Σ' S x w θ ρ i (solved_alike (with_new_block B C) (arguments_count A) after0 d.well_formed.order)))
+          twice C (with_new_block B C) D (new_back C tc B b) (subst (Back (with_new_block B C)) (sym z) (put_at (λ i. answer_values after0 d.well_formed.order (i + arguments_count A)) (with_new_block B C).blocks, λ G w θ ρ i. solved_holds_back Σ ok W typed first free below (with_new_block B C) (new_block_stays_typed Σ ok W typed first free C tc B b) o.variable o.type (far_type B.some C.variables y sp.type sp.at) o.head U A f K q after0 d Σ' S x w θ ρ i (solved_alike (with_new_block B C) (arguments_count A) after0 d.well_formed.order)))
 
   reached_back : (ps : List Pattern) (goal : NumberedCase) → IsTypedNumberedCase Σ first W goal → {D : NumberedCase} → ReachedByNumber Σ first W below ps goal D → Back goal D
   reached_back ps goal tg numbered_goal = (λ k b e. (b, e, refl), λ G w θ ρ i. record { values = ρ; is_ground = i; arguments = λ T a. a; given = λ τ g. g })

@@ -1,17 +1,16 @@
 -- A case that unification gives by number is a typed instance of the case that the head is offered to.
 use Rattle.std.proofs.Common.{◌≡◌, ℕ, zero, suc, ◌+◌, ◌++◌, List, [], ◌∷◌, length, refl, sym, ap, ap₂, ◌∙◌, subst, arith}
 use Rattle.std.specs.Prelude.{Bool, Option, Some, None}
-use Rattle.lf.specs.Syntax.{Head, Term, Spine, LfType, Kind, Skeleton, skeleton, weaken, variable, rename_type}
+use Rattle.lf.specs.Syntax.{Head, Term, Spine, LfType, Kind, skeleton, weaken, rename_type}
 use Rattle.lf.specs.Substitution.{Image, keep, put, rename_image, substitute, substitute_spine, substitute_type, reduce}
 use Rattle.lf.specs.AtOnce.{in_front, shift_by, lift_renaming_by}
-use Rattle.lf.specs.SkeletonTyping.{HeadSkeletons, ImageSkeleton, TermSkeleton, SubstitutionBySkeletons}
+use Rattle.lf.specs.SkeletonTyping.{SubstitutionBySkeletons}
 use Rattle.lf.specs.Skeletons.{constant_skeletons, context_skeletons}
 use Rattle.lf.specs.Typing.{Signature, TypeAt, HasType, IsSignature}
 use Rattle.lf.specs.Variables.{target}
 use Rattle.lf.specs.Subordination.{Block, AreTypedBlocks, Member}
 use Rattle.lf.specs.Worlds.{lift_over, instance}
 use Rattle.lf.proofs.Agreement.{agree_on_type}
-use Rattle.lf.proofs.AtOnce.{eta_long_has_skeleton}
 use Rattle.lf.proofs.Kept.{typed_uses_type}
 use Rattle.lf.proofs.Renaming.{substitute_renamed, substitute_renamed_spine}
 use Rattle.lf.proofs.Substitution.{typed_substitution_by_skeletons}
@@ -44,12 +43,12 @@ use Rattle.lf_coverage.proofs.WritingChoice.{from_is}
 use Rattle.lf_coverage.proofs.Forms.{far_type}
 use Rattle.lf_coverage.specs.NumberedSplits.{NumberedOffer, IsOfferTo, of_case, of_new_block, NumberedUnifierFinds}
 use Rattle.lf_coverage.proofs.NumberedReachedSplit.{are_put_terms}
+use Rattle.lf_coverage.proofs.NumberedSplitCases.{unified_case}
 use Rattle.lf_coverage.proofs.OwnStoresEntry.{ok₁}
-use Rattle.lf_coverage.proofs.OwnValuesInstances.{some_mapped}
+use Rattle.lf_coverage.proofs.OwnValuesInstances.{some_mapped, term_fits}
 use Rattle.lf_coverage.proofs.Parts.{none_some, some_same}
 use Rattle.lf_coverage.proofs.StayTyped.{instance_agree}
 use Rattle.lf_coverage.proofs.Transfer.{SameIn, same_in, same_over}
-use Rattle.lf_coverage.proofs.Listed.{offer_of_case}
 use mathlib.Core.Path.{fun_ext}
 
 -- typed terms on own terms for each variable, and past them the variables behind, are typed values
@@ -74,10 +73,6 @@ typed_values Σ Y o (A ∷ X) σ h past =
     front : (N : Term) → σ zero ≡ put (skeleton A) N → (i : ℕ) → σ i ≡ in_front (put (skeleton A) N) (λ j. σ (suc j)) i
     front N e zero = e
     front N e (suc i) = refl
-
-term_fits : (κ : HeadSkeletons) (Γ : List Skeleton) (a : Skeleton) (x : Image) → ImageSkeleton κ Γ x a → TermSkeleton κ Γ (as_term a x) a
-term_fits κ Γ a (keep j) g = eta_long_has_skeleton κ Γ a (variable j) g
-term_fits κ Γ a (put b N) (e, n) = subst (TermSkeleton κ Γ N) e n
 
 -- where constants are block variables', each stays behind whatever is put in, and before whatever comes behind
 first_stays : (n : ℕ) (υ : ℕ → Image) (bs ds : List BlockVariable) (k : ℕ) (b : BlockVariable) → block_at bs k ≡ Some b → first_constant n (blocks_of (put_in_blocks υ bs ++ ds)) k ≡ first_constant n (blocks_of bs) k
@@ -115,7 +110,7 @@ all_renamed ρ υ τ h [] = refl
 all_renamed ρ υ τ h (Some M ∷ Ms) = ap₂ (λ N Ns. Some N ∷ Ns) (substitute_renamed reduce υ ρ M ∙ ap (λ f. substitute reduce f M) (fun_ext h)) (all_renamed ρ υ τ h Ms)
 all_renamed ρ υ τ h (None ∷ Ms) = ap (λ Ns. None ∷ Ns) (all_renamed ρ υ τ h Ms)
 
-over_renamed : (ρ : ℕ → ℕ) (υ : ℕ → Image) (L : List LfType) (i : ℕ) → lift_over (renumber ρ L) υ (lift_renaming_by (length L) ρ i) ≡ lift_over L (λ j. υ (ρ j)) i
+pub over_renamed : (ρ : ℕ → ℕ) (υ : ℕ → Image) (L : List LfType) (i : ℕ) → lift_over (renumber ρ L) υ (lift_renaming_by (length L) ρ i) ≡ lift_over L (λ j. υ (ρ j)) i
 over_renamed ρ υ [] i = refl
 over_renamed ρ υ (A ∷ L) zero = refl
 over_renamed ρ υ (A ∷ L) (suc i) = ap (rename_image suc) (over_renamed ρ υ L i)
@@ -175,7 +170,7 @@ module _ (Σ : Signature) (W : List Block) (first : ℕ) (C D : NumberedCase) (o
     arguments = arguments ∙ put_same (constant_skeletons Σ₁) (context_skeletons (Rattle.lf.specs.Variables.onto C.local X)) (lift_over C.local υ) (lift_over C.local σ) (same_over C.local X υ σ near_skeletons) C.arguments tc.arguments ∙ ap (put_in (lift_over C.local σ)) (sym (ap (λ g. move_all g C.arguments) stays ∙ unmoved_all C.arguments));
   }
 
-nothing_behind : (bs : List BlockVariable) → bs ≡ bs ++ []
+pub nothing_behind : (bs : List BlockVariable) → bs ≡ bs ++ []
 nothing_behind [] = refl
 nothing_behind (b ∷ bs) = ap (λ cs. b ∷ cs) (nothing_behind bs)
 
@@ -209,6 +204,4 @@ split_case_is_numbered_instance Σ ok W typed first free below C tc x D sp = (by
     by o (of_new_block B c U A b n f) K q (after0, d, z) = subst (λ E. (σ : ℕ → Image) × IsNumberedInstanceOf Σ first E C (λ k. k) σ) (sym z) (of_new Σ ok W typed first free below C tc B b o.variable o.type (far_type B.some C.variables x sp.type sp.at) o.head U A f K q after0 d)
 
 pub listed_is_numbered_instance : ListedIsNumberedInstance
-listed_is_numbered_instance Σ ok W typed first free below C tc x Cs l D m =
-    let (o, n, a) = offer_of_case l.unified.listed D m in
-    split_case_is_numbered_instance Σ ok W typed first free below C tc x D (record { type = l.unified.type; at = l.unified.at; offer = o; is_offered = l.unified.each o n; kind = a.kind; of_family = a.of_family; finds = a.finds })
+listed_is_numbered_instance Σ ok W typed first free below C tc x Cs l D m = split_case_is_numbered_instance Σ ok W typed first free below C tc x D (unified_case Σ first W below C x Cs l.unified D m)

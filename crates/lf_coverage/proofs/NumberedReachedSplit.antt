@@ -1,5 +1,5 @@
 -- A case that a split gives by number: what it holds, the case that is split holds.
-use Rattle.std.proofs.Common.{◌≡◌, ℕ, zero, suc, ◌+◌, List, [], ◌∷◌, length, refl, sym, ap, ◌∙◌, subst}
+use Rattle.std.proofs.Common.{◌≡◌, ℕ, zero, ◌+◌, List, [], ◌∷◌, length, refl, sym, ap, ◌∙◌, subst}
 use Rattle.std.specs.Prelude.{Bool, true, false, Option, Some, None}
 use Rattle.lf.specs.Syntax.{Head, Term, Spine, LfType, Kind, Skeleton, skeleton, rename_type, app, nil}
 use Rattle.lf.specs.Substitution.{Image, put, substitute, substitute_type, reduce}
@@ -21,8 +21,9 @@ use Rattle.lf_unification.specs.Unifiers.{Solution, Store}
 use Rattle.lf_unification.proofs.Solving.{well_formed_answer}
 use Rattle.lf_cases.specs.Case.{items_context, covered_places, HasArguments}
 use Rattle.lf_cases.specs.OutputGoal.{free_variables}
-use Rattle.lf_cases.specs.Pattern.{HasGiven, given_at}
+use Rattle.lf_cases.specs.Pattern.{HasGiven}
 use Rattle.lf_cases.specs.Reached.{arguments_count, head_masks, taken, split_items}
+use Rattle.lf_cases.proofs.Split.{given_there}
 use Rattle.lf_coverage.specs.EntryConstants.{with_entries, IsFreeFrom}
 use Rattle.lf_coverage.specs.EntryPatternsRuns.{IsLikeByNumber}
 use Rattle.lf_coverage.specs.EntryPatternsSplits.{HoldsAs, IsPutIn}
@@ -66,18 +67,6 @@ tuples_back σ ρ (Some M ∷ Ms) (Some N ∷ Ns) e h (app P T) (q, k) =
     let rest : covered_places Ns ≡ covered_places Ms = cc in
     (q ∙ sym r, tuples_back σ ρ Ms Ns rest (λ U u. (h (app (substitute reduce σ M) U) (refl, u)).1) T k)
 tuples_back σ ρ (None ∷ Ms) (None ∷ Ns) e h (app P T) k = let rest : covered_places Ns ≡ covered_places Ms = cc in tuples_back σ ρ Ms Ns rest (λ U u. h (app P U) u) T k
-
--- a term is given for the same variables
-pub given_there : (Ms Ns : List (Option Term)) → covered_places Ns ≡ covered_places Ms → (i : ℕ) (M : Term) → given_at Ms i ≡ Some M → (N : Term) × (given_at Ns i ≡ Some N)
-given_there [] Ns e i M q = absurd cc
-given_there (Some K ∷ Ms) [] e i M q = absurd cc
-given_there (None ∷ Ms) [] e i M q = absurd cc
-given_there (Some K ∷ Ms) (None ∷ Ns) e i M q = absurd cc
-given_there (None ∷ Ms) (Some N ∷ Ns) e i M q = absurd cc
-given_there (Some K ∷ Ms) (Some N ∷ Ns) e zero M q = (N, refl)
-given_there (None ∷ Ms) (None ∷ Ns) e zero M q = absurd cc
-given_there (Some K ∷ Ms) (Some N ∷ Ns) e (suc i) M q = let rest : covered_places Ns ≡ covered_places Ms = cc in given_there Ms Ns rest i M q
-given_there (None ∷ Ms) (None ∷ Ns) e (suc i) M q = let rest : covered_places Ns ≡ covered_places Ms = cc in given_there Ms Ns rest i M q
 
 one_put : (a b : Skeleton) (M N : Term) → put a M ≡ put b N → M ≡ N
 one_put a b M N e = cc

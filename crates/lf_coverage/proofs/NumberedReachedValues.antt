@@ -1,7 +1,7 @@
 -- Where a case D is the case C with typed values put in, each ground instance of D gives one of C, with the same instances of block variables.
 use Rattle.std.proofs.Common.{◌≡◌, ℕ, zero, suc, ◌+◌, List, [], ◌∷◌, length, refl, sym, ap, ◌∙◌, subst, inl, inr, arith}
 use Rattle.std.specs.Prelude.{Option, Some, None, Bool, ◌⊎◌}
-use Rattle.lf.specs.Syntax.{Term, Spine, LfType, Kind, Skeleton, skeleton, weaken, variable}
+use Rattle.lf.specs.Syntax.{Term, Spine, LfType, Kind, Skeleton, skeleton, weaken}
 use Rattle.lf.specs.Substitution.{Image, keep, put, substitute, substitute_spine, substitute_type, substitute_image, reduce}
 use Rattle.lf.specs.AtOnce.{in_front}
 use Rattle.lf.specs.SkeletonTyping.{HeadSkeletons, SkeletonAt, ImageSkeleton, TermSkeleton, SubstitutionBySkeletons}
@@ -12,7 +12,6 @@ use Rattle.lf.specs.Subordination.{Block, AreTypedBlocks}
 use Rattle.lf.specs.Worlds.{World}
 use Rattle.lf.specs.Extension.{Extends}
 use Rattle.lf.proofs.Agreement.{agree_on_type}
-use Rattle.lf.proofs.AtOnce.{eta_long_has_skeleton}
 use Rattle.lf.proofs.Composition.{substitutions_compose}
 use Rattle.lf.proofs.Kept.{typed_uses_type}
 use Rattle.lf.proofs.SkeletonTypes.{substitutions_compose_type}
@@ -29,13 +28,14 @@ use Rattle.lf_coverage.specs.OwnTerms.{BlockVariable, blocks_of, own_terms, OnOw
 use Rattle.lf_coverage.specs.Reading.{read, read_spine, read_type, read_entry, variable_past, entry_reading}
 use Rattle.lf_coverage.specs.TypedNumbered.{IsTypedNumberedCase}
 use Rattle.lf_coverage.proofs.Carried.{carry, carry_same}
+use Rattle.lf_coverage.proofs.EntryPatternsNear.{behind_skeleton}
 use Rattle.lf_coverage.proofs.EntryPatternsSplits.{carry_past, follows_entry}
 use Rattle.lf_coverage.proofs.EntryValues.{read_add as read_last, put_add as put_last, some_own}
 use Rattle.lf_coverage.proofs.NearOrFar.{onto_cases}
 use Rattle.lf_coverage.proofs.NumberedArguments.{skeleton_only}
 use Rattle.lf_coverage.proofs.Offered.{length_kept}
 use Rattle.lf_coverage.proofs.OwnTerms.{substitute_own, put_in_own, put_in_keeps}
-use Rattle.lf_coverage.proofs.OwnValuesInstances.{some_mapped}
+use Rattle.lf_coverage.proofs.OwnValuesInstances.{some_mapped, term_fits}
 use Rattle.lf_coverage.proofs.Parts.{none_some, some_same}
 use Rattle.lf_coverage.proofs.Reading.{IsOld, read_image, FollowsRead, read_substituted, read_type_renamed, read_type_substituted, type_only}
 use Rattle.lf_coverage.proofs.ReadInstance.{heads, reading_keeps_typing}
@@ -45,20 +45,10 @@ use Rattle.lf_coverage.proofs.Transfer.{SameIn, same_in, onto_skeleton}
 use mathlib.Core.Path.{fun_ext}
 
 -- a variable behind a context is one of what stands behind it
-behind_context : (Y G : List LfType) (v : ℕ) (s : Skeleton) → SkeletonAt (context_skeletons (onto Y G)) (v + length Y) s → SkeletonAt (context_skeletons G) v s
-behind_context [] G v s g = subst (λ i. SkeletonAt (context_skeletons G) i s) (none v) g
-  where
-    none : (v : ℕ) → v + 0 ≡ v
-    none v = omega arith
-behind_context (A ∷ Y) G v s g = behind_context Y G v s (subst (λ i. SkeletonAt (context_skeletons (onto (A ∷ Y) G)) i s) (next v (length Y)) g)
-  where
-    next : (v n : ℕ) → v + suc n ≡ suc (v + n)
-    next v n = omega arith
-
 -- so is the variable that an entry is read as, whatever stands in front
 past_other : (X Y G : List LfType) (y : Image) (s : Skeleton) → SkeletonAt (context_skeletons (onto Y G)) (variable_past (length Y) y) s → SkeletonAt (context_skeletons (onto X G)) (variable_past (length X) y) s
-past_other X Y G (keep v) s g = onto_skeleton X G v s (behind_context Y G v s g)
-past_other X Y G (put a N) s g = subst (λ i. SkeletonAt (context_skeletons (onto X G)) i s) (none (length X)) (onto_skeleton X G 0 s (behind_context Y G 0 s (subst (λ i. SkeletonAt (context_skeletons (onto Y G)) i s) (sym (none (length Y))) g)))
+past_other X Y G (keep v) s g = onto_skeleton X G v s (behind_skeleton Y G v s g)
+past_other X Y G (put a N) s g = subst (λ i. SkeletonAt (context_skeletons (onto X G)) i s) (none (length X)) (onto_skeleton X G 0 s (behind_skeleton Y G 0 s (subst (λ i. SkeletonAt (context_skeletons (onto Y G)) i s) (sym (none (length Y))) g)))
   where
     none : (n : ℕ) → 0 + n ≡ n
     none n = omega arith
@@ -87,10 +77,6 @@ ground Σ' G first Bs θ (A ∷ X) σ h past =
     front : (N : Term) → σ zero ≡ put (skeleton A) N → (i : ℕ) → σ i ≡ in_front (put (skeleton A) N) (λ j. σ (suc j)) i
     front N e zero = e
     front N e (suc i) = refl
-
-term_fits : (κ : HeadSkeletons) (Γ : List Skeleton) (a : Skeleton) (x : Image) → ImageSkeleton κ Γ x a → TermSkeleton κ Γ (as_term a x) a
-term_fits κ Γ a (keep j) g = eta_long_has_skeleton κ Γ a (variable j) g
-term_fits κ Γ a (put b N) (e, n) = subst (TermSkeleton κ Γ N) e n
 
 -- Values that are put in: each is a typed term on own terms, and its type is on own terms.
 abbrev pub ArePutTerms : Signature → ℕ → NumberedCase → NumberedCase → (ℕ → Image) → Type 0

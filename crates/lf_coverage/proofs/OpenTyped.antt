@@ -81,7 +81,7 @@ pub opened_is_closed : (ρ : ℕ → ℕ) (A : LfType) → rename_type ρ (open_
 opened_is_closed ρ A = opened_fixed_type zero ρ (λ i. refl) A
 
 -- What is closed stays.
-abbrev StaysIn : ℕ → List Skeleton → Type 0
+abbrev pub StaysIn : ℕ → List Skeleton → Type 0
 StaysIn k Γ = (i : ℕ) (t : Skeleton) → SkeletonAt Γ i t → open_variable k i ≡ variable i
 
 stays_under : (k : ℕ) (Γ : List Skeleton) (a : Skeleton) → StaysIn k Γ → StaysIn (suc k) (a ∷ Γ)
@@ -112,7 +112,7 @@ abbrev pub open_kind : ℕ → Kind → Kind
 open_kind k (kind_pi A K) = kind_pi (open_type k A) (open_kind (suc k) K)
 open_kind k star = star
 
-open_same_kind : (κ : HeadSkeletons) (φ : ℕ → Option Skeleton) (k : ℕ) (Γ : List Skeleton) → StaysIn k Γ → (K : Kind) → KindBySkeletons φ κ Γ K → open_kind k K ≡ K
+pub open_same_kind : (κ : HeadSkeletons) (φ : ℕ → Option Skeleton) (k : ℕ) (Γ : List Skeleton) → StaysIn k Γ → (K : Kind) → KindBySkeletons φ κ Γ K → open_kind k K ≡ K
 open_same_kind κ φ k Γ h (kind_pi A K) (a, b) = ap₂ kind_pi (open_same_type κ φ k Γ h A a) (open_same_kind κ φ (suc k) (skeleton A ∷ Γ) (stays_under k Γ (skeleton A) h) K b)
 open_same_kind κ φ k Γ h star b = refl
 

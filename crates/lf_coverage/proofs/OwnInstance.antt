@@ -37,7 +37,7 @@ use mathlib.Core.Path.{fun_ext}
 abbrev moved : (ℕ → ℕ) → (ℕ → Image) → ℕ → Image
 moved ρ σ i = rename_image ρ (σ i)
 
-moved_term : (ρ : ℕ → ℕ) (a : Skeleton) (x : Image) → as_term a (rename_image ρ x) ≡ rename ρ (as_term a x)
+pub moved_term : (ρ : ℕ → ℕ) (a : Skeleton) (x : Image) → as_term a (rename_image ρ x) ≡ rename ρ (as_term a x)
 moved_term ρ a (keep i) = sym (rename_eta_expand ρ a (variable i) nil)
 moved_term ρ a (put b N) = refl
 

@@ -25,7 +25,7 @@ over_put : (D : List LfType) (σ : ℕ → Image) (o p : ℕ → Option Spine) �
 over_put [] σ o p h c = h c
 over_put (A ∷ D) σ o p h c = ap weaken_own (over_put D σ o p h c) ∙ weaken_substituted (lift_over D σ) (own_over D o c)
 
-over_images : (D : List LfType) (σ : ℕ → Image) (p : ℕ → Option Spine) → ((i : ℕ) → ImageOnOwnTerms p (σ i)) → (i : ℕ) → ImageOnOwnTerms (own_over (instance D σ) p) (lift_over D σ i)
+pub over_images : (D : List LfType) (σ : ℕ → Image) (p : ℕ → Option Spine) → ((i : ℕ) → ImageOnOwnTerms p (σ i)) → (i : ℕ) → ImageOnOwnTerms (own_over (instance D σ) p) (lift_over D σ i)
 over_images [] σ p v i = v i
 over_images (A ∷ D) σ p v zero = tt
 over_images (A ∷ D) σ p v (suc i) = image_under (own_over (instance D σ) p) (lift_over D σ i) (over_images D σ p v i)

@@ -48,7 +48,7 @@ pub binders_own : (o : ℕ → Option Spine) (D : List LfType) (X : LfType) → 
 binders_own o D (pi A B) l (a, b) = binders_own o (A ∷ D) B (l, a) b
 binders_own o D (atom a S) l s = (l, s)
 
-at_own : (o : ℕ → Option Spine) (V D : List LfType) → ((i : ℕ) (Y : LfType) → TypeAt V i Y → TypeOnOwnTerms o Y) → LocalOnOwnTerms o D → (i : ℕ) (Y : LfType) → TypeAt (onto D V) i Y → TypeOnOwnTerms (own_over D o) Y
+pub at_own : (o : ℕ → Option Spine) (V D : List LfType) → ((i : ℕ) (Y : LfType) → TypeAt V i Y → TypeOnOwnTerms o Y) → LocalOnOwnTerms o D → (i : ℕ) (Y : LfType) → TypeAt (onto D V) i Y → TypeOnOwnTerms (own_over D o) Y
 at_own o V [] v l i Y g = v i Y g
 at_own o V (A ∷ D) v (l, a) zero Y e = subst (TypeOnOwnTerms (λ c. weaken_own (own_over D o c))) (sym e) (type_renamed (own_over D o) (λ c. weaken_own (own_over D o c)) suc A (λ c. own_as_renamed (own_over D o c)) a)
 at_own o V (A ∷ D) v (l, a) (suc i) Y (B, g, e) = subst (TypeOnOwnTerms (λ c. weaken_own (own_over D o c))) (sym e) (type_renamed (own_over D o) (λ c. weaken_own (own_over D o c)) suc B (λ c. own_as_renamed (own_over D o c)) (at_own o V D v l i B g))

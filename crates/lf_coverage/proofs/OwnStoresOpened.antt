@@ -18,7 +18,7 @@ use Rattle.lf_coverage.proofs.OwnStoresTerms.{BeginsUpTo, IsFlexible, Owned, Spi
 use Rattle.lf_coverage.proofs.OwnTerms.{rename_own}
 use mathlib.Core.Path.{fun_ext}
 
-open_append : (k : ℕ) (U T : Spine) → open_spine k (append U T) ≡ append (open_spine k U) (open_spine k T)
+pub open_append : (k : ℕ) (U T : Spine) → open_spine k (append U T) ≡ append (open_spine k U) (open_spine k T)
 open_append k nil T = refl
 open_append k (app M U) T = ap (app (open_term k M)) (open_append k U T)
 

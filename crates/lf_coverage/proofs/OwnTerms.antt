@@ -79,7 +79,7 @@ pub image_under : (o : ℕ → Option Spine) (x : Image) → ImageOnOwnTerms o x
 image_under o (keep i) h = tt
 image_under o (put a N) h = own_renamed o (λ c. weaken_own (o c)) suc N (λ c. own_as_renamed (o c)) h
 
-images_under : (o : ℕ → Option Spine) (σ : ℕ → Image) → ((i : ℕ) → ImageOnOwnTerms o (σ i)) → (i : ℕ) → ImageOnOwnTerms (λ c. weaken_own (o c)) (lift σ i)
+pub images_under : (o : ℕ → Option Spine) (σ : ℕ → Image) → ((i : ℕ) → ImageOnOwnTerms o (σ i)) → (i : ℕ) → ImageOnOwnTerms (λ c. weaken_own (o c)) (lift σ i)
 images_under o σ h zero = tt
 images_under o σ h (suc i) = image_under o (σ i) (h i)
 
@@ -167,7 +167,7 @@ module _ (Σ : Signature) where
   type_agrees o o' h G (atom a S) (K, e, s) m = arguments_agree o o' h G S K s m
 
 -- Block variables behind
-blocks_append : (bs cs : List BlockVariable) → blocks_of (bs ++ cs) ≡ blocks_of bs ++ blocks_of cs
+pub blocks_append : (bs cs : List BlockVariable) → blocks_of (bs ++ cs) ≡ blocks_of bs ++ blocks_of cs
 blocks_append [] cs = refl
 blocks_append (b ∷ bs) cs = ap (λ Bs. b.block ∷ Bs) (blocks_append bs cs)
 

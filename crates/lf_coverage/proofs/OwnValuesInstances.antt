@@ -37,7 +37,7 @@ some_mapped H K h k e p q (A ∷ O) υ s =
     ∙ ap₂ add_last (some_mapped H K h k e p q O (λ i. υ (suc i)) (λ i B g. subst (λ a. h (as_term a (υ (suc i))) ≡ k (as_term a (υ (suc i)))) (skeleton_renamed suc B) (s (suc i) (weaken B) (B, g, refl)))) (subst (λ a. h (as_term a (υ zero)) ≡ k (as_term a (υ zero))) (skeleton_renamed suc A) (s zero (weaken A) refl))
     ∙ sym (q S N)
 
-term_fits : (κ : HeadSkeletons) (Γ : List Skeleton) (a : Skeleton) (x : Image) → ImageSkeleton κ Γ x a → TermSkeleton κ Γ (as_term a x) a
+pub term_fits : (κ : HeadSkeletons) (Γ : List Skeleton) (a : Skeleton) (x : Image) → ImageSkeleton κ Γ x a → TermSkeleton κ Γ (as_term a x) a
 term_fits κ Γ a (keep j) g = eta_long_has_skeleton κ Γ a (variable j) g
 term_fits κ Γ a (put b N) (e, n) = subst (TermSkeleton κ Γ N) e n
 

@@ -57,7 +57,7 @@ pub over_under : (L : List LfType) (P : LfType) (Γ : List Skeleton) → context
 over_under [] P Γ = refl
 over_under (A ∷ L) P Γ = over_under L (pi A P) Γ
 
-over_target : (L : List LfType) (P : LfType) → skeleton_target (skeleton (pi_over L P)) ≡ skeleton_target (skeleton P)
+pub over_target : (L : List LfType) (P : LfType) → skeleton_target (skeleton (pi_over L P)) ≡ skeleton_target (skeleton P)
 over_target [] P = refl
 over_target (A ∷ L) P = over_target L (pi A P)
 

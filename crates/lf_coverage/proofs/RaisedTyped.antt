@@ -62,7 +62,7 @@ closed_out A C zero X e u = absurd cc
 closed_out A C (suc i) X (B, g, e) u = subst (UsesType but_newest) (sym e) (uses_type_renamed (λ j. true) but_newest suc B (λ j v. refl) (uses_type_all (λ j. true) B (λ j. refl)))
 
 -- a shift by none, under binders
-lift_none : (n : ℕ) → lift_renaming_by n (shift_by 0) ≡ (λ i. i)
+pub lift_none : (n : ℕ) → lift_renaming_by n (shift_by 0) ≡ (λ i. i)
 lift_none zero = fun_ext none
   where
     none : (i : ℕ) → i + 0 ≡ i

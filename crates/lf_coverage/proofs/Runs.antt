@@ -1,7 +1,6 @@
 -- Runs of splits by heads are runs of splits.
 use Rattle.std.proofs.Common.{List, inl, inr, refl}
 use Rattle.lf.specs.Subordination.{Member}
-use Rattle.lf_cases.specs.Case.{Case}
 use Rattle.lf_cases.specs.Split.{Ends, AllEnd, at_leaf, by_split, no_case, next_case}
 use Rattle.lf_cases.proofs.Split.{split_covers}
 use Rattle.lf_coverage.specs.Laws.{HeadSplitIsSplit, HeadSplitsCover, SplitCasesAreTyped}
@@ -9,13 +8,13 @@ use Rattle.lf_coverage.specs.Heads.{IsTypedCase}
 use Rattle.lf_coverage.proofs.HeadSplit.{heads_split, split_cases_typed}
 
 -- a run goes on as one with other leaves and splits, where each is one of these, and what is true of the goal stays so
-module _ {L M Kept : Case → Type 0} {P Q : Case → List Case → Type 0} (leaf : (C : Case) → Kept C → L C → M C) (split : (C : Case) (Cs : List Case) → Kept C → P C Cs → Q C Cs × ((D : Case) → Member D Cs → Kept D)) where
+module _ {K : Type 0} {L M Kept : K → Type 0} {P Q : K → List K → Type 0} (leaf : (C : K) → Kept C → L C → M C) (split : (C : K) (Cs : List K) → Kept C → P C Cs → Q C Cs × ((D : K) → Member D Cs → Kept D)) where
   mutual
-    pub other_run : {C : Case} → Kept C → Ends L P C → Ends M Q C
+    pub other_run : {C : K} → Kept C → Ends L P C → Ends M Q C
     other_run k (at_leaf {C = C} l) = at_leaf (leaf C k l)
     other_run k (by_split {C = C} Cs s r) = let (q, ks) = split C Cs k s in by_split Cs q (other_runs ks r)
 
-    other_runs : {Cs : List Case} → ((D : Case) → Member D Cs → Kept D) → AllEnd L P Cs → AllEnd M Q Cs
+    other_runs : {Cs : List K} → ((D : K) → Member D Cs → Kept D) → AllEnd L P Cs → AllEnd M Q Cs
     other_runs k no_case = no_case
     other_runs k (next_case {C = C} e r) = next_case (other_run (k C (inl refl)) e) (other_runs (λ D m. k D (inr m)) r)
 

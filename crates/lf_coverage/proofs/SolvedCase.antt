@@ -49,7 +49,7 @@ use Rattle.lf_coverage.proofs.ResultType.{next_count}
 use Rattle.lf_coverage.proofs.SomeHead.{free_value}
 use Rattle.lf_coverage.proofs.StoreSolution.{looked_up, skeleton_open, filling, filling_is, types_in, value_back, context, makes_solution}
 use Rattle.lf_coverage.proofs.Strip.{strip, out_of, into, term_back}
-use Rattle.lf_coverage.proofs.WritingRoots.{front_is as in_front_is}
+use Rattle.lf_coverage.proofs.WritingRoots.{front_is as in_front_is, ground_of}
 use mathlib.Core.Path.{fun_ext}
 
 -- Items that are free variables.
@@ -88,12 +88,6 @@ typed_instance Σ J (free_variable A ∷ I) h σ f =
     let (N, e, n) = f zero (weaken A) refl in
     (N, (λ i. σ (suc i)), typed_instance Σ J I h (λ i. σ (suc i)) (λ i B g. let (M, p, m) = f (suc i) (weaken B) (B, g, refl) in (M, p ∙ ap (λ a. put a M) (skeleton_renamed suc B), subst (HasType Σ (items_context J) M) (substitute_renamed_type reduce σ suc B) m)), subst (HasType Σ (items_context J) N) (substitute_renamed_type reduce σ suc A) n, in_front_is σ (put (skeleton A) N) (e ∙ ap (λ a. put a N) (skeleton_renamed suc A)))
 typed_instance Σ J (block_variable B υ ∷ I) h σ f = absurd h
-
-ground_instance : {Σ : Signature} {W : List Block} {S : ℕ → Bool} {G : List LfType} (w : World Σ W S G) (O : List LfType) (σ : ℕ → Image) → ((i : ℕ) (A : LfType) → TypeAt O i A → (N : Term) × (σ i ≡ put (skeleton A) N) × HasType Σ G N (substitute_type reduce σ A)) → IsGroundInstance w (free_variables O) σ
-ground_instance w [] σ f = tt
-ground_instance {Σ} {G = G} w (A ∷ O) σ f =
-    let (N, e, n) = f zero (weaken A) refl in
-    (N, (λ i. σ (suc i)), ground_instance w O (λ i. σ (suc i)) (λ i B g. let (M, p, m) = f (suc i) (weaken B) (B, g, refl) in (M, p ∙ ap (λ a. put a M) (skeleton_renamed suc B), subst (HasType Σ G M) (substitute_renamed_type reduce σ suc B) m)), subst (HasType Σ G N) (substitute_renamed_type reduce σ suc A) n, in_front_is σ (put (skeleton A) N) (e ∙ ap (λ a. put a N) (skeleton_renamed suc A)))
 
 -- the type of a head is one
 pub head_typed : (Σ : Signature) (ok : IsSignature Σ) (W : List Block) (typed : AreTypedBlocks Σ W) (I : List Item) (ti : AreTypedItems Σ W I) (x : ℕ) (X : LfType) → TypeAt (items_context I) x X → (J : List Item) (n : ℕ) (h : Head) (A : LfType) → SplitHead Σ W I X J n h A → AreTypedItems Σ W J × TypeAt (items_context J) (x + n) (rename_type (shift_by n) X) × IsType Σ (onto (taken (rename_type (shift_by n) X)) (items_context J)) A
@@ -230,7 +224,7 @@ module _ (Σ : Signature) (ok : IsSignature Σ) (W : List Block) (typed : AreTyp
         let ρ : ℕ → Image = answer_images Σ ok after.metavariables (IsFilling Σ [] after) F β u.0 after.bindings u.1.0 order in
         let p : Part Σ ok after.metavariables (IsFilling Σ [] after) F β u.0 after.bindings u.1.0 order = part Σ ok after.metavariables (IsFilling Σ [] after) F β u.0 after.bindings u.1.0 order s.well_formed.is_order s.well_formed.values_bound in
         let ν : ℕ → Image = λ i. rename_image (into S G) (ρ i) in
-        let g : IsGroundInstance w (free_variables O) ν = ground_instance w O ν (λ i B k. let (N, q) = p.terms i B k in
+        let g : IsGroundInstance w (free_variables O) ν = ground_of w O ν (λ i B k. let (N, q) = p.terms i B k in
         let t : (skeleton (substitute_type reduce ρ B) ≡ skeleton B) × HasType Σ F N (substitute_type reduce ρ B) = subst (λ y. ImageHasType Σ F y (substitute_type reduce ρ B)) q (p.typed i B k) in
         (rename (into S G) N, ap (rename_image (into S G)) q, subst (HasType Σ' G (rename (into S G) N)) (rename_substituted_type reduce reduction_is_natural (into S G) ρ B) (term_back Σ Σ' W S e sc G (context Σ ok W typed S sc P aj fam Σ' e G w τ m.is_ground) (types_in Σ ok W typed S sc P aj fam Σ' e G w τ m.is_ground) N (substitute_type reduce ρ B) t.1))) in
         record {

@@ -44,8 +44,9 @@ use Rattle.lf_coverage.specs.MeetStore.{open_arguments, place_equations, given_e
 use Rattle.lf_coverage.specs.SplitStore.{open_term, open_spine, open_type, open_locals, open_some, type_in, context_metavariables, answer_image}
 use Rattle.lf_coverage.specs.TypedCase.{TypedArguments, IsTypedBeside, given_values}
 use Rattle.lf_coverage.proofs.Forms.{far_type, near_type}
+use Rattle.lf_coverage.proofs.GivenEquations.{far_back}
 use Rattle.lf_coverage.proofs.GivenValues.{StandsForItself, StandsForGiven, given_cases, far_renames, local_renames}
-use Rattle.lf_coverage.proofs.MeetReady.{joint_context, arguments_fit, agrees, far_back}
+use Rattle.lf_coverage.proofs.MeetReady.{joint_context, arguments_fit, agrees}
 use Rattle.lf_coverage.proofs.Meeting.{open_length, under_same}
 use Rattle.lf_coverage.proofs.OpenSkeletons.{filled_values, filled_value, filled_term, filled_type}
 use Rattle.lf_coverage.proofs.SolvedCase.{free_typed, free_context_is, typed_instance}
@@ -64,13 +65,13 @@ is_term_value σ a (Some N) M = tt
 is_term_value σ a None (Some M) = tt
 is_term_value σ a None None = tt
 
-uses_places_all : (U : ℕ → Bool) → ((i : ℕ) → U i ≡ true) → (b : List Bool) (S : Spine) → UsesPlaces U b S
+pub uses_places_all : (U : ℕ → Bool) → ((i : ℕ) → U i ≡ true) → (b : List Bool) (S : Spine) → UsesPlaces U b S
 uses_places_all U h [] S = tt
 uses_places_all U h (x ∷ b) nil = tt
 uses_places_all U h (true ∷ b) (app M S) = (uses_all U M h, uses_places_all U h b S)
 uses_places_all U h (false ∷ b) (app M S) = uses_places_all U h b S
 
-uses_goal_all : (U : ℕ → Bool) → ((i : ℕ) → U i ≡ true) → (b : List Bool) (A : LfType) → UsesGoal U b A
+pub uses_goal_all : (U : ℕ → Bool) → ((i : ℕ) → U i ≡ true) → (b : List Bool) (A : LfType) → UsesGoal U b A
 uses_goal_all U h b (Rattle.lf.specs.Syntax.pi A B) = (uses_type_all U A h, uses_goal_all (under U) (all_under U h) b B)
   where
     all_under : (U : ℕ → Bool) → ((i : ℕ) → U i ≡ true) → (i : ℕ) → under U i ≡ true

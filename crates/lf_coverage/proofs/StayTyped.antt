@@ -56,7 +56,7 @@ given_from_put σ (None ∷ Ms) zero N e = absurd cc
 given_from_put σ (Some M ∷ Ms) (suc i) N e = given_from_put σ Ms i N e
 given_from_put σ (None ∷ Ms) (suc i) N e = given_from_put σ Ms i N e
 
-is_given_put : (σ : ℕ → Image) (Ms : List (Option Term)) (i : ℕ) → is_given (put_in σ Ms) i ≡ is_given Ms i
+pub is_given_put : (σ : ℕ → Image) (Ms : List (Option Term)) (i : ℕ) → is_given (put_in σ Ms) i ≡ is_given Ms i
 is_given_put σ [] i = refl
 is_given_put σ (Some M ∷ Ms) zero = refl
 is_given_put σ (None ∷ Ms) zero = refl

@@ -1,15 +1,15 @@
 -- The worked runs as answers by number.
-use Rattle.std.proofs.Common.{◌≡◌, ℕ, zero, suc, ◌≤◌, [], ◌∷◌, refl, sym, subst, arith}
-use Rattle.std.specs.Prelude.{Bool, true, false, None}
-use Rattle.lf_totality.specs.Examples.{Copying, copy_heads, copying_kinds, copying_types, cp_kind}
+use Rattle.std.proofs.Common.{◌≡◌, ℕ, [], ◌∷◌, sym, subst, arith}
+use Rattle.std.specs.Prelude.{Bool, true, false}
+use Rattle.lf_totality.specs.Examples.{Copying, copy_heads, cp_kind}
 use Rattle.lf_totality.proofs.Copying.{copying_ok}
 use Rattle.lf_coverage.specs.Calls.{PlacesIn}
-use Rattle.lf_coverage.specs.EntryConstants.{IsFreeFrom}
 use Rattle.lf_coverage.specs.ExamplesCopying.{copy_goal, copy_worlds}
 use Rattle.lf_coverage.specs.ExamplesTwins.{Twins, check_kind, twin_goal, twin_head, twin_worlds}
 use Rattle.lf_coverage.specs.NumberedCalls.{IsBesideByNumber}
 use Rattle.lf_coverage.specs.Numbering.{numbered}
 use Rattle.lf_coverage.specs.WorkedCallsAnswers.{WorkedRunsAreAnswers}
+use Rattle.lf_coverage.proofs.CopyingByNumber.{copying_free}
 use Rattle.lf_coverage.proofs.EntryPatternsCopying.{copy_run_by_number}
 use Rattle.lf_coverage.proofs.EntryPatternsForms.{numbered_run_covers}
 use Rattle.lf_coverage.proofs.EntryPatternsTwins.{twin_run_by_number}
@@ -17,21 +17,6 @@ use Rattle.lf_coverage.proofs.ExamplesCopyingSplit.{copy_typed}
 use Rattle.lf_coverage.proofs.ExamplesTwinsRun.{twins_ok, twins_typed}
 use Rattle.lf_coverage.proofs.Parts.{some_same}
 use Rattle.lf_coverage.proofs.WorkedCallsTwins.{free}
-
-copying_free : IsFreeFrom Copying 4
-copying_free = record { types_free = types; kinds_free = kinds }
-  where
-    types : (c : ℕ) → 4 ≤ c → copying_types c ≡ None
-    types zero l = absurd (omega (arith, l))
-    types (suc zero) l = absurd (omega (arith, l))
-    types (suc (suc zero)) l = absurd (omega (arith, l))
-    types (suc (suc (suc zero))) l = absurd (omega (arith, l))
-    types (suc (suc (suc (suc c)))) l = refl
-
-    kinds : (a : ℕ) → 4 ≤ a → copying_kinds a ≡ None
-    kinds zero l = absurd (omega (arith, l))
-    kinds (suc zero) l = absurd (omega (arith, l))
-    kinds (suc (suc a)) l = refl
 
 -- the families of the places
 of_check : (S : ℕ → Bool) → IsBesideByNumber Twins twin_worlds S (numbered 3 twin_goal) → (S 0 ≡ true) × (S 1 ≡ true)

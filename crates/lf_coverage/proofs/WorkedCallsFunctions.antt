@@ -1,34 +1,36 @@
 -- A worked clash of an entry that is a function with a constant.
 use Rattle.std.proofs.Common.{◌≡◌, ℕ, zero, suc, ◌+◌, ◌≤◌, List, [], ◌∷◌, length, inl, inr, refl, sym, ap, ◌∙◌, subst, arith}
 use Rattle.std.specs.Prelude.{Bool, true, Some, None}
-use Rattle.lf.specs.Syntax.{Head, constant, variable, Kind, Spine, Term, root, nil, app, LfType, arrow, base, kind_pi, pi, star, rename_type}
-use Rattle.lf.specs.AtOnce.{in_front, shift_by}
+use Rattle.lf.specs.Syntax.{constant, variable, Kind, Spine, Term, root, nil, app, LfType, arrow, base, kind_pi, pi, star}
+use Rattle.lf.specs.AtOnce.{in_front}
 use Rattle.lf.specs.Substitution.{Image, apply_image, keep, put, substitute_type, reduce}
-use Rattle.lf.specs.Typing.{TypeAt, IsKind, IsType, IsSignature}
-use Rattle.lf.specs.Variables.{target, target_arguments}
+use Rattle.lf.specs.Typing.{IsKind, IsType, IsSignature}
+use Rattle.lf.specs.Variables.{target_arguments}
 use Rattle.lf.specs.Subordination.{Block, AreTypedBlocks, IsTypedBlock, Member}
 use Rattle.lf_unification.specs.Steps.{constants_differ, next_equation, no_step, then_run}
 use Rattle.lf_checks.specs.Marks.{SamePlaces}
 use Rattle.lf_totality.specs.Examples.{nat, var}
 use Rattle.lf_totality.specs.ExamplesGroups.{on_one}
 use Rattle.lf_totality.specs.ExamplesReached.{head_of}
-use Rattle.lf_coverage.specs.EntryConstants.{IsFreeFrom, entry_constant, with_entries}
+use Rattle.lf_coverage.specs.EntryConstants.{IsFreeFrom}
 use Rattle.lf_coverage.specs.Listed.{without_case, no_offer}
-use Rattle.lf_coverage.specs.NewBlock.{with_new_block}
 use Rattle.lf_coverage.specs.Matching.{ArePlaces}
 use Rattle.lf_coverage.specs.NumberedCallsMeeting.{IsApartByNumber}
 use Rattle.lf_coverage.specs.NumberedCallsOrder.{AreInNumberedOrder, HasNumberedRank, one_in_order, signature_rank}
 use Rattle.lf_coverage.specs.NumberedArguments.{HasNumberedArguments}
 use Rattle.lf_coverage.specs.NumberedInstance.{first_constant}
-use Rattle.lf_coverage.specs.NumberedSplits.{IsOfferTo, NumberedOffer, NumberedUnifierFinds, of_case, of_new_block}
-use Rattle.lf_coverage.specs.OwnStores.{IsNumberedOffer, offer_signature}
+use Rattle.lf_coverage.specs.NumberedSplits.{IsOfferTo, NumberedOffer, NumberedUnifierFinds, of_case}
+use Rattle.lf_coverage.specs.OwnStores.{offer_signature}
 use Rattle.lf_coverage.specs.OwnTerms.{blocks_of, own_terms, TypeOnOwnTerms}
 use Rattle.lf_coverage.specs.Reading.{variable_past}
 use Rattle.lf_coverage.specs.WorkedCallsFunctions.{FunctionEntryClashes, Rising, applied_entry, entry_of, index_entry, rising, rising_block, rising_kinds, rising_types}
 use Rattle.lf_coverage.specs.TypedNumbered.{IsTypedNumberedCase}
+use Rattle.lf_coverage.proofs.FreeFrom.{free_from}
 use Rattle.lf_coverage.proofs.NumberedCallsLaws.{answered_by_number_is_split_answer}
+use Rattle.lf_coverage.proofs.OffersListed.{ConstantsAreIn, EntriesAreIn, NewEntriesAreIn, heads_are_in, offer_with, other_target}
 use Rattle.lf_coverage.proofs.Parts.{none_some, some_same}
-use Rattle.lf_coverage.proofs.WorkedCallsParts.{ConstantsAreIn, EntriesAreIn, NewEntriesAreIn, heads_are_in, new_heads_are_in, offer_with, signature_rank_in}
+use Rattle.lf_coverage.proofs.RanksListed.{signature_rank_in}
+use Rattle.lf_coverage.proofs.UsedVariables.{types_of_two}
 
 abbrev worlds : List Block
 worlds = rising_block ∷ []
@@ -52,18 +54,7 @@ blocks B (inl e) = subst (IsTypedBlock Rising) (sym e) (tt, ((star, refl, tt), (
 blocks B (inr m) = absurd m
 
 free : IsFreeFrom Rising 3
-free = record { types_free = types; kinds_free = kinds }
-  where
-    types : (c : ℕ) → 3 ≤ c → rising_types c ≡ None
-    types zero l = absurd (omega (arith, l))
-    types (suc zero) l = absurd (omega (arith, l))
-    types (suc (suc c)) l = refl
-
-    kinds : (a : ℕ) → 3 ≤ a → rising_kinds a ≡ None
-    kinds zero l = absurd (omega (arith, l))
-    kinds (suc zero) l = absurd (omega (arith, l))
-    kinds (suc (suc zero)) l = absurd (omega (arith, l))
-    kinds (suc (suc (suc a))) l = refl
+free = free_from Rising 3 (λ c. refl) (λ a. refl)
 
 -- a (b.h X)
 abbrev of_entry_type : LfType
@@ -74,7 +65,7 @@ at_zero = on_one 1 (entry_of (var 1))
 
 entry_typed : IsTypedNumberedCase Rising 3 worlds applied_entry
 entry_typed = record {
-  variables = record { variables = ((tt, (star, refl, tt)), (_, refl, ((pi nat nat, refl, ((nat, refl, refl), refl)), tt))); on_own_terms = own; blocks = (inl refl, (keep, (λ i A g. absurd g), refl), tt, tt) };
+  variables = record { variables = ((tt, (star, refl, tt)), (_, refl, ((pi nat nat, refl, ((nat, refl, refl), refl)), tt))); on_own_terms = types_of_two (λ i A. TypeOnOwnTerms (own_terms 3 applied_entry.blocks) A) of_entry_type nat ((((_, refl), (tt, tt)), tt)) tt; blocks = (inl refl, (keep, (λ i A g. absurd g), refl), tt, tt) };
   local = ((tt, (star, refl, tt)), (_, refl, ((pi nat nat, refl, ((nat, refl, refl), refl)), tt)));
   local_on_own = tt;
   given = tt;
@@ -82,11 +73,6 @@ entry_typed = record {
   arguments = ((base 0, (arrow (base 0) (base 0), refl, ((base 0, refl, refl), refl))), ((base 1, (base 1, refl, refl)), tt));
   arguments_on_own = ((((_, refl), (tt, tt)), (tt, tt)));
 }
-  where
-    own : (i : ℕ) (A : LfType) → TypeAt applied_entry.variables i A → TypeOnOwnTerms (own_terms 3 applied_entry.blocks) A
-    own zero A e = subst (TypeOnOwnTerms (own_terms 3 applied_entry.blocks)) (sym e) ((((_, refl), (tt, tt)), tt))
-    own (suc zero) A (B, g, e) = subst (TypeOnOwnTerms (own_terms 3 applied_entry.blocks)) (sym (e ∙ ap Rattle.lf.specs.Syntax.weaken g)) tt
-    own (suc (suc i)) A (B, (D, g, p), e) = absurd g
 
 -- a-s alone is offered to Y.
 abbrev the_offer : NumberedOffer
@@ -99,11 +85,8 @@ each : (o : NumberedOffer) → Member o offers → IsOfferTo Rising 3 worlds app
 each o (inl e) = subst (IsOfferTo Rising 3 worlds applied_entry 0 at_zero) (sym e) (of_case (constant 1) nil rising (offer_signature 1 rising refl refl))
 each o (inr m) = absurd m
 
-zero_target : {V E : LfType} → Some E ≡ Some V → target E ≡ 0 → target V ≡ 1 → ⊥
-zero_target e t u = omega (subst (λ A. target A ≡ 0) (some_same e) t, u, arith)
-
 constants : ConstantsAreIn Rising 3 applied_entry 0 at_zero offers
-constants zero V e t = absurd (zero_target e refl t)
+constants zero V e t = absurd (other_target e t refl)
 constants (suc zero) V e t = subst (λ A. Member (offer_with applied_entry 0 at_zero (constant 1) nil A) offers) (some_same e) (inl refl)
 constants (suc (suc k)) V e t = absurd (none_some e)
 
@@ -111,38 +94,25 @@ old_entries : EntriesAreIn Rising 3 applied_entry 0 at_zero offers
 old_entries zero U V o e t = absurd (none_some o)
 old_entries (suc zero) U V o e t = absurd (none_some o)
 old_entries (suc (suc zero)) U V o e t = absurd (none_some o)
-old_entries (suc (suc (suc zero))) U V o e t = absurd (zero_target e refl t)
+old_entries (suc (suc (suc zero))) U V o e t = absurd (other_target e t refl)
 old_entries (suc (suc (suc (suc c)))) U V o e t = absurd (none_some o)
 
-abbrev IsNew : ℕ → Type 0
-IsNew c = (with_entries Rising 3 worlds).types c ≡ None
-
-not_declared : (k : ℕ) (V : LfType) → IsNew k → Rising.types k ≡ Some V → ⊥
-not_declared zero V n e = none_some (sym n)
-not_declared (suc zero) V n e = none_some (sym n)
-not_declared (suc (suc k)) V n e = none_some e
-
-new_entries : NewEntriesAreIn Rising 3 (with_new_block rising_block applied_entry) 0 at_zero offers IsNew
+new_entries : NewEntriesAreIn Rising 3 applied_entry 0 at_zero offers rising_block
 new_entries zero U V n o e t = absurd (none_some o)
 new_entries (suc zero) U V n o e t = absurd (none_some o)
 new_entries (suc (suc zero)) U V n o e t = absurd (none_some o)
-new_entries (suc (suc (suc zero))) U V n o e t = absurd (zero_target e refl t)
-new_entries (suc (suc (suc (suc zero)))) U V n o e t = absurd (zero_target e refl t)
+new_entries (suc (suc (suc zero))) U V n o e t = absurd (other_target e t refl)
+new_entries (suc (suc (suc (suc zero)))) U V n o e t = absurd (other_target e t refl)
 new_entries (suc (suc (suc (suc (suc c))))) U V n o e t = absurd (none_some o)
 
-abbrev OfferOf : Block → ℕ → Spine → LfType → Type 0
-OfferOf B c U A = IsNumberedOffer Rising 3 (with_new_block B applied_entry) (rename_type (shift_by (length B.some)) at_zero) (constant c) U A → Member (offer_with (with_new_block B applied_entry) (0 + length B.some) (rename_type (shift_by (length B.some)) at_zero) (constant c) U A) offers
-
 every : (o : NumberedOffer) → IsOfferTo Rising 3 worlds applied_entry 0 at_zero o → Member o offers
-every o (of_case h U A f) = heads_are_in Rising 3 applied_entry 0 at_zero offers refl constants old_entries h U A f
-every o (of_new_block B c U A (inl e) n f) = subst (λ (D : Block). OfferOf D c U A) (sym e) (new_heads_are_in Rising 3 (with_new_block rising_block applied_entry) 0 at_zero offers IsNew not_declared new_entries (constant c) c U A refl n) f
-every o (of_new_block B c U A (inr m) n f) = absurd m
+every = heads_are_in Rising 3 applied_entry 0 at_zero offers worlds refl constants old_entries (new_entries, tt)
 
 in_order : AreInNumberedOrder 3 worlds applied_entry offers ((0 ∷ 1 ∷ []) ∷ [])
 in_order = one_in_order (signature_rank 1 refl refl)
 
 every_rank : (o : NumberedOffer) (r : List ℕ) → Member o offers → HasNumberedRank 3 worlds applied_entry o r → Member r ((0 ∷ 1 ∷ []) ∷ [])
-every_rank o r (inl e) h = signature_rank_in 3 worlds applied_entry o 1 (ap (λ (p : NumberedOffer). p.head) e) (ap (λ (p : NumberedOffer). entry_constant 0 3 (blocks_of p.case.blocks) 1) e) ((0 ∷ 1 ∷ []) ∷ []) (inl refl) r h
+every_rank o r (inl e) h = signature_rank_in 3 worlds applied_entry o 1 e refl refl ((0 ∷ 1 ∷ []) ∷ []) (inl refl) r h
 every_rank o r (inr m) h = absurd m
 
 differ : ◌≡◌ {A = ℕ} 3 0 → ⊥

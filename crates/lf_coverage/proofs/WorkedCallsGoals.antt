@@ -1,14 +1,15 @@
 -- Worked goals by number.
 use Rattle.std.proofs.Common.{◌≡◌, ℕ, zero, suc, ◌+◌, [], ◌∷◌, inl, refl, sym, ap, ◌∙◌, subst, arith}
-use Rattle.std.specs.Prelude.{Bool, true, false, Some, None}
+use Rattle.std.specs.Prelude.{Bool, true, Some, None}
 use Rattle.lf.specs.Syntax.{Head, Skeleton, Spine, Term, constant, root, nil, app, LfType, base, pi, atom, star}
 use Rattle.lf.specs.Substitution.{Image, apply_image, keep, put, substitute_spine, substitute_type, reduce}
 use Rattle.lf.specs.AtOnce.{in_front}
 use Rattle.lf.specs.Typing.{TypeAt, ImageHasType, IsTypedSubstitution}
-use Rattle.lf.specs.Variables.{UsesType}
+use Rattle.lf.specs.Variables.{UsesType, same_number}
 use Rattle.lf.specs.Subordination.{AreTypedBlocks}
 use Rattle.lf_checks.specs.Clause.{scope}
-use Rattle.lf_cases.specs.Cover.{AgreesOutside, AreTerms, before}
+use Rattle.lf_checks.specs.Worlded.{IsTerm}
+use Rattle.lf_cases.specs.Cover.{AgreesOutside, before}
 use Rattle.lf_cases.specs.Pattern.{given_at}
 use Rattle.lf_cases.specs.Split.{by_split, no_case}
 use Rattle.lf_totality.specs.Examples.{nat, var}
@@ -23,16 +24,18 @@ use Rattle.lf_coverage.specs.NumberedCallsOrder.{none_in_order}
 use Rattle.lf_coverage.specs.NumberedCallsReached.{numbered_goal}
 use Rattle.lf_coverage.specs.NumberedCase.{NumberedCase}
 use Rattle.lf_coverage.specs.NumberedInstance.{block_at, move_spine, moved_constant}
-use Rattle.lf_coverage.specs.NumberedSplits.{IsAnsweredByNumber, IsOfferTo, NumberedOffer, of_case, of_new_block}
+use Rattle.lf_coverage.specs.NumberedSplits.{IsAnsweredByNumber, IsOfferTo, NumberedOffer}
 use Rattle.lf_coverage.specs.NumberedSplitsExamples.{Bare, exp, open_case}
-use Rattle.lf_coverage.specs.OwnStores.{IsNumberedOffer, offer_entry, offer_signature, offer_taken}
-use Rattle.lf_coverage.specs.OwnTerms.{BlockVariable, ImageOnOwnTerms, TypeOnOwnTerms, blocks_of, own_terms}
+use Rattle.lf_coverage.specs.OwnTerms.{BlockVariable, ImageOnOwnTerms, blocks_of, own_terms}
 use Rattle.lf_coverage.specs.WorkedCallsGoals.{Asking, MissingHasNoInstance, OutputGoalIsClosed, SomeOutputIsUnsplit, asks_some, asks_some_clause, asks_some_goal}
 use Rattle.lf_coverage.specs.TypedNumbered.{IsTypedNumberedCase}
 use Rattle.lf_coverage.proofs.NumberedCallsLaws.{answered_by_number_is_covered, answered_by_number_is_split_answer}
-use Rattle.lf_coverage.proofs.NumberedSplitsExamples.{bare_ok, free, open_typed}
+use Rattle.lf_coverage.proofs.NumberedSplitsExamples.{bare_ok, free}
+use Rattle.lf_coverage.proofs.OffersListed.{heads_are_in}
 use Rattle.lf_coverage.proofs.Parts.{none_some, some_same}
-use Rattle.lf_coverage.proofs.WorkedCallsStuck.{no_truth, unsplit_alone}
+use Rattle.lf_coverage.proofs.UsedVariables.{at_one, types_at_one}
+use Rattle.lf_coverage.proofs.VariableTyped.{value_is_typed, variable_is_typed, variable_on_own}
+use Rattle.lf_coverage.proofs.WorkedCallsStuck.{unsplit_alone}
 
 pub output_goal_is_closed : OutputGoalIsClosed
 output_goal_is_closed = (refl, refl)
@@ -40,12 +43,6 @@ output_goal_is_closed = (refl, refl)
 -- q b.x N, for b on N, is shared by the goal and the subgoal.
 abbrev shared_goal : NumberedCase
 shared_goal = record { blocks = record { block = asks_some_block; terms = app (var 0) nil } ∷ []; variables = nat ∷ []; given = None ∷ []; local = []; family = 2; arguments = None ∷ Some (var 0) ∷ [] }
-
-abbrev only_number : ℕ → Bool
-only_number zero = false
-only_number (suc zero) = false
-only_number (suc (suc zero)) = true
-only_number (suc (suc (suc i))) = false
 
 abbrev shared_outer : ℕ → Image
 shared_outer = before [] (variable_images 4 shared_goal.blocks 0 asks_some_block (app (var 0) nil))
@@ -55,48 +52,22 @@ shared_values = in_front (keep 0) shared_outer
 
 shared_has_pattern : HasPattern Asking 4 shared_goal asks_some
 shared_has_pattern = record {
-  used = only_number;
+  used = same_number 2;
   values = shared_values;
-  typed = record { typed = typed; closed = closed };
-  on_own_terms = on_own;
+  typed = record {
+    typed = types_at_one 2 (λ i A. ImageHasType (with_entries Asking 4 (asks_some_block ∷ [])) (nat ∷ []) (shared_values i) (substitute_type reduce shared_values A)) (scope asks_some_clause) nat third (refl, (nat, refl, refl));
+    closed = types_at_one 2 (λ i A. UsesType (same_number 2) A) (scope asks_some_clause) nat third tt;
+  };
+  on_own_terms = at_one 2 (λ i. ImageOnOwnTerms (own_terms 4 shared_goal.blocks) (shared_values i)) tt;
   uses = ((refl, tt), tt);
-  terms = terms;
-  given = given;
+  terms = λ i o u. at_one 2 (λ j. IsTerm (shared_values j)) tt i u;
+  given = λ j M u e. at_one 2 (λ k. given_at shared_goal.given k ≡ Some M → (a : Skeleton) × (shared_values k ≡ put a M)) (λ p. absurd (none_some p)) j u e;
   stands = (0, app (var 0) nil, refl, (λ e. refl), agrees);
   same = (refl, tt);
 }
   where
-    third : {A : LfType} → TypeAt (scope asks_some_clause) 2 A → A ≡ nat
-    third (E, (F, g, p), e) = e ∙ ap Rattle.lf.specs.Syntax.weaken (p ∙ ap Rattle.lf.specs.Syntax.weaken g)
-
-    typed : (i : ℕ) (A : LfType) → TypeAt (scope asks_some_clause) i A → only_number i ≡ true → ImageHasType (with_entries Asking 4 (asks_some_block ∷ [])) (nat ∷ []) (shared_values i) (substitute_type reduce shared_values A)
-    typed zero A g u = absurd (no_truth u)
-    typed (suc zero) A g u = absurd (no_truth u)
-    typed (suc (suc zero)) A g u = subst (λ B. ImageHasType (with_entries Asking 4 (asks_some_block ∷ [])) (nat ∷ []) (shared_values 2) (substitute_type reduce shared_values B)) (sym (third g)) (refl, (nat, refl, refl))
-    typed (suc (suc (suc i))) A g u = absurd (no_truth u)
-
-    closed : (i : ℕ) (A : LfType) → TypeAt (scope asks_some_clause) i A → only_number i ≡ true → UsesType only_number A
-    closed zero A g u = absurd (no_truth u)
-    closed (suc zero) A g u = absurd (no_truth u)
-    closed (suc (suc zero)) A g u = subst (UsesType only_number) (sym (third g)) tt
-    closed (suc (suc (suc i))) A g u = absurd (no_truth u)
-
-    on_own : (i : ℕ) → only_number i ≡ true → ImageOnOwnTerms (own_terms 4 shared_goal.blocks) (shared_values i)
-    on_own zero u = absurd (no_truth u)
-    on_own (suc zero) u = absurd (no_truth u)
-    on_own (suc (suc zero)) u = tt
-    on_own (suc (suc (suc i))) u = absurd (no_truth u)
-
-    terms : AreTerms asks_some_clause only_number shared_values
-    terms zero o u = absurd (no_truth u)
-    terms (suc zero) o u = absurd (no_truth u)
-    terms (suc (suc zero)) o u = tt
-    terms (suc (suc (suc i))) o u = absurd (no_truth u)
-
-    given : (j : ℕ) (M : Term) → only_number j ≡ true → given_at shared_goal.given j ≡ Some M → (a : Skeleton) × (shared_values j ≡ put a M)
-    given zero M u e = absurd (no_truth u)
-    given (suc zero) M u e = absurd (no_truth u)
-    given (suc (suc j)) M u e = absurd (none_some e)
+    third : (A : LfType) → TypeAt (scope asks_some_clause) 2 A → A ≡ nat
+    third A (E, (F, g, p), e) = e ∙ ap Rattle.lf.specs.Syntax.weaken (p ∙ ap Rattle.lf.specs.Syntax.weaken g)
 
     agrees : AgreesOutside asks_some_clause shared_values shared_outer
     agrees k X g = refl
@@ -113,7 +84,7 @@ Same k b = block_at shared_goal.blocks k ≡ Some (record { block = b.block; ter
 goal_shares : SharesInstance Asking 4 (asks_some_block ∷ []) asks_some_goal asks_some
 goal_shares = record {
   common = shared_goal;
-  typed_variables = record { variables = (tt, (star, refl, tt)); on_own_terms = own; blocks = (inl refl, (on_number, on_number_typed, refl), (tt, tt), tt) };
+  typed_variables = record { variables = (tt, (star, refl, tt)); on_own_terms = variable_on_own (own_terms 4 shared_goal.blocks) 0; blocks = (inl refl, (on_number, on_number_typed, refl), (tt, tt), tt) };
   numbers = λ k. k;
   zeroth = refl;
   values = shared_both;
@@ -127,13 +98,8 @@ goal_shares = record {
   of_pattern = shared_has_pattern;
 }
   where
-    own : (i : ℕ) (A : LfType) → TypeAt (nat ∷ []) i A → TypeOnOwnTerms (own_terms 4 shared_goal.blocks) A
-    own zero A e = subst (TypeOnOwnTerms (own_terms 4 shared_goal.blocks)) (sym e) tt
-    own (suc i) A (B, g, e) = absurd g
-
     on_number_typed : IsTypedSubstitution (with_entries Asking 4 (asks_some_block ∷ [])) (nat ∷ []) (nat ∷ []) on_number
-    on_number_typed zero A e = subst (λ B. ImageHasType (with_entries Asking 4 (asks_some_block ∷ [])) (nat ∷ []) (put (base 0) (var 0)) (substitute_type reduce on_number B)) (sym e) (refl, (nat, refl, refl))
-    on_number_typed (suc i) A (B, g, e) = absurd g
+    on_number_typed = value_is_typed (with_entries Asking 4 (asks_some_block ∷ [])) nat (nat ∷ []) on_number (refl, (nat, refl, refl))
 
     same : (k : ℕ) (b : BlockVariable) → block_at asks_some_goal.blocks k ≡ Some b → Same k b
     same zero b e = subst (Same zero) (some_same e) refl
@@ -161,24 +127,10 @@ no_blocks : AreTypedBlocks Bare []
 no_blocks B m = absurd m
 
 open_alone : IsTypedNumberedCase Bare 2 [] open_case
-open_alone = record {
-  variables = record { variables = open_typed.variables.variables; on_own_terms = open_typed.variables.on_own_terms; blocks = tt };
-  local = open_typed.local;
-  local_on_own = open_typed.local_on_own;
-  given = open_typed.given;
-  given_on_own = open_typed.given_on_own;
-  arguments = open_typed.arguments;
-  arguments_on_own = open_typed.arguments_on_own;
-}
-
-no_head : (h : Head) (U : Spine) (A : LfType) → IsNumberedOffer Bare 2 open_case exp h U A → ⊥
-no_head h U A (offer_signature k V e t) = none_some e
-no_head h U A (offer_taken j B l g t) = omega (arith, l)
-no_head h U A (offer_entry c S V o e t) = none_some o
+open_alone = variable_is_typed Bare 2 [] 0 1 refl [] tt
 
 none_offered : (o : NumberedOffer) → IsOfferTo Bare 2 [] open_case 0 exp o → ⊥
-none_offered o (of_case h U A f) = no_head h U A f
-none_offered o (of_new_block B c U A m n f) = m
+none_offered = heads_are_in Bare 2 open_case 0 exp [] [] refl (λ k V e t. absurd (none_some e)) (λ c U V o e t. absurd (none_some o)) tt
 
 no_split : (below : ℕ → ℕ → Bool) → IsAnsweredByNumber Bare 2 [] below open_case 0 []
 no_split below = record { type = exp; at = refl; takes_below = tt; offers = []; each = λ o m. absurd m; every = λ o f. none_offered o f; arguments_below = λ o f. absurd (none_offered o f); listed = no_offer }

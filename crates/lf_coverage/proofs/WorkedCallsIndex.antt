@@ -1,12 +1,12 @@
--- The worked run in which an index is split first.
-use Rattle.std.proofs.Common.{◌≡◌, ℕ, zero, suc, ◌+◌, ◌≤◌, List, [], ◌∷◌, inl, inr, refl, sym, ap, ◌∙◌, subst, arith}
-use Rattle.std.specs.Prelude.{◌⊎◌, Bool, true, false, Option, Some, None}
+-- The worked run in which an index is split first: f N X is split at N, and f z X is missing.
+use Rattle.std.proofs.Common.{◌≡◌, ℕ, zero, suc, ◌+◌, List, [], ◌∷◌, inl, inr, refl, sym, ap, ◌∙◌, subst, arith}
+use Rattle.std.specs.Prelude.{Bool, true, false, Option, Some, None}
 use Rattle.lf.specs.Syntax.{constant, metavariable, Head, Kind, Spine, Term, root, nil, app, LfType, arrow, base, kind_pi, pi, star}
 use Rattle.lf.specs.AtOnce.{in_front}
 use Rattle.lf.specs.Substitution.{Image, keep, put, substitute_type, reduce}
-use Rattle.lf.specs.Typing.{TypeAt, IsKind, IsType, IsSignature, Signature}
-use Rattle.lf.specs.Variables.{target, target_arguments}
-use Rattle.lf.specs.Subordination.{AreTypedBlocks, Member}
+use Rattle.lf.specs.Typing.{IsSignature, Signature}
+use Rattle.lf.specs.Variables.{target_arguments}
+use Rattle.lf.specs.Subordination.{Member}
 use Rattle.lf_unification.specs.Dependency.{IsDependencyOrder, IsListed, ListedMetavariable}
 use Rattle.lf_unification.specs.PartialInstance.{IsFilling}
 use Rattle.lf_unification.specs.Solving.{IsWellFormed, Solved}
@@ -16,7 +16,7 @@ use Rattle.lf_unification.proofs.Runs.{run_solved}
 use Rattle.lf_checks.specs.Marks.{SamePlaces}
 use Rattle.lf_totality.specs.Examples.{nat, successor, var, z}
 use Rattle.lf_totality.specs.ExamplesGroups.{on_one}
-use Rattle.lf_coverage.specs.EntryConstants.{IsFreeFrom, entry_constant, with_entries}
+use Rattle.lf_coverage.specs.EntryConstants.{with_entries}
 use Rattle.lf_coverage.specs.EntryPatterns.{IsInstanceOfPattern}
 use Rattle.lf_coverage.specs.Listed.{without_case, no_offer}
 use Rattle.lf_coverage.specs.Matching.{ArePlaces}
@@ -26,85 +26,21 @@ use Rattle.lf_coverage.specs.NumberedCallsOrder.{HasNumberedRank, one_in_order, 
 use Rattle.lf_coverage.specs.NumberedCallsOutside.{IsSplitCaseByNumber}
 use Rattle.lf_coverage.specs.NumberedCallsReached.{ReachedByNumber, numbered_first, numbered_goal, numbered_split}
 use Rattle.lf_coverage.specs.NumberedCase.{NumberedCase}
-use Rattle.lf_coverage.specs.NumberedSplits.{IsOfferTo, NumberedOffer, NumberedUnifierFinds, of_case, of_new_block}
+use Rattle.lf_coverage.specs.NumberedSplits.{IsOfferTo, NumberedOffer, NumberedUnifierFinds, of_case}
 use Rattle.lf_coverage.specs.OwnStores.{IsNumberedOffer, numbered_store, offer_signature}
-use Rattle.lf_coverage.specs.OwnTerms.{blocks_of, own_terms, TypeOnOwnTerms}
-use Rattle.lf_coverage.specs.WorkedCallsIndex.{IndexIsSplitFirst, Odd, f_goal, f_head, f_zero, odd_kinds, odd_one, odd_types}
+use Rattle.lf_coverage.specs.WorkedCallsIndex.{IndexIsSplitFirst, Odd, f_goal, f_head, f_zero, odd_one}
 use Rattle.lf_coverage.specs.SplitStore.{context_metavariables}
-use Rattle.lf_coverage.specs.TypedNumbered.{IsTypedNumberedCase}
 use Rattle.lf_coverage.proofs.EntrySignature.{with_entries_is_signature}
 use Rattle.lf_coverage.proofs.ExamplesUnified.{no_argument}
 use Rattle.lf_coverage.proofs.NumberedCallsCopying.{one_member}
 use Rattle.lf_coverage.proofs.NumberedCallsLaws.{answered_by_number_is_split_answer}
+use Rattle.lf_coverage.proofs.OffersListed.{ConstantsAreIn, heads_are_in, offer_with, other_target}
+use Rattle.lf_coverage.proofs.OtherNumbers.{not_among}
 use Rattle.lf_coverage.proofs.OwnStoresStart.{numbered_store_is_ready}
 use Rattle.lf_coverage.proofs.Parts.{none_some, some_same}
-use Rattle.lf_coverage.proofs.WorkedCallsParts.{ConstantsAreIn, heads_are_in, offer_with, signature_rank_in}
-
-ok : IsSignature Odd
-ok = record { types_ok = types; kinds_ok = kinds }
-  where
-    types : (c : ℕ) (A : LfType) → odd_types c ≡ Some A → IsType Odd [] A
-    types zero A e = subst (IsType Odd []) (some_same e) (star, refl, tt)
-    types (suc zero) A e = subst (IsType Odd []) (some_same e) ((star, refl, tt), (star, refl, tt))
-    types (suc (suc zero)) A e = subst (IsType Odd []) (some_same e) (_, refl, ((pi nat nat, refl, ((nat, refl, refl), refl)), tt))
-    types (suc (suc (suc zero))) A e = subst (IsType Odd []) (some_same e) (_, refl, ((pi nat nat, refl, ((nat, refl, refl), refl)), ((odd_one, refl, refl), tt)))
-    types (suc (suc (suc (suc c)))) A e = absurd (none_some e)
-
-    kinds : (f : ℕ) (K : Kind) → odd_kinds f ≡ Some K → IsKind Odd [] K
-    kinds zero K e = subst (IsKind Odd []) (some_same e) tt
-    kinds (suc zero) K e = subst (IsKind Odd []) (some_same e) ((star, refl, tt), tt)
-    kinds (suc (suc zero)) K e = subst (IsKind Odd []) (some_same e) ((star, refl, tt), ((_, refl, ((nat, refl, refl), tt)), tt))
-    kinds (suc (suc (suc f))) K e = absurd (none_some e)
-
-no_blocks : AreTypedBlocks Odd []
-no_blocks B m = absurd m
-
-free : IsFreeFrom Odd 4
-free = record { types_free = types; kinds_free = kinds }
-  where
-    types : (c : ℕ) → 4 ≤ c → odd_types c ≡ None
-    types zero l = absurd (omega (arith, l))
-    types (suc zero) l = absurd (omega (arith, l))
-    types (suc (suc zero)) l = absurd (omega (arith, l))
-    types (suc (suc (suc zero))) l = absurd (omega (arith, l))
-    types (suc (suc (suc (suc c)))) l = refl
-
-    kinds : (f : ℕ) → 4 ≤ f → Odd.kinds f ≡ None
-    kinds zero l = absurd (omega (arith, l))
-    kinds (suc zero) l = absurd (omega (arith, l))
-    kinds (suc (suc zero)) l = absurd (omega (arith, l))
-    kinds (suc (suc (suc f))) l = refl
-
-goal_typed : IsTypedNumberedCase Odd 4 [] f_goal
-goal_typed = record {
-  variables = record { variables = ((tt, (star, refl, tt)), (_, refl, ((nat, refl, refl), tt))); on_own_terms = own; blocks = tt };
-  local = ((tt, (star, refl, tt)), (_, refl, ((nat, refl, refl), tt)));
-  local_on_own = tt;
-  given = tt;
-  given_on_own = tt;
-  arguments = ((base 0, (base 0, refl, refl)), ((base 1, (base 1, refl, refl)), tt));
-  arguments_on_own = (tt, (tt, tt));
-}
-  where
-    own : (i : ℕ) (A : LfType) → TypeAt f_goal.variables i A → TypeOnOwnTerms (own_terms 4 []) A
-    own zero A e = subst (TypeOnOwnTerms (own_terms 4 [])) (sym e) (tt, tt)
-    own (suc zero) A (B, g, e) = subst (TypeOnOwnTerms (own_terms 4 [])) (sym (e ∙ ap Rattle.lf.specs.Syntax.weaken g)) tt
-    own (suc (suc i)) A (B, (D, g, p), e) = absurd g
-
-zero_typed : IsTypedNumberedCase Odd 4 [] f_zero
-zero_typed = record {
-  variables = record { variables = (tt, (_, refl, ((nat, refl, refl), tt))); on_own_terms = own; blocks = tt };
-  local = (tt, (_, refl, ((nat, refl, refl), tt)));
-  local_on_own = tt;
-  given = tt;
-  given_on_own = tt;
-  arguments = ((base 0, (base 0, refl, refl)), ((base 1, (base 1, refl, refl)), tt));
-  arguments_on_own = ((tt, tt), (tt, tt));
-}
-  where
-    own : (i : ℕ) (A : LfType) → TypeAt f_zero.variables i A → TypeOnOwnTerms (own_terms 4 []) A
-    own zero A e = subst (TypeOnOwnTerms (own_terms 4 [])) (sym e) ((tt, tt), tt)
-    own (suc i) A (B, g, e) = absurd g
+use Rattle.lf_coverage.proofs.RanksListed.{signature_rank_in}
+use Rattle.lf_coverage.proofs.WorkedCallsIndexTyped.{free, goal_typed, no_blocks, ok, zero_typed}
+use Rattle.lf_coverage.proofs.WorkedCallsStuck.{no_truth}
 
 -- The goal shares f (s z) o with f-1, and is none of it.
 abbrev f_one : NumberedCase
@@ -112,9 +48,6 @@ f_one = record { blocks = []; variables = []; given = []; local = []; family = 2
 
 abbrev none_used : ℕ → Bool
 none_used i = false
-
-no_truth : false ≡ true → ⊥
-no_truth e = cc
 
 one_has_pattern : HasPattern Odd 4 f_one f_head
 one_has_pattern = record {
@@ -207,11 +140,7 @@ module _ (below : ℕ → ℕ → Bool) where
 
   module _ (U : (ℕ → Option Term) → Type 0) where
     is_order : IsDependencyOrder Entries types U solved_order
-    is_order = ((tt, refl, (λ h. h), tt, (star, refl, tt), (λ ρ. refl), (tt, (nat, refl, (refl, λ β u. refl)), λ ρ. refl)), refl, not_listed, ((inl refl, tt), tt), (_, refl, ((nat, (nat, refl, refl), (refl, λ β u. refl)), tt)), (λ ρ. refl), tt)
-      where
-        not_listed : (zero ≡ suc zero) ⊎ ⊥ → ⊥
-        not_listed (inl e) = omega (arith, e)
-        not_listed (inr b) = b
+    is_order = ((tt, refl, (λ h. h), tt, (star, refl, tt), (λ ρ. refl), (tt, (nat, refl, (refl, λ β u. refl)), λ ρ. refl)), refl, not_among refl (λ b. b), ((inl refl, tt), tt), (_, refl, ((nat, (nat, refl, refl), (refl, λ β u. refl)), tt)), (λ ρ. refl), tt)
 
   listed : (m : ℕ) (A : LfType) → types m ≡ Some A → IsListed solved_order m
   listed zero A e = inl refl
@@ -251,28 +180,21 @@ each : (o : NumberedOffer) → Member o offers → IsOfferTo Odd 4 [] f_zero 0 o
 each o (inl e) = subst (IsOfferTo Odd 4 [] f_zero 0 odd_zero) (sym e) (of_case (constant 2) nil odd_one (offer_signature 2 odd_one refl refl))
 each o (inr m) = absurd m
 
-other_target : {V E : LfType} (n : ℕ) → Some E ≡ Some V → target E ≡ n → target V ≡ 1 → (n ≡ 1 → ⊥) → ⊥
-other_target n e t u d = d (sym (subst (λ A. target A ≡ n) (some_same e) t) ∙ u)
-
 zero_not_one : zero ≡ suc zero → ⊥
 zero_not_one e = omega (arith, e)
 
-two_not_one : suc (suc zero) ≡ suc zero → ⊥
-two_not_one e = omega (arith, e)
-
 constants : ConstantsAreIn Odd 4 f_zero 0 odd_zero offers
-constants zero V e t = absurd (other_target 0 e refl t zero_not_one)
-constants (suc zero) V e t = absurd (other_target 0 e refl t zero_not_one)
+constants zero V e t = absurd (other_target e t refl)
+constants (suc zero) V e t = absurd (other_target e t refl)
 constants (suc (suc zero)) V e t = subst (λ A. Member (offer_with f_zero 0 odd_zero (constant 2) nil A) offers) (some_same e) (inl refl)
-constants (suc (suc (suc zero))) V e t = absurd (other_target 2 e refl t two_not_one)
+constants (suc (suc (suc zero))) V e t = absurd (other_target e t refl)
 constants (suc (suc (suc (suc k)))) V e t = absurd (none_some e)
 
 every : (o : NumberedOffer) → IsOfferTo Odd 4 [] f_zero 0 odd_zero o → Member o offers
-every o (of_case h U A f) = heads_are_in Odd 4 f_zero 0 odd_zero offers refl constants (λ c V B p e t. absurd (none_some p)) h U A f
-every o (of_new_block B c U A m n f) = absurd m
+every = heads_are_in Odd 4 f_zero 0 odd_zero offers [] refl constants (λ c V B p e t. absurd (none_some p)) tt
 
 every_rank : (o : NumberedOffer) (r : List ℕ) → Member o offers → HasNumberedRank 4 [] f_zero o r → Member r ((0 ∷ 2 ∷ []) ∷ [])
-every_rank o r (inl e) h = signature_rank_in 4 [] f_zero o 2 (ap (λ (p : NumberedOffer). p.head) e) (ap (λ (p : NumberedOffer). entry_constant 0 4 (blocks_of p.case.blocks) 2) e) ((0 ∷ 2 ∷ []) ∷ []) (inl refl) r h
+every_rank o r (inl e) h = signature_rank_in 4 [] f_zero o 2 e refl refl ((0 ∷ 2 ∷ []) ∷ []) (inl refl) r h
 every_rank o r (inr m) h = absurd m
 
 refuted : (below : ℕ → ℕ → Bool) → NumberedUnifierFinds Odd 4 below o_offer (kind_pi nat star) None

@@ -1,15 +1,10 @@
 -- A worked split at which an equation with an entry of a new block variable is left.
-use Rattle.std.proofs.Common.{◌≡◌, ℕ, zero, suc, List, [], ◌∷◌, inl, inr, refl, sym, ap, ◌∙◌, subst}
+use Rattle.std.proofs.Common.{ℕ, [], ◌∷◌, inl, inr, refl}
 use Rattle.std.specs.Prelude.{Bool, false, Option}
 use Rattle.lf.specs.Substitution.{keep}
-use Rattle.lf.specs.Syntax.{Spine, Term, LfType, Kind, app, arrow, base, constant, metavariable, variable, nil, pi, root, star, kind_pi}
-use Rattle.lf.specs.Typing.{Signature, TypeAt, IsSignature}
+use Rattle.lf.specs.Syntax.{Term, LfType, app, arrow, base, constant, metavariable, variable, nil, pi, root, star, kind_pi}
+use Rattle.lf.specs.Typing.{Signature, IsSignature}
 use Rattle.lf.specs.Subordination.{AreTypedBlocks}
-use Rattle.lf_unification.specs.OpenTyping.{skeletons_of}
-use Rattle.lf_unification.specs.Inversion.{IsPattern}
-use Rattle.lf_unification.specs.Patterns.{pattern}
-use Rattle.lf_unification.specs.Putting.{put_at_rigid, put_at_unbound, put_in_argument, put_nowhere}
-use Rattle.lf_unification.specs.Reach.{is_given}
 use Rattle.lf_unification.specs.Solving.{IsWellFormed, Left, LeftOver}
 use Rattle.lf_unification.specs.Steps.{Run, bind, no_step, then_run}
 use Rattle.lf_unification.specs.Unifiers.{Store, on_left}
@@ -25,9 +20,12 @@ use Rattle.lf_coverage.specs.WorkedCallsFunctions.{NewEntryIsLeft, flexible_case
 use Rattle.lf_coverage.specs.SplitStore.{context_metavariables}
 use Rattle.lf_coverage.specs.TypedNumbered.{IsTypedNumberedCase}
 use Rattle.lf_coverage.proofs.EntrySignature.{with_entries_is_signature}
+use Rattle.lf_coverage.proofs.FlexibleLeft.{flexible_is_left, some_left, store_left}
+use Rattle.lf_coverage.proofs.NoArgument.{no_argument_of}
 use Rattle.lf_coverage.proofs.NumberedSplitsExamples.{bare_ok, blocks_typed, free}
 use Rattle.lf_coverage.proofs.OwnStoresNewBlock.{new_block_stays_typed}
 use Rattle.lf_coverage.proofs.OwnStoresStart.{numbered_store_is_ready}
+use Rattle.lf_coverage.proofs.UsedVariables.{types_of_two}
 
 -- p (F b.x), for the variables of the case and for metavariables
 abbrev b_x : Term
@@ -51,7 +49,7 @@ entries_ok = with_entries_is_signature Bare bare_ok 2 free (exp_block ∷ exp_bl
 
 flexible_typed : IsTypedNumberedCase Bare 2 (exp_block ∷ []) flexible_case
 flexible_typed = record {
-  variables = record { variables = ((tt, ((star, refl, tt), (star, refl, tt))), (_, refl, ((pi exp exp, refl, ((exp, refl, refl), refl)), tt))); on_own_terms = own; blocks = (inl refl, (keep, (λ i A g. absurd g), refl), tt, tt) };
+  variables = record { variables = ((tt, ((star, refl, tt), (star, refl, tt))), (_, refl, ((pi exp exp, refl, ((exp, refl, refl), refl)), tt))); on_own_terms = types_of_two (λ i A. TypeOnOwnTerms (own_terms 2 flexible_case.blocks) A) (has (root (variable 0) (app b_x nil))) (pi exp exp) ((((_, refl), tt), tt), tt) (tt, tt); blocks = (inl refl, (keep, (λ i A g. absurd g), refl), tt, tt) };
   local = ((tt, ((star, refl, tt), (star, refl, tt))), (_, refl, ((pi exp exp, refl, ((exp, refl, refl), refl)), tt)));
   local_on_own = tt;
   given = tt;
@@ -59,11 +57,6 @@ flexible_typed = record {
   arguments = ((base 0, (arrow (base 0) (base 0), refl, ((base 0, refl, refl), refl))), tt);
   arguments_on_own = ((((_, refl), tt), tt), tt);
 }
-  where
-    own : (i : ℕ) (A : LfType) → TypeAt flexible_case.variables i A → TypeOnOwnTerms (own_terms 2 flexible_case.blocks) A
-    own zero A e = subst (TypeOnOwnTerms (own_terms 2 flexible_case.blocks)) (sym e) ((((_, refl), tt), tt), tt)
-    own (suc zero) A (B, g, e) = subst (TypeOnOwnTerms (own_terms 2 flexible_case.blocks)) (sym (e ∙ ap Rattle.lf.specs.Syntax.weaken g)) (tt, tt)
-    own (suc (suc i)) A (B, (D, g, p), e) = absurd g
 
 abbrev new_case : NumberedCase
 new_case = with_new_block exp_block flexible_case
@@ -75,59 +68,10 @@ abbrev c_u : Term
 c_u = root (constant 5) nil
 
 abbrev left_after : Store
-left_after = record { metavariables = left_types; bindings = record { of = 0; value = c_u } ∷ []; equations = flexible_left ∷ [] }
+left_after = store_left (has (root (variable 0) (app b_x nil))) 0 0 c_u 2 4 exp
 
--- F b.x is no metavariable on a pattern
-no_variable : {x : ℕ} {S : Spine} → b_x ≡ root (variable x) S → ⊥
-no_variable e = cc
-
-first : {X Y : Term} {A B : Spine} → app X A ≡ app Y B → X ≡ Y
-first e = cc
-
-constant_fails : (xs : List ℕ) → app b_x nil ≡ pattern (arrow (base 0) (base 0)) xs → ⊥
-constant_fails [] e = cc
-constant_fails (x ∷ xs) e = no_variable (first e)
-
-no_pattern : (m : ℕ) (xs : List ℕ) → root (metavariable 1) (app b_x nil) ≡ root (metavariable m) (pattern (skeletons_of left_types m) xs) → ⊥
-no_pattern m xs e = by m (let p : 1 ≡ m = cc in p) (let q : app b_x nil ≡ pattern (skeletons_of left_types m) xs = cc in q)
-  where
-    by : (m : ℕ) → 1 ≡ m → app b_x nil ≡ pattern (skeletons_of left_types m) xs → ⊥
-    by zero p q = absurd cc
-    by (suc zero) p q = constant_fails xs q
-    by (suc (suc m)) p q = absurd cc
-
-constant_is_none : (m : ℕ) (S : Spine) → root (constant 4) nil ≡ root (metavariable m) S → ⊥
-constant_is_none m S e = cc
-
-sides_differ : root (metavariable 1) (app b_x nil) ≡ root (constant 4) nil → ⊥
-sides_differ e = cc
-
-one_is_zero : suc zero ≡ zero → ⊥
-one_is_zero e = cc
-
-left_over : LeftOver left_types left_after flexible_left
-left_over = record {
-  shown = flexible_left;
-  same_local = refl;
-  put_left = put_at_unbound (one_is_zero, tt) (put_in_argument (put_at_rigid (constant 2) tt put_nowhere) put_nowhere);
-  put_right = put_at_rigid (constant 4) tt put_nowhere;
-  inside_left = (is_given (pi exp exp, refl), (tt, tt));
-  inside_right = tt;
-  outside = record {
-    differ = sides_differ;
-    left_root = λ h. h;
-    right_root = λ h. h;
-    flexible = inl tt;
-    stuck_left = λ m xs p e. absurd (no_pattern m xs e);
-    stuck_right = λ m xs p e. absurd (constant_is_none m _ e);
-  };
-}
-
-no_argument : IsPattern [] (base 1) []
-no_argument = record { places = λ Γ. tt; distinct = λ i j e. e }
-
-some_left : flexible_left ∷ [] ≡ [] → ⊥
-some_left e = cc
+abbrev left_over : LeftOver left_types left_after flexible_left
+left_over = flexible_is_left (has (root (variable 0) (app b_x nil))) 0 0 c_u 2 4 exp
 
 abbrev of_entry : LfType
 of_entry = has (root (constant 4) nil)
@@ -146,13 +90,13 @@ module _ (below : ℕ → ℕ → Bool) where
   ready = numbered_store_is_ready Bare bare_ok (exp_block ∷ []) blocks_typed 2 free below new_case (new_block_stays_typed Bare bare_ok (exp_block ∷ []) blocks_typed 2 free flexible_case flexible_typed exp_block (inl refl)) 0 of_index refl (constant 5) nil of_entry is_offered (kind_pi exp star) refl
 
   run : Run Entries store left_after
-  run = then_run (bind {A = open_index} on_left [] 0 [] c_u open_index refl tt no_argument (record { inverted = record { inversion = c_u; is = refl }; reached = λ k. false; avoids = ((λ k A v e. absurd v), tt, λ v. v); within = tt })) no_step
+  run = then_run (bind {A = open_index} on_left [] 0 [] c_u open_index refl tt (no_argument_of 1) (record { inverted = record { inversion = c_u; is = refl }; reached = λ k. false; avoids = ((λ k A v e. absurd v), tt, λ v. v); within = tt })) no_step
 
   is_left : Left Entries store left_after
   is_left = run_left Entries entries_ok ready run some_left (left_over, tt)
 
 pub new_entry_is_left : NewEntryIsLeft
-unfolding left_over
+unfolding flexible_is_left
 new_entry_is_left below = record {
   type = of_index;
   at = refl;

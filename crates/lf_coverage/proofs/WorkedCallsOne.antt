@@ -1,17 +1,17 @@
 -- Two block variables that are made one: the equations are solved.
 use Rattle.std.proofs.Common.{◌≡◌, ℕ, zero, suc, ◌+◌, [], ◌∷◌, inl, refl, sym, ◌∙◌, subst, arith}
-use Rattle.std.specs.Prelude.{true, false, Option, Some}
+use Rattle.std.specs.Prelude.{false, Option, Some}
 use Rattle.lf.specs.Syntax.{constant, Term, root, nil, LfType, base}
 use Rattle.lf.specs.Substitution.{Image, keep, put, substitute_spine, substitute_type, reduce}
 use Rattle.lf.specs.AtOnce.{in_front}
-use Rattle.lf.specs.Typing.{TypeAt, ImageHasType}
-use Rattle.lf.specs.Variables.{UsesType}
+use Rattle.lf.specs.Typing.{ImageHasType}
+use Rattle.lf.specs.Variables.{UsesType, same_number}
 use Rattle.lf_unification.specs.Steps.{CanRefute, Run, bind, constants_differ, drop_equal, no_step, put_bindings, then_run}
 use Rattle.lf.specs.Rules.{stop}
 use Rattle.lf_unification.specs.Outside.{CanBind}
 use Rattle.lf_unification.specs.Putting.{put_nothing, some_at_bound, some_nowhere}
 use Rattle.lf_unification.specs.Unifiers.{Binding, Store, on_right}
-use Rattle.lf_cases.specs.Cover.{AreTerms}
+use Rattle.lf_checks.specs.Worlded.{IsTerm}
 use Rattle.lf_totality.specs.Examples.{exp}
 use Rattle.lf_coverage.specs.EntryConstants.{with_entries}
 use Rattle.lf_coverage.specs.EntryPatterns.{IsInstanceOfPattern}
@@ -21,10 +21,10 @@ use Rattle.lf_coverage.specs.NumberedInstance.{block_at, move_spine, moved_const
 use Rattle.lf_coverage.specs.OwnTerms.{BlockVariable, ImageOnOwnTerms, blocks_of, own_terms}
 use Rattle.lf_coverage.specs.WorkedCallsOne.{MadeOneIsSolved, Thrice, WithTwo, eq_kind, l_block, store_with, twice_head, two_of_one}
 use Rattle.lf_coverage.specs.SplitStore.{context_metavariables}
-use Rattle.lf_coverage.proofs.EntryPatternsOne.{only_first}
 use Rattle.lf_coverage.proofs.ExamplesUnified.{no_argument}
 use Rattle.lf_coverage.proofs.Parts.{none_some, some_same}
-use Rattle.lf_coverage.proofs.WorkedCallsStuck.{no_truth, shared_not_missing, unsplit_alone}
+use Rattle.lf_coverage.proofs.UsedVariables.{at_one, types_of_one}
+use Rattle.lf_coverage.proofs.WorkedCallsStuck.{shared_not_missing, unsplit_alone}
 
 pub differ : ◌≡◌ {A = ℕ} 4 3 → ⊥
 differ e = omega (arith, e)
@@ -65,32 +65,19 @@ entry_value = in_front (put (base 0) (root (constant 3) nil)) keep
 
 one_has_pattern : HasPattern Thrice 3 one_alone twice_head
 one_has_pattern = record {
-  used = only_first;
+  used = same_number 0;
   values = entry_value;
-  typed = record { typed = typed; closed = closed };
-  on_own_terms = on_own;
+  typed = record {
+    typed = λ i A g u. types_of_one (λ i A. ImageHasType (with_entries Thrice 3 (l_block ∷ [])) [] (entry_value i) (substitute_type reduce entry_value A)) exp (refl, (exp, refl, refl)) i A g;
+    closed = λ i A g u. types_of_one (λ i A. UsesType (same_number 0) A) exp tt i A g;
+  };
+  on_own_terms = at_one 0 (λ i. ImageOnOwnTerms (own_terms 3 one_alone.blocks) (entry_value i)) ((nil, refl), tt);
   uses = ((refl, tt), ((refl, tt), tt));
-  terms = terms;
+  terms = λ i o u. at_one 0 (λ j. IsTerm (entry_value j)) tt i u;
   given = λ j M u e. absurd (none_some e);
   stands = tt;
   same = (refl, (refl, tt));
 }
-  where
-    typed : (i : ℕ) (A : LfType) → TypeAt (exp ∷ []) i A → only_first i ≡ true → ImageHasType (with_entries Thrice 3 (l_block ∷ [])) [] (entry_value i) (substitute_type reduce entry_value A)
-    typed zero A e u = subst (λ B. ImageHasType (with_entries Thrice 3 (l_block ∷ [])) [] (entry_value zero) (substitute_type reduce entry_value B)) (sym e) (refl, (exp, refl, refl))
-    typed (suc i) A e u = absurd (no_truth u)
-
-    closed : (i : ℕ) (A : LfType) → TypeAt (exp ∷ []) i A → only_first i ≡ true → UsesType only_first A
-    closed zero A e u = subst (UsesType only_first) (sym e) tt
-    closed (suc i) A e u = absurd (no_truth u)
-
-    on_own : (i : ℕ) → only_first i ≡ true → ImageOnOwnTerms (own_terms 3 one_alone.blocks) (entry_value i)
-    on_own zero u = ((nil, refl), tt)
-    on_own (suc i) u = absurd (no_truth u)
-
-    terms : AreTerms twice_head.clause only_first entry_value
-    terms zero o u = tt
-    terms (suc i) o u = absurd (no_truth u)
 
 -- both block variables are the one
 abbrev is_first : BlockVariable → Type 0

@@ -1,17 +1,15 @@
 -- Two block variables that are made one: an equation is left.
-use Rattle.std.proofs.Common.{◌≡◌, ℕ, zero, suc, List, [], ◌∷◌, inl, inr, refl, sym, ap, ◌∙◌, subst, arith}
-use Rattle.std.specs.Prelude.{◌≤◌, ◌⊎◌, Option, Some, None}
+use Rattle.std.proofs.Common.{◌≡◌, ℕ, zero, suc, List, [], ◌∷◌, inl, inr, refl, sym, ap, ◌∙◌, subst}
+use Rattle.std.specs.Prelude.{Option, Some, None}
 use Rattle.lf.specs.Rules.{stop}
-use Rattle.lf.specs.Syntax.{Spine, Term, LfType, Kind, app, arrow, base, constant, metavariable, variable, nil, pi, root, star}
+use Rattle.lf.specs.Syntax.{Term, LfType, Kind, app, base, constant, metavariable, nil, pi, root, star}
 use Rattle.lf.specs.Substitution.{keep}
 use Rattle.lf.specs.Typing.{IsKind, IsSignature, IsType}
 use Rattle.lf.specs.Subordination.{AreTypedBlocks, IsTypedBlock}
 use Rattle.lf_unification.specs.Dependency.{IsDependencyOrder, IsListed, ListedMetavariable}
-use Rattle.lf_unification.specs.OpenTyping.{DeclarationsAreTyped, OpenIsType, skeletons_of}
+use Rattle.lf_unification.specs.OpenTyping.{DeclarationsAreTyped, OpenIsType}
 use Rattle.lf_unification.specs.PartialInstance.{EquationIsTyped, EquationsAreTyped, IsFilling}
-use Rattle.lf_unification.specs.Patterns.{pattern}
-use Rattle.lf_unification.specs.Putting.{put_at_rigid, put_at_unbound, put_in_argument, put_nothing, put_nowhere, some_at_bound, some_nowhere}
-use Rattle.lf_unification.specs.Reach.{is_given}
+use Rattle.lf_unification.specs.Putting.{put_nothing, some_at_bound, some_nowhere}
 use Rattle.lf_unification.specs.Solving.{IsWellFormed, Left, LeftOver}
 use Rattle.lf_unification.specs.Steps.{CanRefute, Run, bind, constants_differ, drop_equal, no_step, put_bindings, then_run}
 use Rattle.lf_unification.specs.Unifiers.{Equation, Store, on_right}
@@ -25,6 +23,9 @@ use Rattle.lf_coverage.specs.WorkedCallsOne.{MadeOneIsOpen, Thrice, WithTwo, e_k
 use Rattle.lf_coverage.specs.SplitStore.{context_metavariables}
 use Rattle.lf_coverage.proofs.EntrySignature.{with_entries_is_signature}
 use Rattle.lf_coverage.proofs.ExamplesUnified.{no_argument}
+use Rattle.lf_coverage.proofs.FlexibleLeft.{flexible_is_left, some_left, store_left}
+use Rattle.lf_coverage.proofs.FreeFrom.{free_from}
+use Rattle.lf_coverage.proofs.OtherNumbers.{not_among}
 use Rattle.lf_coverage.proofs.Parts.{none_some, some_same}
 use Rattle.lf_coverage.proofs.WorkedCallsOne.{b_x, differ, entry_found, is_entry, same_constants}
 
@@ -59,19 +60,7 @@ blocks B (inr (inl e)) = subst (IsTypedBlock Thrice) (sym e) (tt, (star, refl, t
 blocks B (inr (inr m)) = absurd m
 
 free : IsFreeFrom Thrice 3
-free = record { types_free = types; kinds_free = kinds }
-  where
-    types : (c : ℕ) → 3 ≤ c → thrice_types c ≡ None
-    types zero l = absurd (omega (arith, l))
-    types (suc zero) l = absurd (omega (arith, l))
-    types (suc (suc zero)) l = absurd (omega (arith, l))
-    types (suc (suc (suc c))) l = refl
-
-    kinds : (a : ℕ) → 3 ≤ a → Thrice.kinds a ≡ None
-    kinds zero l = absurd (omega (arith, l))
-    kinds (suc zero) l = absurd (omega (arith, l))
-    kinds (suc (suc zero)) l = absurd (omega (arith, l))
-    kinds (suc (suc (suc a))) l = refl
+free = free_from Thrice 3 (λ c. refl) (λ a. refl)
 
 entries_ok : IsSignature WithTwo
 entries_ok = with_entries_is_signature Thrice ok 3 free (l_block ∷ l_block ∷ []) blocks
@@ -93,7 +82,7 @@ abbrev left_equation : Equation
 left_equation = record { local = []; left = flexible; right = a; of_type = exp }
 
 abbrev after : Store
-after = record { metavariables = types; bindings = is_entry ∷ []; equations = left_equation ∷ [] }
+after = store_left exp 0 0 b_x 0 0 exp
 
 run : Run WithTwo start after
 run =
@@ -105,11 +94,7 @@ order = record { of = 0; of_type = exp; value = None } ∷ record { of = 1; of_t
 
 module _ (U : (ℕ → Option Term) → Type 0) where
   is_order : IsDependencyOrder WithTwo types U order
-  is_order = ((tt, refl, (λ h. h), (tt, tt), ((star, refl, tt), (star, refl, tt)), (λ ρ. refl), tt), refl, not_listed, tt, (star, refl, tt), (λ ρ. refl), tt)
-    where
-      not_listed : (zero ≡ suc zero) ⊎ ⊥ → ⊥
-      not_listed (inl e) = omega (arith, e)
-      not_listed (inr b) = b
+  is_order = ((tt, refl, (λ h. h), (tt, tt), ((star, refl, tt), (star, refl, tt)), (λ ρ. refl), tt), refl, not_among refl (λ b. b), tt, (star, refl, tt), (λ ρ. refl), tt)
 
   declared : DeclarationsAreTyped WithTwo [] types U
   declared = record { outer_typed = λ i A g. absurd g; metavariables_typed = at }
@@ -140,54 +125,8 @@ form = record {
   typed = record { declarations_typed = declared (IsFilling WithTwo [] start); bindings_typed = tt; equations_typed = equations (IsFilling WithTwo [] start) };
 }
 
--- F a is no metavariable on a pattern
-no_variable : {x : ℕ} {S : Spine} → a ≡ root (variable x) S → ⊥
-no_variable e = cc
-
-first : {X Y : Term} {A B : Spine} → app X A ≡ app Y B → X ≡ Y
-first e = cc
-
-constant_fails : (xs : List ℕ) → app a nil ≡ pattern (arrow (base 0) (base 0)) xs → ⊥
-constant_fails [] e = cc
-constant_fails (x ∷ xs) e = no_variable (first e)
-
-no_pattern : (m : ℕ) (xs : List ℕ) → flexible ≡ root (metavariable m) (pattern (skeletons_of types m) xs) → ⊥
-no_pattern m xs e = by m (let p : 1 ≡ m = cc in p) (let q : app a nil ≡ pattern (skeletons_of types m) xs = cc in q)
-  where
-    by : (m : ℕ) → 1 ≡ m → app a nil ≡ pattern (skeletons_of types m) xs → ⊥
-    by zero p q = absurd cc
-    by (suc zero) p q = constant_fails xs q
-    by (suc (suc m)) p q = absurd cc
-
-constant_is_none : (m : ℕ) (S : Spine) → a ≡ root (metavariable m) S → ⊥
-constant_is_none m S e = cc
-
-sides_differ : flexible ≡ a → ⊥
-sides_differ e = cc
-
-one_is_zero : suc zero ≡ zero → ⊥
-one_is_zero e = cc
-
-left_over : LeftOver types after left_equation
-left_over = record {
-  shown = left_equation;
-  same_local = refl;
-  put_left = put_at_unbound (one_is_zero, tt) (put_in_argument (put_at_rigid (constant 0) tt put_nowhere) put_nowhere);
-  put_right = put_at_rigid (constant 0) tt put_nowhere;
-  inside_left = (is_given (pi exp exp, refl), (tt, tt));
-  inside_right = tt;
-  outside = record {
-    differ = sides_differ;
-    left_root = λ h. h;
-    right_root = λ h. h;
-    flexible = inl tt;
-    stuck_left = λ m xs p e. absurd (no_pattern m xs e);
-    stuck_right = λ m xs p e. absurd (constant_is_none m _ e);
-  };
-}
-
-some_left : left_equation ∷ [] ≡ [] → ⊥
-some_left e = cc
+abbrev left_over : LeftOver types after left_equation
+left_over = flexible_is_left exp 0 0 b_x 0 0 exp
 
 is_left : Left WithTwo start after
 is_left = run_left WithTwo entries_ok form run some_left (left_over, tt)

@@ -1,6 +1,6 @@
 -- The worked goal that is raised, and its split.
 use Rattle.std.proofs.Common.{◌≡◌, ℕ, zero, suc, List, [], ◌∷◌, inl, inr, refl, sym, ap, ◌∙◌, subst, arith}
-use Rattle.std.specs.Prelude.{◌⊎◌, Bool, true, false, Option, Some, None}
+use Rattle.std.specs.Prelude.{Option, Some, None}
 use Rattle.lf.specs.Syntax.{Skeleton, constant, lambda, metavariable, Term, root, nil, app, LfType, arrow, base, pi, star}
 use Rattle.lf.specs.AtOnce.{in_front}
 use Rattle.lf.specs.Substitution.{Image, keep, put, substitute_type, reduce}
@@ -18,7 +18,8 @@ use Rattle.lf_unification.specs.Steps.{Run, bind, no_step, open_lambdas, then_ru
 use Rattle.lf_unification.specs.Unifiers.{Store, on_left}
 use Rattle.lf_unification.proofs.Runs.{run_solved}
 use Rattle.lf_checks.specs.Clause.{scope}
-use Rattle.lf_cases.specs.Cover.{AreTerms, before}
+use Rattle.lf_checks.specs.Worlded.{IsTerm}
+use Rattle.lf_cases.specs.Cover.{before}
 use Rattle.lf_cases.specs.Pattern.{given_at}
 use Rattle.lf_totality.specs.Examples.{applied_to, var}
 use Rattle.lf_coverage.specs.EntryConstants.{with_entries}
@@ -33,10 +34,11 @@ use Rattle.lf_coverage.specs.WorkedCallsRaised.{MentionedOutputIsSplit, Raising,
 use Rattle.lf_coverage.specs.SplitStore.{context_metavariables}
 use Rattle.lf_coverage.proofs.EntrySignature.{with_entries_is_signature}
 use Rattle.lf_coverage.proofs.NumberedCallsLaws.{answered_by_number_is_split_answer}
+use Rattle.lf_coverage.proofs.OtherNumbers.{not_among}
 use Rattle.lf_coverage.proofs.OwnStoresStart.{numbered_store_is_ready}
 use Rattle.lf_coverage.proofs.Parts.{none_some, some_same}
+use Rattle.lf_coverage.proofs.UsedVariables.{at_one, types_at_one}
 use Rattle.lf_coverage.proofs.WorkedCallsRaisedBelow.{blocks, free, ok, raising_subordination}
-use Rattle.lf_coverage.proofs.WorkedCallsStuck.{no_truth}
 use Rattle.lf_coverage.proofs.WorkedCallsRaisedOffers.{each, every, every_rank, g_offered, of_output, offers, raised_typed, the_offer}
 
 -- Y x = g Z and F x = Z are solved.
@@ -104,24 +106,15 @@ by_run = run_solved Entries entries_ok ready run refl
 
 is_order : IsDependencyOrder Entries types (IsFilling Entries [] solved_store) solved_order
 is_order = (
-  ((tt, refl, (λ h. h), tt, (star, refl, tt), (λ ρ. refl), tt), refl, not_zero, (tt, tt), ((star, refl, tt), (star, refl, tt)), (λ ρ. refl), ((inl refl, tt), (fam_b, (fam_b, refl, refl), (refl, λ β u. refl)), λ ρ. refl)),
+  ((tt, refl, (λ h. h), tt, (star, refl, tt), (λ ρ. refl), tt), refl, not_among refl (λ b. b), (tt, tt), ((star, refl, tt), (star, refl, tt)), (λ ρ. refl), ((inl refl, tt), (fam_b, (fam_b, refl, refl), (refl, λ β u. refl)), λ ρ. refl)),
   refl,
-  not_listed,
+  not_among refl (not_among refl (λ b. b)),
   (tt, ((inl refl, (tt, tt)), tt)),
   by_run.well_formed.typed.declarations_typed.metavariables_typed 1 output_type refl,
   (λ ρ. refl),
   (((inr (inl refl), tt), tt), value_typed, λ ρ. refl),
 )
   where
-    not_zero : (suc (suc zero) ≡ zero) ⊎ ⊥ → ⊥
-    not_zero (inl e) = omega (arith, e)
-    not_zero (inr b) = b
-
-    not_listed : (suc zero ≡ suc (suc zero)) ⊎ ((suc zero ≡ zero) ⊎ ⊥) → ⊥
-    not_listed (inl e) = omega (arith, e)
-    not_listed (inr (inl e)) = omega (arith, e)
-    not_listed (inr (inr b)) = b
-
     value_typed : OpenHasType Entries [] types (IsFilling Entries [] solved_store) [] output_value output_type
     value_typed = let (A, e, h) = by_run.well_formed.typed.bindings_typed.1.0 in subst (OpenHasType Entries [] types (IsFilling Entries [] solved_store) [] output_value) (sym (some_same e)) h
 
@@ -154,51 +147,25 @@ constant_outer = before [] (variable_images 5 constant_goal.blocks 0 raising_blo
 abbrev constant_values : ℕ → Image
 constant_values = in_front (keep 0) constant_outer
 
-abbrev only_function : ℕ → Bool
-only_function zero = false
-only_function (suc zero) = true
-only_function (suc (suc i)) = false
-
 constant_instance : IsInstanceOfPattern Raising 5 constant_goal asked_both
 constant_instance = record {
-  used = only_function;
+  used = same_number 1;
   values = constant_values;
-  typed = record { typed = typed; closed = closed };
-  on_own_terms = on_own;
+  typed = record {
+    typed = types_at_one 1 (λ i A. ImageHasType Entries (fam_b ∷ []) (constant_values i) (substitute_type reduce constant_values A)) (scope raising_clause) (pi fam_a fam_b) second (refl, (fam_b, (fam_b, refl, refl), refl));
+    closed = types_at_one 1 (λ i A. UsesType (same_number 1) A) (scope raising_clause) (pi fam_a fam_b) second (tt, tt);
+  };
+  on_own_terms = at_one 1 (λ i. ImageOnOwnTerms (own_terms 5 constant_goal.blocks) (constant_values i)) tt;
   uses = (tt, (((refl, ((refl, tt), tt)), tt), tt));
   strict = (tt, (((refl, ((refl, tt), tt)), tt), tt));
-  terms = terms;
-  given = given;
+  terms = λ i o u. at_one 1 (λ j. IsTerm (constant_values j)) tt i u;
+  given = λ j M u e. at_one 1 (λ k. given_at constant_goal.given k ≡ Some M → (a : Skeleton) × (constant_values k ≡ put a M)) (λ p. absurd (none_some p)) j u e;
   stands = (0, app (lambda (var 1)) nil, refl, (λ e. refl), λ k X g. refl);
   same = (refl, tt);
 }
   where
-    second : {A : LfType} → TypeAt (scope raising_clause) 1 A → A ≡ pi fam_a fam_b
-    second (E, g, e) = e ∙ ap Rattle.lf.specs.Syntax.weaken g
-
-    typed : (i : ℕ) (A : LfType) → TypeAt (scope raising_clause) i A → only_function i ≡ true → ImageHasType Entries (fam_b ∷ []) (constant_values i) (substitute_type reduce constant_values A)
-    typed zero A g u = absurd (no_truth u)
-    typed (suc zero) A g u = subst (λ B. ImageHasType Entries (fam_b ∷ []) (constant_values 1) (substitute_type reduce constant_values B)) (sym (second g)) (refl, (fam_b, (fam_b, refl, refl), refl))
-    typed (suc (suc i)) A g u = absurd (no_truth u)
-
-    closed : (i : ℕ) (A : LfType) → TypeAt (scope raising_clause) i A → only_function i ≡ true → UsesType only_function A
-    closed zero A g u = absurd (no_truth u)
-    closed (suc zero) A g u = subst (UsesType only_function) (sym (second g)) (tt, tt)
-    closed (suc (suc i)) A g u = absurd (no_truth u)
-
-    on_own : (i : ℕ) → only_function i ≡ true → ImageOnOwnTerms (own_terms 5 constant_goal.blocks) (constant_values i)
-    on_own zero u = absurd (no_truth u)
-    on_own (suc zero) u = tt
-    on_own (suc (suc i)) u = absurd (no_truth u)
-
-    terms : AreTerms raising_clause only_function constant_values
-    terms zero o u = absurd (no_truth u)
-    terms (suc zero) o u = tt
-    terms (suc (suc i)) o u = absurd (no_truth u)
-
-    given : (j : ℕ) (M : Term) → only_function j ≡ true → given_at constant_goal.given j ≡ Some M → (a : Skeleton) × (constant_values j ≡ put a M)
-    given zero M u e = absurd (no_truth u)
-    given (suc j) M u e = absurd (none_some e)
+    second : (A : LfType) → TypeAt (scope raising_clause) 1 A → A ≡ pi fam_a fam_b
+    second A (E, g, e) = e ∙ ap Rattle.lf.specs.Syntax.weaken g
 
 pub mentioned_output_is_split : MentionedOutputIsSplit
 mentioned_output_is_split = (

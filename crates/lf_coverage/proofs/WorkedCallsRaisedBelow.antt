@@ -1,6 +1,6 @@
 -- The signature of the worked goal that is raised: it is one, its blocks are typed, and each family is below each later one.
-use Rattle.std.proofs.Common.{◌≡◌, ℕ, zero, suc, ◌≤◌, [], inl, inr, refl, sym, ap, ◌∙◌, subst, arith}
-use Rattle.std.specs.Prelude.{true, Some, None}
+use Rattle.std.proofs.Common.{◌≡◌, ℕ, zero, suc, [], inl, inr, refl, sym, ap, ◌∙◌, subst}
+use Rattle.std.specs.Prelude.{true, Some}
 use Rattle.lf.specs.Syntax.{Kind, LfType, pi, star}
 use Rattle.lf.specs.Typing.{IsKind, IsSignature, IsType}
 use Rattle.lf.specs.Variables.{FamiliesIn, KindFamiliesIn, target}
@@ -10,6 +10,7 @@ use Rattle.lf_coverage.specs.EntryConstants.{IsFreeFrom}
 use Rattle.lf_coverage.specs.ExamplesTwins.{up_to}
 use Rattle.lf_coverage.specs.WorkedCallsRaised.{Raising, d_kind, fam_a, fam_b, g_type, local_block, q_kind, raising_block, raising_kinds, raising_types, raising_worlds}
 use Rattle.lf_coverage.proofs.ExamplesTwinsRun.{twin_subordination}
+use Rattle.lf_coverage.proofs.FreeFrom.{free_from}
 use Rattle.lf_coverage.proofs.Parts.{none_some, some_same}
 
 pub ok : IsSignature Raising
@@ -33,19 +34,7 @@ blocks B (inr (inl e)) = subst (IsTypedBlock Raising) (sym e) (tt, (star, refl, 
 blocks B (inr (inr m)) = absurd m
 
 pub free : IsFreeFrom Raising 5
-free = record { types_free = types; kinds_free = kinds }
-  where
-    types : (c : ℕ) → 5 ≤ c → raising_types c ≡ None
-    types zero l = absurd (omega (arith, l))
-    types (suc c) l = refl
-
-    kinds : (f : ℕ) → 5 ≤ f → Raising.kinds f ≡ None
-    kinds zero l = absurd (omega (arith, l))
-    kinds (suc zero) l = absurd (omega (arith, l))
-    kinds (suc (suc zero)) l = absurd (omega (arith, l))
-    kinds (suc (suc (suc zero))) l = absurd (omega (arith, l))
-    kinds (suc (suc (suc (suc zero)))) l = absurd (omega (arith, l))
-    kinds (suc (suc (suc (suc (suc f))))) l = refl
+free = free_from Raising 5 (λ c. refl) (λ a. refl)
 
 earlier : (f g h : ℕ) → up_to f g ≡ true → up_to g h ≡ true → up_to f h ≡ true
 earlier f g h e i = twin_subordination.through f g e h i

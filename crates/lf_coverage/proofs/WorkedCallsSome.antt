@@ -1,27 +1,20 @@
 -- The worked run in a world whose block has a `some` variable.
-use Rattle.std.proofs.Common.{◌≡◌, ℕ, zero, suc, ◌+◌, ◌≤◌, List, [], ◌∷◌, length, inl, inr, refl, sym, ap, subst, arith}
-use Rattle.std.specs.Prelude.{◌⊎◌, Bool, true, Option, Some, None}
-use Rattle.lf.specs.Syntax.{constant, metavariable, Kind, Spine, Term, root, nil, app, LfType, arrow, base, kind_pi, pi, star, rename_type}
-use Rattle.lf.specs.AtOnce.{in_front, shift_by}
-use Rattle.lf.specs.Substitution.{Image, keep, put, substitute_type, reduce}
-use Rattle.lf.specs.Typing.{Signature, TypeAt, ImageHasType, IsKind, IsTypedSubstitution, IsSignature}
-use Rattle.lf.specs.Variables.{FamiliesIn, KindFamiliesIn, same_number, target}
+use Rattle.std.proofs.Common.{◌≡◌, ℕ, zero, suc, List, [], ◌∷◌, inl, inr, refl, sym, subst, arith}
+use Rattle.std.specs.Prelude.{Bool, true, Some}
+use Rattle.lf.specs.Syntax.{constant, Kind, root, nil, app, LfType, arrow, base, kind_pi, pi, star}
+use Rattle.lf.specs.AtOnce.{in_front}
+use Rattle.lf.specs.Substitution.{Image, keep, put}
+use Rattle.lf.specs.Typing.{Signature, IsKind, IsTypedSubstitution, IsSignature}
+use Rattle.lf.specs.Variables.{FamiliesIn, KindFamiliesIn, target}
 use Rattle.lf.specs.Subordination.{Block, AreTypedBlocks, IsDeclared, IsTypedBlock, Member, SelfContained}
 use Rattle.lf_checks.specs.Clause.{from_entry}
-use Rattle.lf_cases.specs.ClauseOrder.{StandsAt}
 use Rattle.lf_cases.specs.Cover.{before}
 use Rattle.lf_cases.specs.Split.{at_leaf, by_split, next_case, no_case}
-use Rattle.lf_unification.specs.Dependency.{IsDependencyOrder, IsListed, ListedMetavariable}
-use Rattle.lf_unification.specs.OpenTyping.{MetavariablesInType, OpenHasType}
-use Rattle.lf_unification.specs.Outside.{Holds}
-use Rattle.lf_unification.specs.PartialInstance.{IsFilling}
-use Rattle.lf_unification.specs.Solving.{IsWellFormed, Solved}
-use Rattle.lf_unification.specs.Steps.{Run, bind, no_step, then_run}
-use Rattle.lf_unification.specs.Unifiers.{Store, on_left}
-use Rattle.lf_unification.proofs.Runs.{run_solved}
+use Rattle.lf_unification.specs.Solving.{IsWellFormed}
+use Rattle.lf_unification.specs.Unifiers.{Store}
 use Rattle.lf_totality.specs.Examples.{exp, var}
 use Rattle.lf_coverage.specs.Calls.{PlacesIn}
-use Rattle.lf_coverage.specs.EntryConstants.{IsFreeFrom, entry_constant, with_entries}
+use Rattle.lf_coverage.specs.EntryConstants.{IsFreeFrom, with_entries}
 use Rattle.lf_coverage.specs.EntryPatterns.{IsInstanceOfPattern, variable_images}
 use Rattle.lf_coverage.specs.EntryPatternsRuns.{IsNumberedLeaf}
 use Rattle.lf_coverage.specs.EntryTerms.{MatchesByNumber}
@@ -30,21 +23,23 @@ use Rattle.lf_coverage.specs.Listed.{Listed, with_case, no_offer}
 use Rattle.lf_coverage.specs.NewBlock.{with_new_block}
 use Rattle.lf_coverage.specs.NumberedCallsOrder.{HasNumberedRank, entry_rank, one_in_order}
 use Rattle.lf_coverage.specs.NumberedCase.{NumberedCase}
-use Rattle.lf_coverage.specs.NumberedSplits.{IsAnsweredByNumber, IsOfferTo, NumberedAnswer, NumberedOffer, NumberedUnifierFinds, of_case, of_new_block}
+use Rattle.lf_coverage.specs.NumberedSplits.{IsAnsweredByNumber, IsOfferTo, NumberedAnswer, NumberedOffer, NumberedUnifierFinds, of_new_block}
 use Rattle.lf_coverage.specs.OwnStores.{IsNumberedOffer, numbered_store, offer_entry}
-use Rattle.lf_coverage.specs.OwnTerms.{blocks_of, own_terms, TypeOnOwnTerms}
+use Rattle.lf_coverage.specs.OwnTerms.{own_terms}
 use Rattle.lf_coverage.specs.WorkedCallsSome.{SomeTermIsNoHindrance, Typed, exp_and_q, q_entry, q_goal, tp, typed_block, typed_kinds, typed_worlds, v_clause, v_head}
-use Rattle.lf_coverage.specs.SplitStore.{context_metavariables}
 use Rattle.lf_coverage.specs.TypedNumbered.{IsTypedNumberedCase}
+use Rattle.lf_coverage.proofs.ConstantOnNew.{on_new_is_solved, on_new_store}
 use Rattle.lf_coverage.proofs.EntrySignature.{with_entries_is_signature}
 use Rattle.lf_coverage.proofs.EntryTermsDecided.{numbered_head_is_decided}
-use Rattle.lf_coverage.proofs.ExamplesUnified.{no_argument}
+use Rattle.lf_coverage.proofs.FreeFrom.{free_from}
 use Rattle.lf_coverage.proofs.Leaves.{head_is_typed}
 use Rattle.lf_coverage.proofs.NumberedCallsLaws.{answered_by_number_is_covered, answered_by_number_is_split_answer}
+use Rattle.lf_coverage.proofs.OffersListed.{NewEntriesAreIn, entry_member, heads_are_in, other_target}
 use Rattle.lf_coverage.proofs.OwnStoresNewBlock.{new_block_stays_typed}
 use Rattle.lf_coverage.proofs.OwnStoresStart.{numbered_store_is_ready}
 use Rattle.lf_coverage.proofs.Parts.{none_some, some_same}
-use Rattle.lf_coverage.proofs.WorkedCallsParts.{NewEntriesAreIn, entry_member, entry_rank_in, heads_are_in, new_heads_are_in, offer_with}
+use Rattle.lf_coverage.proofs.RanksListed.{only_entry_rank_in}
+use Rattle.lf_coverage.proofs.VariableTyped.{value_is_typed, variable_is_typed, variable_on_own}
 use Rattle.lf_coverage.proofs.WorkedCallsStuck.{no_truth}
 
 ok : IsSignature Typed
@@ -61,28 +56,10 @@ blocks B (inl e) = subst (IsTypedBlock Typed) (sym e) (((tt, (star, refl, tt)), 
 blocks B (inr m) = absurd m
 
 free : IsFreeFrom Typed 3
-free = record { types_free = λ c l. refl; kinds_free = kinds }
-  where
-    kinds : (f : ℕ) → 3 ≤ f → Typed.kinds f ≡ None
-    kinds zero l = absurd (omega (arith, l))
-    kinds (suc zero) l = absurd (omega (arith, l))
-    kinds (suc (suc zero)) l = absurd (omega (arith, l))
-    kinds (suc (suc (suc f))) l = refl
+free = free_from Typed 3 (λ c. refl) (λ a. refl)
 
 goal_typed : IsTypedNumberedCase Typed 3 typed_worlds q_goal
-goal_typed = record {
-  variables = record { variables = (tt, (star, refl, tt)); on_own_terms = own; blocks = tt };
-  local = (tt, (star, refl, tt));
-  local_on_own = tt;
-  given = tt;
-  given_on_own = tt;
-  arguments = ((base 0, (base 0, refl, refl)), tt);
-  arguments_on_own = (tt, tt);
-}
-  where
-    own : (i : ℕ) (A : LfType) → TypeAt (exp ∷ []) i A → TypeOnOwnTerms (own_terms 3 []) A
-    own zero A e = subst (TypeOnOwnTerms (own_terms 3 [])) (sym e) tt
-    own (suc i) A (B, g, e) = absurd g
+goal_typed = variable_is_typed Typed 3 typed_worlds 0 2 refl [] tt
 
 -- b.x on a new variable T is the one head.
 abbrev new_case : NumberedCase
@@ -101,34 +78,19 @@ each : (o : NumberedOffer) → Member o offers → IsOfferTo Typed 3 typed_world
 each o (inl e) = subst (IsOfferTo Typed 3 typed_worlds q_goal 0 exp) (sym e) (of_new_block typed_block 3 (app (var 0) nil) exp (inl refl) refl x_offered)
 each o (inr m) = absurd m
 
-other_target : {V E : LfType} → Some E ≡ Some V → target E ≡ 2 → target V ≡ 0 → ⊥
-other_target e t u = omega (subst (λ A. target A ≡ 2) (some_same e) t, u, arith)
-
-abbrev IsNew : ℕ → Type 0
-IsNew c = (with_entries Typed 3 []).types c ≡ None
-
-new_entries : NewEntriesAreIn Typed 3 new_case 1 exp offers IsNew
+new_entries : NewEntriesAreIn Typed 3 q_goal 0 exp offers typed_block
 new_entries zero U V n o e t = absurd (none_some o)
 new_entries (suc zero) U V n o e t = absurd (none_some o)
 new_entries (suc (suc zero)) U V n o e t = absurd (none_some o)
 new_entries (suc (suc (suc zero))) U V n o e t = entry_member new_case 1 exp offers 3 _ U _ V o e (inl refl)
-new_entries (suc (suc (suc (suc zero)))) U V n o e t = absurd (other_target e refl t)
+new_entries (suc (suc (suc (suc zero)))) U V n o e t = absurd (other_target e t refl)
 new_entries (suc (suc (suc (suc (suc c))))) U V n o e t = absurd (none_some o)
 
-abbrev OfferOf : Block → ℕ → Spine → LfType → Type 0
-OfferOf B c U A = IsNumberedOffer Typed 3 (with_new_block B q_goal) (rename_type (shift_by (length B.some)) exp) (constant c) U A → Member (offer_with (with_new_block B q_goal) (0 + length B.some) (rename_type (shift_by (length B.some)) exp) (constant c) U A) offers
-
 every : (o : NumberedOffer) → IsOfferTo Typed 3 typed_worlds q_goal 0 exp o → Member o offers
-every o (of_case h U A f) = heads_are_in Typed 3 q_goal 0 exp offers refl (λ k V s t. absurd (none_some s)) (λ c V B p e t. absurd (none_some p)) h U A f
-every o (of_new_block B c U A (inl e) n f) = subst (λ (D : Block). OfferOf D c U A) (sym e) (new_heads_are_in Typed 3 new_case 1 exp offers IsNew (λ k V m s. none_some s) new_entries (constant c) c U A refl n) f
-every o (of_new_block B c U A (inr m) n f) = absurd m
-
-stands_first : (w : ℕ) → StandsAt w typed_block typed_worlds → w ≡ 0
-stands_first zero s = refl
-stands_first (suc w) s = absurd s
+every = heads_are_in Typed 3 q_goal 0 exp offers typed_worlds refl (λ k V s t. absurd (none_some s)) (λ c V B p e t. absurd (none_some p)) (new_entries, tt)
 
 every_rank : (o : NumberedOffer) (r : List ℕ) → Member o offers → HasNumberedRank 3 typed_worlds q_goal o r → Member r ((1 ∷ 0 ∷ 0 ∷ 0 ∷ []) ∷ [])
-every_rank o r (inl e) h = entry_rank_in 3 typed_worlds q_goal o 3 _ (ap (λ (p : NumberedOffer). p.head) e) (ap (λ (p : NumberedOffer). entry_constant 0 3 (blocks_of p.case.blocks) 3) e) ((1 ∷ 0 ∷ 0 ∷ 0 ∷ []) ∷ []) (λ w s. subst (λ v. Member (1 ∷ v ∷ 0 ∷ 0 ∷ []) ((1 ∷ 0 ∷ 0 ∷ 0 ∷ []) ∷ [])) (sym (stands_first w s)) (inl refl)) r h
+every_rank o r (inl e) h = only_entry_rank_in 3 typed_block q_goal o 3 _ e refl refl ((1 ∷ 0 ∷ 0 ∷ 0 ∷ []) ∷ []) (inl refl) r h
 every_rank o r (inr m) h = absurd m
 
 -- E = b.x T is solved: T is free.
@@ -138,18 +100,6 @@ Entries = with_entries Typed 3 typed_worlds
 entries_ok : IsSignature Entries
 entries_ok = with_entries_is_signature Typed ok 3 free typed_worlds blocks
 
-abbrev types : ℕ → Option LfType
-types = context_metavariables (tp ∷ exp ∷ [])
-
-abbrev on_type : Term
-on_type = root (constant 3) (app (root (metavariable 0) nil) nil)
-
-abbrev solved_store : Store
-solved_store = record { metavariables = types; bindings = record { of = 1; value = on_type } ∷ []; equations = [] }
-
-abbrev solved_order : List ListedMetavariable
-solved_order = record { of = 1; of_type = exp; value = Some on_type } ∷ record { of = 0; of_type = tp; value = None } ∷ []
-
 module _ (below : ℕ → ℕ → Bool) where
   abbrev store : Store
   store = numbered_store below new_case 1 exp (constant 3) (app (var 0) nil) exp star
@@ -157,47 +107,8 @@ module _ (below : ℕ → ℕ → Bool) where
   ready : IsWellFormed Entries store
   ready = numbered_store_is_ready Typed ok typed_worlds blocks 3 free below new_case (new_block_stays_typed Typed ok typed_worlds blocks 3 free q_goal goal_typed typed_block (inl refl)) 1 exp (exp, refl, refl) (constant 3) (app (var 0) nil) exp x_offered star refl
 
-  run : Run Entries store solved_store
-  run = then_run (bind {A = exp} on_left [] 1 [] on_type exp refl tt no_argument (record { inverted = record { inversion = on_type; is = refl }; reached = same_number 0; avoids = (closed, tt, λ v. v); within = ((tt, tt), tt) })) no_step
-    where
-      closed : (k : ℕ) (A : LfType) → Holds (same_number 0 k) → types k ≡ Some A → MetavariablesInType (λ j. Holds (same_number 0 j)) A
-      closed zero A v e = subst (MetavariablesInType (λ j. Holds (same_number 0 j))) (some_same e) tt
-      closed (suc k) A v e = absurd v
-
-  abbrev by_run : Solved Entries store solved_store
-  by_run = run_solved Entries entries_ok ready run refl
-
-  module _ (U : (ℕ → Option Term) → Type 0) where
-    is_order : IsDependencyOrder Entries types U solved_order
-    is_order = ((tt, refl, (λ h. h), tt, (star, refl, tt), (λ ρ. refl), tt), refl, not_listed, tt, (star, refl, tt), (λ ρ. refl), (((inl refl, tt), tt), typed, λ ρ. refl))
-      where
-        not_listed : (suc zero ≡ zero) ⊎ ⊥ → ⊥
-        not_listed (inl e) = omega (arith, e)
-        not_listed (inr b) = b
-
-        typed : OpenHasType Entries [] types U [] on_type exp
-        typed = (_, refl, ((tp, (tp, refl, refl), (refl, λ β u. refl)), (refl, λ β u. refl)))
-
-  listed : (m : ℕ) (A : LfType) → types m ≡ Some A → IsListed solved_order m
-  listed zero A e = inr (inl refl)
-  listed (suc zero) A e = inl refl
-  listed (suc (suc m)) A e = absurd (none_some e)
-
-  abbrev form : IsWellFormed Entries solved_store
-  form = record {
-    order = solved_order;
-    is_order = is_order (IsFilling Entries [] solved_store);
-    all_listed = listed;
-    bindings_listed = ((exp, inl refl), tt);
-    values_bound = ((λ N e. inl (ap (λ X. record { of = 1; value = X }) (sym (some_same e)))), ((λ N e. absurd (none_some e)), tt));
-    typed = by_run.well_formed.typed;
-  }
-
-  abbrev is_solved : Solved Entries store solved_store
-  is_solved = record { run = run; keeps = by_run.keeps; well_formed = form; none_left = refl }
-
   x_found : NumberedUnifierFinds Typed 3 below the_offer star (Some q_entry)
-  x_found = (solved_store, is_solved, refl)
+  x_found = (on_new_store Entries entries_ok 0 1 3 refl refl refl, on_new_is_solved Entries entries_ok 0 1 3 refl refl refl ready, refl)
 
 goal_listed : (below : ℕ → ℕ → Bool) → Listed (NumberedAnswer Typed 3 below) offers (q_entry ∷ [])
 goal_listed below = with_case (record { kind = star; of_family = refl; finds = x_found below }) no_offer
@@ -207,12 +118,11 @@ abbrev on_variable : ℕ → Image
 on_variable = in_front (put (base 1) (var 0)) keep
 
 on_variable_typed : IsTypedSubstitution Entries (tp ∷ []) (tp ∷ []) on_variable
-on_variable_typed zero A e = subst (λ B. ImageHasType Entries (tp ∷ []) (put (base 1) (var 0)) (substitute_type reduce on_variable B)) (sym e) (refl, (tp, refl, refl))
-on_variable_typed (suc i) A (B, g, e) = absurd g
+on_variable_typed = value_is_typed Entries tp (tp ∷ []) on_variable (refl, (tp, refl, refl))
 
 entry_typed : IsTypedNumberedCase Typed 3 typed_worlds q_entry
 entry_typed = record {
-  variables = record { variables = (tt, (star, refl, tt)); on_own_terms = own; blocks = (inl refl, (on_variable, on_variable_typed, refl), (tt, tt), tt) };
+  variables = record { variables = (tt, (star, refl, tt)); on_own_terms = variable_on_own (own_terms 3 q_entry.blocks) 1; blocks = (inl refl, (on_variable, on_variable_typed, refl), (tt, tt), tt) };
   local = (tt, (star, refl, tt));
   local_on_own = tt;
   given = tt;
@@ -220,10 +130,6 @@ entry_typed = record {
   arguments = ((base 0, (arrow (base 1) (base 0), refl, ((base 1, refl, refl), refl))), tt);
   arguments_on_own = (((nil, refl), (tt, tt)), tt);
 }
-  where
-    own : (i : ℕ) (A : LfType) → TypeAt (tp ∷ []) i A → TypeOnOwnTerms (own_terms 3 q_entry.blocks) A
-    own zero A e = subst (TypeOnOwnTerms (own_terms 3 q_entry.blocks)) (sym e) tt
-    own (suc i) A (B, g, e) = absurd g
 
 abbrev outer : ℕ → Image
 outer = before [] (variable_images 3 q_entry.blocks 0 typed_block (app (var 0) nil))

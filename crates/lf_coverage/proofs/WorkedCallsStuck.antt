@@ -1,30 +1,33 @@
 -- Worked cases by number that are stuck.
 use Rattle.std.proofs.Common.{◌≡◌, ℕ, zero, suc, ◌+◌, List, [], ◌∷◌, inl, refl, sym, subst}
-use Rattle.std.specs.Prelude.{Bool, true, false, Some, None}
-use Rattle.lf.specs.Syntax.{lambda, nil, app, LfType, arrow, base, pi, star}
+use Rattle.std.specs.Prelude.{Bool, true, false, Some}
+use Rattle.lf.specs.Syntax.{lambda, nil, app, arrow, base, pi, star}
 use Rattle.lf.specs.Substitution.{Image, keep, put, substitute_type, reduce}
 use Rattle.lf.specs.AtOnce.{in_front}
-use Rattle.lf.specs.Typing.{Signature, TypeAt, ImageHasType, IsTypedSubstitution}
+use Rattle.lf.specs.Typing.{Signature, ImageHasType, IsTypedSubstitution}
 use Rattle.lf.specs.Subordination.{Block}
-use Rattle.lf.specs.Variables.{UsesType}
+use Rattle.lf.specs.Variables.{UsesType, same_number}
+use Rattle.lf_checks.specs.Worlded.{IsTerm}
 use Rattle.lf_cases.specs.Cover.{AreTerms, before}
 use Rattle.lf_cases.specs.Pattern.{Pattern}
 use Rattle.lf_totality.specs.Examples.{nat, var, z}
 use Rattle.lf_totality.specs.ExamplesReached.{Applied, applied_clause, applied_goal, head_of}
+use Rattle.lf_coverage.specs.Calls.{stuck}
 use Rattle.lf_coverage.specs.EntryConstants.{with_entries}
 use Rattle.lf_coverage.specs.EntryPatterns.{IsInstanceOfPattern, variable_images}
-use Rattle.lf_coverage.specs.NumberedCalls.{NumberedCoverIs, one_missing, one_unsplit}
+use Rattle.lf_coverage.specs.NumberedCalls.{NumberedCoverIs, NumberedMatchedIs, one_missing, one_unsplit}
 use Rattle.lf_coverage.specs.NumberedCallsMeeting.{HasPattern, SharesInstance}
 use Rattle.lf_coverage.specs.NumberedCallsReached.{numbered_candidates, numbered_goal}
 use Rattle.lf_coverage.specs.NumberedCallsStores.{MeetsByNumber}
 use Rattle.lf_coverage.specs.NumberedCase.{NumberedCase}
 use Rattle.lf_coverage.specs.Numbering.{numbered}
 use Rattle.lf_coverage.specs.NumberedSplitsExamples.{Bare, exp, open_case}
-use Rattle.lf_coverage.specs.OwnTerms.{BlockVariable, ImageOnOwnTerms, TypeOnOwnTerms, own_terms}
+use Rattle.lf_coverage.specs.OwnTerms.{ImageOnOwnTerms, own_terms}
 use Rattle.lf_coverage.specs.WorkedCallsStuck.{AppliedIsStuck, NoPlacesAreStuck, SomeVariableGivesNoCandidate, no_places, number_block, number_head, only_block, only_head}
-use Rattle.lf_coverage.proofs.EntryPatternsOne.{only_first}
 use Rattle.lf_coverage.proofs.NumberedCallsCopying.{one_member}
 use Rattle.lf_coverage.proofs.Parts.{none_some}
+use Rattle.lf_coverage.proofs.UsedVariables.{at_one, types_of_one}
+use Rattle.lf_coverage.proofs.VariableTyped.{value_is_typed, variable_on_own}
 
 -- A case that meets the one pattern of a list, is no instance of it and has no candidate can't be split, and isn't missing where it shares an instance.
 pub unsplit_alone : (Σ : Signature) (first : ℕ) (W : List Block) (below : ℕ → ℕ → Bool) (C : NumberedCase) (p : Pattern) → (IsInstanceOfPattern Σ first C p → ⊥) → MeetsByNumber Σ first W C p → numbered_candidates first C p ≡ [] → NumberedCoverIs Σ first W below (p ∷ []) C (one_unsplit C)
@@ -42,8 +45,9 @@ unsplit_alone Σ first W below C p n m c = (
 pub shared_not_missing : (Σ : Signature) (first : ℕ) (W : List Block) (below : ℕ → ℕ → Bool) (C : NumberedCase) (p : Pattern) → SharesInstance Σ first W C p → NumberedCoverIs Σ first W below (p ∷ []) C (one_missing C) → ⊥
 shared_not_missing Σ first W below C p s c = (c.1.apart p (inl refl)).no_instance s
 
-pub no_block : {b : BlockVariable} → None ≡ Some b → ⊥
-no_block e = none_some e
+-- So such a case is stuck, can't be split and isn't missing.
+pub stuck_alone : (Σ : Signature) (first : ℕ) (W : List Block) (C : NumberedCase) (p : Pattern) → (IsInstanceOfPattern Σ first C p → ⊥) → SharesInstance Σ first W C p → numbered_candidates first C p ≡ [] → NumberedMatchedIs Σ first W C p stuck × ((below : ℕ → ℕ → Bool) → NumberedCoverIs Σ first W below (p ∷ []) C (one_unsplit C) × (NumberedCoverIs Σ first W below (p ∷ []) C (one_missing C) → ⊥))
+stuck_alone Σ first W C p n s c = ((n, inl s, c), λ below. (unsplit_alone Σ first W below C p n (inl s) c, shared_not_missing Σ first W below C p s))
 
 pub no_truth : false ≡ true → ⊥
 no_truth e = cc
@@ -57,32 +61,19 @@ identity = in_front (put (arrow (base 0) (base 0)) (lambda (var 0))) keep
 
 zero_has_pattern : HasPattern Applied 3 zero_case (head_of applied_clause.type)
 zero_has_pattern = record {
-  used = only_first;
+  used = same_number 0;
   values = identity;
-  typed = record { typed = typed; closed = closed };
-  on_own_terms = on_own;
+  typed = record {
+    typed = λ i A g u. types_of_one (λ i A. ImageHasType (with_entries Applied 3 []) [] (identity i) (substitute_type reduce identity A)) (pi nat nat) (refl, (nat, refl, refl)) i A g;
+    closed = λ i A g u. types_of_one (λ i A. UsesType (same_number 0) A) (pi nat nat) (tt, tt) i A g;
+  };
+  on_own_terms = at_one 0 (λ i. ImageOnOwnTerms (own_terms 3 []) (identity i)) tt;
   uses = ((refl, (tt, tt)), tt);
-  terms = terms;
+  terms = λ i o u. at_one 0 (λ j. IsTerm (identity j)) tt i u;
   given = λ j M u e. absurd (none_some e);
   stands = tt;
   same = (refl, tt);
 }
-  where
-    typed : (i : ℕ) (A : LfType) → TypeAt (pi nat nat ∷ []) i A → only_first i ≡ true → ImageHasType (with_entries Applied 3 []) [] (identity i) (substitute_type reduce identity A)
-    typed zero A e u = subst (λ B. ImageHasType (with_entries Applied 3 []) [] (identity zero) (substitute_type reduce identity B)) (sym e) (refl, (nat, refl, refl))
-    typed (suc i) A e u = absurd (no_truth u)
-
-    closed : (i : ℕ) (A : LfType) → TypeAt (pi nat nat ∷ []) i A → only_first i ≡ true → UsesType only_first A
-    closed zero A e u = subst (UsesType only_first) (sym e) (tt, tt)
-    closed (suc i) A e u = absurd (no_truth u)
-
-    on_own : (i : ℕ) → only_first i ≡ true → ImageOnOwnTerms (own_terms 3 []) (identity i)
-    on_own zero u = tt
-    on_own (suc i) u = absurd (no_truth u)
-
-    terms : AreTerms applied_clause only_first identity
-    terms zero o u = tt
-    terms (suc i) o u = absurd (no_truth u)
 
 applied_shares : SharesInstance Applied 3 [] (numbered 3 applied_goal) (head_of applied_clause.type)
 applied_shares = record {
@@ -119,15 +110,14 @@ abbrev number_values : ℕ → Image
 number_values = before [] (variable_images 2 on_number.blocks 0 number_block (app (var 0) nil))
 
 number_typed : IsTypedSubstitution (with_entries Bare 2 (number_block ∷ [])) (exp ∷ []) (exp ∷ []) number_values
-number_typed zero A e = subst (λ B. ImageHasType (with_entries Bare 2 (number_block ∷ [])) (exp ∷ []) (number_values zero) (substitute_type reduce number_values B)) (sym e) (refl, (exp, refl, refl))
-number_typed (suc i) A (B, g, e) = absurd g
+number_typed = value_is_typed (with_entries Bare 2 (number_block ∷ [])) exp (exp ∷ []) number_values (refl, (exp, refl, refl))
 
 number_has_pattern : HasPattern Bare 2 on_number number_head
 number_has_pattern = record {
-  used = only_first;
+  used = same_number 0;
   values = number_values;
-  typed = record { typed = λ i A e u. number_typed i A e; closed = closed };
-  on_own_terms = on_own;
+  typed = record { typed = λ i A e u. number_typed i A e; closed = λ i A g u. types_of_one (λ i A. UsesType (same_number 0) A) exp tt i A g };
+  on_own_terms = at_one 0 (λ i. ImageOnOwnTerms (own_terms 2 on_number.blocks) (number_values i)) tt;
   uses = ((refl, tt), tt);
   terms = terms;
   given = λ j M u e. absurd (none_some e);
@@ -135,26 +125,14 @@ number_has_pattern = record {
   same = (refl, tt);
 }
   where
-    closed : (i : ℕ) (A : LfType) → TypeAt (exp ∷ []) i A → only_first i ≡ true → UsesType only_first A
-    closed zero A e u = subst (UsesType only_first) (sym e) tt
-    closed (suc i) A e u = absurd (no_truth u)
-
-    terms : AreTerms number_head.clause only_first number_values
+    terms : AreTerms number_head.clause (same_number 0) number_values
     terms zero o u = absurd (no_truth (sym o))
     terms (suc i) o u = absurd (no_truth u)
-
-    on_own : (i : ℕ) → only_first i ≡ true → ImageOnOwnTerms (own_terms 2 on_number.blocks) (number_values i)
-    on_own zero u = tt
-    on_own (suc i) u = absurd (no_truth u)
-
-pub own_exp : (bs : List BlockVariable) (i : ℕ) (A : LfType) → TypeAt (exp ∷ []) i A → TypeOnOwnTerms (own_terms 2 bs) A
-own_exp bs zero A e = subst (TypeOnOwnTerms (own_terms 2 bs)) (sym e) tt
-own_exp bs (suc i) A (B, g, e) = absurd g
 
 number_shares : SharesInstance Bare 2 (number_block ∷ []) open_case number_head
 number_shares = record {
   common = on_number;
-  typed_variables = record { variables = (tt, (star, refl, tt)); on_own_terms = own_exp on_number.blocks; blocks = (inl refl, (number_values, number_typed, refl), (tt, tt), tt) };
+  typed_variables = record { variables = (tt, (star, refl, tt)); on_own_terms = variable_on_own (own_terms 2 on_number.blocks) 0; blocks = (inl refl, (number_values, number_typed, refl), (tt, tt), tt) };
   numbers = λ k. k;
   zeroth = refl;
   values = in_front (put (base 0) (var 0)) (λ i. keep (i + 1));
@@ -169,16 +147,10 @@ number_shares = record {
 }
 
 number_is_none : IsInstanceOfPattern Bare 2 open_case number_head → ⊥
-number_is_none i = no_block (i.stands.2)
+number_is_none i = none_some i.stands.2
 
 pub some_variable_gives_no_candidate : SomeVariableGivesNoCandidate
-some_variable_gives_no_candidate = (
-  (number_is_none, inl number_shares, refl),
-  λ below. (
-    unsplit_alone Bare 2 (number_block ∷ []) below open_case number_head number_is_none (inl number_shares) refl,
-    shared_not_missing Bare 2 (number_block ∷ []) below open_case number_head number_shares,
-  ),
-)
+some_variable_gives_no_candidate = stuck_alone Bare 2 (number_block ∷ []) open_case number_head number_is_none number_shares refl
 
 -- The goal of exp shares itself, in a case with a block variable, with x.
 abbrev with_block : NumberedCase
@@ -216,13 +188,7 @@ only_shares = record {
 }
 
 only_is_none : IsInstanceOfPattern Bare 2 no_places only_head → ⊥
-only_is_none i = no_block (i.stands.2)
+only_is_none i = none_some i.stands.2
 
 pub no_places_are_stuck : NoPlacesAreStuck
-no_places_are_stuck = (
-  (only_is_none, inl only_shares, refl),
-  λ below. (
-    unsplit_alone Bare 2 (only_block ∷ []) below no_places only_head only_is_none (inl only_shares) refl,
-    shared_not_missing Bare 2 (only_block ∷ []) below no_places only_head only_shares,
-  ),
-)
+no_places_are_stuck = stuck_alone Bare 2 (only_block ∷ []) no_places only_head only_is_none only_shares refl

@@ -1,13 +1,14 @@
 -- The worked run with candidates: its leaves, and the answer.
 use Rattle.std.proofs.Common.{◌≡◌, ℕ, zero, suc, [], ◌∷◌, inl, inr, refl, sym, subst, arith}
 use Rattle.std.specs.Prelude.{Bool, true}
-use Rattle.lf.specs.Syntax.{constant, Term, root, nil, app, LfType, arrow, base, kind_pi, star}
+use Rattle.lf.specs.Syntax.{constant, Term, root, nil, app, arrow, base, kind_pi, star}
 use Rattle.lf.specs.Substitution.{Image, keep, put, substitute_type, reduce}
 use Rattle.lf.specs.AtOnce.{in_front}
-use Rattle.lf.specs.Typing.{TypeAt, ImageHasType, IsTypedSubstitution}
-use Rattle.lf.specs.Variables.{UsesType}
+use Rattle.lf.specs.Typing.{ImageHasType, IsTypedSubstitution}
+use Rattle.lf.specs.Variables.{UsesType, same_number}
 use Rattle.lf.specs.Subordination.{Member}
 use Rattle.lf_checks.specs.Clause.{from_entry}
+use Rattle.lf_checks.specs.Worlded.{IsTerm}
 use Rattle.lf_cases.specs.Cover.{AreTerms}
 use Rattle.lf_cases.specs.Split.{at_leaf, by_split, next_case, no_case}
 use Rattle.lf_totality.specs.Examples.{exp, var}
@@ -20,9 +21,8 @@ use Rattle.lf_coverage.specs.Heads.{ArgumentsAreBelow}
 use Rattle.lf_coverage.specs.Listed.{with_case, no_offer}
 use Rattle.lf_coverage.specs.NumberedCalls.{IsBesideByNumber}
 use Rattle.lf_coverage.specs.NumberedSplits.{IsAnsweredByNumber, NumberedOffer}
-use Rattle.lf_coverage.specs.OwnTerms.{ImageOnOwnTerms, TypeOnOwnTerms, own_terms}
+use Rattle.lf_coverage.specs.OwnTerms.{ImageOnOwnTerms, own_terms}
 use Rattle.lf_coverage.specs.TypedNumbered.{IsTypedNumberedCase}
-use Rattle.lf_coverage.proofs.EntryPatternsOne.{only_first}
 use Rattle.lf_coverage.proofs.Leaves.{head_is_typed}
 use Rattle.lf_coverage.proofs.NumberedCallsLaws.{answered_by_number_is_covered, answered_by_number_is_split_answer}
 use Rattle.lf_coverage.proofs.Parts.{none_some, some_same}
@@ -36,6 +36,8 @@ use Rattle.lf_coverage.specs.EntryTerms.{MatchesByNumber, own_values}
 use Rattle.lf_coverage.specs.ExamplesNumbered.{first_block, second_block}
 use Rattle.lf_coverage.specs.WorkedCallsWhole.{Whole, WholeRunIsAnswered, a_case, at_d_head, at_d_type, d_case, d_of, t_all, whole_heads, x_case, y_case, turning_clause, turning_head, a, at_a_head, at_a_type, turning_goal}
 use Rattle.lf_coverage.proofs.EntryTermsDecided.{numbered_head_is_decided}
+use Rattle.lf_coverage.proofs.UsedVariables.{at_one, types_of_one}
+use Rattle.lf_coverage.proofs.VariableTyped.{value_is_typed, variable_on_own}
 use Rattle.lf_coverage.proofs.WorkedCallsWholeFirst.{blocks, free, goal_each, goal_every, goal_listed, goal_lists, goal_offers, goal_typed, of_number, ok, worlds}
 use Rattle.lf_coverage.proofs.WorkedCallsWholeSecond.{constant_found, each, entry_found, entry_instance, entry_typed, every, offers, y_lists, y_typed}
 
@@ -44,8 +46,7 @@ abbrev on_a : ℕ → Image
 on_a = in_front (put (base 0) a) keep
 
 on_a_typed : IsTypedSubstitution (with_entries Whole 4 (first_block ∷ [])) (exp ∷ []) [] on_a
-on_a_typed zero A e = subst (λ B. ImageHasType (with_entries Whole 4 (first_block ∷ [])) [] (put (base 0) a) (substitute_type reduce on_a B)) (sym e) (refl, (exp, refl, refl))
-on_a_typed (suc i) A (B, g, e) = absurd g
+on_a_typed = value_is_typed (with_entries Whole 4 (first_block ∷ [])) exp [] on_a (refl, (exp, refl, refl))
 
 a_typed : IsTypedNumberedCase Whole 4 worlds a_case
 a_typed = record {
@@ -66,38 +67,25 @@ at_a_values = in_front (put (base 1) entry_on_a) keep
 
 a_instance : IsInstanceOfPattern Whole 4 a_case at_a_head
 a_instance = record {
-  used = only_first;
+  used = same_number 0;
   values = at_a_values;
-  typed = record { typed = typed; closed = closed };
-  on_own_terms = on_own;
+  typed = record {
+    typed = λ i A g u. types_of_one (λ i A. ImageHasType (with_entries Whole 4 (first_block ∷ [])) [] (at_a_values i) (substitute_type reduce at_a_values A)) (on_one 1 a) (refl, (_, refl, ((exp, refl, refl), refl))) i A g;
+    closed = λ i A g u. types_of_one (λ i A. UsesType (same_number 0) A) (on_one 1 a) (tt, tt) i A g;
+  };
+  on_own_terms = at_one 0 (λ i. ImageOnOwnTerms (own_terms 4 a_case.blocks) (at_a_values i)) ((nil, refl), ((tt, tt), tt));
   uses = (tt, ((refl, tt), tt));
   strict = (tt, ((refl, tt), tt));
-  terms = terms;
+  terms = λ i o u. at_one 0 (λ j. IsTerm (at_a_values j)) tt i u;
   given = λ j M u e. absurd (none_some e);
   stands = tt;
   same = (refl, (refl, tt));
 }
-  where
-    typed : (i : ℕ) (A : LfType) → TypeAt (on_one 1 a ∷ []) i A → only_first i ≡ true → ImageHasType (with_entries Whole 4 (first_block ∷ [])) [] (at_a_values i) (substitute_type reduce at_a_values A)
-    typed zero A e u = subst (λ B. ImageHasType (with_entries Whole 4 (first_block ∷ [])) [] (at_a_values zero) (substitute_type reduce at_a_values B)) (sym e) (refl, (_, refl, ((exp, refl, refl), refl)))
-    typed (suc i) A e u = absurd (no_truth u)
-
-    closed : (i : ℕ) (A : LfType) → TypeAt (on_one 1 a ∷ []) i A → only_first i ≡ true → UsesType only_first A
-    closed zero A e u = subst (UsesType only_first) (sym e) (tt, tt)
-    closed (suc i) A e u = absurd (no_truth u)
-
-    on_own : (i : ℕ) → only_first i ≡ true → ImageOnOwnTerms (own_terms 4 a_case.blocks) (at_a_values i)
-    on_own zero u = ((nil, refl), ((tt, tt), tt))
-    on_own (suc i) u = absurd (no_truth u)
-
-    terms : AreTerms at_a_head.clause only_first at_a_values
-    terms zero o u = tt
-    terms (suc i) o u = absurd (no_truth u)
 
 -- f M (d M)
 d_typed : IsTypedNumberedCase Whole 4 worlds d_case
 d_typed = record {
-  variables = record { variables = (tt, (star, refl, tt)); on_own_terms = own; blocks = tt };
+  variables = record { variables = (tt, (star, refl, tt)); on_own_terms = variable_on_own (own_terms 4 []) 0; blocks = tt };
   local = (tt, (star, refl, tt));
   local_on_own = tt;
   given = tt;
@@ -105,10 +93,6 @@ d_typed = record {
   arguments = ((base 0, (base 0, refl, refl)), ((base 1, (arrow (base 0) (base 1), refl, ((base 0, refl, refl), refl))), tt));
   arguments_on_own = (tt, ((tt, (tt, tt)), tt));
 }
-  where
-    own : (i : ℕ) (A : LfType) → TypeAt (exp ∷ []) i A → TypeOnOwnTerms (own_terms 4 []) A
-    own zero A e = subst (TypeOnOwnTerms (own_terms 4 [])) (sym e) tt
-    own (suc i) A (B, g, e) = absurd g
 
 d_terms : AreTerms at_d_head.clause (ground_in at_d_head (covered_places d_case.arguments) d_case.given) (own_values d_case at_d_head (λ i. keep i))
 d_terms zero o u = tt

@@ -1,13 +1,11 @@
 -- The first split of the worked run with candidates: by a constant and an entry.
-use Rattle.std.proofs.Common.{◌≡◌, ℕ, zero, suc, ◌+◌, ◌≤◌, List, [], ◌∷◌, length, inl, inr, refl, sym, ap, ◌∙◌, subst, arith}
-use Rattle.std.specs.Prelude.{◌⊎◌, Bool, Option, Some, None}
-use Rattle.lf.specs.Syntax.{constant, metavariable, Kind, Spine, Term, root, nil, app, LfType, base, kind_pi, pi, star, rename_type}
-use Rattle.lf.specs.AtOnce.{shift_by}
-use Rattle.lf.specs.Typing.{IsKind, IsSignature, IsType, Signature, TypeAt}
-use Rattle.lf.specs.Variables.{same_number, target}
+use Rattle.std.proofs.Common.{◌≡◌, ℕ, zero, suc, List, [], ◌∷◌, length, inl, inr, refl, sym, ap, subst, arith}
+use Rattle.std.specs.Prelude.{Bool, Option, Some, None}
+use Rattle.lf.specs.Syntax.{constant, metavariable, Kind, Term, root, nil, app, LfType, kind_pi, star}
+use Rattle.lf.specs.Typing.{IsKind, IsSignature, IsType, Signature}
+use Rattle.lf.specs.Variables.{same_number}
 use Rattle.lf.specs.Subordination.{AreTypedBlocks, Block, IsTypedBlock, Member}
 use Rattle.lf_unification.specs.Dependency.{IsDependencyOrder, IsListed, ListedMetavariable}
-use Rattle.lf_unification.specs.Inversion.{IsPattern}
 use Rattle.lf_unification.specs.OpenTyping.{MetavariablesInType, OpenHasType}
 use Rattle.lf_unification.specs.Outside.{Holds}
 use Rattle.lf_unification.specs.PartialInstance.{IsFilling}
@@ -19,7 +17,7 @@ use Rattle.lf_unification.proofs.Runs.{run_solved}
 use Rattle.lf_cases.specs.ClauseOrder.{StandsAt}
 use Rattle.lf_totality.specs.Examples.{exp, var}
 use Rattle.lf_totality.specs.ExamplesGroups.{on_one}
-use Rattle.lf_coverage.specs.EntryConstants.{IsFreeFrom, entry_constant, with_entries}
+use Rattle.lf_coverage.specs.EntryConstants.{IsFreeFrom, with_entries}
 use Rattle.lf_coverage.specs.ExamplesNumbered.{first_block, second_block, turning_kinds}
 use Rattle.lf_coverage.specs.Listed.{Listed, with_case, no_offer}
 use Rattle.lf_coverage.specs.NewBlock.{with_new_block}
@@ -28,16 +26,20 @@ use Rattle.lf_coverage.specs.NumberedCallsOrder.{HasNumberedRank, entry_rank, ne
 use Rattle.lf_coverage.specs.NumberedCase.{NumberedCase}
 use Rattle.lf_coverage.specs.NumberedSplits.{IsOfferTo, NumberedAnswer, NumberedOffer, NumberedUnifierFinds, of_case, of_new_block}
 use Rattle.lf_coverage.specs.OwnStores.{IsNumberedOffer, offer_entry, offer_signature}
-use Rattle.lf_coverage.specs.OwnTerms.{TypeOnOwnTerms, blocks_of, own_terms}
 use Rattle.lf_coverage.specs.SplitStore.{context_metavariables}
 use Rattle.lf_coverage.specs.TypedNumbered.{IsTypedNumberedCase}
 use Rattle.lf_coverage.proofs.EntrySignature.{with_entries_is_signature}
 use Rattle.lf_coverage.proofs.ExamplesUnified.{no_argument}
+use Rattle.lf_coverage.proofs.FreeFrom.{free_from}
+use Rattle.lf_coverage.proofs.NoArgument.{no_argument_of}
+use Rattle.lf_coverage.proofs.OffersListed.{ConstantsAreIn, NewEntriesAreIn, entry_member, heads_are_in, offer_with, other_target}
+use Rattle.lf_coverage.proofs.OtherNumbers.{not_among}
 use Rattle.lf_coverage.proofs.OwnStoresNewBlock.{new_block_stays_typed}
 use Rattle.lf_coverage.proofs.OwnStoresStart.{numbered_store_is_ready}
 use Rattle.lf_coverage.proofs.Parts.{none_some, some_same}
+use Rattle.lf_coverage.proofs.RanksListed.{entry_rank_in, signature_rank_in}
+use Rattle.lf_coverage.proofs.VariableTyped.{index_is_typed}
 use Rattle.lf_coverage.specs.WorkedCallsWhole.{Whole, d_case, t_all, whole_types, y_case, a, turning_goal}
-use Rattle.lf_coverage.proofs.WorkedCallsParts.{ConstantsAreIn, NewEntriesAreIn, entry_member, entry_rank_in, heads_are_in, new_heads_are_in, offer_with, signature_rank_in}
 
 abbrev pub worlds : List Block
 worlds = first_block ∷ second_block ∷ []
@@ -64,36 +66,10 @@ blocks B (inr (inl e)) = subst (IsTypedBlock Whole) (sym e) ((tt, (star, refl, t
 blocks B (inr (inr m)) = absurd m
 
 pub free : IsFreeFrom Whole 4
-free = record { types_free = types; kinds_free = kinds }
-  where
-    types : (c : ℕ) → 4 ≤ c → whole_types c ≡ None
-    types zero l = absurd (omega (arith, l))
-    types (suc zero) l = absurd (omega (arith, l))
-    types (suc (suc zero)) l = absurd (omega (arith, l))
-    types (suc (suc (suc zero))) l = absurd (omega (arith, l))
-    types (suc (suc (suc (suc c)))) l = refl
-
-    kinds : (f : ℕ) → 4 ≤ f → Whole.kinds f ≡ None
-    kinds zero l = absurd (omega (arith, l))
-    kinds (suc zero) l = absurd (omega (arith, l))
-    kinds (suc (suc zero)) l = absurd (omega (arith, l))
-    kinds (suc (suc (suc f))) l = refl
+free = free_from Whole 4 (λ c. refl) (λ a. refl)
 
 pub goal_typed : IsTypedNumberedCase Whole 4 worlds turning_goal
-goal_typed = record {
-  variables = record { variables = ((tt, (star, refl, tt)), (_, refl, ((exp, refl, refl), tt))); on_own_terms = own; blocks = tt };
-  local = ((tt, (star, refl, tt)), (_, refl, ((exp, refl, refl), tt)));
-  local_on_own = tt;
-  given = tt;
-  given_on_own = tt;
-  arguments = ((base 0, (base 0, refl, refl)), ((base 1, (base 1, refl, refl)), tt));
-  arguments_on_own = (tt, (tt, tt));
-}
-  where
-    own : (i : ℕ) (A : LfType) → TypeAt turning_goal.variables i A → TypeOnOwnTerms (own_terms 4 []) A
-    own zero A e = subst (TypeOnOwnTerms (own_terms 4 [])) (sym e) (tt, tt)
-    own (suc zero) A (B, g, e) = subst (TypeOnOwnTerms (own_terms 4 [])) (sym (e ∙ ap Rattle.lf.specs.Syntax.weaken g)) tt
-    own (suc (suc i)) A (B, (D, g, p), e) = absurd g
+goal_typed = index_is_typed Whole 4 worlds 0 1 2 refl refl
 
 -- Y : t N, before and behind the new variable n
 abbrev pub of_number : LfType
@@ -125,33 +101,14 @@ goal_each o (inl e) = subst (IsOfferTo Whole 4 worlds turning_goal 0 of_number) 
 goal_each o (inr (inl e)) = subst (IsOfferTo Whole 4 worlds turning_goal 0 of_number) (sym e) (of_new_block first_block 4 (app (var 0) nil) (on_one 1 (var 0)) (inl refl) refl y_offered)
 goal_each o (inr (inr m)) = absurd m
 
-other_target : {V E : LfType} (n : ℕ) → Some E ≡ Some V → target E ≡ n → target V ≡ 1 → (n ≡ 1 → ⊥) → ⊥
-other_target n e t u d = d (sym (subst (λ A. target A ≡ n) (some_same e) t) ∙ u)
-
-zero_not_one : zero ≡ suc zero → ⊥
-zero_not_one e = omega (arith, e)
-
-two_not_one : suc (suc zero) ≡ suc zero → ⊥
-two_not_one e = omega (arith, e)
-
 constants : ConstantsAreIn Whole 4 turning_goal 0 of_number goal_offers
-constants zero V e t = absurd (other_target 0 e refl t zero_not_one)
+constants zero V e t = absurd (other_target e t refl)
 constants (suc zero) V e t = subst (λ A. Member (offer_with turning_goal 0 of_number (constant 1) nil A) goal_offers) (some_same e) (inl refl)
-constants (suc (suc zero)) V e t = absurd (other_target 2 e refl t two_not_one)
-constants (suc (suc (suc zero))) V e t = absurd (other_target 2 e refl t two_not_one)
+constants (suc (suc zero)) V e t = absurd (other_target e t refl)
+constants (suc (suc (suc zero))) V e t = absurd (other_target e t refl)
 constants (suc (suc (suc (suc k)))) V e t = absurd (none_some e)
 
-abbrev IsNew : ℕ → Type 0
-IsNew c = (with_entries Whole 4 []).types c ≡ None
-
-not_declared : (k : ℕ) (V : LfType) → IsNew k → Whole.types k ≡ Some V → ⊥
-not_declared zero V n e = none_some (sym n)
-not_declared (suc zero) V n e = none_some (sym n)
-not_declared (suc (suc zero)) V n e = none_some (sym n)
-not_declared (suc (suc (suc zero))) V n e = none_some (sym n)
-not_declared (suc (suc (suc (suc k)))) V n e = none_some e
-
-first_entries : NewEntriesAreIn Whole 4 new_case 1 of_later goal_offers IsNew
+first_entries : NewEntriesAreIn Whole 4 turning_goal 0 of_number goal_offers first_block
 first_entries zero U V n o e t = absurd (none_some o)
 first_entries (suc zero) U V n o e t = absurd (none_some o)
 first_entries (suc (suc zero)) U V n o e t = absurd (none_some o)
@@ -159,23 +116,17 @@ first_entries (suc (suc (suc zero))) U V n o e t = absurd (none_some o)
 first_entries (suc (suc (suc (suc zero)))) U V n o e t = entry_member new_case 1 of_later goal_offers 4 _ U _ V o e (inr (inl refl))
 first_entries (suc (suc (suc (suc (suc c))))) U V n o e t = absurd (none_some o)
 
-second_entries : NewEntriesAreIn Whole 4 (with_new_block second_block turning_goal) 0 of_number goal_offers IsNew
+second_entries : NewEntriesAreIn Whole 4 turning_goal 0 of_number goal_offers second_block
 second_entries zero U V n o e t = absurd (none_some o)
 second_entries (suc zero) U V n o e t = absurd (none_some o)
 second_entries (suc (suc zero)) U V n o e t = absurd (none_some o)
 second_entries (suc (suc (suc zero))) U V n o e t = absurd (none_some o)
-second_entries (suc (suc (suc (suc zero)))) U V n o e t = absurd (other_target 0 e refl t zero_not_one)
-second_entries (suc (suc (suc (suc (suc zero))))) U V n o e t = absurd (other_target 2 e refl t two_not_one)
+second_entries (suc (suc (suc (suc zero)))) U V n o e t = absurd (other_target e t refl)
+second_entries (suc (suc (suc (suc (suc zero))))) U V n o e t = absurd (other_target e t refl)
 second_entries (suc (suc (suc (suc (suc (suc c)))))) U V n o e t = absurd (none_some o)
 
-abbrev OfferOf : Block → ℕ → Spine → LfType → Type 0
-OfferOf B c U A = IsNumberedOffer Whole 4 (with_new_block B turning_goal) (rename_type (shift_by (length B.some)) of_number) (constant c) U A → Member (offer_with (with_new_block B turning_goal) (0 + length B.some) (rename_type (shift_by (length B.some)) of_number) (constant c) U A) goal_offers
-
 pub goal_every : (o : NumberedOffer) → IsOfferTo Whole 4 worlds turning_goal 0 of_number o → Member o goal_offers
-goal_every o (of_case h U A f) = heads_are_in Whole 4 turning_goal 0 of_number goal_offers refl constants (λ c V B p e t. absurd (none_some p)) h U A f
-goal_every o (of_new_block B c U A (inl e) n f) = subst (λ (D : Block). OfferOf D c U A) (sym e) (new_heads_are_in Whole 4 new_case 1 of_later goal_offers IsNew not_declared first_entries (constant c) c U A refl n) f
-goal_every o (of_new_block B c U A (inr (inl e)) n f) = subst (λ (D : Block). OfferOf D c U A) (sym e) (new_heads_are_in Whole 4 (with_new_block second_block turning_goal) 0 of_number goal_offers IsNew not_declared second_entries (constant c) c U A refl n) f
-goal_every o (of_new_block B c U A (inr (inr m)) n f) = absurd m
+goal_every = heads_are_in Whole 4 turning_goal 0 of_number goal_offers worlds refl constants (λ c V B p e t. absurd (none_some p)) (first_entries, (second_entries, tt))
 
 other_label : first_block ≡ second_block → ⊥
 other_label e = (let p : suc zero ≡ suc (suc zero) = ap (λ (B : Block). length B.entries) e in omega (arith, p))
@@ -189,8 +140,8 @@ abbrev ranks : List (List ℕ)
 ranks = (0 ∷ 1 ∷ []) ∷ (1 ∷ 0 ∷ 0 ∷ 0 ∷ []) ∷ []
 
 every_rank : (o : NumberedOffer) (r : List ℕ) → Member o goal_offers → HasNumberedRank 4 worlds turning_goal o r → Member r ranks
-every_rank o r (inl e) h = signature_rank_in 4 worlds turning_goal o 1 (ap (λ (p : NumberedOffer). p.head) e) (ap (λ (p : NumberedOffer). entry_constant 0 4 (blocks_of p.case.blocks) 1) e) ranks (inl refl) r h
-every_rank o r (inr (inl e)) h = entry_rank_in 4 worlds turning_goal o 4 _ (ap (λ (p : NumberedOffer). p.head) e) (ap (λ (p : NumberedOffer). entry_constant 0 4 (blocks_of p.case.blocks) 4) e) ranks (λ w s. subst (λ v. Member (1 ∷ v ∷ 0 ∷ 0 ∷ []) ranks) (sym (stands_first w s)) (inr (inl refl))) r h
+every_rank o r (inl e) h = signature_rank_in 4 worlds turning_goal o 1 e refl refl ranks (inl refl) r h
+every_rank o r (inr (inl e)) h = entry_rank_in 4 worlds turning_goal o 4 _ e refl refl ranks (λ w s. subst (λ v. Member (1 ∷ v ∷ 0 ∷ 0 ∷ []) ranks) (sym (stands_first w s)) (inr (inl refl))) r h
 every_rank o r (inr (inr m)) h = absurd m
 
 -- Y = c n and N = n are solved, for the constant c of d or of b.y.
@@ -215,13 +166,10 @@ solved_store c = record { metavariables = types; bindings = record { of = 2; val
 abbrev solved_order : ℕ → List ListedMetavariable
 solved_order c = record { of = 1; of_type = y_type; value = Some (on_n c) } ∷ record { of = 2; of_type = exp; value = Some n } ∷ record { of = 0; of_type = exp; value = None } ∷ []
 
-no_argument_one : IsPattern [] (base 1) []
-no_argument_one = record { places = λ Γ. tt; distinct = λ i j e. e }
-
 module _ (Σ : Signature) (signed : IsSignature Σ) (kind : Σ.kinds 0 ≡ Some star) (c : ℕ) (ready : IsWellFormed Σ (start c)) where
   run : Run Σ (start c) (solved_store c)
   run =
-      then_run (bind {A = y_type} on_left [] 1 [] (on_n c) y_type refl tt no_argument_one (record { inverted = record { inversion = on_n c; is = refl }; reached = same_number 0; avoids = (closed, tt, λ v. v); within = ((tt, tt), tt) }))
+      then_run (bind {A = y_type} on_left [] 1 [] (on_n c) y_type refl tt (no_argument_of 1) (record { inverted = record { inversion = on_n c; is = refl }; reached = same_number 0; avoids = (closed, tt, λ v. v); within = ((tt, tt), tt) }))
       (then_run (bind {A = exp} on_left [] 2 [] n exp refl unbound no_argument (record { inverted = record { inversion = n; is = refl }; reached = same_number 0; avoids = (closed, ((λ v. absurd v), tt), λ v. v); within = (tt, tt) })) no_step)
     where
       closed : (k : ℕ) (A : LfType) → Holds (same_number 0 k) → types k ≡ Some A → MetavariablesInType (λ j. Holds (same_number 0 j)) A
@@ -236,24 +184,15 @@ module _ (Σ : Signature) (signed : IsSignature Σ) (kind : Σ.kinds 0 ≡ Some 
 
   is_order : IsDependencyOrder Σ types (IsFilling Σ [] (solved_store c)) (solved_order c)
   is_order = (
-    ((tt, refl, (λ h. h), tt, (star, kind, tt), (λ ρ. refl), tt), refl, not_zero, tt, (star, kind, tt), (λ ρ. refl), ((inl refl, tt), (exp, (exp, refl, refl), (refl, λ β u. refl)), λ ρ. refl)),
+    ((tt, refl, (λ h. h), tt, (star, kind, tt), (λ ρ. refl), tt), refl, not_among refl (λ b. b), tt, (star, kind, tt), (λ ρ. refl), ((inl refl, tt), (exp, (exp, refl, refl), (refl, λ β u. refl)), λ ρ. refl)),
     refl,
-    not_listed,
+    not_among refl (not_among refl (λ b. b)),
     ((inl refl, tt), tt),
     by_run.well_formed.typed.declarations_typed.metavariables_typed 1 y_type refl,
     (λ ρ. refl),
     (((inr (inl refl), tt), tt), value_typed, λ ρ. refl),
   )
     where
-      not_zero : (suc (suc zero) ≡ zero) ⊎ ⊥ → ⊥
-      not_zero (inl e) = omega (arith, e)
-      not_zero (inr b) = b
-
-      not_listed : (suc zero ≡ suc (suc zero)) ⊎ ((suc zero ≡ zero) ⊎ ⊥) → ⊥
-      not_listed (inl e) = omega (arith, e)
-      not_listed (inr (inl e)) = omega (arith, e)
-      not_listed (inr (inr b)) = b
-
       value_typed : OpenHasType Σ [] types (IsFilling Σ [] (solved_store c)) [] (on_n c) y_type
       value_typed = let (A, e, h) = by_run.well_formed.typed.bindings_typed.1.0 in subst (OpenHasType Σ [] types (IsFilling Σ [] (solved_store c)) [] (on_n c)) (sym (some_same e)) h
 

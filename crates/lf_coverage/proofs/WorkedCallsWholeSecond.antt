@@ -1,11 +1,10 @@
 -- The second split of the worked run with candidates: by a constant, and by the entry of a newer block variable.
-use Rattle.std.proofs.Common.{◌≡◌, ℕ, zero, suc, ◌+◌, List, [], ◌∷◌, length, inl, inr, refl, sym, ap, subst, arith}
-use Rattle.std.specs.Prelude.{Bool, true, Some, None}
-use Rattle.lf.specs.Syntax.{constant, Spine, root, nil, app, LfType, arrow, base, kind_pi, star, rename_type}
-use Rattle.lf.specs.AtOnce.{in_front, shift_by}
-use Rattle.lf.specs.Substitution.{Image, keep, put, substitute_type, reduce}
-use Rattle.lf.specs.Typing.{TypeAt, ImageHasType, IsTypedSubstitution}
-use Rattle.lf.specs.Variables.{target}
+use Rattle.std.proofs.Common.{◌≡◌, ℕ, zero, suc, List, [], ◌∷◌, length, inl, inr, refl, sym, ap, subst, arith}
+use Rattle.std.specs.Prelude.{Bool, true, Some}
+use Rattle.lf.specs.Syntax.{constant, Spine, root, nil, app, arrow, base, kind_pi, star}
+use Rattle.lf.specs.AtOnce.{in_front}
+use Rattle.lf.specs.Substitution.{Image, keep, put}
+use Rattle.lf.specs.Typing.{IsTypedSubstitution}
 use Rattle.lf.specs.Subordination.{Block, Member}
 use Rattle.lf_checks.specs.Clause.{from_entry}
 use Rattle.lf_checks.specs.Marks.{TypedPlaces}
@@ -15,7 +14,7 @@ use Rattle.lf_cases.specs.Cover.{before, AreTerms}
 use Rattle.lf_cases.specs.Pattern.{ground_in}
 use Rattle.lf_totality.specs.Examples.{exp, var}
 use Rattle.lf_totality.specs.ExamplesGroups.{on_one}
-use Rattle.lf_coverage.specs.EntryConstants.{entry_constant, with_entries}
+use Rattle.lf_coverage.specs.EntryConstants.{with_entries}
 use Rattle.lf_coverage.specs.EntryPatterns.{IsInstanceOfPattern, variable_images}
 use Rattle.lf_coverage.specs.EntryTerms.{MatchesByNumber, own_values}
 use Rattle.lf_coverage.specs.Listed.{with_case, no_offer}
@@ -24,13 +23,15 @@ use Rattle.lf_coverage.specs.NumberedCallsOrder.{AreInNumberedOrder, HasNumbered
 use Rattle.lf_coverage.specs.NumberedCase.{NumberedCase}
 use Rattle.lf_coverage.specs.NumberedSplits.{IsOfferTo, NumberedOffer, NumberedUnifierFinds, of_case, of_new_block}
 use Rattle.lf_coverage.specs.OwnStores.{IsNumberedOffer, offer_entry, offer_signature}
-use Rattle.lf_coverage.specs.OwnTerms.{blocks_of, own_terms, TypeOnOwnTerms}
+use Rattle.lf_coverage.specs.OwnTerms.{own_terms}
 use Rattle.lf_coverage.specs.TypedNumbered.{IsTypedNumberedCase}
+use Rattle.lf_coverage.proofs.ClosedFound.{closed_found}
 use Rattle.lf_coverage.proofs.EntryTermsDecided.{numbered_head_is_decided}
+use Rattle.lf_coverage.proofs.OffersListed.{ConstantsAreIn, EntriesAreIn, NewEntriesAreIn, entry_member, heads_are_in, offer_with, other_target}
 use Rattle.lf_coverage.proofs.OwnStoresNewBlock.{new_block_stays_typed}
 use Rattle.lf_coverage.proofs.Parts.{none_some, some_same}
-use Rattle.lf_coverage.proofs.WorkedCallsClosed.{closed_found}
-use Rattle.lf_coverage.proofs.WorkedCallsParts.{ConstantsAreIn, EntriesAreIn, NewEntriesAreIn, entry_member, entry_rank_in, heads_are_in, new_heads_are_in, offer_with, signature_rank_in}
+use Rattle.lf_coverage.proofs.RanksListed.{entry_rank_in, signature_rank_in}
+use Rattle.lf_coverage.proofs.VariableTyped.{value_is_typed, variable_on_own}
 use Rattle.lf_coverage.specs.ExamplesNumbered.{first_block, second_block}
 use Rattle.lf_coverage.specs.NumberedCalls.{ListsCases}
 use Rattle.lf_coverage.specs.WorkedCallsWhole.{Whole, a_case, x_case, y_case, turning_clause, turning_head}
@@ -41,12 +42,11 @@ abbrev on_number : ℕ → Image
 on_number = in_front (put (base 0) (var 0)) keep
 
 on_number_typed : IsTypedSubstitution (with_entries Whole 4 (first_block ∷ [])) (exp ∷ []) (exp ∷ []) on_number
-on_number_typed zero A e = subst (λ B. ImageHasType (with_entries Whole 4 (first_block ∷ [])) (exp ∷ []) (put (base 0) (var 0)) (substitute_type reduce on_number B)) (sym e) (refl, (exp, refl, refl))
-on_number_typed (suc i) A (B, g, e) = absurd g
+on_number_typed = value_is_typed (with_entries Whole 4 (first_block ∷ [])) exp (exp ∷ []) on_number (refl, (exp, refl, refl))
 
 pub y_typed : IsTypedNumberedCase Whole 4 worlds y_case
 y_typed = record {
-  variables = record { variables = (tt, (star, refl, tt)); on_own_terms = own; blocks = (inl refl, (on_number, on_number_typed, refl), (tt, tt), tt) };
+  variables = record { variables = (tt, (star, refl, tt)); on_own_terms = variable_on_own (own_terms 4 y_case.blocks) 0; blocks = (inl refl, (on_number, on_number_typed, refl), (tt, tt), tt) };
   local = (tt, (star, refl, tt));
   local_on_own = tt;
   given = tt;
@@ -54,10 +54,6 @@ y_typed = record {
   arguments = ((base 0, (base 0, refl, refl)), ((base 1, (arrow (base 0) (base 1), refl, ((base 0, refl, refl), refl))), tt));
   arguments_on_own = ((tt, (((nil, refl), (tt, tt)), tt)));
 }
-  where
-    own : (i : ℕ) (A : LfType) → TypeAt y_case.variables i A → TypeOnOwnTerms (own_terms 4 y_case.blocks) A
-    own zero A e = subst (TypeOnOwnTerms (own_terms 4 y_case.blocks)) (sym e) tt
-    own (suc i) A (B, g, e) = absurd g
 
 -- Two heads: the constant a, and c.x for a new block variable.
 abbrev new_case : NumberedCase
@@ -83,14 +79,11 @@ each o (inl e) = subst (IsOfferTo Whole 4 worlds y_case 0 exp) (sym e) (of_case 
 each o (inr (inl e)) = subst (IsOfferTo Whole 4 worlds y_case 0 exp) (sym e) (of_new_block second_block 5 nil exp (inr (inl refl)) refl entry_offered)
 each o (inr (inr m)) = absurd m
 
-pub other_target : {V E : LfType} (n : ℕ) → Some E ≡ Some V → target E ≡ suc n → target V ≡ 0 → ⊥
-other_target n e t u = omega (subst (λ A. target A ≡ suc n) (some_same e) t, u, arith)
-
 constants : ConstantsAreIn Whole 4 y_case 0 exp offers
 constants zero V e t = subst (λ A. Member (offer_with y_case 0 exp (constant 0) nil A) offers) (some_same e) (inl refl)
-constants (suc zero) V e t = absurd (other_target 0 e refl t)
-constants (suc (suc zero)) V e t = absurd (other_target 1 e refl t)
-constants (suc (suc (suc zero))) V e t = absurd (other_target 1 e refl t)
+constants (suc zero) V e t = absurd (other_target e t refl)
+constants (suc (suc zero)) V e t = absurd (other_target e t refl)
+constants (suc (suc (suc zero))) V e t = absurd (other_target e t refl)
 constants (suc (suc (suc (suc k)))) V e t = absurd (none_some e)
 
 old_entries : EntriesAreIn Whole 4 y_case 0 exp offers
@@ -98,47 +91,31 @@ old_entries zero U V o e t = absurd (none_some o)
 old_entries (suc zero) U V o e t = absurd (none_some o)
 old_entries (suc (suc zero)) U V o e t = absurd (none_some o)
 old_entries (suc (suc (suc zero))) U V o e t = absurd (none_some o)
-old_entries (suc (suc (suc (suc zero)))) U V o e t = absurd (other_target 0 e refl t)
+old_entries (suc (suc (suc (suc zero)))) U V o e t = absurd (other_target e t refl)
 old_entries (suc (suc (suc (suc (suc c))))) U V o e t = absurd (none_some o)
 
-abbrev IsNew : ℕ → Type 0
-IsNew c = (with_entries Whole 4 (first_block ∷ [])).types c ≡ None
-
-not_declared : (k : ℕ) (V : LfType) → IsNew k → Whole.types k ≡ Some V → ⊥
-not_declared zero V n e = none_some (sym n)
-not_declared (suc zero) V n e = none_some (sym n)
-not_declared (suc (suc zero)) V n e = none_some (sym n)
-not_declared (suc (suc (suc zero))) V n e = none_some (sym n)
-not_declared (suc (suc (suc (suc k)))) V n e = none_some e
-
 -- the entry y of a new block variable of the first block has another family
-first_entries : NewEntriesAreIn Whole 4 (with_new_block first_block y_case) 1 exp offers IsNew
+first_entries : NewEntriesAreIn Whole 4 y_case 0 exp offers first_block
 first_entries zero U V n o e t = absurd (none_some o)
 first_entries (suc zero) U V n o e t = absurd (none_some o)
 first_entries (suc (suc zero)) U V n o e t = absurd (none_some o)
 first_entries (suc (suc (suc zero))) U V n o e t = absurd (none_some o)
-first_entries (suc (suc (suc (suc zero)))) U V n o e t = absurd (other_target 0 e refl t)
-first_entries (suc (suc (suc (suc (suc zero))))) U V n o e t = absurd (other_target 0 e refl t)
+first_entries (suc (suc (suc (suc zero)))) U V n o e t = absurd (other_target e t refl)
+first_entries (suc (suc (suc (suc (suc zero))))) U V n o e t = absurd (other_target e t refl)
 first_entries (suc (suc (suc (suc (suc (suc c)))))) U V n o e t = absurd (none_some o)
 
-second_entries : NewEntriesAreIn Whole 4 new_case 0 exp offers IsNew
+second_entries : NewEntriesAreIn Whole 4 y_case 0 exp offers second_block
 second_entries zero U V n o e t = absurd (none_some o)
 second_entries (suc zero) U V n o e t = absurd (none_some o)
 second_entries (suc (suc zero)) U V n o e t = absurd (none_some o)
 second_entries (suc (suc (suc zero))) U V n o e t = absurd (none_some o)
-second_entries (suc (suc (suc (suc zero)))) U V n o e t = absurd (other_target 0 e refl t)
+second_entries (suc (suc (suc (suc zero)))) U V n o e t = absurd (other_target e t refl)
 second_entries (suc (suc (suc (suc (suc zero))))) U V n o e t = entry_member new_case 0 exp offers 5 _ U _ V o e (inr (inl refl))
-second_entries (suc (suc (suc (suc (suc (suc zero)))))) U V n o e t = absurd (other_target 1 e refl t)
+second_entries (suc (suc (suc (suc (suc (suc zero)))))) U V n o e t = absurd (other_target e t refl)
 second_entries (suc (suc (suc (suc (suc (suc (suc c))))))) U V n o e t = absurd (none_some o)
 
-abbrev OfferOf : Block → ℕ → Spine → LfType → Type 0
-OfferOf B c U A = IsNumberedOffer Whole 4 (with_new_block B y_case) (rename_type (shift_by (length B.some)) exp) (constant c) U A → Member (offer_with (with_new_block B y_case) (0 + length B.some) (rename_type (shift_by (length B.some)) exp) (constant c) U A) offers
-
 pub every : (o : NumberedOffer) → IsOfferTo Whole 4 worlds y_case 0 exp o → Member o offers
-every o (of_case h U A f) = heads_are_in Whole 4 y_case 0 exp offers refl constants old_entries h U A f
-every o (of_new_block B c U A (inl e) n f) = subst (λ (D : Block). OfferOf D c U A) (sym e) (new_heads_are_in Whole 4 (with_new_block first_block y_case) 1 exp offers IsNew not_declared first_entries (constant c) c U A refl n) f
-every o (of_new_block B c U A (inr (inl e)) n f) = subst (λ (D : Block). OfferOf D c U A) (sym e) (new_heads_are_in Whole 4 new_case 0 exp offers IsNew not_declared second_entries (constant c) c U A refl n) f
-every o (of_new_block B c U A (inr (inr m)) n f) = absurd m
+every = heads_are_in Whole 4 y_case 0 exp offers worlds refl constants old_entries (first_entries, (second_entries, tt))
 
 abbrev ranks : List (List ℕ)
 ranks = (0 ∷ 0 ∷ []) ∷ (1 ∷ 1 ∷ 0 ∷ 0 ∷ []) ∷ []
@@ -155,8 +132,8 @@ stands_second (suc zero) s = refl
 stands_second (suc (suc w)) s = absurd s
 
 every_rank : (o : NumberedOffer) (r : List ℕ) → Member o offers → HasNumberedRank 4 worlds y_case o r → Member r ranks
-every_rank o r (inl e) h = signature_rank_in 4 worlds y_case o 0 (ap (λ (p : NumberedOffer). p.head) e) (ap (λ (p : NumberedOffer). entry_constant 0 4 (blocks_of p.case.blocks) 0) e) ranks (inl refl) r h
-every_rank o r (inr (inl e)) h = entry_rank_in 4 worlds y_case o 5 _ (ap (λ (p : NumberedOffer). p.head) e) (ap (λ (p : NumberedOffer). entry_constant 0 4 (blocks_of p.case.blocks) 5) e) ranks (λ w s. subst (λ v. Member (1 ∷ v ∷ 0 ∷ 0 ∷ []) ranks) (sym (stands_second w s)) (inr (inl refl))) r h
+every_rank o r (inl e) h = signature_rank_in 4 worlds y_case o 0 e refl refl ranks (inl refl) r h
+every_rank o r (inr (inl e)) h = entry_rank_in 4 worlds y_case o 5 _ e refl refl ranks (λ w s. subst (λ v. Member (1 ∷ v ∷ 0 ∷ 0 ∷ []) ranks) (sym (stands_second w s)) (inr (inl refl))) r h
 every_rank o r (inr (inr m)) h = absurd m
 
 pub constant_found : (below : ℕ → ℕ → Bool) → NumberedUnifierFinds Whole 4 below constant_offer star (Some a_case)
@@ -170,8 +147,7 @@ abbrev on_entry : ℕ → Image
 on_entry = in_front (put (base 0) (root (constant 5) nil)) keep
 
 on_entry_typed : IsTypedSubstitution (with_entries Whole 4 worlds) (exp ∷ []) [] on_entry
-on_entry_typed zero A e = subst (λ B. ImageHasType (with_entries Whole 4 worlds) [] (put (base 0) (root (constant 5) nil)) (substitute_type reduce on_entry B)) (sym e) (refl, (exp, refl, refl))
-on_entry_typed (suc i) A (B, g, e) = absurd g
+on_entry_typed = value_is_typed (with_entries Whole 4 worlds) exp [] on_entry (refl, (exp, refl, refl))
 
 pub entry_typed : IsTypedNumberedCase Whole 4 worlds x_case
 entry_typed = record {

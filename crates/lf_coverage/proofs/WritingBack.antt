@@ -29,7 +29,7 @@ use Rattle.lf_coverage.proofs.Offered.{length_kept as count_put}
 use Rattle.lf_coverage.proofs.Parts.{none_some}
 use Rattle.lf_coverage.proofs.Reading.{IsOld, FollowsRead, none_read_type, read_image, read_substituted, read_type_substituted, type_only, typed_only}
 use Rattle.lf_coverage.proofs.WritingInstance.{entry_free}
-use Rattle.lf_coverage.proofs.WritingRead.{writing_fits}
+use Rattle.lf_coverage.proofs.WritingRead.{writing_fits, itself}
 
 -- Variables back
 pub back_near : (n : ℕ) (back : ℕ → ℕ) (i : ℕ) → i < n → back_over n back i ≡ back i
@@ -92,7 +92,7 @@ module _ (Σ Σ' : Signature) {W : List Rattle.lf.specs.Subordination.Block} {S 
       at (put a N) u e t = absurd cc
 
       skeleton_is : (a : Skeleton) (M : Term) → ρ i ≡ put a M → a ≡ skeleton A
-      skeleton_is a M e = (subst (λ y. ImageSkeleton (constant_skeletons (with_entries Σ' first (blocks_of C.blocks))) (context_skeletons F) y (skeleton A)) e (writing_fits Σ Σ' w first C θ σ r F ρ back h i (skeleton A) (variable_has_skeleton G i A g))).0
+      skeleton_is a M e = (subst (λ y. ImageSkeleton (constant_skeletons (with_entries Σ' first (blocks_of C.blocks))) (context_skeletons F) y (skeleton A)) e (writing_fits Σ Σ' w first C θ σ r F ρ (itself h) i (skeleton A) (variable_has_skeleton G i A g))).0
 
       by : IsEntryVariable first (blocks_of C.blocks) θ i ⊎ ((u : ℕ) × (ρ i ≡ keep u) × (back u ≡ i)) → (rename_image β (read_image fF (ρ i)) ≡ keep i) ⊎ ((a : Skeleton) × (rename_image β (read_image fF (ρ i)) ≡ put a (eta_long a (variable i))) × (a ≡ skeleton A))
       by (inl v) =

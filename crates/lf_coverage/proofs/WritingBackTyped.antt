@@ -29,6 +29,7 @@ use Rattle.lf_coverage.specs.Reading.{read_type, read_entry, variable_past, entr
 use Rattle.lf_coverage.specs.Writing.{IsWriting, back_over, read_back, read_type_back}
 use Rattle.lf_coverage.specs.WritingLaws.{IsInstanceWithRoom, WrittenReadsBack}
 use Rattle.lf_coverage.proofs.BeforeEntry.{before_next, before_first, before_some, behind_before, behind_after, before_typed}
+use Rattle.lf_coverage.proofs.EntryPatternsTyped.{typed_at}
 use Rattle.lf_coverage.proofs.EntryPlaces.{whole, entry_is, entry_type_at}
 use Rattle.lf_coverage.proofs.EntrySignature.{grown_contexts, grown_image}
 use Rattle.lf_coverage.proofs.EntryValues.{count_some, put_some}
@@ -40,8 +41,9 @@ use Rattle.lf_coverage.proofs.Transfer.{onto_skeleton}
 use Rattle.lf_coverage.proofs.WritingBack.{back_near, back_far, within, old_none, type_back}
 use Rattle.lf_coverage.proofs.WritingChoice.{from_is, has_constants}
 use Rattle.lf_coverage.proofs.WritingInstance.{written_signature, own_types, blocks_more, entry_has_type}
-use Rattle.lf_coverage.proofs.WritingOwn.{entry_instance, entry_own, type_own, writing_typed}
-use Rattle.lf_coverage.proofs.WritingRead.{writing_fits}
+use Rattle.lf_coverage.proofs.WritingOwn.{entry_instance, entry_own, type_own}
+use Rattle.lf_coverage.proofs.WritingRead.{writing_fits, itself}
+use Rattle.lf_coverage.proofs.WritingReadTyped.{writing_typed}
 use Rattle.lf_coverage.proofs.WritingTyped.{HaveTypes, typed_after, entry_spine_typed}
 use Rattle.lf_coverage.proofs.WritingValues.{AreWritten, terms_behind}
 use mathlib.Core.Path.{fun_ext}
@@ -140,7 +142,7 @@ module _ (Σ Σ' : Signature) {W : List Block} {S : ℕ → Bool} {G : List LfTy
     block_context : IsContext Σ' (onto e.block.entries e.block.some)
     block_context =
         let (j, b, p, num, blk, frm, cn, l, en, pl) = from_is zero first C.blocks c e q in
-        let (m, a, o) = Rattle.lf_coverage.proofs.WritingRead.typed_block (with_entries Σ first (blocks_of C.blocks)) W C.variables (own_terms first C.blocks) C.blocks r.variables.blocks j b p in
+        let (m, a, o) = typed_at (with_entries Σ first (blocks_of C.blocks)) W C.variables (own_terms first C.blocks) C.blocks r.variables.blocks j b p in
         subst (λ (D : Block). IsContext Σ' (onto D.entries D.some)) (sym blk) (blocks_more Σ Σ' w first C θ σ r b.block m)
 
     others_are : (l : List LfType) (E : LfType) (ds : List LfType) → onto l (E ∷ ds) ≡ e.block.entries → entry_constant zero first (blocks_of C.blocks) (e.from + length ds) ≡ Some (record { number = e.number; block = e.block; from = e.from; place = place_of l; entry = E; before = ds })
@@ -177,7 +179,7 @@ module _ (Σ Σ' : Signature) {W : List Block} {S : ℕ → Bool} {G : List LfTy
     terms_same : terms_behind e.block.some e.before ψ ≡ U
     terms_same =
         ap (some_spine e.block.some) (fun_ext (behind_after e.before ρ (before later (θ e.number))) ∙ ap (after ρ) (sym (behind_before later e.entry e.before (θ e.number)) ∙ ap (λ es. behind_entries es (θ e.number)) at.2))
-        ∙ sym (put_some (constant_skeletons Σe) e.block.some (context_skeletons G) (context_skeletons F) (behind_entries e.block.entries (θ e.number)) ρ (typed_substitution_by_skeletons Σe ok e.block.some G (behind_entries e.block.entries (θ e.number)) (Rattle.lf_coverage.proofs.WritingTyped.behind_typed Σe ok e.block.entries e.block.some G (θ e.number) whole_typed)) (writing_fits Σ Σ' w first C θ σ r F ρ back h))
+        ∙ sym (put_some (constant_skeletons Σe) e.block.some (context_skeletons G) (context_skeletons F) (behind_entries e.block.entries (θ e.number)) ρ (typed_substitution_by_skeletons Σe ok e.block.some G (behind_entries e.block.entries (θ e.number)) (Rattle.lf_coverage.proofs.WritingTyped.behind_typed Σe ok e.block.entries e.block.some G (θ e.number) whole_typed)) (writing_fits Σ Σ' w first C θ σ r F ρ (itself h)))
       where
         whole_typed : IsTypedSubstitution Σe (onto e.block.entries e.block.some) G (θ e.number)
         whole_typed i A g = grown_image Σ' Σe more (λ a K z. z) G (θ e.number i) (substitute_type reduce (θ e.number) A) ((instance_typed Σ' r.extends.ok w e.block (θ e.number) at.0).typed.typed i A g refl)
@@ -198,7 +200,7 @@ module _ (Σ Σ' : Signature) {W : List Block} {S : ℕ → Bool} {G : List LfTy
     both_typed = typed_after Σe ok (onto e.before e.block.some) G F (before later (θ e.number)) ρ entry_context.0 context_more h.context before_here h.typed
 
     type_same : substitute_type reduce ψ e.entry ≡ substitute_type reduce ρ A0
-    type_same = sym (substitutions_compose_type (family_skeletons Σe) (constant_skeletons Σe) (context_skeletons (onto e.before e.block.some)) (context_skeletons G) (context_skeletons F) (before later (θ e.number)) ρ e.entry (typed_substitution_by_skeletons Σe ok (onto e.before e.block.some) G (before later (θ e.number)) before_here) (writing_fits Σ Σ' w first C θ σ r F ρ back h) (type_by_skeletons Σe (onto e.before e.block.some) e.entry entry_context.1))
+    type_same = sym (substitutions_compose_type (family_skeletons Σe) (constant_skeletons Σe) (context_skeletons (onto e.before e.block.some)) (context_skeletons G) (context_skeletons F) (before later (θ e.number)) ρ e.entry (typed_substitution_by_skeletons Σe ok (onto e.before e.block.some) G (before later (θ e.number)) before_here) (writing_fits Σ Σ' w first C θ σ r F ρ (itself h)) (type_by_skeletons Σe (onto e.before e.block.some) e.entry entry_context.1))
 
     spine_here : SpineType Σe F U P (substitute_type reduce ρ A0)
     spine_here = subst (λ V. SpineType Σe F V P (substitute_type reduce ρ A0)) terms_same (subst (SpineType Σe F (terms_behind e.block.some e.before ψ) P) type_same (entry_spine_typed Σe ok e.from e.block.some e.before e.entry F ψ entry_context h.context have_before both_typed are_written))
@@ -212,7 +214,7 @@ module _ (Σ Σ' : Signature) {W : List Block} {S : ℕ → Bool} {G : List LfTy
       is_read = reading;
       of_type = substitute_type reduce ρ A0;
       typed = spine_here;
-      is_type = substitution_keeps_types Σe ok G F ρ A0 (writing_typed Σ Σ' w first C θ σ r F ρ back h) (declared_is_type Σe ok G v A0 context_more has_type);
+      is_type = substitution_keeps_types Σe ok G F ρ A0 (writing_typed Σ Σ' w first C θ σ r F ρ (itself h)) (declared_is_type Σe ok G v A0 context_more has_type);
       of_own_type = type_own Σ Σ' w first C θ σ r F ρ back h A0 (is_type v A0 has_type);
       in_scope = subst (SkeletonAt Θ (v + length F)) (sym (skeleton_substituted reduce ρ A0)) skeleton_here;
       stands = stands_at (v + length F) v A0 (back_far (length F) back v) has_type;

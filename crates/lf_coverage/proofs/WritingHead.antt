@@ -41,7 +41,7 @@ use Rattle.lf_coverage.proofs.NumberedCandidatesTypes.{local_types_taken, takes_
 use Rattle.lf_coverage.proofs.PatternDistinct.{length_context as skeletons_length}
 use Rattle.lf_coverage.proofs.MoreConstants.{spine_more}
 use Rattle.lf_coverage.proofs.WritingOwn.{values_are_typed}
-use Rattle.lf_coverage.proofs.WritingRead.{writing_fits}
+use Rattle.lf_coverage.proofs.WritingRead.{writing_fits, itself}
 use Rattle.lf_coverage.proofs.WritingRoots.{alone, ground_of, over_fits, root_of}
 
 module _ (Σ Σ' : Signature) {W : List Block} {S : ℕ → Bool} {G : List LfType} (w : World Σ' W S G) (first : ℕ) (C : NumberedCase) (θ : ℕ → ℕ → Image) (σ : ℕ → Image) (r : IsInstanceWithRoom Σ w first C θ σ) (F : List LfType) (ρ : ℕ → Image) (back : ℕ → ℕ) (hw : IsWriting Σ' first (blocks_of C.blocks) θ G F ρ back) (sc : SelfContained Σ W S) (below : ℕ → ℕ → Bool) (s : IsSubordination Σ W below) (x : ℕ) (X : LfType) (at : TypeAt C.variables x X) (fams : TakesIn S X) (args : ArgumentsAreBelow below X) (h0 : Head) (T : Spine) (e : σ x ≡ put (skeleton X) (lambdas (length (taken X)) (root h0 T))) where
@@ -112,7 +112,7 @@ module _ (Σ Σ' : Signature) {W : List Block} {S : ℕ → Bool} {G : List LfTy
     put_low b = low_put below (taken X) ρ (skeleton Z) T (low_arguments b)
 
     pub put_skeleton : SpineSkeleton (constant_skeletons Σe) (context_skeletons (onto E F)) (substitute_spine reduce (lift_over (taken X) ρ) T) (skeleton Z) (skeleton (atom (target Y0) (target_arguments Y0)))
-    put_skeleton = subst (λ f. SpineSkeleton (constant_skeletons Σe) (context_skeletons (onto E F)) (substitute_spine reduce f T) (skeleton Z) (skeleton (atom (target Y0) (target_arguments Y0)))) (lift_same E (taken X) ρ locals_length) (substitution_keeps_spine_skeletons (constant_skeletons Σe) (context_skeletons (onto E G)) (context_skeletons (onto E F)) (lift_over E ρ) T (skeleton Z) (skeleton (atom (target Y0) (target_arguments Y0))) (over_fits (constant_skeletons Σe) E G F ρ (writing_fits Σ Σ' w first C θ σ r F ρ back hw)) (spine_more Σ' Σe (own_types Σ Σ' w first C θ σ r) (context_skeletons (onto E G)) T (skeleton Z) (skeleton (atom (target Y0) (target_arguments Y0))) (typed_spine_has_skeleton Σ' (onto E G) T Z (atom (target Y0) (target_arguments Y0)) st)))
+    put_skeleton = subst (λ f. SpineSkeleton (constant_skeletons Σe) (context_skeletons (onto E F)) (substitute_spine reduce f T) (skeleton Z) (skeleton (atom (target Y0) (target_arguments Y0)))) (lift_same E (taken X) ρ locals_length) (substitution_keeps_spine_skeletons (constant_skeletons Σe) (context_skeletons (onto E G)) (context_skeletons (onto E F)) (lift_over E ρ) T (skeleton Z) (skeleton (atom (target Y0) (target_arguments Y0))) (over_fits (constant_skeletons Σe) E G F ρ (writing_fits Σ Σ' w first C θ σ r F ρ (itself hw))) (spine_more Σ' Σe (own_types Σ Σ' w first C θ σ r) (context_skeletons (onto E G)) T (skeleton Z) (skeleton (atom (target Y0) (target_arguments Y0))) (typed_spine_has_skeleton Σ' (onto E G) T Z (atom (target Y0) (target_arguments Y0)) st)))
 
   -- The written context
   pub here : TypeAt (items_context (free_variables C.variables)) x X

@@ -36,7 +36,7 @@ use Rattle.lf_coverage.proofs.WritingTyped.{HaveTypes, behind_typed}
 use Rattle.lf_coverage.proofs.WritingValues.{AreWritten, terms_behind, written_at}
 use mathlib.Core.Path.{fun_ext}
 
-some_among : (later : List LfType) (E : LfType) (ds : List LfType) → among (onto later (E ∷ ds)) zero ≡ true
+pub some_among : (later : List LfType) (E : LfType) (ds : List LfType) → among (onto later (E ∷ ds)) zero ≡ true
 some_among [] E ds = refl
 some_among (D ∷ later) E ds = refl
 

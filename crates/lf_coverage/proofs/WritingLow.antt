@@ -33,7 +33,7 @@ pub target_is : (A : LfType) → target A ≡ skeleton_target (skeleton A)
 target_is (pi A B) = target_is B
 target_is (atom a S) = refl
 
-base_same : {a b : ℕ} → base a ≡ base b → a ≡ b
+pub base_same : {a b : ℕ} → base a ≡ base b → a ≡ b
 base_same e = cc
 
 -- what families are in a type depends on its skeleton

@@ -89,14 +89,14 @@ module _ (γ : ℕ → ℕ) where
   move_type_substituted σ (pi A B) = ap₂ pi (move_type_substituted σ A) (move_type_substituted (lift σ) B ∙ ap (λ τ. substitute_type reduce τ (move_type γ B)) (sym (fun_ext (lift_moved σ))))
   move_type_substituted σ (atom a S) = ap (atom a) (move_spine_substituted σ S)
 
-  move_kind_substituted : (σ : ℕ → Image) (K : Kind) → move_kind γ (substitute_kind reduce σ K) ≡ substitute_kind reduce (λ i. move_image γ (σ i)) (move_kind γ K)
+  pub move_kind_substituted : (σ : ℕ → Image) (K : Kind) → move_kind γ (substitute_kind reduce σ K) ≡ substitute_kind reduce (λ i. move_image γ (σ i)) (move_kind γ K)
   move_kind_substituted σ (kind_pi A K) = ap₂ kind_pi (move_type_substituted σ A) (move_kind_substituted (lift σ) K ∙ ap (λ τ. substitute_kind reduce τ (move_kind γ K)) (sym (fun_ext (lift_moved σ))))
   move_kind_substituted σ star = refl
 
   move_instance : (A : LfType) (M : Term) (B : LfType) → move_type γ (instantiate_type A M B) ≡ instantiate_type (move_type γ A) (move γ M) (move_type γ B)
   move_instance A M B = move_type_substituted (single (skeleton A) M) B ∙ ap (λ τ. substitute_type reduce τ (move_type γ B)) (fun_ext (single_moved (skeleton A) M)) ∙ ap (λ a. substitute_type reduce (single a (move γ M)) (move_type γ B)) (sym (skeleton_moved A))
 
-  move_kind_instance : (A : LfType) (M : Term) (K : Kind) → move_kind γ (instantiate_kind A M K) ≡ instantiate_kind (move_type γ A) (move γ M) (move_kind γ K)
+  pub move_kind_instance : (A : LfType) (M : Term) (K : Kind) → move_kind γ (instantiate_kind A M K) ≡ instantiate_kind (move_type γ A) (move γ M) (move_kind γ K)
   move_kind_instance A M K = move_kind_substituted (single (skeleton A) M) K ∙ ap (λ τ. substitute_kind reduce τ (move_kind γ K)) (fun_ext (single_moved (skeleton A) M)) ∙ ap (λ a. substitute_kind reduce (single a (move γ M)) (move_kind γ K)) (sym (skeleton_moved A))
 
   -- Typing, where each constant has its type moved

@@ -1,23 +1,17 @@
 -- The written values are typed values of the free variables of a case, and stand on own terms.
 use Rattle.std.proofs.Common.{◌≡◌, ℕ, zero, suc, List, [], ◌∷◌, ◌+◌, length, Option, Some, None, inl, inr, refl, sym, ap, ◌∙◌, subst, arith}
 use Rattle.std.specs.Prelude.{Bool, true, false, cond, ◌<◌, ◌≤◌, ◌⊎◌}
-use Rattle.lf.specs.Syntax.{Term, Spine, nil, LfType, skeleton, atom}
+use Rattle.lf.specs.Syntax.{Term, Spine, nil, LfType, skeleton}
 use Rattle.lf.specs.Substitution.{Image, keep, put, substitute, substitute_spine, substitute_image, substitute_type, reduce, after}
-use Rattle.lf.specs.SkeletonTyping.{SpineSkeleton, TypeBySkeletons}
-use Rattle.lf.specs.Skeletons.{constant_skeletons, family_skeletons, context_skeletons}
-use Rattle.lf.specs.Typing.{Signature, TypeAt, ImageHasType, IsTypedSubstitution, HasType, IsType, IsContext}
+use Rattle.lf.specs.Skeletons.{constant_skeletons, context_skeletons}
+use Rattle.lf.specs.Typing.{Signature, TypeAt, ImageHasType, IsTypedSubstitution, HasType, IsType}
 use Rattle.lf.specs.Variables.{onto, ImageUses, everything}
 use Rattle.lf.specs.Subordination.{Block}
 use Rattle.lf.specs.Worlds.{World}
 use Rattle.lf.proofs.Closed.{agree, agree_type}
 use Rattle.lf.proofs.Eta.{append_nil}
-use Rattle.lf.proofs.Growth.{growth_keeps_typing}
 use Rattle.lf.proofs.Partial.{uses_all, uses_type_all}
-use Rattle.lf.proofs.SkeletonTypes.{substitution_keeps_types_by_skeletons}
-use Rattle.lf.proofs.Substitution.{TypedSubstitution, skeleton_context_of, substitution_keeps_typing, typed_substitution_by_skeletons}
-use Rattle.lf.proofs.TypeLaws.{skeleton_substituted}
-use Rattle.lf.proofs.Weakening.{declared_is_type}
-use Rattle.lf.proofs.Worlds.{world_is_context}
+use Rattle.lf.proofs.Substitution.{typed_substitution_by_skeletons}
 use Rattle.lf_cases.specs.Case.{behind_entries}
 use Rattle.lf_cases.specs.Cover.{InstanceIn, place_of}
 use Rattle.lf_cases.proofs.Instances.{instance_typed}
@@ -26,25 +20,23 @@ use Rattle.lf_coverage.specs.EntryConstants.{EntryConstant, entry_constant, with
 use Rattle.lf_coverage.specs.NumberedCase.{NumberedCase, some_spine, type_in}
 use Rattle.lf_coverage.specs.NumberedInstance.{block_at}
 use Rattle.lf_coverage.specs.OwnTerms.{BlockVariable, blocks_of, terms_at, terms_of_entry, own_terms, BeginsWith, OnOwnTerms, SpineOnOwnTerms, TypeOnOwnTerms, ImageOnOwnTerms, put_in_blocks}
-use Rattle.lf_coverage.specs.Reading.{read_type}
 use Rattle.lf_coverage.specs.Writing.{IsEntryVariable, IsWriting}
 use Rattle.lf_coverage.specs.WritingLaws.{IsInstanceWithRoom, WrittenValuesAreTyped}
-use Rattle.lf_coverage.proofs.EntrySignature.{grown_contexts, grown_image}
+use Rattle.lf_coverage.proofs.EntryPatternsTyped.{terms_of_block}
+use Rattle.lf_coverage.proofs.EntrySignature.{grown_image}
 use Rattle.lf_coverage.proofs.EntryValues.{put_some}
+use Rattle.lf_coverage.proofs.NumberedCallsOwn.{unmoved_spine, unmoved_type}
 use Rattle.lf_coverage.proofs.OwnTerms.{substitute_own, put_in_own}
 use Rattle.lf_coverage.proofs.Parts.{none_some}
 use Rattle.lf_coverage.proofs.Reading.{IsOld, typed_only, type_only}
-use Rattle.lf_coverage.proofs.ReadInstance.{type_known}
-use Rattle.lf_coverage.proofs.ReadBlocks.{ok₁}
 use Rattle.lf_coverage.proofs.ReadValues.{values_typed}
 use Rattle.lf_coverage.proofs.WritingAbove.{above, above_is, instance_above, free_own, free_own_type}
 use Rattle.lf_coverage.proofs.OwnLong.{constant_own, some_all_own}
 use Rattle.lf_coverage.proofs.WritingBack.{within}
 use Rattle.lf_coverage.proofs.WritingChoice.{from_is}
 use Rattle.lf_coverage.proofs.WritingInstance.{entry_free, instance_at, own_types, written_signature}
-use Rattle.lf_coverage.proofs.MoreConstants.{type_more}
-use Rattle.lf_coverage.proofs.WritingRead.{typed_block, terms_are, no, inside, reads, writes, both_fit, writing_fits, own_written, type_written}
-use Rattle.lf_coverage.proofs.WritingSame.{some_skeleton, read_same_spine}
+use Rattle.lf_coverage.proofs.WritingRead.{block_written, itself, writing_fits}
+use Rattle.lf_coverage.proofs.WritingReadTyped.{value_is_typed}
 use Rattle.lf_coverage.proofs.WritingTyped.{behind_typed}
 
 behind_at : (es : List LfType) (φ : ℕ → Image) (i : ℕ) → behind_entries es φ i ≡ φ (i + length es)
@@ -90,14 +82,7 @@ module _ (Σ Σ' : Signature) {W : List Block} {S : ℕ → Bool} {G : List LfTy
 
   -- The terms of a block variable under the written values are the `some` terms of its instance, written.
   pub terms_written : (j : ℕ) (b : BlockVariable) → block_at C.blocks j ≡ Some b → substitute_spine reduce ρ (some_spine b.block.some (behind_entries b.block.entries (θ (zero + j)))) ≡ substitute_spine reduce (after ρ σ) b.terms
-  terms_written j b at =
-      let (m, (υ, ut, ue), p) = typed_block Σ₁ W C.variables (own_terms first C.blocks) C.blocks r.variables.blocks j b at in
-      let T : LfType = atom 0 nil in
-      let P : LfType = Rattle.lf_unification.specs.Offering.pi_over b.block.some T in
-      let s : SpineSkeleton (constant_skeletons Σ₁) (context_skeletons C.variables) b.terms (skeleton P) (skeleton T) = subst (λ V. SpineSkeleton (constant_skeletons Σ₁) (context_skeletons C.variables) V (skeleton P) (skeleton T)) (sym ue) (some_skeleton (constant_skeletons Σ₁) b.block.some (context_skeletons C.variables) υ T (typed_substitution_by_skeletons Σ₁ (ok₁ Σ Σ' r.signature S r.extends W r.blocks first r.free C r.variables w θ σ r.is_instance) b.block.some C.variables υ ut)) in
-      let f = Rattle.lf_coverage.specs.Reading.entry_reading first (blocks_of C.blocks) θ (length C.variables) in
-      own_written Σ Σ' w first C θ σ r F ρ back h j b at
-      ∙ read_same_spine (constant_skeletons Σ₁) (constant_skeletons Σe) (no Σ Σ' w first C θ σ r F ρ back h) (context_skeletons C.variables) (context_skeletons (onto C.variables G)) (context_skeletons F) f (own_terms first C.blocks) (after ρ σ) b.terms (skeleton P) (skeleton T) (inside Σ Σ' w first C θ σ r F ρ back h) (reads Σ Σ' w first C θ σ r F ρ back h) (writes Σ Σ' w first C θ σ r F ρ back h) (both_fit Σ Σ' w first C θ σ r F ρ back h) s p
+  terms_written j b at = sym (block_written Σ Σ' w first C θ σ r F ρ (itself h) j b at) ∙ ap (substitute_spine reduce (after ρ σ)) (unmoved_spine b.terms)
 
   -- and its own terms
   pub entry_own : (c : ℕ) (e : EntryConstant) → entry_constant zero first (blocks_of C.blocks) c ≡ Some e → own_terms first (put_in_blocks (after ρ σ) C.blocks) c ≡ Some (substitute_spine reduce ρ (some_spine e.block.some (behind_entries e.block.entries (θ e.number))))
@@ -105,7 +90,7 @@ module _ (Σ Σ' : Signature) {W : List Block} {S : ℕ → Bool} {G : List LfTy
       let (j, b, at, num, blk, frm, cn, later, en, pl) = from_is zero first C.blocks c e q in
       put_in_own first C.blocks (after ρ σ) c
       ∙ ap (λ x. substitute_own (after ρ σ) (terms_of_entry C.blocks x)) q
-      ∙ ap (substitute_own (after ρ σ)) (ap (terms_at C.blocks) (num ∙ left j) ∙ terms_are C.blocks j b at)
+      ∙ ap (substitute_own (after ρ σ)) (ap (terms_at C.blocks) (num ∙ left j) ∙ terms_of_block C.blocks j b at)
       ∙ ap Some (sym (terms_written j b at)
       ∙ ap (λ k. substitute_spine reduce ρ (some_spine b.block.some (behind_entries b.block.entries (θ k)))) (sym num)
       ∙ ap (λ (D : Block). substitute_spine reduce ρ (some_spine D.some (behind_entries D.entries (θ e.number)))) (sym blk))
@@ -138,7 +123,7 @@ module _ (Σ Σ' : Signature) {W : List Block} {S : ℕ → Bool} {G : List LfTy
           let u : IsTypedSubstitution Σ' e.block.some G (behind_entries e.block.entries φ) = behind_typed Σ' r.extends.ok e.block.entries e.block.some G φ t in
           let te : IsTypedSubstitution Σe e.block.some G (behind_entries e.block.entries φ) = λ j A g. grown_image Σ' Σe (own_types Σ Σ' w first C θ σ r) (λ a K z. z) G (behind_entries e.block.entries φ j) (substitute_type reduce (behind_entries e.block.entries φ) A) (u j A g) in
           let U : Spine = substitute_spine reduce ρ (some_spine e.block.some (behind_entries e.block.entries φ)) in
-          let same : U ≡ some_spine e.block.some (after ρ (behind_entries e.block.entries φ)) = put_some (constant_skeletons Σe) e.block.some (context_skeletons G) (context_skeletons F) (behind_entries e.block.entries φ) ρ (typed_substitution_by_skeletons Σe (written_signature Σ Σ' w first C θ σ r) e.block.some G (behind_entries e.block.entries φ) te) (writing_fits Σ Σ' w first C θ σ r F ρ back h) in
+          let same : U ≡ some_spine e.block.some (after ρ (behind_entries e.block.entries φ)) = put_some (constant_skeletons Σe) e.block.some (context_skeletons G) (context_skeletons F) (behind_entries e.block.entries φ) ρ (typed_substitution_by_skeletons Σe (written_signature Σ Σ' w first C θ σ r) e.block.some G (behind_entries e.block.entries φ) te) (writing_fits Σ Σ' w first C θ σ r F ρ (itself h)) in
           subst (ImageOnOwnTerms oF) (sym (h.entries c e q v k)) (constant_own oF (skeleton e.entry) c U (subst (λ y. BeginsWith y U) (sym (entry_own c e q)) (nil, sym (append_nil U))) (subst (SpineOnOwnTerms oF) (sym same) (some_all_own oF e.block.some (after ρ (behind_entries e.block.entries φ)) (λ j A g. value (behind_entries e.block.entries φ j) (substitute_type reduce (behind_entries e.block.entries φ) A) (subst (ImageUses (above v)) (sym (behind_at e.block.entries φ j)) (instance_above Σ' w e.block φ i later e.entry e.before en v (sym (ap φ pl) ∙ k) (j + length e.block.entries) (subst (λ es. place_of later < j + length es) en (place_less later e.entry e.before j)))) (u j A g)))))
         where
           older : (j : ℕ) → above v j ≡ true → ImageOnOwnTerms oF (near j)
@@ -176,30 +161,8 @@ module _ (Σ Σ' : Signature) {W : List Block} {S : ℕ → Bool} {G : List LfTy
       by (keep j) t = subst (ImageOnOwnTerms oF) (sym (near_is j (type_in first C θ σ A) t)) (near_own j)
       by (put a N) (e, n) = term_own N (type_in first C θ σ A) n
 
-  more_context : IsContext (with_entries Σ' first (blocks_of C.blocks)) G
-  more_context = grown_contexts Σ' Σe (own_types Σ Σ' w first C θ σ r) (λ a K e. e) G (world_is_context w)
-
-  pub writing_typed : TypedSubstitution (with_entries Σ' first (blocks_of C.blocks)) (written_signature Σ Σ' w first C θ σ r) G F ρ
-  writing_typed = record { typed = h.typed; source_skeletons = skeleton_context_of Σe (written_signature Σ Σ' w first C θ σ r) G more_context; target_skeletons = skeleton_context_of Σe (written_signature Σ Σ' w first C θ σ r) F h.context }
-
   pub values_are_typed : IsTypedSubstitution (with_entries Σ' first (blocks_of C.blocks)) C.variables F (after ρ σ)
-  values_are_typed i A g = by (σ i) (value_type i A g)
-    where
-      Z : LfType
-      Z = type_in first C θ σ A
-
-      same : substitute_type reduce ρ (type_in first C θ σ A) ≡ substitute_type reduce (after ρ σ) A
-      same = type_written Σ Σ' w first C θ σ r F ρ back h A (declared_is_type Σ₁ (ok₁ Σ Σ' r.signature S r.extends W r.blocks first r.free C r.variables w θ σ r.is_instance) C.variables i A r.variables.variables g) (r.variables.on_own_terms i A g)
-
-      known : TypeBySkeletons (family_skeletons Σe) (constant_skeletons Σe) (context_skeletons G) (type_in first C θ σ A)
-      known = known_more (type_in first C θ σ A) (substitution_keeps_types_by_skeletons (family_skeletons Σ') (constant_skeletons Σ') (context_skeletons (onto C.variables G)) (context_skeletons G) σ (read_type (Rattle.lf_coverage.specs.Reading.entry_reading first (blocks_of C.blocks) θ (length C.variables)) A) (Rattle.lf_coverage.proofs.ReadValues.values_fit Σ' r.extends.ok G first (blocks_of C.blocks) θ C.variables σ r.is_instance.values) (type_known Σ Σ' r.signature S r.extends W r.blocks first r.free C r.variables w θ σ r.is_instance A (declared_is_type Σ₁ (ok₁ Σ Σ' r.signature S r.extends W r.blocks first r.free C r.variables w θ σ r.is_instance) C.variables i A r.variables.variables g) (r.variables.on_own_terms i A g)))
-        where
-          known_more : (B : LfType) → TypeBySkeletons (family_skeletons Σ') (constant_skeletons Σ') (context_skeletons G) B → TypeBySkeletons (family_skeletons Σe) (constant_skeletons Σe) (context_skeletons G) B
-          known_more B k = type_more Σ' Σe (own_types Σ Σ' w first C θ σ r) (family_skeletons Σ') (context_skeletons G) B k
-
-      by : (y : Image) → ImageHasType Σ' G y (type_in first C θ σ A) → ImageHasType (with_entries Σ' first (blocks_of C.blocks)) F (substitute_image ρ y) (substitute_type reduce (after ρ σ) A)
-      by (keep j) t = subst (ImageHasType Σe F (ρ j)) same (h.typed j (type_in first C θ σ A) t)
-      by (put a N) (e, n) = (ap skeleton (sym same) ∙ skeleton_substituted reduce ρ (type_in first C θ σ A) ∙ e, subst (HasType Σe F (substitute reduce ρ N)) same (substitution_keeps_typing Σe (written_signature Σ Σ' w first C θ σ r) G F ρ N (type_in first C θ σ A) writing_typed known (growth_keeps_typing Σ' Σe (own_types Σ Σ' w first C θ σ r) (λ b K z. z) G N (type_in first C θ σ A) n)))
+  values_are_typed i A g = subst (λ B. ImageHasType Σe F (after ρ σ i) (substitute_type reduce (after ρ σ) B)) (unmoved_type A) (value_is_typed Σ Σ' w first C θ σ r F ρ (itself h) i A g)
 
 pub written_values_are_typed : WrittenValuesAreTyped
 written_values_are_typed Σ Σ' W S G w first C θ σ r F ρ back h = (values_are_typed Σ Σ' w first C θ σ r F ρ back h, image_value_own Σ Σ' w first C θ σ r F ρ back h, term_own Σ Σ' w first C θ σ r F ρ back h)

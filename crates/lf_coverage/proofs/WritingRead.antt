@@ -1,53 +1,55 @@
--- A term of the case under its instance, and then written, is the term with the written values put in.
-use Rattle.std.proofs.Common.{◌≡◌, ℕ, zero, suc, List, [], ◌∷◌, ◌+◌, length, Option, Some, None, refl, sym, ap, ◌∙◌, subst, arith, true≢false}
-use Rattle.std.specs.Prelude.{Bool}
-use Rattle.lf.specs.Syntax.{constant, Term, Spine, LfType, Skeleton, skeleton}
-use Rattle.lf.specs.Substitution.{Image, keep, put, substitute, substitute_spine, substitute_image, substitute_type, reduce, after}
+-- A term of a case under its instance, and then written with constants moved, is the term with its constants moved and the written values put in.
+use Rattle.std.proofs.Common.{◌≡◌, Bool, ℕ, zero, List, [], ◌∷◌, ◌+◌, length, Option, Some, None, refl, sym, ap, ◌∙◌, subst, arith, true≢false}
+use Rattle.lf.specs.Syntax.{constant, lambda, Term, Spine, nil, app, LfType, atom, Skeleton, arrow, skeleton}
+use Rattle.lf.specs.Substitution.{Image, keep, put, substitute, substitute_spine, substitute_image, reduce, after}
 use Rattle.lf.specs.Eta.{eta_expand}
-use Rattle.lf.specs.SkeletonTyping.{HeadSkeletons, SkeletonAt, SubstitutionBySkeletons}
-use Rattle.lf.specs.Skeletons.{constant_skeletons, family_skeletons, context_skeletons}
-use Rattle.lf.specs.Typing.{Signature, HasType, IsType}
+use Rattle.lf.specs.SkeletonTyping.{HeadSkeletons, SkeletonAt, SpineSkeleton, TermSkeleton, SubstitutionBySkeletons}
+use Rattle.lf.specs.Skeletons.{constant_skeletons, context_skeletons, type_skeleton}
+use Rattle.lf.specs.Typing.{Signature, IsTypedSubstitution, IsContext}
 use Rattle.lf.specs.Variables.{onto, nothing}
-use Rattle.lf.specs.Subordination.{Block, Member}
-use Rattle.lf.specs.Worlds.{World}
+use Rattle.lf.specs.Subordination.{Block}
+use Rattle.lf.specs.Worlds.{World, lift_over}
 use Rattle.lf.specs.Extension.{Extends}
 use Rattle.lf.proofs.Composition.{substitutions_compose, substitutions_compose_spine}
-use Rattle.lf.proofs.SkeletonTypes.{substitutions_compose_type}
 use Rattle.lf.proofs.Substitution.{typed_substitution_by_skeletons}
-use Rattle.lf.proofs.ToSkeletons.{typed_has_skeleton, type_by_skeletons}
+use Rattle.lf_unification.specs.Offering.{pi_over}
 use Rattle.lf_checks.specs.ModeForms.{argument_count}
-use Rattle.lf_cases.specs.Case.{behind_entries}
+use Rattle.lf_cases.specs.Case.{HasArguments, behind_entries}
 use Rattle.lf_coverage.specs.EntryConstants.{EntryConstant, entry_constant, with_entries}
-use Rattle.lf_coverage.specs.NumberedCase.{NumberedCase, some_spine, AreSomeTerms, AreTypedBlockVariables, value_in, type_in}
-use Rattle.lf_coverage.specs.NumberedInstance.{block_at}
-use Rattle.lf_coverage.specs.OwnTerms.{BlockVariable, blocks_of, terms_at, terms_of_entry, own_terms, OnOwnTerms, SpineOnOwnTerms, TypeOnOwnTerms}
-use Rattle.lf_coverage.specs.Reading.{read, read_spine, read_type, read_entry, variable_past, entry_reading}
+use Rattle.lf_coverage.specs.Heads.{HaveSkeletons}
+use Rattle.lf_coverage.specs.NumberedArguments.{read_over, read_all}
+use Rattle.lf_coverage.specs.NumberedCase.{NumberedCase, some_spine, value_in}
+use Rattle.lf_coverage.specs.NumberedInstance.{block_at, move, move_all, move_spine}
+use Rattle.lf_coverage.specs.OwnTerms.{BlockVariable, blocks_of, terms_at, terms_of_entry, own_terms, OnOwnTerms, AllOnOwnTerms}
+use Rattle.lf_coverage.specs.Reading.{read, read_spine, read_entry, variable_past, entry_reading}
+use Rattle.lf_coverage.specs.TypedNumbered.{own_over}
 use Rattle.lf_coverage.specs.Writing.{IsWriting}
-use Rattle.lf_coverage.specs.WritingLaws.{IsInstanceWithRoom, ValuesAreWritten}
+use Rattle.lf_coverage.specs.WritingLaws.{IsInstanceWithRoom}
 use Rattle.lf_coverage.proofs.Composing.{composed}
+use Rattle.lf_coverage.proofs.EntryPatternsTyped.{typed_at, terms_of_block}
+use Rattle.lf_coverage.proofs.EntryPlaces.{entry_is}
 use Rattle.lf_coverage.proofs.EntryValues.{count_some}
-use Rattle.lf_coverage.proofs.Parts.{none_some}
-use Rattle.lf_coverage.proofs.ReadInstance.{heads}
+use Rattle.lf_coverage.proofs.Parts.{lambda_same, none_some}
 use Rattle.lf_coverage.proofs.ReadBlocks.{ok₁}
+use Rattle.lf_coverage.proofs.ReadInstance.{heads}
+use Rattle.lf_coverage.proofs.ReadSkeletons.{ReadsSkeleton, Reads, read_has_skeleton, read_spine_has_skeleton}
 use Rattle.lf_coverage.proofs.ReadValues.{inside_onto, value_past, values_fit}
-use Rattle.lf_coverage.proofs.ReadSkeletons.{ReadsSkeleton, Reads, read_has_skeleton, read_spine_has_skeleton, read_type_has_skeletons}
 use Rattle.lf_coverage.proofs.Transfer.{fits_more}
 use Rattle.lf_coverage.proofs.WritingChoice.{from_is}
 use Rattle.lf_coverage.proofs.WritingInstance.{instance_at, written_signature, own_types}
-use Rattle.lf_coverage.proofs.WritingSame.{some_skeleton, WritesConstant, Writes, read_same, read_same_type}
+use Rattle.lf_coverage.proofs.WritingSame.{some_skeleton, WritesMoved, MovesAll, read_moved, read_moved_spine}
 
--- the typed block variable of a number
-pub typed_block : (Σ : Signature) (W : List Block) (X : List LfType) (o : ℕ → Option Spine) (bs : List BlockVariable) → AreTypedBlockVariables Σ W X o bs → (j : ℕ) (b : BlockVariable) → block_at bs j ≡ Some b → Member b.block W × AreSomeTerms Σ X b.block.some b.terms × SpineOnOwnTerms o b.terms
-typed_block Σ W X o [] h j b e = absurd cc
-typed_block Σ W X o (d ∷ bs) (m, t, p, h) zero b e = subst (λ (c : BlockVariable). Member c.block W × AreSomeTerms Σ X c.block.some c.terms × SpineOnOwnTerms o c.terms) (Rattle.lf_coverage.proofs.Parts.some_same e) (m, t, p)
-typed_block Σ W X o (d ∷ bs) (m, t, p, h) (suc j) b e = typed_block Σ W X o bs h j b e
+-- ρ writes terms of G over F: an entry of an instance is the constant that its own moves to by γ, on the instance's `some` terms.
+pub record WritesAs (Σ : Signature) (first : ℕ) (Bs : List Block) (θ : ℕ → ℕ → Image) (γ : ℕ → ℕ) (G F : List LfType) (ρ : ℕ → Image) : Type 0 where
+  pub context : IsContext (with_entries Σ first Bs) F
+  pub typed : IsTypedSubstitution (with_entries Σ first Bs) G F ρ
+  pub entries : (c : ℕ) (e : EntryConstant) → entry_constant zero first Bs c ≡ Some e → (v : ℕ) → θ e.number e.place ≡ keep v → ρ v ≡ put (skeleton e.entry) (eta_expand (skeleton e.entry) (constant (γ c)) (substitute_spine reduce ρ (some_spine e.block.some (behind_entries e.block.entries (θ e.number)))))
+  pub others_stay : (c : ℕ) → entry_constant zero first Bs c ≡ None → γ c ≡ c
 
-pub terms_are : (bs : List BlockVariable) (j : ℕ) (b : BlockVariable) → block_at bs j ≡ Some b → terms_at bs j ≡ Some b.terms
-terms_are [] j b e = absurd cc
-terms_are (d ∷ bs) zero b e = ap (λ (c : BlockVariable). Some c.terms) (Rattle.lf_coverage.proofs.Parts.some_same e)
-terms_are (d ∷ bs) (suc j) b e = terms_are bs j b e
+pub itself : {Σ : Signature} {first : ℕ} {Bs : List Block} {θ : ℕ → ℕ → Image} {G F : List LfType} {ρ : ℕ → Image} {back : ℕ → ℕ} → IsWriting Σ first Bs θ G F ρ back → WritesAs Σ first Bs θ (λ c. c) G F ρ
+itself h = record { context = h.context; typed = h.typed; entries = h.entries; others_stay = λ c q. refl }
 
-module _ (Σ Σ' : Signature) {W : List Block} {S : ℕ → Bool} {G : List LfType} (w : World Σ' W S G) (first : ℕ) (C : NumberedCase) (θ : ℕ → ℕ → Image) (σ : ℕ → Image) (r : IsInstanceWithRoom Σ w first C θ σ) (F : List LfType) (ρ : ℕ → Image) (back : ℕ → ℕ) (h : IsWriting Σ' first (blocks_of C.blocks) θ G F ρ back) where
+module _ (Σ Σ' : Signature) {W : List Block} {S : ℕ → Bool} {G : List LfType} (w : World Σ' W S G) (first : ℕ) (C : NumberedCase) (θ : ℕ → ℕ → Image) (σ : ℕ → Image) (r : IsInstanceWithRoom Σ w first C θ σ) {γ : ℕ → ℕ} (F : List LfType) (ρ : ℕ → Image) (h : WritesAs Σ' first (blocks_of C.blocks) θ γ G F ρ) where
   abbrev X : List LfType
   X = C.variables
 
@@ -94,9 +96,9 @@ module _ (Σ Σ' : Signature) {W : List Block} {S : ℕ → Bool} {G : List LfTy
   read_more : (c : ℕ) (t : Skeleton) (x : Option (ℕ × ℕ)) (u : Option Spine) → ReadsSkeleton (constant_skeletons Σ') Θ x u c t → ReadsSkeleton (constant_skeletons Σe) Θ x u c t
   read_more c t None u q = by (Σ'.types c) refl q
     where
-      by : (y : Option LfType) → Σ'.types c ≡ y → Rattle.lf.specs.Skeletons.type_skeleton y ≡ Some t → Rattle.lf.specs.Skeletons.type_skeleton (Σe.types c) ≡ Some t
+      by : (y : Option LfType) → Σ'.types c ≡ y → type_skeleton y ≡ Some t → type_skeleton (Σe.types c) ≡ Some t
       by None e p = absurd (none_some p)
-      by (Some A) e p = ap Rattle.lf.specs.Skeletons.type_skeleton (own_types Σ Σ' w first C θ σ r c A e) ∙ p
+      by (Some A) e p = ap type_skeleton (own_types Σ Σ' w first C θ σ r c A e) ∙ p
   read_more c t (Some (n, v)) None q = absurd q
   read_more c t (Some (n, v)) (Some U) q = q
 
@@ -106,59 +108,67 @@ module _ (Σ Σ' : Signature) {W : List Block} {S : ℕ → Bool} {G : List LfTy
   pub inside : (i : ℕ) (t : Skeleton) → SkeletonAt (context_skeletons C.variables) i t → SkeletonAt (context_skeletons (onto C.variables G)) i t
   inside = inside_onto X G
 
-  -- the own terms of a block variable, written
-  pub own_written : (j : ℕ) (b : BlockVariable) → block_at C.blocks j ≡ Some b → substitute_spine reduce ρ (some_spine b.block.some (behind_entries b.block.entries (θ (zero + j)))) ≡ substitute_spine reduce (after ρ σ) (read_spine f b.terms)
-  own_written j b e =
-      let (m, (υ, ut, ue), p) = typed_block Σ₁ W X o C.blocks r.variables.blocks j b e in
-      let T : LfType = Rattle.lf.specs.Syntax.atom 0 Rattle.lf.specs.Syntax.nil in
-      let s = subst (λ V. Rattle.lf.specs.SkeletonTyping.SpineSkeleton κ (context_skeletons X) V (skeleton (Rattle.lf_unification.specs.Offering.pi_over b.block.some T)) (skeleton T)) (sym ue) (some_skeleton κ b.block.some (context_skeletons X) υ T (typed_substitution_by_skeletons Σ₁ (ok₁ Σ Σ' r.signature S r.extends W r.blocks first r.free C r.variables w θ σ r.is_instance) b.block.some X υ ut)) in
-      ap (substitute_spine reduce ρ) (instance_at Σ Σ' w first C θ σ r j b e).1
-      ∙ substitutions_compose_spine κe Θ (context_skeletons G) (context_skeletons F) σ ρ (read_spine f b.terms) (skeleton (Rattle.lf_unification.specs.Offering.pi_over b.block.some T)) (skeleton T) values_fit_more writing_fits (read_spine_has_skeleton κ κe no (context_skeletons X) Θ f o b.terms (skeleton (Rattle.lf_unification.specs.Offering.pi_over b.block.some T)) (skeleton T) inside reads s p)
+  -- the terms of a block variable
+  pub terms_fit : (j : ℕ) (b : BlockVariable) → block_at C.blocks j ≡ Some b → SpineSkeleton (constant_skeletons Σ₁) (context_skeletons C.variables) b.terms (skeleton (pi_over b.block.some (atom 0 nil))) (skeleton (atom 0 nil))
+  terms_fit j b e =
+      let (m, (υ, ut, ue), p) = typed_at Σ₁ W X o C.blocks r.variables.blocks j b e in
+      let T : LfType = atom 0 nil in
+      subst (λ V. SpineSkeleton κ (context_skeletons X) V (skeleton (pi_over b.block.some T)) (skeleton T)) (sym ue) (some_skeleton κ b.block.some (context_skeletons X) υ T (typed_substitution_by_skeletons Σ₁ (ok₁ Σ Σ' r.signature S r.extends W r.blocks first r.free C r.variables w θ σ r.is_instance) b.block.some X υ ut))
 
-  entry_written : (c : ℕ) (x : Option EntryConstant) → entry_constant zero first Bs c ≡ x → WritesConstant f (after ρ σ) c (read_entry θ (length X) x) (terms_of_entry C.blocks x)
-  entry_written c None q = tt
+  own_written : (j : ℕ) (b : BlockVariable) → block_at C.blocks j ≡ Some b → substitute_spine reduce ρ (some_spine b.block.some (behind_entries b.block.entries (θ (zero + j)))) ≡ substitute_spine reduce (after ρ σ) (read_spine f b.terms)
+  own_written j b e =
+      let (m, u, p) = typed_at Σ₁ W X o C.blocks r.variables.blocks j b e in
+      let T : LfType = atom 0 nil in
+      ap (substitute_spine reduce ρ) (instance_at Σ Σ' w first C θ σ r j b e).1
+      ∙ substitutions_compose_spine κe Θ (context_skeletons G) (context_skeletons F) σ ρ (read_spine f b.terms) (skeleton (pi_over b.block.some T)) (skeleton T) values_fit_more writing_fits (read_spine_has_skeleton κ κe no (context_skeletons X) Θ f o b.terms (skeleton (pi_over b.block.some T)) (skeleton T) inside reads (terms_fit j b e) p)
+
+  entry_written : (c : ℕ) (x : Option EntryConstant) → entry_constant zero first Bs c ≡ x → WritesMoved γ f (after ρ σ) c (read_entry θ (length X) x) (terms_of_entry C.blocks x)
+  entry_written c None q = h.others_stay c q
   entry_written c (Some e) q =
       let (j, b, at, num, blk, frm, cn, later, en, pl) = from_is zero first C.blocks c e q in
-      let (m, (υ, ut, ue), p) = typed_block Σ₁ W X o C.blocks r.variables.blocks j b at in
-      let (v, k) = (Rattle.lf_coverage.proofs.EntryPlaces.entry_is Σ' r.extends.ok w b.block (θ (zero + j)) (instance_at Σ Σ' w first C θ σ r j b at).0 later e.entry e.before en) in
+      let (m, (υ, ut, ue), p) = typed_at Σ₁ W X o C.blocks r.variables.blocks j b at in
+      let (v, k) = (entry_is Σ' r.extends.ok w b.block (θ (zero + j)) (instance_at Σ Σ' w first C θ σ r j b at).0 later e.entry e.before en) in
       let k' : θ e.number e.place ≡ keep v = ap (λ i. θ i e.place) num ∙ ap (θ (zero + j)) pl ∙ k in
-      let terms : terms_of_entry C.blocks (Some e) ≡ Some b.terms = ap (terms_at C.blocks) (num ∙ left j) ∙ terms_are C.blocks j b at in
+      let terms : terms_of_entry C.blocks (Some e) ≡ Some b.terms = ap (terms_at C.blocks) (num ∙ left j) ∙ terms_of_block C.blocks j b at in
       let own : substitute_spine reduce ρ (some_spine e.block.some (behind_entries e.block.entries (θ e.number))) ≡ substitute_spine reduce (after ρ σ) (read_spine f b.terms) =
       ap (λ (D : Block). substitute_spine reduce ρ (some_spine D.some (behind_entries D.entries (θ e.number)))) blk
       ∙ ap (λ i. substitute_spine reduce ρ (some_spine b.block.some (behind_entries b.block.entries (θ i)))) num
       ∙ own_written j b at in
-      let value : after ρ σ (v + length X) ≡ put (skeleton e.entry) (eta_expand (skeleton e.entry) (constant c) (substitute_spine reduce (after ρ σ) (read_spine f b.terms))) =
+      let value : after ρ σ (v + length X) ≡ put (skeleton e.entry) (eta_expand (skeleton e.entry) (constant (γ c)) (substitute_spine reduce (after ρ σ) (read_spine f b.terms))) =
       ap (substitute_image ρ) (value_past Σ' r.extends.ok G first Bs θ X σ r.is_instance.values v)
       ∙ h.entries c e q v k'
-      ∙ ap (λ V. put (skeleton e.entry) (eta_expand (skeleton e.entry) (constant c) V)) own in
+      ∙ ap (λ V. put (skeleton e.entry) (eta_expand (skeleton e.entry) (constant (γ c)) V)) own in
       let count : argument_count b.terms ≡ length e.block.some = ap argument_count ue ∙ count_some b.block.some υ ∙ ap (λ (D : Block). length D.some) (sym blk) in
-      subst (λ y. WritesConstant f (after ρ σ) c (Some (length e.block.some, variable_past (length X) y)) (terms_of_entry C.blocks (Some e))) (sym k')
-      (subst (WritesConstant f (after ρ σ) c (Some (length e.block.some, v + length X))) (sym terms) (count, skeleton e.entry, value))
+      subst (λ y. WritesMoved γ f (after ρ σ) c (Some (length e.block.some, variable_past (length X) y)) (terms_of_entry C.blocks (Some e))) (sym k')
+      (subst (WritesMoved γ f (after ρ σ) c (Some (length e.block.some, v + length X))) (sym terms) (count, skeleton e.entry, value))
     where
       left : (j : ℕ) → zero + j ≡ j
       left j = omega arith
 
-  pub writes : Writes (constant_skeletons Σ₁) (constant_skeletons Σe) no f o (after ρ σ)
+  pub writes : MovesAll γ (constant_skeletons Σ₁) (constant_skeletons Σe) no f o (after ρ σ)
   writes c t q = entry_written c (entry_constant zero first Bs c) refl
 
-  pub term_written : (M : Term) (A : LfType) → HasType Σ₁ C.variables M A → OnOwnTerms (own_terms first C.blocks) M → substitute reduce ρ (value_in first C θ σ M) ≡ substitute reduce (after ρ σ) M
-  term_written M A m p =
-      let s = typed_has_skeleton Σ₁ X M A m in
-      substitutions_compose κe Θ (context_skeletons G) (context_skeletons F) σ ρ (read f M) (skeleton A) values_fit_more writing_fits (read_has_skeleton κ κe no (context_skeletons X) Θ f o M (skeleton A) inside reads s p)
-      ∙ read_same κ κe no (context_skeletons X) Θ (context_skeletons F) f o (after ρ σ) M (skeleton A) inside reads writes both_fit s p
+  -- a term
+  pub term_written : (M : Term) (t : Skeleton) → TermSkeleton (constant_skeletons (with_entries Σ first (blocks_of C.blocks))) (context_skeletons C.variables) M t → OnOwnTerms (own_terms first C.blocks) M → substitute reduce ρ (value_in first C θ σ M) ≡ substitute reduce (after ρ σ) (move γ M)
+  term_written M t s p =
+      substitutions_compose κe Θ (context_skeletons G) (context_skeletons F) σ ρ (read f M) t values_fit_more writing_fits (read_has_skeleton κ κe no (context_skeletons X) Θ f o M t inside reads s p)
+      ∙ read_moved γ κ κe no (context_skeletons X) Θ (context_skeletons F) f o (after ρ σ) M t inside reads writes both_fit s p
 
-  pub type_written : (A : LfType) → IsType Σ₁ C.variables A → TypeOnOwnTerms (own_terms first C.blocks) A → substitute_type reduce ρ (type_in first C θ σ A) ≡ substitute_type reduce (after ρ σ) A
-  type_written A a p =
-      let s = type_by_skeletons Σ₁ X A a in
-      substitutions_compose_type (family_skeletons Σ') κe Θ (context_skeletons G) (context_skeletons F) σ ρ (read_type f A) values_fit_more writing_fits (read_type_has_skeletons κ κe no (family_skeletons Σ₁) (family_skeletons Σ') (context_skeletons X) Θ f o A family_more inside reads s p)
-      ∙ read_same_type κ κe no (family_skeletons Σ₁) (context_skeletons X) Θ (context_skeletons F) f o (after ρ σ) A inside reads writes both_fit s p
-    where
-      family_more : (a : ℕ) (t : Skeleton) → family_skeletons Σ₁ a ≡ Some t → family_skeletons Σ' a ≡ Some t
-      family_more a t q = by (Σ.kinds a) refl q
-        where
-          by : (y : Option Rattle.lf.specs.Syntax.Kind) → Σ.kinds a ≡ y → Rattle.lf.specs.Skeletons.family_skeleton a y ≡ Some t → family_skeletons Σ' a ≡ Some t
-          by None e p = absurd (none_some p)
-          by (Some K) e p = ap (Rattle.lf.specs.Skeletons.family_skeleton a) (r.extends.kinds_stay a K e) ∙ p
+  pub over_written : (L : List LfType) (M : Term) (t : Skeleton) → TermSkeleton κ (context_skeletons (onto L C.variables)) M t → OnOwnTerms (own_over L (own_terms first C.blocks)) M → substitute reduce (lift_over L ρ) (substitute reduce (lift_over L σ) (read (read_over L f) M)) ≡ substitute reduce (lift_over L (after ρ σ)) (move γ M)
+  over_written [] M t s p = term_written M t s p
+  over_written (A ∷ L) M t s p = lambda_same (over_written L (lambda M) (arrow (skeleton A) t) s p)
 
-pub values_are_written : ValuesAreWritten
-values_are_written Σ Σ' W S G w first C θ σ r F ρ back h = (term_written Σ Σ' w first C θ σ r F ρ back h, type_written Σ Σ' w first C θ σ r F ρ back h)
+  -- the tuple
+  pub arguments_written : (L : List LfType) (Ms : List (Option Term)) (T : Spine) → HaveSkeletons (constant_skeletons (with_entries Σ first (blocks_of C.blocks))) (context_skeletons (onto L C.variables)) Ms → AllOnOwnTerms (own_over L (own_terms first C.blocks)) Ms → HasArguments (lift_over L σ) (read_all (read_over L (entry_reading first (blocks_of C.blocks) θ (length C.variables))) Ms) T → HasArguments (lift_over L (after ρ σ)) (move_all γ Ms) (substitute_spine reduce (lift_over L ρ) T)
+  arguments_written L [] nil s p a = tt
+  arguments_written L [] (app N T) s p a = absurd a
+  arguments_written L (Some M ∷ Ms) nil s p a = absurd a
+  arguments_written L (None ∷ Ms) nil s p a = absurd a
+  arguments_written L (Some M ∷ Ms) (app N T) ((t, m), s) (q, p) (e, a) = (ap (substitute reduce (lift_over L ρ)) e ∙ over_written L M t m q, arguments_written L Ms T s p a)
+  arguments_written L (None ∷ Ms) (app N T) s p a = arguments_written L Ms T s p a
+
+  -- the terms of a block variable, written
+  pub block_written : (j : ℕ) (b : BlockVariable) → block_at C.blocks j ≡ Some b → substitute_spine reduce (after ρ σ) (move_spine γ b.terms) ≡ substitute_spine reduce ρ (some_spine b.block.some (behind_entries b.block.entries (θ (zero + j))))
+  block_written j b at =
+      let (m, u, p) = typed_at Σ₁ W X o C.blocks r.variables.blocks j b at in
+      sym (own_written j b at ∙ read_moved_spine γ κ κe no (context_skeletons X) Θ (context_skeletons F) f o (after ρ σ) b.terms (skeleton (pi_over b.block.some (atom 0 nil))) (skeleton (atom 0 nil)) inside reads writes both_fit (terms_fit j b at) p)

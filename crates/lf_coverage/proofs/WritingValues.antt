@@ -1,16 +1,16 @@
 -- Values of a block's variables that are the entry constants on the values of the `some` variables.
 use Rattle.std.proofs.Common.{◌≡◌, ℕ, zero, suc, List, [], ◌∷◌, length, ◌+◌, refl, sym, ap, ap₂, ◌∙◌}
 use Rattle.lf.specs.Syntax.{constant, variable, Spine, nil, LfType, Skeleton, skeleton, rename, rename_spine}
-use Rattle.lf.specs.Substitution.{Image, keep, put, rename_image, lift, substitute_image, reduce, after}
+use Rattle.lf.specs.Substitution.{Image, keep, put, rename_image, lift, after}
 use Rattle.lf.specs.AtOnce.{in_front}
 use Rattle.lf.specs.Eta.{add_last, eta_expand}
 use Rattle.lf.proofs.Eta.{rename_add_last, rename_eta_expand}
-use Rattle.lf.proofs.Renaming.{lifted_substitution_weakened, reduction_is_natural}
 use Rattle.lf_cases.specs.Case.{as_term, behind_entries}
 use Rattle.lf_cases.specs.Cover.{place_of}
 use Rattle.lf.specs.Variables.{onto}
 use Rattle.lf_coverage.specs.EntryConstants.{entry_images}
 use Rattle.lf_coverage.specs.NumberedCase.{some_spine}
+use Rattle.lf_coverage.proofs.EntryPatternsAmong.{lift_past}
 use Rattle.lf_coverage.proofs.GroundTyped.{past_one}
 use mathlib.Core.Path.{fun_ext}
 
@@ -22,7 +22,7 @@ behind_moved : (es : List LfType) (ψ : ℕ → Image) (i : ℕ) → behind_entr
 behind_moved [] ψ i = refl
 behind_moved (E ∷ es) ψ i = behind_moved es (λ j. ψ (suc j)) i
 
-term_moved : (a : Skeleton) (x : Image) → as_term a (rename_image suc x) ≡ rename suc (as_term a x)
+pub term_moved : (a : Skeleton) (x : Image) → as_term a (rename_image suc x) ≡ rename suc (as_term a x)
 term_moved a (keep i) = sym (rename_eta_expand suc a (variable i) nil)
 term_moved a (put b N) = refl
 
@@ -66,12 +66,8 @@ written_at n U (D ∷ later) E ds υ = written_at n U later E ds υ
 pub front_after : (x : Image) (ρ φ : ℕ → Image) → after (in_front x ρ) (moved φ) ≡ after ρ φ
 front_after x ρ φ = fun_ext (λ i. past_one x ρ (φ i))
 
-image_lifted : (ρ : ℕ → Image) (x : Image) → substitute_image (lift ρ) (rename_image suc x) ≡ rename_image suc (substitute_image ρ x)
-image_lifted ρ (keep i) = refl
-image_lifted ρ (put a N) = ap (put a) (lifted_substitution_weakened reduce reduction_is_natural ρ N)
-
 pub lift_after : (ρ φ : ℕ → Image) → after (lift ρ) (moved φ) ≡ moved (after ρ φ)
-lift_after ρ φ = fun_ext (λ i. image_lifted ρ (φ i))
+lift_after ρ φ = fun_ext (λ i. lift_past ρ (φ i))
 
 pub front_lift : (x : Image) (ρ φ : ℕ → Image) → after (in_front x ρ) (lift φ) ≡ in_front x (after ρ φ)
 front_lift x ρ φ = fun_ext at

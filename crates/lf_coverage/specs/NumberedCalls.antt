@@ -6,7 +6,7 @@ use Rattle.std.specs.Prelude.{◌≡◌, ℕ, zero, ◌⊎◌, List, [], length,
 use Rattle.lf.specs.Syntax.{Spine, LfType, Kind}
 use Rattle.lf.specs.Typing.{Signature, TypeAt, IsSignature}
 use Rattle.lf.specs.Variables.{target, binders, everything, nothing, FamiliesIn, Within}
-use Rattle.lf.specs.Subordination.{Block, AreTypedBlocks, IsBelowTest, Member, SelfContained}
+use Rattle.lf.specs.Subordination.{Block, AreTypedBlocks, IsBelowTest, IsTypedBlock, Member, SelfContained}
 use Rattle.lf_unification.specs.Unifiers.{Equation}
 use Rattle.lf_checks.specs.Clause.{Clause, IsClause, IsSubgoal, outside, scope}
 use Rattle.lf_checks.specs.Ground.{UsesGoal}
@@ -41,6 +41,11 @@ abbrev pub HasOwnBlock : {c : Clause} → Origin c → Bool → NumberedCase →
 HasOwnBlock (of_constant U) b C = Unit {0}
 HasOwnBlock (of_entry B later E es e) b C = b ≡ true → (v : BlockVariable) × (block_at C.blocks zero ≡ Some v) × (v.block ≡ B)
 
+-- The block of a pattern's entry, if it is one, is typed, with the entries behind it too: {x:exp} {u:cp x x} is, and {x:exp} {u:cp x x} {v:cp x} isn't.
+abbrev pub HasTypedBlock : Signature → {c : Clause} → Origin c → Type 0
+HasTypedBlock Σ (of_constant U) = Unit {0}
+HasTypedBlock Σ (of_entry B later E es e) = IsTypedBlock Σ B
+
 -- The head of a clause for a case of inputs: nothing is given and there is no local context; the types of the covered places mention covered places only, and
 -- the arguments there have these types. So it is with plus-s : plus (s X) Y (s Z) for the case plus X' Y' _. With a, b : type, c : b and hc : {X:a} h X it
 -- isn't so with hc for h c, since c isn't of the type a.
@@ -63,9 +68,12 @@ pub record IsSubgoalFor (Σ : Signature) (first : ℕ) (W : List Block) (C : Num
   pub known_places : UsesGoal (known_in C p) (other_places C.arguments) p.type
 
 -- A pattern for a case, whatever worlds it comes from: it is typed by itself, and of the case's family; it has as many local variables as the case; terms are
--- given for variables of its clause itself; and it is a head or a subgoal for the case. So plus-s is one for plus X Y _, and q-c : q X is none for p X.
+-- given for variables of its clause itself; and it is a head or a subgoal for the case. The block of an entry is typed, with the entries behind it too, since
+-- a block variable has all of them where the pattern and the case are unified. So plus-s is one for plus X Y _, and q-c : q X is none for p X; and the entry u
+-- of {x:exp} {u:cp x x} is one for cp X _, and that of {x:exp} {u:cp x x} {v:cp x} is none, since cp x is no type.
 pub record IsFor (Σ : Signature) (first : ℕ) (W : List Block) (C : NumberedCase) (p : Pattern) : Type 0 where
   pub typed : IsTypedPattern Σ p
+  pub typed_block : HasTypedBlock Σ p.origin
   pub same_family : target p.type ≡ C.family
   pub same_length : length C.local ≡ length (binders [] p.type)
   pub given_own : (i : ℕ) → is_given C.given i ≡ true → outside p.clause.type everything i ≡ false

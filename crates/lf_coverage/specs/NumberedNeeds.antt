@@ -13,16 +13,16 @@ use Rattle.lf_coverage.specs.EntryConstants.{IsFreeFrom}
 use Rattle.lf_coverage.specs.EntryPatternsRuns.{IsCoveredByNumber, IsNumberedLeaf}
 use Rattle.lf_coverage.specs.EntryTerms.{MatchesByNumber}
 use Rattle.lf_coverage.specs.Leaf.{IsTypedPattern}
-use Rattle.lf_coverage.specs.NumberedCalls.{IsSetting, IsFor, NumberedCoverNeeds, NumberedInputGoalIs, NumberedInputGoalNeeds, NumberedMatchedIs, NumberedMatchedNeeds, NumberedOutputGoalIs, NumberedOutputGoalNeeds, NumberedSplitIs, NumberedSplitNeeds, numbered_cases}
+use Rattle.lf_coverage.specs.NumberedCalls.{HasTypedBlock, IsSetting, IsFor, NumberedCoverNeeds, NumberedInputGoalIs, NumberedInputGoalNeeds, NumberedMatchedIs, NumberedMatchedNeeds, NumberedOutputGoalIs, NumberedOutputGoalNeeds, NumberedSplitIs, NumberedSplitNeeds, numbered_cases}
 use Rattle.lf_coverage.specs.NumberedCallsOutside.{IsSplitCaseByNumber}
 use Rattle.lf_coverage.specs.NumberedCallsReached.{ReachedByNumber, numbered_candidates}
 use Rattle.lf_coverage.specs.NumberedCase.{NumberedCase}
 use Rattle.lf_coverage.specs.NumberedInstance.{IsNumberedInstanceOf, KeepsNumbersApart}
 use Rattle.lf_coverage.specs.TypedNumbered.{IsTypedNumberedCase}
 
--- Heads of the family a, each typed by itself.
+-- Heads of the family a, each typed by itself, and its block too, where it is an entry's.
 abbrev pub AreTypedHeads : Signature → ℕ → List Pattern → Type 0
-AreTypedHeads Σ a ps = (p : Pattern) → Member p ps → IsTypedPattern Σ p × (p ≡ head_pattern p.clause p.origin) × (target p.type ≡ a)
+AreTypedHeads Σ a ps = (p : Pattern) → Member p ps → IsTypedPattern Σ p × (p ≡ head_pattern p.clause p.origin) × (target p.type ≡ a) × HasTypedBlock Σ p.origin
 
 -- The heads of clauses of the signature and of typed blocks are such.
 abbrev pub ClauseHeadsAreTyped : Type 0

@@ -1,17 +1,18 @@
 -- Worked: what the calls by number accept and refuse. Addition's goals are accepted; and refused are a pattern of another family, an argument of another type
--- that fits by its skeleton, and the goal of a subgoal where what is ground lacks the variables in its types.
-use Rattle.std.specs.Prelude.{ℕ, zero, suc, [], ◌∷◌, Bool, Option, Some, None}
+-- that fits by its skeleton, the goal of a subgoal where what is ground lacks the variables in its types, and an entry whose block isn't typed.
+use Rattle.std.specs.Prelude.{ℕ, zero, suc, List, [], ◌∷◌, Bool, Option, Some, None, refl}
 use Rattle.lf.specs.Syntax.{constant, root, nil, app, LfType, Kind, atom, pi, kind_pi, star}
 use Rattle.lf.specs.Typing.{Signature}
-use Rattle.lf.specs.Subordination.{IsBelowTest}
-use Rattle.lf_cases.specs.Pattern.{of_constant, subgoal_pattern}
-use Rattle.lf_totality.specs.Examples.{Addition, first_below_second, plus_heads, plus_input_goal, plus_output_case, var}
+use Rattle.lf.specs.Subordination.{Block, IsBelowTest}
+use Rattle.lf_cases.specs.Pattern.{Pattern, head_pattern, of_constant, of_entry, subgoal_pattern}
+use Rattle.lf_totality.specs.Examples.{Addition, Copying, copy_entry, cp, exp, first_below_second, plus_heads, plus_input_goal, plus_output_case, var}
 use Rattle.lf_totality.specs.ExamplesGroups.{on_one}
 use Rattle.lf_totality.specs.ExamplesReached.{open_case, open_clause}
 use Rattle.lf_coverage.specs.Calls.{instance}
 use Rattle.lf_coverage.specs.EntryTerms.{MatchesByNumber}
 use Rattle.lf_coverage.specs.EntryTermsInputs.{closed_head}
 use Rattle.lf_coverage.specs.ExamplesLeaves.{plus_asked}
+use Rattle.lf_coverage.specs.Leaf.{IsTypedPattern}
 use Rattle.lf_coverage.specs.NumberedCalls.{NumberedCoverNeeds, NumberedMatchedIs, NumberedMatchedNeeds}
 use Rattle.lf_coverage.specs.NumberedCase.{NumberedCase}
 use Rattle.lf_coverage.specs.Numbering.{numbered}
@@ -67,3 +68,13 @@ OtherTypeIsRefused = (NumberedMatchedNeeds Sorts 4 [] other_case (closed_head p_
 -- In {N:nat} {F:nat -> nat} {V:vec (F N)} {Y:nat} r Y -> p (F N) V, where V alone is ground before the subgoal r Y, its goal may not be handed in with it.
 abbrev pub OpenSubgoalIsRefused : Type 0
 OpenSubgoalIsRefused = (Σ : Signature) (first : ℕ) → NumberedMatchedNeeds Σ first [] (numbered first open_case) (subgoal_pattern open_clause (of_constant open_clause.type) (atom 3 (app (var 1) nil))) → ⊥
+
+-- The entry u of {x:exp} {u:cp x x} {v:cp x}: its head is typed by itself, and may be handed in with no case in whatever worlds, since cp x is no type.
+abbrev pub untyped_block : Block
+untyped_block = record { label = 108 ∷ []; some = []; entries = on_one 1 (var 1) ∷ cp (var 0) (var 0) ∷ exp ∷ [] }
+
+abbrev pub untyped_head : Pattern
+untyped_head = head_pattern copy_entry (of_entry untyped_block (on_one 1 (var 1) ∷ []) (cp (var 0) (var 0)) (exp ∷ []) refl)
+
+abbrev pub UntypedBlockIsRefused : Type 0
+UntypedBlockIsRefused = IsTypedPattern Copying untyped_head × ((first : ℕ) (W : List Block) (C : NumberedCase) → NumberedMatchedNeeds Copying first W C untyped_head → ⊥)

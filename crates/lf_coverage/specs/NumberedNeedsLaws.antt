@@ -4,7 +4,7 @@ use Rattle.lf.specs.Syntax.{LfType}
 use Rattle.lf.specs.Substitution.{Image}
 use Rattle.lf.specs.Typing.{Signature}
 use Rattle.lf.specs.Variables.{everything, target}
-use Rattle.lf.specs.Subordination.{Block, Member}
+use Rattle.lf.specs.Subordination.{Block, AreTypedBlocks, Member}
 use Rattle.lf.specs.Worlds.{World}
 use Rattle.lf.specs.Extension.{Extends}
 use Rattle.lf_checks.specs.Clause.{outside}
@@ -14,20 +14,20 @@ use Rattle.lf_coverage.specs.Calls.{instance}
 use Rattle.lf_coverage.specs.EntryPatternsRuns.{IsCoveredByNumber}
 use Rattle.lf_coverage.specs.EntryTerms.{MatchesByNumber}
 use Rattle.lf_coverage.specs.Leaf.{IsTypedPattern}
-use Rattle.lf_coverage.specs.NumberedCalls.{IsFor, IsHeadFor, IsSubgoalFor, ListsCases, NumberedCoverIs, NumberedCoverNeeds, NumberedMatchedIs, NumberedSplitIs, NumberedSplitNeeds, all_covered, numbered_cases, one_missing}
+use Rattle.lf_coverage.specs.NumberedCalls.{HasTypedBlock, IsFor, IsHeadFor, IsSubgoalFor, ListsCases, NumberedCoverIs, NumberedCoverNeeds, NumberedMatchedIs, NumberedSplitIs, NumberedSplitNeeds, all_covered, numbered_cases, one_missing}
 use Rattle.lf_coverage.specs.NumberedCallsLaws.{AnswersForGoal}
 use Rattle.lf_coverage.specs.NumberedCallsMeeting.{SharesInstance}
 use Rattle.lf_coverage.specs.NumberedCallsReached.{FirstCandidateByNumber, ReachedByNumber}
 use Rattle.lf_coverage.specs.NumberedCase.{NumberedCase, IsNumberedInstance}
 use Rattle.lf_coverage.specs.NumberedInstance.{IsNumberedInstanceOf}
 
--- A typed head of the case's family with arguments that have the types of their places is a pattern for the case; and so is a typed subgoal beside which the
--- case is typed, where terms are given for variables of the clause itself. The rest follows.
+-- A typed head of the case's family, with arguments that have the types of their places and a typed block, if it is an entry's, is a pattern for the case; and
+-- so is a typed subgoal beside which the case is typed, over typed blocks, where terms are given for variables of the clause itself. The rest follows.
 abbrev pub HeadIsFor : Type 0
-HeadIsFor = (Σ : Signature) (first : ℕ) (W : List Block) (C : NumberedCase) (p : Pattern) → IsTypedPattern Σ p → target p.type ≡ C.family → IsHeadFor Σ first C p → IsFor Σ first W C p
+HeadIsFor = (Σ : Signature) (first : ℕ) (W : List Block) (C : NumberedCase) (p : Pattern) → IsTypedPattern Σ p → HasTypedBlock Σ p.origin → target p.type ≡ C.family → IsHeadFor Σ first C p → IsFor Σ first W C p
 
 abbrev pub SubgoalIsFor : Type 0
-SubgoalIsFor = (Σ : Signature) (first : ℕ) (W : List Block) (C : NumberedCase) (p : Pattern) → IsTypedPattern Σ p → ((i : ℕ) → is_given C.given i ≡ true → outside p.clause.type everything i ≡ false) → IsSubgoalFor Σ first W C p → IsFor Σ first W C p
+SubgoalIsFor = (Σ : Signature) (first : ℕ) (W : List Block) → AreTypedBlocks Σ W → (C : NumberedCase) (p : Pattern) → IsTypedPattern Σ p → ((i : ℕ) → is_given C.given i ≡ true → outside p.clause.type everything i ≡ false) → IsSubgoalFor Σ first W C p → IsFor Σ first W C p
 
 -- Of each case that the strategy reaches and each pattern of the list it is decided by terms whether the case is an instance.
 abbrev pub ReachedIsDecided : Type 0

@@ -6,7 +6,7 @@ use Rattle.lf_coverage.specs.ExamplesTwins.{Twins, twin_goal, twin_head, twin_wo
 use Rattle.lf_coverage.specs.NumberedCalls.{NumberedCoverIs, all_covered}
 use Rattle.lf_coverage.specs.Numbering.{numbered}
 
--- The goal check X Y Z is covered by the entry u : check x x (alike x), though the split of check b.x c.x Z, which its run reaches, has no case, and b and c
--- may be one instance: what this holds then, check b.x b.x Z holds too. And cp X _ is covered by cp-lam, cp-app and the entry of {x:exp} {u:cp x x}.
+-- The goal check X Y Z is covered by the entry u : check x x (alike x). Its run reaches check b.x c.x Z, whose split has no case; and where b and c are one
+-- instance, what this case holds check b.x b.x Z holds too. The goal cp X _ is covered by cp-lam, cp-app and the entry u of {x:exp} {u:cp x x}.
 abbrev pub WorkedRunsAreAnswers : Type 0
 WorkedRunsAreAnswers = (below : ℕ → ℕ → Bool) → NumberedCoverIs Twins 3 twin_worlds below (twin_head ∷ []) (numbered 3 twin_goal) all_covered × NumberedCoverIs Copying 4 copy_worlds below copy_heads (numbered 4 copy_goal) all_covered

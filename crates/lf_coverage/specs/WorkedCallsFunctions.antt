@@ -1,5 +1,5 @@
--- Worked splits and meetings at entries that clash: an entry that is a function against a constant; and an entry against a term whose head is a free variable,
--- which is left over, also for a new block variable.
+-- Worked splits and meetings at entries: b.h X, for an entry h that is a function, clashes with s N; and the equation F b.x = c.x of a free variable F is left
+-- over, also where c is a new block variable.
 use Rattle.std.specs.Prelude.{ℕ, zero, suc, [], ◌∷◌, Bool, Option, Some, None}
 use Rattle.lf.specs.Syntax.{constant, variable, metavariable, Term, root, nil, app, LfType, Kind, pi, kind_pi, star}
 use Rattle.lf.specs.Subordination.{Block}
@@ -14,7 +14,7 @@ use Rattle.lf_coverage.specs.NumberedCalls.{NumberedMatchedIs, NumberedSplitIs, 
 use Rattle.lf_coverage.specs.NumberedCase.{NumberedCase}
 use Rattle.lf_coverage.specs.NumberedSplitsExamples.{Bare, exp, exp_block, has}
 
--- Families: nat = 0, a = 1, nat -> type, and q = 2, {N:nat} a N -> type. Constants: s : nat -> nat, 0, and a-s : {N:nat} a (s N), 1.
+-- The families are nat : type (0), a : nat -> type (1) and q : {N:nat} a N -> type (2). The constants are s : nat -> nat (0) and a-s : {N:nat} a (s N) (1).
 abbrev pub rising : LfType
 rising = pi nat (on_one 1 (root (constant 0) (app (var 0) nil)))
 
@@ -36,23 +36,24 @@ Rising = record { types = rising_types; kinds = rising_kinds }
 abbrev pub rising_block : Block
 rising_block = record { label = 98 ∷ []; some = []; entries = pi nat nat ∷ [] }
 
--- b.h M for a block variable b: its constant is 3.
+-- The term b.h M, for a block variable b. The constant of b.h is 3.
 abbrev pub entry_of : Term → Term
 entry_of M = root (constant 3) (app M nil)
 
--- q (b.h X) Y with Y : a (b.h X); and a (b.h X).
+-- The cases are q (b.h X) Y, with Y : a (b.h X), and a (b.h X).
 abbrev pub applied_entry : NumberedCase
 applied_entry = record { blocks = record { block = rising_block; terms = nil } ∷ []; variables = on_one 1 (entry_of (var 0)) ∷ nat ∷ []; given = []; local = []; family = 2; arguments = Some (entry_of (var 1)) ∷ Some (var 0) ∷ [] }
 
 abbrev pub index_entry : NumberedCase
 index_entry = record { blocks = record { block = rising_block; terms = nil } ∷ []; variables = nat ∷ []; given = []; local = []; family = 1; arguments = Some (entry_of (var 0)) ∷ [] }
 
--- b.h X = s N is a clash of two rigid heads, as of two constants. So a-s gives no case of Y, and no other head is there; and a (b.h X) is apart from a (s N).
+-- The equation b.h X = s N is a clash of two rigid heads, as of two constants. So a-s gives no case of Y, and there is no other head: the split has no case.
+-- And a (b.h X) is apart from the head a (s N) of a-s.
 abbrev pub FunctionEntryClashes : Type 0
 FunctionEntryClashes = ((below : ℕ → ℕ → Bool) → IsSubordination Rising (rising_block ∷ []) below → NumberedSplitIs Rising 3 (rising_block ∷ []) below applied_entry 0 (numbered_cases [])) × NumberedMatchedIs Rising 3 (rising_block ∷ []) index_entry (head_of rising) apart
 
--- Over exp and p : exp -> type, in the worlds of {x:exp} {u:p x}: Y : p (F b.x), for a block variable b. 2 is b.x, and those of a new block variable c are
--- c.x = 4 and c.u = 5.
+-- The other split is over exp and p : exp -> type, in the worlds of {x:exp} {u:p x}. Its case is p (F b.x), with Y : p (F b.x), for a block variable b. The
+-- constant of b.x is 2, and those of a new block variable c are 4 for c.x and 5 for c.u.
 abbrev pub flexible_index : Term
 flexible_index = root (variable 1) (app (root (constant 2) nil) nil)
 
@@ -65,6 +66,6 @@ flexible_with_new = record { blocks = record { block = exp_block; terms = nil } 
 abbrev pub flexible_left : Equation
 flexible_left = record { local = []; left = root (metavariable 1) (app (root (constant 2) nil) nil); right = root (constant 4) nil; of_type = exp }
 
--- At the head c.u : p c.x the equation F b.x = c.x is left. It is shown over the case with the new block variable c, of which the case itself has nothing.
+-- At the head c.u : p c.x the equation F b.x = c.x is left. It is shown over the case with the new block variable c, since the case without it has no c.x.
 abbrev pub NewEntryIsLeft : Type 0
 NewEntryIsLeft = (below : ℕ → ℕ → Bool) → NumberedSplitIs Bare 2 (exp_block ∷ []) below flexible_case 0 (outside_over flexible_with_new flexible_left)

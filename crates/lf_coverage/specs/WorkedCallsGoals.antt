@@ -1,4 +1,5 @@
--- Worked goals by number: of outputs, with variables that are not ground, and where a `some` variable is asked for; and of inputs of a family without a clause.
+-- Worked goals by number: the goal of an output whose inputs aren't all ground, the goal of an output whose subgoal asks for a `some` variable, and the goal
+-- of the inputs of a family without a clause.
 use Rattle.std.specs.Prelude.{ℕ, zero, suc, [], ◌∷◌, Bool, Option, Some, None, refl}
 use Rattle.lf.specs.Syntax.{nil, app, Kind, pi, atom, kind_pi, star}
 use Rattle.lf.specs.Typing.{Signature}
@@ -13,8 +14,8 @@ use Rattle.lf_coverage.specs.NumberedCalls.{NumberedCoverIs, NumberedMatchedIs, 
 use Rattle.lf_coverage.specs.NumberedCase.{NumberedCase}
 use Rattle.lf_coverage.specs.NumberedSplitsExamples.{Bare, open_case}
 
--- {N:nat} {F:nat -> nat} {V:vec (F N)} {Y:nat} r Y -> p (F N) V, with vec = 1, p = 2 and r = 3: V is ground by the inputs of the head, and F and N, which its
--- type mentions, aren't. The goal of r's output keeps variables for all three, and V alone is given.
+-- The clause is {N:nat} {F:nat -> nat} {V:vec (F N)} {Y:nat} r Y -> p (F N) V, where the families vec, p and r are 1, 2 and 3. The inputs of its head make V
+-- ground, but not F and N, which the type of V mentions. The goal r Y of the output keeps variables for all three, and V alone is given.
 abbrev pub closed_goal : NumberedCase
 closed_goal = record {
   blocks = [];
@@ -28,7 +29,8 @@ closed_goal = record {
 abbrev pub OutputGoalIsClosed : Type 0
 OutputGoalIsClosed = NumberedOutputGoalIs 4 first_below_second open_marks (of_constant open_clause.type) (ground_first open_marks open_clause) (atom 3 (app (var 1) nil)) (kind_pi nat star) closed_goal (subgoal_pattern open_clause (of_constant open_clause.type) (atom 3 (app (var 1) nil)))
 
--- Families nat = 0, e = 1, q : e -> nat -> type = 2 and r : e -> type = 3, no constants, and some {n:nat} block {x:e} {u:q x n -> r x}, with q + -.
+-- The families are nat : type (0), e : type (1), q : e -> nat -> type (2) and r : e -> type (3), and there are no constants. The block is some {n:nat} block
+-- {x:e} {u:q x n -> r x}, and the mode of q is q + -.
 abbrev pub asking_kinds : ℕ → Option Kind
 asking_kinds zero = Some star
 asking_kinds (suc zero) = Some star
@@ -48,19 +50,20 @@ asks_some_origin = of_entry asks_some_block [] asks_some_entry (atom 1 nil ∷ [
 abbrev pub asks_some : Pattern
 asks_some = subgoal_pattern asks_some_clause asks_some_origin (on_two 2 (var 1) (var 2))
 
--- The goal of the output is q b.x Y, for u's own block variable b on N.
+-- The goal of the output is q b.x Y, for the block variable b on N to which u itself belongs.
 abbrev pub asks_some_goal : NumberedCase
 asks_some_goal = record { blocks = record { block = asks_some_block; terms = app (var 1) nil } ∷ []; variables = nat ∷ nat ∷ []; given = None ∷ []; local = []; family = 2; arguments = None ∷ Some (var 0) ∷ [] }
 
--- Its subgoal asks q x n, where n is ground before: it shares Y = N with the goal, which is none of it, and where the subgoal has a `some` variable there is no
--- candidate. So the strategy can't split the goal. The entry isn't linear, since n is ground before the subgoal that has it as its output.
+-- The subgoal of u asks for q x n, where n is ground before it. The goal q b.x Y shares q b.x N with it and is no instance of it, and where the subgoal has
+-- the `some` variable n there is no candidate. So the strategy can't split the goal. Such an entry isn't linear, since n is ground before the subgoal that has
+-- it as its output.
 abbrev pub SomeOutputIsUnsplit : Type 0
 SomeOutputIsUnsplit =
     NumberedOutputGoalIs 4 first_below_second q_marks asks_some_origin (ground_first q_marks asks_some_clause) (on_two 2 (var 1) (var 2)) (kind_pi (atom 1 nil) (kind_pi nat star)) asks_some_goal asks_some
     × NumberedMatchedIs Asking 4 (asks_some_block ∷ []) asks_some_goal asks_some stuck
     × ((below : ℕ → ℕ → Bool) → NumberedCoverIs Asking 4 (asks_some_block ∷ []) below (asks_some ∷ []) asks_some_goal (one_unsplit asks_some_goal))
 
--- p X in the empty world, where exp has no constant and p has no clause. A split has no case, so the goal is covered, as it has no instance; and without a
--- clause there is no candidate, so the strategy doesn't split it, and answers that it is missing. Both are right.
+-- The last goal is p X in the empty world, where exp has no constant and p has no clause. A split has no case, so the goal is covered, as it has no instance.
+-- Without a clause there is no candidate, so the strategy doesn't split the goal, and answers that it is missing. Both answers are right.
 abbrev pub MissingHasNoInstance : Type 0
 MissingHasNoInstance = (below : ℕ → ℕ → Bool) → IsSubordination Bare [] below → NumberedSplitIs Bare 2 [] below open_case 0 (numbered_cases []) × NumberedCoverIs Bare 2 [] below [] open_case all_covered × NumberedCoverIs Bare 2 [] below [] open_case (one_missing open_case)

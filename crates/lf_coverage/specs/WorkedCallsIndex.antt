@@ -1,4 +1,4 @@
--- A worked run in which an index is split before the argument that has it: so a case is missing that nothing inhabits.
+-- A worked run in which the index N of X : odd N is split before X: so f z X is answered to be missing, though no X has the type odd z.
 use Rattle.std.specs.Prelude.{ℕ, zero, suc, [], ◌∷◌, Bool, Option, Some, None}
 use Rattle.lf.specs.Syntax.{constant, root, nil, LfType, Kind, pi, kind_pi, star}
 use Rattle.lf.specs.Typing.{Signature}
@@ -11,7 +11,8 @@ use Rattle.lf_coverage.specs.Calls.{apart, candidates}
 use Rattle.lf_coverage.specs.NumberedCalls.{NumberedCoverIs, NumberedMatchedIs, NumberedSplitIs, numbered_cases, one_missing}
 use Rattle.lf_coverage.specs.NumberedCase.{NumberedCase}
 
--- Families: nat = 0, odd = 1, nat -> type, and f = 2, {N:nat} odd N -> type. Constants: z = 0, s = 1, o : odd (s z), 2, and f-1 : f (s z) o, 3.
+-- The families are nat : type (0), odd : nat -> type (1) and f : {N:nat} odd N -> type (2). The constants are z : nat (0), s : nat -> nat (1), o : odd (s z)
+-- (2) and f-1 : f (s z) o (3).
 abbrev pub odd_one : LfType
 odd_one = on_one 1 (successor z)
 
@@ -40,15 +41,15 @@ Odd = record { types = odd_types; kinds = odd_kinds }
 abbrev pub f_head : Pattern
 f_head = head_of f_type
 
--- The goal f N X, with X : odd N; and f z X, with X : odd z.
+-- The goal is f N X, with X : odd N, and the other case is f z X, with X : odd z.
 abbrev pub f_goal : NumberedCase
 f_goal = record { blocks = []; variables = on_one 1 (var 0) ∷ nat ∷ []; given = []; local = []; family = 2; arguments = Some (var 1) ∷ Some (var 0) ∷ [] }
 
 abbrev pub f_zero : NumberedCase
 f_zero = record { blocks = []; variables = on_one 1 z ∷ []; given = []; local = []; family = 2; arguments = Some z ∷ Some (var 0) ∷ [] }
 
--- Candidates come from the left: N, 1, before X, 0. So N is split first, f z X is reached, and it is missing, as it is apart from f-1; though a split of X
--- has no case, since nothing is odd z.
+-- Candidates come from the left: N, which is the variable 1, comes before X, which is 0. So N is split first and f z X is reached. It is apart from f (s z) o,
+-- so it is missing; though a split at X has no case, since no head has the type odd z.
 abbrev pub IndexIsSplitFirst : Type 0
 IndexIsSplitFirst =
     NumberedMatchedIs Odd 4 [] f_goal f_head (candidates (1 ∷ 0 ∷ []))

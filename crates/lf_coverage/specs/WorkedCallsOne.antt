@@ -1,5 +1,5 @@
--- Worked meetings of cases with two block variables: of one block, where they may be one, so that the equations are solved, or one is left; and of two blocks
--- of like entries, where they may not.
+-- Worked meetings of cases with two block variables b and c. If they are of one block, they may be one: then b.x = c.x is solved, or another equation is left.
+-- If they are of two blocks with the same entries, they are never one.
 use Rattle.std.specs.Prelude.{◌≡◌, ℕ, zero, suc, [], ◌∷◌, Bool, Option, Some, None}
 use Rattle.lf.specs.Syntax.{constant, variable, root, nil, app, LfType, Kind, pi, kind_pi, star}
 use Rattle.lf.specs.Substitution.{keep}
@@ -16,8 +16,8 @@ use Rattle.lf_coverage.specs.NumberedCalls.{NumberedCoverIs, NumberedMatchedIs, 
 use Rattle.lf_coverage.specs.NumberedCallsStores.{IsOpenByNumber, identified, meet_store_by_number}
 use Rattle.lf_coverage.specs.NumberedCase.{NumberedCase}
 
--- Families: exp = 0, eq = 1, exp -> exp -> type, and e = 2, exp -> exp -> exp -> type. Constants: a : exp, 0; eq-r : {X:exp} eq X X, 1; and
--- e-r : {X:exp} e X X a, 2.
+-- The families are exp : type (0), eq : exp -> exp -> type (1) and e : exp -> exp -> exp -> type (2). The constants are a : exp (0), eq-r : {X:exp} eq X X (1)
+-- and e-r : {X:exp} e X X a (2).
 abbrev pub twice_type : LfType
 twice_type = pi exp (on_two 1 (var 0) (var 0))
 
@@ -51,26 +51,27 @@ twice_head = head_of twice_type
 abbrev pub thrice_head : Pattern
 thrice_head = head_of thrice_type
 
--- l : block {x:exp}, and another block of the same entries, k : block {x:exp}
+-- There are two blocks with the same entries: l is block {x:exp}, and k is block {x:exp} too.
 abbrev pub l_block : Block
 l_block = record { label = 108 ∷ []; some = []; entries = exp ∷ [] }
 
 abbrev pub k_block : Block
 k_block = record { label = 107 ∷ []; some = []; entries = exp ∷ [] }
 
--- eq b.x c.x for two block variables of l: b.x = 3 and c.x = 4.
+-- The case is eq b.x c.x for two block variables b and c of l. The constant of b.x is 3, and that of c.x is 4.
 abbrev pub two_of_one : NumberedCase
 two_of_one = record { blocks = record { block = l_block; terms = nil } ∷ record { block = l_block; terms = nil } ∷ []; variables = []; given = []; local = []; family = 1; arguments = Some (root (constant 3) nil) ∷ Some (root (constant 4) nil) ∷ [] }
 
--- The store of the case and a pattern, where block variables are one by π; and the signature with their entries.
+-- The store of the meeting of a case with a pattern, where block variables with the same number under π are one; and the signature with the entries b.x and
+-- c.x.
 abbrev pub store_with : (ℕ → ℕ) → NumberedCase → Pattern → Kind → Store
 store_with π C p K = meet_store_by_number π (identified 3 π C) p keep K
 
 abbrev pub WithTwo : Signature
 WithTwo = with_entries Thrice 3 (l_block ∷ l_block ∷ [])
 
--- Where b and c are different, X = b.x and X = c.x clash. Where they are one, X is b.x. So the case shares eq b.x b.x with eq-r, and is no instance of it:
--- it is stuck, can't be split and isn't missing.
+-- If b and c are different, X = b.x and X = c.x clash. If they are one, X is b.x. So the case shares eq b.x b.x with eq X X, and is no instance of it: it is
+-- stuck, it can't be split, and it isn't missing.
 abbrev pub MadeOneIsSolved : Type 0
 MadeOneIsSolved =
     CanRefute WithTwo (store_with (λ k. k) two_of_one twice_head eq_kind)
@@ -78,7 +79,7 @@ MadeOneIsSolved =
     × NumberedMatchedIs Thrice 3 (l_block ∷ []) two_of_one twice_head stuck
     × ((below : ℕ → ℕ → Bool) → NumberedCoverIs Thrice 3 (l_block ∷ []) below (twice_head ∷ []) two_of_one (one_unsplit two_of_one) × (NumberedCoverIs Thrice 3 (l_block ∷ []) below (twice_head ∷ []) two_of_one (one_missing two_of_one) → ⊥))
 
--- e b.x c.x (F a), for a free variable F : exp -> exp
+-- The second case is e b.x c.x (F a), for a free variable F : exp -> exp.
 abbrev pub two_and_applied : NumberedCase
 two_and_applied = record {
   blocks = record { block = l_block; terms = nil } ∷ record { block = l_block; terms = nil } ∷ [];
@@ -89,15 +90,15 @@ two_and_applied = record {
   arguments = Some (root (constant 3) nil) ∷ Some (root (constant 4) nil) ∷ Some (root (variable 0) (app (root (constant 0) nil) nil)) ∷ [];
 }
 
--- With e-r it clashes too where b and c are different. Where they are one, F a = a is left: so it is open whether they meet, and it is stuck.
+-- With e X X a it clashes too if b and c are different. If they are one, F a = a is left: so it stays open whether the two meet, and the case is stuck.
 abbrev pub MadeOneIsOpen : Type 0
 MadeOneIsOpen = CanRefute WithTwo (store_with (λ k. k) two_and_applied thrice_head e_kind) × IsOpenByNumber Thrice 3 two_and_applied thrice_head × NumberedMatchedIs Thrice 3 (l_block ∷ []) two_and_applied thrice_head stuck
 
--- eq b.x c.x for a block variable b of l and one c of k
+-- The third case is eq b.x c.x for a block variable b of l and a block variable c of k.
 abbrev pub two_of_two : NumberedCase
 two_of_two = record { blocks = record { block = l_block; terms = nil } ∷ record { block = k_block; terms = nil } ∷ []; variables = []; given = []; local = []; family = 1; arguments = Some (root (constant 3) nil) ∷ Some (root (constant 4) nil) ∷ [] }
 
--- An entry belongs to one instance, and this to one block. So they are never one, though their blocks have the same entries: the case is apart from eq-r,
--- and it is missing.
+-- An entry belongs to one instance, and an instance to one block. So b and c are never one, though their blocks have the same entries: the case is apart from
+-- eq X X, and it is missing.
 abbrev pub OtherBlocksStayApart : Type 0
 OtherBlocksStayApart = NumberedMatchedIs Thrice 3 (l_block ∷ k_block ∷ []) two_of_two twice_head apart × ((below : ℕ → ℕ → Bool) → NumberedCoverIs Thrice 3 (l_block ∷ k_block ∷ []) below (twice_head ∷ []) two_of_two (one_missing two_of_two))

@@ -1,4 +1,5 @@
--- A worked goal of outputs whose type mentions a local variable that isn't below its family, as the types of `some` variables allow; and its split.
+-- A worked goal of an output Y : {x:a} d (F x), whose type mentions a local variable x though a isn't below d, as the types of `some` variables allow; and its
+-- split.
 use Rattle.std.specs.Prelude.{ℕ, zero, suc, [], ◌∷◌, List, Option, Some, None, refl}
 use Rattle.lf.specs.Syntax.{constant, lambda, Term, root, nil, app, LfType, Kind, pi, atom, kind_pi, star}
 use Rattle.lf.specs.Subordination.{Block}
@@ -13,8 +14,8 @@ use Rattle.lf_coverage.specs.ExamplesTwins.{up_to}
 use Rattle.lf_coverage.specs.NumberedCalls.{NumberedMatchedIs, NumberedOutputGoalIs, NumberedSplitIs, numbered_cases}
 use Rattle.lf_coverage.specs.NumberedCase.{NumberedCase}
 
--- Families: b = 0, d = 1, b -> type, q = 2, {y:b} d y -> type, a = 3 and r = 4; one constant, g : {y:b} d y, 0. Each family is below each later one: so a isn't
--- below b, d and q.
+-- The families are b : type (0), d : b -> type (1), q : {y:b} d y -> type (2), a : type (3) and r : type (4), and the one constant is g : {y:b} d y (0). Each
+-- family is below each later one, so a isn't below b, d and q.
 abbrev pub fam_b : LfType
 fam_b = atom 0 nil
 
@@ -51,7 +52,7 @@ raising_kinds (suc (suc (suc (suc (suc c))))) = None
 abbrev pub Raising : Signature
 Raising = record { types = raising_types; kinds = raising_kinds }
 
--- {x:a} q (f x) (g (f x)); l : some {f:a -> b} block {u:({x:a} q (f x) (g (f x))) -> r}; and k : block {x:a}
+-- The subgoal is {x:a} q (f x) (g (f x)). There are two blocks: l is some {f:a -> b} block {u:({x:a} q (f x) (g (f x))) -> r}, and k is block {x:a}.
 abbrev pub asks_both : ℕ → LfType
 asks_both f = pi fam_a (atom 2 (app (applied_to f 0) (app (g_of (applied_to f 0)) nil)))
 
@@ -73,15 +74,15 @@ raising_clause = entry_clause raising_block [] raising_entry
 abbrev pub raising_origin : Origin raising_clause
 raising_origin = of_entry raising_block [] raising_entry [] refl
 
--- q + -
+-- The mode of q is q + -: its first place is an input, and its second an output.
 abbrev pub raising_marks : ℕ → List Mark
 raising_marks f = input ∷ output ∷ []
 
--- u's subgoal
+-- The pattern is the subgoal of the entry u.
 abbrev pub asked_both : Pattern
 asked_both = subgoal_pattern raising_clause raising_origin (asks_both 2)
 
--- The output g (f x) has the type d (f x). So the goal is q (F x) (Y x), with Y : {x:a} d (F x), under {x:a}, for u's own block variable on F.
+-- The output g (f x) has the type d (f x). So the goal is q (F x) (Y x) under {x:a}, with Y : {x:a} d (F x), for the block variable on F to which u belongs.
 abbrev pub raised_goal : NumberedCase
 raised_goal = record {
   blocks = record { block = raising_block; terms = app (lambda (applied_to 2 0)) nil } ∷ [];
@@ -92,7 +93,7 @@ raised_goal = record {
   arguments = None ∷ Some (applied_to 1 0) ∷ [];
 }
 
--- q Z (g Z), where the own block variable is on [x] Z
+-- The case that the split gives is q Z (g Z), where the block variable stands on [x] Z.
 abbrev pub constant_goal : NumberedCase
 constant_goal = record {
   blocks = record { block = raising_block; terms = app (lambda (var 1)) nil } ∷ [];
@@ -103,8 +104,8 @@ constant_goal = record {
   arguments = None ∷ Some (g_of (var 1)) ∷ [];
 }
 
--- It is raised over x, since its type mentions x, though a isn't below d. The argument of g isn't: so Y is [x] g Z and F is [x] Z, which loses nothing, as no
--- term of b has a term of a in it. What the split gives is an instance of the subgoal.
+-- Y is raised over x, since its type d (f x) mentions x, though a isn't below d. The argument Z of g isn't raised: Y is [x] g Z and F is [x] Z, which loses
+-- nothing, as no term of b has a term of a in it. What the split gives is an instance of the subgoal.
 abbrev pub MentionedOutputIsSplit : Type 0
 MentionedOutputIsSplit =
     NumberedOutputGoalIs 5 up_to raising_marks raising_origin (ground_first raising_marks raising_clause) (asks_both 2) q_kind raised_goal asked_both

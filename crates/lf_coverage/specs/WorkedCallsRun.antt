@@ -1,5 +1,5 @@
--- A whole run by number in a world with a block: each split, each leaf and the answer. An entry of the block is of a family that nothing asks for, and that
--- isn't in the set beside which the goal is covered.
+-- A whole run by number in the worlds of {x:exp} {u:w x} {v:q x}: the split, its leaves and the answer. Nothing asks for the family w of the entry u, and it
+-- isn't in the set beside which the goal q E is covered.
 use Rattle.std.specs.Prelude.{ℕ, zero, suc, [], ◌∷◌, List, Bool, true, false, Option, Some, None, refl}
 use Rattle.lf.specs.Syntax.{constant, Term, root, nil, app, LfType, Kind, pi, kind_pi, star}
 use Rattle.lf.specs.Subordination.{Block}
@@ -13,7 +13,8 @@ use Rattle.lf_coverage.specs.Calls.{instance}
 use Rattle.lf_coverage.specs.NumberedCalls.{IsBesideByNumber, NumberedCoverIs, NumberedMatchedIs, NumberedSplitIs, all_covered, numbered_cases}
 use Rattle.lf_coverage.specs.NumberedCase.{NumberedCase}
 
--- Families: exp = 0, w = 1 and q = 2, both exp -> type. Constants: a : exp, 0; b : exp -> exp, 1; q-a : q a, 2; and q-b : {E:exp} q (b E), 3.
+-- The families are exp : type (0), w : exp -> type (1) and q : exp -> type (2). The constants are a : exp (0), b : exp -> exp (1), q-a : q a (2) and q-b :
+-- {E:exp} q (b E) (3).
 abbrev pub a : Term
 a = root (constant 0) nil
 
@@ -52,7 +53,7 @@ unasked_worlds = unasked_block ∷ []
 abbrev pub v_clause : Clause
 v_clause = entry_clause unasked_block (on_one 1 (var 0) ∷ exp ∷ []) (on_one 2 (var 1))
 
--- the heads of q-a, q-b and the entry v
+-- The patterns are the heads q a of q-a, q (b E) of q-b and q x of the entry v.
 abbrev pub a_head : Pattern
 a_head = head_pattern q_a (of_constant q_a.type)
 
@@ -65,7 +66,7 @@ v_head = head_pattern v_clause (of_entry unasked_block [] (on_one 2 (var 1)) (on
 abbrev pub unasked_heads : List Pattern
 unasked_heads = a_head ∷ b_head ∷ v_head ∷ []
 
--- The goal q E, and what its split gives: q a, q (b E), and q b.x for a new block variable b, whose constants are 4 to 6.
+-- The goal is q E. Its split gives q a, q (b E), and q b.x for a new block variable b, whose constants are 4 for b.x, 5 for b.u and 6 for b.v.
 abbrev pub q_goal : NumberedCase
 q_goal = record { blocks = []; variables = exp ∷ []; given = []; local = []; family = 2; arguments = Some (var 0) ∷ [] }
 
@@ -78,15 +79,15 @@ q_b_case = record { blocks = []; variables = exp ∷ []; given = []; local = [];
 abbrev pub q_x_case : NumberedCase
 q_x_case = record { blocks = record { block = unasked_block; terms = nil } ∷ []; variables = []; given = []; local = []; family = 2; arguments = Some (root (constant 4) nil) ∷ [] }
 
--- exp and q, without w
+-- The set has exp and q, but not w.
 abbrev pub exp_and_q : ℕ → Bool
 exp_and_q zero = true
 exp_and_q (suc zero) = false
 exp_and_q (suc (suc zero)) = true
 exp_and_q (suc (suc (suc c))) = false
 
--- The run: the split, its three leaves, and the answer, that q E is covered beside each set that the contract names. That of exp and q alone is one, though the
--- entry u of the block, which comes with b.x, is of the family w outside it.
+-- The run is the split, its three leaves, and the answer: q E is covered beside each set that the contract names. The set of exp and q alone is one of them,
+-- though the entry u, which comes with b.x, has the family w, which isn't in it.
 abbrev pub UnaskedEntryIsNoHindrance : Type 0
 UnaskedEntryIsNoHindrance = (below : ℕ → ℕ → Bool) → IsSubordination Unasked unasked_worlds below →
     NumberedSplitIs Unasked 4 unasked_worlds below q_goal 0 (numbered_cases (q_a_case ∷ q_b_case ∷ q_x_case ∷ []))

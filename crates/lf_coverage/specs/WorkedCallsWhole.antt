@@ -1,4 +1,5 @@
--- A worked run by number with two constants' clauses and an entry's, in which the strategy's own candidates make an older block variable stand on a newer one.
+-- A worked run by number with the clauses of two constants and of an entry. The strategy's own candidates make an older block variable b stand on the entry
+-- c.x of a newer one, as in f c.x b.y.
 use Rattle.std.specs.Prelude.{◌≡◌, ℕ, zero, suc, [], ◌∷◌, List, Bool, Option, Some, None, refl}
 use Rattle.lf.specs.Syntax.{constant, Term, root, nil, app, LfType, pi}
 use Rattle.lf.specs.Typing.{Signature}
@@ -14,8 +15,8 @@ use Rattle.lf_coverage.specs.NumberedCalls.{NumberedCoverIs, NumberedMatchedIs, 
 use Rattle.lf_coverage.specs.NumberedCallsReached.{numbered_candidates}
 use Rattle.lf_coverage.specs.NumberedCase.{NumberedCase}
 
--- Families: exp = 0, t = 1, exp -> type, and f = 2, {N:exp} t N -> type. Constants: a : exp, 0; d : {M:exp} t M, 1; f-d : {M:exp} f M (d M), 2; and
--- f-a : {Y:t a} f a Y, 3.
+-- The families are exp : type (0), t : exp -> type (1) and f : {N:exp} t N -> type (2). The constants are a : exp (0), d : {M:exp} t M (1), f-d : {M:exp} f M
+-- (d M) (2) and f-a : {Y:t a} f a Y (3).
 abbrev pub a : Term
 a = root (constant 0) nil
 
@@ -41,7 +42,7 @@ whole_types (suc (suc (suc (suc c)))) = None
 abbrev pub Whole : Signature
 Whole = record { types = whole_types; kinds = turning_kinds }
 
--- The heads of f-d and f-a, and that of the entry u of block {x:exp} {u:{Y:t x} f x Y}
+-- The patterns are the heads f M (d M) of f-d and f a Y of f-a, and the head f x Y of the entry u of block {x:exp} {u:{Y:t x} f x Y}.
 abbrev pub at_d_head : Pattern
 at_d_head = head_of at_d_type
 
@@ -57,8 +58,8 @@ turning_head = head_pattern turning_clause (of_entry second_block [] (pi (on_one
 abbrev pub whole_heads : List Pattern
 whole_heads = at_d_head ∷ at_a_head ∷ turning_head ∷ []
 
--- From f N Y, with Y : t N, come f M (d M) and f N b.y, for b of some {n:exp} block {y:t n} on N; and from the latter f a b.y and f c.x b.y, where b is on
--- c.x: b.y = 4, c.x = 5.
+-- The goal f N Y, with Y : t N, is split into f M (d M) and f N b.y, for a block variable b of some {n:exp} block {y:t n} on N. The latter is split into f a
+-- b.y, where b stands on a, and f c.x b.y, where b stands on c.x. The constant of b.y is 4, and that of c.x is 5.
 abbrev pub turning_goal : NumberedCase
 turning_goal = record { blocks = []; variables = on_one 1 (var 0) ∷ exp ∷ []; given = []; local = []; family = 2; arguments = Some (var 1) ∷ Some (var 0) ∷ [] }
 
@@ -81,7 +82,8 @@ x_case = record {
   arguments = Some (root (constant 5) nil) ∷ Some (root (constant 4) (app (root (constant 5) nil) nil)) ∷ [];
 }
 
--- Y is the first candidate of the goal, by f-d, and N that of f N b.y, by f-a. The splits at these, their three leaves, and the answer: the goal is covered.
+-- Y is the first candidate of the goal, by f M (d M), and N is that of f N b.y, by f a Y. The law names the splits at these two, their three leaves, and the
+-- answer: the goal is covered.
 abbrev pub WholeRunIsAnswered : Type 0
 WholeRunIsAnswered =
     (numbered_candidates 4 turning_goal at_d_head ≡ 0 ∷ [])

@@ -1726,20 +1726,22 @@ pub fn reached_is_instance_by_number()
     ensures { ReachedIsNumberedInstance }
 {}
 
-ghost use Rattle.lf_coverage.specs.NumberedNeedsExamples.{PlusHasNeeds, OtherFamilyIsRefused, OtherTypeIsRefused, OpenSubgoalIsRefused};
+ghost use Rattle.lf_coverage.specs.NumberedNeedsExamples.{PlusHasNeeds, OtherFamilyIsRefused, OtherTypeIsRefused, OpenSubgoalIsRefused, UntypedBlockIsRefused};
 
 /// Addition's goals may be handed in. p X may not with q X, of another family, nor p c with p X, where c has another type, nor the goal of a subgoal where
-/// what is ground lacks the variables in its types.
+/// what is ground lacks the variables in its types, nor any case with an entry whose block isn't typed.
 pub fn needs_are_worked()
     ensures plus { PlusHasNeeds }
     ensures family { OtherFamilyIsRefused }
     ensures argument { OtherTypeIsRefused }
     ensures open { OpenSubgoalIsRefused }
+    ensures block { UntypedBlockIsRefused }
 {}
 
 ghost use Rattle.lf_coverage.specs.NumberedNeedsLaws.{HeadIsFor, SubgoalIsFor, ReachedIsDecided, ReachedMayBeSplit, NeededSplitIsAnswer, NeededRunIsCovered, MissingIsHonest};
 
-/// A typed head of the case's family with typed arguments is a pattern for the case, and so is a typed subgoal beside which it is typed.
+/// A typed head of the case's family with typed arguments, and a typed block if it is an entry's, is a pattern for the case, and so is a typed subgoal beside
+/// which it is typed.
 pub fn patterns_are_for()
     ensures head { HeadIsFor }
     ensures subgoal { SubgoalIsFor }
@@ -1935,15 +1937,16 @@ pub fn raised_is_candidate()
 
 ghost use Rattle.lf_coverage.specs.WorkedCallsEntries.{OwnTermGivesNoCase};
 
-/// p M, for a block variable b of some {n:exp} block {x:exp} on M, is split into p c.x alone, for a new block variable c: M = b.x M is an occurs check.
+/// p M, for a block variable b of some {n:exp} block {x:exp} on M, is split into p (c.x N) alone, for a new block variable c on N: b.x gives no case, since in
+/// M = b.x M the variable M occurs on the right.
 pub fn own_term_gives_no_case()
     ensures { OwnTermGivesNoCase }
 {}
 
 ghost use Rattle.lf_coverage.specs.WorkedCallsOrder.{NewEntryComesFirst, EntryIsOfferedTwice};
 
-/// p X beside a block variable b of {x:exp} {u:p x} is split into p c.x, for a new one c, and p b.x; in worlds that have the block twice p X is split into
-/// p b.x twice.
+/// p X beside a block variable b of {x:exp} {u:p x} is split into p c.x, for a new block variable c, and p b.x, in this order; and in worlds that have the
+/// block twice, p X is split into p b.x and again p b.x.
 pub fn entries_come_in_order()
     ensures first { NewEntryComesFirst }
     ensures twice { EntryIsOfferedTwice }
@@ -1951,8 +1954,8 @@ pub fn entries_come_in_order()
 
 ghost use Rattle.lf_coverage.specs.WorkedCallsFunctions.{FunctionEntryClashes, NewEntryIsLeft};
 
-/// For a block variable b of {h:nat -> nat} the equation b.h X = s N is a clash, so Y : a (b.h X) isn't split by a-s : {N:nat} a (s N), and a (b.h X) is apart
-/// from it. In the worlds of {x:exp} {u:p x} a split of Y : p (F b.x) leaves F b.x = c.x, over the case with the new block variable c.
+/// For a block variable b of {h:nat -> nat} the equation b.h X = s N is a clash: so a-s : {N:nat} a (s N) gives no case of Y : a (b.h X), and a (b.h X) is
+/// apart from a (s N). In the worlds of {x:exp} {u:p x} a split at Y : p (F b.x) leaves F b.x = c.x, over the case with the new block variable c.
 pub fn entries_clash()
     ensures function { FunctionEntryClashes }
     ensures left { NewEntryIsLeft }
@@ -1960,9 +1963,9 @@ pub fn entries_clash()
 
 ghost use Rattle.lf_coverage.specs.WorkedCallsStuck.{AppliedIsStuck, SomeVariableGivesNoCandidate, NoPlacesAreStuck, EntryDeterminesNothing, SomeTermsDetermineNothing};
 
-/// Cases that share an instance with the one pattern, are none of it and have no candidate: k X with {F:nat -> nat} k (F z); p X with u : p n of
-/// some {n:exp} block {u:p n}; the goal of exp with the entry of {x:exp}; p b.x with u : {Y:exp -> exp} p (Y x); and p N, for b on [x] x, with
-/// u : {Z:exp} p (f Z) of some {f:exp -> exp}.
+/// Each of these cases shares an instance with the one pattern, is no instance of it and has no candidate: k X with {F:nat -> nat} k (F z); p X with u : p n
+/// of some {n:exp} block {u:p n}; the goal of exp with the entry x of block {x:exp}; p b.x with u : {Y:exp -> exp} p (Y x) of block {x:exp} {u:{Y:exp -> exp}
+/// p (Y x)}; and p N, for a block variable on [x] x, with u : {Z:exp} p (f Z) of some {f:exp -> exp} block {u:{Z:exp} p (f Z)}.
 pub fn stuck_cases_are_unsplit()
     ensures applied { AppliedIsStuck }
     ensures candidate { SomeVariableGivesNoCandidate }
@@ -1973,8 +1976,8 @@ pub fn stuck_cases_are_unsplit()
 
 ghost use Rattle.lf_coverage.specs.WorkedCallsOne.{MadeOneIsSolved, MadeOneIsOpen, OtherBlocksStayApart};
 
-/// eq b.x c.x, for two block variables of one block, and eq X X clash where they are different, and are solved where they are one; of e b.x c.x (F a) and
-/// e X X a then F a = a is left. So both are stuck. Of two blocks of the same entries eq b.x c.x is apart from eq X X.
+/// For two block variables b and c of one block, eq b.x c.x and eq X X clash where b and c are different, and X is b.x where they are one; e b.x c.x (F a) and
+/// e X X a clash too, or F a = a is left. So both cases are stuck. For block variables of two blocks with the same entries, eq b.x c.x is apart from eq X X.
 pub fn blocks_are_made_one()
     ensures solved { MadeOneIsSolved }
     ensures open { MadeOneIsOpen }
@@ -1983,8 +1986,9 @@ pub fn blocks_are_made_one()
 
 ghost use Rattle.lf_coverage.specs.WorkedCallsGoals.{OutputGoalIsClosed, SomeOutputIsUnsplit, MissingHasNoInstance};
 
-/// The goal of an output where a ground variable's type mentions what isn't ground keeps variables for all; and one whose subgoal asks for a `some` variable
-/// can't be split. In the empty world p X over an empty type is missing, and covered too, as it has no instance.
+/// The goal r Y of an output of {N:nat} {F:nat -> nat} {V:vec (F N)} {Y:nat} r Y -> p (F N) V keeps variables for V and for F and N, which aren't ground. The
+/// goal q b.x Y of an output of u : q x n -> r x, where n is a `some` variable, can't be split. In the empty world p X, over a type without a term, is
+/// answered to be missing, and it is covered too, as it has no instance.
 pub fn goals_by_number()
     ensures closed { OutputGoalIsClosed }
     ensures some { SomeOutputIsUnsplit }
@@ -1993,16 +1997,16 @@ pub fn goals_by_number()
 
 ghost use Rattle.lf_coverage.specs.WorkedCallsRun.{UnaskedEntryIsNoHindrance};
 
-/// A whole run by number in the worlds of {x:exp} {u:w x} {v:q x}: q E is split into q a, q (b E) and q b.x, each an instance, and covered, also beside exp
-/// and q alone, without w.
+/// A whole run by number in the worlds of {x:exp} {u:w x} {v:q x}: q E is split into q a, q (b E) and q b.x, each of which is an instance of a clause's head.
+/// So q E is covered, also beside the set of exp and q alone, which lacks w.
 pub fn unasked_entry_is_no_hindrance()
     ensures { UnaskedEntryIsNoHindrance }
 {}
 
 ghost use Rattle.lf_coverage.specs.WorkedCallsStores.{TwinsGiveNoCase, EntriesAreTaken};
 
-/// check b.x c.x Z, with Z : same b.x c.x, isn't split by alike : {X:exp} same X X, since b.x and c.x clash. E y2 y1 = b.h y1 y2 is solved, and E y1 = b.h
-/// y1 y2 refuted.
+/// The split of check b.x c.x Z at Z : same b.x c.x has no case by alike : {X:exp} same X X, since b.x and c.x clash. The equation E y2 y1 = b.h y1 y2 is
+/// solved, and E y1 = b.h y1 y2 is refuted.
 pub fn entries_are_rigid()
     ensures twins { TwinsGiveNoCase }
     ensures taken { EntriesAreTaken }
@@ -2018,42 +2022,44 @@ pub fn mentioned_output_is_split()
 
 ghost use Rattle.lf_coverage.specs.WorkedCallsIndex.{IndexIsSplitFirst};
 
-/// Of f N X, with X : odd N, and f-1 : f (s z) o the index N is split first; so f z X is reached, and missing, though nothing is odd z.
+/// For the goal f N X, with X : odd N, and the clause f-1 : f (s z) o the index N is split first. So f z X is reached and answered to be missing, though no
+/// term has the type odd z.
 pub fn index_is_split_first()
     ensures { IndexIsSplitFirst }
 {}
 
 ghost use Rattle.lf_coverage.specs.WorkedCallsAnswers.{WorkedRunsAreAnswers};
 
-/// By number check X Y Z is covered by u : check x x (alike x), and cp X _ by cp-lam, cp-app and u : cp x x.
+/// By number, check X Y Z is covered by u : check x x (alike x), and cp X _ is covered by cp-lam, cp-app and u : cp x x.
 pub fn worked_runs_are_answers()
     ensures { WorkedRunsAreAnswers }
 {}
 
 ghost use Rattle.lf_coverage.specs.WorkedCallsSome.{SomeTermIsNoHindrance};
 
-/// In the worlds of some {t:tp} block {x:exp} {v:q x} the goal q E is split into q b.x, for b on a variable of tp, and covered by v, also beside exp and q
-/// alone, without tp, which has no constant.
+/// In the worlds of some {t:tp} block {x:exp} {v:q x} the goal q E is split into q b.x, for b on a variable T : tp, and v covers it, also beside the set of
+/// exp and q alone, which lacks tp. No constant has the type tp.
 pub fn some_term_is_no_hindrance()
     ensures { SomeTermIsNoHindrance }
 {}
 
 ghost use Rattle.lf_coverage.specs.WorkedCallsWhole.{WholeRunIsAnswered};
 
-/// f N Y, with Y : t N, is split at its first candidate Y into f M (d M) and f N b.y, for b of some {n:exp} block {y:t n} on N, and this at N into f a b.y and
-/// f c.x b.y, where the older b stands on the entry of c; so f-d, f-a and the entry u of c cover it.
+/// f N Y, with Y : t N, is split at its first candidate Y into f M (d M) and f N b.y, for b of some {n:exp} block {y:t n} on N. The latter is split at N into
+/// f a b.y and f c.x b.y, where the older b stands on the entry c.x of the newer c. So f-d, f-a and the entry u of c cover the goal.
 pub fn whole_run_is_answered()
     ensures { WholeRunIsAnswered }
 {}
 
 ghost use Rattle.lf_coverage.specs.MeetsAnswers.{PlacesRefuteEach};
-ghost use Rattle.lf_coverage.specs.NumberedAnswers.{ClauseHeadsHaveTypedBlocks, BesideHasTypedBlock, NeededFits, NeededPlacesAreReady, RefutedByNumberIsApart, NeededMetIsMeeting};
+ghost use Rattle.lf_coverage.specs.NumberedAnswers.{ClauseHeadsHaveTypedBlocks, BesideHasTypedBlock, NeededBlocksAreTyped, NeededFits, NeededPlacesAreReady, RefutedByNumberIsApart, NeededMetIsMeeting};
 
 /// Where a case and a pattern have what `instance_of` by number needs, their store is well formed at each place; so they are apart where steps refute it at
 /// each place to be looked at, and the pattern meets the case where unification answers otherwise at one.
 pub fn needed_meetings_are_answered()
     ensures heads { ClauseHeadsHaveTypedBlocks }
     ensures beside { BesideHasTypedBlock }
+    ensures blocks { NeededBlocksAreTyped }
     ensures places { PlacesRefuteEach }
     ensures fits { NeededFits }
     ensures ready { NeededPlacesAreReady }

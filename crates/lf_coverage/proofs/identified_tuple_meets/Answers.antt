@@ -1,4 +1,4 @@
-use Rattle.lf_coverage.proofs.MeetsTupleCase.{constants_tuple_meets, refuted_constant_has_no_tuple}
+use Rattle.lf_coverage.proofs.MeetsTupleAll.{constants_tuple_meets, refuted_constant_has_no_tuple}
 use Rattle.lf_coverage.proofs.identified_tuple_meets.Goals as goal
 
 pub returns-clause-constants : goal.returns-clause-constants

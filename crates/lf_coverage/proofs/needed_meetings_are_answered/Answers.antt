@@ -1,5 +1,5 @@
 use Rattle.lf_coverage.proofs.MeetsAnswersSearch.{places_refute_each}
-use Rattle.lf_coverage.proofs.NumberedAnswers.{beside_has_typed_block, clause_heads_have_typed_blocks, needed_fits, needed_met_is_meeting, needed_places_are_ready, refuted_by_number_is_apart}
+use Rattle.lf_coverage.proofs.NumberedAnswers.{beside_has_typed_block, clause_heads_have_typed_blocks, needed_blocks_are_typed, needed_fits, needed_met_is_meeting, needed_places_are_ready, refuted_by_number_is_apart}
 use Rattle.lf_coverage.proofs.needed_meetings_are_answered.Goals as goal
 
 pub returns-clause-heads : goal.returns-clause-heads
@@ -7,6 +7,9 @@ returns-clause-heads c = clause_heads_have_typed_blocks
 
 pub returns-clause-beside : goal.returns-clause-beside
 returns-clause-beside c = beside_has_typed_block
+
+pub returns-clause-blocks : goal.returns-clause-blocks
+returns-clause-blocks c = needed_blocks_are_typed
 
 pub returns-clause-places : goal.returns-clause-places
 returns-clause-places c = places_refute_each

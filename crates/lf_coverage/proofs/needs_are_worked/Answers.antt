@@ -1,5 +1,6 @@
 use Rattle.lf_coverage.proofs.NumberedNeedsExamples.{open_subgoal_is_refused, other_family_is_refused, other_type_is_refused}
 use Rattle.lf_coverage.proofs.NumberedNeedsPlus.{plus_has_needs}
+use Rattle.lf_coverage.proofs.NumberedNeedsUntyped.{untyped_block_is_refused}
 use Rattle.lf_coverage.proofs.needs_are_worked.Goals as goal
 
 pub returns-clause-plus : goal.returns-clause-plus
@@ -13,3 +14,6 @@ returns-clause-argument c = other_type_is_refused
 
 pub returns-clause-open : goal.returns-clause-open
 returns-clause-open c = open_subgoal_is_refused
+
+pub returns-clause-block : goal.returns-clause-block
+returns-clause-block c = untyped_block_is_refused

@@ -1,4 +1,4 @@
-use Rattle.lf_coverage.proofs.NumberedNeedsLaws.{head_is_for, subgoal_is_for}
+use Rattle.lf_coverage.proofs.NumberedNeedsFor.{head_is_for, subgoal_is_for}
 use Rattle.lf_coverage.proofs.patterns_are_for.Goals as goal
 
 pub returns-clause-head : goal.returns-clause-head

@@ -1,4 +1,4 @@
-use Rattle.lf_coverage.proofs.WritingRead.{values_are_written}
+use Rattle.lf_coverage.proofs.WritingReadTyped.{values_are_written}
 use Rattle.lf_coverage.proofs.WritingOwn.{written_values_are_typed}
 use Rattle.lf_coverage.proofs.values_are_written.Goals as goal
 

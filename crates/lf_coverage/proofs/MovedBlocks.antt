@@ -1,62 +1,27 @@
 -- Constants of block variables, moved to those of others of the same blocks, keep their types, whatever the terms of the block variables are.
-use Rattle.std.proofs.Common.{◌≡◌, ℕ, zero, suc, ◌+◌, ◌⊎◌, List, [], ◌∷◌, length, inl, inr, refl, sym, ap, ap₂, ◌∙◌, subst, arith}
+use Rattle.std.proofs.Common.{◌≡◌, ℕ, zero, ◌+◌, ◌⊎◌, List, [], ◌∷◌, length, inl, inr, refl, sym, ap, ap₂, ◌∙◌, subst, arith}
 use Rattle.std.specs.Prelude.{Option, Some, None}
-use Rattle.lf.specs.Syntax.{constant, variable, Spine, lambda, nil, LfType, Kind, pi, Skeleton, base, arrow, skeleton, rename_spine}
-use Rattle.lf.specs.Substitution.{Image, keep, put, substitute_type, reduce}
-use Rattle.lf.specs.Eta.{add_last, eta_expand}
+use Rattle.lf.specs.Syntax.{Spine, LfType, Kind}
+use Rattle.lf.specs.Substitution.{keep, substitute_type, reduce}
 use Rattle.lf.specs.Typing.{Signature, IsContext, IsSignature}
 use Rattle.lf.specs.Variables.{onto}
 use Rattle.lf.specs.Subordination.{Block}
 use Rattle.lf_unification.specs.Offering.{pi_over, local_arguments}
 use Rattle.lf_coverage.specs.EntryConstants.{EntryConstant, entry_constant, entry_constant_type, entry_images, entry_type, with_entries, IsFreeFrom}
-use Rattle.lf_coverage.specs.NumberedInstance.{block_at, first_constant, moved_constant, moved_entry, move, move_spine, move_type, move_types}
+use Rattle.lf_coverage.specs.NumberedInstance.{block_at, first_constant, moved_constant, moved_entry, move_type}
 use Rattle.lf_coverage.specs.OwnTerms.{BlockVariable, blocks_of}
 use Rattle.lf_coverage.specs.WritingRoom.{move_image, move_kind}
 use Rattle.lf_coverage.proofs.EntryPatternsOutside.{found_at_number}
 use Rattle.lf_coverage.proofs.EntrySignature.{else_cases, else_first, else_second}
+use Rattle.lf_coverage.proofs.ItemsContext.{outer_context}
+use Rattle.lf_coverage.proofs.MovedConstants.{images_moved, later_context, locals_moved, onto_twice, pis_moved}
 use Rattle.lf_coverage.proofs.OwnTerms.{entry_from}
 use Rattle.lf_coverage.proofs.Parts.{none_some, some_same}
 use Rattle.lf_coverage.proofs.Reading.{IsOld}
 use Rattle.lf_coverage.proofs.WritingChoice.{from_is}
-use Rattle.lf_coverage.proofs.WritingGap.{add_moved, long_moved, same_old, kind_only}
-use Rattle.lf_coverage.proofs.WritingMove.{move_spine_renamed, move_type_substituted, moved_is_type}
+use Rattle.lf_coverage.proofs.WritingGap.{same_old, kind_only}
+use Rattle.lf_coverage.proofs.WritingMove.{move_type_substituted}
 use mathlib.Core.Path.{fun_ext}
-
--- eta-long terms and entries with other constants
-pub head_moved : (γ : ℕ → ℕ) (a : Skeleton) (c : ℕ) (T : Spine) → move γ (eta_expand a (constant c) T) ≡ eta_expand a (constant (γ c)) (move_spine γ T)
-head_moved γ (base k) c T = refl
-head_moved γ (arrow a b) c T = ap lambda (head_moved γ b c (add_last (rename_spine suc T) (eta_expand a (variable zero) nil)) ∙ ap (eta_expand b (constant (γ c))) (add_moved γ (rename_spine suc T) (eta_expand a (variable zero) nil) ∙ ap₂ add_last (move_spine_renamed γ suc T) (long_moved γ a zero nil)))
-
-pub locals_moved : (γ : ℕ → ℕ) (D : List LfType) → move_spine γ (local_arguments D) ≡ local_arguments D
-locals_moved γ [] = refl
-locals_moved γ (A ∷ D) = add_moved γ (rename_spine suc (local_arguments D)) (eta_expand (skeleton A) (variable zero) nil) ∙ ap₂ add_last (move_spine_renamed γ suc (local_arguments D) ∙ ap (rename_spine suc) (locals_moved γ D)) (long_moved γ (skeleton A) zero nil)
-
--- The images of entries, on other terms and in front of other images
-pub images_moved : (γ : ℕ → ℕ) (m n : ℕ) (U : Spine) (υ : ℕ → Image) (es : List LfType) → ((later : List LfType) (F : LfType) (ds : List LfType) → onto later (F ∷ ds) ≡ es → γ (m + length ds) ≡ n + length ds) → (i : ℕ) → move_image γ (entry_images m U es υ i) ≡ entry_images n (move_spine γ U) es (λ j. move_image γ (υ j)) i
-images_moved γ m n U υ [] h i = refl
-images_moved γ m n U υ (F ∷ ds) h zero = ap (put (skeleton F)) (head_moved γ (skeleton F) (m + length ds) U ∙ ap (λ c. eta_expand (skeleton F) (constant c) (move_spine γ U)) (h [] F ds refl))
-images_moved γ m n U υ (F ∷ ds) h (suc i) = images_moved γ m n U υ ds (λ later G gs e. h (F ∷ later) G gs (ap (λ L. F ∷ L) e)) i
-
-pis_moved : (Σ : Signature) (γ : ℕ → ℕ) → ((c : ℕ) → IsOld Σ c → γ c ≡ c) → (O : List LfType) (P : LfType) → IsContext Σ O → move_type γ (pi_over O P) ≡ pi_over O (move_type γ P)
-pis_moved Σ γ old [] P c = refl
-pis_moved Σ γ old (A ∷ O) P (c, a) = pis_moved Σ γ old O (pi A P) c ∙ ap (λ B. pi_over O (pi B (move_type γ P))) (same_old Σ γ O A old a)
-
-pub later_context : (Σ : Signature) (later X O : List LfType) → IsContext Σ (onto (onto later X) O) → IsContext Σ (onto X O)
-later_context Σ [] X O c = c
-later_context Σ (F ∷ later) X O (c, a) = later_context Σ later X O c
-
-pub behind_context : (Σ : Signature) (es O : List LfType) → IsContext Σ (onto es O) → IsContext Σ O
-behind_context Σ [] O c = c
-behind_context Σ (E ∷ es) O (c, a) = behind_context Σ es O c
-
-pub onto_twice : (xs : List LfType) (E : LfType) (bs X : List LfType) → onto (onto xs (E ∷ bs)) X ≡ onto xs (E ∷ onto bs X)
-onto_twice [] E bs X = refl
-onto_twice (A ∷ xs) E bs X = ap (λ L. A ∷ L) (onto_twice xs E bs X)
-
--- a context with other constants is one
-pub context_moved : (γ : ℕ → ℕ) (Σ Σ₂ : Signature) → ((c : ℕ) (A : LfType) → Σ.types c ≡ Some A → Σ₂.types (γ c) ≡ Some (move_type γ A)) → ((a : ℕ) (K : Kind) → Σ.kinds a ≡ Some K → Σ₂.kinds a ≡ Some (move_kind γ K)) → (G : List LfType) → IsContext Σ G → IsContext Σ₂ (move_types γ G)
-context_moved γ Σ Σ₂ ts ks [] c = tt
-context_moved γ Σ Σ₂ ts ks (A ∷ G) (c, a) = (context_moved γ Σ Σ₂ ts ks G c, moved_is_type γ Σ Σ₂ ts ks G A a)
 
 -- each block variable of the one list becomes one of the other with the same block
 abbrev pub KeepBlocks : List BlockVariable → List BlockVariable → (ℕ → ℕ) → Type 0
@@ -89,7 +54,7 @@ module _ (Σ : Signature) (ok : IsSignature Σ) (first : ℕ) (free : IsFreeFrom
       let c : IsContext Σ (onto (E ∷ es) O) = later_context Σ later (E ∷ es) O (subst (λ L. IsContext Σ (onto L b.block.some)) (sym e) (typed j b at)) in
       let n : ℕ = first_constant first (blocks_of cs) (κ j) in
       let moved : (i : ℕ) → move_image γ (entry_images (first_constant first (blocks_of bs) j) U es keep i) ≡ entry_images n U es keep i = λ i. images_moved γ (first_constant first (blocks_of bs) j) n U keep es (λ l F ds q. entry_moved j b at (onto later (E ∷ l)) F ds (onto_twice later E l (F ∷ ds) ∙ ap (λ L. onto later (E ∷ L)) q ∙ e)) i ∙ ap (λ V. entry_images n V es keep i) (locals_moved γ O) in
-      pis_moved Σ γ old_stay O (substitute_type reduce (entry_images (first_constant first (blocks_of bs) j) U es keep) E) (behind_context Σ (E ∷ es) O c)
+      pis_moved Σ γ old_stay O (substitute_type reduce (entry_images (first_constant first (blocks_of bs) j) U es keep) E) (outer_context Σ (E ∷ es) O c)
       ∙ ap (pi_over O) (move_type_substituted γ (entry_images (first_constant first (blocks_of bs) j) U es keep) E ∙ ap₂ (λ f Z. substitute_type reduce f Z) (fun_ext moved) (same_old Σ γ (onto es O) E old_stay c.1))
 
   pub types_moved : (c : ℕ) (A : LfType) → (with_entries Σ first (blocks_of bs)).types c ≡ Some A → (with_entries Σ first (blocks_of cs)).types (moved_constant first (blocks_of bs) (blocks_of cs) κ c) ≡ Some (move_type (moved_constant first (blocks_of bs) (blocks_of cs) κ) A)

@@ -1,5 +1,5 @@
--- The written values of a case whose block variables are one are typed, with the case's types moved.
-use Rattle.std.proofs.Common.{◌≡◌, Bool, ℕ, List, length, Option, Some, None, refl, sym, ap, ◌∙◌, subst}
+-- A type of a case under its instance, and then written, is the type with its constants moved and the written values put in; and these values are typed.
+use Rattle.std.proofs.Common.{◌≡◌, Bool, ℕ, List, [], length, Option, Some, None, refl, sym, ap, ◌∙◌, subst}
 use Rattle.lf.specs.Syntax.{Spine, LfType, Kind, Skeleton, skeleton}
 use Rattle.lf.specs.Substitution.{Image, keep, put, substitute, substitute_image, substitute_type, reduce, after}
 use Rattle.lf.specs.SkeletonTyping.{HeadSkeletons, TypeBySkeletons}
@@ -11,34 +11,31 @@ use Rattle.lf.specs.Worlds.{World}
 use Rattle.lf.proofs.Growth.{growth_keeps_typing}
 use Rattle.lf.proofs.SkeletonTypes.{substitutions_compose_type, substitution_keeps_types_by_skeletons}
 use Rattle.lf.proofs.Substitution.{TypedSubstitution, skeleton_context_of, substitution_keeps_typing}
-use Rattle.lf.proofs.ToSkeletons.{type_by_skeletons}
+use Rattle.lf.proofs.ToSkeletons.{typed_has_skeleton, type_by_skeletons}
 use Rattle.lf.proofs.TypeLaws.{skeleton_substituted}
 use Rattle.lf.proofs.Weakening.{declared_is_type}
 use Rattle.lf.proofs.Worlds.{world_is_context}
 use Rattle.lf_coverage.specs.EntryConstants.{with_entries}
 use Rattle.lf_coverage.specs.NumberedCase.{NumberedCase, type_in}
-use Rattle.lf_coverage.specs.NumberedInstance.{moved_constant, move_type}
+use Rattle.lf_coverage.specs.NumberedInstance.{move_type}
 use Rattle.lf_coverage.specs.OwnTerms.{blocks_of, own_terms, TypeOnOwnTerms}
 use Rattle.lf_coverage.specs.Reading.{read_type, entry_reading}
-use Rattle.lf_coverage.specs.WritingLaws.{IsInstanceWithRoom}
+use Rattle.lf_coverage.specs.WritingLaws.{IsInstanceWithRoom, ValuesAreWritten}
 use Rattle.lf_coverage.proofs.EntrySignature.{grown_contexts}
-use Rattle.lf_coverage.proofs.MeetsTupleSame.{type_moved}
-use Rattle.lf_coverage.proofs.MeetsTupleWriting.{WritesAs}
 use Rattle.lf_coverage.proofs.MoreConstants.{type_more}
+use Rattle.lf_coverage.proofs.NumberedCallsOwn.{unmoved, unmoved_type}
 use Rattle.lf_coverage.proofs.Parts.{none_some}
 use Rattle.lf_coverage.proofs.ReadBlocks.{ok₁}
 use Rattle.lf_coverage.proofs.ReadInstance.{type_known}
 use Rattle.lf_coverage.proofs.ReadSkeletons.{read_type_has_skeletons}
 use Rattle.lf_coverage.proofs.ReadValues.{values_fit, values_typed}
 use Rattle.lf_coverage.proofs.WritingInstance.{written_signature, own_types}
-use Rattle.lf_coverage.proofs.MeetsTupleRead.{both_fit, inside, no, reads, values_fit_more, writes, writing_fits}
+use Rattle.lf_coverage.proofs.WritingRead.{WritesAs, both_fit, inside, itself, no, over_written, reads, values_fit_more, writes, writing_fits}
+use Rattle.lf_coverage.proofs.WritingSame.{read_moved_type}
 
-module _ (Σ Σ' : Signature) {W : List Block} {S : ℕ → Bool} {G : List LfType} (w : World Σ' W S G) (first : ℕ) (C : NumberedCase) (θ : ℕ → ℕ → Image) (σ : ℕ → Image) (r : IsInstanceWithRoom Σ w first C θ σ) (π : ℕ → ℕ) (F : List LfType) (ρ : ℕ → Image) (h : WritesAs Σ' first (blocks_of C.blocks) θ (moved_constant first (blocks_of C.blocks) (blocks_of C.blocks) π) G F ρ) where
+module _ (Σ Σ' : Signature) {W : List Block} {S : ℕ → Bool} {G : List LfType} (w : World Σ' W S G) (first : ℕ) (C : NumberedCase) (θ : ℕ → ℕ → Image) (σ : ℕ → Image) (r : IsInstanceWithRoom Σ w first C θ σ) {γ : ℕ → ℕ} (F : List LfType) (ρ : ℕ → Image) (h : WritesAs Σ' first (blocks_of C.blocks) θ γ G F ρ) where
   abbrev X : List LfType
   X = C.variables
-
-  abbrev γ : ℕ → ℕ
-  γ = moved_constant first (blocks_of C.blocks) (blocks_of C.blocks) π
 
   abbrev Σ₁ : Signature
   Σ₁ = with_entries Σ first (blocks_of C.blocks)
@@ -62,11 +59,11 @@ module _ (Σ Σ' : Signature) {W : List Block} {S : ℕ → Bool} {G : List LfTy
   Θ = context_skeletons (onto C.variables G)
 
   -- a type
-  pub type_written : (A : LfType) → IsType (with_entries Σ first (blocks_of C.blocks)) C.variables A → TypeOnOwnTerms (own_terms first C.blocks) A → substitute_type reduce ρ (type_in first C θ σ A) ≡ substitute_type reduce (after ρ σ) (move_type (moved_constant first (blocks_of C.blocks) (blocks_of C.blocks) π) A)
+  pub type_written : (A : LfType) → IsType (with_entries Σ first (blocks_of C.blocks)) C.variables A → TypeOnOwnTerms (own_terms first C.blocks) A → substitute_type reduce ρ (type_in first C θ σ A) ≡ substitute_type reduce (after ρ σ) (move_type γ A)
   type_written A a p =
       let s = type_by_skeletons Σ₁ X A a in
-      substitutions_compose_type (family_skeletons Σ') κe Θ (context_skeletons G) (context_skeletons F) σ ρ (read_type f A) (values_fit_more Σ Σ' w first C θ σ r π F ρ h) (writing_fits Σ Σ' w first C θ σ r π F ρ h) (read_type_has_skeletons κ κe (no Σ Σ' w first C θ σ r π F ρ h) (family_skeletons Σ₁) (family_skeletons Σ') (context_skeletons X) Θ f o A family_more (inside Σ Σ' w first C θ σ r π F ρ h) (reads Σ Σ' w first C θ σ r π F ρ h) s p)
-      ∙ type_moved γ κ κe (no Σ Σ' w first C θ σ r π F ρ h) (family_skeletons Σ₁) (context_skeletons X) Θ (context_skeletons F) f o (after ρ σ) A (inside Σ Σ' w first C θ σ r π F ρ h) (reads Σ Σ' w first C θ σ r π F ρ h) (writes Σ Σ' w first C θ σ r π F ρ h) (both_fit Σ Σ' w first C θ σ r π F ρ h) s p
+      substitutions_compose_type (family_skeletons Σ') κe Θ (context_skeletons G) (context_skeletons F) σ ρ (read_type f A) (values_fit_more Σ Σ' w first C θ σ r F ρ h) (writing_fits Σ Σ' w first C θ σ r F ρ h) (read_type_has_skeletons κ κe (no Σ Σ' w first C θ σ r F ρ h) (family_skeletons Σ₁) (family_skeletons Σ') (context_skeletons X) Θ f o A family_more (inside Σ Σ' w first C θ σ r F ρ h) (reads Σ Σ' w first C θ σ r F ρ h) s p)
+      ∙ read_moved_type γ κ κe (no Σ Σ' w first C θ σ r F ρ h) (family_skeletons Σ₁) (context_skeletons X) Θ (context_skeletons F) f o (after ρ σ) A (inside Σ Σ' w first C θ σ r F ρ h) (reads Σ Σ' w first C θ σ r F ρ h) (writes Σ Σ' w first C θ σ r F ρ h) (both_fit Σ Σ' w first C θ σ r F ρ h) s p
     where
       family_more : (a : ℕ) (t : Skeleton) → family_skeletons Σ₁ a ≡ Some t → family_skeletons Σ' a ≡ Some t
       family_more a t q = by (Σ.kinds a) refl q
@@ -82,12 +79,9 @@ module _ (Σ Σ' : Signature) {W : List Block} {S : ℕ → Bool} {G : List LfTy
   writing_typed = record { typed = h.typed; source_skeletons = skeleton_context_of Σe (written_signature Σ Σ' w first C θ σ r) G more_context; target_skeletons = skeleton_context_of Σe (written_signature Σ Σ' w first C θ σ r) F h.context }
 
   -- the written values
-  pub value_is_typed : (i : ℕ) (A : LfType) → TypeAt C.variables i A → ImageHasType (with_entries Σ' first (blocks_of C.blocks)) F (after ρ σ i) (substitute_type reduce (after ρ σ) (move_type (moved_constant first (blocks_of C.blocks) (blocks_of C.blocks) π) A))
+  pub value_is_typed : (i : ℕ) (A : LfType) → TypeAt C.variables i A → ImageHasType (with_entries Σ' first (blocks_of C.blocks)) F (after ρ σ i) (substitute_type reduce (after ρ σ) (move_type γ A))
   value_is_typed i A g = by (σ i) (values_typed Σ' r.extends.ok G first (blocks_of C.blocks) θ C.variables σ r.is_instance.values i A g)
     where
-      Z : LfType
-      Z = type_in first C θ σ A
-
       is_type : IsType Σ₁ C.variables A
       is_type = declared_is_type Σ₁ (ok₁ Σ Σ' r.signature S r.extends W r.blocks first r.free C r.variables w θ σ r.is_instance) C.variables i A r.variables.variables g
 
@@ -103,3 +97,9 @@ module _ (Σ Σ' : Signature) {W : List Block} {S : ℕ → Bool} {G : List LfTy
       by : (y : Image) → ImageHasType Σ' G y (type_in first C θ σ A) → ImageHasType (with_entries Σ' first (blocks_of C.blocks)) F (substitute_image ρ y) (substitute_type reduce (after ρ σ) (move_type γ A))
       by (keep j) t = subst (ImageHasType Σe F (ρ j)) same (h.typed j (type_in first C θ σ A) t)
       by (put a N) (e, n) = (ap skeleton (sym same) ∙ skeleton_substituted reduce ρ (type_in first C θ σ A) ∙ e, subst (HasType Σe F (substitute reduce ρ N)) same (substitution_keeps_typing Σe (written_signature Σ Σ' w first C θ σ r) G F ρ N (type_in first C θ σ A) writing_typed known (growth_keeps_typing Σ' Σe (own_types Σ Σ' w first C θ σ r) (λ b K z. z) G N (type_in first C θ σ A) n)))
+
+pub values_are_written : ValuesAreWritten
+values_are_written Σ Σ' W S G w first C θ σ r F ρ back h = (
+  λ M A m p. over_written Σ Σ' w first C θ σ r F ρ (itself h) [] M (skeleton A) (typed_has_skeleton (with_entries Σ first (blocks_of C.blocks)) C.variables M A m) p ∙ ap (substitute reduce (after ρ σ)) (unmoved M),
+  λ A a p. type_written Σ Σ' w first C θ σ r F ρ (itself h) A a p ∙ ap (substitute_type reduce (after ρ σ)) (unmoved_type A),
+)
