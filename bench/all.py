@@ -98,8 +98,12 @@ def lines_of(name, text):
         memory = f", {last['MiB']} MiB" if "MiB" in last else ""
         growth = ""
         if len(rows) > 1:
-            more, times = number(rows[-1][0]) / number(rows[-2][0]), number(rows[-1][at]) / max(number(rows[-2][at]), 1e-9)
-            growth = f"{times:.1f} times the time for {more:.1f} times the size"
+            more, before = number(rows[-1][0]) / number(rows[-2][0]), number(rows[-2][at])
+            # (a shorter time is as much the clock's as the bench's)
+            if before < (100 if unit == "µs" else 0.002):
+                growth = "the size before took too little to be compared"
+            else:
+                growth = f"{number(rows[-1][at]) / before:.1f} times the time for {more:.1f} times the size"
         yield f"| {name} | {title} | {size} | {rows[-1][at]} {unit}{memory} | {rate} | {growth} |"
     for what, figures in sentences(text):
         yield f"| {name} | {what} | | {figures} | | |"
