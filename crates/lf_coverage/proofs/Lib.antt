@@ -533,6 +533,7 @@ pub mod WorkedCallsAnswers
 pub mod WorkedCallsSome
 pub mod WorkedCallsWholeFirst
 pub mod WorkedCallsWholeSecond
+pub mod WorkedCallsWholeThird
 pub mod WorkedCallsWhole
 pub mod NumberedAnswers
 pub mod NumberedAnswersRuns

@@ -1,7 +1,7 @@
 -- The first split of the worked run with candidates: by a constant and an entry.
 use Rattle.std.proofs.Common.{◌≡◌, ℕ, zero, suc, List, [], ◌∷◌, length, inl, inr, refl, sym, ap, subst, arith}
 use Rattle.std.specs.Prelude.{Bool, Option, Some, None}
-use Rattle.lf.specs.Syntax.{constant, metavariable, Kind, Term, root, nil, app, LfType, kind_pi, star}
+use Rattle.lf.specs.Syntax.{constant, metavariable, Kind, Term, root, nil, app, LfType, kind_pi, pi, star}
 use Rattle.lf.specs.Typing.{IsKind, IsSignature, IsType, Signature}
 use Rattle.lf.specs.Variables.{same_number}
 use Rattle.lf.specs.Subordination.{AreTypedBlocks, Block, IsTypedBlock, Member}
@@ -39,7 +39,7 @@ use Rattle.lf_coverage.proofs.OwnStoresStart.{numbered_store_is_ready}
 use Rattle.lf_coverage.proofs.Parts.{none_some, some_same}
 use Rattle.lf_coverage.proofs.RanksListed.{entry_rank_in, signature_rank_in}
 use Rattle.lf_coverage.proofs.VariableTyped.{index_is_typed}
-use Rattle.lf_coverage.specs.WorkedCallsWhole.{Whole, d_case, t_all, whole_types, y_case, a, turning_goal}
+use Rattle.lf_coverage.specs.WorkedCallsWhole.{Whole, d_case, t_all, whole_types, y_case, a, b_of, turning_goal}
 
 abbrev pub worlds : List Block
 worlds = first_block ∷ second_block ∷ []
@@ -52,7 +52,9 @@ ok = record { types_ok = types; kinds_ok = kinds }
     types (suc zero) A e = subst (IsType Whole []) (some_same e) ((star, refl, tt), (_, refl, ((exp, refl, refl), tt)))
     types (suc (suc zero)) A e = subst (IsType Whole []) (some_same e) ((star, refl, tt), (_, refl, ((exp, refl, refl), ((t_all, refl, ((exp, refl, refl), refl)), tt))))
     types (suc (suc (suc zero))) A e = subst (IsType Whole []) (some_same e) ((_, refl, ((exp, refl, refl), tt)), (_, refl, ((exp, refl, refl), ((on_one 1 a, refl, refl), tt))))
-    types (suc (suc (suc (suc c)))) A e = absurd (none_some e)
+    types (suc (suc (suc (suc zero)))) A e = subst (IsType Whole []) (some_same e) ((star, refl, tt), (star, refl, tt))
+    types (suc (suc (suc (suc (suc zero))))) A e = subst (IsType Whole []) (some_same e) ((star, refl, tt), ((_, refl, ((pi exp exp, refl, ((exp, refl, refl), refl)), tt)), (_, refl, ((pi exp exp, refl, ((exp, (exp, refl, refl), refl), refl)), ((on_one 1 (b_of (var 1)), refl, refl), tt)))))
+    types (suc (suc (suc (suc (suc (suc c)))))) A e = absurd (none_some e)
 
     kinds : (f : ℕ) (K : Kind) → turning_kinds f ≡ Some K → IsKind Whole [] K
     kinds zero K e = subst (IsKind Whole []) (some_same e) tt
@@ -65,11 +67,11 @@ blocks B (inl e) = subst (IsTypedBlock Whole) (sym e) ((tt, (star, refl, tt)), (
 blocks B (inr (inl e)) = subst (IsTypedBlock Whole) (sym e) ((tt, (star, refl, tt)), ((_, refl, ((exp, refl, refl), tt)), (_, refl, ((exp, (exp, refl, refl), refl), ((on_one 1 (var 1), refl, refl), tt)))))
 blocks B (inr (inr m)) = absurd m
 
-pub free : IsFreeFrom Whole 4
-free = free_from Whole 4 (λ c. refl) (λ a. refl)
+pub free : IsFreeFrom Whole 6
+free = free_from Whole 6 (λ c. refl) (λ a. refl)
 
-pub goal_typed : IsTypedNumberedCase Whole 4 worlds turning_goal
-goal_typed = index_is_typed Whole 4 worlds 0 1 2 refl refl
+pub goal_typed : IsTypedNumberedCase Whole 6 worlds turning_goal
+goal_typed = index_is_typed Whole 6 worlds 0 1 2 refl refl
 
 -- Y : t N, before and behind the new variable n
 abbrev pub of_number : LfType
@@ -85,48 +87,54 @@ abbrev d_offer : NumberedOffer
 d_offer = record { case = turning_goal; variable = 0; type = of_number; head = constant 1; terms = nil; left = t_all }
 
 abbrev y_offer : NumberedOffer
-y_offer = record { case = new_case; variable = 1; type = of_later; head = constant 4; terms = app (var 0) nil; left = on_one 1 (var 0) }
+y_offer = record { case = new_case; variable = 1; type = of_later; head = constant 6; terms = app (var 0) nil; left = on_one 1 (var 0) }
 
 abbrev pub goal_offers : List NumberedOffer
 goal_offers = d_offer ∷ y_offer ∷ []
 
-d_offered : IsNumberedOffer Whole 4 turning_goal of_number (constant 1) nil t_all
+d_offered : IsNumberedOffer Whole 6 turning_goal of_number (constant 1) nil t_all
 d_offered = offer_signature 1 t_all refl refl
 
-y_offered : IsNumberedOffer Whole 4 new_case of_later (constant 4) (app (var 0) nil) (on_one 1 (var 0))
-y_offered = offer_entry 4 (app (var 0) nil) _ refl refl refl
+y_offered : IsNumberedOffer Whole 6 new_case of_later (constant 6) (app (var 0) nil) (on_one 1 (var 0))
+y_offered = offer_entry 6 (app (var 0) nil) _ refl refl refl
 
-pub goal_each : (o : NumberedOffer) → Member o goal_offers → IsOfferTo Whole 4 worlds turning_goal 0 of_number o
-goal_each o (inl e) = subst (IsOfferTo Whole 4 worlds turning_goal 0 of_number) (sym e) (of_case (constant 1) nil t_all d_offered)
-goal_each o (inr (inl e)) = subst (IsOfferTo Whole 4 worlds turning_goal 0 of_number) (sym e) (of_new_block first_block 4 (app (var 0) nil) (on_one 1 (var 0)) (inl refl) refl y_offered)
+pub goal_each : (o : NumberedOffer) → Member o goal_offers → IsOfferTo Whole 6 worlds turning_goal 0 of_number o
+goal_each o (inl e) = subst (IsOfferTo Whole 6 worlds turning_goal 0 of_number) (sym e) (of_case (constant 1) nil t_all d_offered)
+goal_each o (inr (inl e)) = subst (IsOfferTo Whole 6 worlds turning_goal 0 of_number) (sym e) (of_new_block first_block 6 (app (var 0) nil) (on_one 1 (var 0)) (inl refl) refl y_offered)
 goal_each o (inr (inr m)) = absurd m
 
-constants : ConstantsAreIn Whole 4 turning_goal 0 of_number goal_offers
+constants : ConstantsAreIn Whole 6 turning_goal 0 of_number goal_offers
 constants zero V e t = absurd (other_target e t refl)
 constants (suc zero) V e t = subst (λ A. Member (offer_with turning_goal 0 of_number (constant 1) nil A) goal_offers) (some_same e) (inl refl)
 constants (suc (suc zero)) V e t = absurd (other_target e t refl)
 constants (suc (suc (suc zero))) V e t = absurd (other_target e t refl)
-constants (suc (suc (suc (suc k)))) V e t = absurd (none_some e)
+constants (suc (suc (suc (suc zero)))) V e t = absurd (other_target e t refl)
+constants (suc (suc (suc (suc (suc zero))))) V e t = absurd (other_target e t refl)
+constants (suc (suc (suc (suc (suc (suc k)))))) V e t = absurd (none_some e)
 
-first_entries : NewEntriesAreIn Whole 4 turning_goal 0 of_number goal_offers first_block
+first_entries : NewEntriesAreIn Whole 6 turning_goal 0 of_number goal_offers first_block
 first_entries zero U V n o e t = absurd (none_some o)
 first_entries (suc zero) U V n o e t = absurd (none_some o)
 first_entries (suc (suc zero)) U V n o e t = absurd (none_some o)
 first_entries (suc (suc (suc zero))) U V n o e t = absurd (none_some o)
-first_entries (suc (suc (suc (suc zero)))) U V n o e t = entry_member new_case 1 of_later goal_offers 4 _ U _ V o e (inr (inl refl))
-first_entries (suc (suc (suc (suc (suc c))))) U V n o e t = absurd (none_some o)
+first_entries (suc (suc (suc (suc zero)))) U V n o e t = absurd (none_some o)
+first_entries (suc (suc (suc (suc (suc zero))))) U V n o e t = absurd (none_some o)
+first_entries (suc (suc (suc (suc (suc (suc zero)))))) U V n o e t = entry_member new_case 1 of_later goal_offers 6 _ U _ V o e (inr (inl refl))
+first_entries (suc (suc (suc (suc (suc (suc (suc c))))))) U V n o e t = absurd (none_some o)
 
-second_entries : NewEntriesAreIn Whole 4 turning_goal 0 of_number goal_offers second_block
+second_entries : NewEntriesAreIn Whole 6 turning_goal 0 of_number goal_offers second_block
 second_entries zero U V n o e t = absurd (none_some o)
 second_entries (suc zero) U V n o e t = absurd (none_some o)
 second_entries (suc (suc zero)) U V n o e t = absurd (none_some o)
 second_entries (suc (suc (suc zero))) U V n o e t = absurd (none_some o)
-second_entries (suc (suc (suc (suc zero)))) U V n o e t = absurd (other_target e t refl)
-second_entries (suc (suc (suc (suc (suc zero))))) U V n o e t = absurd (other_target e t refl)
-second_entries (suc (suc (suc (suc (suc (suc c)))))) U V n o e t = absurd (none_some o)
+second_entries (suc (suc (suc (suc zero)))) U V n o e t = absurd (none_some o)
+second_entries (suc (suc (suc (suc (suc zero))))) U V n o e t = absurd (none_some o)
+second_entries (suc (suc (suc (suc (suc (suc zero)))))) U V n o e t = absurd (other_target e t refl)
+second_entries (suc (suc (suc (suc (suc (suc (suc zero))))))) U V n o e t = absurd (other_target e t refl)
+second_entries (suc (suc (suc (suc (suc (suc (suc (suc c)))))))) U V n o e t = absurd (none_some o)
 
-pub goal_every : (o : NumberedOffer) → IsOfferTo Whole 4 worlds turning_goal 0 of_number o → Member o goal_offers
-goal_every = heads_are_in Whole 4 turning_goal 0 of_number goal_offers worlds refl constants (λ c V B p e t. absurd (none_some p)) (first_entries, (second_entries, tt))
+pub goal_every : (o : NumberedOffer) → IsOfferTo Whole 6 worlds turning_goal 0 of_number o → Member o goal_offers
+goal_every = heads_are_in Whole 6 turning_goal 0 of_number goal_offers worlds refl constants (λ c V B p e t. absurd (none_some p)) (first_entries, (second_entries, tt))
 
 other_label : first_block ≡ second_block → ⊥
 other_label e = (let p : suc zero ≡ suc (suc zero) = ap (λ (B : Block). length B.entries) e in omega (arith, p))
@@ -139,12 +147,12 @@ stands_first (suc (suc w)) s = absurd s
 abbrev ranks : List (List ℕ)
 ranks = (0 ∷ 1 ∷ []) ∷ (1 ∷ 0 ∷ 0 ∷ 0 ∷ []) ∷ []
 
-every_rank : (o : NumberedOffer) (r : List ℕ) → Member o goal_offers → HasNumberedRank 4 worlds turning_goal o r → Member r ranks
-every_rank o r (inl e) h = signature_rank_in 4 worlds turning_goal o 1 e refl refl ranks (inl refl) r h
-every_rank o r (inr (inl e)) h = entry_rank_in 4 worlds turning_goal o 4 _ e refl refl ranks (λ w s. subst (λ v. Member (1 ∷ v ∷ 0 ∷ 0 ∷ []) ranks) (sym (stands_first w s)) (inr (inl refl))) r h
+every_rank : (o : NumberedOffer) (r : List ℕ) → Member o goal_offers → HasNumberedRank 6 worlds turning_goal o r → Member r ranks
+every_rank o r (inl e) h = signature_rank_in 6 worlds turning_goal o 1 e refl refl ranks (inl refl) r h
+every_rank o r (inr (inl e)) h = entry_rank_in 6 worlds turning_goal o 6 _ e refl refl ranks (λ w s. subst (λ v. Member (1 ∷ v ∷ 0 ∷ 0 ∷ []) ranks) (sym (stands_first w s)) (inr (inl refl))) r h
 every_rank o r (inr (inr m)) h = absurd m
 
--- Y = c n and N = n are solved, for the constant c of d or of b.y.
+-- Y = c n and N = n are solved, for the constant c of d or of e.y.
 abbrev types : ℕ → Option LfType
 types = context_metavariables (exp ∷ on_one 1 (var 0) ∷ exp ∷ [])
 
@@ -222,25 +230,25 @@ first_alone B (inr m) = absurd m
 none_typed : AreTypedBlocks Whole []
 none_typed B m = absurd m
 
-abbrev plain_ok : IsSignature (with_entries Whole 4 [])
-plain_ok = with_entries_is_signature Whole ok 4 free [] none_typed
+abbrev plain_ok : IsSignature (with_entries Whole 6 [])
+plain_ok = with_entries_is_signature Whole ok 6 free [] none_typed
 
-abbrev entries_ok : IsSignature (with_entries Whole 4 (first_block ∷ []))
-entries_ok = with_entries_is_signature Whole ok 4 free (first_block ∷ []) first_alone
+abbrev entries_ok : IsSignature (with_entries Whole 6 (first_block ∷ []))
+entries_ok = with_entries_is_signature Whole ok 6 free (first_block ∷ []) first_alone
 
-d_found : (below : ℕ → ℕ → Bool) → NumberedUnifierFinds Whole 4 below d_offer (kind_pi exp star) (Some d_case)
-d_found below = (solved_store 1, is_solved (with_entries Whole 4 []) plain_ok refl 1 (numbered_store_is_ready Whole ok worlds blocks 4 free below turning_goal goal_typed 0 of_number refl (constant 1) nil t_all d_offered (kind_pi exp star) refl), refl)
+d_found : (below : ℕ → ℕ → Bool) → NumberedUnifierFinds Whole 6 below d_offer (kind_pi exp star) (Some d_case)
+d_found below = (solved_store 1, is_solved (with_entries Whole 6 []) plain_ok refl 1 (numbered_store_is_ready Whole ok worlds blocks 6 free below turning_goal goal_typed 0 of_number refl (constant 1) nil t_all d_offered (kind_pi exp star) refl), refl)
 
-y_found : (below : ℕ → ℕ → Bool) → NumberedUnifierFinds Whole 4 below y_offer (kind_pi exp star) (Some y_case)
-y_found below = (solved_store 4, is_solved (with_entries Whole 4 (first_block ∷ [])) entries_ok refl 4 (numbered_store_is_ready Whole ok worlds blocks 4 free below new_case (new_block_stays_typed Whole ok worlds blocks 4 free turning_goal goal_typed first_block (inl refl)) 1 of_later (of_number, refl, refl) (constant 4) (app (var 0) nil) (on_one 1 (var 0)) y_offered (kind_pi exp star) refl), refl)
+y_found : (below : ℕ → ℕ → Bool) → NumberedUnifierFinds Whole 6 below y_offer (kind_pi exp star) (Some y_case)
+y_found below = (solved_store 6, is_solved (with_entries Whole 6 (first_block ∷ [])) entries_ok refl 6 (numbered_store_is_ready Whole ok worlds blocks 6 free below new_case (new_block_stays_typed Whole ok worlds blocks 6 free turning_goal goal_typed first_block (inl refl)) 1 of_later (of_number, refl, refl) (constant 6) (app (var 0) nil) (on_one 1 (var 0)) y_offered (kind_pi exp star) refl), refl)
 
-pub goal_listed : (below : ℕ → ℕ → Bool) → Listed (NumberedAnswer Whole 4 below) goal_offers (d_case ∷ y_case ∷ [])
+pub goal_listed : (below : ℕ → ℕ → Bool) → Listed (NumberedAnswer Whole 6 below) goal_offers (d_case ∷ y_case ∷ [])
 goal_listed below = with_case (record { kind = kind_pi exp star; of_family = refl; finds = d_found below }) (with_case (record { kind = kind_pi exp star; of_family = refl; finds = y_found below }) no_offer)
 
-pub goal_lists : (below : ℕ → ℕ → Bool) → ListsCases Whole 4 worlds below turning_goal 0 (d_case ∷ y_case ∷ [])
+pub goal_lists : (below : ℕ → ℕ → Bool) → ListsCases Whole 6 worlds below turning_goal 0 (d_case ∷ y_case ∷ [])
 goal_lists below = record {
   unified = record { type = of_number; at = refl; offers = goal_offers; each = goal_each; every = goal_every; listed = goal_listed below };
   ranks = ranks;
-  in_order = next_in_order (signature_rank 1 refl refl) (inl (omega arith)) (one_in_order (entry_rank 4 0 _ refl refl refl));
+  in_order = next_in_order (signature_rank 1 refl refl) (inl (omega arith)) (one_in_order (entry_rank 6 0 _ refl refl refl));
   every_rank = λ o r f h. every_rank o r (goal_every o f) h;
 }

@@ -2045,8 +2045,8 @@ pub fn some_term_is_no_hindrance()
 
 ghost use Rattle.lf_coverage.specs.WorkedCallsWhole.{WholeRunIsAnswered};
 
-/// f N Y, with Y : t N, is split at its first candidate Y into f M (d M) and f N b.y, for b of some {n:exp} block {y:t n} on N. The latter is split at N into
-/// f a b.y and f c.x b.y, where the older b stands on the entry c.x of the newer c. So f-d, f-a and the entry u of c cover the goal.
+/// f N Y, with Y : t N, is split at its first candidate Y into f M (d M) and f N e.y, for e of some {n:exp} block {y:t n} on N. The latter is split at N into
+/// f a e.y, f (b N') e.y and f c.x e.y, where the older e stands on the entry c.x of the newer c. So f-d, f-a, f-b and the entry u of c cover the goal.
 pub fn whole_run_is_answered()
     ensures { WholeRunIsAnswered }
 {}
