@@ -159,6 +159,7 @@ def try_edits(rt, store, crate, given):
 
 
 def is_refused_text(rt, crate, crates):
+    """Whether the kit refuses the crate's text before anything is proved."""
     try:
         rt.rtlib.stop_on_links(crate.folder)
         rt.rtlib.stop_on_unread(crate.folder, crates)
