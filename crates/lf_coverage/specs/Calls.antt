@@ -1,7 +1,7 @@
--- What the calls of coverage are to answer: the contracts that `instance_of`, `split`, `cover`, `input_goal` and `output_goal` will carry. A case
--- stands here for what the program keeps of it. The own block variable of an entry is here the last of the items, so a split by an entry of a new block
--- variable, which may put it before that one, has no answer here. `NumberedCalls` has the same calls for cases whose block variables have numbers, where it
--- is that of number 0 along a whole run: these are the ones that the program will carry.
+-- What the calls of coverage are to answer of cases whose block variables are items among the others. A case stands here for what the program keeps of
+-- it. The own block variable of an entry is here the last of the items, so a split by an entry of a new block variable, which may put it before that one,
+-- has no answer here. In `NumberedCalls` it has: block variables have numbers there, and an entry's own is that of number 0 along a whole run. The contracts
+-- that the program's calls will carry are those.
 use Rattle.std.specs.Prelude.{◌≡◌, ℕ, List, [], ◌∷◌, Bool, true, false, Option, Some, None}
 use Rattle.lf.specs.Syntax.{LfType, Kind, kind_pi, star}
 use Rattle.lf.specs.Typing.{Signature}
