@@ -538,3 +538,10 @@ pub mod WorkedCallsWhole
 pub mod NumberedAnswers
 pub mod NumberedAnswersRuns
 pub mod NumberedAnswersExamples
+pub mod OnlyFree
+pub mod OnlyValues
+pub mod OnlyCase
+pub mod OnlyOrder
+pub mod OnlyListed
+pub mod OnlyList
+pub mod OnlyExamples

@@ -14,6 +14,7 @@ use Rattle.lf_coverage.specs.NumberedBesideExamples.{TakingIsLess, HighBlockTake
 use Rattle.lf_coverage.specs.NumberedSplits.{IsAnsweredByNumber}
 use Rattle.lf_coverage.specs.NumberedSplitsExamples.{Bare, exp, exp_block, has_head, open_case, entry_case}
 use Rattle.lf_coverage.proofs.NumberedBesideRuns.{unified_by_number_covers_inputs}
+use Rattle.lf_coverage.proofs.NumberedCandidatesTypes.{families_take}
 use Rattle.lf_coverage.proofs.NumberedSplitsExamples.{bare_ok, free, blocks_typed, open_is_split_by_entry}
 use Rattle.lf_coverage.proofs.NumberedSplitsExamplesRun.{has_leaf}
 use Rattle.lf_coverage.proofs.Parts.{some_same}
@@ -56,7 +57,7 @@ module _ (below : ℕ → ℕ → Bool) where
   holds_exp S b = (subst (PlacesIn S (true ∷ [])) (some_same (sym b.of_family)) b.places).0
 
   open_covered : ((f : ℕ) → IsBelowTest Bare (exp_block ∷ []) (below f) f) → CoverIs Bare (exp_block ∷ []) below (has_head ∷ []) (input_goal 1 (true ∷ []) (kind_pi exp star)) covered
-  open_covered test = unified_by_number_covers_inputs Bare bare_ok (exp_block ∷ []) blocks_typed below test bare_takes 2 free (has_head ∷ []) 1 (true ∷ []) (kind_pi exp star) refl (tt, tt) (by_split (entry_case ∷ []) (0, open_unified, λ S b. open_families S (holds_exp S b)) (next_case (at_leaf has_leaf) no_case))
+  open_covered test = unified_by_number_covers_inputs Bare bare_ok (exp_block ∷ []) blocks_typed below test bare_takes 2 free (has_head ∷ []) 1 (true ∷ []) (kind_pi exp star) refl (tt, tt) (by_split (entry_case ∷ []) (0, open_unified, λ S b. families_take S open_unified.type (open_families S (holds_exp S b))) (next_case (at_leaf has_leaf) no_case))
 
 pub open_inputs_are_covered : OpenInputsAreCovered
 open_inputs_are_covered = ((λ below. (open_unified below, (tt, tt), bare_takes below)), open_covered)

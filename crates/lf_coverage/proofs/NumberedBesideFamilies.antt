@@ -26,7 +26,7 @@ use Rattle.lf_coverage.specs.Calls.{PlacesIn}
 use Rattle.lf_coverage.specs.EntryConstants.{IsFreeFrom, entry_images, with_entries}
 use Rattle.lf_cases.specs.Split.{Ends}
 use Rattle.lf_coverage.specs.NewBlock.{with_new_block}
-use Rattle.lf_coverage.specs.NumberedBeside.{AllTakeBelow, IsUnifiedByNumber, WorldsTakeBelow}
+use Rattle.lf_coverage.specs.NumberedBeside.{AllTakeBelow, IsUnifiedByNumber, TakesIn, WorldsTakeBelow}
 use Rattle.lf_coverage.specs.NumberedBesideFamilies.{WorldsAreIn, WorldsWithoutSome, FreeAreIn, UnifiedByNumberKeepsFamilies, UnifiesEachByNumber, UnifiedEachIsAnswer, UnifiedEachCoversInputs, UnifiedEachGivesOutputs}
 use Rattle.lf_coverage.specs.NumberedBesideRuns.{UnifiesByNumber}
 use Rattle.lf_coverage.specs.NumberedCase.{NumberedCase}
@@ -45,6 +45,7 @@ use Rattle.lf_coverage.proofs.GoalItems.{one_without}
 use Rattle.lf_coverage.proofs.NumberedBeside.{EntryOf, entry_of, unified_by_number_is_answered}
 use Rattle.lf_coverage.proofs.NumberedBesideGoals.{inputs_take_below, numbered_takes_below, outputs_take_below, subgoal_has}
 use Rattle.lf_coverage.proofs.NumberedBesideRuns.{unified_run}
+use Rattle.lf_coverage.proofs.NumberedCandidatesTypes.{families_take}
 use Rattle.lf_coverage.proofs.NumberedHeads.{target_over}
 use Rattle.lf_coverage.proofs.Listed.{offer_of_case}
 use Rattle.lf_coverage.proofs.NumberedSplitsRuns.{answered_by_number_covers_case, answered_by_number_gives_outputs, answered_by_number_stays_typed}
@@ -170,7 +171,7 @@ module _ (Σ : Signature) (ok : IsSignature Σ) (W : List Block) (typed : AreTyp
     split_kept C Cs (t, q, fs) (x, sp) =
         let ((an, e), k) = unified_by_number_is_answered Σ ok W typed below test takes first free C t q x Cs sp in
         let (f, ks) = keeps_families C t fs x Cs sp in
-        ((x, sp, f), λ D m. (answered_by_number_stays_typed Σ ok W typed below first free C t x Cs an D m, k D m, ks D m))
+        ((x, sp, families_take S sp.type f), λ D m. (answered_by_number_stays_typed Σ ok W typed below first free C t x Cs an D m, k D m, ks D m))
 
     pub each_run : {C : NumberedCase} → IsTypedNumberedCase Σ first W C × AllTakeBelow below C.variables × AllFamiliesIn S C.variables → Ends Leaf (UnifiesEachByNumber Σ first W below) C → Ends Leaf (UnifiesByNumber Σ first W below S) C
     each_run k r = other_run {Kept = Kept} (λ C k l. l) split_kept k r
@@ -183,7 +184,7 @@ unified_each_is_answer Σ ok W typed below test takes first free ps goal n t l q
     let tn : IsTypedNumberedCase Σ first W (Rattle.lf_coverage.specs.Numbering.numbered first goal) = numbered_case_is_typed Σ ok W typed first free goal t l in
     let qn : AllTakeBelow below (numbering first goal.items).variables = numbered_takes_below below first goal q in
     let (ws, fs) = known S b in
-    answered_by_number_covers_case Σ ok W typed below (below_is_subordination Σ ok W typed below test) S b.self_contained first free ps goal n t l (unified_run Σ ok W typed below test takes first free (FamiliesIn S) _ (tn, qn) (each_run Σ ok W typed below S b.self_contained ws first free test takes _ (tn, qn, numbering_in S first goal.items fs) r))
+    answered_by_number_covers_case Σ ok W typed below (below_is_subordination Σ ok W typed below test) S b.self_contained first free ps goal n t l (unified_run Σ ok W typed below test takes first free (TakesIn S) _ (tn, qn) (each_run Σ ok W typed below S b.self_contained ws first free test takes _ (tn, qn, numbering_in S first goal.items fs) r))
 
 pub unified_each_covers_inputs : UnifiedEachCoversInputs
 unified_each_covers_inputs Σ ok W typed below test takes first free ps a m K e c known r =
@@ -199,4 +200,4 @@ unified_each_gives_outputs Σ ok W typed first free below test takes m f df worl
     let tn : IsTypedNumberedCase Σ first W (Rattle.lf_coverage.specs.Numbering.numbered first (output_goal below m (origin b) U A K)) = (numbered_output_goal_is_typed Σ ok W typed first free below m c b U i A sub needs sound none K e).0 in
     let qn = numbered_takes_below below first (output_goal below m (origin b) U A K) (outputs_take_below Σ W below test takes m c b U i A sub K e) in
     let fn = numbering_in (below f) first (output_goal below m (origin b) U A K).items (goal_in Σ W (below f) (s.self_contained f df) worlds below m c b t U i A sub K e) in
-    unified_run Σ ok W typed below test takes first free (FamiliesIn (below f)) _ (tn, qn) (each_run Σ ok W typed below (below f) (s.self_contained f df) worlds first free test takes _ (tn, qn, fn) (runs b)))
+    unified_run Σ ok W typed below test takes first free (TakesIn (below f)) _ (tn, qn) (each_run Σ ok W typed below (below f) (s.self_contained f df) worlds first free test takes _ (tn, qn, fn) (runs b)))

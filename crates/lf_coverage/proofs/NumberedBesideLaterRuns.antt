@@ -40,6 +40,7 @@ use Rattle.lf_coverage.proofs.Leaves.{subgoal_is_typed}
 use Rattle.lf_coverage.proofs.NumberedBesideLater.{asked_comes, asked_family}
 use Rattle.lf_coverage.proofs.NumberedBesideOffers.{asked_typed}
 use Rattle.lf_coverage.proofs.NumberedBesideStays.{numbered_run_stays_beside}
+use Rattle.lf_coverage.proofs.NumberedCandidatesTypes.{families_take}
 use Rattle.lf_coverage.proofs.NumberedSplits.{answered_by_number_is_split}
 use Rattle.lf_coverage.proofs.NumberedSplitsRuns.{answered_by_number_gives_outputs}
 use Rattle.lf_coverage.proofs.Parts.{none_some, some_same}
@@ -191,7 +192,7 @@ module _ (below : ℕ → ℕ → Bool) (s : IsSubordination Laters later_worlds
   low = ((star, refl), numbers, s.itself 0, ((kind_pi exp star, refl), one, s.itself 1, tt))
 
   answers : AnswersByNumber Laters 4 later_worlds below (below 3) asked_goal (answered_case ∷ [])
-  answers = let (sp, f) = asked_family below (below 3) one in (0, sp, f)
+  answers = let (sp, f) = asked_family below (below 3) one in (0, sp, families_take (below 3) sp.type f)
 
   splits : IsNumberedSplit Laters 4 later_worlds (below 3) asked_goal (answered_case ∷ [])
   splits = let (sp, f) = asked_family below (below 3) one in answered_by_number_is_split Laters ok later_worlds blocks below s (below 3) sc 4 free asked_goal asked_typed 0 (answered_case ∷ []) sp f

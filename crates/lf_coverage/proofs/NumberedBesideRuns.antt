@@ -12,7 +12,7 @@ use Rattle.lf_cases.proofs.Subordinate.{below_is_subordination}
 use Rattle.lf_coverage.specs.Calls.{IsBeside}
 use Rattle.lf_coverage.specs.EntryConstants.{IsFreeFrom}
 use Rattle.lf_cases.specs.Split.{Ends}
-use Rattle.lf_coverage.specs.NumberedBeside.{AllTakeBelow, IsUnifiedByNumber, WorldsTakeBelow}
+use Rattle.lf_coverage.specs.NumberedBeside.{AllTakeBelow, IsUnifiedByNumber, TakesIn, WorldsTakeBelow}
 use Rattle.lf_coverage.specs.NumberedBesideRuns.{UnifiedByNumberIsSplit, UnifiedByNumberCovers, UnifiedByNumberIsAnswer, UnifiedByNumberCoversInputs, UnifiedByNumberGivesOutputs}
 use Rattle.lf_coverage.specs.NumberedCase.{NumberedCase}
 use Rattle.lf_coverage.specs.NumberedSplits.{IsAnsweredByNumber}
@@ -56,10 +56,10 @@ unified_by_number_is_split Σ ok W typed below test worlds S sc first free C tc 
     answered_by_number_is_split Σ ok W typed below (below_is_subordination Σ ok W typed below test) S sc first free C tc x Cs an (subst (FamiliesIn S) (sym e) f)
 
 pub unified_by_number_covers : UnifiedByNumberCovers
-unified_by_number_covers Σ ok W typed below test worlds S sc first free ps C tc n q r = answered_by_number_covers Σ ok W typed below (below_is_subordination Σ ok W typed below test) S sc first free ps C tc n (unified_run Σ ok W typed below test worlds first free (FamiliesIn S) _ (tc, q) r)
+unified_by_number_covers Σ ok W typed below test worlds S sc first free ps C tc n q r = answered_by_number_covers Σ ok W typed below (below_is_subordination Σ ok W typed below test) S sc first free ps C tc n (unified_run Σ ok W typed below test worlds first free (TakesIn S) _ (tc, q) r)
 
 pub unified_by_number_is_answer : UnifiedByNumberIsAnswer
-unified_by_number_is_answer Σ ok W typed below test worlds first free ps goal n t l q r = answered_by_number_is_answer Σ ok W typed below (below_is_subordination Σ ok W typed below test) first free ps goal n t l (unified_run Σ ok W typed below test worlds first free (λ A. (S : ℕ → Bool) → IsBeside Σ W S goal → FamiliesIn S A) _ (numbered_case_is_typed Σ ok W typed first free goal t l, numbered_takes_below below first goal q) r)
+unified_by_number_is_answer Σ ok W typed below test worlds first free ps goal n t l q r = answered_by_number_is_answer Σ ok W typed below (below_is_subordination Σ ok W typed below test) first free ps goal n t l (unified_run Σ ok W typed below test worlds first free (λ A. (S : ℕ → Bool) → IsBeside Σ W S goal → TakesIn S A) _ (numbered_case_is_typed Σ ok W typed first free goal t l, numbered_takes_below below first goal q) r)
 
 pub unified_by_number_covers_inputs : UnifiedByNumberCoversInputs
 unified_by_number_covers_inputs Σ ok W typed below test worlds first free ps a m K e c r =
@@ -69,4 +69,4 @@ unified_by_number_covers_inputs Σ ok W typed below test worlds first free ps a 
 pub unified_by_number_gives_outputs : UnifiedByNumberGivesOutputs
 unified_by_number_gives_outputs Σ ok W typed first free below test worlds m f df c d t U all_out i A sub seq needs sound none K e low runs =
     answered_by_number_gives_outputs Σ ok W typed first free below (below_is_subordination Σ ok W typed below test) m f df c d t U all_out i A sub seq needs sound none K e low
-    (λ b. unified_run Σ ok W typed below test worlds first free (FamiliesIn (below f)) _ ((numbered_output_goal_is_typed Σ ok W typed first free below m c b U i A sub needs sound none K e).0, numbered_takes_below below first (output_goal below m (origin b) U A K) (outputs_take_below Σ W below test worlds m c b U i A sub K e)) (runs b))
+    (λ b. unified_run Σ ok W typed below test worlds first free (TakesIn (below f)) _ ((numbered_output_goal_is_typed Σ ok W typed first free below m c b U i A sub needs sound none K e).0, numbered_takes_below below first (output_goal below m (origin b) U A K) (outputs_take_below Σ W below test worlds m c b U i A sub K e)) (runs b))

@@ -25,7 +25,7 @@ use Rattle.lf_coverage.specs.Reading.{entry_reading}
 use Rattle.lf_coverage.specs.TypedNumbered.{IsTypedNumberedCase}
 use Rattle.lf_coverage.proofs.EntryPatternsLeaf.{numbered_leaf_is_covered}
 use Rattle.lf_coverage.proofs.NumberedSplitCases.{split_case_is_typed}
-use Rattle.lf_coverage.proofs.NumberedSplits.{answered_by_number_is_split}
+use Rattle.lf_coverage.proofs.NumberedSplits.{is_split}
 use Rattle.lf_coverage.proofs.NumberedSplitsRuns.{answered_by_number_covers}
 use Rattle.lf_coverage.proofs.Runs.{other_run}
 
@@ -40,7 +40,7 @@ pub apart_covers_none : ApartCoversNone
 apart_covers_none Σ W typed first C p a S Σ' x G w F σ T h k c = a.no_tuple W typed S Σ' x G w F σ T h k (covered_tuple w p (covered_places C.arguments) F C.given σ T c)
 
 pub answered_by_number_is_split_answer : AnsweredByNumberIsSplitAnswer
-answered_by_number_is_split_answer Σ ok W typed below s first free C tc x Cs l = record { lists = l; holds = λ b ob S sc f. answered_by_number_is_split Σ ok W typed below s S sc first free C tc x Cs (record { type = l.unified.type; at = l.unified.at; takes_below = b; offers = l.unified.offers; each = l.unified.each; every = l.unified.every; arguments_below = ob; listed = l.unified.listed }) f }
+answered_by_number_is_split_answer Σ ok W typed below s first free C tc x Cs l = record { lists = l; holds = λ b ob S sc f. is_split Σ ok W typed below s S sc first free C tc x Cs (record { type = l.unified.type; at = l.unified.at; takes_below = b; offers = l.unified.offers; each = l.unified.each; every = l.unified.every; arguments_below = ob; listed = l.unified.listed }) f }
 
 -- splits for a goal are splits beside each set beside which it is to be covered
 module _ (Σ : Signature) (first : ℕ) (W : List Block) (below : ℕ → ℕ → Bool) (S : ℕ → Bool) (goal : NumberedCase) (b : IsBesideByNumber Σ W S goal) (Leaf : NumberedCase → Type 0) where

@@ -15,7 +15,7 @@ use Rattle.lf_coverage.specs.NumberedCallsOutside.{IsSplitCaseByNumber}
 use Rattle.lf_coverage.specs.NumberedSplits.{NumberedOffer}
 use Rattle.lf_coverage.specs.NumberedSplitsExamples.{Bare, entry_case, exp, exp_block, has_head, open_case}
 use Rattle.lf_coverage.proofs.EntryPatternsOne.{one_instance}
-use Rattle.lf_coverage.proofs.NumberedSplits.{answered_by_number_is_split}
+use Rattle.lf_coverage.proofs.NumberedSplits.{is_split}
 use Rattle.lf_coverage.proofs.NumberedSplitsExamples.{bare_ok, blocks_typed, each, entry_found, every, free, open_is_answered, open_typed, the_offer}
 use Rattle.lf_coverage.proofs.Parts.{none_some, some_same}
 
@@ -57,7 +57,7 @@ open_is_listed below = record {
 
 pub open_is_split_answer : (below : ℕ → ℕ → Bool) → IsSubordination Bare (exp_block ∷ []) below → NumberedSplitIs Bare 2 (exp_block ∷ []) below open_case 0 (numbered_cases (entry_case ∷ []))
 unfolding open_is_listed open_is_answered
-open_is_split_answer below s = record { lists = open_is_listed below; holds = λ b ob S sc f. answered_by_number_is_split Bare bare_ok (exp_block ∷ []) blocks_typed below s S sc 2 free open_case open_typed 0 (entry_case ∷ []) (open_is_answered below) f }
+open_is_split_answer below s = record { lists = open_is_listed below; holds = λ b ob S sc f. is_split Bare bare_ok (exp_block ∷ []) blocks_typed below s S sc 2 free open_case open_typed 0 (entry_case ∷ []) (open_is_answered below) f }
 
 pub open_gives_entry : (below : ℕ → ℕ → Bool) → IsSplitCaseByNumber Bare 2 (exp_block ∷ []) below open_case 0 entry_case
 open_gives_entry below = record { type = exp; at = refl; offer = the_offer; is_offered = each the_offer (inl refl); kind = star; of_family = refl; finds = entry_found below }

@@ -9,8 +9,8 @@ use Rattle.lf.specs.Subordination.{below_in_constant, below_in_entry, below_in_k
 use Rattle.lf_cases.specs.Case.{covered_places}
 use Rattle.lf_coverage.specs.Calls.{LocalsIn, PlacesIn}
 use Rattle.lf_coverage.specs.EntryConstants.{with_entries}
-use Rattle.lf_coverage.specs.NumberedBeside.{TakesBelow}
-use Rattle.lf_coverage.specs.NumberedCandidates.{TakesIn, NumberedCandidateIsInSet, NumberedCandidateTakesBelow}
+use Rattle.lf_coverage.specs.NumberedBeside.{TakesBelow, TakesIn}
+use Rattle.lf_coverage.specs.NumberedCandidates.{NumberedCandidateIsInSet, NumberedCandidateTakesBelow}
 use Rattle.lf_coverage.specs.OwnTerms.{blocks_of}
 use Rattle.lf_coverage.specs.Subordinate.{QuantifiersAreBelow, AllQuantifiersAreBelow}
 use Rattle.lf_coverage.proofs.NumberedCandidatesFound.{PlacesHave, each_candidate}

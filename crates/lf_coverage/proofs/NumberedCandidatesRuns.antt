@@ -18,10 +18,9 @@ use Rattle.lf_coverage.specs.Calls.{LocalsIn, PlacesIn}
 use Rattle.lf_coverage.specs.EntryConstants.{IsFreeFrom}
 use Rattle.lf_coverage.specs.EntryPatternsRuns.{IsNumberedLeaf, IsNumberedSplit}
 use Rattle.lf_coverage.specs.Leaf.{IsTypedPattern}
-use Rattle.lf_coverage.specs.NumberedBeside.{TakesBelow}
+use Rattle.lf_coverage.specs.NumberedBeside.{TakesBelow, TakesIn}
 use Rattle.lf_coverage.specs.NumberedBesideGiven.{IsTypedBesideByNumber}
 use Rattle.lf_coverage.specs.NumberedCalls.{IsBesideByNumber}
-use Rattle.lf_coverage.specs.NumberedCandidates.{TakesIn}
 use Rattle.lf_coverage.specs.NumberedCandidatesRuns.{AnswersFirst, UnifiesCandidate, NumberedCandidateRunCovers, NumberedStrategyRunCovers}
 use Rattle.lf_coverage.specs.NumberedCase.{NumberedCase}
 use Rattle.lf_coverage.specs.OwnStores.{ComesByNumbers, no_split, then_block, then_split}

@@ -13,7 +13,7 @@ use Rattle.lf_checks.specs.Below.{IsSubordination}
 use Rattle.lf.proofs.Checker.{both_of}
 use Rattle.lf_checks.proofs.EtaTest.{both_l, both_r}
 use Rattle.lf_coverage.specs.Heads.{ArgumentsAreBelow}
-use Rattle.lf_coverage.specs.NumberedCandidates.{TakesIn}
+use Rattle.lf_coverage.specs.NumberedBeside.{TakesIn}
 use Rattle.lf_coverage.proofs.HeadRaised.{AllTypesIn, families_within, part, part_low}
 use Rattle.lf_coverage.proofs.Parts.{first_same, second_same, no_arrow}
 use Rattle.lf_coverage.proofs.WritingLow.{base_same, families_same, skeleton_target, target_is}

@@ -22,7 +22,7 @@ use Rattle.lf_coverage.specs.EntryPatternsSplits.{HoldsAs, OneHoldsAs}
 use Rattle.lf_coverage.specs.Heads.{ArgumentsAreBelow}
 use Rattle.lf_coverage.specs.NewBlock.{rename_all, with_new_block}
 use Rattle.lf_coverage.specs.NewInstance.{AreApart, with_instance}
-use Rattle.lf_coverage.specs.NumberedCandidates.{TakesIn}
+use Rattle.lf_coverage.specs.NumberedBeside.{TakesIn}
 use Rattle.lf_coverage.specs.NumberedCase.{NumberedCase, IsNumberedInstance}
 use Rattle.lf_coverage.specs.NumberedHeads.{IsNumberedHead, IsNewEntry}
 use Rattle.lf_coverage.specs.NumberedSplits.{NumberedOffer, IsOfferTo, of_case, of_new_block, NumberedAnswer, IsAnsweredByNumber, AnsweredByNumberIsSplit}

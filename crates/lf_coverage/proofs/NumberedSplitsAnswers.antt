@@ -25,7 +25,7 @@ use Rattle.lf_coverage.specs.EntryConstants.{IsFreeFrom, entry_constant, with_en
 use Rattle.lf_coverage.specs.EntryPatternsSplits.{HoldsAs}
 use Rattle.lf_coverage.specs.Heads.{ArgumentsAreBelow}
 use Rattle.lf_coverage.specs.NewInstance.{AreApart}
-use Rattle.lf_coverage.specs.NumberedCandidates.{TakesIn}
+use Rattle.lf_coverage.specs.NumberedBeside.{TakesIn}
 use Rattle.lf_coverage.specs.NumberedCase.{NumberedCase, IsNumberedInstance, value_in}
 use Rattle.lf_coverage.specs.NumberedHeads.{IsNumberedHead}
 use Rattle.lf_coverage.specs.NumberedInstance.{block_at, move, move_spine, move_types}

@@ -22,7 +22,7 @@ use Rattle.lf_totality.proofs.RaisedOutputs.{binders_over}
 use Rattle.lf.proofs.Substitution.{skeleton_context_of, substitution_keeps_types}
 use Rattle.lf_coverage.specs.EntryConstants.{with_entries}
 use Rattle.lf_coverage.specs.Heads.{ArgumentsAreBelow}
-use Rattle.lf_coverage.specs.NumberedCandidates.{TakesIn}
+use Rattle.lf_coverage.specs.NumberedBeside.{TakesIn}
 use Rattle.lf_coverage.specs.NumberedCase.{NumberedCase}
 use Rattle.lf_coverage.specs.OwnStores.{IsNumberedOffer}
 use Rattle.lf_coverage.specs.OwnTerms.{blocks_of}

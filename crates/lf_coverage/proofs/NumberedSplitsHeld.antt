@@ -21,7 +21,7 @@ use Rattle.lf_cases.specs.OutputGoal.{free_variables}
 use Rattle.lf_cases.specs.Reached.{arguments_count, head_masks, taken, split_items}
 use Rattle.lf_coverage.specs.EntryConstants.{EntryConstant, entry_constant, with_entries}
 use Rattle.lf_coverage.specs.Heads.{ArgumentsAreBelow}
-use Rattle.lf_coverage.specs.NumberedCandidates.{TakesIn}
+use Rattle.lf_coverage.specs.NumberedBeside.{TakesIn}
 use Rattle.lf_coverage.specs.NumberedCase.{NumberedCase, AreTypedBlockVariables, some_spine, value_in, type_in}
 use Rattle.lf_coverage.specs.NumberedInstance.{block_at}
 use Rattle.lf_coverage.specs.OwnStores.{IsNumberedOffer, numbered_store, solved_numbered}

@@ -15,7 +15,7 @@ use Rattle.lf_cases.specs.Reached.{taken}
 use Rattle.lf_coverage.specs.EntryConstants.{EntryConstant, IsFreeFrom, entry_constant, entry_type, with_entries}
 use Rattle.lf_coverage.specs.Heads.{ArgumentsAreBelow}
 use Rattle.lf_coverage.specs.NewInstance.{AreApart}
-use Rattle.lf_coverage.specs.NumberedCandidates.{TakesIn}
+use Rattle.lf_coverage.specs.NumberedBeside.{TakesIn}
 use Rattle.lf_coverage.specs.NumberedCase.{NumberedCase, IsNumberedInstance}
 use Rattle.lf_coverage.specs.NumberedHeads.{IsNumberedHead, of_signature, of_taken, of_entry}
 use Rattle.lf_coverage.specs.NumberedInstance.{move, move_spine, move_types}

@@ -30,7 +30,7 @@ use Rattle.lf.proofs.Renaming.{substitute_renamed_spine}
 use Rattle.lf.proofs.Weakening.{renaming_keeps_spine_typing}
 use Rattle.lf_coverage.specs.EntryConstants.{EntryConstant, entry_constant, entry_images, entry_type, with_entries}
 use Rattle.lf_coverage.specs.Heads.{ArgumentsAreBelow}
-use Rattle.lf_coverage.specs.NumberedCandidates.{TakesIn}
+use Rattle.lf_coverage.specs.NumberedBeside.{TakesIn}
 use Rattle.lf_coverage.specs.NumberedCase.{NumberedCase, some_spine, type_in}
 use Rattle.lf_coverage.specs.NumberedHeads.{IsNumberedHead, of_signature, of_taken, of_entry}
 use Rattle.lf_coverage.specs.OwnStores.{left_type, offer_signature, offer_taken, offer_entry}

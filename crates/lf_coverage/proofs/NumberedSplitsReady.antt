@@ -31,7 +31,7 @@ use Rattle.lf_cases.specs.Split.{HasNoBlockVariable}
 use Rattle.lf_totality.proofs.RaisedOutputs.{binders_over}
 use Rattle.lf_coverage.specs.EntryConstants.{with_entries}
 use Rattle.lf_coverage.specs.Heads.{ArgumentsAreBelow, term_type}
-use Rattle.lf_coverage.specs.NumberedCandidates.{TakesIn}
+use Rattle.lf_coverage.specs.NumberedBeside.{TakesIn}
 use Rattle.lf_coverage.specs.NumberedCase.{NumberedCase}
 use Rattle.lf_coverage.specs.OwnStores.{left_type, IsNumberedOffer, offer_signature, offer_taken, offer_entry, applied_term, numbered_store}
 use Rattle.lf_coverage.specs.OwnTerms.{blocks_of}

@@ -16,7 +16,7 @@ use Rattle.lf_coverage.specs.TypedNumbered.{IsTypedNumberedCase}
 use Rattle.lf_coverage.proofs.EntryPatternsForms.{numbered_run_covers, numbered_run_covers_case}
 use Rattle.lf_coverage.proofs.EntryPatternsOutputs.{numbered_output_goal_is_typed, numbered_runs_give_outputs}
 use Rattle.lf_coverage.proofs.NumberedSplitCases.{answered_case, split_case_is_typed}
-use Rattle.lf_coverage.proofs.NumberedSplits.{answered_by_number_is_split}
+use Rattle.lf_coverage.proofs.NumberedSplits.{is_split}
 use Rattle.lf_coverage.proofs.Runs.{other_run}
 use Rattle.lf_coverage.proofs.TypedNumbered.{numbered_case_is_typed}
 
@@ -25,7 +25,7 @@ answered_by_number_stays_typed Σ ok W typed below first free C tc x Cs sp D m =
 
 module _ (Σ : Signature) (ok : IsSignature Σ) (W : List Block) (typed : AreTypedBlocks Σ W) (below : ℕ → ℕ → Bool) (s : IsSubordination Σ W below) (S : ℕ → Bool) (sc : SelfContained Σ W S) (first : ℕ) (free : IsFreeFrom Σ first) (ps : List Pattern) where
   numbered_run : {C : NumberedCase} → IsTypedNumberedCase Σ first W C → Ends (IsNumberedLeaf Σ first W ps) (AnswersByNumber Σ first W below S) C → Ends (IsNumberedLeaf Σ first W ps) (IsNumberedSplit Σ first W S) C
-  numbered_run tc r = other_run {Kept = IsTypedNumberedCase Σ first W} (λ C t l. l) (λ C Cs t (x, sp, f). (answered_by_number_is_split Σ ok W typed below s S sc first free C t x Cs sp f, answered_by_number_stays_typed Σ ok W typed below first free C t x Cs sp)) tc r
+  numbered_run tc r = other_run {Kept = IsTypedNumberedCase Σ first W} (λ C t l. l) (λ C Cs t (x, sp, f). (is_split Σ ok W typed below s S sc first free C t x Cs sp f, answered_by_number_stays_typed Σ ok W typed below first free C t x Cs sp)) tc r
 
 pub answered_by_number_covers : AnsweredByNumberCovers
 answered_by_number_covers Σ ok W typed below s S sc first free ps C tc n r = numbered_run_covers Σ ok W typed S first free ps C n (numbered_run Σ ok W typed below s S sc first free ps tc r)

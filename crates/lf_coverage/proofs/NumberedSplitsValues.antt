@@ -17,7 +17,7 @@ use Rattle.lf_cases.specs.Raised.{raise_by, first_mask, other_masks}
 use Rattle.lf_cases.specs.Reached.{arguments_count, head_items, head_masks, taken, split_items}
 use Rattle.lf_coverage.specs.EntryConstants.{with_entries}
 use Rattle.lf_coverage.specs.Heads.{ArgumentsAreBelow}
-use Rattle.lf_coverage.specs.NumberedCandidates.{TakesIn}
+use Rattle.lf_coverage.specs.NumberedBeside.{TakesIn}
 use Rattle.lf_coverage.specs.NumberedCase.{NumberedCase, type_in}
 use Rattle.lf_coverage.specs.OwnStores.{IsNumberedOffer}
 use Rattle.lf_coverage.specs.OwnTerms.{blocks_of, own_terms, put_in_blocks, weaken_own, OnOwnTerms, SpineOnOwnTerms, ImageOnOwnTerms}

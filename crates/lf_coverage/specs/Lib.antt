@@ -166,3 +166,7 @@ pub mod WorkedCallsWhole
 pub mod NumberedAnswers
 pub mod NumberedAnswersRuns
 pub mod NumberedAnswersExamples
+pub mod OnlyCase
+pub mod OnlyOrder
+pub mod OnlyList
+pub mod OnlyExamples

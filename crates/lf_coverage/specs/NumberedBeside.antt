@@ -1,10 +1,10 @@
 -- What a run by number keeps of subordination: what a variable takes quantifies only over what is below. So at no split need the families in the types
 -- of arguments be looked at: it is enough that a test of subordination is over the signature and the worlds, and that so is each `some` variable's type.
-use Rattle.std.specs.Prelude.{◌≡◌, ℕ, List, [], ◌∷◌, Bool, Some}
+use Rattle.std.specs.Prelude.{◌≡◌, ℕ, List, [], ◌∷◌, Bool, true, Some}
 use Rattle.lf.specs.Syntax.{Head, Spine, LfType, Kind, pi, atom}
 use Rattle.lf.specs.Typing.{Signature, TypeAt, IsSignature}
 use Rattle.lf.specs.Subordination.{Block, AreTypedBlocks, IsBelowTest, Member}
-use Rattle.lf.specs.Variables.{target}
+use Rattle.lf.specs.Variables.{target, FamiliesIn}
 use Rattle.lf_checks.specs.Below.{IsSubordination}
 use Rattle.lf_checks.specs.Clause.{Clause, IsClause, IsSubgoal}
 use Rattle.lf_checks.specs.Marks.{Mark}
@@ -26,6 +26,12 @@ use Rattle.lf_coverage.specs.TypedNumbered.{IsTypedNumberedCase}
 abbrev pub TakesBelow : (ℕ → ℕ → Bool) → LfType → Type 0
 TakesBelow below (pi A B) = QuantifiersAreBelow below A × TakesBelow below B
 TakesBelow below (atom a S) = Unit {0}
+
+-- The type's own family is in S, and so are those in the type of each argument whose own family is. So {x:exp} nat is such a type beside the set of nat
+-- alone, and {y:exp -> nat} nat isn't.
+abbrev pub TakesIn : (ℕ → Bool) → LfType → Type 0
+TakesIn S (pi A B) = (S (target A) ≡ true → FamiliesIn S A) × TakesIn S B
+TakesIn S (atom a T) = S a ≡ true
 
 -- each type of a context
 abbrev pub AllTakeBelow : (ℕ → ℕ → Bool) → List LfType → Type 0

@@ -20,7 +20,7 @@ use Rattle.lf_coverage.specs.EntryPatternsOutputs.{numbered_output_goal}
 use Rattle.lf_coverage.specs.EntryPatternsRuns.{IsCoveredByNumber, IsNumberedLeaf, IsNumberedSplit, HasOneBlock}
 use Rattle.lf_cases.specs.Split.{Ends}
 use Rattle.lf_coverage.specs.Heads.{IsTypedCase}
-use Rattle.lf_coverage.specs.NumberedBeside.{AllTakeBelow, IsUnifiedByNumber, ItemsTakeBelow, WorldsTakeBelow}
+use Rattle.lf_coverage.specs.NumberedBeside.{AllTakeBelow, IsUnifiedByNumber, ItemsTakeBelow, TakesIn, WorldsTakeBelow}
 use Rattle.lf_coverage.specs.NumberedCase.{NumberedCase}
 use Rattle.lf_coverage.specs.Numbering.{numbered}
 use Rattle.lf_coverage.specs.TypedLocal.{HasTypedLocal}
@@ -30,12 +30,13 @@ use Rattle.lf_coverage.specs.TypedNumbered.{IsTypedNumberedCase}
 abbrev pub UnifiedByNumberIsSplit : Type 0
 UnifiedByNumberIsSplit = (Σ : Signature) → IsSignature Σ → (W : List Block) → AreTypedBlocks Σ W → (below : ℕ → ℕ → Bool) → ((f : ℕ) → IsBelowTest Σ W (below f) f) → WorldsTakeBelow below W → (S : ℕ → Bool) → SelfContained Σ W S → (first : ℕ) → IsFreeFrom Σ first → (C : NumberedCase) → IsTypedNumberedCase Σ first W C → AllTakeBelow below C.variables → (x : ℕ) (Cs : List NumberedCase) (sp : IsUnifiedByNumber Σ first W below C x Cs) → FamiliesIn S sp.type → IsNumberedSplit Σ first W S C Cs
 
--- A case is split so at one of its variables, the families of whose type are in S; or in each set beside which the goal is to be covered.
+-- A case is split so at one of its variables, of which it is known what it takes: its own family is in S, and with the own family of an argument all those
+-- in the argument's type; or so it is with each set beside which the goal is to be covered.
 abbrev pub UnifiesByNumber : Signature → ℕ → List Block → (ℕ → ℕ → Bool) → (ℕ → Bool) → NumberedCase → List NumberedCase → Type 0
-UnifiesByNumber Σ first W below S C Cs = (x : ℕ) × (sp : IsUnifiedByNumber Σ first W below C x Cs) × FamiliesIn S sp.type
+UnifiesByNumber Σ first W below S C Cs = (x : ℕ) × (sp : IsUnifiedByNumber Σ first W below C x Cs) × TakesIn S sp.type
 
 abbrev pub UnifiesByNumberFor : Signature → ℕ → List Block → (ℕ → ℕ → Bool) → Case → NumberedCase → List NumberedCase → Type 0
-UnifiesByNumberFor Σ first W below goal C Cs = (x : ℕ) × (sp : IsUnifiedByNumber Σ first W below C x Cs) × ((S : ℕ → Bool) → IsBeside Σ W S goal → FamiliesIn S sp.type)
+UnifiesByNumberFor Σ first W below goal C Cs = (x : ℕ) × (sp : IsUnifiedByNumber Σ first W below C x Cs) × ((S : ℕ → Bool) → IsBeside Σ W S goal → TakesIn S sp.type)
 
 -- A run of these that ends at instances of patterns covers its goal, where this is typed, has one block variable at most, and what its free variables
 -- take quantifies only over what is below.

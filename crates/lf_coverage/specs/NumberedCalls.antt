@@ -6,7 +6,7 @@
 use Rattle.std.specs.Prelude.{◌≡◌, ℕ, zero, ◌⊎◌, List, [], length, Bool, true, false, Some}
 use Rattle.lf.specs.Syntax.{Spine, LfType, Kind}
 use Rattle.lf.specs.Typing.{Signature, TypeAt, IsSignature}
-use Rattle.lf.specs.Variables.{target, binders, everything, nothing, FamiliesIn, Within}
+use Rattle.lf.specs.Variables.{target, binders, everything, nothing, Within}
 use Rattle.lf.specs.Subordination.{Block, AreTypedBlocks, IsBelowTest, IsTypedBlock, Member, SelfContained}
 use Rattle.lf_unification.specs.Unifiers.{Equation}
 use Rattle.lf_checks.specs.Clause.{Clause, IsClause, IsSubgoal, outside, scope}
@@ -23,7 +23,7 @@ use Rattle.lf_coverage.specs.EntryTerms.{known_in}
 use Rattle.lf_coverage.specs.Heads.{ArgumentsAreBelow}
 use Rattle.lf_coverage.specs.Leaf.{IsTypedPattern}
 use Rattle.lf_coverage.specs.Matching.{ArePlaces, HoldsTypes, other_places}
-use Rattle.lf_coverage.specs.NumberedBeside.{IsUnifiedByNumber}
+use Rattle.lf_coverage.specs.NumberedBeside.{IsUnifiedByNumber, TakesIn}
 use Rattle.lf_coverage.specs.NumberedBesideGiven.{IsTypedBesideByNumber}
 use Rattle.lf_coverage.specs.NumberedCallsMeeting.{IsApartByNumber}
 use Rattle.lf_coverage.specs.NumberedCallsOrder.{AreInNumberedOrder, HasNumberedRank}
@@ -126,10 +126,11 @@ pub record ListsCases (Σ : Signature) (first : ℕ) (W : List Block) (below : �
   pub every_rank : (o : NumberedOffer) (r : List ℕ) → IsOfferTo Σ first W C x unified.type o → HasNumberedRank first W C o r → Member r ranks
 
 -- And where the families in the types of the variable's and the heads' arguments are below their own, one of them holds each tuple that the case holds, with
--- block variables apart, beside each self-contained set that holds the families of the variable's type.
+-- block variables apart, beside each self-contained set that has the variable's own family, and with the own family of an argument all those in its type. So
+-- Y : {x:exp} bx may be split beside the set of bx alone.
 pub record AreNumberedCasesOf (Σ : Signature) (first : ℕ) (W : List Block) (below : ℕ → ℕ → Bool) (C : NumberedCase) (x : ℕ) (Cs : List NumberedCase) : Type 0 where
   pub lists : ListsCases Σ first W below C x Cs
-  pub holds : ArgumentsAreBelow below lists.unified.type → ((o : NumberedOffer) → IsOfferTo Σ first W C x lists.unified.type o → ArgumentsAreBelow below o.left) → (S : ℕ → Bool) → SelfContained Σ W S → FamiliesIn S lists.unified.type → IsNumberedSplit Σ first W S C Cs
+  pub holds : ArgumentsAreBelow below lists.unified.type → ((o : NumberedOffer) → IsOfferTo Σ first W C x lists.unified.type o → ArgumentsAreBelow below o.left) → (S : ℕ → Bool) → SelfContained Σ W S → TakesIn S lists.unified.type → IsNumberedSplit Σ first W S C Cs
 
 -- What `split` answers of a case and one of its variables: cases; for a head an equation is left outside the pattern fragment, which is shown over the case
 -- that the head is offered to, with the variables for the head's arguments; or something is deeper than 4,096. So p X in the worlds of {x:exp} {u:p x},

@@ -3,7 +3,7 @@ use Rattle.std.specs.Prelude.{◌≡◌, ℕ, List, [], ◌∷◌, length, Bool,
 use Rattle.lf.specs.Syntax.{Spine, LfType, Kind}
 use Rattle.lf.specs.Substitution.{Image}
 use Rattle.lf.specs.Typing.{Signature, TypeAt, IsSignature}
-use Rattle.lf.specs.Variables.{binders, everything, nothing, FamiliesIn}
+use Rattle.lf.specs.Variables.{binders, everything, nothing}
 use Rattle.lf.specs.Subordination.{Block, AreTypedBlocks, Member}
 use Rattle.lf.specs.Worlds.{World}
 use Rattle.lf.specs.Extension.{Extends}
@@ -18,6 +18,7 @@ use Rattle.lf_coverage.specs.EntryPatternsRuns.{HasOneBlock, HoldsByNumber, IsCo
 use Rattle.lf_cases.specs.Split.{Ends}
 use Rattle.lf_coverage.specs.Heads.{IsTypedCase}
 use Rattle.lf_coverage.specs.Leaf.{IsTypedPattern}
+use Rattle.lf_coverage.specs.NumberedBeside.{TakesIn}
 use Rattle.lf_coverage.specs.NumberedCalls.{IsBesideByNumber, ListsCases, NumberedCoverIs, NumberedInputGoalIs, NumberedMatchedIs, NumberedSplitIs, all_covered, numbered_cases, one_missing}
 use Rattle.lf_coverage.specs.NumberedCallsMeeting.{IsKnownFor, SharesInstance, zeroth_known}
 use Rattle.lf_coverage.specs.NumberedCallsReached.{ReachedByNumber, numbered_candidates}
@@ -39,9 +40,10 @@ ApartCoversNone = (Σ : Signature) (W : List Block) → AreTypedBlocks Σ W → 
 abbrev pub AnsweredByNumberIsSplitAnswer : Type 0
 AnsweredByNumberIsSplitAnswer = (Σ : Signature) → IsSignature Σ → (W : List Block) → AreTypedBlocks Σ W → (below : ℕ → ℕ → Bool) → IsSubordination Σ W below → (first : ℕ) → IsFreeFrom Σ first → (C : NumberedCase) → IsTypedNumberedCase Σ first W C → (x : ℕ) (Cs : List NumberedCase) → ListsCases Σ first W below C x Cs → NumberedSplitIs Σ first W below C x (numbered_cases Cs)
 
--- A case is split so at one of its variables, the families of whose type are in each set beside which the goal is to be covered.
+-- A case is split so at one of its variables, which has its own family in each set beside which the goal is to be covered, and with the own family of an
+-- argument all those in the argument's type.
 abbrev pub AnswersForGoal : Signature → ℕ → List Block → (ℕ → ℕ → Bool) → NumberedCase → NumberedCase → List NumberedCase → Type 0
-AnswersForGoal Σ first W below goal C Cs = (x : ℕ) × (sp : IsAnsweredByNumber Σ first W below C x Cs) × ((S : ℕ → Bool) → IsBesideByNumber Σ W S goal → FamiliesIn S sp.type)
+AnswersForGoal Σ first W below goal C Cs = (x : ℕ) × (sp : IsAnsweredByNumber Σ first W below C x Cs) × ((S : ℕ → Bool) → IsBesideByNumber Σ W S goal → TakesIn S sp.type)
 
 -- Covered: a run of such splits from a typed goal with one block variable at most, which ends at instances of patterns, has this answer.
 abbrev pub AnsweredByNumberIsCovered : Type 0

@@ -1,23 +1,17 @@
 -- Which variables a run by number may split beside a set of families: its candidates need nothing but the set, and what stands in the case's local context.
-use Rattle.std.specs.Prelude.{◌≡◌, ℕ, List, [], length, Bool, true}
-use Rattle.lf.specs.Syntax.{LfType, pi, atom}
+use Rattle.std.specs.Prelude.{◌≡◌, ℕ, List, [], length, Bool}
+use Rattle.lf.specs.Syntax.{LfType}
 use Rattle.lf.specs.Typing.{Signature, TypeAt}
-use Rattle.lf.specs.Variables.{target, binders, FamiliesIn}
+use Rattle.lf.specs.Variables.{binders}
 use Rattle.lf.specs.Subordination.{Block, IsBelowTest, Member}
 use Rattle.lf_cases.specs.Pattern.{Pattern}
 use Rattle.lf_coverage.specs.EntryConstants.{IsFreeFrom}
-use Rattle.lf_coverage.specs.NumberedBeside.{TakesBelow}
+use Rattle.lf_coverage.specs.NumberedBeside.{TakesBelow, TakesIn}
 use Rattle.lf_coverage.specs.NumberedBesideGiven.{IsTypedBesideByNumber}
 use Rattle.lf_coverage.specs.NumberedCalls.{IsBesideByNumber}
 use Rattle.lf_coverage.specs.NumberedCallsReached.{numbered_candidates}
 use Rattle.lf_coverage.specs.NumberedCase.{NumberedCase}
 use Rattle.lf_coverage.specs.Subordinate.{AllQuantifiersAreBelow}
-
--- The type's own family is in S, and so are those in the type of each argument whose own family is. So {x:exp} nat is such a type beside the set of nat
--- alone, and {y:exp -> nat} nat isn't.
-abbrev pub TakesIn : (ℕ → Bool) → LfType → Type 0
-TakesIn S (pi A B) = (S (target A) ≡ true → FamiliesIn S A) × TakesIn S B
-TakesIn S (atom a T) = S a ≡ true
 
 -- Each candidate of a pattern with as many local variables as the case has such a type beside each set beside which the case is to be covered. The case is
 -- typed beside some pattern, by which its arguments have the types of their places: it needn't be this one. Nothing is asked of the worlds, nor of the case's

@@ -12,11 +12,10 @@ use Rattle.lf_cases.specs.Split.{Ends}
 use Rattle.lf_totality.specs.Examples.{var}
 use Rattle.lf_coverage.specs.Calls.{CoverIs, IsBeside, covered}
 use Rattle.lf_coverage.specs.EntryPatternsRuns.{IsNumberedLeaf}
-use Rattle.lf_coverage.specs.NumberedBeside.{IsUnifiedByNumber}
+use Rattle.lf_coverage.specs.NumberedBeside.{IsUnifiedByNumber, TakesIn}
 use Rattle.lf_coverage.specs.NumberedBesideFamilies.{WorldsAreIn}
 use Rattle.lf_coverage.specs.NumberedCalls.{NumberedCoverIs, all_covered}
 use Rattle.lf_coverage.specs.NumberedCallsReached.{numbered_candidates}
-use Rattle.lf_coverage.specs.NumberedCandidates.{TakesIn}
 use Rattle.lf_coverage.specs.NumberedCandidatesRuns.{UnifiesCandidate}
 use Rattle.lf_coverage.specs.NumberedCase.{NumberedCase}
 use Rattle.lf_coverage.specs.NumberedSplitsExamples.{exp, has}

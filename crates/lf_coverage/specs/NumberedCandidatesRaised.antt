@@ -9,11 +9,10 @@ use Rattle.lf_checks.specs.Marks.{Mark, output}
 use Rattle.lf_cases.specs.Pattern.{Pattern, of_constant, subgoal_pattern}
 use Rattle.lf_coverage.specs.Calls.{LocalsIn}
 use Rattle.lf_coverage.specs.EntryPatternsOutputs.{numbered_output_goal}
-use Rattle.lf_coverage.specs.NumberedBeside.{IsUnifiedByNumber}
+use Rattle.lf_coverage.specs.NumberedBeside.{IsUnifiedByNumber, TakesIn}
 use Rattle.lf_coverage.specs.NumberedBesideGiven.{IsTypedBesideByNumber}
 use Rattle.lf_coverage.specs.NumberedCalls.{IsBesideByNumber, NumberedCoverIs, all_covered}
 use Rattle.lf_coverage.specs.NumberedCallsReached.{numbered_candidates}
-use Rattle.lf_coverage.specs.NumberedCandidates.{TakesIn}
 use Rattle.lf_coverage.specs.NumberedCase.{NumberedCase}
 use Rattle.lf_coverage.specs.NumberedSplitsExamples.{exp}
 use Rattle.lf_coverage.specs.OwnStoresExamples.{each_below}

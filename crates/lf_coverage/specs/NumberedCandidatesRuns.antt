@@ -20,11 +20,10 @@ use Rattle.lf_coverage.specs.EntryPatternsOutputs.{numbered_output_goal}
 use Rattle.lf_coverage.specs.EntryPatternsRuns.{HasOneBlock, IsNumberedLeaf, IsNumberedSplit}
 use Rattle.lf_coverage.specs.Leaf.{IsTypedPattern}
 use Rattle.lf_coverage.specs.Matching.{HoldsTypes}
-use Rattle.lf_coverage.specs.NumberedBeside.{IsUnifiedByNumber, TakesBelow}
+use Rattle.lf_coverage.specs.NumberedBeside.{IsUnifiedByNumber, TakesBelow, TakesIn}
 use Rattle.lf_coverage.specs.NumberedBesideGiven.{IsTypedBesideByNumber}
 use Rattle.lf_coverage.specs.NumberedCalls.{NumberedCoverIs, NumberedSplitIs, all_covered, numbered_cases}
 use Rattle.lf_coverage.specs.NumberedCallsReached.{numbered_candidates, FirstCandidateByNumber}
-use Rattle.lf_coverage.specs.NumberedCandidates.{TakesIn}
 use Rattle.lf_coverage.specs.NumberedCase.{NumberedCase}
 use Rattle.lf_coverage.specs.NumberedSplits.{IsAnsweredByNumber}
 use Rattle.lf_coverage.specs.Numbering.{numbered}

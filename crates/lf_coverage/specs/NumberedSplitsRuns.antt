@@ -2,7 +2,7 @@
 use Rattle.std.specs.Prelude.{◌≡◌, ℕ, List, [], ◌∷◌, Bool, true, Some}
 use Rattle.lf.specs.Syntax.{LfType, Kind}
 use Rattle.lf.specs.Typing.{Signature, IsSignature}
-use Rattle.lf.specs.Variables.{target, binders, everything, FamiliesIn, Within}
+use Rattle.lf.specs.Variables.{target, binders, everything, Within}
 use Rattle.lf.specs.Subordination.{Block, AreTypedBlocks, IsDeclared, Member, SelfContained}
 use Rattle.lf_checks.specs.Below.{IsSubordination}
 use Rattle.lf_checks.specs.Clause.{Clause, IsClause, IsSubgoal, outside, scope}
@@ -19,15 +19,17 @@ use Rattle.lf_coverage.specs.EntryConstants.{IsFreeFrom}
 use Rattle.lf_coverage.specs.EntryPatternsOutputs.{numbered_output_goal}
 use Rattle.lf_coverage.specs.EntryPatternsRuns.{IsCoveredByNumber, IsNumberedLeaf, HasOneBlock}
 use Rattle.lf_coverage.specs.Heads.{IsTypedCase}
+use Rattle.lf_coverage.specs.NumberedBeside.{TakesIn}
 use Rattle.lf_coverage.specs.NumberedCase.{NumberedCase}
 use Rattle.lf_coverage.specs.NumberedSplits.{IsAnsweredByNumber}
 use Rattle.lf_coverage.specs.Numbering.{numbered}
 use Rattle.lf_coverage.specs.TypedLocal.{HasTypedLocal}
 use Rattle.lf_coverage.specs.TypedNumbered.{IsTypedNumberedCase}
 
--- A case is split so at one of its variables, the families of whose type are in S.
+-- A case is split so at one of its variables, of which it is known what it takes: its own family is in S, and with the own family of an argument all those
+-- in the argument's type.
 abbrev pub AnswersByNumber : Signature → ℕ → List Block → (ℕ → ℕ → Bool) → (ℕ → Bool) → NumberedCase → List NumberedCase → Type 0
-AnswersByNumber Σ first W below S C Cs = (x : ℕ) × (sp : IsAnsweredByNumber Σ first W below C x Cs) × FamiliesIn S sp.type
+AnswersByNumber Σ first W below S C Cs = (x : ℕ) × (sp : IsAnsweredByNumber Σ first W below C x Cs) × TakesIn S sp.type
 
 -- Each case of such a split of a typed case is typed.
 abbrev pub AnsweredByNumberStaysTyped : Type 0
@@ -41,9 +43,9 @@ AnsweredByNumberCovers = (Σ : Signature) → IsSignature Σ → (W : List Block
 abbrev pub AnsweredByNumberCoversCase : Type 0
 AnsweredByNumberCoversCase = (Σ : Signature) → IsSignature Σ → (W : List Block) → AreTypedBlocks Σ W → (below : ℕ → ℕ → Bool) → IsSubordination Σ W below → (S : ℕ → Bool) → SelfContained Σ W S → (first : ℕ) → IsFreeFrom Σ first → (ps : List Pattern) (C : Case) → HasOneBlockVariable C.items → IsTypedCase Σ W C → HasTypedLocal Σ C → Ends (IsNumberedLeaf Σ first W ps) (AnswersByNumber Σ first W below S) (numbered first C) → IsCoveredCase Σ W S ps C
 
--- A case is split so at one of its variables, the families of whose type are in each set beside which the goal is to be covered.
+-- And so with each set beside which the goal is to be covered.
 abbrev pub AnswersByNumberFor : Signature → ℕ → List Block → (ℕ → ℕ → Bool) → Case → NumberedCase → List NumberedCase → Type 0
-AnswersByNumberFor Σ first W below goal C Cs = (x : ℕ) × (sp : IsAnsweredByNumber Σ first W below C x Cs) × ((S : ℕ → Bool) → IsBeside Σ W S goal → FamiliesIn S sp.type)
+AnswersByNumberFor Σ first W below goal C Cs = (x : ℕ) × (sp : IsAnsweredByNumber Σ first W below C x Cs) × ((S : ℕ → Bool) → IsBeside Σ W S goal → TakesIn S sp.type)
 
 -- A run of these from a typed goal answers that it is covered.
 abbrev pub AnsweredByNumberIsAnswer : Type 0

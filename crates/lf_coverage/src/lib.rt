@@ -2084,3 +2084,39 @@ pub fn two_copies_are_answered()
     ensures apart { TwoCopiesAreApart }
     ensures stuck { TwoCopiesAreStuck }
 {}
+
+ghost use Rattle.lf_coverage.specs.OnlyCase.{OfferHasOneCase, FoundIsNotRefuted};
+
+/// Two cases that solving finds for one head of a split by number are the same but for their variables; and where it
+/// finds one, no steps refute.
+pub fn found_case_is_only_one()
+    ensures one { OfferHasOneCase }
+    ensures found { FoundIsNotRefuted }
+{}
+
+ghost use Rattle.lf_coverage.specs.OnlyOrder.{PlaceIsOfOneOffer, PlacesAreOfOneBlock, OfferHasOnePlace, ListedOffersAreOne};
+
+/// A place in the order of a split by number is that of one head; so the heads that are listed, and their places, are
+/// determined. Two places of one head differ at most in that of its block, so it has one where each block stands once.
+pub fn listed_offers_are_only_ones()
+    ensures offer { PlaceIsOfOneOffer }
+    ensures places { PlacesAreOfOneBlock }
+    ensures place { OfferHasOnePlace }
+    ensures listed { ListedOffersAreOne }
+{}
+
+ghost use Rattle.lf_coverage.specs.OnlyList.{SplitHasOneList, SplitCaseIsListed};
+
+/// So two lists of the cases of a split are as long, and their cases, in order, the same but for their variables; and
+/// each case that it gives is listed.
+pub fn listed_cases_are_only_ones()
+    ensures list { SplitHasOneList }
+    ensures case { SplitCaseIsListed }
+{}
+
+ghost use Rattle.lf_coverage.specs.OnlyExamples.{ZeroComesFirst};
+
+/// The split of plus X Y _ at X lists the case by z and that by s, in this order and no other, and no fewer.
+pub fn zero_comes_first()
+    ensures { ZeroComesFirst }
+{}
