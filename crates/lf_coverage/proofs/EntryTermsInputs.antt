@@ -8,6 +8,7 @@ use Rattle.lf.specs.Skeletons.{constant_skeletons, context_skeletons}
 use Rattle.lf.specs.Typing.{Signature, IsType, IsContext, IsSignature, instantiate_kind}
 use Rattle.lf.specs.Variables.{target, target_arguments, binders, onto, nothing}
 use Rattle.lf.specs.Subordination.{Block, AreTypedBlocks}
+use Rattle.lf.specs.Worlds.{instance, lift_over}
 use Rattle.lf.proofs.Growth.{growth_keeps_typing, growth_keeps_types}
 use Rattle.lf.proofs.Renaming.{substitute_identity}
 use Rattle.lf.proofs.SkeletonTyping.{substitution_keeps_spine_skeletons}
@@ -29,6 +30,7 @@ use Rattle.lf_coverage.specs.EntryConstants.{with_entries, IsFreeFrom}
 use Rattle.lf_coverage.specs.EntryTermsInputs.{closed_head, ClauseIsClosed, InputGoalIsBesideByNumber, BesideHasTypedPlaces}
 use Rattle.lf_coverage.specs.Heads.{HaveSkeletons}
 use Rattle.lf_coverage.specs.Leaf.{IsTypedPattern}
+use Rattle.lf_coverage.specs.NeededForms.{FreeCaseIsNumbered, InputGoalIsNumbered}
 use Rattle.lf_coverage.specs.NumberedBesideGiven.{IsTypedBesideByNumber, given_over, with_outside}
 use Rattle.lf_coverage.specs.NumberedCase.{NumberedCase}
 use Rattle.lf_coverage.specs.Numbering.{Numbering, add_variable, numbering, numbered}
@@ -43,6 +45,7 @@ use Rattle.lf_coverage.proofs.GivenValues.{given_fits}
 use Rattle.lf_coverage.proofs.HeadMatching.{typed_places}
 use Rattle.lf_coverage.proofs.InputTyped.{input_goal_typed}
 use Rattle.lf_coverage.proofs.ItemsContext.{items_are_context}
+use Rattle.lf_coverage.proofs.KeptTyped.{entries_same}
 use Rattle.lf_coverage.proofs.MeetReady.{arguments_fit, given_near}
 use Rattle.lf_coverage.proofs.NumberedHeads.{target_over}
 use Rattle.lf_coverage.proofs.Parts.{some_same}
@@ -71,18 +74,27 @@ put_keep [] = refl
 put_keep (Some M ∷ Ms) = ap₂ (λ N Ns. Some N ∷ Ns) (substitute_identity reduce M) (put_keep Ms)
 put_keep (None ∷ Ms) = ap (λ Ns. None ∷ Ns) (put_keep Ms)
 
+pub free_case_is_numbered : FreeCaseIsNumbered
+free_case_is_numbered first C n =
+    ap (λ (n : Numbering). record { blocks = n.blocks; variables = n.variables; given = put_in n.images C.given; local = instance C.local n.images; family = C.family; arguments = put_in (lift_over C.local n.images) C.arguments }) (numbering_is first C.items n)
+    ∙ ap₂ (λ Ms D. record { blocks = []; variables = items_context C.items; given = Ms; local = D; family = C.family; arguments = put_in (lift_over C.local keep) C.arguments }) (put_keep C.given) (entries_same C.local)
+    ∙ ap (λ Ns. record { blocks = []; variables = items_context C.items; given = C.given; local = C.local; family = C.family; arguments = Ns }) (ap (λ σ. put_in σ C.arguments) (lift_keep C.local) ∙ put_keep C.arguments)
+
+pub input_goal_is_numbered : InputGoalIsNumbered
+input_goal_is_numbered first a m K = free_case_is_numbered first (input_goal a m K) (goal_without m K (λ i. i) [] tt)
+
 -- nothing is given
 none_at : (D : List LfType) (i : ℕ) → given_at (given_over D [] []) i ≡ None
 none_at [] i = refl
 none_at (A ∷ D) zero = refl
 none_at (A ∷ D) (suc i) = none_at D i
 
-none_given : (D : List LfType) (i : ℕ) → is_given (given_over D [] []) i ≡ false
+pub none_given : (D : List LfType) (i : ℕ) → is_given (given_over D [] []) i ≡ false
 none_given [] i = refl
 none_given (A ∷ D) zero = refl
 none_given (A ∷ D) (suc i) = none_given D i
 
-none_fit : (κ : HeadSkeletons) (Γ : List Skeleton) (D : List LfType) → HaveSkeletons κ Γ (given_over D [] [])
+pub none_fit : (κ : HeadSkeletons) (Γ : List Skeleton) (D : List LfType) → HaveSkeletons κ Γ (given_over D [] [])
 none_fit κ Γ [] = tt
 none_fit κ Γ (A ∷ D) = none_fit κ Γ D
 
@@ -125,7 +137,7 @@ module _ (Σ : Signature) (ok : IsSignature Σ) (W : List Block) (typed : AreTyp
     G = record { blocks = []; variables = X; given = []; local = []; family = a; arguments = Ms }
 
     goal_is : numbered first (input_goal a m K) ≡ G
-    goal_is = ap (λ (n : Numbering). record { blocks = n.blocks; variables = n.variables; given = []; local = []; family = a; arguments = put_in n.images Ms }) (numbering_is first I (goal_without m K (λ i. i) [] tt)) ∙ ap (λ Ns. record { blocks = []; variables = X; given = []; local = []; family = a; arguments = Ns }) (put_keep Ms)
+    goal_is = input_goal_is_numbered first a m K
 
     tc : IsTypedNumberedCase Σ first W G
     tc = subst (IsTypedNumberedCase Σ first W) goal_is (numbered_case_is_typed Σ ok W typed first free (input_goal a m K) b.by_skeletons b.local_typed)

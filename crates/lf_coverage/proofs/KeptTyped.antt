@@ -80,7 +80,7 @@ pub lift_same : (es : List LfType) → lift_over es keep ≡ keep
 lift_same [] = refl
 lift_same (E ∷ es) = ap lift (lift_same es) ∙ fun_ext lift_keep
 
-entries_same : (es : List LfType) → instance es keep ≡ es
+pub entries_same : (es : List LfType) → instance es keep ≡ es
 entries_same [] = refl
 entries_same (E ∷ es) = ap₂ ◌∷◌ (ap (λ f. substitute_type reduce f E) (lift_same es) ∙ substitute_identity_type reduce E) (entries_same es)
 

@@ -438,6 +438,11 @@ pub mod NumberedNeedsExamples
 pub mod NumberedNeedsUntyped
 pub mod NumberedNeedsLaws
 pub mod NumberedNeedsRows
+pub mod NeededRuns
+pub mod NeededRunsExamples
+pub mod NeededForms
+pub mod NeededMadeStore
+pub mod NeededMade
 pub mod NumberedNeedsPlus
 pub mod MeetsInstanceNumbers
 pub mod MeetsInstanceJoined
@@ -535,6 +540,10 @@ pub mod WorkedCallsWholeFirst
 pub mod WorkedCallsWholeSecond
 pub mod WorkedCallsWholeThird
 pub mod WorkedCallsWhole
+pub mod WorkedCallsLocalsBelow
+pub mod WorkedCallsLocalsSplit
+pub mod WorkedCallsLocalsLost
+pub mod WorkedCallsLocals
 pub mod NumberedAnswers
 pub mod NumberedAnswersRuns
 pub mod NumberedAnswersExamples

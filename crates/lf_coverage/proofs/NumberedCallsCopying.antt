@@ -156,6 +156,7 @@ copies_are_goals below test = (
     subordination = test;
     case = copy_is_instance.0.typed;
     one_block = omega arith;
+    locals_below = tt;
     patterns = λ p m. subst (IsFor Copying 4 copy_worlds one_copy) (sym (one_member m)) entry_for;
   },
   λ n. two_are_many n.one_block,

@@ -49,7 +49,7 @@ numbered_candidate_run_covers_inputs Σ ok W typed below test first free ps head
     )
 
 -- a run has a pattern
-some_pattern : (Σ : Signature) (first : ℕ) (W : List Block) (below : ℕ → ℕ → Bool) (ps : List Pattern) (C : NumberedCase) → Ends (IsNumberedLeaf Σ first W ps) (UnifiesCandidate Σ first W below ps) C → (p : Pattern) × Member p ps
+pub some_pattern : (Σ : Signature) (first : ℕ) (W : List Block) (below : ℕ → ℕ → Bool) (ps : List Pattern) (C : NumberedCase) → Ends (IsNumberedLeaf Σ first W ps) (UnifiesCandidate Σ first W below ps) C → (p : Pattern) × Member p ps
 some_pattern Σ first W below ps C (at_leaf l) = (l.pattern, l.listed)
 some_pattern Σ first W below ps C (by_split Cs (x, p, m, c, sp) r) = (p, m)
 

@@ -103,7 +103,7 @@ numbered_candidate_run_covers Σ ok W typed below test first free ps q tq goal o
     numbered_run_covers Σ ok W typed S first free ps goal one (candidate_run Σ ok W typed below test first free ps q tq (length goal.local) sizes S t b low refl r)
 
 -- a run of the strategy is one at candidates
-strategy_run : (Σ : Signature) (first : ℕ) (W : List Block) (below : ℕ → ℕ → Bool) (ps : List Pattern) (Leaf : NumberedCase → Type 0) {C : NumberedCase} → Ends Leaf (AnswersFirst Σ first W below ps) C → Ends Leaf (UnifiesCandidate Σ first W below ps) C
+pub strategy_run : (Σ : Signature) (first : ℕ) (W : List Block) (below : ℕ → ℕ → Bool) (ps : List Pattern) (Leaf : NumberedCase → Type 0) {C : NumberedCase} → Ends Leaf (AnswersFirst Σ first W below ps) C → Ends Leaf (UnifiesCandidate Σ first W below ps) C
 strategy_run Σ first W below ps Leaf r = other_run {Kept = λ C. Unit {0}} (λ C k l. l) (λ C Cs k (x, f, a). let (p, i, c) = first_is_candidate_by_number Σ first W C x ps f in ((x, p, i, c, a.lists.unified), λ D m. tt)) tt r
 
 pub numbered_strategy_run_covers : NumberedStrategyRunCovers

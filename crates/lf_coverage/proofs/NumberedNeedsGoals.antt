@@ -35,6 +35,7 @@ use Rattle.lf_coverage.proofs.HeadSplit.{places_put_in}
 use Rattle.lf_coverage.proofs.Leaves.{given_is, head_is_typed, subgoal_is_typed}
 use Rattle.lf_coverage.proofs.NumberedBesideGiven.{numbered_output_goal_is_beside}
 use Rattle.lf_coverage.proofs.NumberedCallsGoals.{numbered_input_goal_is_typed}
+use Rattle.lf_coverage.proofs.NumberedCandidatesGoals.{goal_low}
 use Rattle.lf_coverage.proofs.NumberedHeads.{target_over}
 use Rattle.lf_coverage.proofs.NumberedNeedsBlocks.{clause_has_typed_block}
 use Rattle.lf_coverage.proofs.NumberedNeedsFor.{head_is_for, subgoal_is_for}
@@ -89,6 +90,7 @@ input_goal_has_needs Σ first W r below test a m K n C g ps heads =
       subordination = test;
       case = tg;
       one_block = no_blocks (numbered first (input_goal a m K)) none;
+      locals_below = tt;
       patterns = λ p l. let (t, e, q, b) = heads p l in is_for Σ first W r a m K n p t e q b;
     })
 
@@ -158,7 +160,7 @@ module _ (Σ : Signature) (first : ℕ) (W : List Block) (below : ℕ → ℕ �
   pub output_needs : NumberedCoverNeeds Σ first W below (asked ∷ []) O
   output_needs =
       let (t, one) = numbered_output_goal_is_typed Σ n.setting.signature W n.setting.blocks first n.setting.free below m c d U n.index A n.subgoal n.inputs_ground n.sound_marks n.two_marks K n.of_family in
-      record { setting = n.setting; subordination = n.subordination; case = t; one_block = one; patterns = only }
+      record { setting = n.setting; subordination = n.subordination; case = t; one_block = one; locals_below = goal_low Σ W below c d n.index A n.subgoal n.subordination first m (origin d) U K; patterns = only }
     where
       only : (p : Pattern) → Member p (asked ∷ []) → IsFor Σ first W O p
       only p (inl e) = subst (IsFor Σ first W O) (sym e) subgoal_for

@@ -13,7 +13,6 @@ use Rattle.lf_coverage.specs.NumberedCallsLaws.{AnswersForGoal}
 use Rattle.lf_coverage.specs.NumberedCallsOutside.{IsSplitCaseByNumber}
 use Rattle.lf_coverage.specs.NumberedCase.{NumberedCase}
 use Rattle.lf_coverage.specs.NumberedNeedsLaws.{MissingIsHonest, NeededRunIsCovered, NeededSplitIsAnswer, ReachedIsDecided, ReachedMayBeSplit}
-use Rattle.lf_coverage.specs.NumberedSplits.{IsAnsweredByNumber}
 use Rattle.lf_coverage.specs.TypedNumbered.{IsTypedNumberedCase}
 use Rattle.lf_coverage.proofs.NumberedCallsLaws.{answered_by_number_is_covered, answered_by_number_is_split_answer}
 use Rattle.lf_coverage.proofs.NumberedCandidatesSplits.{first_is_candidate_by_number}
@@ -35,24 +34,25 @@ reached_may_be_split Σ first W below ps goal n D r x f =
 pub needed_split_is_answer : NeededSplitIsAnswer
 needed_split_is_answer Σ first W below C x n Cs l = answered_by_number_is_split_answer Σ n.setting.signature W n.setting.blocks below (below_is_subordination Σ n.setting.signature W n.setting.blocks below n.subordination) first n.setting.free C n.case x Cs l
 
--- Along a run the patterns of the list stay ones for its cases.
-module _ (Σ : Signature) (first : ℕ) (W : List Block) (s : IsSetting Σ first W) (below : ℕ → ℕ → Bool) (ps : List Pattern) (goal : NumberedCase) where
+-- Along a run the patterns of the list stay ones for its cases, whatever the splits are that unification gives.
+module _ (Σ : Signature) (first : ℕ) (W : List Block) (s : IsSetting Σ first W) (below : ℕ → ℕ → Bool) (ps : List Pattern) where
   abbrev Leaf : NumberedCase → Type 0
   Leaf D = (p : Pattern) × Member p ps × NumberedMatchedIs Σ first W D p instance
 
   abbrev AreFor : NumberedCase → Type 0
   AreFor D = IsTypedNumberedCase Σ first W D × ((p : Pattern) → Member p ps → IsFor Σ first W D p)
 
-  split_are_for : (C : NumberedCase) → AreFor C → (x : ℕ) (Cs : List NumberedCase) → IsAnsweredByNumber Σ first W below C x Cs → (D : NumberedCase) → Member D Cs → AreFor D
-  split_are_for C (tc, f) x Cs a D m =
-      let sp : IsSplitCaseByNumber Σ first W below C x D = answered_case Σ first W below C x Cs a D m in
-      (split_case_is_typed Σ s.signature W s.blocks first s.free below C tc x D sp, λ p l. split_for Σ s.signature W s.blocks first s.free below C tc x D sp p (f p l))
+  module _ (Splits : NumberedCase → List NumberedCase → Type 0) (gives : (C : NumberedCase) (Cs : List NumberedCase) → Splits C Cs → (D : NumberedCase) → Member D Cs → (x : ℕ) × IsSplitCaseByNumber Σ first W below C x D) where
+    split_are_for : (C : NumberedCase) → AreFor C → (Cs : List NumberedCase) → Splits C Cs → (D : NumberedCase) → Member D Cs → AreFor D
+    split_are_for C (tc, f) Cs a D m =
+        let (x, sp) = gives C Cs a D m in
+        (split_case_is_typed Σ s.signature W s.blocks first s.free below C tc x D sp, λ p l. split_for Σ s.signature W s.blocks first s.free below C tc x D sp p (f p l))
 
-  leaves_of : {C : NumberedCase} → AreFor C → Ends Leaf (AnswersForGoal Σ first W below goal) C → Ends (IsNumberedLeaf Σ first W ps) (AnswersForGoal Σ first W below goal) C
-  leaves_of h r = other_run {Kept = AreFor} (λ D (t, f) (p, l, i). record { typed = t; pattern = p; listed = l; pattern_typed = (f p l).typed; same_length = (f p l).same_length; given_own = (f p l).given_own; is_instance = i }) (λ C Cs k (x, a, q). ((x, a, q), split_are_for C k x Cs a)) h r
+    pub leaves_of : {C : NumberedCase} → AreFor C → Ends Leaf Splits C → Ends (IsNumberedLeaf Σ first W ps) Splits C
+    leaves_of h r = other_run {Kept = AreFor} (λ D (t, f) (p, l, i). record { typed = t; pattern = p; listed = l; pattern_typed = (f p l).typed; same_length = (f p l).same_length; given_own = (f p l).given_own; is_instance = i }) (λ C Cs k a. (a, split_are_for C k Cs a)) h r
 
 pub needed_run_is_covered : NeededRunIsCovered
-needed_run_is_covered Σ first W below ps goal n r = answered_by_number_is_covered Σ n.setting.signature W n.setting.blocks below (below_is_subordination Σ n.setting.signature W n.setting.blocks below n.subordination) first n.setting.free ps goal n.case n.one_block (leaves_of Σ first W n.setting below ps goal (n.case, n.patterns) r)
+needed_run_is_covered Σ first W below ps goal n r = answered_by_number_is_covered Σ n.setting.signature W n.setting.blocks below (below_is_subordination Σ n.setting.signature W n.setting.blocks below n.subordination) first n.setting.free ps goal n.case n.one_block (leaves_of Σ first W n.setting below ps (AnswersForGoal Σ first W below goal) (λ C Cs (x, a, q) D m. (x, answered_case Σ first W below C x Cs a D m)) (n.case, n.patterns) r)
 
 pub missing_is_honest : MissingIsHonest
 missing_is_honest Σ first W below ps goal n D (r, m) = (

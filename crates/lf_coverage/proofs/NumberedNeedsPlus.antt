@@ -34,10 +34,10 @@ addition_free = record { types_free = types; kinds_free = kinds }
     kinds (suc zero) l = absurd (omega (arith, l))
     kinds (suc (suc a)) l = refl
 
-addition_setting : IsSetting Addition 4 []
+pub addition_setting : IsSetting Addition 4 []
 addition_setting = record { signature = addition_ok; blocks = λ B m. absurd m; free = addition_free }
 
-plus_typed : AreTypedHeads Addition 1 plus_heads
+pub plus_typed : AreTypedHeads Addition 1 plus_heads
 plus_typed = clause_heads_are_typed Addition addition_ok [] (λ B m. absurd m) 1 plus_heads heads
   where
     heads : AreHeadsOf Addition [] 1 plus_heads

@@ -163,6 +163,11 @@ pub mod WorkedCallsIndex
 pub mod WorkedCallsAnswers
 pub mod WorkedCallsSome
 pub mod WorkedCallsWhole
+pub mod WorkedCallsLocals
+pub mod NeededForms
+pub mod NeededMade
+pub mod NeededRuns
+pub mod NeededRunsExamples
 pub mod NumberedAnswers
 pub mod NumberedAnswersRuns
 pub mod NumberedAnswersExamples

@@ -35,6 +35,7 @@ use Rattle.lf_coverage.specs.NumberedInstance.{block_at}
 use Rattle.lf_coverage.specs.NumberedSplits.{IsOfferTo, NumberedOffer}
 use Rattle.lf_coverage.specs.Numbering.{numbered}
 use Rattle.lf_coverage.specs.OwnTerms.{BlockVariable, blocks_of}
+use Rattle.lf_coverage.specs.Subordinate.{AllQuantifiersAreBelow}
 use Rattle.lf_coverage.specs.TypedNumbered.{IsTypedNumberedCase}
 
 -- For a pattern of the first block variable alone, an entry's, the block variable of number 0 is of the entry's block.
@@ -87,10 +88,13 @@ pub record IsSetting (Σ : Signature) (first : ℕ) (W : List Block) : Type 0 wh
   pub blocks : AreTypedBlocks Σ W
   pub free : IsFreeFrom Σ first
 
--- What `instance_of`, `split` and `cover` need: a typed case whose blocks are of W; a pattern for it, a free variable of it, or patterns for it; and for the
--- latter two the test of subordination of the signature and W. A goal has one block variable at most: that of f b.x c.x X with X : bar b.x c.x may have
--- no answer, since splits keep b and c apart. So plus X Y _ may be handed in with plus-s and split at X, and p X not with q-c : q X, nor split at a variable
--- that it doesn't have.
+-- What `instance_of`, `split` and `cover` need: a typed case whose blocks are of W; a pattern for it, a free variable
+-- of it, or patterns for it; and for the latter two the test of subordination of the signature and W. A goal has one
+-- block variable at most: that of f b.x c.x X with X : bar b.x c.x may have no answer, since splits keep b and c apart.
+-- And its local context quantifies only over what is below: from {v:d} {y:{u:d} a} q (Y v y), where d isn't below a,
+-- the strategy's run may end at instances though the goal isn't covered, since a split by k : a -> c gives k (Z y),
+-- over y alone, and k (y v) is lost (`LostUnderLocals`). So plus X Y _ may be handed in with plus-s and split at X, and
+-- p X not with q-c : q X, nor split at a variable that it doesn't have.
 pub record NumberedMatchedNeeds (Σ : Signature) (first : ℕ) (W : List Block) (C : NumberedCase) (p : Pattern) : Type 0 where
   pub setting : IsSetting Σ first W
   pub case : IsTypedNumberedCase Σ first W C
@@ -107,6 +111,7 @@ pub record NumberedCoverNeeds (Σ : Signature) (first : ℕ) (W : List Block) (b
   pub subordination : (f : ℕ) → IsBelowTest Σ W (below f) f
   pub case : IsTypedNumberedCase Σ first W goal
   pub one_block : HasOneBlock goal
+  pub locals_below : AllQuantifiersAreBelow below goal.local
   pub patterns : (p : Pattern) → Member p ps → IsFor Σ first W goal p
 
 -- What `instance_of` answers of a case and a pattern. The case is an instance of the pattern; they share nothing; or it is no instance and the pattern meets
@@ -134,7 +139,8 @@ pub record AreNumberedCasesOf (Σ : Signature) (first : ℕ) (W : List Block) (b
 
 -- What `split` answers of a case and one of its variables: cases; for a head an equation is left outside the pattern fragment, which is shown over the case
 -- that the head is offered to, with the variables for the head's arguments; or something is deeper than 4,096. So p X in the worlds of {x:exp} {u:p x},
--- where exp has no constant, is split into p b.x.
+-- where exp has no constant, is split into p b.x. A metavariable of what is shown is the case's variable of this number,
+-- where it has one, or else one that solving made.
 pub data NumberedSplitAnswer : Type 0 where
   numbered_cases : List NumberedCase → NumberedSplitAnswer
   outside_over : NumberedCase → Equation → NumberedSplitAnswer

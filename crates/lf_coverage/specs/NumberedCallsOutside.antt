@@ -27,16 +27,20 @@ store_of below o K = numbered_store below o.case o.variable o.type o.head o.term
 abbrev pub signature_of : Signature → ℕ → NumberedOffer → Signature
 signature_of Σ first o = with_entries Σ first (blocks_of o.case.blocks)
 
--- The case that the head is offered to, with the variables for the arguments of the head in front: the metavariables of the store are its variables.
+-- The case that the head is offered to, with the variables for the arguments of the head in front: the metavariables of
+-- the store, before it is solved, are its variables.
 abbrev pub over_head : (ℕ → ℕ → Bool) → NumberedOffer → NumberedCase
 over_head below o =
     let C : NumberedCase = o.case in
     let ρ : ℕ → ℕ = shift_by (arguments_count o.left) in
     record { blocks = rename_blocks ρ C.blocks; variables = items_context (split_items below o.type (free_variables C.variables) zero o.left); given = rename_all ρ C.given; local = renumber ρ C.local; family = C.family; arguments = rename_all (lift_renaming_by (length C.local) ρ) C.arguments }
 
--- The split of x in C leaves this equation: for one of the heads unification solves all but equations outside the pattern fragment, and this is one of
--- those that are left, with the bindings put in. It is shown over the case that the head is offered to, which is C, or C with a new block variable: each
--- metavariable is the variable of the same number.
+-- The split of x in C leaves this equation: for one of the heads unification solves all but equations outside the
+-- pattern fragment, and this is one of those that are left, with the bindings put in. It is shown over the case that
+-- the head is offered to, which is C, or C with a new block variable: a metavariable whose number is below the count of
+-- its variables is the variable of this number. One with a greater number was made by solving, and stands in what
+-- solving gave for one of these variables; it is no variable of the case, and has no type there. So is G' in G' z = z,
+-- where G had lost an argument (`MadeBySolving`).
 pub record SplitLeavesByNumber (Σ : Signature) (first : ℕ) (W : List Block) (below : ℕ → ℕ → Bool) (C : NumberedCase) (x : ℕ) (over : NumberedCase) (shown : Equation) : Type 0 where
   pub type : LfType
   pub at : TypeAt C.variables x type

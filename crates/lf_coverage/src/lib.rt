@@ -1758,6 +1758,43 @@ pub fn needed_answers()
     ensures missing { MissingIsHonest }
 {}
 
+ghost use Rattle.lf_coverage.specs.NeededRuns.{HeadIsBesideClosed, NeededStrategyRunIsCovered};
+
+/// And a run of the strategy to instances of patterns has the answer that its goal is covered, for any goal and
+/// patterns that have what `cover` needs: beside one of these patterns, or beside the closed type of a head's clause,
+/// the goal is typed.
+pub fn needed_runs_are_covered()
+    ensures closed { HeadIsBesideClosed }
+    ensures covered { NeededStrategyRunIsCovered }
+{}
+
+ghost use Rattle.lf_coverage.specs.NeededRunsExamples.{SuccessorIsCovered, EntryAloneCovers};
+
+/// So plus (s X) Y _ is covered by plus-z and plus-s, and p X, in the worlds of {x:exp} {u:p x}, by the entry u alone.
+pub fn needed_runs_are_worked()
+    ensures successor { SuccessorIsCovered }
+    ensures entry { EntryAloneCovers }
+{}
+
+ghost use Rattle.lf_coverage.specs.NeededMade.{MadeBySolving};
+
+/// For h : {H:nat -> nat} t ([x] [y] H x) z and a variable of the type t ([x] [y] s (G x y)) (G z z) the equation
+/// G' z = z is left, where G' is G without y: solving made it, and it is no variable of the case that the equation is
+/// shown over.
+pub fn left_metavariable_is_made_by_solving()
+    ensures { MadeBySolving }
+{}
+
+ghost use Rattle.lf_coverage.specs.NeededForms.{EntriesAreFreeFrom, FreeCaseIsNumbered, InputGoalIsNumbered};
+
+/// A signature of entries declares nothing from their count on; a case of free variables alone is its own numbered
+/// form, and so is each goal of inputs.
+pub fn forms_in_hand_are_needed_ones()
+    ensures free { EntriesAreFreeFrom }
+    ensures case { FreeCaseIsNumbered }
+    ensures goal { InputGoalIsNumbered }
+{}
+
 ghost use Rattle.lf_coverage.specs.NumberedNeedsRows.{OpenHasNeeds, AskedHasNeeds};
 
 /// p X may be handed in with u : p x, and p b.x, which its split gives; so may the goal of the outputs of an entry's subgoal, where the entry's own block
@@ -2049,6 +2086,15 @@ ghost use Rattle.lf_coverage.specs.WorkedCallsWhole.{WholeRunIsAnswered};
 /// f a e.y, f (b N') e.y and f c.x e.y, where the older e stands on the entry c.x of the newer c. So f-d, f-a, f-b and the entry u of c cover the goal.
 pub fn whole_run_is_answered()
     ensures { WholeRunIsAnswered }
+{}
+
+ghost use Rattle.lf_coverage.specs.WorkedCallsLocals.{LostUnderLocals};
+
+/// With k : a -> c, where d isn't below a, the goal {v:d} {y:{u:d} a} q (Y v y) has a run of the strategy to an
+/// instance of q (k (W y)), and isn't covered, since k (y v) is lost: so a goal's local context has to quantify only
+/// over what is below, which all that `cover` needs beside doesn't give.
+pub fn term_is_lost_under_locals()
+    ensures { LostUnderLocals }
 {}
 
 ghost use Rattle.lf_coverage.specs.MeetsAnswers.{PlacesRefuteEach};
