@@ -54,7 +54,7 @@ module _ (Σ : Signature) (ok : IsSignature Σ) (W : List Block) (first : ℕ) (
       let π : ℕ → ℕ = oldest_of C θ in
       let one : AreOne C s.holds.instances (oldest_of C s.holds.instances) = are_one C θ s.extension s.world (instance_here s.world first C θ σ s.holds.is_ground) in
       let tφ : IsTypedSubstitution (with_entries Σ first (blocks_of C.blocks)) [] C.variables keep = λ i A g. absurd g in
-      let (Σf, x, H, β, u) = placed Σ s.extension ok s.worlds s.typed first free C tcV s.set s.extends s.world θ σ s.holds.is_ground π one K s.tuple s.holds.has_arguments p tp l s.has.used s.has.values s.has.typed s.has.uses s.has.same keep tφ (beside.values keep refl tφ) (λ k X g. absurd g) beside.own (given_same Σ first C p s) in
+      let (Σf, x, H, β, u, made) = placed Σ s.extension ok s.worlds s.typed first free C tcV s.set s.extends s.world θ σ s.holds.is_ground π one K s.tuple s.holds.has_arguments p tp l s.has.used s.has.values s.has.typed s.has.uses s.has.same keep tφ (beside.values keep refl tφ) (λ k X g. absurd g) beside.own (given_same Σ first C p s) in
       record {
         numbers = π;
         case = identified first π C;

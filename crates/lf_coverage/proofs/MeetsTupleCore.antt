@@ -20,6 +20,7 @@ use Rattle.lf_checks.specs.Marks.{SamePlaces}
 use Rattle.lf_cases.specs.Case.{HasArguments, as_term, covered_places}
 use Rattle.lf_cases.specs.Pattern.{given_at}
 use Rattle.lf_coverage.specs.EntryConstants.{with_entries, IsFreeFrom}
+use Rattle.lf_coverage.specs.MetEquations.{IsWrittenFrom}
 use Rattle.lf_coverage.specs.NumberedArguments.{HasNumberedArguments, read_over, read_all}
 use Rattle.lf_coverage.specs.NumberedCallsStores.{identified}
 use Rattle.lf_coverage.specs.NumberedCase.{NumberedCase, IsNumberedInstance, value_in}
@@ -41,7 +42,7 @@ use Rattle.lf_coverage.proofs.NumberedArguments.{skeleton_only}
 use Rattle.lf_coverage.proofs.Reading.{IsOld}
 use Rattle.lf_coverage.proofs.WritingGap.{term_moved}
 use Rattle.lf_coverage.proofs.WritingInstance.{entries_extend, own_types}
-use Rattle.lf_coverage.proofs.WritingMove.{moved_image}
+use Rattle.lf_coverage.proofs.WritingMove.{moved_at, moved_image, skeleton_moved}
 use Rattle.lf_coverage.proofs.WritingMoved.{read_stays, readings_moved}
 use Rattle.lf_coverage.proofs.WritingRead.{term_written, writing_fits}
 use Rattle.lf_coverage.proofs.WritingRoom.{kinds_moved, old_stays, put_moved, room_is_made, types_moved}
@@ -118,7 +119,7 @@ module _ (Σ Σ' : Signature) (ok : IsSignature Σ) (V : List Block) (typed : Ar
     same₂ : SamePlaces (covered_places C.arguments) (move_spine γ T) (target_arguments (substitute_type reduce τ₂ P))
     same₂ = subst (SamePlaces (covered_places C.arguments) (move_spine γ T)) (sym (arguments_moved γ (substitute_type reduce τ P)) ∙ ap target_arguments (turned P tp)) (places_turned γ (covered_places C.arguments) T (target_arguments (substitute_type reduce τ P)) same)
 
-    pub met : (Σf : Signature) × Extends nothing (with_entries Σ first (blocks_of C.blocks)) Σf × (H : List LfType) × (β : ℕ → Option Term) × Solution Σf [] (store_form π (identified first π C) K (binders (identified first π C).variables (substitute_type reduce (λ k. move_image δ (φ k)) U)) (quantifiers U) (length (binders [] (substitute_type reduce (lift_over (binders [] U) (λ k. move_image δ (φ k))) P))) (length (identified first π C).local) (substitute_type reduce (lift_over (binders [] U) (λ k. move_image δ (φ k))) P)) H β
+    pub met : (Σf : Signature) × Extends nothing (with_entries Σ first (blocks_of C.blocks)) Σf × (H : List LfType) × (β : ℕ → Option Term) × Solution Σf [] (store_form π (identified first π C) K (binders (identified first π C).variables (substitute_type reduce (λ k. move_image δ (φ k)) U)) (quantifiers U) (length (binders [] (substitute_type reduce (lift_over (binders [] U) (λ k. move_image δ (φ k))) P))) (length (identified first π C).local) (substitute_type reduce (lift_over (binders [] U) (λ k. move_image δ (φ k))) P)) H β × IsWrittenFrom Σf H β G C.variables σ (quantifiers U) used (onto (binders [] U) O) τ (length (binders [] U))
     met =
         let (u, r, apart) = room_is_made Σ Σ' ok S x V typed first free C tc.variables G w θ σ inst in
         let one₂ : AreOne C θ₂ π = one_turned γ C θ π one in
@@ -132,5 +133,5 @@ module _ (Σ Σ' : Signature) (ok : IsSignature Σ) (V : List Block) (typed : Ar
         ∙ ap (substitute reduce ρ) (sym (term_moved γ (skeleton X) (τ i)) ∙ ap (move γ) (alike i X N k m o q) ∙ value_turned N (skeleton (substitute_type reduce g X)) s)
         ∙ term_written Σ Σ₂ u first C θ₂ σ₂ r F ρ h N (skeleton (substitute_type reduce g X)) s own
         ∙ ap (λ y. as_term (skeleton X) (substitute_image (after ρ σ₂) (move_image δ y))) (sym q) in
-        let (H, β, z) = unified Σ Σ₂ u first C θ₂ σ₂ r π one₂ tc F ρ h K (move_spine γ T) held₂ U P O ct tp l used τ₂ v₂ uses same₂ known g tg all φ outer tφ written given in
-        (Σe, entries_extend Σ Σ₂ V S (move_types γ G) u first C θ₂ σ₂ r, H, β, z)
+        let (H, β, z, ξ, tξ, made, own) = unified Σ Σ₂ u first C θ₂ σ₂ r π one₂ tc F ρ h K (move_spine γ T) held₂ U P O ct tp l used τ₂ v₂ uses same₂ known g tg all φ outer tφ written given in
+        (Σe, entries_extend Σ Σ₂ V S (move_types γ G) u first C θ₂ σ₂ r, H, β, z, record { moves = γ; writes = ξ; typed = tξ; same = λ i A t. made i (move_type δ A) (moved_at δ C.variables i A t) ∙ ap (λ a. Some (as_term a (substitute_image ξ (σ₂ i)))) (skeleton_moved δ A); own = own })

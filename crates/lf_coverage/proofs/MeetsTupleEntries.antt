@@ -3,6 +3,7 @@ use Rattle.std.proofs.Common.{◌≡◌, ℕ, zero, List, [], ◌∷◌, length,
 use Rattle.std.specs.Prelude.{Bool, true, false, Some}
 use Rattle.lf.specs.Syntax.{Term, LfType, Kind, Spine, Skeleton, skeleton}
 use Rattle.lf.specs.Substitution.{Image, put, substitute_type, reduce}
+use Rattle.lf.specs.Entries.{quantifiers}
 use Rattle.lf.specs.Typing.{Signature, IsTypedSubstitution, IsSignature}
 use Rattle.lf.specs.Variables.{binders, everything, nothing, onto, target_arguments, Values}
 use Rattle.lf.specs.Subordination.{Block, AreTypedBlocks}
@@ -21,6 +22,7 @@ use Rattle.lf_coverage.specs.EntryPatterns.{some_images, variable_images}
 use Rattle.lf_coverage.specs.EntryTerms.{IsTried, beside_values, known_in}
 use Rattle.lf_coverage.specs.Leaf.{IsTypedPattern}
 use Rattle.lf_coverage.specs.MeetsAnswers.{HasUnifier}
+use Rattle.lf_coverage.specs.MetEquations.{IsWrittenFrom}
 use Rattle.lf_coverage.specs.NumberedArguments.{HasNumberedArguments}
 use Rattle.lf_coverage.specs.NumberedCallsStores.{identified, meet_store_by_number}
 use Rattle.lf_coverage.specs.NumberedCase.{NumberedCase, IsNumberedInstance, value_in}
@@ -60,14 +62,16 @@ module _ (Σ Σ' : Signature) (ok : IsSignature Σ) (V : List Block) (typed : Ar
   is_tried : IsTried first C (of_entry B later E es e) b φ
   is_tried = (k, U, at, tried, refl)
 
-  pub entry_unifier : (beside : IsBeside Σ first C p) (used : ℕ → Bool) (τ : ℕ → Image) → Values Σ' used (scope (entry_clause B es E)) G τ → UsesGoal used (covered_places C.arguments) P → SamePlaces (covered_places C.arguments) T (target_arguments (substitute_type reduce τ P)) → AgreesOutside (entry_clause B es E) τ (before later (θ k)) → ((i : ℕ) (M : Term) → used i ≡ true → given_at C.given i ≡ Some M → (a : Skeleton) × (τ i ≡ put a (value_in first C θ σ M))) → HasUnifier (with_entries Σ first (blocks_of (identified first π C).blocks)) (meet_store_by_number π (identified first π C) p outer K)
+  pub entry_unifier : (beside : IsBeside Σ first C p) (used : ℕ → Bool) (τ : ℕ → Image) → Values Σ' used (scope (entry_clause B es E)) G τ → UsesGoal used (covered_places C.arguments) P → SamePlaces (covered_places C.arguments) T (target_arguments (substitute_type reduce τ P)) → AgreesOutside (entry_clause B es E) τ (before later (θ k)) → ((i : ℕ) (M : Term) → used i ≡ true → given_at C.given i ≡ Some M → (a : Skeleton) × (τ i ≡ put a (value_in first C θ σ M))) → (u : HasUnifier (with_entries Σ first (blocks_of (identified first π C).blocks)) (meet_store_by_number π (identified first π C) p outer K)) × IsWrittenFrom u.signature u.context u.filling G C.variables σ (quantifiers E) used (scope (entry_clause B es E)) τ (quantifiers E)
   entry_unifier beside used τ v uses same agrees given =
       let tφ : IsTypedSubstitution (with_entries Σ first (blocks_of C.blocks)) (onto es B.some) C.variables φ = before_is_typed Σ ok V typed first free C tc B later E es e k U at in
-      let (Σf, y, H, β, u) = placed Σ Σ' ok V typed first free C tc S x w θ σ inst π one K T held p tp l used τ v uses same φ tφ (beside.values φ is_tried tφ) (λ j X g. let (N, q, o) = before_is_term Σ ok V typed first free C tc B later E es e k U at j X g in (N, q, o, ap (as_term (skeleton X)) (sym (outer_at E τ j) ∙ agrees j X g) ∙ before_value Σ ok V typed first free C tc B later E es e k U at Σ' S x w θ σ inst j X N g q)) beside.own given in
-      record {
-        signature = Σf;
-        extends = subst (λ Bs. Extends nothing (with_entries Σ first Bs) Σf) (sym (blocks_stay γ C.blocks)) y;
-        context = H;
-        filling = β;
-        solves = subst (λ ψ. Solution Σf [] (meet_store_by_number π (identified first π C) p ψ K) H β) outer_is u;
-      }
+      let (Σf, y, H, β, u, made) = placed Σ Σ' ok V typed first free C tc S x w θ σ inst π one K T held p tp l used τ v uses same φ tφ (beside.values φ is_tried tφ) (λ j X g. let (N, q, o) = before_is_term Σ ok V typed first free C tc B later E es e k U at j X g in (N, q, o, ap (as_term (skeleton X)) (sym (outer_at E τ j) ∙ agrees j X g) ∙ before_value Σ ok V typed first free C tc B later E es e k U at Σ' S x w θ σ inst j X N g q)) beside.own given in (
+        record {
+          signature = Σf;
+          extends = subst (λ Bs. Extends nothing (with_entries Σ first Bs) Σf) (sym (blocks_stay γ C.blocks)) y;
+          context = H;
+          filling = β;
+          solves = subst (λ ψ. Solution Σf [] (meet_store_by_number π (identified first π C) p ψ K) H β) outer_is u;
+        },
+        made,
+      )

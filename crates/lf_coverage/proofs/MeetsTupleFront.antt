@@ -26,6 +26,7 @@ use Rattle.lf_totality.proofs.Theorem.{outside_from}
 use Rattle.lf_coverage.specs.EntryConstants.{with_entries, IsFreeFrom}
 use Rattle.lf_coverage.specs.EntryTerms.{beside_values, known_in}
 use Rattle.lf_coverage.specs.Leaf.{IsTypedPattern}
+use Rattle.lf_coverage.specs.MetEquations.{IsWrittenFrom}
 use Rattle.lf_coverage.specs.NumberedArguments.{HasNumberedArguments}
 use Rattle.lf_coverage.specs.NumberedCallsStores.{identified}
 use Rattle.lf_coverage.specs.NumberedCase.{NumberedCase, IsNumberedInstance, value_in}
@@ -41,6 +42,7 @@ use Rattle.lf_coverage.proofs.EntryPatternsMoved.{own_given as terms_own}
 use Rattle.lf_coverage.proofs.Forms.{local_has_type}
 use Rattle.lf_coverage.proofs.Leaves.{given_is}
 use Rattle.lf_coverage.proofs.Matched.{given_there}
+use Rattle.lf_coverage.proofs.EntryPatternsNear.{binders_count}
 use Rattle.lf_coverage.proofs.MeetsTupleCore.{met}
 use Rattle.lf_coverage.proofs.MeetsTupleForms.{store_form}
 use Rattle.lf_coverage.proofs.MeetsTupleWriting.{AreOne}
@@ -134,8 +136,9 @@ module _ (Σ Σ' : Signature) (ok : IsSignature Σ) (V : List Block) (typed : Ar
   abbrev δ : ℕ → ℕ
   δ = moved_constant first (blocks_of C.blocks) (blocks_of C.blocks) π
 
-  pub placed : (Σf : Signature) × Extends nothing (with_entries Σ first (blocks_of C.blocks)) Σf × (H : List LfType) × (β : ℕ → Option Term) × Solution Σf [] (store_form π (identified first π C) K (binders (identified first π C).variables (substitute_type reduce (λ k. move_image δ (φ k)) U)) (quantifiers U) (length (binders [] (substitute_type reduce (lift_over (binders [] U) (λ k. move_image δ (φ k))) p.type))) (length (identified first π C).local) (substitute_type reduce (lift_over (binders [] U) (λ k. move_image δ (φ k))) p.type)) H β
-  placed = met Σ Σ' ok V typed first free C tc S x w θ σ inst π one K T held U p.type O
+  pub placed : (Σf : Signature) × Extends nothing (with_entries Σ first (blocks_of C.blocks)) Σf × (H : List LfType) × (β : ℕ → Option Term) × Solution Σf [] (store_form π (identified first π C) K (binders (identified first π C).variables (substitute_type reduce (λ k. move_image δ (φ k)) U)) (quantifiers U) (length (binders [] (substitute_type reduce (lift_over (binders [] U) (λ k. move_image δ (φ k))) p.type))) (length (identified first π C).local) (substitute_type reduce (lift_over (binders [] U) (λ k. move_image δ (φ k))) p.type)) H β × IsWrittenFrom Σf H β G C.variables σ (quantifiers p.clause.type) used (scope p.clause) τ (quantifiers p.clause.type)
+  placed =
+      let (Σf, y, H, β, u, made) = met Σ Σ' ok V typed first free C tc S x w θ σ inst π one K T held U p.type O
       (subst (IsContext Σ) scope_is tp.clause_typed)
       (subst (λ Z. IsType Σ Z p.type) scope_is tp.type_typed)
       l
@@ -153,4 +156,5 @@ module _ (Σ Σ' : Signature) (ok : IsSignature Σ) (V : List Block) (typed : Ar
       tφ
       (λ i X h z. let (N, q, m, r) = terms i X (subst (λ Z. TypeAt Z i X) (sym scope_is) h) z in (N, q, m))
       (λ i X N h u z q. let (M, q', m, r) = terms i X (subst (λ Z. TypeAt Z i X) (sym scope_is) h) z in r u ∙ ap (value_in first C θ σ) (put_same (sym q' ∙ q)))
-      given
+      given in
+      (Σf, y, H, β, u, record { moves = made.moves; writes = made.writes; typed = made.typed; same = made.same; own = λ i A t less z. made.own i A (subst (λ Z. TypeAt Z i A) scope_is t) (subst (λ n. i < n) (sym (binders_count U)) less) z })

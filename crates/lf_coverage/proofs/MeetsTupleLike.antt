@@ -76,7 +76,7 @@ module _ (Σ : Signature) (ok : IsSignature Σ) (O G : List LfType) (co : IsCont
       by true e = let (A, h, q) = skeleton_has_variable O i t s in subst (λ y. ImageSkeleton (constant_skeletons Σ) (context_skeletons G) y t) (sym (mixed_known i e)) (subst (ImageSkeleton (constant_skeletons Σ) (context_skeletons G) (v i)) (skeleton_substituted reduce v A ∙ q) (image_fits Σ G (v i) (substitute_type reduce v A) (tv.typed i A h e)))
       by false e = subst (λ y. ImageSkeleton (constant_skeletons Σ) (context_skeletons G) y t) (sym (mixed_other i e)) (ω_fits i t s)
 
-  mixed_alike : Alike O U ω mixed
+  pub mixed_alike : Alike O U ω mixed
   mixed_alike i X h u = by (K i) refl
     where
       by : (b : Bool) → K i ≡ b → as_term (skeleton X) (ω i) ≡ as_term (skeleton X) (mixed i)

@@ -25,7 +25,7 @@ use Rattle.lf_coverage.proofs.Forms.{lift_over_near, local_type, local_has_type}
 use Rattle.lf_coverage.proofs.FreshValues.{Longer, longer, arguments_moved, goal_moved, lift_over_moved, values_moved}
 use Rattle.lf_coverage.proofs.ItemsContext.{instance_context, outer_context}
 use Rattle.lf_coverage.proofs.MeetsInstanceOutside.{image_put}
-use Rattle.lf_coverage.proofs.MeetsTupleLike.{mixed, mixed_goal, mixed_known, mixed_typed}
+use Rattle.lf_coverage.proofs.MeetsTupleLike.{mixed, mixed_goal, mixed_known, mixed_typed, mixed_alike}
 use Rattle.lf_coverage.proofs.MeetsTupleWhole.{image_written, long, whole, whole_goal, whole_typed, whole_used}
 use Rattle.lf_coverage.proofs.Meeting.{joined, joined_far, which_type}
 use Rattle.lf_coverage.proofs.NearOrFar.{near_or_far}
@@ -111,6 +111,19 @@ module _ (Σ : Signature) (ok : IsSignature Σ) (G F : List LfType) (cg : IsCont
   case_typed : IsTypedSubstitution Σ Q l2.context case_values
   case_typed = values_moved Σ ok Q l1.written l2.context l2.moves (λ i. rename_image l1.moves (rename_image l0.moves (ψ i))) l2.renames (values_moved Σ ok Q l0.written l1.written l1.moves (λ i. rename_image l0.moves (ψ i)) l1.renames (values_moved Σ ok Q F l0.written l0.moves ψ l0.renames tψ))
 
+  -- the writing, into the last context
+  abbrev pub writing : ℕ → Image
+  writing i = moved (ρ i)
+
+  pub writing_typed : IsTypedSubstitution Σ G l2.context writing
+  writing_typed = values_moved Σ ok G l1.written l2.context l2.moves (λ i. rename_image l1.moves (rename_image l0.moves (ρ i))) l2.renames (values_moved Σ ok G l0.written l1.written l1.moves (λ i. rename_image l0.moves (ρ i)) l1.renames (values_moved Σ ok G F l0.written l0.moves ρ l0.renames tρ))
+
+  pub written_so : (x : Image) → moved (substitute_image ρ x) ≡ substitute_image writing x
+  written_so x =
+      ap (λ y. rename_image l2.moves (rename_image l1.moves y)) (image_put l0.moves ρ x)
+      ∙ ap (rename_image l2.moves) (image_put l1.moves (λ i. rename_image l0.moves (ρ i)) x)
+      ∙ image_put l2.moves (λ i. rename_image l1.moves (rename_image l0.moves (ρ i))) x
+
   abbrev pub values : ℕ → Image
   values = joined D l2.values case_values
 
@@ -127,6 +140,20 @@ module _ (Σ : Signature) (ok : IsSignature Σ) (G F : List LfType) (cg : IsCont
   -- what is known
   l2_known : (i : ℕ) → known i ≡ true → l2.values i ≡ moved (substitute_image ψ (g i))
   l2_known i k = sym (l2.same i (left_either (known i) (used i) k)) ∙ ap (rename_image l2.moves) (mixed_known Σ ok (onto D O) l1.written cy ω tω used v.closed known κ1 vκ1 alike1 i k ∙ κ1_is i k)
+
+  right_either : (a b : Bool) → b ≡ true → either a b ≡ true
+  right_either true b e = refl
+  right_either false b e = e
+
+  -- what counts in the tuple
+  pub values_used : (i : ℕ) (X : LfType) → TypeAt (onto D O) i X → i < length D → used i ≡ true → as_term (skeleton X) (values i) ≡ as_term (skeleton X) (substitute_image writing (τ i))
+  values_used i X h l u =
+      ap (as_term (skeleton X)) (values_near i l ∙ sym (l2.same i (right_either (known i) (used i) u)))
+      ∙ moved_term l2.moves (skeleton X) (both i)
+      ∙ ap (rename l2.moves) (sym (mixed_alike Σ ok (onto D O) l1.written cy ω tω used v.closed known κ1 vκ1 alike1 i X h u))
+      ∙ sym (moved_term l2.moves (skeleton X) (ω i))
+      ∙ ap (λ y. as_term (skeleton X) (rename_image l2.moves y)) (ω_is i u)
+      ∙ ap (as_term (skeleton X)) (written_so (τ i))
 
   moved_put : (x : Image) → moved (substitute_image ψ x) ≡ substitute_image case_values x
   moved_put x =

@@ -105,7 +105,7 @@ module _ (Σ : Signature) (ok : IsSignature Σ) (W : List Block) (first : ℕ) (
         outer = before later (variable_images first (identified first π C).blocks (π j) B (move_spine γ d.terms));
         place = record { identifies = one.identifies; oldest = is_oldest C θ; beside = entry_beside B later E es e (π j) (move_spine γ d.terms) (moved_at γ C.blocks (π j) (record { block = B; terms = d.terms }) there') fixed (λ r. ap π (first_is r)) };
         stays = stays_beyond C θ s.extension s.world at_instance;
-        unifier = entry_unifier Σ s.extension ok s.worlds s.typed first free C tcV s.set s.extends s.world θ σ s.holds.is_ground π one K s.tuple s.holds.has_arguments B later E es e P b tp l (π j) d.terms there' fixed (λ r. least (π j) j (is_oldest C θ j) (first_is r)) beside s.has.used s.has.values s.has.typed s.has.uses s.has.same (agrees_with (θ (π j)) outer) (given_same Σ first C p s);
+        unifier = (entry_unifier Σ s.extension ok s.worlds s.typed first free C tcV s.set s.extends s.world θ σ s.holds.is_ground π one K s.tuple s.holds.has_arguments B later E es e P b tp l (π j) d.terms there' fixed (λ r. least (π j) j (is_oldest C θ j) (first_is r)) beside s.has.used s.has.values s.has.typed s.has.uses s.has.same (agrees_with (θ (π j)) outer) (given_same Σ first C p s)).0;
       }
     where
       least : (m j : ℕ) → m ≤ j → j ≡ zero → m ≡ zero
@@ -134,7 +134,7 @@ module _ (Σ : Signature) (ok : IsSignature Σ) (W : List Block) (first : ℕ) (
         none_new = λ z. nothing;
       } in
       let δ : ℕ → ℕ = moved_constant first (blocks_of (with_new_block B C).blocks) (blocks_of (with_new_block B C).blocks) π in
-      let u : HasUnifier (with_entries Σ first (blocks_of (identified first π (with_new_block B C)).blocks)) (meet_store_by_number π (identified first π (with_new_block B C)) p (before later (variable_images first (identified first π (with_new_block B C)).blocks n B (move_spine δ (local_arguments B.some)))) K) = entry_unifier Σ s.extension ok V s.typed first free (with_new_block B C) td s.set s.extends s.world θ₂ ρ inst π one₂ K s.tuple held B later E es e P b tp (length_renumber (shift_by (length B.some)) C.local ∙ l) n (local_arguments B.some) (new_at B C) stays (λ r. absurd (no (sym f ∙ r))) beside s.has.used s.has.values s.has.typed (subst (λ c. UsesGoal s.has.used c P) places s.has.uses) (subst (λ c. SamePlaces c s.tuple (target_arguments (substitute_type reduce s.has.values P))) places s.has.same) (agrees_with (θ₂ n) (o ∙ ap (before later) (sym last))) (λ j M v z. absurd (none_given j M (subst (λ Ms. given_at Ms j ≡ Some M) nothing z))) in
+      let u : HasUnifier (with_entries Σ first (blocks_of (identified first π (with_new_block B C)).blocks)) (meet_store_by_number π (identified first π (with_new_block B C)) p (before later (variable_images first (identified first π (with_new_block B C)).blocks n B (move_spine δ (local_arguments B.some)))) K) = (entry_unifier Σ s.extension ok V s.typed first free (with_new_block B C) td s.set s.extends s.world θ₂ ρ inst π one₂ K s.tuple held B later E es e P b tp (length_renumber (shift_by (length B.some)) C.local ∙ l) n (local_arguments B.some) (new_at B C) stays (λ r. absurd (no (sym f ∙ r))) beside s.has.used s.has.values s.has.typed (subst (λ c. UsesGoal s.has.used c P) places s.has.uses) (subst (λ c. SamePlaces c s.tuple (target_arguments (substitute_type reduce s.has.values P))) places s.has.same) (agrees_with (θ₂ n) (o ∙ ap (before later) (sym last))) (λ j M v z. absurd (none_given j M (subst (λ Ms. given_at Ms j ≡ Some M) nothing z)))).0 in
       let J : NumberedCase = with_new_block B (identified first π C) in
       let u₂ : HasUnifier (with_entries Σ first (blocks_of (with_new_block B (identified first π C)).blocks)) (meet_store_by_number π (with_new_block B (identified first π C)) p (before later (variable_images first (with_new_block B (identified first π C)).blocks n B (move_spine δ (local_arguments B.some)))) K) = subst (λ J. HasUnifier (with_entries Σ first (blocks_of J.blocks)) (meet_store_by_number π J p (before later (variable_images first J.blocks n B (move_spine δ (local_arguments B.some)))) K)) (same_identified first C B π one.identifies stays Σ free cb) u in
       let count : n ≡ length (identified first π C).blocks = sym (moved_length γ C.blocks) in

@@ -1,7 +1,7 @@
 -- A tuple that a case holds and a pattern has, where the case's block variables are one by π, is a typed unifier of their store at a place of the pattern.
-use Rattle.std.proofs.Common.{◌≡◌, ◌<◌, ℕ, zero, ◌+◌, List, [], ◌∷◌, length, refl, sym, ap, ◌∙◌, subst, arith}
+use Rattle.std.proofs.Common.{◌≡◌, ◌<◌, ℕ, zero, ◌+◌, List, [], ◌∷◌, length, refl, sym, ap, ◌∙◌, subst, arith, suc}
 use Rattle.std.specs.Prelude.{Bool, true, Option, Some}
-use Rattle.lf.specs.Syntax.{Term, Spine, nil, LfType, atom, Kind, Skeleton, skeleton, rename_spine}
+use Rattle.lf.specs.Syntax.{Term, Spine, nil, LfType, atom, Kind, Skeleton, skeleton, rename_spine, rename_type, weaken}
 use Rattle.lf.specs.Substitution.{Image, put, substitute, substitute_image, substitute_spine, substitute_type, reduce, after}
 use Rattle.lf.specs.AtOnce.{shift_by, lift_renaming_by}
 use Rattle.lf.specs.Entries.{quantifiers}
@@ -15,6 +15,7 @@ use Rattle.lf.proofs.Growth.{growth_keeps_types}
 use Rattle.lf.proofs.Renaming.{substitute_renamed, substitute_renamed_spine}
 use Rattle.lf.proofs.SkeletonTyping.{renaming_keeps_spine_skeletons}
 use Rattle.lf.proofs.Weakening.{declared_is_type}
+use Rattle.lf.proofs.TypeLaws.{skeleton_renamed, skeleton_substituted}
 use Rattle.lf_unification.specs.Filling.{fill_spine}
 use Rattle.lf_unification.specs.OpenTyping.{skeletons_of, under_locals}
 use Rattle.lf_unification.specs.Offering.{pi_over}
@@ -43,9 +44,10 @@ use Rattle.lf_coverage.proofs.EntryPatternsNear.{binders_count}
 use Rattle.lf_coverage.proofs.EntrySignature.{grown_contexts, grown_image}
 use Rattle.lf_coverage.proofs.IdentifiedConstants.{kinds_stay, old_stays, types_stay}
 use Rattle.lf_coverage.proofs.Meeting.{open_length, solves_both}
+use Rattle.lf_coverage.proofs.Forms.{far_type}
 use Rattle.lf_coverage.proofs.MeetsTupleForms.{all_renamed, block_from, given_from, places_stay, store_form, terms_to}
 use Rattle.lf_coverage.proofs.MeetsTupleParts as parts
-use Rattle.lf_coverage.proofs.MeetsTuplePattern.{case_values, last, l2, put_typed, spine_same as same_spines, tuple, tuple_of_case, tuple_of_pattern, values, values_context, values_far, values_known, values_typed}
+use Rattle.lf_coverage.proofs.MeetsTuplePattern.{case_values, last, l2, put_typed, spine_same as same_spines, tuple, tuple_of_case, tuple_of_pattern, values, values_context, values_far, values_known, values_typed, values_used, writing, writing_typed, written_so}
 use Rattle.lf_coverage.proofs.MeetsTupleSolving.{filling, identity_solved, instance_is_typed, pattern_filled, fits, stands}
 use Rattle.lf_coverage.proofs.MeetsTupleWriting.{AreOne}
 use Rattle.lf_coverage.proofs.MovedConstants.{length_moved}
@@ -58,6 +60,20 @@ use Rattle.lf_coverage.proofs.WritingMove.{move_type_substituted, moved_image}
 use Rattle.lf_coverage.proofs.WritingRead.{arguments_written, WritesAs}
 use Rattle.lf_coverage.proofs.WritingReadTyped.{more_context}
 use mathlib.Core.Path.{fun_ext}
+
+-- a variable of a clause itself among those of its store
+near_instance : (D O Q : List LfType) (φ : ℕ → Image) (i : ℕ) (X : LfType) → TypeAt (onto D O) i X → i < length D → (A : LfType) × TypeAt (onto (instance D φ) Q) i A × (skeleton A ≡ skeleton X)
+near_instance [] O Q φ i X h l = absurd (none l)
+  where
+    none : i < 0 → ⊥
+    none l = omega (arith, l)
+near_instance (B ∷ D) O Q φ zero X e l = (weaken (substitute_type reduce (lift_over D φ) B), refl, skeleton_renamed suc (substitute_type reduce (lift_over D φ) B) ∙ skeleton_substituted reduce (lift_over D φ) B ∙ sym (ap skeleton e ∙ skeleton_renamed suc B))
+near_instance (B ∷ D) O Q φ (suc i) X (Y, h, e) l =
+    let (A, g, q) = near_instance D O Q φ i Y h (less l) in
+    (weaken A, (A, g, refl), skeleton_renamed suc A ∙ q ∙ sym (ap skeleton e ∙ skeleton_renamed suc Y))
+  where
+    less : suc i < suc (length D) → i < length D
+    less l = omega (arith, l)
 
 module _ (Σ Σ' : Signature) {W : List Block} {S : ℕ → Bool} {G : List LfType} (w : World Σ' W S G) (first : ℕ) (C : NumberedCase) (θ : ℕ → ℕ → Image) (σ : ℕ → Image) (r : IsInstanceWithRoom Σ w first C θ σ) (π : ℕ → ℕ) (one : AreOne C θ π) (tc : IsTypedNumberedCase Σ first W C) (F : List LfType) (ρ : ℕ → Image) (h : WritesAs Σ' first (blocks_of C.blocks) θ (moved_constant first (blocks_of C.blocks) (blocks_of C.blocks) π) G F ρ) (K : Kind) (T : Spine) (held : HasArguments (lift_over C.local σ) (read_all (read_over C.local (entry_reading first (blocks_of C.blocks) θ (length C.variables))) C.arguments) T) where
   abbrev γ : ℕ → ℕ
@@ -243,8 +259,20 @@ module _ (Σ Σ' : Signature) {W : List Block} {S : ℕ → Bool} {G : List LfTy
     solved : Solution (with_entries Σ' first (blocks_of C.blocks)) [] (store_form π (identified first π C) K X n (length C.local) (length C.local) PT) H β
     solved = (instance_is_typed Σe ok X H cx ch χ tχ, (tt, solves_both μ β (identity_equations π bs zero bs) _ identities (solves_both μ β (given_equations X zero (rename_all (shift_by n) (move_all γ C.given))) _ givens places)))
 
+    -- The case's variables have the tuple's values, written.
+    abbrev Ξ : ℕ → Image
+    Ξ = writing Σe ok G F cg h.context ρ h.typed D O cy used τ grown Q cq (after ρ σ) tψ known g₂ tg₂ all φ₂ outer₂ tφ₂ alike
+
+    of_tuple : (i : ℕ) (A : LfType) → TypeAt Q i A → β (i + n) ≡ Some (as_term (skeleton A) (substitute_image Ξ (σ i)))
+    of_tuple i A t = (stands Σe ok X H cx ch χ tχ (i + n) (rename_type (shift_by n) A) (far_type (instance D φ₂) Q i A t)).1 ∙ ap Some (ap (λ a. as_term a (χ (i + n))) (skeleton_renamed (shift_by n) A) ∙ ap (as_term (skeleton A)) (far i ∙ written_so Σe ok G F cg h.context ρ h.typed D O cy used τ grown Q cq (after ρ σ) tψ known g₂ tg₂ all φ₂ outer₂ tφ₂ alike (σ i)))
+
+    of_own : (i : ℕ) (A : LfType) → TypeAt (onto (binders [] U) O) i A → i < length (binders [] U) → used i ≡ true → β i ≡ Some (as_term (skeleton A) (substitute_image Ξ (τ i)))
+    of_own i A t less u =
+        let (B, g, e) = near_instance D O Q φ₂ i A t less in
+        (stands Σe ok X H cx ch χ tχ i B g).1 ∙ ap Some (ap (λ a. as_term a (χ i)) e ∙ values_used Σe ok G F cg h.context ρ h.typed D O cy used τ grown Q cq (after ρ σ) tψ known g₂ tg₂ all φ₂ outer₂ tφ₂ alike i A t less u)
+
     -- The lemma
-    pub unified : (H : List LfType) × (β : ℕ → Option Term) × Solution (with_entries Σ' first (blocks_of C.blocks)) [] (store_form π (identified first π C) K (binders (identified first π C).variables (substitute_type reduce (λ k. move_image (moved_constant first (blocks_of C.blocks) (blocks_of C.blocks) π) (φ k)) U)) (quantifiers U) (length (binders [] (substitute_type reduce (lift_over (binders [] U) (λ k. move_image (moved_constant first (blocks_of C.blocks) (blocks_of C.blocks) π) (φ k))) P))) (length (identified first π C).local) (substitute_type reduce (lift_over (binders [] U) (λ k. move_image (moved_constant first (blocks_of C.blocks) (blocks_of C.blocks) π) (φ k))) P)) H β
+    pub unified : (H : List LfType) × (β : ℕ → Option Term) × Solution (with_entries Σ' first (blocks_of C.blocks)) [] (store_form π (identified first π C) K (binders (identified first π C).variables (substitute_type reduce (λ k. move_image (moved_constant first (blocks_of C.blocks) (blocks_of C.blocks) π) (φ k)) U)) (quantifiers U) (length (binders [] (substitute_type reduce (lift_over (binders [] U) (λ k. move_image (moved_constant first (blocks_of C.blocks) (blocks_of C.blocks) π) (φ k))) P))) (length (identified first π C).local) (substitute_type reduce (lift_over (binders [] U) (λ k. move_image (moved_constant first (blocks_of C.blocks) (blocks_of C.blocks) π) (φ k))) P)) H β × (writes : ℕ → Image) × IsTypedSubstitution (with_entries Σ' first (blocks_of C.blocks)) G H writes × ((i : ℕ) (A : LfType) → TypeAt (move_types (moved_constant first (blocks_of C.blocks) (blocks_of C.blocks) π) C.variables) i A → β (i + quantifiers U) ≡ Some (as_term (skeleton A) (substitute_image writes (σ i)))) × ((i : ℕ) (A : LfType) → TypeAt (onto (binders [] U) O) i A → i < length (binders [] U) → used i ≡ true → β i ≡ Some (as_term (skeleton A) (substitute_image writes (τ i))))
     unified = (
       H,
       β,
@@ -252,4 +280,8 @@ module _ (Σ Σ' : Signature) {W : List Block} {S : ℕ → Bool} {G : List LfTy
           (subst (λ k. Solution Σe [] (store_form π (identified first π C) K X k (length (binders [] PT)) (length (move_types γ C.local)) PT) H β) (length_instance D φ₂ ∙ binders_count U)
           (subst (λ k. Solution Σe [] (store_form π (identified first π C) K X n k (length (move_types γ C.local)) PT) H β) lp
           (subst (λ k. Solution Σe [] (store_form π (identified first π C) K X n (length C.local) k PT) H β) (sym (length_moved γ C.local)) solved))),
+      Ξ,
+      writing_typed Σe ok G F cg h.context ρ h.typed D O cy used τ grown Q cq (after ρ σ) tψ known g₂ tg₂ all φ₂ outer₂ tφ₂ alike,
+      (λ i A t. ap (λ k. β (i + k)) (sym (length_instance D φ₂ ∙ binders_count U)) ∙ of_tuple i A t),
+      of_own,
     )

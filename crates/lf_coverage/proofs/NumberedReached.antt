@@ -1,89 +1,48 @@
 -- What the strategy reaches by number: what it holds the goal holds.
-use Rattle.std.proofs.Common.{◌≡◌, ℕ, zero, suc, ◌+◌, ◌++◌, List, [], ◌∷◌, length, refl, sym, ap, ◌∙◌, subst}
+use Rattle.std.proofs.Common.{◌≡◌, ℕ, zero, List, length, refl, sym, ap, ◌∙◌, subst}
 use Rattle.std.specs.Prelude.{Bool, Option, Some, None}
-use Rattle.lf.specs.Syntax.{Spine, LfType, Kind}
+use Rattle.lf.specs.Syntax.{Spine, LfType}
 use Rattle.lf.specs.Substitution.{Image}
-use Rattle.lf.specs.AtOnce.{shift_by}
 use Rattle.lf.specs.Typing.{Signature, IsSignature}
-use Rattle.lf.specs.Variables.{target}
-use Rattle.lf.specs.Subordination.{Block, AreTypedBlocks, Member}
+use Rattle.lf.specs.Subordination.{Block, AreTypedBlocks}
 use Rattle.lf.specs.Worlds.{World, lift_over}
 use Rattle.lf.specs.Extension.{Extends}
-use Rattle.lf_unification.specs.Offering.{local_arguments}
 use Rattle.lf_checks.specs.Clause.{Clause}
 use Rattle.lf_cases.specs.Case.{covered_places}
 use Rattle.lf_cases.specs.Pattern.{Known, Origin, of_constant, of_entry, Pattern}
-use Rattle.lf_cases.specs.Reached.{arguments_count}
 use Rattle.lf_cases.proofs.Split.{given_there}
 use Rattle.lf_coverage.specs.EntryConstants.{IsFreeFrom}
 use Rattle.lf_coverage.specs.EntryPatternsRuns.{HoldsByNumber, ZerothIs, IsLikeByNumber}
-use Rattle.lf_coverage.specs.NewBlock.{with_new_block}
 use Rattle.lf_coverage.specs.NumberedArguments.{read_over, read_all}
 use Rattle.lf_coverage.specs.NumberedCalls.{HasOwnBlock}
 use Rattle.lf_coverage.specs.NumberedCallsMeeting.{HasTuple, IsKnownFor, known_of, zeroth_known}
-use Rattle.lf_coverage.specs.NumberedCallsOutside.{IsSplitCaseByNumber}
-use Rattle.lf_coverage.specs.NumberedCallsReached.{ReachedByNumber, numbered_goal, numbered_split}
 use Rattle.lf_coverage.specs.NumberedCase.{NumberedCase, IsNumberedInstance}
-use Rattle.lf_coverage.specs.NumberedInstance.{block_at}
+use Rattle.lf_coverage.specs.NumberedInstance.{IsNumberedInstanceOf, block_at}
 use Rattle.lf_coverage.specs.NumberedReached.{HoldsBack, KeepsBlocks, SplitCaseHoldsBack, ReachedHoldsBack, ReachedMissingIsUncovered}
-use Rattle.lf_coverage.specs.NumberedSplits.{NumberedOffer, IsOfferTo, of_case, of_new_block, NumberedUnifierFinds}
-use Rattle.lf_coverage.specs.OwnTerms.{BlockVariable, blocks_of, rename_blocks}
+use Rattle.lf_coverage.specs.OwnTerms.{BlockVariable, blocks_of}
 use Rattle.lf_coverage.specs.Reading.{entry_reading}
-use Rattle.lf_coverage.specs.SplitStore.{answer_values}
 use Rattle.lf_coverage.specs.TypedNumbered.{IsTypedNumberedCase}
-use Rattle.lf_coverage.proofs.EntryPatternsSplits.{put_at}
-use Rattle.lf_coverage.proofs.Forms.{far_type}
 use Rattle.lf_coverage.proofs.NumberedCallsLaws.{covered_tuple, some_tuple, some_values, reached_by_number_is_typed}
-use Rattle.lf_coverage.proofs.NumberedCallsLike.{solved_alike, new_alike, reached_is_like_goal}
-use Rattle.lf_coverage.proofs.NumberedReachedNewBlock.{new_block_holds_back}
-use Rattle.lf_coverage.proofs.NumberedReachedSplit.{solved_holds_back}
-use Rattle.lf_coverage.proofs.OwnStoresNewBlock.{new_block_stays_typed}
-use Rattle.lf_coverage.proofs.Parts.{none_some, some_same}
+use Rattle.lf_coverage.proofs.NumberedCallsLike.{reached_is_like_goal}
+use Rattle.lf_coverage.proofs.NumberedNeedsReached.{reached_is_numbered_instance}
+use Rattle.lf_coverage.proofs.NumberedReachedInstances.{split_case_is_numbered_instance}
+use Rattle.lf_coverage.proofs.NumberedSplitCases.{split_comes}
+use Rattle.lf_coverage.proofs.OwnStoresTyped.{numbered_run_stays_typed}
+use Rattle.lf_coverage.proofs.SharedInstances.{instance_holds_back}
 
--- block variables keep their numbers
-added_keeps : (ρ : ℕ → ℕ) (ds bs : List BlockVariable) (k : ℕ) (b : BlockVariable) → block_at bs k ≡ Some b → (d : BlockVariable) × (block_at (rename_blocks ρ bs ++ ds) k ≡ Some d) × (d.block ≡ b.block)
-added_keeps ρ ds [] k b e = absurd (none_some e)
-added_keeps ρ ds (c ∷ bs) zero b e = (_, refl, ap (λ (d : BlockVariable). d.block) (some_same e))
-added_keeps ρ ds (c ∷ bs) (suc k) b e = added_keeps ρ ds bs k b e
-
-keeps_twice : (C D E : NumberedCase) → KeepsBlocks C D → KeepsBlocks D E → KeepsBlocks C E
-keeps_twice C D E c d k b e =
-    let (v, q, r) = c k b e in
-    let (u, s, t) = d k v q in
-    (u, s, t ∙ r)
-
--- what holds back holds back twice
-back_twice : {Σ : Signature} {W : List Block} {S : ℕ → Bool} {G : List LfType} (w : World Σ W S G) (first : ℕ) (C D E : NumberedCase) (θ : ℕ → ℕ → Image) (ρ : ℕ → Image) (h : HoldsBack w first E θ ρ D) → HoldsBack w first D θ h.values C → HoldsBack w first E θ ρ C
-back_twice w first C D E θ ρ h k = record { values = k.values; is_ground = k.is_ground; arguments = λ T a. k.arguments T (h.arguments T a); given = λ τ g. k.given τ (h.given τ g) }
-
-module _ (Σ Σ' : Signature) (ok : IsSignature Σ) (S : ℕ → Bool) (x : Extends S Σ Σ') (W : List Block) (typed : AreTypedBlocks Σ W) (first : ℕ) (free : IsFreeFrom Σ first) (below : ℕ → ℕ → Bool) where
-  abbrev Back : NumberedCase → NumberedCase → Type 0
-  Back C D = KeepsBlocks C D × ((G : List LfType) (w : World Σ' W S G) (θ : ℕ → ℕ → Image) (ρ : ℕ → Image) → IsNumberedInstance w first D θ ρ → HoldsBack w first D θ ρ C)
-
-  twice : (C D E : NumberedCase) → Back C D → Back D E → Back C E
-  twice C D E (c, h) (d, k) = (keeps_twice C D E c d, λ G w θ ρ i. let b : HoldsBack w first E θ ρ D = k G w θ ρ i in back_twice w first C D E θ ρ b (h G w θ b.values b.is_ground))
-
-  new_back : (C : NumberedCase) → IsTypedNumberedCase Σ first W C → (B : Block) → Member B W → Back C (with_new_block B C)
-  new_back C tc B m = (added_keeps (shift_by (length B.some)) (record { block = B; terms = local_arguments B.some } ∷ []) C.blocks, λ G w θ ρ i. new_block_holds_back Σ Σ' ok S x W typed first free C tc B m w θ ρ i (new_alike B C))
-
-  split_back : (C : NumberedCase) → IsTypedNumberedCase Σ first W C → (y : ℕ) (D : NumberedCase) → IsSplitCaseByNumber Σ first W below C y D → Back C D
-  split_back C tc y D sp = by sp.offer sp.is_offered sp.kind sp.of_family sp.finds
-    where
-      by : (o : NumberedOffer) → IsOfferTo Σ first W C y sp.type o → (K : Kind) → Σ.kinds (target o.type) ≡ Some K → NumberedUnifierFinds Σ first below o K (Some D) → Back C D
-      by o (of_case h U A f) K q (after0, d, z) = subst (Back C) (sym z) (put_at (λ i. answer_values after0 d.well_formed.order (i + arguments_count A)) C.blocks, λ G w θ ρ i. solved_holds_back Σ ok W typed first free below C tc y sp.type sp.at h U A f K q after0 d Σ' S x w θ ρ i (solved_alike C (arguments_count A) after0 d.well_formed.order))
-      by o (of_new_block B c U A b n f) K q (after0, d, z) =
-          let E : NumberedCase = with_new_block B C in
-          twice C (with_new_block B C) D (new_back C tc B b) (subst (Back (with_new_block B C)) (sym z) (put_at (λ i. answer_values after0 d.well_formed.order (i + arguments_count A)) (with_new_block B C).blocks, λ G w θ ρ i. solved_holds_back Σ ok W typed first free below (with_new_block B C) (new_block_stays_typed Σ ok W typed first free C tc B b) o.variable o.type (far_type B.some C.variables y sp.type sp.at) o.head U A f K q after0 d Σ' S x w θ ρ i (solved_alike (with_new_block B C) (arguments_count A) after0 d.well_formed.order)))
-
-  reached_back : (ps : List Pattern) (goal : NumberedCase) → IsTypedNumberedCase Σ first W goal → {D : NumberedCase} → ReachedByNumber Σ first W below ps goal D → Back goal D
-  reached_back ps goal tg numbered_goal = (λ k b e. (b, e, refl), λ G w θ ρ i. record { values = ρ; is_ground = i; arguments = λ T a. a; given = λ τ g. g })
-  reached_back ps goal tg (numbered_split {C = C} {D = D} y r n f s) = twice goal C D (reached_back ps goal tg r) (split_back C (reached_by_number_is_typed Σ ok W typed first free below ps goal tg C r) y D s)
+-- What an instance in which each block variable keeps its number holds, the case holds.
+keeps_back : (Σ Σ' : Signature) → IsSignature Σ → (S : ℕ → Bool) → Extends S Σ Σ' → (W : List Block) → AreTypedBlocks Σ W → (first : ℕ) → IsFreeFrom Σ first → (C : NumberedCase) → IsTypedNumberedCase Σ first W C → (D : NumberedCase) → IsTypedNumberedCase Σ first W D → (σ : ℕ → Image) → IsNumberedInstanceOf Σ first D C (λ k. k) σ → KeepsBlocks C D × ((G : List LfType) (w : World Σ' W S G) (θ : ℕ → ℕ → Image) (ρ : ℕ → Image) → IsNumberedInstance w first D θ ρ → HoldsBack w first D θ ρ C)
+keeps_back Σ Σ' ok S x W typed first free C tc D td σ i = (λ k b e. (_, i.is_instance.blocks k b e, refl), λ G w θ ρ inst. let h = instance_holds_back Σ Σ' ok W W first free C tc D td.variables (λ k. k) σ i W typed S x G w θ ρ inst in record { values = h.values; is_ground = h.is_ground; arguments = h.arguments; given = h.given })
 
 pub split_case_holds_back : SplitCaseHoldsBack
-split_case_holds_back Σ Σ' ok S x W typed first free below C tc y D sp = split_back Σ Σ' ok S x W typed first free below C tc y D sp
+split_case_holds_back Σ Σ' ok S x W typed first free below C tc y D sp =
+    let ((σ, i), apart) = split_case_is_numbered_instance Σ ok W typed first free below C tc y D sp in
+    keeps_back Σ Σ' ok S x W typed first free C tc D (numbered_run_stays_typed Σ ok W typed first free below C tc D (split_comes Σ W first below C D y sp)) σ i
 
 pub reached_holds_back : ReachedHoldsBack
-reached_holds_back Σ Σ' ok S x W typed first free below ps goal tg D r = reached_back Σ Σ' ok S x W typed first free below ps goal tg r
+reached_holds_back Σ Σ' ok S x W typed first free below ps goal tg D r =
+    let ((σ, i), apart) = reached_is_numbered_instance Σ ok W typed first free below ps goal tg D r in
+    keeps_back Σ Σ' ok S x W typed first free goal tg D (reached_by_number_is_typed Σ ok W typed first free below ps goal tg D r) σ i
 
 -- what is known of the goal's block variable of number 0
 zeroth_of : (C : NumberedCase) (θ : ℕ → ℕ → Image) (D : NumberedCase) → KeepsBlocks C D → ZerothIs D θ (zeroth_known C θ)

@@ -175,3 +175,14 @@ pub mod OnlyCase
 pub mod OnlyOrder
 pub mod OnlyList
 pub mod OnlyExamples
+pub mod SharedInstances
+pub mod SharedTuples
+pub mod MetEquations
+pub mod SharedTuplesExamples
+pub mod MetEquationsExamples
+pub mod LeftUnifiers
+pub mod LeftEquations
+pub mod DeepCases
+pub mod LeftExamples
+pub mod LeftExamplesRun
+pub mod DeepExamples

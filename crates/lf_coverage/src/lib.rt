@@ -2166,3 +2166,123 @@ ghost use Rattle.lf_coverage.specs.OnlyExamples.{ZeroComesFirst};
 pub fn zero_comes_first()
     ensures { ZeroComesFirst }
 {}
+
+ghost use Rattle.lf_coverage.specs.SharedInstances.{InstanceHoldsBack};
+
+/// Each ground instance of an instance of a typed case by number is one of the case, which holds there the same tuple,
+/// also where block variables of the case have become one.
+pub fn instance_holds_back()
+    ensures { InstanceHoldsBack }
+{}
+
+ghost use Rattle.lf_coverage.specs.SharedTuples.{SharedInstanceHasTuple, MetHasTuple, MetIsNotApart, SharedTupleIsNotApart};
+
+/// So each tuple that an instance holds which a case and a pattern share, the case holds and the pattern has; and
+/// where there is one, they aren't apart.
+pub fn shared_instance_has_tuple()
+    ensures tuple { SharedInstanceHasTuple }
+    ensures ground { MetHasTuple }
+    ensures met { MetIsNotApart }
+    ensures apart { SharedTupleIsNotApart }
+{}
+
+ghost use Rattle.lf_coverage.specs.SharedTuples.{UnsplitIsMet};
+
+/// Where the strategy can't split a case, and this shares an instance with a pattern of the list that has a ground one
+/// in a context of whatever worlds, the goal holds the tuple of this and the pattern has it.
+pub fn unsplit_is_met()
+    ensures { UnsplitIsMet }
+{}
+
+ghost use Rattle.lf_coverage.specs.MetEquations.{UnifierSolvesLeft, StandingTupleHasUnifier, StandingTupleSolvesLeft, UnsolvedLeftHasNoTuple, TupleStandsSomewhere};
+
+/// Each tuple that a case holds and a pattern has stands at a place of the pattern beside it, and is a typed unifier there;
+/// so it makes the sides of each equation that unification leaves the same.
+pub fn tuples_solve_what_is_left()
+    ensures left { UnifierSolvesLeft }
+    ensures unifier { StandingTupleHasUnifier }
+    ensures solves { StandingTupleSolvesLeft }
+    ensures none { UnsolvedLeftHasNoTuple }
+    ensures stands { TupleStandsSomewhere }
+{}
+
+ghost use Rattle.lf_coverage.specs.SharedTuplesExamples.{CopiesShareGround, AppliedZeroIsMet};
+ghost use Rattle.lf_coverage.specs.MetEquationsExamples.{CopiesStandAtOne, AppliedZeroSolvesLeft};
+
+/// cp b.x c.x and u : cp x x share the tuple x, x of {x:exp} {u:cp x x}, which stands where b and c are one; so they
+/// aren't apart. The goal eq z (F z) can't be split with eq z z, and the tuple z, z is one of both; it solves what unification
+/// leaves, F z = z.
+pub fn worked_tuples_are_shared()
+    ensures copies { CopiesShareGround }
+    ensures zeros { AppliedZeroIsMet }
+    ensures stands { CopiesStandAtOne }
+    ensures left { AppliedZeroSolvesLeft }
+{}
+
+ghost use Rattle.lf_coverage.specs.LeftUnifiers.{OverHeadIsTyped, HeadIsUnifier, UnifierHasHead};
+
+/// Each ground instance with block variables apart that gives a variable a head that is offered is a typed unifier of
+/// this head's store, and of each store that unification comes to; and a typed unifier of the head's store gives the
+/// variable the head.
+pub fn heads_are_unifiers()
+    ensures typed { OverHeadIsTyped }
+    ensures unifier { HeadIsUnifier }
+    ensures back { UnifierHasHead }
+{}
+
+ghost use Rattle.lf_coverage.specs.LeftEquations.{LeftIsTrue, LeftHoldsTrue, RunLeftHoldsTrue, HeadIsGiven, NewHeadIsGiven, HeadIsOffered};
+
+/// An equation that a split by number leaves is a condition on tuples: each tuple of the case with this head for the
+/// variable makes it true, and where a whole run stops so, it is a tuple of the goal.
+pub fn left_equations_are_true()
+    ensures instances { LeftIsTrue }
+    ensures tuples { LeftHoldsTrue }
+    ensures run { RunLeftHoldsTrue }
+    ensures given { HeadIsGiven }
+    ensures new_given { NewHeadIsGiven }
+    ensures offered { HeadIsOffered }
+{}
+
+ghost use Rattle.lf_coverage.specs.DeepCases.{SplitCaseIsCaseOf, ReachedIsCaseOf, DeepSplitHasDeepCase, DeepRunHasDeepCase};
+
+/// Where a split or a run by number is too deep, a case of the case that is split, or of the goal, is deep; or it has
+/// deep equations of a head, which each tuple with this head unifies.
+pub fn deep_cases_are_cases()
+    ensures split_case { SplitCaseIsCaseOf }
+    ensures reached_case { ReachedIsCaseOf }
+    ensures split { DeepSplitHasDeepCase }
+    ensures run { DeepRunHasDeepCase }
+{}
+
+ghost use Rattle.lf_coverage.specs.LeftExamples.{CircleIsLeft, CircleIsTrue, OlderIsGiven, OlderIsHead};
+
+/// With refl : {Z:nat} eq Z Z the split of X : eq T (K W), where K and W have T in their types, leaves K W = T: solved
+/// for T, the types would be circular. It is true of p z ([x] z) n (refl z), and a = z isn't. And X is the head b.x
+/// where it is the variable x of the instance that b stands for; a new block variable b stands for it where there is
+/// none.
+pub fn circle_is_left()
+    ensures left { CircleIsLeft }
+    ensures tuple { CircleIsTrue }
+    ensures head { OlderIsHead }
+    ensures given { OlderIsGiven }
+{}
+
+ghost use Rattle.lf_coverage.specs.LeftExamplesRun.{CircleHasHead, CircleIsNotRefuted, CircleIsUnified, CircleRunIsLeft, CircleTuplesAreTrue};
+
+/// A whole run for p z ([x] z) n (refl z) stops at K W = T, which each tuple of its goal p T K W X with refl for X
+/// makes true. So steps don't refute the head's store, and the case over which the equation is shown is typed.
+pub fn circle_run_is_left()
+    ensures run { CircleRunIsLeft }
+    ensures tuples { CircleTuplesAreTrue }
+    ensures unifier { CircleIsUnified }
+    ensures not_refuted { CircleIsNotRefuted }
+    ensures head { CircleHasHead }
+{}
+
+ghost use Rattle.lf_coverage.specs.DeepExamples.{DeepZeroHasDeepCase, EntryIsCaseOf};
+
+/// p b.x is a case of p X, and p X is none of p b.x; a goal with 4,096 times s has a deep case.
+pub fn deep_zero_has_deep_case()
+    ensures entry { EntryIsCaseOf }
+    ensures deep { DeepZeroHasDeepCase }
+{}
