@@ -33,11 +33,11 @@ use Rattle.lf_coverage.proofs.ReadValues.{values_fit, value_past}
 use Rattle.lf_coverage.proofs.Reading.{read_image}
 
 -- the last of some arguments
-last_is : (M N : Term) (S : Spine) → last_of M (add_last S N) ≡ N
+pub last_is : (M N : Term) (S : Spine) → last_of M (add_last S N) ≡ N
 last_is M N nil = refl
 last_is M N (app P S) = last_is P N S
 
-others_are : (M N : Term) (S : Spine) → but_last M (add_last S N) ≡ app M S
+pub others_are : (M N : Term) (S : Spine) → but_last M (add_last S N) ≡ app M S
 others_are M N nil = refl
 others_are M N (app P S) = ap (app M) (others_are P N S)
 

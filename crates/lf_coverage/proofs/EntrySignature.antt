@@ -120,7 +120,7 @@ among_none k B n p es c h = by (entry_among k B n p es c) refl
     by (Some x) e = let l = among_below k B n p es c x e in absurd (omega arith)
 
 -- The signature with these entries of a block
-abbrev partial : Signature → ℕ → Block → ℕ → ℕ → List LfType → Signature
+abbrev pub partial : Signature → ℕ → Block → ℕ → ℕ → List LfType → Signature
 partial Σ k B n p es = record { types = λ c. or_else (Σ.types c) (entry_type (entry_among k B n p es c)); kinds = Σ.kinds }
 
 module _ (Σ : Signature) (ok : IsSignature Σ) (k : ℕ) (B : Block) (n : ℕ) (free : (c : ℕ) → n ≤ c → Σ.types c ≡ None) where

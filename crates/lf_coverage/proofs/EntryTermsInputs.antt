@@ -64,12 +64,12 @@ closed_is_typed Σ ok U t = record { outer_typed = tt; clause_typed = binders_ty
 one_lifted : lift keep ≡ keep
 one_lifted = lift_keep (atom zero nil ∷ [])
 
-numbering_is : (first : ℕ) (I : List Item) → HasNoBlockVariable I → numbering first I ≡ record { blocks = []; variables = items_context I; images = keep }
+pub numbering_is : (first : ℕ) (I : List Item) → HasNoBlockVariable I → numbering first I ≡ record { blocks = []; variables = items_context I; images = keep }
 numbering_is first [] h = refl
 numbering_is first (free_variable A ∷ I) h = ap (add_variable A) (numbering_is first I h) ∙ ap₂ (λ (B : LfType) (s : ℕ → Image). record { blocks = []; variables = B ∷ items_context I; images = s }) (substitute_identity_type reduce A) one_lifted
 numbering_is first (block_variable B υ ∷ I) h = absurd h
 
-put_keep : (Ms : List (Option Term)) → put_in keep Ms ≡ Ms
+pub put_keep : (Ms : List (Option Term)) → put_in keep Ms ≡ Ms
 put_keep [] = refl
 put_keep (Some M ∷ Ms) = ap₂ (λ N Ns. Some N ∷ Ns) (substitute_identity reduce M) (put_keep Ms)
 put_keep (None ∷ Ms) = ap (λ Ns. None ∷ Ns) (put_keep Ms)

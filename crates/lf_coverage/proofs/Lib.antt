@@ -579,3 +579,9 @@ pub mod LeftExamples
 pub mod LeftExamplesRun
 pub mod DeepExamples
 pub mod LeftGiven
+pub mod ReadyPlaces
+pub mod ReadyPlacesExamples
+pub mod EntryTypes
+pub mod EntryTypesWalk
+pub mod EntryTypesPut
+pub mod Orders

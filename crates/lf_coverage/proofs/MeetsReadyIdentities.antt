@@ -49,7 +49,7 @@ put_is [] υ i A g = absurd g
 put_is (B ∷ O) υ zero A e = ap (λ a. put a (as_term a (υ zero))) (sym (ap skeleton e ∙ skeleton_renamed suc B))
 put_is (B ∷ O) υ (suc i) A (D, g, e) = put_is O (λ j. υ (suc j)) i D g ∙ ap (λ a. put a (as_term a (υ (suc i)))) (sym (ap skeleton e ∙ skeleton_renamed suc D))
 
-kind_of_some : (Σ : Signature) (O : List LfType) (K : Kind) → IsContext Σ O → IsKind Σ O K → IsKind Σ [] (some_kind O K)
+pub kind_of_some : (Σ : Signature) (O : List LfType) (K : Kind) → IsContext Σ O → IsKind Σ O K → IsKind Σ [] (some_kind O K)
 kind_of_some Σ [] K c k = k
 kind_of_some Σ (A ∷ O) K (c, a) k = kind_of_some Σ O (kind_pi A K) c (a, k)
 
@@ -77,7 +77,7 @@ module _ (Σ : Signature) (ok : IsSignature Σ) (X : List LfType) (cx : IsContex
         subst (SpineFitsKind Σ X S) (sym (kind_front (constant_skeletons Σ) (family_skeletons Σ) (context_skeletons O) (context_skeletons X) η A N K fη (subst (TermSkeleton (constant_skeletons Σ) (context_skeletons X) N) (skeleton_substituted reduce η A) (typed_has_skeleton Σ X N (substitute_type reduce η A) n)) (kind_by_skeletons Σ (A ∷ O) K k))) f,
       ))
 
-  some_fit : (O : List LfType) (U : Spine) → IsContext Σ O → AreSomeTerms Σ X O U → SpineFitsKind Σ X U (some_kind O star)
+  pub some_fit : (O : List LfType) (U : Spine) → IsContext Σ O → AreSomeTerms Σ X O U → SpineFitsKind Σ X U (some_kind O star)
   some_fit O U c (υ, s, e) = subst (λ T. SpineFitsKind Σ X T (some_kind O star)) (append_nil (some_spine O υ) ∙ sym e) (terms_fit O υ star nil c tt s tt)
 
   module _ (U : (ℕ → Option Term) → Type 0) (half : (β : ℕ → Option Term) → U β → (F : List LfType) × PartialInstance Σ [] (context_metavariables X) (λ m. ⊥) F β) where

@@ -1,7 +1,7 @@
 -- A store of a pattern's type over variables, with given terms and arguments that are typed beside it, is well formed behind equations that are typed.
 use Rattle.std.proofs.Common.{◌≡◌, ℕ, zero, ◌+◌, List, [], length, inl, inr, refl, sym, ap, ◌∙◌, subst}
 use Rattle.std.specs.Prelude.{Option, Some, ◌⊎◌}
-use Rattle.lf.specs.Syntax.{Term, Spine, LfType, atom, Kind, base, skeleton, kind_skeleton, rename_spine, rename_type}
+use Rattle.lf.specs.Syntax.{Term, Spine, LfType, Kind, base, skeleton, kind_skeleton, rename_spine, rename_type}
 use Rattle.lf.specs.Substitution.{Image, substitute_spine, substitute_type, after, reduce}
 use Rattle.lf.specs.SkeletonTyping.{SkeletonAt, TermSkeleton, SpineSkeleton, ImageSkeleton, SubstitutionBySkeletons}
 use Rattle.lf.specs.Skeletons.{constant_skeletons, context_skeletons}
@@ -51,6 +51,16 @@ placed_store X ids Ms Ns T K = record {
   equations = followed ids (followed (given_equations X zero Ms) (place_equations (open_locals (binders [] T)) (open_arguments (length (binders [] T)) Ns) (open_spine (length (binders [] T)) (target_arguments T)) K));
 }
 
+-- what stands under the quantifiers of a type, and what its family takes there
+module _ (Σ : Signature) (ok : IsSignature Σ) (X : List LfType) (joint_context : IsContext Σ X) (T : LfType) (tT : IsType Σ X T) where
+  pub local_typed : IsContext Σ (onto (binders [] T) X)
+  local_typed = subst (IsContext Σ) (binders_over [] T X) (binders_typed Σ ok T X joint_context tT)
+
+  pub arguments_fit : (K : Kind) → Σ.kinds (target T) ≡ Some K → SpineFitsKind Σ (onto (binders [] T) X) (target_arguments T) K
+  arguments_fit K of_family =
+      let (K', e, s) = end_typed Σ ok T X tT in
+      subst (SpineFitsKind Σ (onto (binders [] T) X) (target_arguments T)) (some_same (sym e ∙ of_family)) (subst (λ G. SpineFitsKind Σ G (target_arguments T) K') (binders_over [] T X) s)
+
 module _ (Σ : Signature) (ok : IsSignature Σ) (X : List LfType) (joint_context : IsContext Σ X) (ids : List Equation) (L : List LfType) (Ms Ns : List (Option Term)) (T : LfType) (tT : IsType Σ X T) (K : Kind) (of_family : Σ.kinds (target T) ≡ Some K) (tb : AreTypedBeside Σ X L Ms Ns T K) where
   abbrev D : List LfType
   D = binders [] T
@@ -63,15 +73,6 @@ module _ (Σ : Signature) (ok : IsSignature Σ) (X : List LfType) (joint_context
 
   abbrev half : (β : ℕ → Option Term) → U β → (F : List LfType) × PartialInstance Σ [] (context_metavariables X) (λ m. ⊥) F β
   half β (F, w, u) = (F, w)
-
-  local_typed : IsContext Σ (onto D X)
-  local_typed = subst (IsContext Σ) (binders_over [] T X) (binders_typed Σ ok T X joint_context tT)
-
-  arguments_fit : SpineFitsKind Σ (onto D X) (target_arguments T) K
-  arguments_fit = by (end_typed Σ ok T X tT)
-    where
-      by : IsType Σ (binders X T) (atom (target T) (target_arguments T)) → SpineFitsKind Σ (onto D X) (target_arguments T) K
-      by (K', e, s) = subst (SpineFitsKind Σ (onto D X) (target_arguments T)) (some_same (sym e ∙ of_family)) (subst (λ G. SpineFitsKind Σ G (target_arguments T) K') (binders_over [] T X) s)
 
   fg : SubstitutionBySkeletons (constant_skeletons Σ) (context_skeletons X) (context_skeletons X) g
   fg i t k = by (given_cases X Ms zero i)
@@ -118,10 +119,10 @@ module _ (Σ : Signature) (ok : IsSignature Σ) (X : List LfType) (joint_context
       let d : L1 ≡ D = renumbered_still D in
       let s : S1 ≡ S = spine_still (length D) S in
       let o : open_kind (length L1) K ≡ K = family_open Σ ok X U (length L1) (target T) K of_family in
-      let ss : SpineSkeleton (constant_skeletons Σ) (context_skeletons (onto D X)) S (kind_skeleton 0 K) (base 0) = kind_spine_has_skeleton Σ 0 (onto D X) S K arguments_fit in
-      let fits : SpineFitsKind Σ (onto L1 X) S1 K = subst (λ E. SpineFitsKind Σ (onto E X) S1 K) (sym d) (subst (λ R. SpineFitsKind Σ (onto D X) R K) (sym s) arguments_fit) in
+      let ss : SpineSkeleton (constant_skeletons Σ) (context_skeletons (onto D X)) S (kind_skeleton 0 K) (base 0) = kind_spine_has_skeleton Σ 0 (onto D X) S K (arguments_fit Σ ok X joint_context T tT K of_family) in
+      let fits : SpineFitsKind Σ (onto L1 X) S1 K = subst (λ E. SpineFitsKind Σ (onto E X) S1 K) (sym d) (subst (λ R. SpineFitsKind Σ (onto D X) R K) (sym s) (arguments_fit Σ ok X joint_context T tT K of_family)) in
       let r : EquationsAreTyped Σ [] Φ U (place_list L1 S1 (open_kind (length L1) K)) =
-      places Σ ok X joint_context U half X zero g fg far agrees D local_typed Ns R S1 K K (kind_by_skeletons Σ (onto L2 X) K (family_kind Σ ok (onto L2 X) (target T) K of_family)) (kind_by_skeletons Σ (onto L1 X) K (family_kind Σ ok (onto L1 X) (target T) K of_family)) refl
+      places Σ ok X joint_context U half X zero g fg far agrees D (local_typed Σ ok X joint_context T tT) Ns R S1 K K (kind_by_skeletons Σ (onto L2 X) K (family_kind Σ ok (onto L2 X) (target T) K of_family)) (kind_by_skeletons Σ (onto L1 X) K (family_kind Σ ok (onto L1 X) (target T) K of_family)) refl
       (λ β u. closed_kind_substituted Σ reduce (lift_over L2 (values Σ ok X joint_context U half β u)) K ck ∙ sym (closed_kind_substituted Σ reduce (lift_over L1 (values Σ ok X joint_context U half β u)) K ck))
       (substitution_keeps_spine_skeletons (constant_skeletons Σ) (context_skeletons (onto D X)) (context_skeletons (onto L2 X)) (lift_over D g) S (kind_skeleton 0 K) (base 0) (lifted Σ D X X g fg) ss)
       (λ β u. ap (λ f. substitute_spine reduce f R) (lift_instance D g (values Σ ok X joint_context U half β u)) ∙ spine_put Σ X X (half β u).0 g (values Σ ok X joint_context U half β u) zero fg (filled_fits Σ X (half β u).0 β (half β u).1) (agrees β u) D S (kind_skeleton 0 K) (base 0) ss ∙ ap (λ f. substitute_spine reduce f S1) (sym (lift_renumber (shift_by zero) D (values Σ ok X joint_context U half β u))))

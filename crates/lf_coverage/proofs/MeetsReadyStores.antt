@@ -79,8 +79,8 @@ module _ (Σ : Signature) (ok : IsSignature Σ) (V : List LfType) (cv : IsContex
   pub placed_behind : IsTypedRenaming V X (shift_by (quantifiers p.clause.type))
   placed_behind = subst (λ L. IsTypedRenaming V L (shift_by (quantifiers p.clause.type))) (sym placed_context_is) (subst (λ m. IsTypedRenaming V (onto (instance Q φ) V) (shift_by m)) (length_instance Q φ ∙ binders_count p.clause.type) (far_renames (instance Q φ) V))
 
--- The lemma
-module _ (Σ : Signature) (ok : IsSignature Σ) (W : List Block) (typed : AreTypedBlocks Σ W) (J : NumberedCase) (tj : IsPlainlyTyped Σ W J) (p : Pattern) (tp : IsTypedPattern Σ p) (φ : ℕ → Image) (φ_typed : IsTypedSubstitution Σ p.clause.outer J.variables φ) (K : Kind) (of_family : Σ.kinds (target p.type) ≡ Some K) (beside : IsTypedAtPlace Σ J p φ K) (π : ℕ → ℕ) (same : (k : ℕ) (b c : BlockVariable) → block_at J.blocks k ≡ Some b → block_at J.blocks (π k) ≡ Some c → c.block ≡ b.block) where
+-- The context, and the block variables with their terms in it
+module _ (Σ : Signature) (ok : IsSignature Σ) (W : List Block) (typed : AreTypedBlocks Σ W) (J : NumberedCase) (tj : IsPlainlyTyped Σ W J) (p : Pattern) (tp : IsTypedPattern Σ p) (φ : ℕ → Image) (φ_typed : IsTypedSubstitution Σ p.clause.outer J.variables φ) (π : ℕ → ℕ) (same : (k : ℕ) (b c : BlockVariable) → block_at J.blocks k ≡ Some b → block_at J.blocks (π k) ≡ Some c → c.block ≡ b.block) where
   abbrev Y : List LfType
   Y = binders J.variables (substitute_type reduce φ p.clause.type)
 
@@ -93,13 +93,13 @@ module _ (Σ : Signature) (ok : IsSignature Σ) (W : List Block) (typed : AreTyp
   abbrev ids : List Equation
   ids = identity_equations π bs zero bs
 
-  joint : IsContext Σ Y
+  pub joint : IsContext Σ Y
   joint = placed_context Σ ok J.variables tj.variables p tp φ φ_typed
 
   behind : IsTypedRenaming J.variables Y (shift_by n)
   behind = placed_behind Σ ok J.variables tj.variables p tp φ φ_typed
 
-  blocks_typed : (k : ℕ) (d : BlockVariable) → block_at bs k ≡ Some d → IsContext Σ d.block.some × AreSomeTerms Σ Y d.block.some d.terms
+  pub blocks_typed : (k : ℕ) (d : BlockVariable) → block_at bs k ≡ Some d → IsContext Σ d.block.some × AreSomeTerms Σ Y d.block.some d.terms
   blocks_typed k d e =
       let (b, at, q) = renamed_from (shift_by n) J.blocks k d e in
       let (m, (υ, s, t)) = tj.blocks k b at in
@@ -108,18 +108,20 @@ module _ (Σ : Signature) (ok : IsSignature Σ) (W : List Block) (typed : AreTyp
         ((λ i. rename_image (shift_by n) (υ i)), renamed_substitution Σ ok b.block.some J.variables Y υ (shift_by n) behind s, ap (rename_spine (shift_by n)) t ∙ rename_some (shift_by n) b.block.some υ),
       )
 
-  blocks_same : (k : ℕ) (b c : BlockVariable) → block_at bs k ≡ Some b → block_at bs (π k) ≡ Some c → c.block ≡ b.block
+  pub blocks_same : (k : ℕ) (b c : BlockVariable) → block_at bs k ≡ Some b → block_at bs (π k) ≡ Some c → c.block ≡ b.block
   blocks_same k b c e f =
       let (b', at, q) = renamed_from (shift_by n) J.blocks k b e in
       let (c', bt, r) = renamed_from (shift_by n) J.blocks (π k) c f in
       ap (λ (d : BlockVariable). d.block) r ∙ same k b' c' at bt ∙ sym (ap (λ (d : BlockVariable). d.block) q)
 
-  pub store_ready : IsWellFormed Σ (meet_store_by_number π J p φ K)
-  store_ready = placed_ready Σ ok Y joint ids (renumber (shift_by n) J.local) (rename_all (shift_by n) J.given) (rename_all (lift_renaming_by (length J.local) (shift_by n)) J.arguments) (placed_type p φ) (placed_typed Σ ok J.variables tj.variables p tp φ φ_typed) K (ap Σ.kinds (target_of reduce (lift_over (binders [] p.clause.type) φ) p.type) ∙ of_family) beside
-      (identities_typed Σ ok Y joint (IsFilling Σ [] (meet_store_by_number π J p φ K)) (λ β u. (u.0, u.1)) π bs blocks_typed blocks_same bs zero (λ i. ap (block_at bs) (none i)) (λ β u. solves_first (skeletons_of (context_metavariables Y)) β ids _ u.2.1))
-    where
-      none : (i : ℕ) → i ≡ i + zero
-      none i = omega arith
+  -- The lemma
+  module _ (K : Kind) (of_family : Σ.kinds (target p.type) ≡ Some K) (beside : IsTypedAtPlace Σ J p φ K) where
+    pub store_ready : IsWellFormed Σ (meet_store_by_number π J p φ K)
+    store_ready = placed_ready Σ ok Y joint ids (renumber (shift_by n) J.local) (rename_all (shift_by n) J.given) (rename_all (lift_renaming_by (length J.local) (shift_by n)) J.arguments) (placed_type p φ) (placed_typed Σ ok J.variables tj.variables p tp φ φ_typed) K (ap Σ.kinds (target_of reduce (lift_over (binders [] p.clause.type) φ) p.type) ∙ of_family) beside
+        (identities_typed Σ ok Y joint (IsFilling Σ [] (meet_store_by_number π J p φ K)) (λ β u. (u.0, u.1)) π bs blocks_typed blocks_same bs zero (λ i. ap (block_at bs) (none i)) (λ β u. solves_first (skeletons_of (context_metavariables Y)) β ids _ u.2.1))
+      where
+        none : (i : ℕ) → i ≡ i + zero
+        none i = omega arith
 
 pub placed_store_is_ready : PlacedStoreIsReady
-placed_store_is_ready Σ ok W typed J tj p tp φ t K e b π s = store_ready Σ ok W typed J tj p tp φ t K e b π s
+placed_store_is_ready Σ ok W typed J tj p tp φ t K e b π s = store_ready Σ ok W typed J tj p tp φ t π s K e b

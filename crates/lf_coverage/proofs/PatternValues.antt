@@ -68,7 +68,7 @@ outside : (Γ Δ : List Skeleton) → RenamingBySkeletons Δ (Γ ++ Δ) (over (l
 outside [] Δ i t h = h
 outside (a ∷ Γ) Δ i t h = outside Γ Δ i t h
 
-inside : (Γ Δ : List Skeleton) (i : ℕ) (t : Skeleton) → SkeletonAt Γ i t → SkeletonAt (Γ ++ Δ) i t
+pub inside : (Γ Δ : List Skeleton) (i : ℕ) (t : Skeleton) → SkeletonAt Γ i t → SkeletonAt (Γ ++ Δ) i t
 inside [] Δ i t h = absurd h
 inside (a ∷ Γ) Δ zero t h = h
 inside (a ∷ Γ) Δ (suc i) t h = inside Γ Δ i t h

@@ -40,7 +40,7 @@ use Rattle.lf_coverage.proofs.SplitReady.{cc0, context_under, first_fits, length
 use Rattle.lf_coverage.proofs.StoreSolution.{found_type, looked_up, skeleton_open}
 
 module _ (Σ : Signature) (Ψ : ℕ → Option LfType) where
-  both_have : (es fs : List Equation) → TypesHaveSkeletons Σ Ψ es → TypesHaveSkeletons Σ Ψ fs → TypesHaveSkeletons Σ Ψ (followed es fs)
+  pub both_have : (es fs : List Equation) → TypesHaveSkeletons Σ Ψ es → TypesHaveSkeletons Σ Ψ fs → TypesHaveSkeletons Σ Ψ (followed es fs)
   both_have [] fs h k = k
   both_have (e ∷ es) fs (x, h) k = (x, both_have es fs h k)
 
@@ -53,7 +53,7 @@ module _ (Σ : Signature) (Ψ : ℕ → Option LfType) where
   spine_have D l (kind_pi A K) (app M S) nil k s = tt
   spine_have D l (kind_pi A K) (app M S) (app N T) (a, k) (m, s) = ((l, a), spine_have D l (instantiate_kind A M K) S T (single_kind_by_skeletons (family_skeletons Σ) (declared_in Σ Ψ) (skeleton A) (local_skeletons D []) M K m k) (next_spine (local_skeletons D []) A M K S s))
 
-  places_have : (D : List LfType) → LocalsHaveSkeletons Σ Ψ D → (Ms : List (Option Term)) (S : Spine) (K : Kind) → KindBySkeletons (family_skeletons Σ) (declared_in Σ Ψ) (local_skeletons D []) K → SpineSkeleton (declared_in Σ Ψ) (local_skeletons D []) S (kind_skeleton 0 K) (base 0) → TypesHaveSkeletons Σ Ψ (place_equations D Ms S K)
+  pub places_have : (D : List LfType) → LocalsHaveSkeletons Σ Ψ D → (Ms : List (Option Term)) (S : Spine) (K : Kind) → KindBySkeletons (family_skeletons Σ) (declared_in Σ Ψ) (local_skeletons D []) K → SpineSkeleton (declared_in Σ Ψ) (local_skeletons D []) S (kind_skeleton 0 K) (base 0) → TypesHaveSkeletons Σ Ψ (place_equations D Ms S K)
   places_have D l [] S K k s = tt
   places_have D l (M ∷ Ms) nil K k s = tt
   places_have D l (M ∷ Ms) (app Q S) star k s = tt
@@ -84,7 +84,7 @@ module _ (Σ : Signature) (ok : IsSignature Σ) (X : List LfType) (cx : IsContex
   pub spine_has : (L : List LfType) (S : Spine) (K : Kind) → SpineFitsKind Σ (onto L X) S K → SpineSkeleton κ (local_skeletons (open_locals L) []) (open_spine (length L) S) (kind_skeleton 0 K) (base 0)
   spine_has L S K s = spine_opened_by Σ X κ (λ c. refl) declared L [] S (kind_skeleton 0 K) (base 0) (kind_spine_has_skeleton Σ 0 (onto L X) S K s)
 
-  givens_have : (k : ℕ) (Ms : List (Option Term)) → TypesHaveSkeletons Σ Ψ (given_equations X k Ms)
+  pub givens_have : (k : ℕ) (Ms : List (Option Term)) → TypesHaveSkeletons Σ Ψ (given_equations X k Ms)
   givens_have k [] = tt
   givens_have k (N ∷ Ms) = by (type_in X k) refl N (givens_have (suc k) Ms)
     where

@@ -1,6 +1,6 @@
 -- What holds of all tuples at the same places holds back: each place has one term, and each given term one value.
 use Rattle.std.proofs.Common.{◌≡◌, ℕ, List, [], ◌∷◌, refl, sym, ap, ◌∙◌}
-use Rattle.std.specs.Prelude.{Bool, true, false, Option, Some, None}
+use Rattle.std.specs.Prelude.{true, false, Option, Some, None}
 use Rattle.lf.specs.Syntax.{Term, Spine, Skeleton, app, nil}
 use Rattle.lf.specs.Substitution.{Image, put, substitute, reduce}
 use Rattle.lf_cases.specs.Case.{covered_places, HasArguments}

@@ -186,3 +186,11 @@ pub mod DeepCases
 pub mod LeftExamples
 pub mod LeftExamplesRun
 pub mod DeepExamples
+pub mod ReadyPlaces
+pub mod ReadyPlacesExamples
+pub mod EntryTypes
+pub mod EntryTypesWalk
+pub mod EntryTypesPut
+pub mod EntryTypesExamples
+pub mod Orders
+pub mod OrdersExamples

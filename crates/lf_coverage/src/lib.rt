@@ -2286,3 +2286,81 @@ pub fn deep_zero_has_deep_case()
     ensures entry { EntryIsCaseOf }
     ensures deep { DeepZeroHasDeepCase }
 {}
+
+ghost use Rattle.lf_coverage.specs.ReadyPlaces.{PlacedStoreHasSkeletons, NeededPlacesAreReadyToSolve, NeededOffersAreReadyToSolve};
+
+/// At each place of a pattern beside a case, where these have what `instance_of` by number needs, the store has all
+/// that solving asks: the signature with the entries is one, the store is well formed over it, and skeletons type what
+/// its equations stand in. So has that of each head that `split` looks at.
+pub fn needed_places_are_ready_to_solve()
+    ensures placed { PlacedStoreHasSkeletons }
+    ensures needed { NeededPlacesAreReadyToSolve }
+    ensures offers { NeededOffersAreReadyToSolve }
+{}
+
+ghost use Rattle.lf_coverage.specs.ReadyPlacesExamples.{CopyPlacesAreReadyToSolve, OnePlaceHasItsTerms, LooseIsNotReadyToSolve};
+
+/// So it has for u : cp x x beside cp b.x c.x, at each of its five places; and for f N Y beside f Y c.y, for b on X and
+/// c on Y, also where c is b, so that Y = X. The store of f _ D, where D : t a, and f N Y has not: skeletons type what
+/// D = Y : t N stands in, but D isn't of the type t N.
+pub fn places_are_ready_to_solve()
+    ensures copies { CopyPlacesAreReadyToSolve }
+    ensures terms { OnePlaceHasItsTerms }
+    ensures loose { LooseIsNotReadyToSolve }
+{}
+
+ghost use Rattle.lf_coverage.specs.EntryTypes.{FurtherIsWithEntries, NewTypesComeLast};
+ghost use Rattle.lf_coverage.specs.EntryTypesExamples.{TurnedHasTypes, PairsHaveTypes};
+
+/// A signature with the types of the entries' constants behind it, as a list that begins at the first free number, is
+/// the one with a constant for each entry of each block variable; a new block variable's come last. For b of some
+/// {n:exp} block {y:t n} and c of {x:exp} {u:{Y:t x} f x Y} they are {n:exp} t n, exp and {Y:t c.x} f c.x Y.
+pub fn further_is_with_entries()
+    ensures entries { FurtherIsWithEntries }
+    ensures new { NewTypesComeLast }
+    ensures turned { TurnedHasTypes }
+    ensures pairs { PairsHaveTypes }
+{}
+
+ghost use Rattle.lf_coverage.specs.Orders.{OwnOrderIsOne, AnyOrderServes, SolvedInAnyOrder, FollowingIsOrder};
+ghost use Rattle.lf_coverage.specs.OrdersExamples.{FourHaveTwoOrders};
+
+/// A well formed store is well formed with each order of its metavariables in which declared types and values mention
+/// only what stands behind; so what solving leaves may be read off in any. In such an order of N : nat, D : t N, B : t
+/// N -> nat, which is bound to [x] z, and M : v (B D), M stands before D.
+pub fn any_order_serves()
+    ensures own { OwnOrderIsOne }
+    ensures any { AnyOrderServes }
+    ensures solved { SolvedInAnyOrder }
+    ensures following { FollowingIsOrder }
+    ensures four { FourHaveTwoOrders }
+{}
+
+ghost use Rattle.lf_coverage.specs.EntryTypesWalk.{WalkIsSubstitution, NumberedIsWalked, ReadDropsFirst};
+ghost use Rattle.lf_coverage.specs.EntryTypesExamples.{EntryIsWalked, ItemsAreWalked};
+
+/// The numbered form of a typed case is the one that a walk makes: it puts in place of each entry variable and its
+/// arguments the entry's constant on its block variable's terms and these arguments. x (s y) becomes 5 z (s y), where
+/// x becomes 5 on z.
+pub fn numbered_is_walked()
+    ensures walk { WalkIsSubstitution }
+    ensures numbered { NumberedIsWalked }
+    ensures read { ReadDropsFirst }
+    ensures entry { EntryIsWalked }
+    ensures items { ItemsAreWalked }
+{}
+
+ghost use Rattle.lf_coverage.specs.EntryTypesPut.{OneByOneIsAtOnce, SubstitutionIsPut, GivenIsPut, EntryTypeIsPut, PlacedTypeIsPut};
+ghost use Rattle.lf_coverage.specs.EntryTypesExamples.{TermsArePut};
+
+/// Terms that are put in one after the other, the newest variable first, are put in at once; so is what stands for all
+/// variables of a type, and so the type of an entry's constant is made, and an entry's clause at a block variable. y
+/// and s z make d 0 1 the type d y (s z).
+pub fn one_by_one_is_at_once()
+    ensures at_once { OneByOneIsAtOnce }
+    ensures all { SubstitutionIsPut }
+    ensures given { GivenIsPut }
+    ensures entries { EntryTypeIsPut }
+    ensures placed { PlacedTypeIsPut }
+    ensures worked { TermsArePut }
+{}
