@@ -43,7 +43,7 @@ use Rattle.lf_cases.proofs.Assemble.{AllTyped, AllTyped-has_skeleton, end_typed,
 use Rattle.lf_cases.proofs.Calls.{instance_cons, typed_cons}
 use Rattle.lf_cases.proofs.GroundTypes.{clause_typed}
 use Rattle.lf_cases.proofs.Raised.{rename_identity}
-use Rattle.lf_coverage.specs.EntryConstants.{or_else}
+use Rattle.lf_coverage.specs.OrElse.{or_else}
 use Rattle.lf_coverage.specs.Matching.{ArePlaces, HoldsTypes, as_image, found_at, found_term, found_values}
 use Rattle.lf_coverage.specs.MatchingLaws.{HeadMatchIsTyped}
 use Rattle.lf_coverage.proofs.FoundSkeletons.{found_at_skeleton, none_under}

@@ -38,7 +38,7 @@ use Rattle.lf_cases.proofs.BlockEntries.{onto_onto}
 use Rattle.lf_totality.proofs.OutputCases.{in_context, in_covers, in_type}
 use Rattle.lf_coverage.specs.Heads.{HaveSkeletons}
 use Rattle.lf_coverage.specs.Leaf.{IsTypedPattern}
-use Rattle.lf_coverage.specs.EntryConstants.{or_else}
+use Rattle.lf_coverage.specs.OrElse.{or_else}
 use Rattle.lf_coverage.specs.Matching.{ArePlaces, HoldsTypes, Matches, MatchesByTerms, found, found_at, found_goal, found_term, found_values, other_places}
 use Rattle.lf_coverage.specs.MatchingLaws.{GoalMatchingDecides}
 use Rattle.lf_coverage.specs.MeetStore.{IsConstants}

@@ -19,7 +19,7 @@ use Rattle.lf_cases.specs.Pattern.{of_constant, head_pattern}
 use Rattle.lf_cases.specs.Split.{HasNoBlockVariable}
 use Rattle.lf_coverage.specs.FullMatching.{InputsMatch, PlacesHavePatterns, PlacesMatch}
 use Rattle.lf_coverage.proofs.FullPlaces.{full_places_match}
-use Rattle.lf_coverage.proofs.OwnVariables.{once_in_head, full_in_head}
+use Rattle.lf_coverage.proofs.HeadVariables.{once_in_head, full_in_head}
 use Rattle.lf_coverage.proofs.Parts.{some_same}
 
 -- a set under one more binder

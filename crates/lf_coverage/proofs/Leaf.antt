@@ -31,7 +31,7 @@ use Rattle.lf_totality.proofs.OutputCases.{in_covers}
 use Rattle.lf_coverage.specs.Heads.{HaveSkeletons}
 use Rattle.lf_coverage.proofs.Carried.{carry, carry_same, beside_nothing, carried, long_term_same}
 use Rattle.lf_coverage.proofs.Composing.{composed}
-use Rattle.lf_coverage.proofs.EntryPatternsCarried.{whole_values, own_value, outer_value, whole_typed, whole_terms, whole_same}
+use Rattle.lf_coverage.proofs.ClauseValues.{whole_values, own_value, outer_value, whole_typed, whole_terms, whole_same}
 use Rattle.lf_coverage.proofs.Forms.{lambdas_substituted}
 use Rattle.lf_coverage.proofs.GroundTyped.{long_equal}
 use Rattle.lf_coverage.proofs.Parts.{lambda_same}

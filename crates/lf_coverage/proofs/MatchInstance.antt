@@ -30,7 +30,7 @@ use Rattle.lf_coverage.proofs.Leaf.{leaves_deep, leaves_terms}
 use Rattle.lf_coverage.proofs.Leaves.{given_skeleton, given_is}
 use Rattle.lf_coverage.proofs.Matched.{given_found, instance_matches, own_type}
 use Rattle.lf_coverage.proofs.Matching.{is_own}
-use Rattle.lf_coverage.proofs.OwnInstance.{items_stay}
+use Rattle.lf_coverage.proofs.InstanceOfItself.{items_stay}
 use Rattle.lf_coverage.proofs.SolvedMeets.{nothing_outside}
 use Rattle.lf_coverage.proofs.Transfer.{instance_fits}
 use native.Mathlib.Decide.{ℕ_discrete}

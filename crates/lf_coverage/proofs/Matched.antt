@@ -24,7 +24,7 @@ use Rattle.lf_cases.specs.Reached.{LeavesAll}
 use Rattle.lf_cases.proofs.StrictUsed.{goal_used}
 use Rattle.lf_totality.proofs.OutputCases.{in_context, in_covers, in_type}
 use Rattle.lf_coverage.specs.Leaf.{IsTypedPattern}
-use Rattle.lf_coverage.specs.EntryConstants.{or_else}
+use Rattle.lf_coverage.specs.OrElse.{or_else}
 use Rattle.lf_coverage.specs.Matching.{ArePlaces, HoldsTypes, Matches, found_goal, found_term, found_values}
 use Rattle.lf_coverage.specs.MatchingLaws.{InstanceMatches}
 use Rattle.lf_coverage.specs.MeetStore.{IsConstants}

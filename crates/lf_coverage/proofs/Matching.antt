@@ -34,7 +34,7 @@ use Rattle.lf_totality.proofs.Core.{outer_at}
 use Rattle.lf_totality.proofs.Theorem.{outside_from}
 use Rattle.lf_coverage.specs.Heads.{HaveSkeletons, IsTypedCase}
 use Rattle.lf_coverage.specs.Leaf.{IsTypedPattern}
-use Rattle.lf_coverage.specs.EntryConstants.{or_else}
+use Rattle.lf_coverage.specs.OrElse.{or_else}
 use Rattle.lf_coverage.specs.Matching.{ArePlaces, as_image, found_goal, found_term, found_values}
 use Rattle.lf_coverage.specs.MatchingLaws.{InstanceIsFound, ValuesAreDetermined}
 use Rattle.lf_coverage.specs.MeetStore.{IsConstants}

@@ -32,7 +32,7 @@ use Rattle.lf_totality.proofs.OutputCases.{in_context, in_covers, in_type}
 use Rattle.lf_coverage.specs.FullMatching.{PlacesHavePatterns, PlacesMatch}
 use Rattle.lf_coverage.specs.Heads.{HaveSkeletons}
 use Rattle.lf_coverage.specs.Leaf.{IsTypedPattern}
-use Rattle.lf_coverage.specs.EntryConstants.{or_else}
+use Rattle.lf_coverage.specs.OrElse.{or_else}
 use Rattle.lf_coverage.specs.Matching.{ArePlaces, MatchesByTerms, found_goal, found_term, found_values}
 use Rattle.lf_coverage.specs.Stuck.{IsStrategyCase, NoCandidateMatches, NoCandidateIsInstance}
 use Rattle.lf_coverage.specs.Subordinate.{AllQuantifiersAreBelow}
@@ -45,7 +45,7 @@ use Rattle.lf_coverage.proofs.Leaves.{head_is_typed}
 use Rattle.lf_coverage.proofs.Matched.{goal_part, goal_third, own_type}
 use Rattle.lf_coverage.proofs.Matching.{found_is, goal_agrees, ground_is_strict, is_own, none_fixed}
 use Rattle.lf_coverage.proofs.MeetReady.{given_near}
-use Rattle.lf_coverage.proofs.OwnVariables.{once_in_head}
+use Rattle.lf_coverage.proofs.HeadVariables.{once_in_head}
 use Rattle.lf_coverage.proofs.ReadOff.{goal_read}
 use Rattle.lf_coverage.proofs.RunTyped.{empty_world_has_no_block}
 use Rattle.lf_coverage.proofs.StoreSolution.{long_at_is}

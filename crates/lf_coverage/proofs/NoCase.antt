@@ -41,7 +41,7 @@ use Rattle.lf_coverage.proofs.SolvedCase.{never_gives_none, heads_without, all_f
 use Rattle.lf_coverage.proofs.SomeHead.{head_same, onto_nothing, same_type, taken_is, same_local, same_length}
 use Rattle.lf_coverage.proofs.SplitInstance.{behind_all}
 use Rattle.lf_coverage.proofs.SplitReady.{split_items_typed}
-use Rattle.lf_coverage.proofs.WritingRoots.{lambdas_same}
+use Rattle.lf_coverage.proofs.RootValues.{lambdas_same}
 use mathlib.Core.Path.{fun_ext}
 
 -- Values that make a variable a head make their types the same.

@@ -49,7 +49,7 @@ use Rattle.lf_coverage.proofs.ResultType.{next_count}
 use Rattle.lf_coverage.proofs.SomeHead.{free_value}
 use Rattle.lf_coverage.proofs.StoreSolution.{looked_up, skeleton_open, filling, filling_is, types_in, value_back, context, makes_solution}
 use Rattle.lf_coverage.proofs.Strip.{strip, out_of, into, term_back}
-use Rattle.lf_coverage.proofs.WritingRoots.{front_is as in_front_is, ground_of}
+use Rattle.lf_coverage.proofs.RootValues.{front_is as in_front_is, ground_of}
 use mathlib.Core.Path.{fun_ext}
 
 -- Items that are free variables.

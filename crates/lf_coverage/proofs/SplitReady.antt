@@ -15,8 +15,8 @@ use Rattle.lf_totality.proofs.RaisedOutputs.{binders_over}
 use Rattle.lf_coverage.specs.SplitStore.{split_store}
 use Rattle.lf_coverage.proofs.Forms.{far_type, no_shift_type}
 use Rattle.lf_coverage.proofs.HeadTerm.{head_target, taken_length}
-use Rattle.lf_coverage.proofs.OwnStoresApplied.{AppliesTo, applied_items, applied_context, applied_place}
-use Rattle.lf_coverage.proofs.OwnStoresReady.{applied_ready, applied_type, applied_under, applied_fits, applied_length}
+use Rattle.lf_coverage.proofs.AppliedHead.{AppliesTo, applied_items, applied_context, applied_place}
+use Rattle.lf_coverage.proofs.AppliedReady.{applied_ready, applied_type, applied_under, applied_fits, applied_length}
 use Rattle.lf_coverage.proofs.SolvedCase.{head_typed}
 
 module _ (Σ : Signature) (ok : IsSignature Σ) (W : List Block) (typed : AreTypedBlocks Σ W) (below : ℕ → ℕ → Bool) (I : List Item) (ti : AreTypedItems Σ W I) (x : ℕ) (X : LfType) (at : TypeAt (items_context I) x X) (J : List Item) (n : ℕ) (h : Head) (A : LfType) (sh : SplitHead Σ W I X J n h A) where

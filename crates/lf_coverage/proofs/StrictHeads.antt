@@ -19,7 +19,7 @@ use Rattle.lf_coverage.proofs.Choices.{decided, either_first, either_second}
 use Rattle.lf_coverage.proofs.UnderBound.{hidden_over, pattern_here, patterns_inside}
 use Rattle.lf_coverage.proofs.Occurring.{uses_occurring, sum_first, sum_second}
 use Rattle.lf_coverage.proofs.InputsMatching.{target_fits}
-use Rattle.lf_coverage.proofs.OwnVariables.{own_in_head, nothing_more, no_sum}
+use Rattle.lf_coverage.proofs.HeadVariables.{own_in_head, nothing_more, no_sum}
 
 -- numbers that differ
 less_differs : (k z : ℕ) → suc k ≤ z → same_number z k ≡ false

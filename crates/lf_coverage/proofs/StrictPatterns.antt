@@ -20,7 +20,7 @@ use Rattle.lf_coverage.specs.TermMatching.{HasPatterns, HavePatterns, bound, hid
 use Rattle.lf_coverage.proofs.Choices.{decided, first_chosen, second_chosen}
 use Rattle.lf_coverage.proofs.InputsMatching.{none_outside, target_fits}
 use Rattle.lf_coverage.proofs.Matching.{ground_is_strict}
-use Rattle.lf_coverage.proofs.OwnVariables.{inside_in_head, never_occurs, no_sum, not_used, once_in_head}
+use Rattle.lf_coverage.proofs.HeadVariables.{inside_in_head, never_occurs, no_sum, not_used, once_in_head}
 use Rattle.lf_coverage.proofs.StrictHeads.{not_bound, same_turned}
 use Rattle.lf_coverage.proofs.UnderBound.{hidden_is_over, hidden_over}
 

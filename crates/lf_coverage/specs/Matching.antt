@@ -15,7 +15,7 @@ use Rattle.lf_checks.specs.Strict.{head_variable, with_seen, pattern_arguments, 
 use Rattle.lf_cases.specs.Cover.{AreTerms}
 use Rattle.lf_cases.specs.Case.{Case, items_context, covered_places}
 use Rattle.lf_cases.specs.Pattern.{Pattern, given_at, ground_in}
-use Rattle.lf_coverage.specs.EntryConstants.{or_else}
+use Rattle.lf_coverage.specs.OrElse.{or_else}
 use Rattle.lf_coverage.specs.TermMatching.{bound}
 
 -- whether each variable of a term is one of U

@@ -1,5 +1,0 @@
-use Rattle.lf_coverage.proofs.NumberedSplits.{answered_by_number_is_split}
-use Rattle.lf_coverage.proofs.answered_by_number_is_split.Goals as goal
-
-pub returns : goal.returns
-returns c = answered_by_number_is_split

@@ -1,5 +1,0 @@
-use Rattle.lf_coverage.proofs.EntryTermsConstants.{constant_matches_by_number as proved}
-use Rattle.lf_coverage.proofs.constant_matches_by_number.Goals as goal
-
-pub returns : goal.returns
-returns c = proved

@@ -1,5 +1,0 @@
-use Rattle.lf_coverage.proofs.NumberedTuplesExamples.{copies_are_apart}
-use Rattle.lf_coverage.proofs.copies_are_apart.Goals as goal
-
-pub returns : goal.returns
-returns c = copies_are_apart

@@ -1,5 +1,0 @@
-use Rattle.lf_coverage.proofs.EntryPatternsExamples.{copy_is_instance as proved}
-use Rattle.lf_coverage.proofs.copy_is_instance.Goals as goal
-
-pub returns : goal.returns
-returns c = proved

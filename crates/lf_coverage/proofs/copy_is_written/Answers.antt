@@ -1,5 +1,0 @@
-use Rattle.lf_coverage.proofs.ExamplesWriting.{copy_is_written as proved}
-use Rattle.lf_coverage.proofs.copy_is_written.Goals as goal
-
-pub returns : goal.returns
-returns c = proved

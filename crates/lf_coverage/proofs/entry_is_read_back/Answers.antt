@@ -1,5 +1,0 @@
-use Rattle.lf_coverage.proofs.OwnValuesExamplesRead.{entry_is_read_back as proved}
-use Rattle.lf_coverage.proofs.entry_is_read_back.Goals as goal
-
-pub returns : goal.returns
-returns c = proved

@@ -1,5 +1,0 @@
-use Rattle.lf_coverage.proofs.EntryPatternsTested.{found_values_make_instance as proved}
-use Rattle.lf_coverage.proofs.found_values_make_instance.Goals as goal
-
-pub returns : goal.returns
-returns c = proved

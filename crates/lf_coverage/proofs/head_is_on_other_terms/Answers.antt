@@ -1,5 +1,0 @@
-use Rattle.lf_coverage.proofs.ExamplesWriting.{head_is_on_other_terms as proved}
-use Rattle.lf_coverage.proofs.head_is_on_other_terms.Goals as goal
-
-pub returns : goal.returns
-returns c = proved

@@ -1,5 +1,0 @@
-use Rattle.lf_coverage.proofs.HeadsOverEntries.{heads_are_over_entries as proved}
-use Rattle.lf_coverage.proofs.heads_are_over_entries.Goals as goal
-
-pub returns : goal.returns
-returns c = proved

@@ -1,5 +1,0 @@
-use Rattle.lf_coverage.proofs.WorkedCallsIndex.{index_is_split_first}
-use Rattle.lf_coverage.proofs.index_is_split_first.Goals as goal
-
-pub returns : goal.returns
-returns c = index_is_split_first

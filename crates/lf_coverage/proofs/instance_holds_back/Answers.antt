@@ -1,5 +1,0 @@
-use Rattle.lf_coverage.proofs.SharedInstances.{instance_holds_back}
-use Rattle.lf_coverage.proofs.instance_holds_back.Goals as goal
-
-pub returns : goal.returns
-returns c = instance_holds_back

@@ -1,8 +1,0 @@
-use Rattle.lf_coverage.proofs.WritingInstance.{entries_extend, instance_is_written}
-use Rattle.lf_coverage.proofs.instance_is_written.Goals as goal
-
-pub returns-clause-extends : goal.returns-clause-extends
-returns-clause-extends c = entries_extend
-
-pub returns-clause-written : goal.returns-clause-written
-returns-clause-written c = instance_is_written

@@ -1,5 +1,0 @@
-use Rattle.lf_coverage.proofs.EntryPatternsSplits.{instances_make_split as proved}
-use Rattle.lf_coverage.proofs.instances_make_split.Goals as goal
-
-pub returns : goal.returns
-returns c = proved

@@ -1,5 +1,0 @@
-use Rattle.lf_coverage.proofs.EntryPatternsItems.{leaf_is_numbered_leaf as proved}
-use Rattle.lf_coverage.proofs.leaf_is_numbered_leaf.Goals as goal
-
-pub returns : goal.returns
-returns c = proved

@@ -1,5 +1,0 @@
-use Rattle.lf_coverage.proofs.StaysApart.{new_instance_stays_apart as proved}
-use Rattle.lf_coverage.proofs.new_instance_stays_apart.Goals as goal
-
-pub returns : goal.returns
-returns c = proved

@@ -1,5 +1,0 @@
-use Rattle.lf_coverage.proofs.TypedNumbered.{numbered_case_is_typed as proved}
-use Rattle.lf_coverage.proofs.numbered_case_is_typed.Goals as goal
-
-pub returns : goal.returns
-returns c = proved

@@ -1,5 +1,0 @@
-use Rattle.lf_coverage.proofs.EntryPatternsDecided.{numbered_head_matching_decides as proved}
-use Rattle.lf_coverage.proofs.numbered_head_matching_decides.Goals as goal
-
-pub returns : goal.returns
-returns c = proved

@@ -1,5 +1,0 @@
-use Rattle.lf_coverage.proofs.EntryTermsComplete.{numbered_instance_matches_any as proved}
-use Rattle.lf_coverage.proofs.numbered_instance_matches_any.Goals as goal
-
-pub returns : goal.returns
-returns c = proved

@@ -1,5 +1,0 @@
-use Rattle.lf_coverage.proofs.NumberedTyped.{numbered_is_typed as proved}
-use Rattle.lf_coverage.proofs.numbered_is_typed.Goals as goal
-
-pub returns : goal.returns
-returns c = proved

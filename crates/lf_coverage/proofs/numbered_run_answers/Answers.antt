@@ -1,5 +1,0 @@
-use Rattle.lf_coverage.proofs.EntryPatternsOutputs.{numbered_run_answers as proved}
-use Rattle.lf_coverage.proofs.numbered_run_answers.Goals as goal
-
-pub returns : goal.returns
-returns c = proved

@@ -1,5 +1,0 @@
-use Rattle.lf_coverage.proofs.EntryPatternsForms.{numbered_run_covers as proved}
-use Rattle.lf_coverage.proofs.numbered_run_covers.Goals as goal
-
-pub returns : goal.returns
-returns c = proved

@@ -1,5 +1,0 @@
-use Rattle.lf_coverage.proofs.ReadInstance.{reading_keeps_typing as proved}
-use Rattle.lf_coverage.proofs.reading_keeps_typing.Goals as goal
-
-pub returns : goal.returns
-returns c = proved

@@ -1,5 +1,0 @@
-use Rattle.lf_coverage.proofs.WritingLeft.{room_is_left as proved}
-use Rattle.lf_coverage.proofs.room_is_left.Goals as goal
-
-pub returns : goal.returns
-returns c = proved

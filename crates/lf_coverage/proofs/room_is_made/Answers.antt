@@ -1,5 +1,0 @@
-use Rattle.lf_coverage.proofs.WritingRoom.{room_is_made as proved}
-use Rattle.lf_coverage.proofs.room_is_made.Goals as goal
-
-pub returns : goal.returns
-returns c = proved

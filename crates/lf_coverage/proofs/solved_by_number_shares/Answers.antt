@@ -1,5 +1,0 @@
-use Rattle.lf_coverage.proofs.MeetsAnswersShares.{solved_by_number_shares}
-use Rattle.lf_coverage.proofs.solved_by_number_shares.Goals as goal
-
-pub returns : goal.returns
-returns c = solved_by_number_shares

@@ -1,5 +1,0 @@
-use Rattle.lf_coverage.proofs.EntryPatternsForms.{split_is_numbered_split as proved}
-use Rattle.lf_coverage.proofs.split_is_numbered_split.Goals as goal
-
-pub returns : goal.returns
-returns c = proved

@@ -1,5 +1,0 @@
-use Rattle.lf_coverage.proofs.WorkedCallsLocals.{lost_under_locals}
-use Rattle.lf_coverage.proofs.term_is_lost_under_locals.Goals as goal
-
-pub returns : goal.returns
-returns c = lost_under_locals

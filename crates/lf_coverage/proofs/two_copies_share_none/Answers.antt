@@ -1,5 +1,0 @@
-use Rattle.lf_coverage.proofs.MeetsInstanceExamples.{two_copies_share_none}
-use Rattle.lf_coverage.proofs.two_copies_share_none.Goals as goal
-
-pub returns : goal.returns
-returns c = two_copies_share_none

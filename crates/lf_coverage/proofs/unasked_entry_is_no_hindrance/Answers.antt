@@ -1,5 +1,0 @@
-use Rattle.lf_coverage.proofs.WorkedCallsRun.{unasked_entry_is_no_hindrance}
-use Rattle.lf_coverage.proofs.unasked_entry_is_no_hindrance.Goals as goal
-
-pub returns : goal.returns
-returns c = unasked_entry_is_no_hindrance

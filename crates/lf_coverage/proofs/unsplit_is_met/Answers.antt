@@ -1,5 +1,0 @@
-use Rattle.lf_coverage.proofs.SharedTuples.{unsplit_is_met}
-use Rattle.lf_coverage.proofs.unsplit_is_met.Goals as goal
-
-pub returns : goal.returns
-returns c = unsplit_is_met

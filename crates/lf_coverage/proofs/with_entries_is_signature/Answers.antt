@@ -1,5 +1,0 @@
-use Rattle.lf_coverage.proofs.EntrySignature.{with_entries_is_signature as proved}
-use Rattle.lf_coverage.proofs.with_entries_is_signature.Goals as goal
-
-pub returns : goal.returns
-returns c = proved

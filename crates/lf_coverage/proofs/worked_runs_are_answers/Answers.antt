@@ -1,5 +1,0 @@
-use Rattle.lf_coverage.proofs.WorkedCallsAnswers.{worked_runs_are_answers}
-use Rattle.lf_coverage.proofs.worked_runs_are_answers.Goals as goal
-
-pub returns : goal.returns
-returns c = worked_runs_are_answers

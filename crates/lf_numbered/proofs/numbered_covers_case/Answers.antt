@@ -1,0 +1,5 @@
+use Rattle.lf_numbered.proofs.EntryPatternsForms.{numbered_covers_case as proved}
+use Rattle.lf_numbered.proofs.numbered_covers_case.Goals as goal
+
+pub returns : goal.returns
+returns c = proved

@@ -1,0 +1,9 @@
+use Rattle.lf_numbered.proofs.EntryTermsGoals.{goal_match_is_numbered_instance}
+use Rattle.lf_numbered.proofs.EntryTermsDecided.{numbered_goal_is_decided}
+use Rattle.lf_numbered.proofs.numbered_goal_is_decided.Goals as goal
+
+pub returns-clause-instance : goal.returns-clause-instance
+returns-clause-instance c = goal_match_is_numbered_instance
+
+pub returns-clause-decided : goal.returns-clause-decided
+returns-clause-decided c = numbered_goal_is_decided
