@@ -5,3 +5,4 @@ pub mod Standing
 pub mod KindMoves
 pub mod NewTerms
 pub mod Arguments
+pub mod PlainKinds

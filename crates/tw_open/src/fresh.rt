@@ -20,9 +20,24 @@ pub fn new_term(
     ensures keeps { OnlyDeclares store.old store.new }
 {
     let copied = ty.copy(alloc)?;
-    let closed = closed_over(alloc, locals, copied)?;
+    new_term_of(alloc, store, locals, copied)
+}
+
+/// The same of a type that moves into the store.
+pub fn new_term_of(
+    alloc: Global,
+    store: &mut Store,
+    locals: &OpenContext,
+    ty: OpenTy,
+) -> Result<(MetaId, Open), AllocError>
+    ensures ok { IfOk result (λ p. IsNew locals.now (open_type_of ty) (open_term_of p.1) store.old.now store.new.now) }
+    ensures number { IfOk result (λ p. p.0.0 ≡ length store.old.now.declared) }
+    ensures keeps { OnlyDeclares store.old store.new }
+{
+    let next = MetaId(store.declared_count() as u64);
     let spine = local_arguments(alloc, locals)?;
+    let term = expanded(alloc, OpenHead::Meta(next), spine, &ty)?;
+    let closed = closed_over(alloc, locals, ty)?;
     let meta = store.fresh(OpenContext::new(alloc), closed)?;
-    let term = expanded(alloc, OpenHead::Meta(meta), spine, ty)?;
     Ok((meta, term))
 }

@@ -1,5 +1,5 @@
 -- Terms with values put in as far as their head: each value in the place of a head is a step of putting values in.
-use Rattle.std.proofs.Common.{◌≡◌, ℕ, ◌<◌, List, [], ◌∷◌, drop, Option, Some, None, inl, inr, refl, sym, ap, ◌∙◌, subst}
+use Rattle.std.proofs.Common.{◌≡◌, ℕ, zero, ◌<◌, List, [], ◌∷◌, drop, Option, Some, None, inl, inr, refl, sym, ap, ◌∙◌, subst}
 use Rattle.std.specs.Option.{IfSome}
 use Rattle.lf.specs.AtOnce.{shift_by}
 use Rattle.lf.specs.Depth.{depth, depth_limit}
@@ -9,7 +9,8 @@ use Rattle.lf.specs.Skeletons.{type_skeleton}
 use Rattle.lf.specs.Subordination.{Member}
 use Rattle.lf.specs.Substitution.{reduce}
 use Rattle.lf.specs.Syntax.{LfType, Skeleton, Spine, Term, app, arrow, base, constant, metavariable, nil, rename, rename_spine, root, skeleton}
-use Rattle.lf.proofs.AtOnce.{drop_by_skeletons}
+use Rattle.lf.proofs.AtOnce.{drop_by_skeletons, shift_zero}
+use Rattle.lf.proofs.Eta.{reduce_nil}
 use Rattle.lf.proofs.Renaming.{substitute_identity_spine}
 use Rattle.lf.proofs.Rules.{rules_total_reduction}
 use Rattle.lf.proofs.SkeletonTyping.{reduction_keeps_skeletons, renaming_keeps_skeletons}
@@ -32,6 +33,11 @@ use Rattle.tw_putting.proofs.Calls.{empty_value, nothing_there}
 use Rattle.tw_putting.proofs.Filled.{declared_at, past_is_shift}
 use Rattle.tw_putting.proofs.Frames.{takes_all_in_frame}
 use Rattle.tw_putting.proofs.Walks.{member_from, moved_out, unbound_from}
+
+-- Moved over no binder and on no arguments a value is itself.
+pub value_alone : (k : ℕ) (a : Skeleton) (N : Term) (S : Spine) → k ≡ zero → S ≡ nil → N ≡ reduce a (rename (shift_by k) N) S
+value_alone k a N S none bare =
+    sym (shift_zero N) ∙ sym (reduce_nil a (rename (shift_by zero) N)) ∙ ap (λ j. reduce a (rename (shift_by j) N) nil) (sym none) ∙ ap (reduce a (rename (shift_by k) N)) (sym bare)
 
 -- The application of a value under binders.
 module _ (k : ℕ) (a : Skeleton) (N : Term) (c : Environment) (S T : Spine) (is : c ≡ outside) (same : S ≡ T) (x : AppliesUnder k a N S) where

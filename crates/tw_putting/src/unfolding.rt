@@ -97,7 +97,7 @@ fn unfold_once(
     match term {
         Open::Root(OpenHead::Meta(meta), spine) => match store.value(*meta) {
             Some(value) => match store.about(*meta) {
-                Some((_, ty)) => match apply_under(alloc, binders, value, spine, ty) {
+                Some((_, ty)) => match value_under(alloc, binders, value, spine, ty) {
                     Ok(applied) => Ok(Some(applied)),
                     Err(fault) => Err(fault),
                 },
@@ -111,7 +111,38 @@ fn unfold_once(
     }
 }
 
-/// The canonical form of `value`, of the skeleton of `ty`, moved over so many binders and applied to all the arguments that it takes. Metavariables stay.
+/// The canonical form of `value`, of the skeleton of `ty`, moved over so many binders and applied to all the arguments that it takes. Metavariables stay. Where it is moved over none and takes
+/// none, it is copied.
+fn value_under(
+    alloc: Global,
+    binders: u64,
+    value: &Open,
+    spine: &OpenSpine,
+    ty: &OpenTy,
+) -> Result<Open, HeredFault>
+    requires { AppliesUnder binders (skeleton (open_type_of ty.now)) (open_term_of value.now) (open_spine_of spine.now) }
+    ensures ok { IfOk result (λ m. open_term_of m ≡ reduce (skeleton (open_type_of ty.now)) (rename (shift_by binders) (open_term_of value.now)) (open_spine_of spine.now)) }
+    ensures too_deep { IsErrOf result HeredFault.TooDeep → depth_limit < depth (reduce (skeleton (open_type_of ty.now)) (rename (shift_by binders) (open_term_of value.now)) (open_spine_of spine.now)) }
+{
+    if binders == 0 && spine.args.is_empty() {
+        copied(alloc, value)
+    } else {
+        apply_under(alloc, binders, value, spine, ty)
+    }
+}
+
+/// A copy of the value. Answers `TooDeep` only where it is deeper than 4,096.
+fn copied(alloc: Global, value: &Open) -> Result<Open, HeredFault>
+    ensures ok { IfOk result (λ m. open_term_of m ≡ open_term_of value.now) }
+    ensures too_deep { IsErrOf result HeredFault.TooDeep → depth_limit < depth (open_term_of value.now) }
+{
+    if value.depth() as u64 > DEPTH_LIMIT {
+        return Err(HeredFault::TooDeep);
+    }
+    Ok(value.copy(alloc)?)
+}
+
+/// The same with an environment.
 fn apply_under(
     alloc: Global,
     binders: u64,

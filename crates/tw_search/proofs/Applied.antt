@@ -1,18 +1,20 @@
 -- Metavariables put in for quantifiers, seen from under binders.
-use Rattle.std.proofs.Common.{◌≡◌, ℕ, zero, suc, ◌+◌, ◌-◌, ◌<◌, ◌≤◌, ◌⊎◌, inl, inr, List, [], ◌∷◌, ◌++◌, length, map, slice_index_or, refl, sym, ap, ap₂, ◌∙◌, subst, arith}
+use Rattle.std.proofs.Common.{◌≡◌, ℕ, zero, suc, ◌+◌, ◌-◌, ◌<◌, ◌≤◌, ◌⊎◌, inl, inr, List, [], ◌∷◌, ◌++◌, length, map, slice_index_or, refl, sym, ap, ap₂, ◌∙◌, arith}
 use mathlib.Core.Path.{fun_ext}
 use Rattle.lf.specs.AtOnce.{shift_by}
 use Rattle.lf.specs.Eta.{append}
-use Rattle.lf.specs.Syntax.{Head, LfType, Spine, Term, app, constant, lambda, metavariable, nil, pi, rename_head, rename_spine, root, variable}
+use Rattle.lf.specs.Syntax.{Head, LfType, Spine, Term, app, constant, lambda, metavariable, pi, rename_head, rename_spine, root, variable, nil}
 use Rattle.lf.proofs.AtOnce.{shift_spine_zero}
 use Rattle.lf.proofs.Renaming.{renamings_compose_spine}
 use Rattle.lf_search.specs.AppliedHeads.{AppliedHead, bare, on_arguments, one_by_one, rename_applied, spine_with_applied, taken_heads, type_with_applied, under_applied, with_applied, with_newest}
 use Rattle.tw_terms.specs.OpenView.{open_args_of, open_term_of}
-use Rattle.tw_terms.specs.View.{spine_from}
+use Rattle.tw_terms.specs.View.{args_of, spine_from, term_of}
 use Rattle.tw_terms.specs.declared.canonical.MetaId.{MetaId}
+use Rattle.tw_terms.specs.declared.canonical.Term.{Term as ClosedTerm}
 use Rattle.tw_terms.specs.declared.open_terms.Open.{Open}
 use Rattle.tw_terms.proofs.Args.{types_and_skeletons}
 use Rattle.tw_terms.proofs.OpenArgs.{open_types}
+use Rattle.tw_prune.proofs.Walking.{append-nil}
 use Rattle.tw_search.specs.Applied.{IsStart, applied_inside, taken_at}
 
 abbrev made : Head → Spine → AppliedHead
@@ -126,13 +128,21 @@ applied_root p (metavariable m) g P S (e, f) = ap₂ (λ h Q. root h (append Q (
 pub applied_at_root : (p : ℕ → AppliedHead) (h g : Head) (P S U V : Spine) (T R : Term) → T ≡ root h S → IsStart p h g P → U ≡ spine_with_applied p S → V ≡ append P U → R ≡ root g V → R ≡ with_applied p T
 applied_at_root p h g P S U V T R t i u v r = r ∙ ap (root g) (v ∙ ap (append P) u) ∙ applied_root p h g P S i ∙ sym (ap (with_applied p) t)
 
+-- a head alone
+pub applied_to_nothing : (p : ℕ → AppliedHead) (h g : Head) (P S : Spine) (T R : Term) → T ≡ root h S → S ≡ nil → IsStart p h g P → R ≡ root g P → R ≡ with_applied p T
+applied_to_nothing p h g P S T R t e i r = applied_at_root p h g P S nil P T R t i (sym (ap (spine_with_applied p) e)) (sym (append-nil P)) r
+
 -- Arguments.
 pub spine_with_applied-args_of : (p : ℕ → AppliedHead) (ts : List Open) → spine_with_applied p (open_args_of ts) ≡ spine_from (map (λ t. with_applied p (open_term_of t)) ts)
 spine_with_applied-args_of p [] = refl
 spine_with_applied-args_of p (t ∷ ts) = ap (app (with_applied p (open_term_of t))) (spine_with_applied-args_of p ts)
 
+pub spine_with_applied-closed_args_of : (p : ℕ → AppliedHead) (ts : List ClosedTerm) → spine_with_applied p (args_of ts) ≡ spine_from (map (λ t. with_applied p (term_of t)) ts)
+spine_with_applied-closed_args_of p [] = refl
+spine_with_applied-closed_args_of p (t ∷ ts) = ap (app (with_applied p (term_of t))) (spine_with_applied-closed_args_of p ts)
+
 pub args_joined : (ts us : List Open) → open_args_of (ts ++ us) ≡ append (open_args_of ts) (open_args_of us)
 args_joined [] us = refl
 args_joined (t ∷ ts) us = ap (app (open_term_of t)) (args_joined ts us)
 
-pub ruleset applying = (types_and_skeletons, open_types, spine_with_applied-args_of)
+pub ruleset applying = (types_and_skeletons, open_types, spine_with_applied-args_of, spine_with_applied-closed_args_of)

@@ -2,11 +2,12 @@
 use Rattle.std.proofs.Common.{◌≡◌, ℕ, [], ◌∷◌, refl}
 use Rattle.std.specs.Prelude.{true, false}
 use Rattle.lf.specs.Syntax.{constant, lambda, metavariable, variable, Term, LfType, root, nil, app, pi, atom}
+use Rattle.lf_checks.specs.Parts.{shape}
 use Rattle.lf_search.specs.Goals.{type_with_heads}
 use Rattle.lf_search.specs.Heads.{clash_here, outer_head, variable_head}
 use Rattle.tw_search.specs.Choosing.{locals_for}
 use Rattle.tw_search.specs.Clashing.{TypeClashes, head_under}
-use Rattle.tw_search.specs.Offers.{marked, subgoal_marks}
+use Rattle.tw_search.specs.Offers.{unmarked}
 use Rattle.tw_search.specs.Roots.{head_with, heads_at}
 use Rattle.tw_search.specs.Taking.{numbers_from}
 
@@ -27,12 +28,12 @@ plus L M N = atom 3 (app L (app M (app N nil)))
 abbrev plus_s : LfType
 plus_s = pi nat (pi nat (pi nat (pi (plus (at 2) (at 1) (at 0)) (plus (s (at 3)) (at 2) (s (at 1))))))
 
--- its fourth quantifier is a subgoal
-fourth_is_subgoal : subgoal_marks plus_s ≡ false ∷ false ∷ false ∷ true ∷ []
+-- its fourth quantifier is a subgoal, as its variable doesn't occur in the rest
+fourth_is_subgoal : shape plus_s ≡ true ∷ true ∷ true ∷ false ∷ []
 fourth_is_subgoal = refl
 
 -- with 7 as the first new metavariable, its hole is 10
-hole_of_subgoal : marked (subgoal_marks plus_s) (numbers_from 7 plus_s) ≡ 10 ∷ []
+hole_of_subgoal : unmarked (shape plus_s) (numbers_from 7 plus_s) ≡ 10 ∷ []
 hole_of_subgoal = refl
 
 -- the head of [x] s x is s

@@ -6,6 +6,7 @@ use Rattle.lf.specs.Typing.{IsSignature, Signature, TypeAt}
 use Rattle.lf.specs.Variables.{onto}
 use Rattle.lf.proofs.TypeLaws.{skeleton_substituted}
 use Rattle.lf_elaboration.proofs.Skeletons.{kind_closed}
+use Rattle.lf_checks.specs.Parts.{shape}
 use Rattle.lf_unification.specs.Lists.{followed}
 use Rattle.lf_unification.specs.Offering.{AppliesToNew, applied_to_all, applied_to_next, lambda_over, raised, spine_equations}
 use Rattle.lf_unification.specs.Patterns.{skeleton_target}
@@ -23,11 +24,11 @@ use Rattle.tw_putting.proofs.Skeletons.{types_both, types_grow}
 use Rattle.tw_terms.specs.OpenView.{open_spine_of}
 use Rattle.tw_terms.specs.declared.canonical.MetaId.{MetaId}
 use Rattle.tw_search.specs.Goals.{StandsAtGoal, goal_type, node_of}
-use Rattle.tw_search.specs.Offers.{Applies, EquationsFit, HasEquations, IsOffered, marked, offered_store, subgoal_marks}
+use Rattle.tw_search.specs.Offers.{Applies, EquationsFit, HasEquations, IsOffered, offered_store, unmarked}
 use Rattle.tw_search.specs.Taking.{numbers_from}
 use Rattle.tw_open.specs.View.{made_with}
 use Rattle.tw_search.specs.declared.goal.OpenGoal.{OpenGoal}
-use Rattle.tw_search.proofs.Offering.{Keeps, goal_spine, has_kind, holes_marked, indices_fit, new_first, only_keeps, parts_typed, spine_types}
+use Rattle.tw_search.proofs.Offering.{Keeps, goal_spine, has_kind, holes_unmarked, indices_fit, new_first, only_keeps, parts_typed, spine_types}
 
 applied_target : {D : List LfType} {Ψ : ℕ → Option LfType} {n : ℕ} {A : LfType} {Ψ' : ℕ → Option LfType} {n' : ℕ} {S : Spine} {a : ℕ} {T : Spine} → AppliesToNew D Ψ n A Ψ' n' S a T → skeleton_target (skeleton A) ≡ a
 applied_target applied_to_all = refl
@@ -52,7 +53,7 @@ module _ (Σ : Signature) (ok : IsSignature Σ) (g : OpenGoal) (h : Head) where
   pub equations_fit : (s : State) → StandsAtGoal Σ s g → EquationsFit Σ g
   equations_fit s w = record { has_kind = has_kind Σ ok s g w; fits = indices_fit Σ ok s g w }
 
-  module _ (old new : Story) (w : StandsAtGoal Σ old.now g) (A : LfType) (typed : OfferedHeadHasType Σ g.locals h A) (target : skeleton_target (skeleton A) ≡ g.family.0) (S : Spine) (a : ℕ) (T : Spine) (p : Applies g h A old new S a T) (es : List Equation) (q : HasEquations Σ g T es) (subgoals : List MetaId) (is : map (λ (m : MetaId). m.0) subgoals ≡ marked (subgoal_marks A) (numbers_from (length old.now.declared) A)) where
+  module _ (old new : Story) (w : StandsAtGoal Σ old.now g) (A : LfType) (typed : OfferedHeadHasType Σ g.locals h A) (target : skeleton_target (skeleton A) ≡ g.family.0) (S : Spine) (a : ℕ) (T : Spine) (p : Applies g h A old new S a T) (es : List Equation) (q : HasEquations Σ g T es) (subgoals : List MetaId) (is : map (λ (m : MetaId). m.0) subgoals ≡ unmarked (shape A) (numbers_from (length old.now.declared) A)) where
     keeps : Keeps old.now p.middle.now
     keeps = only_keeps p.declares
 
@@ -105,7 +106,7 @@ module _ (Σ : Signature) (ok : IsSignature Σ) (g : OpenGoal) (h : Head) where
     is_offered = subst (IsOffered Σ old.now g h es subgoals) (sym (ap (λ (x : Story). x.now) p.binds)) (record {
       head_type = A;
       offer = the_offer;
-      subgoals_are = ap reverse is ∙ holes_marked (length old.now.declared) A;
+      subgoals_are = ap reverse is ∙ holes_unmarked (length old.now.declared) A;
       postponed = keeps.equations;
       well_formed = form;
       ready = is_ready;

@@ -1,6 +1,5 @@
 -- What an offer keeps of a ready store, and what it asks of the calls that it makes.
 use Rattle.std.proofs.Common.{◌≡◌, ℕ, zero, suc, ◌+◌, ◌<◌, List, [], ◌∷◌, ◌++◌, drop, length, Bool, true, false, nat_eq, Option, Some, None, map, reverse, refl, sym, ap, ap₂, ◌∙◌, subst, arith}
-use Rattle.std.specs.Prelude.{not}
 use Rattle.std.proofs.lemmas.List.{reverse-append}
 use Rattle.std.specs.List.{slice_get}
 use Rattle.std.specs.Option.{option_map}
@@ -18,6 +17,7 @@ use Rattle.lf.proofs.SkeletonTypes.{single_kind_by_skeletons}
 use Rattle.lf.proofs.ToSkeletons.{kind_skeleton_substituted}
 use Rattle.lf_elaboration.specs.Skeletons.{IsNumbered, LocalHasSkeletons, TypeHasSkeletons, heads_of}
 use Rattle.lf_elaboration.proofs.Skeletons.{constant_type, kind_closed, local_type}
+use Rattle.lf_checks.specs.Parts.{shape}
 use Rattle.lf_unification.specs.Lists.{followed}
 use Rattle.lf_unification.specs.Offering.{lambda_over, pi_over, spine_equations}
 use Rattle.lf_unification.specs.PartialInstance.{IsFilling}
@@ -37,7 +37,7 @@ use Rattle.lf_unification.specs.ReachedRuns.{ReachedRun}
 use Rattle.tw_unify.proofs.Orders.{followed_nothing, places_change}
 use Rattle.tw_search.specs.Goals.{StandsAtGoal, goal_type}
 use Rattle.tw_open.specs.Indices.{IndicesFit}
-use Rattle.tw_search.specs.Offers.{subgoal_marks, marked}
+use Rattle.tw_search.specs.Offers.{unmarked}
 use Rattle.tw_open.specs.Fits.{TypeStands}
 use Rattle.tw_open.specs.Fresh.{OnlyDeclares, declares_nothing, declares_one}
 use Rattle.tw_search.specs.Taking.{numbers_from}
@@ -160,42 +160,42 @@ appended : {A : Type 0} (xs ys : List A) → xs ++ ys ≡ followed xs ys
 appended [] ys = refl
 appended (x ∷ xs) ys = ap (λ l. x ∷ l) (appended xs ys)
 
-pub holes_marked : (n : ℕ) (A : LfType) → reverse (marked (subgoal_marks A) (numbers_from n A)) ≡ holes n A
-holes_marked n (atom a S) = refl
-holes_marked n (pi A B) = at (occurs_type zero B) (holes_marked (suc n) B)
+pub holes_unmarked : (n : ℕ) (A : LfType) → reverse (unmarked (shape A) (numbers_from n A)) ≡ holes n A
+holes_unmarked n (atom a S) = refl
+holes_unmarked n (pi A B) = at (occurs_type zero B) (holes_unmarked (suc n) B)
   where
-    at : (b : Bool) → reverse (marked (subgoal_marks B) (numbers_from (suc n) B)) ≡ holes (suc n) B → reverse (marked (not b ∷ subgoal_marks B) (n ∷ numbers_from (suc n) B)) ≡ unless b n (holes (suc n) B)
+    at : (b : Bool) → reverse (unmarked (shape B) (numbers_from (suc n) B)) ≡ holes (suc n) B → reverse (unmarked (b ∷ shape B) (n ∷ numbers_from (suc n) B)) ≡ unless b n (holes (suc n) B)
     at true e = e
-    at false e = reverse-append (n ∷ []) (marked (subgoal_marks B) (numbers_from (suc n) B)) ∙ ap (λ l. l ++ n ∷ []) e ∙ appended (holes (suc n) B) (n ∷ [])
+    at false e = reverse-append (n ∷ []) (unmarked (shape B) (numbers_from (suc n) B)) ∙ ap (λ l. l ++ n ∷ []) e ∙ appended (holes (suc n) B) (n ∷ [])
 
-pub marked_map : {A B : Type 0} (f : A → B) (bs : List Bool) (xs : List A) → map f (marked bs xs) ≡ marked bs (map f xs)
-marked_map f [] xs = refl
-marked_map f (b ∷ bs) [] = refl
-marked_map f (true ∷ bs) (x ∷ xs) = ap (λ l. f x ∷ l) (marked_map f bs xs)
-marked_map f (false ∷ bs) (x ∷ xs) = marked_map f bs xs
+pub unmarked_map : {A B : Type 0} (f : A → B) (bs : List Bool) (xs : List A) → map f (unmarked bs xs) ≡ unmarked bs (map f xs)
+unmarked_map f [] xs = refl
+unmarked_map f (b ∷ bs) [] = refl
+unmarked_map f (true ∷ bs) (x ∷ xs) = unmarked_map f bs xs
+unmarked_map f (false ∷ bs) (x ∷ xs) = ap (λ l. f x ∷ l) (unmarked_map f bs xs)
 
--- the marks, one by one
-pub marked_step : {A : Type 0} (ms : List Bool) (xs : List A) (m : Bool) (x : A) (ns : List Bool) (ys whole old new : List A) → ms ≡ m ∷ ns → xs ≡ x ∷ ys → new ≡ old ++ marked (m ∷ []) (x ∷ []) → whole ≡ old ++ marked ms xs → whole ≡ new ++ marked ns ys
-marked_step {A = A} ms xs m x ns ys whole old new e f n w = w ∙ ap₂ (λ a b. old ++ marked a b) e f ∙ (one m ∙ ap (λ l. l ++ marked ns ys) (sym n))
+-- those that aren't marked, one by one
+pub unmarked_step : {A : Type 0} (ms : List Bool) (xs : List A) (m : Bool) (x : A) (ns : List Bool) (ys whole old new : List A) → ms ≡ m ∷ ns → xs ≡ x ∷ ys → new ≡ old ++ unmarked (m ∷ []) (x ∷ []) → whole ≡ old ++ unmarked ms xs → whole ≡ new ++ unmarked ns ys
+unmarked_step {A = A} ms xs m x ns ys whole old new e f n w = w ∙ ap₂ (λ a b. old ++ unmarked a b) e f ∙ (one m ∙ ap (λ l. l ++ unmarked ns ys) (sym n))
   where
     associate : (us vs ws : List A) → us ++ (vs ++ ws) ≡ (us ++ vs) ++ ws
     associate [] vs ws = refl
     associate (u ∷ us) vs ws = ap (λ l. u ∷ l) (associate us vs ws)
 
-    one : (b : Bool) → old ++ marked (b ∷ ns) (x ∷ ys) ≡ (old ++ marked (b ∷ []) (x ∷ [])) ++ marked ns ys
-    one true = associate old (x ∷ []) (marked ns ys)
-    one false = associate old [] (marked ns ys)
+    one : (b : Bool) → old ++ unmarked (b ∷ ns) (x ∷ ys) ≡ (old ++ unmarked (b ∷ []) (x ∷ [])) ++ unmarked ns ys
+    one true = associate old [] (unmarked ns ys)
+    one false = associate old (x ∷ []) (unmarked ns ys)
 
-nothing_marked : {A : Type 0} (bs : List Bool) → marked {A = A} bs [] ≡ []
-nothing_marked [] = refl
-nothing_marked (b ∷ bs) = refl
+nothing_unmarked : {A : Type 0} (bs : List Bool) → unmarked {A = A} bs [] ≡ []
+nothing_unmarked [] = refl
+nothing_unmarked (b ∷ bs) = refl
 
 none_behind : {A : Type 0} (xs : List A) → xs ++ [] ≡ xs
 none_behind [] = refl
 none_behind (x ∷ xs) = ap (λ l. x ∷ l) (none_behind xs)
 
-pub marked_end : {A : Type 0} (bs : List Bool) (xs found whole : List A) → xs ≡ [] → whole ≡ found ++ marked bs xs → found ≡ whole
-marked_end bs xs found whole e w = sym (w ∙ ap (λ l. found ++ marked bs l) e ∙ ap (λ l. found ++ l) (nothing_marked bs) ∙ none_behind found)
+pub unmarked_end : {A : Type 0} (bs : List Bool) (xs found whole : List A) → xs ≡ [] → whole ≡ found ++ unmarked bs xs → found ≡ whole
+unmarked_end bs xs found whole e w = sym (w ∙ ap (λ l. found ++ unmarked bs l) e ∙ ap (λ l. found ++ l) (nothing_unmarked bs) ∙ none_behind found)
 
 -- a local variable's type
 one_is_suc : shift_by (suc zero) ≡ suc

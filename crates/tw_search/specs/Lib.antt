@@ -13,3 +13,4 @@ pub mod Left
 pub mod Standing
 pub mod Going
 pub mod Applied
+pub mod HeadTypes

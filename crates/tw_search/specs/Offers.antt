@@ -1,11 +1,11 @@
 -- A head that is offered to a goal, between the states of the store before and after.
-use Rattle.std.specs.Prelude.{◌≡◌, ℕ, zero, List, [], ◌∷◌, Bool, true, false, Some, None, length, map, reverse, not}
-use Rattle.lf.specs.Syntax.{Head, Kind, LfType, Spine, atom, constant, metavariable, pi, root, variable}
+use Rattle.std.specs.Prelude.{◌≡◌, ℕ, List, [], ◌∷◌, Bool, true, false, Some, None, length, map, reverse}
+use Rattle.lf.specs.Syntax.{Head, Kind, LfType, Spine, constant, metavariable, root, variable}
 use Rattle.lf.specs.Typing.{Signature}
 use Rattle.lf.specs.Variables.{same_number}
 use Rattle.lf_unification.specs.Lists.{followed}
 use Rattle.lf_unification.specs.Offering.{lambda_over, spine_equations}
-use Rattle.lf_unification.specs.Search.{Offer, holes, occurs_type}
+use Rattle.lf_unification.specs.Search.{Offer, holes}
 use Rattle.lf_unification.specs.Solving.{IsWellFormed}
 use Rattle.lf_unification.specs.Unifiers.{Equation, Store}
 use Rattle.tw_metas.specs.State.{State, Story, changed, with_value}
@@ -19,17 +19,12 @@ use Rattle.tw_open.specs.Fresh.{OnlyDeclares}
 use Rattle.tw_search.specs.Taking.{TakesAll}
 use Rattle.tw_search.specs.declared.goal.OpenGoal.{OpenGoal}
 
--- for each leading quantifier, the outermost first: whether it is a subgoal, as its variable doesn't occur in the rest
-abbrev pub subgoal_marks : LfType → List Bool
-subgoal_marks (atom a S) = []
-subgoal_marks (pi A B) = not (occurs_type zero B) ∷ subgoal_marks B
-
--- those at the places that are marked
-abbrev pub marked : {A : Type 0} → List Bool → List A → List A
-marked [] xs = []
-marked (b ∷ bs) [] = []
-marked (true ∷ bs) (x ∷ xs) = x ∷ marked bs xs
-marked (false ∷ bs) (x ∷ xs) = marked bs xs
+-- those at the places that aren't marked
+abbrev pub unmarked : {A : Type 0} → List Bool → List A → List A
+unmarked [] xs = []
+unmarked (b ∷ bs) [] = []
+unmarked (true ∷ bs) (x ∷ xs) = unmarked bs xs
+unmarked (false ∷ bs) (x ∷ xs) = x ∷ unmarked bs xs
 
 -- whether the head is this variable
 abbrev pub is_variable : ℕ → Head → Bool

@@ -1,7 +1,7 @@
 //! Search for the proofs of a goal, as a value: each call gives the next leaf of the goal's tree, with a budget of tries.
 //!
 //! `search` has the calls, and `engine` the steps between them, over the goals that wait (`frames`), the choice points (`step`) and the heads of a goal (`choice`). How terms are represented
-//! is the matter of the others: `root` declares a goal, `goal` takes the type of a hole apart, `trying` tries a head (`clash`, `rigid`, `offer`, `taking`, `placing`, `occurs`), and `answer` and `left` read what a leaf has;
+//! is the matter of the others: `root` declares a goal, `goal` takes the type of a hole apart, `trying` tries a head (`clash`, `rigid`, `offer`, `head_type`, `taking`, `placing`, `closed_placing`, `occurs`), and `answer` and `left` read what a leaf has;
 //! in an equation that is left metavariables have the names of the goal's variables (`names`).
 #![tactic(auto)]
 
@@ -9,10 +9,14 @@ mod answer;
 mod choice;
 #[tactic(auto, using(tw_open::proofs::Steps::steps))]
 mod clash;
+#[tactic(auto, using(crate::proofs::Applied::applying))]
+mod closed_placing;
 mod engine;
 mod frames;
 #[tactic(auto, using(tw_open::proofs::Steps::steps))]
 mod goal;
+#[tactic(auto, using(tw_open::proofs::Steps::steps))]
+mod head_type;
 mod left;
 mod names;
 #[tactic(auto, using(tw_open::proofs::Steps::steps))]

@@ -1,17 +1,18 @@
-//! Which leading quantifiers of a type are subgoals: those whose variable doesn't occur in the rest.
+//! Which leading quantifiers of an open type are variables: those whose variable occurs in the rest.
 ghost use Rattle.std.specs.Prelude.{◌≡◌, IfOk};
 ghost use Rattle.lf.specs.Variables.{same_number};
 ghost use Rattle.lf_unification.specs.Search.{occurs, occurs_spine, occurs_type};
 ghost use Rattle.tw_terms.specs.OpenView.{open_head_of, open_spine_of, open_term_of, open_type_of};
-ghost use Rattle.tw_search.specs.Offers.{is_variable, subgoal_marks};
+ghost use Rattle.lf_checks.specs.Parts.{shape};
+ghost use Rattle.tw_search.specs.Offers.{is_variable};
 
 use std::alloc::{AllocError, Global};
 use tw_terms::numbers::one_more;
 use tw_terms::{Open, OpenHead, OpenSpine, OpenTy};
 
-/// For each leading quantifier, the outermost first: whether its variable doesn't occur in the rest.
-pub(crate) fn marks(alloc: Global, ty: &OpenTy) -> Result<Vec<bool>, AllocError>
-    ensures { IfOk result (λ v. v.items ≡ subgoal_marks (open_type_of ty.now)) }
+/// For each leading quantifier, the outermost first: whether its variable occurs in the rest.
+pub(crate) fn open_shape_of(alloc: Global, ty: &OpenTy) -> Result<Vec<bool>, AllocError>
+    ensures { IfOk result (λ v. v.items ≡ shape (open_type_of ty.now)) }
 {
     let mut marks = Vec::new(alloc);
     let mut rest = ty;
@@ -19,7 +20,7 @@ pub(crate) fn marks(alloc: Global, ty: &OpenTy) -> Result<Vec<bool>, AllocError>
         match rest {
             OpenTy::Pi(_, range) => {
                 let occurs = type_has(range, 0)?;
-                marks.push(!occurs)?;
+                marks.push(occurs)?;
                 rest = range;
             }
             OpenTy::Atom(_, _) => return Ok(marks),

@@ -4,18 +4,19 @@ ghost use Rattle.lf.specs.Eta.{append};
 ghost use Rattle.lf.specs.Syntax.{nil, variable as variable_head};
 ghost use Rattle.lf_search.specs.AppliedHeads.{spine_with_applied, type_with_applied, with_applied};
 ghost use Rattle.tw_terms.specs.OpenView.{open_head_of, open_spine_of, open_term_of, open_type_of};
+ghost use Rattle.tw_terms.specs.View.{head_of};
 ghost use Rattle.tw_search.specs.Applied.{IsStart, taken_at};
 
 use std::alloc::{AllocError, Global};
 use tw_putting::shift_spine;
 use tw_terms::numbers::one_more;
-use tw_terms::{MetaId, Open, OpenHead, OpenSpine, OpenTy};
+use tw_terms::{Head, MetaId, Open, OpenHead, OpenSpine, OpenTy};
 
 /// What stands for a head: another one, with the first of its arguments.
 #[derive(Drop)]
-struct Start {
-    head: OpenHead,
-    arguments: OpenSpine,
+pub(crate) struct Start {
+    pub(crate) head: OpenHead,
+    pub(crate) arguments: OpenSpine,
 }
 
 /// The type under so many binders, with the metavariables for the variables outside of these. Fails only for want of memory.
@@ -86,11 +87,14 @@ pub(crate) fn spine_over(
 }
 
 /// The arguments of both.
-fn joined(before: OpenSpine, behind: OpenSpine) -> Result<OpenSpine, AllocError>
+pub(crate) fn joined(before: OpenSpine, behind: OpenSpine) -> Result<OpenSpine, AllocError>
     ensures { IfOk result (λ s. open_spine_of s ≡ append (open_spine_of before) (open_spine_of behind)) }
 {
     if before.args.is_empty() {
         return Ok(behind);
+    }
+    if behind.args.is_empty() {
+        return Ok(before);
     }
     let mut args = before.args;
     let mut more = behind.args;
@@ -112,6 +116,22 @@ fn start_over(
         OpenHead::Var(variable) => variable_over(alloc, arguments, metas, binders, variable),
         OpenHead::Const(_) => Ok(bare(alloc, head)),
         OpenHead::Meta(_) => Ok(bare(alloc, head)),
+    }
+}
+
+/// The same of the head of a closed term.
+pub(crate) fn head_over(
+    alloc: Global,
+    arguments: &OpenSpine,
+    metas: &[MetaId],
+    binders: u64,
+    head: Head,
+) -> Result<Start, AllocError>
+    ensures { IfOk result (λ s. IsStart (taken_at (open_spine_of arguments.now) metas.now binders) (head_of head) (open_head_of s.head) (open_spine_of s.arguments)) }
+{
+    match head {
+        Head::Var(variable) => variable_over(alloc, arguments, metas, binders, variable),
+        Head::Const(constant) => Ok(bare(alloc, OpenHead::Const(constant))),
     }
 }
 

@@ -96,7 +96,7 @@ impl Walk {
     pub fn is_marked(&self, meta: MetaId) -> bool
         ensures { MatchBool result (IsMarked (marking_of self.now) meta.0) (IsMarked (marking_of self.now) meta.0 → ⊥) }
     {
-        self.marks.contains(&meta.0)
+        !self.marks.is_empty() && self.marks.contains(&meta.0)
     }
 
     /// Goes through the type of a metavariable.

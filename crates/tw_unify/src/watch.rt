@@ -46,13 +46,16 @@ impl Watch {
         })
     }
 
-    /// Notes what came of an equation at work. Bindings are counted, and memory counts as used up after 2 ^ 64 - 1 of them.
+    /// Notes what came of an equation at work. Where nothing is postponed no equation hangs on what is bound. Other bindings are counted, and memory counts as used up after 2 ^ 64 - 1 of them.
     pub fn note(&mut self, came: Advance) -> Result<(), AllocError>
         ensures { OnOk result ((s t : State) → Watches s (diary_of self.old) → Changes came s t → Watches t (diary_of self.new)) }
     {
         match came {
             Advance::Went | Advance::Refuted => Ok(()),
             Advance::Bound(meta) => {
+                if self.found.is_empty() {
+                    return Ok(());
+                }
                 self.bound.insert(meta.0, self.time)?;
                 self.time = self.time.checked_add(1).ok_or(AllocError)?;
                 Ok(())

@@ -13,8 +13,8 @@ use Rattle.tw_putting.proofs.Environments.{environments}
 use Rattle.tw_putting.proofs.HeadValues.{applies_under, deep_once, stays_unbound, unfolds_to}
 use Rattle.tw_putting.proofs.unfolding.unfold_once.Goals as goal
 
-pub apply_under-requires : goal.apply_under-requires
-apply_under-requires c =
+pub value_under-requires : goal.value_under-requires
+value_under-requires c =
     let s = c.args.store.now.now in
     let k = c.args.binders in
     let m = c.in-Root-Meta-default.meta.0 in

@@ -1,38 +1,23 @@
-use Rattle.std.proofs.Common.{◌≡◌, ap, ap₂, length, map, ◌∙◌}
+use Rattle.std.proofs.Common.{◌≡◌, ap, suc, sym, subst, ◌∙◌, arith}
+use Rattle.std.specs.Option.{option_map}
 use Rattle.lf.specs.Entries.{signature_of}
-use Rattle.lf.specs.Syntax.{skeleton}
-use Rattle.lf.proofs.Entries.{canonical_is_signature}
-use Rattle.lf_unification.specs.Patterns.{skeleton_target}
-use Rattle.tw_metas.specs.View.{equation_of}
-use Rattle.tw_terms.specs.OpenView.{open_spine_of, open_type_of}
+use Rattle.lf.specs.Syntax.{variable}
+use Rattle.lf_unification.specs.Search.{OfferedHeadHasType}
+use Rattle.tw_terms.specs.OpenView.{open_type_of}
 use Rattle.tw_terms.specs.View.{head_of}
-use Rattle.tw_terms.specs.declared.canonical.MetaId.{MetaId}
-use Rattle.tw_search.specs.Offers.{marked, subgoal_marks}
-use Rattle.tw_search.specs.Taking.{numbers_from}
-use Rattle.tw_search.proofs.Offering.{can_take, marked_map}
-use Rattle.tw_search.proofs.Offered.{equations_fit, hole_unbound, is_offered, one_type}
+use Rattle.tw_terms.proofs.Views.{head_of-Var}
+use Rattle.tw_search.proofs.Offering.{found_type, no_type}
 use Rattle.tw_search.proofs.offer.offer.Goals as goal
 
-pub apply-requires-clause-can : goal.apply-requires-clause-can
-apply-requires-clause-can c = can_take (signature_of c.args.signature.now) (canonical_is_signature c.args.signature.now c.is_canonical.ensures) c.args.store.now.now c.args.goal.now c.requires.goal (head_of c.args.head) (open_type_of c.in_ok-ty.ty) c.in_ok-ty.ensures
-
-pub apply-requires-clause-unbound : goal.apply-requires-clause-unbound
-apply-requires-clause-unbound c = hole_unbound (signature_of c.args.signature.now) (canonical_is_signature c.args.signature.now c.is_canonical.ensures) c.args.goal.now (head_of c.args.head) c.args.store.now.now c.requires.goal
-
-pub equations-requires : goal.equations-requires
-equations-requires c = equations_fit (signature_of c.args.signature.now) (canonical_is_signature c.args.signature.now c.is_canonical.ensures) c.args.goal.now (head_of c.args.head) c.args.store.now.now c.requires.goal
-
-pub returns-clause-ok : goal.returns-clause-ok
-returns-clause-ok c =
+pub unreachable-requires-in-None-get : goal.unreachable-requires-in-None-get
+unreachable-requires-in-None-get c =
     let Σ = signature_of c.args.signature.now in
-    let ok = canonical_is_signature c.args.signature.now c.is_canonical.ensures in
-    let g = c.args.goal.now in
-    let h = head_of c.args.head in
-    let A = open_type_of c.in_ok-ty.ty in
-    let t = c.in_ok-taken.taken in
-    let target : skeleton_target (skeleton A) ≡ g.family.0 = ap (λ X. skeleton_target (skeleton X)) (one_type Σ g.locals h A c.requires.head.head_type c.in_ok-ty.ensures c.requires.head.typed) ∙ c.requires.head.target in
-    let is : map (λ (m : MetaId). m.0) c.in_ok-subgoals.subgoals.items ≡ marked (subgoal_marks A) (numbers_from (length c.args.store.now.now.declared) A) =
-    ap (map (λ (m : MetaId). m.0)) (c.in_ok-subgoals.ensures ∙ ap₂ marked c.deref.ensures.value c.deref-2.ensures.value)
-    ∙ marked_map (λ (m : MetaId). m.0) c.in_ok-marks.marks.items t.metas.items
-    ∙ ap₂ marked c.in_ok-marks.ensures c.in_ok-taken.ensures.metas in
-    is_offered Σ ok g h c.args.store.now c.apply.new.store c.requires.goal A c.in_ok-ty.ensures target (open_spine_of t.spine) t.family.0 (open_spine_of t.indices) c.in_ok-taken.ensures.ok (map equation_of c.in_ok-equations.equations.items) c.in_ok-equations.ensures c.in_ok-subgoals.subgoals.items is
+    let D = c.args.goal.now.locals in
+    let e : head_of c.args.head ≡ variable c.in-Var.variable = ap head_of c.in-Var.is ∙ head_of-Var c.in-Var.variable in
+    no_type D c.in-Var.variable c.requires.head.head_type (sym c.get.ensures ∙ ap (option_map (λ a. open_type_of a.now)) c.in-None-get.is) (subst (λ h. OfferedHeadHasType Σ D h c.requires.head.head_type) e c.requires.head.typed)
+
+pub offer_at-requires-in-Some-get-clause-typed : goal.offer_at-requires-in-Some-get-clause-typed
+offer_at-requires-in-Some-get-clause-typed c =
+    let i = c.in-Var.variable in
+    let by : c.in_ok-by-in-Some-get.by ≡ suc i = grind arith in
+    found_type (signature_of c.args.signature.now) c.args.goal.now.locals _ i c.in_ok-by-in-Some-get.by (open_type_of c.in-Some-get.ty.now) (open_type_of c.in_ok-moved-in-Some-get.moved) (head_of-Var i) by c.in-Some-get.ensures c.in_ok-moved-in-Some-get.ensures

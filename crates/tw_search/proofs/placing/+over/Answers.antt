@@ -1,9 +1,8 @@
 use Rattle.std.proofs.Common.{◌≡◌, arith}
-use Rattle.lf.specs.Syntax.{lambda, root}
-use Rattle.tw_terms.specs.OpenView.{open_head_of, open_spine_of, open_term_of}
-use Rattle.tw_terms.specs.declared.open_terms.Open.TheVariants.{Lam, Root}
-use Rattle.tw_search.specs.Applied.{taken_at}
-use Rattle.tw_search.proofs.Applied.{applied_at_root, applied_under_lambda, applying}
+use Rattle.lf.specs.Syntax.{lambda}
+use Rattle.tw_terms.specs.OpenView.{open_spine_of, open_term_of}
+use Rattle.tw_terms.specs.declared.open_terms.Open.TheVariants.{Lam}
+use Rattle.tw_search.proofs.Applied.{applied_under_lambda, applying}
 use Rattle.tw_search.proofs.placing.+over.Goals as goal
 
 pub term_over-returns-in_ok-new-in-Lam : goal.term_over-returns-in_ok-new-in-Lam

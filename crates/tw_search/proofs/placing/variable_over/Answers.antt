@@ -1,5 +1,4 @@
 use Rattle.std.proofs.Common.{◌-◌, ap, arith, length, ◌∙◌}
-use Rattle.lf.specs.Syntax.{nil}
 use Rattle.tw_terms.specs.OpenView.{open_head_of, open_spine_of}
 use Rattle.tw_terms.proofs.OpenViews.{open_head_of-Meta, open_head_of-Var}
 use Rattle.tw_search.proofs.Applied.{comes_nearer, has_metavariable, starts_with, within}
