@@ -5,7 +5,8 @@ use tests_forms::{Case, FormFault, Names, show_domain, show_term, show_type};
 use tw_elaborate::{Elaborated, HeredFault, OpenBody, OpenKind, elaborate};
 use tw_metas::Equation;
 use tw_signature::Signature;
-use tw_terms::{MetaId, OpenTy};
+use tw_terms::{MetaId, OpenTy, Skeleton};
+use tw_written::WrittenBody;
 
 /// The body, the free variables, the metavariables with their types, and the equations; where the word `shown` says `body`, that alone, and where it says
 /// `quantifiers`, how many lead the type of a constant.
@@ -19,24 +20,70 @@ pub(crate) fn elaborated(
         "free", "kind", "type", "term", "on", "of", "abbrev", "shown",
     ])?;
     let skeletons = read_frees(alloc, names, case)?;
+    elaborated_over(alloc, signature, names, case, &skeletons)
+}
+
+// The same over the skeletons of the free variables.
+fn elaborated_over(
+    alloc: Global,
+    signature: &Signature,
+    names: &mut Names,
+    case: &Case,
+    skeletons: &[Skeleton],
+) -> Result<String, FormFault> {
     let body = read_body(alloc, names, case)?;
     names.forget_all_but_constants(alloc);
+    shown(alloc, signature, names, case, skeletons, &body)
+}
+
+fn shown(
+    alloc: Global,
+    signature: &Signature,
+    names: &mut Names,
+    case: &Case,
+    skeletons: &[Skeleton],
+    body: &WrittenBody,
+) -> Result<String, FormFault> {
     let mut line = String::new(alloc);
-    signature.is_canonical();
-    match elaborate(alloc, signature, &skeletons, &body) {
-        Ok(elaborated) => match case.text("shown")? {
-            "" => {
-                show_body(alloc, &mut line, names, &elaborated.body)?;
-                show_made(alloc, &mut line, names, &elaborated)?;
-            }
-            "body" => show_body(alloc, &mut line, names, &elaborated.body)?,
-            "quantifiers" => show_count(&mut line, &elaborated.body)?,
-            _ => return Err(FormFault::NoMeaning),
-        },
-        Err(HeredFault::TooDeep) => line.push_str("too deep")?,
-        Err(HeredFault::NoMemory) => return Err(FormFault::NoMemory),
+    match elaborate_into(alloc, signature, names, case, skeletons, body, &mut line) {
+        Ok(()) => Ok(line),
+        Err(fault) => Err(fault),
     }
-    Ok(line)
+}
+
+fn elaborate_into(
+    alloc: Global,
+    signature: &Signature,
+    names: &mut Names,
+    case: &Case,
+    skeletons: &[Skeleton],
+    body: &WrittenBody,
+    line: &mut String,
+) -> Result<(), FormFault> {
+    signature.is_canonical();
+    match elaborate(alloc, signature, skeletons, body) {
+        Ok(elaborated) => show_elaborated(alloc, line, names, case, &elaborated),
+        Err(HeredFault::TooDeep) => Ok(line.push_str("too deep")?),
+        Err(HeredFault::NoMemory) => Err(FormFault::NoMemory),
+    }
+}
+
+fn show_elaborated(
+    alloc: Global,
+    line: &mut String,
+    names: &mut Names,
+    case: &Case,
+    elaborated: &Elaborated,
+) -> Result<(), FormFault> {
+    match case.text("shown")? {
+        "" => {
+            show_body(alloc, line, names, &elaborated.body)?;
+            Ok(show_made(alloc, line, names, elaborated)?)
+        }
+        "body" => Ok(show_body(alloc, line, names, &elaborated.body)?),
+        "quantifiers" => show_count(line, &elaborated.body),
+        _ => Err(FormFault::NoMeaning),
+    }
 }
 
 fn show_body(
@@ -49,9 +96,7 @@ fn show_body(
         OpenBody::Family(kind) => show_kind(alloc, line, names, kind),
         OpenBody::Constant(ty) => show_type(alloc, line, names, ty),
         OpenBody::Definition(term, ty, abbrev) => {
-            if *abbrev {
-                line.push_str("abbrev ")?;
-            }
+            line.push_str(if *abbrev { "abbrev " } else { "" })?;
             show_term(alloc, line, names, term)?;
             line.push_str(" : ")?;
             show_type(alloc, line, names, ty)
@@ -87,10 +132,7 @@ fn show_made(
     }
     for number in 0..u64::MAX {
         match elaborated.state.store.about(MetaId(number)) {
-            Some((_, ty)) => {
-                write!(line, "; ?{} : ", number)?;
-                show_type(alloc, line, names, ty)?;
-            }
+            Some((_, ty)) => show_meta(alloc, line, names, number, ty)?,
             None => break,
         }
     }
@@ -98,6 +140,17 @@ fn show_made(
         show_equation(alloc, line, names, equation)?;
     }
     Ok(())
+}
+
+fn show_meta(
+    alloc: Global,
+    line: &mut String,
+    names: &mut Names,
+    number: u64,
+    ty: &OpenTy,
+) -> Result<(), AllocError> {
+    write!(line, "; ?{} : ", number)?;
+    show_type(alloc, line, names, ty)
 }
 
 fn show_equation(

@@ -5,14 +5,14 @@ use crate::forms::{Form, read_forms};
 use std::alloc::{AllocError, Global};
 
 /// A word and what it says.
-#[derive(Drop, Debug)]
+#[derive(Drop)]
 pub struct Field {
     pub word: String,
     pub text: String,
 }
 
 /// A case of a file.
-#[derive(Drop, Debug)]
+#[derive(Drop)]
 pub struct Case {
     pub kind: String,
     pub name: String,
@@ -36,13 +36,7 @@ impl Case {
 
     /// The only form that the word says.
     pub fn form(&self, alloc: Global, word: &str) -> Result<Form, FormFault> {
-        let mut forms = read_forms(alloc, self.text(word)?)?;
-        let form = forms.pop().ok_or(FormFault::NoMeaning)?;
-        if forms.is_empty() {
-            Ok(form)
-        } else {
-            Err(FormFault::NoMeaning)
-        }
+        alone(read_forms(alloc, self.text(word)?)?)
     }
 
     /// Fails where the case has another word than these.
@@ -56,6 +50,14 @@ impl Case {
     }
 }
 
+// the only one of the forms
+fn alone(mut forms: Vec<Form>) -> Result<Form, FormFault> {
+    match forms.pop() {
+        Some(form) if forms.is_empty() => Ok(form),
+        _ => Err(FormFault::NoMeaning),
+    }
+}
+
 fn is_listed(words: &[&str], word: &str) -> bool {
     for listed in words {
         if *listed == word {
@@ -65,27 +67,74 @@ fn is_listed(words: &[&str], word: &str) -> bool {
     false
 }
 
-/// The cases of a file, in order.
-pub fn read_cases(alloc: Global, text: &str) -> Result<Vec<Case>, FormFault> {
-    let mut cases: Vec<Case> = Vec::new(alloc);
-    for line in text.lines() {
-        if line.is_empty() || line.starts_with("--") {
-            continue;
-        }
-        if line.starts_with(' ') {
-            let field = field_of(alloc, line)?;
-            match cases.last_mut() {
-                Some(case) => case.fields.push(field)?,
-                None => return Err(FormFault::NoMeaning),
-            }
-        } else {
-            cases.push(case_of(alloc, line)?)?;
-        }
-    }
-    Ok(cases)
+// The cases that are read so far. A fault is kept in mind and is told at the end.
+#[derive(Drop)]
+struct Cases {
+    cases: Vec<Case>,
+    lacks: bool,
+    wrong: bool,
 }
 
-fn field_of(alloc: Global, line: &str) -> Result<Field, FormFault> {
+impl Cases {
+    fn begin(&mut self, alloc: Global, line: &str) {
+        let (kind, name) = parts_of(line);
+        if name.is_empty() || name.contains(' ') {
+            self.wrong = true;
+            return;
+        }
+        match case_of(alloc, kind, name) {
+            Ok(case) => self.lacks |= self.cases.push(case).is_err(),
+            Err(_) => self.lacks = true,
+        }
+    }
+
+    fn add(&mut self, alloc: Global, line: &str) {
+        match field_of(alloc, line) {
+            Ok(field) => self.add_field(field),
+            Err(_) => self.lacks = true,
+        }
+    }
+
+    fn add_field(&mut self, field: Field) {
+        match self.cases.last_mut() {
+            Some(case) => self.lacks |= case.fields.push(field).is_err(),
+            None => self.wrong = true,
+        }
+    }
+
+    fn line(&mut self, alloc: Global, line: &str) {
+        if line.starts_with(' ') {
+            self.add(alloc, line);
+        } else if !line.is_empty() && !line.starts_with("--") {
+            self.begin(alloc, line);
+        }
+    }
+
+    fn whole(self) -> Result<Vec<Case>, FormFault> {
+        if self.lacks {
+            Err(FormFault::NoMemory)
+        } else if self.wrong {
+            Err(FormFault::NoMeaning)
+        } else {
+            Ok(self.cases)
+        }
+    }
+}
+
+/// The cases of a file, in order.
+pub fn read_cases(alloc: Global, text: &str) -> Result<Vec<Case>, FormFault> {
+    let mut cases = Cases {
+        cases: Vec::new(alloc),
+        lacks: false,
+        wrong: false,
+    };
+    for line in text.lines() {
+        cases.line(alloc, line);
+    }
+    cases.whole()
+}
+
+fn field_of(alloc: Global, line: &str) -> Result<Field, AllocError> {
     let (word, text) = parts_of(line);
     Ok(Field {
         word: String::from_str(alloc, word)?,
@@ -93,11 +142,7 @@ fn field_of(alloc: Global, line: &str) -> Result<Field, FormFault> {
     })
 }
 
-fn case_of(alloc: Global, line: &str) -> Result<Case, FormFault> {
-    let (kind, name) = parts_of(line);
-    if name.is_empty() || name.contains(' ') {
-        return Err(FormFault::NoMeaning);
-    }
+fn case_of(alloc: Global, kind: &str, name: &str) -> Result<Case, AllocError> {
     Ok(Case {
         kind: String::from_str(alloc, kind)?,
         name: String::from_str(alloc, name)?,

@@ -1,5 +1,5 @@
 //! Entries of signatures, which the kernel accepts.
-ghost use Rattle.std.specs.Prelude.{◌≡◌, IfOk, vec_len};
+ghost use Rattle.std.specs.Prelude.{◌≡◌, ◌≤◌, IfOk, vec_len};
 ghost use Rattle.std.specs.Bool.{OnTrue};
 ghost use Rattle.lf.specs.Depth.{depth_limit};
 ghost use Rattle.lf.specs.Entries.{signature_of, quantifiers, kind_quantifiers, body_quantifiers, BodyIsTyped, BodyIsWithin};
@@ -26,20 +26,40 @@ pub fn declare(
     body: Body,
     implicit: u32,
 ) -> Result<(), FormFault> {
-    if !is_accepted(alloc, signature, &body)? {
+    match hints_of(alloc, signature, &body, implicit) {
+        Ok(hints) => {
+            signature.add(Entry {
+                name,
+                body,
+                implicit,
+                hints,
+            })?;
+            Ok(())
+        }
+        Err(fault) => Err(fault),
+    }
+}
+
+/// No preferred name for any quantifier of the body, if it may come next with so many implicit arguments.
+fn hints_of(
+    alloc: Global,
+    signature: &Signature,
+    body: &Body,
+    implicit: u32,
+) -> Result<Vec<Option<Name>>, FormFault>
+    ensures typed { IfOk result (λ v. BodyIsTyped (signature_of signature.now) (body_of body.now)) }
+    ensures within { IfOk result (λ v. BodyIsWithin depth_limit (body_of body.now)) }
+    ensures each { IfOk result (λ v. vec_len v ≡ body_quantifiers (body_of body.now)) }
+    ensures implicit { IfOk result (λ v. implicit ≤ body_quantifiers (body_of body.now)) }
+{
+    if !is_accepted(alloc, signature, body)? {
         return Err(FormFault::NoMeaning);
     }
-    let hints = no_hints(alloc, &body)?;
+    let hints = no_hints(alloc, body)?;
     if implicit as usize > hints.len() {
         return Err(FormFault::NoMeaning);
     }
-    signature.add(Entry {
-        name,
-        body,
-        implicit,
-        hints,
-    })?;
-    Ok(())
+    Ok(hints)
 }
 
 /// Whether the body may come next.
@@ -114,50 +134,73 @@ fn no_kind_hints(alloc: Global, kind: &Kind) -> Result<Vec<Option<Name>>, AllocE
 pub fn read_signature(alloc: Global, text: &str) -> Result<(Signature, Names), FormFault> {
     let mut signature = Signature::new(alloc);
     let mut names = Names::new(alloc);
+    match add_lines(alloc, &mut signature, &mut names, text) {
+        Ok(()) => Ok((signature, names)),
+        Err(fault) => Err(fault),
+    }
+}
+
+fn add_lines(
+    alloc: Global,
+    signature: &mut Signature,
+    names: &mut Names,
+    text: &str,
+) -> Result<(), FormFault> {
     for line in text.lines() {
         if !line.is_empty() && !line.starts_with("--") {
-            add_line(alloc, &mut signature, &mut names, line)?;
+            let forms = read_forms(alloc, line)?;
+            add_line(alloc, signature, names, &forms)?;
         }
     }
-    Ok((signature, names))
+    Ok(())
 }
 
 fn add_line(
     alloc: Global,
     signature: &mut Signature,
     names: &mut Names,
-    line: &str,
+    forms: &[Form],
 ) -> Result<(), FormFault> {
-    let forms = read_forms(alloc, line)?;
-    match forms.as_slice() {
-        [Form::Word(count), Form::Word(name), form] => {
-            let implicit = number_of(count.as_str())?;
+    match forms {
+        [name, form] => add_declared(alloc, signature, names, name, form, 0),
+        [count, name, form] => {
+            let implicit = number_of(count.text())?;
             let implicit = u32::try_from(implicit).or(Err(FormFault::NoMeaning))?;
-            add_declared(alloc, signature, names, name.as_str(), form, implicit)
+            add_declared(alloc, signature, names, name, form, implicit)
         }
-        [Form::Word(name), form] => add_declared(alloc, signature, names, name.as_str(), form, 0),
-        [
-            Form::Word(name),
-            Form::Word(equals),
-            term,
-            Form::Word(colon),
-            ty,
-        ] if equals.as_str() == "=" && colon.as_str() == ":" => {
-            let term = read_closed_term(alloc, names, term)?;
-            let ty = read_closed_type(alloc, names, ty)?;
-            let abbrev = false;
-            let body = Body::Defined { term, ty, abbrev };
-            add(alloc, signature, names, name.as_str(), body, 0)
+        [name, equals, term, colon, ty] if equals.text() == "=" && colon.text() == ":" => {
+            add_definition(alloc, signature, names, name, term, ty)
         }
         _ => Err(FormFault::NoMeaning),
     }
+}
+
+fn add_definition(
+    alloc: Global,
+    signature: &mut Signature,
+    names: &mut Names,
+    name: &Form,
+    term: &Form,
+    ty: &Form,
+) -> Result<(), FormFault> {
+    let term = read_closed_term(alloc, names, term)?;
+    let ty = read_closed_type(alloc, names, ty)?;
+    let abbrev = false;
+    add(
+        alloc,
+        signature,
+        names,
+        name,
+        Body::Defined { term, ty, abbrev },
+        0,
+    )
 }
 
 fn add_declared(
     alloc: Global,
     signature: &mut Signature,
     names: &mut Names,
-    name: &str,
+    name: &Form,
     form: &Form,
     implicit: u32,
 ) -> Result<(), FormFault> {
@@ -173,19 +216,22 @@ fn add(
     alloc: Global,
     signature: &mut Signature,
     names: &mut Names,
-    name: &str,
+    name: &Form,
     body: Body,
     implicit: u32,
 ) -> Result<(), FormFault> {
+    let word = name.text();
+    if word.is_empty() {
+        return Err(FormFault::NoMeaning);
+    }
     declare(
         alloc,
         signature,
-        Name::from_text(alloc, name)?,
+        Name::from_text(alloc, word)?,
         body,
         implicit,
     )?;
-    names.add_constant(alloc, name)?;
-    Ok(())
+    Ok(names.add_constant(alloc, word)?)
 }
 
 // whether the last range is the word `type`
@@ -193,7 +239,7 @@ fn ends_in_type(form: &Form) -> bool {
     match form {
         Form::Word(word) => word.as_str() == "type",
         Form::Group(forms) => match forms.as_slice() {
-            [Form::Word(mark), _, _, range] if mark.as_str() == ">" => ends_in_type(range),
+            [mark, _, _, range] if mark.text() == ">" => ends_in_type(range),
             _ => false,
         },
     }

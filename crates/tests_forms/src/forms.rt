@@ -1,10 +1,12 @@
 //! What brackets make of a text.
+ghost use Rattle.std.specs.Prelude.{◌≡◌, length};
+
 use crate::fault::FormFault;
-use std::alloc::{AllocError, Global};
+use std::alloc::Global;
 use std::mem;
 
-/// A word, or what stands between two brackets.
-#[derive(Drop, Debug)]
+/// A word, or what stands between two brackets. No word is empty.
+#[derive(Drop)]
 pub enum Form {
     Word(String),
     Group(Vec<Form>),
@@ -16,6 +18,14 @@ impl Form {
         match self {
             Form::Word(word) => Some(word.as_str()),
             Form::Group(_) => None,
+        }
+    }
+
+    /// The word that the form is, or else the empty text.
+    pub fn text(&self) -> &str {
+        match self {
+            Form::Word(word) => word.as_str(),
+            Form::Group(_) => "",
         }
     }
 
@@ -31,118 +41,154 @@ impl Form {
     }
 }
 
-/// The forms of the text, in order.
-pub fn read_forms(alloc: Global, text: &str) -> Result<Vec<Form>, FormFault> {
-    let mut outer: Vec<Vec<Form>> = Vec::new(alloc);
-    let mut forms = Vec::new(alloc);
-    let mut word = String::new(alloc);
-    for letter in text.chars() {
-        match letter {
-            ' ' => end_word(alloc, &mut word, &mut forms)?,
-            '(' => {
-                end_word(alloc, &mut word, &mut forms)?;
-                outer.push(forms)?;
-                forms = Vec::new(alloc);
-            }
-            ')' => {
-                end_word(alloc, &mut word, &mut forms)?;
-                let group = Form::Group(forms);
-                forms = outer.pop().ok_or(FormFault::NoMeaning)?;
-                forms.push(group)?;
-            }
-            _ => word.push(letter)?,
+// What is read so far. A fault is kept in mind and is told at the end.
+#[derive(Drop)]
+struct Reading {
+    outer: Vec<Vec<Form>>,
+    forms: Vec<Form>,
+    word: String,
+    /// What stands in a repetition for the name, until it is put there.
+    filling: Option<Form>,
+    lacks: bool,
+    wrong: bool,
+}
+
+impl Reading {
+    fn new(alloc: Global) -> Reading {
+        Reading {
+            outer: Vec::new(alloc),
+            forms: Vec::new(alloc),
+            word: String::new(alloc),
+            filling: None,
+            lacks: false,
+            wrong: false,
         }
     }
-    end_word(alloc, &mut word, &mut forms)?;
-    if outer.is_empty() {
-        written_out(alloc, forms)
-    } else {
-        Err(FormFault::NoMeaning)
-    }
-}
 
-// the forms with each repetition written out
-#[cycle(writing_out)]
-fn written_out(alloc: Global, forms: Vec<Form>) -> Result<Vec<Form>, FormFault> {
-    let mut out = Vec::new(alloc);
-    for form in forms {
-        out.push(form_written_out(alloc, form)?)?;
+    // the form is the next one
+    fn add(&mut self, form: Form) {
+        self.lacks |= self.forms.push(form).is_err();
     }
-    Ok(out)
-}
 
-#[cycle(writing_out)]
-fn form_written_out(alloc: Global, form: Form) -> Result<Form, FormFault> {
-    match form {
-        Form::Word(word) => Ok(Form::Word(word)),
-        Form::Group(forms) => {
-            let forms = written_out(alloc, forms)?;
-            match forms.as_slice() {
-                [
-                    Form::Word(mark),
-                    Form::Word(count),
-                    Form::Word(name),
-                    body,
-                    start,
-                ] if mark.as_str() == "repeat" => {
-                    repeated(
-                        alloc,
-                        number_of(count.as_str())?,
-                        name.as_str(),
-                        body,
-                        start,
-                    )
+    fn end_word(&mut self, alloc: Global) {
+        if !self.word.is_empty() {
+            let word = mem::replace(&mut self.word, String::new(alloc));
+            self.add(Form::Word(word));
+        }
+    }
+
+    fn begin_group(&mut self, alloc: Global) {
+        let forms = mem::replace(&mut self.forms, Vec::new(alloc));
+        self.lacks |= self.outer.push(forms).is_err();
+    }
+
+    fn end_group(&mut self, alloc: Global) -> Vec<Form> {
+        match self.outer.pop() {
+            Some(forms) => mem::replace(&mut self.forms, forms),
+            None => {
+                self.wrong = true;
+                Vec::new(alloc)
+            }
+        }
+    }
+
+    // the group, or what it repeats
+    fn add_group(&mut self, alloc: Global, group: Vec<Form>) {
+        if group.len() == 5 && group[0].text() == "repeat" && is_counted(&group) {
+            self.repeat(alloc, &group);
+        } else {
+            self.add(Form::Group(group));
+        }
+    }
+
+    // the body in its own name, so many times, and the start innermost
+    fn repeat(&mut self, alloc: Global, group: &[Form])
+        requires { length group.now ≡ 5 }
+    {
+        let Ok(count) = number_of(group[1].text()) else {
+            self.wrong = true;
+            return;
+        };
+        self.copy(alloc, "", &group[4]);
+        for _ in 0..count {
+            if self.lacks || self.wrong {
+                break;
+            }
+            self.filling = self.forms.pop();
+            self.copy(alloc, group[2].text(), &group[3]);
+            self.wrong |= self.filling.is_some();
+        }
+    }
+
+    // a copy, with the filling in the place of the name, which stands once
+    fn copy(&mut self, alloc: Global, name: &str, form: &Form) {
+        match form {
+            Form::Word(word) if word.as_str() == name => self.fill(),
+            Form::Word(word) => self.copy_word(alloc, word.as_str()),
+            Form::Group(forms) => {
+                self.begin_group(alloc);
+                for form in forms {
+                    self.copy(alloc, name, form);
                 }
-                _ => Ok(Form::Group(forms)),
+                let group = self.end_group(alloc);
+                self.add(Form::Group(group));
             }
         }
     }
-}
 
-// the body in its own name, so many times, and the start innermost
-fn repeated(
-    alloc: Global,
-    count: u64,
-    name: &str,
-    body: &Form,
-    start: &Form,
-) -> Result<Form, FormFault> {
-    let mut inner = copied(alloc, start, "", &mut None)?;
-    for _ in 0..count {
-        let mut filling = Some(inner);
-        inner = copied(alloc, body, name, &mut filling)?;
-        if filling.is_some() {
-            return Err(FormFault::NoMeaning);
+    fn fill(&mut self) {
+        match self.filling.take() {
+            Some(form) => self.add(form),
+            None => self.wrong = true,
         }
     }
-    Ok(inner)
-}
 
-// a copy, with the filling in the place of the name, which stands once
-fn copied(
-    alloc: Global,
-    form: &Form,
-    name: &str,
-    filling: &mut Option<Form>,
-) -> Result<Form, FormFault> {
-    match form {
-        Form::Word(word) if word.as_str() == name => filling.take().ok_or(FormFault::NoMeaning),
-        Form::Word(word) => Ok(Form::Word(word.clone()?)),
-        Form::Group(forms) => {
-            let mut copies = Vec::new(alloc);
-            for form in forms {
-                copies.push(copied(alloc, form, name, filling)?)?;
-            }
-            Ok(Form::Group(copies))
+    fn copy_word(&mut self, alloc: Global, word: &str) {
+        match String::from_str(alloc, word) {
+            Ok(word) => self.add(Form::Word(word)),
+            Err(_) => self.lacks = true,
+        }
+    }
+
+    fn letter(&mut self, alloc: Global, letter: char) {
+        if letter == ' ' || letter == '(' || letter == ')' {
+            self.end_word(alloc);
+        } else {
+            self.lacks |= self.word.push(letter).is_err();
+        }
+        if letter == '(' {
+            self.begin_group(alloc);
+        }
+        if letter == ')' {
+            let group = self.end_group(alloc);
+            self.add_group(alloc, group);
+        }
+    }
+
+    fn whole(self) -> Result<Vec<Form>, FormFault> {
+        if self.lacks {
+            Err(FormFault::NoMemory)
+        } else if self.wrong || !self.outer.is_empty() {
+            Err(FormFault::NoMeaning)
+        } else {
+            Ok(self.forms)
         }
     }
 }
 
-fn end_word(alloc: Global, word: &mut String, forms: &mut Vec<Form>) -> Result<(), AllocError> {
-    if !word.is_empty() {
-        forms.push(Form::Word(mem::replace(word, String::new(alloc))))?;
+// whether a repetition has words as its number and its name
+fn is_counted(group: &[Form]) -> bool {
+    group.len() == 5 && !group[1].text().is_empty() && !group[2].text().is_empty()
+}
+
+/// The forms of the text, in order, with each repetition written out.
+pub fn read_forms(alloc: Global, text: &str) -> Result<Vec<Form>, FormFault> {
+    let mut reading = Reading::new(alloc);
+    for letter in text.chars() {
+        reading.letter(alloc, letter);
     }
-    Ok(())
+    reading.end_word(alloc);
+    reading.whole()
 }
 
 /// The number that the word is.

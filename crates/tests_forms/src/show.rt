@@ -36,34 +36,65 @@ fn show_behind(
     skipped: u32,
 ) -> Result<(), AllocError> {
     match term {
-        Open::Lam(body) => {
-            line.push_str("(\\ ")?;
-            names.push_made(alloc)?;
-            show_newest(line, names)?;
-            line.push(' ')?;
-            show_behind(alloc, line, names, body, 0)?;
-            names.pop_made();
-            line.push(')')
-        }
+        Open::Lam(body) => show_lambda(alloc, line, names, body),
         Open::Root(head, spine) if spine.args.is_empty() => names.show_head(line, *head),
         Open::Root(_, spine) if skipped > 0 => {
             show_arguments(alloc, line, names, spine, skipped - 1)
         }
         Open::Root(head, spine) => {
             let count = repetitions(term);
+            line.push('(')?;
             if count < LONG {
-                line.push('(')?;
-                names.show_head(line, *head)?;
-                show_spine(alloc, line, names, spine)?;
-                return line.push(')');
+                show_application(alloc, line, names, *head, spine)?;
+            } else {
+                show_repetition(alloc, line, names, *head, spine, count)?;
             }
-            write!(line, "(repeat {} t (", count)?;
-            names.show_head(line, *head)?;
-            line.push_str(" t) ")?;
-            show_arguments(alloc, line, names, spine, count - 1)?;
             line.push(')')
         }
     }
+}
+
+#[cycle(showing)]
+fn show_lambda(
+    alloc: Global,
+    line: &mut String,
+    names: &mut Names,
+    body: &Open,
+) -> Result<(), AllocError> {
+    line.push_str("(\\ ")?;
+    names.push_made(alloc)?;
+    show_newest(line, names)?;
+    line.push(' ')?;
+    show_behind(alloc, line, names, body, 0)?;
+    names.pop_made();
+    line.push(')')
+}
+
+#[cycle(showing)]
+fn show_application(
+    alloc: Global,
+    line: &mut String,
+    names: &mut Names,
+    head: OpenHead,
+    spine: &OpenSpine,
+) -> Result<(), AllocError> {
+    names.show_head(line, head)?;
+    show_spine(alloc, line, names, spine)
+}
+
+#[cycle(showing)]
+fn show_repetition(
+    alloc: Global,
+    line: &mut String,
+    names: &mut Names,
+    head: OpenHead,
+    spine: &OpenSpine,
+    count: u32,
+) -> Result<(), AllocError> {
+    write!(line, "repeat {} t (", count)?;
+    names.show_head(line, head)?;
+    line.push_str(" t) ")?;
+    show_arguments(alloc, line, names, spine, count.saturating_sub(1))
 }
 
 // the arguments, each without so many heads

@@ -15,7 +15,7 @@ mod terms;
 mod typed;
 
 use std::alloc::Global;
-use std::fs;
+use std::{fs, io};
 use tests_forms::{Case, FormFault, Names, read_cases, read_signature};
 use tw_signature::Signature;
 
@@ -29,16 +29,22 @@ const FILES: [&str; 6] = [
 ];
 
 fn main(rt: HostRuntime) -> anyhow::Result<()> {
-    let alloc = rt.alloc();
     let text = fs::read_to_string(&rt, "signature.txt")?;
-    match read_signature(alloc, text.as_str()) {
-        Ok((signature, mut names)) => {
-            println!(rt; "signature.txt: {} entries", signature.len())?;
-            for file in FILES {
-                run_file(&rt, &signature, &mut names, file)?;
-            }
-        }
-        Err(fault) => println!(rt; "signature.txt: {}", words_of(fault))?,
+    run(&rt, text.as_str())?;
+    Ok(())
+}
+
+fn run(rt: &HostRuntime, text: &str) -> io::Result<()> {
+    match read_signature(rt.alloc(), text) {
+        Ok((signature, mut names)) => run_files(rt, &signature, &mut names),
+        Err(fault) => println!(rt; "signature.txt: {}", words_of(fault)),
+    }
+}
+
+fn run_files(rt: &HostRuntime, signature: &Signature, names: &mut Names) -> io::Result<()> {
+    println!(rt; "signature.txt: {} entries", signature.len())?;
+    for file in FILES {
+        run_file(rt, signature, names, file)?;
     }
     Ok(())
 }
@@ -49,23 +55,38 @@ fn run_file(
     signature: &Signature,
     names: &mut Names,
     file: &str,
-) -> anyhow::Result<()> {
-    let alloc = rt.alloc();
+) -> io::Result<()> {
     let text = fs::read_to_string(rt, file)?;
-    match read_cases(alloc, text.as_str()) {
-        Ok(cases) => {
-            for case in &cases {
-                let kind = case.kind.as_str();
-                let name = case.name.as_str();
-                match outcome(alloc, signature, names, case) {
-                    Ok(outcome) => println!(rt; "{kind} {name}: {outcome}")?,
-                    Err(fault) => println!(rt; "{kind} {name}: {}", words_of(fault))?,
-                }
-            }
-        }
-        Err(fault) => println!(rt; "{file}: {}", words_of(fault))?,
+    match read_cases(rt.alloc(), text.as_str()) {
+        Ok(cases) => run_cases(rt, signature, names, &cases),
+        Err(fault) => println!(rt; "{file}: {}", words_of(fault)),
+    }
+}
+
+fn run_cases(
+    rt: &HostRuntime,
+    signature: &Signature,
+    names: &mut Names,
+    cases: &[Case],
+) -> io::Result<()> {
+    for case in cases {
+        run_case(rt, signature, names, case)?;
     }
     Ok(())
+}
+
+fn run_case(
+    rt: &HostRuntime,
+    signature: &Signature,
+    names: &mut Names,
+    case: &Case,
+) -> io::Result<()> {
+    let kind = case.kind.as_str();
+    let name = case.name.as_str();
+    match outcome(rt.alloc(), signature, names, case) {
+        Ok(outcome) => println!(rt; "{kind} {name}: {outcome}"),
+        Err(fault) => println!(rt; "{kind} {name}: {}", words_of(fault)),
+    }
 }
 
 fn words_of(fault: FormFault) -> &'static str {

@@ -44,37 +44,66 @@ fn answer(
     }
 }
 
+// Tells the case's name and what came out of it.
+fn run_case(
+    rt: &HostRuntime,
+    signature: &Signature,
+    names: &mut Names,
+    case: &Case,
+) -> io::Result<()> {
+    let name = &case.name;
+    match answer(rt.alloc(), signature, names, case) {
+        Ok(line) => println!(rt; "{name}: {line}"),
+        Err(FormFault::NoMeaning) => println!(rt; "{name} can't be read"),
+        Err(FormFault::NoMemory) => println!(rt; "{name} wants memory"),
+    }
+}
+
 fn run_cases(
     rt: &HostRuntime,
     signature: &Signature,
     names: &mut Names,
-    file: &str,
+    cases: &[Case],
 ) -> io::Result<()> {
-    let alloc = rt.alloc();
-    let text = fs::read_to_string(rt, file)?;
-    let Ok(cases) = read_cases(alloc, text.as_str()) else {
-        return println!(rt; "{file} can't be read");
-    };
-    println!(rt; "{file}")?;
-    for case in &cases {
-        names.forget_all_but_constants(alloc);
-        let name = &case.name;
-        match answer(alloc, signature, names, case) {
-            Ok(line) => println!(rt; "{name}: {line}")?,
-            Err(FormFault::NoMeaning) => println!(rt; "{name} can't be read")?,
-            Err(FormFault::NoMemory) => println!(rt; "{name} wants memory")?,
-        }
+    for case in cases {
+        names.forget_all_but_constants(rt.alloc());
+        run_case(rt, signature, names, case)?;
     }
     Ok(())
 }
 
-fn main(rt: HostRuntime) -> io::Result<()> {
-    let text = fs::read_to_string(&rt, "numbers.txt")?;
-    let Ok((signature, mut names)) = read_signature(rt.alloc(), text.as_str()) else {
-        return println!(rt; "numbers.txt can't be read");
-    };
+fn run_text(
+    rt: &HostRuntime,
+    signature: &Signature,
+    names: &mut Names,
+    file: &str,
+    text: &str,
+) -> io::Result<()> {
+    match read_cases(rt.alloc(), text) {
+        Ok(cases) => {
+            println!(rt; "{file}")?;
+            run_cases(rt, signature, names, &cases)
+        }
+        Err(_) => println!(rt; "{file} can't be read"),
+    }
+}
+
+fn run_files(rt: &HostRuntime, signature: &Signature, names: &mut Names) -> io::Result<()> {
     for file in FILES {
-        run_cases(&rt, &signature, &mut names, file)?;
+        let text = fs::read_to_string(rt, file)?;
+        run_text(rt, signature, names, file, text.as_str())?;
     }
     Ok(())
+}
+
+fn run(rt: &HostRuntime, text: &str) -> io::Result<()> {
+    match read_signature(rt.alloc(), text) {
+        Ok((signature, mut names)) => run_files(rt, &signature, &mut names),
+        Err(_) => println!(rt; "numbers.txt can't be read"),
+    }
+}
+
+fn main(rt: HostRuntime) -> io::Result<()> {
+    let text = fs::read_to_string(&rt, "numbers.txt")?;
+    run(&rt, text.as_str())
 }
