@@ -62,7 +62,7 @@ copy_heads_in_order = (
       (next_offered (0 ∷ 2 ∷ []) (1 ∷ 0 ∷ 0 ∷ 0 ∷ []) (constant_rank 2 (pi exp (pi exp exp))) (new_rank copy_block 0 1 exp refl (omega arith)) (inl (omega arith)) (one_offered (1 ∷ 0 ∷ 0 ∷ 0 ∷ []) (new_rank copy_block 0 1 exp refl (omega arith)))),
 )
 
-depth_is : (n : ℕ) → depth (number n) ≡ suc n
+pub depth_is : (n : ℕ) → depth (number n) ≡ suc n
 unfolding number
 depth_is zero = refl
 depth_is (suc n) = ap (λ d. suc (max d zero)) (depth_is n) ∙ more n

@@ -31,11 +31,11 @@ moded_goals_are_typed Σ ok W typed below m moded c d w i A s none K e =
     output_goal_is_typed_case Σ ok W typed below m c d (ground_until everything m c i) i A s needs marks none K e
 
 -- what stands outside is ground
-starts : (m : ℕ → List Mark) (c : Clause) (l : ℕ) → outside c.type everything l ≡ true → ground_first m c l ≡ true
+pub starts : (m : ℕ → List Mark) (c : Clause) (l : ℕ) → outside c.type everything l ≡ true → ground_first m c l ≡ true
 starts m c l v = ap (λ b. either b (both (variables c l) (strict_at (input_places (m (target c.type))) nothing (outside c.type c.fixed) l (target_arguments c.type)))) v
 
 -- what is ground stays so
-stays : (m : ℕ → List Mark) (c : Clause) (A : LfType) (U : ℕ → Bool) (l : ℕ) → U l ≡ true → ground_after m c A U l ≡ true
+pub stays : (m : ℕ → List Mark) (c : Clause) (A : LfType) (U : ℕ → Bool) (l : ℕ) → U l ≡ true → ground_after m c A U l ≡ true
 stays m c A U l u = ap (λ b. either b (both (variables c l) (strict_goal (output_places (m (target A))) nothing (outside c.type c.fixed) l A))) u
 
 -- What is ground holds the variables in its types.

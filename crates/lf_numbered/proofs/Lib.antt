@@ -378,3 +378,12 @@ pub mod EntryTypes
 pub mod EntryTypesWalk
 pub mod EntryTypesPut
 pub mod Orders
+pub mod SameCaseHolds
+pub mod SameCaseExamples
+pub mod CoveredAnswerGives
+pub mod CoveredAnswerPasses
+pub mod CoveredAnswerExamples
+pub mod CoveredAnswerWorked
+pub mod NeededLeft
+pub mod NeededLeftExamples
+pub mod NeededLeftUnsolved

@@ -10,8 +10,6 @@ use Rattle.lf_cases.specs.Split.{Ends, at_leaf, by_split, no_case, next_case}
 use Rattle.lf_cases.proofs.Subordinate.{below_is_subordination}
 use Rattle.lf_totality.specs.Examples.{Addition, first_below_second, nat, plus_heads, plus_kind, plus_s, plus_successor_case, successor, var}
 use Rattle.lf_coverage.specs.Calls.{instance}
-use Rattle.lf_coverage.proofs.ExamplesSubordinate.{addition_is_tested}
-use Rattle.lf_coverage.proofs.UsedVariables.{types_of_two}
 use Rattle.lf_numbered.specs.EntryTerms.{MatchesByNumber, own_values}
 use Rattle.lf_numbered.specs.NeededRunsExamples.{EntryAloneCovers, SuccessorIsCovered}
 use Rattle.lf_numbered.specs.NumberedCalls.{IsFor, NumberedCoverNeeds, NumberedMatchedIs}
@@ -23,6 +21,7 @@ use Rattle.lf_numbered.specs.NumberedSplitsExamples.{Bare, entry_case, exp_block
 use Rattle.lf_numbered.specs.Numbering.{numbered}
 use Rattle.lf_numbered.specs.OwnTerms.{TypeOnOwnTerms, own_terms}
 use Rattle.lf_numbered.specs.TypedNumbered.{IsTypedNumberedCase}
+use Rattle.lf_coverage.proofs.ExamplesSubordinate.{addition_is_tested}
 use Rattle.lf_numbered.proofs.NeededRuns.{needed_strategy_run_is_covered}
 use Rattle.lf_numbered.proofs.NumberedCallsOpen.{entry_is_instance, open_gives_entry, open_is_split_answer}
 use Rattle.lf_numbered.proofs.NumberedNeedsDecided.{needed_instance_is_decided}
@@ -31,6 +30,7 @@ use Rattle.lf_numbered.proofs.NumberedNeedsPlus.{addition_setting, plus_typed}
 use Rattle.lf_numbered.proofs.NumberedNeedsRows.{open_has_needs}
 use Rattle.lf_numbered.proofs.NumberedReachedInstances.{split_case_is_numbered_instance}
 use Rattle.lf_numbered.proofs.NumberedSplitsExamples.{bare_ok, blocks_typed, free, open_typed}
+use Rattle.lf_coverage.proofs.UsedVariables.{types_of_two}
 
 -- plus (s X) Y _
 abbrev goal : NumberedCase
@@ -69,7 +69,7 @@ needs = record { setting = addition_setting; subordination = addition_is_tested;
 abbrev plus_s_head : Pattern
 plus_s_head = head_pattern plus_s (of_constant plus_s.type)
 
-matches : MatchesByNumber 4 goal plus_s_head
+pub matches : MatchesByNumber 4 goal plus_s_head
 matches = (keep, refl, ((((refl, tt), tt), ((refl, tt), tt)), terms, (refl, (refl, tt))))
   where
     terms : AreTerms plus_s (ground_in plus_s_head (true ∷ true ∷ false ∷ []) []) (own_values goal plus_s_head keep)

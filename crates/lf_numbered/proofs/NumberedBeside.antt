@@ -17,25 +17,26 @@ use Rattle.lf_cases.specs.Reached.{arguments_count, head_masks, split_items, tak
 use Rattle.lf_cases.proofs.BlockEntries.{member_onto}
 use Rattle.lf_cases.proofs.Subordinate.{below_is_subordination}
 use Rattle.lf_totality.proofs.RaisedOutputs.{binders_over}
-use Rattle.lf_coverage.specs.Subordinate.{QuantifiersAreBelow}
-use Rattle.lf_coverage.proofs.Everywhere.{metavariables_have}
-use Rattle.lf_coverage.proofs.Forms.{far_type}
-use Rattle.lf_coverage.proofs.Listed.{offer_of_case}
-use Rattle.lf_coverage.proofs.Parts.{none_some, some_same}
-use Rattle.lf_coverage.proofs.SolvedCase.{free_context_is}
-use Rattle.lf_coverage.proofs.Subordinate.{quantified, below_renamed, below_substituted}
 use Rattle.lf_numbered.specs.EntryConstants.{EntryConstant, IsFreeFrom, entry_constant, entry_images, entry_type, with_entries}
+use Rattle.lf_coverage.specs.Heads.{ArgumentsAreBelow}
 use Rattle.lf_numbered.specs.NumberedBeside.{AllTakeBelow, TakesBelow, WorldsTakeBelow, OffersQuantifyBelow, IsUnifiedByNumber, UnifiedByNumberIsAnswered}
 use Rattle.lf_numbered.specs.NumberedCase.{NumberedCase, some_spine, AreSomeTerms, AreTypedBlockVariables}
 use Rattle.lf_numbered.specs.NumberedSplits.{NumberedOffer, IsOfferTo, of_case, of_new_block, NumberedUnifierFinds, IsAnsweredByNumber}
 use Rattle.lf_numbered.specs.OwnStores.{IsNumberedOffer, offer_signature, offer_taken, offer_entry, left_type}
 use Rattle.lf_numbered.specs.OwnTerms.{BlockVariable, blocks_of, own_terms, terms_at, terms_of_entry}
+use Rattle.lf_coverage.specs.Subordinate.{QuantifiersAreBelow}
 use Rattle.lf_numbered.specs.TypedNumbered.{IsTypedNumberedCase}
 use Rattle.lf_numbered.proofs.EntryFound.{PlacedAmong, placed_among, EachBlock, entry_found}
 use Rattle.lf_numbered.proofs.EntrySignature.{else_second}
+use Rattle.lf_coverage.proofs.Everywhere.{metavariables_have}
+use Rattle.lf_coverage.proofs.Forms.{far_type}
 use Rattle.lf_numbered.proofs.NumberedBesideTypes.{all_takes, free_keeps, head_takes, near_below, quantified_takes, run_keeps, take_below, taken_below, takes_all, takes_at, takes_kept, takes_onto, takes_pruned, takes_renamed}
+use Rattle.lf_coverage.proofs.Listed.{offer_of_case}
 use Rattle.lf_numbered.proofs.OwnStoresNewBlock.{new_block_stays_typed}
 use Rattle.lf_numbered.proofs.OwnTerms.{entry_from}
+use Rattle.lf_coverage.proofs.Parts.{none_some, some_same}
+use Rattle.lf_coverage.proofs.SolvedCase.{free_context_is}
+use Rattle.lf_coverage.proofs.Subordinate.{quantified, below_renamed, below_substituted}
 
 -- how many terms there are
 abbrev pub count : Spine → ℕ
@@ -163,23 +164,31 @@ module _ (Σ : Signature) (W : List Block) (below : ℕ → ℕ → Bool) (test 
 pub offers_quantify_below : OffersQuantifyBelow
 offers_quantify_below Σ W below test first free C tc takes x X at h U A f = offer_below Σ W below test first free C tc X (takes_at below C.variables takes x X at) h U A f
 
-module _ (Σ : Signature) (ok : IsSignature Σ) (W : List Block) (typed : AreTypedBlocks Σ W) (below : ℕ → ℕ → Bool) (test : (f : ℕ) → IsBelowTest Σ W (below f) f) (first : ℕ) (free : IsFreeFrom Σ first) (C : NumberedCase) (tc : IsTypedNumberedCase Σ first W C) (x : ℕ) (Cs : List NumberedCase) (sp : IsUnifiedByNumber Σ first W below C x Cs) (k : TakesBelow below sp.type) where
-  head_below : (o : NumberedOffer) → IsOfferTo Σ first W C x sp.type o → QuantifiersAreBelow below o.left
-  head_below o (of_case h U A f) = offer_below Σ W below test first free C tc sp.type k h U A f
-  head_below o (of_new_block B c U A b n f) = offer_below Σ W below test first free o.case (new_block_stays_typed Σ ok W typed first free C tc B b) o.type (takes_renamed below (shift_by (length B.some)) sp.type k) o.head U A f
+-- Each head that is offered to such a variable does, that of a new block variable too; and what it takes is below.
+module _ (Σ : Signature) (ok : IsSignature Σ) (W : List Block) (typed : AreTypedBlocks Σ W) (below : ℕ → ℕ → Bool) (test : (f : ℕ) → IsBelowTest Σ W (below f) f) (first : ℕ) (free : IsFreeFrom Σ first) (C : NumberedCase) (tc : IsTypedNumberedCase Σ first W C) (x : ℕ) (X : LfType) (k : TakesBelow below X) where
+  head_below : (o : NumberedOffer) → IsOfferTo Σ first W C x X o → QuantifiersAreBelow below o.left
+  head_below o (of_case h U A f) = offer_below Σ W below test first free C tc X k h U A f
+  head_below o (of_new_block B c U A b n f) = offer_below Σ W below test first free o.case (new_block_stays_typed Σ ok W typed first free C tc B b) o.type (takes_renamed below (shift_by (length B.some)) X k) o.head U A f
 
   s : IsSubordination Σ W below
   s = below_is_subordination Σ ok W typed below test
 
+  pub variable_takes : ArgumentsAreBelow below X
+  variable_takes = take_below below Σ W s X k
+
+  pub head_takes_below : (o : NumberedOffer) → IsOfferTo Σ first W C x X o → ArgumentsAreBelow below o.left
+  head_takes_below o f = take_below below Σ W s o.left (quantified_takes below o.left (head_below o f))
+
+module _ (Σ : Signature) (ok : IsSignature Σ) (W : List Block) (typed : AreTypedBlocks Σ W) (below : ℕ → ℕ → Bool) (test : (f : ℕ) → IsBelowTest Σ W (below f) f) (first : ℕ) (free : IsFreeFrom Σ first) (C : NumberedCase) (tc : IsTypedNumberedCase Σ first W C) (x : ℕ) (Cs : List NumberedCase) (sp : IsUnifiedByNumber Σ first W below C x Cs) (k : TakesBelow below sp.type) where
   answered : IsAnsweredByNumber Σ first W below C x Cs
   answered = record {
     type = sp.type;
     at = sp.at;
-    takes_below = take_below below Σ W s sp.type k;
+    takes_below = variable_takes Σ ok W typed below test first free C tc x sp.type k;
     offers = sp.offers;
     each = sp.each;
     every = sp.every;
-    arguments_below = λ o f. take_below below Σ W s o.left (quantified_takes below o.left (head_below o f));
+    arguments_below = head_takes_below Σ ok W typed below test first free C tc x sp.type k;
     listed = sp.listed;
   }
 
@@ -211,7 +220,7 @@ module _ (Σ : Signature) (ok : IsSignature Σ) (W : List Block) (typed : AreTyp
   cases_take D m =
       let (o, k, a) = offer_of_case sp.listed D m in
       let f : Offers o = known o (sp.each o k) in
-      case_takes Σ W below test first free o.case f.typed_case f.takes_so o.variable o.type f.place o.head o.terms o.left (head_below Σ ok W typed below test first free C tc x Cs sp at_variable o (sp.each o k)) a.kind D a.finds
+      case_takes Σ W below test first free o.case f.typed_case f.takes_so o.variable o.type f.place o.head o.terms o.left (head_below Σ ok W typed below test first free C tc x sp.type at_variable o (sp.each o k)) a.kind D a.finds
 
   pub is_answered : ((an : IsAnsweredByNumber Σ first W below C x Cs) × (an.type ≡ sp.type)) × ((D : NumberedCase) → Member D Cs → AllTakeBelow below D.variables)
   is_answered = (taker_answered Σ ok W typed below test first free C tc x Cs sp at_variable, cases_take)

@@ -24,9 +24,6 @@ use Rattle.lf_numbered.specs.EntryPatternsOutputs.{numbered_output_goal}
 use Rattle.lf_numbered.specs.EntryPatternsRuns.{IsNumberedLeaf, IsNumberedSplit}
 use Rattle.lf_cases.specs.Split.{Ends, at_leaf, by_split, no_case, next_case}
 use Rattle.lf_coverage.specs.Leaf.{IsTypedPattern}
-use Rattle.lf_coverage.specs.TypedCase.{IsTypedBeside, TypedArguments}
-use Rattle.lf_coverage.proofs.Leaves.{subgoal_is_typed}
-use Rattle.lf_coverage.proofs.Parts.{none_some, some_same}
 use Rattle.lf_numbered.specs.NumberedBesideGiven.{IsTypedBesideByNumber, with_outside}
 use Rattle.lf_numbered.specs.NumberedBesideLater.{asked_type, asked_kind, second_goal, AskedIsBeside, AnsweredIsBeside, OpenIsNotBeside, LaterRunGivesOutputs, LaterAnswersGiveOutputs}
 use Rattle.lf_numbered.specs.NumberedCase.{NumberedCase}
@@ -34,24 +31,27 @@ use Rattle.lf_numbered.specs.NumberedInstance.{block_at}
 use Rattle.lf_numbered.specs.Numbering.{numbered}
 use Rattle.lf_numbered.specs.NumberedSplitsRuns.{AnswersByNumber}
 use Rattle.lf_numbered.specs.OwnTerms.{BlockVariable}
+use Rattle.lf_coverage.specs.TypedCase.{IsTypedBeside, TypedArguments}
 use Rattle.lf_numbered.proofs.EntryPatternsExamples.{later_is_leaf}
 use Rattle.lf_numbered.proofs.EntryPatternsGoals.{ok, blocks, free}
 use Rattle.lf_numbered.proofs.EntryPatternsOutputs.{numbered_runs_give_outputs}
 use Rattle.lf_numbered.proofs.NumberedBesideGiven.{numbered_output_goal_is_beside}
+use Rattle.lf_coverage.proofs.Leaves.{subgoal_is_typed}
 use Rattle.lf_numbered.proofs.NumberedBesideLater.{asked_comes, asked_family}
 use Rattle.lf_numbered.proofs.NumberedBesideOffers.{asked_typed}
 use Rattle.lf_numbered.proofs.NumberedBesideStays.{numbered_run_stays_beside}
 use Rattle.lf_numbered.proofs.NumberedCandidatesTypes.{families_take}
 use Rattle.lf_numbered.proofs.NumberedSplits.{answered_by_number_is_split}
 use Rattle.lf_numbered.proofs.NumberedSplitsRuns.{answered_by_number_gives_outputs}
+use Rattle.lf_coverage.proofs.Parts.{none_some, some_same}
 
 -- The goal is typed beside its subgoal, and so is the case of its split.
-all_outside : Within (outside asking_clause.type everything) ground_before
+pub all_outside : Within (outside asking_clause.type everything) ground_before
 all_outside zero e = absurd cc
 all_outside (suc zero) e = absurd cc
 all_outside (suc (suc i)) e = refl
 
-ground_closed : (i : ℕ) (A : LfType) → TypeAt (scope asking_clause) i A → ground_before i ≡ true → UsesType ground_before A
+pub ground_closed : (i : ℕ) (A : LfType) → TypeAt (scope asking_clause) i A → ground_before i ≡ true → UsesType ground_before A
 ground_closed zero A g u = absurd cc
 ground_closed (suc zero) A g u = absurd cc
 ground_closed (suc (suc zero)) A (B, (C, e, f), g) u = subst (UsesType ground_before) (sym (g ∙ ap weaken (f ∙ ap weaken e))) tt
@@ -113,10 +113,10 @@ open_is_not_beside Σ first t = no (t.beside.given.closed 2 _ (_, (_, refl, refl
     no ((u, v), w) = cc
 
 -- The clause of v comes as this entry alone.
-abbrev the_pattern : onto [] (asking_entry ∷ []) ≡ asking_block.entries → Pattern
+abbrev pub the_pattern : onto [] (asking_entry ∷ []) ≡ asking_block.entries → Pattern
 the_pattern e = subgoal_pattern asking_clause (of_entry asking_block [] asking_entry [] e) asked_type
 
-other_leaf : (e : onto [] (asking_entry ∷ []) ≡ asking_block.entries) (C : NumberedCase) → IsNumberedLeaf Laters 4 later_worlds (asked ∷ []) C → IsNumberedLeaf Laters 4 later_worlds (the_pattern e ∷ []) C
+pub other_leaf : (e : onto [] (asking_entry ∷ []) ≡ asking_block.entries) (C : NumberedCase) → IsNumberedLeaf Laters 4 later_worlds (asked ∷ []) C → IsNumberedLeaf Laters 4 later_worlds (the_pattern e ∷ []) C
 other_leaf e C l =
     let (t, n, g, i) = subst Known (only l.listed) (l.pattern_typed, l.same_length, l.given_own, l.is_instance) in
     record {
@@ -136,13 +136,7 @@ other_leaf e C l =
     only (inl q) = q
     only (inr m) = absurd m
 
-module _ (below : ℕ → ℕ → Bool) (Splits : NumberedCase → List NumberedCase → Type 0) (split : Splits asked_goal (answered_case ∷ [])) where
-  abbrev EndsSo : (c : Clause) → IsClause Laters later_worlds c → Type 0
-  EndsSo c d = Ends (IsNumberedLeaf Laters 4 later_worlds (subgoal_pattern c (origin d) asked_type ∷ [])) Splits (numbered_output_goal 4 below later_marks (origin d) ground_before asked_type asked_kind)
-
-  ends : (i : Member asking_block later_worlds) (e : onto [] (asking_entry ∷ []) ≡ asking_block.entries) → EndsSo asking_clause (from_entry asking_block [] asking_entry [] i e)
-  ends i e = by_split (answered_case ∷ []) split (next_case (at_leaf (other_leaf e answered_case later_is_leaf.1)) no_case)
-
+module _ (P : (c : Clause) → IsClause Laters later_worlds c → Type 0) (at_entry : (i : Member asking_block later_worlds) (e : onto [] (asking_entry ∷ []) ≡ asking_block.entries) → P asking_clause (from_entry asking_block [] asking_entry [] i e)) where
   first_same : (E F : LfType) (es fs : List LfType) → E ∷ es ≡ F ∷ fs → E ≡ F
   first_same E F es fs q = ap head q
     where
@@ -157,16 +151,16 @@ module _ (below : ℕ → ℕ → Bool) (Splits : NumberedCase → List Numbered
       rest [] = []
       rest (A ∷ G) = G
 
-  at_asking : (later : List LfType) (E : LfType) (es : List LfType) (i : Member asking_block later_worlds) (e : onto later (E ∷ es) ≡ asking_block.entries) → EndsSo (entry_clause asking_block es E) (from_entry asking_block later E es i e)
-  at_asking [] E es i e = subst (λ X. (q : X ∷ es ≡ asking_block.entries) → EndsSo (entry_clause asking_block es X) (from_entry asking_block [] X es i q)) (sym (first_same E asking_entry es [] e)) (subst (λ ys. (q : asking_entry ∷ ys ≡ asking_block.entries) → EndsSo (entry_clause asking_block ys asking_entry) (from_entry asking_block [] asking_entry ys i q)) (sym (others_same E asking_entry es [] e)) (ends i)) e
+  at_asking : (later : List LfType) (E : LfType) (es : List LfType) (i : Member asking_block later_worlds) (e : onto later (E ∷ es) ≡ asking_block.entries) → P (entry_clause asking_block es E) (from_entry asking_block later E es i e)
+  at_asking [] E es i e = subst (λ X. (q : X ∷ es ≡ asking_block.entries) → P (entry_clause asking_block es X) (from_entry asking_block [] X es i q)) (sym (first_same E asking_entry es [] e)) (subst (λ ys. (q : asking_entry ∷ ys ≡ asking_block.entries) → P (entry_clause asking_block ys asking_entry) (from_entry asking_block [] asking_entry ys i q)) (sym (others_same E asking_entry es [] e)) (at_entry i)) e
   at_asking (D ∷ ds) E es i e = absurd (subst (Member E) (others_same D asking_entry (onto ds (E ∷ es)) [] e) (member_onto ds E es))
 
   not_atom : (a : ℕ) (S : Spine) → asking_entry ≡ atom a S → ⊥
   not_atom a S e = cc
 
-  any_way : (c : Clause) (d : IsClause Laters later_worlds c) → c.type ≡ asking_entry → EndsSo c d
+  any_way : (c : Clause) (d : IsClause Laters later_worlds c) → c.type ≡ asking_entry → P c d
   any_way c (from_constant k T e) p = absurd (none_some e)
-  any_way c (from_entry B later E es (inl q) e) p = subst (λ D. (i : Member D later_worlds) (f : onto later (E ∷ es) ≡ D.entries) → EndsSo (entry_clause D es E) (from_entry D later E es i f)) (sym q) (at_asking later E es) (inl q) e
+  any_way c (from_entry B later E es (inl q) e) p = subst (λ D. (i : Member D later_worlds) (f : onto later (E ∷ es) ≡ D.entries) → P (entry_clause D es E) (from_entry D later E es i f)) (sym q) (at_asking later E es) (inl q) e
   any_way c (from_entry B later E es (inr (inl q)) e) p = absurd (no (subst (Member E) (e ∙ ap (λ (D : Block). D.entries) q) (member_onto later E es)))
     where
       no : Member E answering_block.entries → ⊥
@@ -175,8 +169,18 @@ module _ (below : ℕ → ℕ → Bool) (Splits : NumberedCase → List Numbered
       no (inr (inr m)) = m
   any_way c (from_entry B later E es (inr (inr m)) e) p = absurd m
 
-  pub each_way : (d : IsClause Laters later_worlds asking_clause) → Ends (IsNumberedLeaf Laters 4 later_worlds (subgoal_pattern asking_clause (origin d) asked_type ∷ [])) Splits (numbered_output_goal 4 below later_marks (origin d) ground_before asked_type asked_kind)
-  each_way d = any_way asking_clause d refl
+  pub comes_once : (d : IsClause Laters later_worlds asking_clause) → P asking_clause d
+  comes_once d = any_way asking_clause d refl
+
+module _ (below : ℕ → ℕ → Bool) (Splits : NumberedCase → List NumberedCase → Type 0) (split : Splits asked_goal (answered_case ∷ [])) where
+  abbrev EndsSo : (c : Clause) → IsClause Laters later_worlds c → Type 0
+  EndsSo c d = Ends (IsNumberedLeaf Laters 4 later_worlds (subgoal_pattern c (origin d) asked_type ∷ [])) Splits (numbered_output_goal 4 below later_marks (origin d) ground_before asked_type asked_kind)
+
+  ends : (i : Member asking_block later_worlds) (e : onto [] (asking_entry ∷ []) ≡ asking_block.entries) → EndsSo asking_clause (from_entry asking_block [] asking_entry [] i e)
+  ends i e = by_split (answered_case ∷ []) split (next_case (at_leaf (other_leaf e answered_case later_is_leaf.1)) no_case)
+
+  pub each_way : (d : IsClause Laters later_worlds asking_clause) → EndsSo asking_clause d
+  each_way = comes_once EndsSo ends
 
 module _ (below : ℕ → ℕ → Bool) (s : IsSubordination Laters later_worlds below) where
   sc : SelfContained Laters later_worlds (below 3)

@@ -15,28 +15,31 @@ use Rattle.lf_cases.specs.Pattern.{Pattern, Origin, origin, subgoal_pattern}
 use Rattle.lf_cases.specs.Split.{Ends, at_leaf, by_split}
 use Rattle.lf_cases.proofs.OutputItems.{length_instance, length_renumber}
 use Rattle.lf_cases.proofs.Subordinate.{below_is_subordination, kind_places_below}
-use Rattle.lf_coverage.specs.Leaf.{IsTypedPattern}
-use Rattle.lf_coverage.specs.Subordinate.{QuantifiersAreBelow, AllQuantifiersAreBelow}
-use Rattle.lf_coverage.proofs.Families.{all_binders}
-use Rattle.lf_coverage.proofs.GoalItems.{one_without}
-use Rattle.lf_coverage.proofs.Leaves.{subgoal_is_typed}
-use Rattle.lf_coverage.proofs.LocalsInSet.{locals_in, locals_moved, locals_put, places_in}
-use Rattle.lf_coverage.proofs.OutputRuns.{clause_families}
-use Rattle.lf_coverage.proofs.Subordinate.{below_binders, below_renamed, below_renumbered}
-use Rattle.lf_coverage.proofs.TypedCases.{input_goal_is_typed_case}
+use Rattle.lf_totality.proofs.EntryGoals.{goals_cover}
+use Rattle.lf_numbered.specs.CoveredAnswerGives.{AnswersGiveOutputs}
 use Rattle.lf_numbered.specs.EntryTermsInputs.{closed_head}
 use Rattle.lf_numbered.specs.EntryPatternsRuns.{IsNumberedLeaf}
+use Rattle.lf_coverage.specs.Leaf.{IsTypedPattern}
 use Rattle.lf_numbered.specs.NumberedCalls.{IsBesideByNumber}
 use Rattle.lf_numbered.specs.NumberedCandidatesRuns.{NumberedCandidateRunCoversHeads, NumberedCandidateRunCoversInputs, NumberedCandidateRunCoversOutputs, NumberedCandidateRunGivesOutputs, UnifiesCandidate}
 use Rattle.lf_numbered.specs.NumberedCase.{NumberedCase}
 use Rattle.lf_numbered.specs.Numbering.{numbered, numbering}
-use Rattle.lf_numbered.proofs.EntryPatternsForms.{numbered_run_covers_case, one_numbered}
-use Rattle.lf_numbered.proofs.EntryPatternsOutputs.{numbered_output_goal_is_typed, numbered_runs_give_outputs}
+use Rattle.lf_coverage.specs.Subordinate.{QuantifiersAreBelow, AllQuantifiersAreBelow}
+use Rattle.lf_numbered.proofs.EntryPatternsForms.{numbered_covers_case, numbered_run_covers_case, one_numbered}
+use Rattle.lf_numbered.proofs.EntryPatternsOutputs.{numbered_output_goal_is_typed}
 use Rattle.lf_numbered.proofs.EntryTermsInputs.{clause_is_closed, closed_is_typed, input_goal_is_beside_by_number}
+use Rattle.lf_coverage.proofs.Families.{all_binders}
+use Rattle.lf_coverage.proofs.GoalItems.{one_without}
+use Rattle.lf_coverage.proofs.Leaves.{subgoal_is_typed}
+use Rattle.lf_coverage.proofs.LocalsInSet.{locals_in, locals_moved, locals_put, places_in}
 use Rattle.lf_numbered.proofs.NumberedBesideGiven.{numbered_output_goal_is_beside}
 use Rattle.lf_numbered.proofs.NumberedBesideGoals.{clause_below, subgoal_has}
 use Rattle.lf_numbered.proofs.NumberedCallsGoals.{beside_by_number}
 use Rattle.lf_numbered.proofs.NumberedCandidatesRuns.{candidate_run, low_put, numbered_candidate_run_covers}
+use Rattle.lf_coverage.proofs.OutputRuns.{clause_families}
+use Rattle.lf_coverage.proofs.OutputTyped.{output_goal_is_typed_case}
+use Rattle.lf_coverage.proofs.Subordinate.{below_binders, below_renamed, below_renumbered}
+use Rattle.lf_coverage.proofs.TypedCases.{input_goal_is_typed_case}
 
 pub numbered_candidate_run_covers_inputs : NumberedCandidateRunCoversInputs
 numbered_candidate_run_covers_inputs Σ ok W typed below test first free ps heads a m K e c U t ta r =
@@ -98,13 +101,17 @@ numbered_candidate_run_covers_outputs Σ ok W typed below test first free m c d 
     (numbered_output_goal_is_beside Σ ok W typed first free below m c d U all_out closed i A sub needs sound none K e)
     (one_size _ p (goal_size Σ W below c d i A sub first m (origin d) U K)) (goal_low Σ W below c d i A sub test first m (origin d) U K) r
 
-pub numbered_candidate_run_gives_outputs : NumberedCandidateRunGivesOutputs
-numbered_candidate_run_gives_outputs Σ ok W typed below test first free m f df c d t U all_out i A sub seq needs sound none K e runs Σ' x G w h θ off σ v =
+-- The outputs follow from the answers for the numbered goals.
+pub answers_give_outputs : AnswersGiveOutputs
+answers_give_outputs Σ ok W typed below test first free m f df c d t U all_out i A sub seq needs sound none K e answers Σ' x G w h θ off σ v =
     let s : IsSubordination Σ W below = below_is_subordination Σ ok W typed below test in
     let sc : SelfContained Σ W (below f) = s.self_contained f df in
-    numbered_runs_give_outputs Σ ok W typed first free below s m f df c d t U all_out i A sub seq needs sound none K e
+    goals_cover Σ ok W typed below s m f c d t U all_out i A sub seq none needs K e
     (kind_places_below Σ ok W typed below test f (target A) K df (family_target (below f) A (families Σ W below c d i A sub (below f) sc t)) e)
-    (λ b. candidate_run Σ ok W typed below test first free (subgoal_pattern c (origin b) A ∷ []) (subgoal_pattern c (origin b) A) (subgoal_is_typed Σ ok W typed c b i A sub) (length (binders [] A)) (one_size (length (binders [] A)) (subgoal_pattern c (origin b) A) refl) (below f)
-    (numbered_output_goal_is_beside Σ ok W typed first free below m c b U all_out v.closed i A sub needs sound none K e)
-    (goal_beside Σ W below c b i A sub (below f) sc t first m (origin b) U K e) (goal_low Σ W below c b i A sub test first m (origin b) U K) (goal_size Σ W below c b i A sub first m (origin b) U K) (runs b))
+    (λ b. numbered_covers_case Σ ok W typed (below f) first free (subgoal_pattern c (origin b) A ∷ []) (output_goal below m (origin b) U A K) (output_goal_is_typed_case Σ ok W typed below m c b U i A sub needs sound none K e).0 (answers v.closed b (below f) (goal_beside Σ W below c b i A sub (below f) sc t first m (origin b) U K e)))
     Σ' x G w h θ off σ v
+
+pub numbered_candidate_run_gives_outputs : NumberedCandidateRunGivesOutputs
+numbered_candidate_run_gives_outputs Σ ok W typed below test first free m f df c d t U all_out i A sub seq needs sound none K e runs =
+    answers_give_outputs Σ ok W typed below test first free m f df c d t U all_out i A sub seq needs sound none K e
+    (λ closed b. numbered_candidate_run_covers_outputs Σ ok W typed below test first free m c b U all_out closed i A sub needs sound none K e (runs b))

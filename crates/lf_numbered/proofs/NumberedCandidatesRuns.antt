@@ -15,25 +15,25 @@ use Rattle.lf_cases.specs.Split.{Ends}
 use Rattle.lf_cases.proofs.OutputItems.{length_instance, length_renumber}
 use Rattle.lf_cases.proofs.Subordinate.{below_is_subordination}
 use Rattle.lf_coverage.specs.Calls.{LocalsIn, PlacesIn}
-use Rattle.lf_coverage.specs.Leaf.{IsTypedPattern}
-use Rattle.lf_coverage.specs.SplitStore.{answer_values}
-use Rattle.lf_coverage.specs.Subordinate.{AllQuantifiersAreBelow}
-use Rattle.lf_coverage.proofs.LocalsInSet.{locals_moved, locals_put}
-use Rattle.lf_coverage.proofs.Runs.{other_run}
-use Rattle.lf_coverage.proofs.Subordinate.{below_renumbered, below_substituted}
 use Rattle.lf_numbered.specs.EntryConstants.{IsFreeFrom}
 use Rattle.lf_numbered.specs.EntryPatternsRuns.{IsNumberedLeaf, IsNumberedSplit}
+use Rattle.lf_coverage.specs.Leaf.{IsTypedPattern}
 use Rattle.lf_numbered.specs.NumberedBeside.{TakesBelow, TakesIn}
 use Rattle.lf_numbered.specs.NumberedBesideGiven.{IsTypedBesideByNumber}
 use Rattle.lf_numbered.specs.NumberedCalls.{IsBesideByNumber}
 use Rattle.lf_numbered.specs.NumberedCandidatesRuns.{AnswersFirst, UnifiesCandidate, NumberedCandidateRunCovers, NumberedStrategyRunCovers}
 use Rattle.lf_numbered.specs.NumberedCase.{NumberedCase}
 use Rattle.lf_numbered.specs.OwnStores.{ComesByNumbers, no_split, then_block, then_split}
+use Rattle.lf_coverage.specs.SplitStore.{answer_values}
+use Rattle.lf_coverage.specs.Subordinate.{AllQuantifiersAreBelow}
 use Rattle.lf_numbered.proofs.EntryPatternsForms.{numbered_run_covers}
+use Rattle.lf_coverage.proofs.LocalsInSet.{locals_moved, locals_put}
 use Rattle.lf_numbered.proofs.NumberedBesideStays.{numbered_run_stays_beside}
 use Rattle.lf_numbered.proofs.NumberedCandidates.{numbered_candidate_is_in_set, numbered_candidate_takes_below}
 use Rattle.lf_numbered.proofs.NumberedCandidatesSplits.{first_is_candidate_by_number, taker_by_number_is_split, unified_taker_is_answered}
 use Rattle.lf_numbered.proofs.NumberedSplitCases.{split_comes, unified_case}
+use Rattle.lf_coverage.proofs.Runs.{other_run}
+use Rattle.lf_coverage.proofs.Subordinate.{below_renumbered, below_substituted}
 
 -- a local context with values put in quantifies over what is below
 pub low_put : (below : ℕ → ℕ → Bool) (L : List LfType) (σ : ℕ → Image) → AllQuantifiersAreBelow below L → AllQuantifiersAreBelow below (instance L σ)
@@ -42,7 +42,7 @@ low_put below (A ∷ L) σ (a, l) = (below_substituted below (lift_over L σ) A 
 
 module _ (Σ : Signature) (ok : IsSignature Σ) (W : List Block) (typed : AreTypedBlocks Σ W) (below : ℕ → ℕ → Bool) (test : (f : ℕ) → IsBelowTest Σ W (below f) f) (first : ℕ) (free : IsFreeFrom Σ first) (ps : List Pattern) (q : Pattern) (tq : IsTypedPattern Σ q) (n : ℕ) (sizes : (p : Pattern) → Member p ps → n ≡ length (binders [] p.type)) (S : ℕ → Bool) where
   -- what is kept of a local context
-  abbrev Local : List LfType → Type 0
+  abbrev pub Local : List LfType → Type 0
   Local L = LocalsIn S L × AllQuantifiersAreBelow below L × (length L ≡ n)
 
   local_put : (L : List LfType) (σ : ℕ → Image) → Local L → Local (instance L σ)
@@ -57,7 +57,7 @@ module _ (Σ : Signature) (ok : IsSignature Σ) (W : List Block) (typed : AreTyp
     low : AllQuantifiersAreBelow below C.local
     size : length C.local ≡ n
 
-  local_kept : (C D : NumberedCase) → ComesByNumbers Σ W first below C D → Local C.local → Local D.local
+  pub local_kept : (C D : NumberedCase) → ComesByNumbers Σ W first below C D → Local C.local → Local D.local
   local_kept C _ no_split h = h
   local_kept C _ (then_block {D = E} B r m) h = local_moved (shift_by (length B.some)) E.local (local_kept C E r h)
   local_kept C _ (then_split {D = E} y X k U A K after r at f e s) h = local_put E.local (λ i. answer_values after s.well_formed.order (i + arguments_count A)) (local_kept C E r h)

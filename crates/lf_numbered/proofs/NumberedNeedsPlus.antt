@@ -9,13 +9,13 @@ use Rattle.lf_checks.specs.Ground.{ground_first}
 use Rattle.lf_cases.specs.Pattern.{AreHeadsOf, of_constant}
 use Rattle.lf_totality.specs.Examples.{Addition, addition_kinds, addition_marks, addition_types, first_below_second, on_three, plus_heads, plus_input_goal, plus_kind, plus_output_case, plus_s, plus_z, var}
 use Rattle.lf_totality.proofs.Addition.{addition_ok}
-use Rattle.lf_coverage.specs.ExamplesLeaves.{plus_asked}
-use Rattle.lf_coverage.proofs.ExamplesSubordinate.{addition_is_tested}
 use Rattle.lf_numbered.specs.EntryConstants.{IsFreeFrom}
+use Rattle.lf_coverage.specs.ExamplesLeaves.{plus_asked}
 use Rattle.lf_numbered.specs.NumberedCalls.{IsSetting}
 use Rattle.lf_numbered.specs.NumberedNeeds.{AreTypedHeads}
 use Rattle.lf_numbered.specs.NumberedNeedsExamples.{PlusHasNeeds}
 use Rattle.lf_numbered.specs.Numbering.{numbered}
+use Rattle.lf_coverage.proofs.ExamplesSubordinate.{addition_is_tested}
 use Rattle.lf_numbered.proofs.NumberedNeedsGoals.{clause_heads_are_typed, input_goal_has_needs, output_goal_has_needs}
 
 -- no constant and no family has the number 4 or a greater one
@@ -37,13 +37,13 @@ addition_free = record { types_free = types; kinds_free = kinds }
 pub addition_setting : IsSetting Addition 4 []
 addition_setting = record { signature = addition_ok; blocks = λ B m. absurd m; free = addition_free }
 
+pub plus_clauses : AreHeadsOf Addition [] 1 plus_heads
+plus_clauses p (inl e) = (plus_z, from_constant 2 plus_z.type refl, refl, e)
+plus_clauses p (inr (inl e)) = (plus_s, from_constant 3 plus_s.type refl, refl, e)
+plus_clauses p (inr (inr m)) = absurd m
+
 pub plus_typed : AreTypedHeads Addition 1 plus_heads
-plus_typed = clause_heads_are_typed Addition addition_ok [] (λ B m. absurd m) 1 plus_heads heads
-  where
-    heads : AreHeadsOf Addition [] 1 plus_heads
-    heads p (inl e) = (plus_z, from_constant 2 plus_z.type refl, refl, e)
-    heads p (inr (inl e)) = (plus_s, from_constant 3 plus_s.type refl, refl, e)
-    heads p (inr (inr m)) = absurd m
+plus_typed = clause_heads_are_typed Addition addition_ok [] (λ B m. absurd m) 1 plus_heads plus_clauses
 
 abbrev ground : ℕ → Bool
 ground = ground_first addition_marks plus_s

@@ -1,35 +1,44 @@
 -- Worked: the split of plus X Y _ at X lists the case by z and then that by s, and no other list.
 use Rattle.std.proofs.Common.{◌≡◌, ℕ, zero, suc, List, [], ◌∷◌, Option, inl, inr, refl, sym, ap, ◌∙◌, subst, arith}
-use Rattle.std.specs.Prelude.{Some, None}
-use Rattle.lf.specs.Syntax.{constant, Term, Spine, root, nil, pi, star}
+use Rattle.std.specs.Prelude.{◌+◌, Some, None}
+use Rattle.lf.specs.Syntax.{constant, metavariable, variable, Term, Spine, lambda, root, nil, app, base, LfType, pi, star, skeleton, weaken}
+use Rattle.lf.specs.Eta.{eta_long}
+use Rattle.lf.specs.AtOnce.{in_front}
+use Rattle.lf.specs.Substitution.{Image, keep, put, substitute, substitute_image, reduce}
+use Rattle.lf.specs.Typing.{HasType, SpineType}
 use Rattle.lf.specs.Subordination.{Member}
 use Rattle.lf_unification.specs.Dependency.{ListedMetavariable, free_context}
 use Rattle.lf_unification.specs.OpenTyping.{skeletons_of}
 use Rattle.lf_unification.specs.Solving.{Solved}
 use Rattle.lf_unification.specs.Unifiers.{Store}
 use Rattle.lf_cases.specs.Case.{Case, items_context}
-use Rattle.lf_totality.specs.Examples.{Addition, first_below_second, nat, plus_input_goal, plus_successor_case, plus_zero_case}
+use Rattle.lf_cases.specs.Missing.{put_in}
+use Rattle.lf.specs.Worlds.{lift_over}
+use Rattle.lf_totality.specs.Examples.{Addition, first_below_second, nat, plus_input_goal, plus_successor_case, plus_zero_case, var}
+use Rattle.lf_numbered.specs.EntryConstants.{with_entries}
 use Rattle.lf_coverage.specs.HeadOrder.{Offer}
 use Rattle.lf_coverage.specs.Listed.{Listed, no_offer, with_case, without_case}
-use Rattle.lf_coverage.specs.SplitStore.{solved_case}
-use Rattle.lf_coverage.specs.UnifiedSplit.{HeadIsAnswered, UnifierFinds}
-use Rattle.lf_coverage.proofs.ExamplesUnified.{plus_listed, successor_found, zero_has_unifier}
-use Rattle.lf_coverage.proofs.Parts.{none_some, some_same}
-use Rattle.lf_coverage.proofs.SolvedCase.{free_context_is}
-use Rattle.lf_numbered.specs.EntryConstants.{with_entries}
 use Rattle.lf_numbered.specs.NumberedCalls.{ListsCases}
 use Rattle.lf_numbered.specs.NumberedCallsOrder.{AreInNumberedOrder, HasNumberedRank, next_in_order, one_in_order, signature_rank}
 use Rattle.lf_numbered.specs.NumberedCase.{NumberedCase}
+use Rattle.lf_numbered.specs.NumberedInstance.{AreTypedValues, move_all, moved_constant}
 use Rattle.lf_numbered.specs.NumberedSplits.{IsOfferTo, NumberedOffer, NumberedUnifierFinds, of_case}
 use Rattle.lf_numbered.specs.Numbering.{numbered}
-use Rattle.lf_numbered.specs.OnlyExamples.{ZeroComesFirst, successor_case, zero_case}
+use Rattle.lf_numbered.specs.OnlyExamples.{ExchangedIsSame, IdleIsNotSame, ZeroComesFirst, successor_case, zero_case}
+use Rattle.lf_numbered.specs.OnlyCase.{GivesBack}
 use Rattle.lf_numbered.specs.OnlyList.{AreSameCases}
 use Rattle.lf_numbered.specs.OwnStores.{as_case, numbered_store, offer_signature, solved_numbered}
+use Rattle.lf_numbered.specs.OwnTerms.{own_terms}
+use Rattle.lf_coverage.specs.SplitStore.{solved_case}
+use Rattle.lf_coverage.specs.UnifiedSplit.{HeadIsAnswered, UnifierFinds}
 use Rattle.lf_numbered.proofs.EntrySignature.{else_none}
+use Rattle.lf_coverage.proofs.ExamplesUnified.{plus_listed, successor_found, zero_has_unifier}
 use Rattle.lf_numbered.proofs.NumberedNeedsPlus.{plus_has_needs}
 use Rattle.lf_numbered.proofs.OffersListed.{ConstantsAreIn, heads_are_in, offer_with, other_target}
 use Rattle.lf_numbered.proofs.OnlyList.{split_has_one_list}
+use Rattle.lf_coverage.proofs.Parts.{none_some, some_same}
 use Rattle.lf_numbered.proofs.RanksListed.{signature_rank_in}
+use Rattle.lf_coverage.proofs.SolvedCase.{free_context_is}
 use mathlib.Core.Path.{fun_ext}
 
 abbrev goal : NumberedCase
@@ -120,3 +129,50 @@ zero_comes_first = (
   (λ m. (same (zero_case ∷ []) m).1),
   (λ m. (same (successor_case ∷ []) m).1),
 )
+
+-- Each variable is given back where the two are exchanged.
+abbrev exchanged : ℕ → Image
+exchanged = in_front (put (base 0) (var 1)) (in_front (put (base 0) (var 0)) (λ i. keep (i + 2)))
+
+given_back : GivesBack (nat ∷ nat ∷ []) exchanged exchanged
+given_back zero A e = subst (λ B. substitute_image exchanged (exchanged 0) ≡ put (skeleton B) (eta_long (skeleton B) (variable 0))) (sym e) refl
+given_back (suc zero) A (B, g, e) = subst (λ D. substitute_image exchanged (exchanged 1) ≡ put (skeleton D) (eta_long (skeleton D) (variable 1))) (sym (e ∙ ap weaken g)) refl
+given_back (suc (suc i)) A (B, (D, g, p), e) = absurd g
+
+pub exchanged_is_same : ExchangedIsSame
+exchanged_is_same = record {
+  values = exchanged;
+  back = exchanged;
+  is_instance = record { is_instance = record { blocks = λ k b e. absurd (none_some e); values = (var 1, _, (var 0, (λ i. keep (i + 2)), refl, (nat, refl, refl), tt, refl), (nat, (nat, refl, refl), refl), tt, refl) }; family = refl; given = refl; local = refl; arguments = refl };
+  has_instance = record { is_instance = record { blocks = λ k b e. absurd (none_some e); values = (var 1, _, (var 0, (λ i. keep (i + 2)), refl, (nat, refl, refl), tt, refl), (nat, (nat, refl, refl), refl), tt, refl) }; family = refl; given = refl; local = refl; arguments = refl };
+  there_and_back = given_back;
+  back_and_there = given_back;
+}
+
+-- No value gives back the variable that occurs nowhere: Y is the only variable of plus z Y _, and is given back itself.
+abbrev over_y : List LfType
+over_y = nat ∷ []
+
+lost : (τ : ℕ → Image) (N : Term) → HasType (with_entries Addition 4 []) over_y N nat → substitute reduce (in_front (put (base 0) (var 0)) τ) N ≡ var 1 → ⊥
+lost τ (lambda M) t e = cc
+lost τ (root (constant c) S) t e = cc
+lost τ (root (metavariable m) S) t e = cc
+lost τ (root (variable zero) nil) t e = (let p : ◌≡◌ {A = ℕ} 0 1 = cc in omega (arith, p))
+lost τ (root (variable zero) (app M S)) (A, g, s) e = absurd (subst (λ B. SpineType (with_entries Addition 4 []) over_y (app M S) B nat) g s)
+lost τ (root (variable (suc i)) S) (A, (B, g, q), s) e = absurd g
+
+second : {M N : Term} {a : Option Term} {b : Option Term} {Ms Ns : List (Option Term)} → ◌≡◌ {A = List (Option Term)} (a ∷ Some M ∷ Ms) (b ∷ Some N ∷ Ns) → M ≡ N
+second e = cc
+
+term_of : {M N : Term} → put (base 0) M ≡ put (base 0) N → M ≡ N
+term_of e = cc
+
+pub idle_is_not_same : IdleIsNotSame
+idle_is_not_same s = by s.is_instance.is_instance.values s.has_instance.is_instance.values
+  where
+    by : AreTypedValues (with_entries Addition 4 []) over_y (own_terms 4 []) (moved_constant 4 [] [] (λ k. k)) (nat ∷ nat ∷ []) s.values → AreTypedValues (with_entries Addition 4 []) (nat ∷ nat ∷ []) (own_terms 4 []) (moved_constant 4 [] [] (λ k. k)) over_y s.back → ⊥
+    by (M, υ, (N, κ, tail, n, o, q), m, p, r) (L, τ, rest, l, i, b) =
+        let y : var 0 ≡ L = second (s.has_instance.arguments ∙ ap (λ f. put_in (lift_over [] f) (move_all (moved_constant 4 [] [] (λ k. k)) zero_case.arguments)) b) in
+        let v : s.values 1 ≡ put (base 0) N = ap (λ f. f 1) r ∙ ap (λ f. f 0) q in
+        let w : put (base 0) (substitute reduce s.back N) ≡ put (base 0) (var 1) = sym (ap (substitute_image s.back) v) ∙ s.there_and_back 1 nat (nat, refl, refl) in
+        lost τ N n (ap (λ K. substitute reduce (in_front (put (base 0) K) τ) N) y ∙ ap (λ f. substitute reduce f N) (sym b) ∙ term_of w)

@@ -13,7 +13,6 @@ use Rattle.lf_cases.specs.Missing.{blocks_with}
 use Rattle.lf_cases.specs.Pattern.{Known, Origin, of_constant, of_entry, Pattern, HasGiven}
 use Rattle.lf_cases.proofs.OutputItems.{length_instance}
 use Rattle.lf_cases.proofs.Split.{given_same as given_alike, given_there}
-use Rattle.lf_coverage.proofs.HeadSplit.{places_put_in}
 use Rattle.lf_numbered.specs.EntryPatternsRuns.{HoldsByNumber, IsLikeByNumber, ZerothIs}
 use Rattle.lf_numbered.specs.NumberedArguments.{HasNumberedArguments, read_over, read_all}
 use Rattle.lf_numbered.specs.NumberedCalls.{NumberedMatchedNeeds}
@@ -23,7 +22,8 @@ use Rattle.lf_numbered.specs.NumberedInstance.{block_at, moved_constant, move_al
 use Rattle.lf_numbered.specs.OwnTerms.{BlockVariable, blocks_of}
 use Rattle.lf_numbered.specs.Reading.{entry_reading}
 use Rattle.lf_numbered.specs.SharedInstances.{HoldsAsInstance}
-use Rattle.lf_numbered.specs.SharedTuples.{SharedInstanceHasTuple, MetHasTuple, MetIsNotApart, SharedTupleIsNotApart, UnsplitIsMet}
+use Rattle.lf_numbered.specs.SharedTuples.{SharedInstanceHasTuple, MetHasTuple, MetSharesTuple, SharedTupleIsNotApart, UnsplitIsMet}
+use Rattle.lf_coverage.proofs.HeadSplit.{places_put_in}
 use Rattle.lf_numbered.proofs.MovedConstants.{length_moved}
 use Rattle.lf_numbered.proofs.NumberedCallsLaws.{some_tuple, some_values}
 use Rattle.lf_numbered.proofs.NumberedCallsLike.{reached_is_like_goal}
@@ -97,8 +97,8 @@ met_has_tuple Σ first W C p n s V typed S Σ' x G w θ ρ inst =
     let b = back Σ first W C p n s V typed S Σ' x w θ ρ inst in
     (record { known = F; values = σ; tuple = T; holds = record { instances = χ; values = b.values; is_ground = b.is_ground; zeroth = z; given = b.given σ g; has_arguments = b.arguments T k }; is_known = known_here p.origin p.at_first C χ; has = t }, k)
 
-pub met_is_not_apart : MetIsNotApart
-met_is_not_apart Σ first W C p n s V typed S Σ' x G w θ ρ inst =
+pub met_shares_tuple : MetSharesTuple
+met_shares_tuple Σ first W C p n s V typed S Σ' x G w θ ρ inst =
     let (t, k) = met_has_tuple Σ first W C p n s V typed S Σ' x G w θ ρ inst in
     record { worlds = V; typed = typed; set = S; extension = Σ'; extends = x; context = G; world = w; known = t.known; values = t.values; tuple = t.tuple; holds = t.holds; is_known = t.is_known; has = t.has }
 

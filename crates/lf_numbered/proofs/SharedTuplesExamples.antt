@@ -14,13 +14,8 @@ use Rattle.lf_totality.proofs.Copying.{copying_ok}
 use Rattle.lf_coverage.specs.Examples.{two_nats}
 use Rattle.lf_coverage.specs.ExamplesCopying.{copy_entry_head, copy_worlds}
 use Rattle.lf_coverage.specs.ExamplesMeetings.{zeros}
-use Rattle.lf_coverage.specs.ExamplesStuck.{Zeros}
-use Rattle.lf_coverage.proofs.ExamplesCopyingSplit.{copy_typed}
-use Rattle.lf_coverage.proofs.ExamplesStuck.{zeros_ok}
-use Rattle.lf_coverage.proofs.Leaves.{head_is_typed}
-use Rattle.lf_coverage.proofs.Parts.{none_some}
-use Rattle.lf_coverage.proofs.UsedVariables.{types_of_one}
 use Rattle.lf_numbered.specs.ExamplesNumbered.{one_copy, two_copies}
+use Rattle.lf_coverage.specs.ExamplesStuck.{Zeros}
 use Rattle.lf_numbered.specs.NumberedArguments.{HasNumberedArguments}
 use Rattle.lf_numbered.specs.NumberedCalls.{IsFor, IsSetting, NumberedCoverNeeds, NumberedMatchedNeeds}
 use Rattle.lf_numbered.specs.NumberedCallsExamples.{applied_zero}
@@ -30,13 +25,18 @@ use Rattle.lf_numbered.specs.OwnTerms.{TypeOnOwnTerms, own_terms}
 use Rattle.lf_numbered.specs.SharedTuplesExamples.{CopiesShareGround, AppliedZeroIsMet}
 use Rattle.lf_numbered.specs.TypedNumbered.{IsTypedNumberedCase}
 use Rattle.lf_numbered.proofs.EntryPatternsExamples.{copy_is_instance}
+use Rattle.lf_coverage.proofs.ExamplesCopyingSplit.{copy_typed}
 use Rattle.lf_numbered.proofs.ExamplesNumbered.{blocks_are_identified}
+use Rattle.lf_coverage.proofs.ExamplesStuck.{zeros_ok}
 use Rattle.lf_numbered.proofs.FreeFrom.{free_from}
+use Rattle.lf_coverage.proofs.Leaves.{head_is_typed}
 use Rattle.lf_numbered.proofs.NumberedAnswersExamples.{copies_have_no_applied, two_copies_are_stuck}
 use Rattle.lf_numbered.proofs.NumberedCallsCopying.{instance_has_pattern, one_member}
 use Rattle.lf_numbered.proofs.NumberedCallsExamples.{applied_is_open}
 use Rattle.lf_numbered.proofs.NumberedNeedsFor.{head_is_for}
-use Rattle.lf_numbered.proofs.SharedTuples.{back, met_has_tuple, met_is_not_apart, shared_tuple_is_not_apart, unsplit_is_met}
+use Rattle.lf_coverage.proofs.Parts.{none_some}
+use Rattle.lf_numbered.proofs.SharedTuples.{back, met_has_tuple, met_shares_tuple, shared_tuple_is_not_apart, unsplit_is_met}
+use Rattle.lf_coverage.proofs.UsedVariables.{types_of_one}
 use Rattle.lf_numbered.proofs.WorkedCallsStuck.{unsplit_alone}
 
 -- a tuple with these two arguments
@@ -81,7 +81,7 @@ copies_share_ground =
       back Copying 4 copy_worlds two_copies copy_entry_head n copies_share copy_worlds copy_typed (λ b. false) Copying x copy_world (λ k. copy_instance) keep copy_ground,
       t,
       pair_is (var 1) (var 1) t.tuple k,
-      shared_tuple_is_not_apart Copying 4 copy_worlds two_copies copy_entry_head (met_is_not_apart Copying 4 copy_worlds two_copies copy_entry_head n copies_share copy_worlds copy_typed (λ b. false) Copying x (cp (var 0) (var 0) ∷ exp ∷ []) copy_world (λ k. copy_instance) keep copy_ground),
+      shared_tuple_is_not_apart Copying 4 copy_worlds two_copies copy_entry_head (met_shares_tuple Copying 4 copy_worlds two_copies copy_entry_head n copies_share copy_worlds copy_typed (λ b. false) Copying x (cp (var 0) (var 0) ∷ exp ∷ []) copy_world (λ k. copy_instance) keep copy_ground),
       (λ q. copies_have_no_applied (record { worlds = copy_worlds; typed = copy_typed; set = λ b. false; extension = Copying; extends = x; context = cp (var 0) (var 0) ∷ exp ∷ []; world = copy_world; known = q.known; values = q.values; tuple = q.tuple; holds = q.holds; is_known = q.is_known; has = q.has })),
     )
 

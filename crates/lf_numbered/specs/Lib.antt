@@ -131,3 +131,11 @@ pub mod EntryTypesPut
 pub mod EntryTypesExamples
 pub mod Orders
 pub mod OrdersExamples
+pub mod SameCaseHolds
+pub mod SameCaseExamples
+pub mod CoveredAnswerGives
+pub mod CoveredAnswerPasses
+pub mod CoveredAnswerExamples
+pub mod NeededLeft
+pub mod NeededLeftExamples
+pub mod NeededLeftUnsolved

@@ -15,15 +15,14 @@ use Rattle.lf_checks.specs.Marks.{Mark, HasSoundMarks, MentionChosenOnly, NoneFr
 use Rattle.lf_cases.specs.Case.{covered_places, input_goal}
 use Rattle.lf_cases.specs.Pattern.{Origin, of_constant, of_entry, Pattern, head_pattern, is_given, origin, subgoal_pattern}
 use Rattle.lf_coverage.specs.Calls.{Matched, instance, apart, candidates, stuck, LocalsIn, PlacesIn}
-use Rattle.lf_coverage.specs.Heads.{ArgumentsAreBelow}
-use Rattle.lf_coverage.specs.Leaf.{IsTypedPattern}
-use Rattle.lf_coverage.specs.Matching.{ArePlaces, HoldsTypes, other_places}
-use Rattle.lf_coverage.specs.Subordinate.{AllQuantifiersAreBelow}
 use Rattle.lf_numbered.specs.EntryConstants.{IsFreeFrom, with_entries}
 use Rattle.lf_numbered.specs.EntryPatterns.{IsInstanceOfPattern}
 use Rattle.lf_numbered.specs.EntryPatternsOutputs.{numbered_output_goal}
 use Rattle.lf_numbered.specs.EntryPatternsRuns.{HasOneBlock, IsCoveredByNumber, IsNumberedSplit}
 use Rattle.lf_numbered.specs.EntryTerms.{known_in}
+use Rattle.lf_coverage.specs.Heads.{ArgumentsAreBelow}
+use Rattle.lf_coverage.specs.Leaf.{IsTypedPattern}
+use Rattle.lf_coverage.specs.Matching.{ArePlaces, HoldsTypes, other_places}
 use Rattle.lf_numbered.specs.NumberedBeside.{IsUnifiedByNumber, TakesIn}
 use Rattle.lf_numbered.specs.NumberedBesideGiven.{IsTypedBesideByNumber}
 use Rattle.lf_numbered.specs.NumberedCallsMeeting.{IsApartByNumber}
@@ -36,6 +35,7 @@ use Rattle.lf_numbered.specs.NumberedInstance.{block_at}
 use Rattle.lf_numbered.specs.NumberedSplits.{IsOfferTo, NumberedOffer}
 use Rattle.lf_numbered.specs.Numbering.{numbered}
 use Rattle.lf_numbered.specs.OwnTerms.{BlockVariable, blocks_of}
+use Rattle.lf_coverage.specs.Subordinate.{AllQuantifiersAreBelow}
 use Rattle.lf_numbered.specs.TypedNumbered.{IsTypedNumberedCase}
 
 -- For a pattern of the first block variable alone, an entry's, the block variable of number 0 is of the entry's block.
@@ -140,7 +140,8 @@ pub record AreNumberedCasesOf (Σ : Signature) (first : ℕ) (W : List Block) (b
 -- What `split` answers of a case and one of its variables: cases; for a head an equation is left outside the pattern fragment, which is shown over the case
 -- that the head is offered to, with the variables for the head's arguments; or something is deeper than 4,096. So p X in the worlds of {x:exp} {u:p x},
 -- where exp has no constant, is split into p b.x. A metavariable of what is shown is the case's variable of this number,
--- where it has one, or else one that solving made.
+-- where it has one, or else one that solving made. The side of the variable that is split stands on the left; the text
+-- of a refusal shows it on the right, as the head's type is written first there.
 pub data NumberedSplitAnswer : Type 0 where
   numbered_cases : List NumberedCase → NumberedSplitAnswer
   outside_over : NumberedCase → Equation → NumberedSplitAnswer

@@ -12,13 +12,13 @@ use Rattle.lf_unification.specs.Unifiers.{Equation, Store}
 use Rattle.lf_cases.specs.Case.{items_context}
 use Rattle.lf_cases.specs.OutputGoal.{free_variables, renumber}
 use Rattle.lf_cases.specs.Reached.{arguments_count, split_items}
-use Rattle.lf_coverage.specs.TooDeep.{HasDeepTerm, HasDeepType}
 use Rattle.lf_numbered.specs.EntryConstants.{with_entries}
 use Rattle.lf_numbered.specs.NewBlock.{rename_all}
 use Rattle.lf_numbered.specs.NumberedCase.{NumberedCase}
 use Rattle.lf_numbered.specs.NumberedSplits.{NumberedOffer, IsOfferTo, NumberedUnifierFinds}
 use Rattle.lf_numbered.specs.OwnStores.{numbered_store}
 use Rattle.lf_numbered.specs.OwnTerms.{BlockVariable, blocks_of, rename_blocks}
+use Rattle.lf_coverage.specs.TooDeep.{HasDeepTerm, HasDeepType}
 
 -- The store of a head that is offered, and the signature with the entries of the case that it is offered to.
 abbrev pub store_of : (ℕ → ℕ → Bool) → NumberedOffer → Kind → Store
@@ -40,7 +40,8 @@ over_head below o =
 -- the head is offered to, which is C, or C with a new block variable: a metavariable whose number is below the count of
 -- its variables is the variable of this number. One with a greater number was made by solving, and stands in what
 -- solving gave for one of these variables; it is no variable of the case, and has no type there. So is G' in G' z = z,
--- where G had lost an argument (`MadeBySolving`).
+-- where G had lost an argument (`MadeBySolving`). The side of the variable that is split stands on the left; the text
+-- of a refusal shows it on the right, as the head's type is written first there.
 pub record SplitLeavesByNumber (Σ : Signature) (first : ℕ) (W : List Block) (below : ℕ → ℕ → Bool) (C : NumberedCase) (x : ℕ) (over : NumberedCase) (shown : Equation) : Type 0 where
   pub type : LfType
   pub at : TypeAt C.variables x type

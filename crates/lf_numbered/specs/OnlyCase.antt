@@ -1,6 +1,6 @@
--- What solving finds for a head of a split by number is the only answer: two cases that it finds are the same but for
+-- What solving finds for a head of a split by number is the only case: two cases that it finds are the same but for
 -- their variables, whatever steps are taken and whatever numbers new metavariables have; and where it finds a case, no
--- steps refute.
+-- steps refute. Whether other steps leave an equation is not said.
 use Rattle.std.specs.Prelude.{◌≡◌, ℕ, List, Bool, Some, None}
 use Rattle.lf.specs.Eta.{eta_long}
 use Rattle.lf.specs.Syntax.{variable, LfType, Kind, skeleton}

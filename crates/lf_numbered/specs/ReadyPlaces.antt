@@ -1,5 +1,5 @@
--- Solving asks three things of a store over a signature. All three hold at each place of a pattern beside a case, where
--- these have what `instance_of` needs.
+-- Solving over a signature with entries is to ask three things of a store. All three hold at each place of a pattern
+-- beside a case, where these have what `instance_of` needs.
 use Rattle.std.specs.Prelude.{◌≡◌, ℕ, List, Bool, Some}
 use Rattle.lf.specs.Syntax.{LfType, Kind}
 use Rattle.lf.specs.Substitution.{Image}
@@ -10,7 +10,6 @@ use Rattle.lf_unification.specs.Solving.{IsWellFormed}
 use Rattle.lf_unification.specs.Unifiers.{Store}
 use Rattle.lf_cases.specs.Pattern.{Pattern}
 use Rattle.lf_coverage.specs.Leaf.{IsTypedPattern}
-use Rattle.lf_coverage.specs.StoreSkeletons.{StoreHasSkeletons}
 use Rattle.lf_numbered.specs.MeetsAnswers.{IsPlace, entries_at}
 use Rattle.lf_numbered.specs.MeetsReady.{IsPlainlyTyped}
 use Rattle.lf_numbered.specs.NumberedCalls.{NumberedMatchedNeeds, NumberedSplitNeeds}
@@ -20,6 +19,7 @@ use Rattle.lf_numbered.specs.NumberedCase.{NumberedCase}
 use Rattle.lf_numbered.specs.NumberedInstance.{block_at}
 use Rattle.lf_numbered.specs.NumberedSplits.{IsOfferTo, NumberedOffer}
 use Rattle.lf_numbered.specs.OwnTerms.{BlockVariable}
+use Rattle.lf_coverage.specs.StoreSkeletons.{StoreHasSkeletons}
 
 -- The signature is one, the store is well formed over it, and skeletons type what its equations stand in. So it is with
 -- X = b.x over exp, with b's entries; not with D = Y : t N where D : t a, which only skeletons type.

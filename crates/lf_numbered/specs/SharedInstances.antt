@@ -1,5 +1,5 @@
--- What a case holds in a context that an instance of it has there: each ground instance of the instance is one of the
--- case, also where block variables of the case have become one.
+-- Each ground instance of an instance of a case is one of the case, also where block variables of the case have become
+-- one.
 use Rattle.std.specs.Prelude.{◌≡◌, ℕ, List, length, Bool}
 use Rattle.lf.specs.Syntax.{Spine, LfType, skeleton}
 use Rattle.lf.specs.Substitution.{Image}
@@ -19,8 +19,8 @@ use Rattle.lf_numbered.specs.TypedNumbered.{IsTypedNumberedCase}
 
 -- What J holds by the ground instance of θ and ρ, C holds by one that puts this into the values σ: the tuple, and the
 -- given terms. Block variable k of C stands for what π k of J stands for. So cp b.x c.x holds x, x, which cp b.x b.x
--- holds in {x:exp} {u:cp x x}: b and c are both its instance. It doesn't so hold x, y of two instances, though it does
--- by itself.
+-- holds in {x:exp} {u:cp x x}: b and c are both its instance. cp b.x c.x holds x, y of two instances too; but not so,
+-- since cp b.x b.x doesn't.
 pub record HoldsAsInstance {Σ : Signature} {W : List Block} {S : ℕ → Bool} {G : List LfType} (w : World Σ W S G) (first : ℕ) (J : NumberedCase) (θ : ℕ → ℕ → Image) (ρ : ℕ → Image) (C : NumberedCase) (π : ℕ → ℕ) (σ : ℕ → Image) : Type 0 where
   pub values : ℕ → Image
   pub is_ground : IsNumberedInstance w first C (λ k. θ (π k)) values

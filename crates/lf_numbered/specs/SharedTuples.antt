@@ -38,15 +38,16 @@ pub record SharesTupleIn {Σ : Signature} {W : List Block} {S : ℕ → Bool} {G
 abbrev pub MetHasTuple : Type 0
 MetHasTuple = (Σ : Signature) (first : ℕ) (W : List Block) (C : NumberedCase) (p : Pattern) → NumberedMatchedNeeds Σ first W C p → (s : SharesInstance Σ first W C p) → (V : List Block) → AreTypedBlocks Σ V → (S : ℕ → Bool) (Σ' : Signature) → Extends S Σ Σ' → (G : List LfType) (w : World Σ' V S G) (θ : ℕ → ℕ → Image) (ρ : ℕ → Image) → IsNumberedInstance w first s.common θ ρ → (t : SharesTupleIn w first C p) × HasNumberedArguments first s.common θ ρ t.tuple
 
--- So they share a tuple, and aren't apart, by the clause `no_tuple` too: cp b.x c.x isn't apart from u : cp x x.
-abbrev pub MetIsNotApart : Type 0
-MetIsNotApart = (Σ : Signature) (first : ℕ) (W : List Block) (C : NumberedCase) (p : Pattern) → NumberedMatchedNeeds Σ first W C p → (s : SharesInstance Σ first W C p) → (V : List Block) → AreTypedBlocks Σ V → (S : ℕ → Bool) (Σ' : Signature) → Extends S Σ Σ' → (G : List LfType) (w : World Σ' V S G) (θ : ℕ → ℕ → Image) (ρ : ℕ → Image) → IsNumberedInstance w first s.common θ ρ → SharesTuple Σ first C p
+-- So they share a tuple, in this context: cp b.x c.x and u : cp x x share x, x.
+abbrev pub MetSharesTuple : Type 0
+MetSharesTuple = (Σ : Signature) (first : ℕ) (W : List Block) (C : NumberedCase) (p : Pattern) → NumberedMatchedNeeds Σ first W C p → (s : SharesInstance Σ first W C p) → (V : List Block) → AreTypedBlocks Σ V → (S : ℕ → Bool) (Σ' : Signature) → Extends S Σ Σ' → (G : List LfType) (w : World Σ' V S G) (θ : ℕ → ℕ → Image) (ρ : ℕ → Image) → IsNumberedInstance w first s.common θ ρ → SharesTuple Σ first C p
 
+-- Where they share a tuple they aren't apart, by the clause `no_tuple`: so cp b.x c.x isn't apart from u : cp x x.
 abbrev pub SharedTupleIsNotApart : Type 0
 SharedTupleIsNotApart = (Σ : Signature) (first : ℕ) (W : List Block) (C : NumberedCase) (p : Pattern) → SharesTuple Σ first C p → IsApartByNumber Σ first W C p → ⊥
 
 -- Where the strategy can't split a case that it reaches from a goal, and the case shares an instance with a pattern of
 -- the list that has a ground one, in a context of whatever worlds, the tuple of this is one that the goal holds and
--- the pattern has: the pattern isn't idle, and the goal isn't shown to be uncovered there.
+-- the pattern has. Whether the pattern covers it isn't said: of k X and {F:nat -> nat} k (F z) it doesn't.
 abbrev pub UnsplitIsMet : Type 0
 UnsplitIsMet = (Σ : Signature) (first : ℕ) (W : List Block) (below : ℕ → ℕ → Bool) (ps : List Pattern) (goal : NumberedCase) → NumberedCoverNeeds Σ first W below ps goal → (D : NumberedCase) → NumberedCoverIs Σ first W below ps goal (one_unsplit D) → (p : Pattern) → Member p ps → (s : SharesInstance Σ first W D p) → (V : List Block) → AreTypedBlocks Σ V → (S : ℕ → Bool) (Σ' : Signature) → Extends S Σ Σ' → (G : List LfType) (w : World Σ' V S G) (θ : ℕ → ℕ → Image) (ρ : ℕ → Image) → IsNumberedInstance w first s.common θ ρ → (t : SharesTupleIn w first goal p) × HasNumberedArguments first s.common θ ρ t.tuple

@@ -1031,6 +1031,41 @@ pub fn numbered_candidate_run_covers()
     ensures gives { NumberedCandidateRunGivesOutputs }
 {}
 
+ghost use Rattle.lf_numbered.specs.CoveredAnswerGives.{AnswersGiveOutputs, CoveredAnswerGivesInputs, CoveredAnswerGivesOutputs, NumberedInputGoalIsBesideFamilies, NumberedOutputGoalIsBesideFamilies, TestedAreAllBelow};
+
+/// Where the numbered goal of a family's inputs is answered to be covered by heads of its clauses, the inputs are
+/// covered beside the families below it; and the outputs of a subgoal beside those below its clause's family, where
+/// this is the answer for each way in which the clause comes. These sets are ones beside which the goals are to be
+/// covered, and all in them is below the family.
+pub fn covered_answer_gives()
+    ensures inputs_beside { NumberedInputGoalIsBesideFamilies }
+    ensures outputs_beside { NumberedOutputGoalIsBesideFamilies }
+    ensures inputs { CoveredAnswerGivesInputs }
+    ensures answers { AnswersGiveOutputs }
+    ensures outputs { CoveredAnswerGivesOutputs }
+    ensures below { TestedAreAllBelow }
+{}
+
+ghost use Rattle.lf_numbered.specs.CoveredAnswerPasses.{CoveredAnswerPassesInputs, CoveredAnswersPassOutputs};
+
+/// So the answers give what is asked of the coverage of a group before its record is made: of the inputs of a family
+/// with sound marks, and of the outputs of each subgoal of a well-moded and well-worlded clause.
+pub fn covered_answers_pass()
+    ensures inputs { CoveredAnswerPassesInputs }
+    ensures outputs { CoveredAnswersPassOutputs }
+{}
+
+ghost use Rattle.lf_numbered.specs.CoveredAnswerExamples.{EntryAnswerGivesOutputs, EntryAnswerPasses, PlusAnswerGivesInputs, PlusAnswerPasses};
+
+/// The goal plus X Y _ is answered to be covered, so the inputs of plus are; and the goal q N D of the outputs of v in
+/// some {n:exp} block {v:({D:t n} q n D -> r)}, so these are.
+pub fn covered_answers_give()
+    ensures inputs { PlusAnswerGivesInputs }
+    ensures outputs { EntryAnswerGivesOutputs }
+    ensures inputs_pass { PlusAnswerPasses }
+    ensures outputs_pass { EntryAnswerPasses }
+{}
+
 ghost use Rattle.lf_numbered.specs.NumberedCandidatesExamples.{JudgedIsSplit, SomeTypeIsOutside, JudgedIsCovered, RaisedMayBeOutside};
 
 /// In the worlds of some {T:tp} block {x:exp} {d:of x T} {u:q x} a run at a candidate covers q X, though the type of T is in no set that this needs.
@@ -1217,6 +1252,18 @@ pub fn found_case_is_only_one()
     ensures found { FoundIsNotRefuted }
 {}
 
+ghost use Rattle.lf_numbered.specs.SameCaseHolds.{SameCaseHoldsSame, SplitListsHoldSame};
+ghost use Rattle.lf_numbered.specs.SameCaseExamples.{OpenHoldsMore};
+
+/// Two typed cases by number that are the same but for their variables hold the same tuples, in each legal extension
+/// and each context of whatever worlds; and so do two lists of the cases of a split, case by case. plus X Y _ and plus
+/// (s X) Y _ don't.
+pub fn same_case_holds_same()
+    ensures case { SameCaseHoldsSame }
+    ensures list { SplitListsHoldSame }
+    ensures more { OpenHoldsMore }
+{}
+
 ghost use Rattle.lf_numbered.specs.OnlyOrder.{PlaceIsOfOneOffer, PlacesAreOfOneBlock, OfferHasOnePlace, ListedOffersAreOne};
 
 /// A place in the order of a split by number is that of one head; so the heads that are listed, and their places, are
@@ -1237,11 +1284,14 @@ pub fn listed_cases_are_only_ones()
     ensures case { SplitCaseIsListed }
 {}
 
-ghost use Rattle.lf_numbered.specs.OnlyExamples.{ZeroComesFirst};
+ghost use Rattle.lf_numbered.specs.OnlyExamples.{ExchangedIsSame, IdleIsNotSame, ZeroComesFirst};
 
-/// The split of plus X Y _ at X lists the case by z and that by s, in this order and no other, and no fewer.
+/// The split of plus X Y _ at X lists the case by z and that by s, in this order and no other, and no fewer. The latter
+/// with its variables exchanged is the same case, and the former with one more, which occurs nowhere, isn't.
 pub fn zero_comes_first()
-    ensures { ZeroComesFirst }
+    ensures list { ZeroComesFirst }
+    ensures exchanged { ExchangedIsSame }
+    ensures idle { IdleIsNotSame }
 {}
 
 ghost use Rattle.lf_numbered.specs.SharedInstances.{InstanceHoldsBack};
@@ -1252,14 +1302,14 @@ pub fn instance_holds_back()
     ensures { InstanceHoldsBack }
 {}
 
-ghost use Rattle.lf_numbered.specs.SharedTuples.{SharedInstanceHasTuple, MetHasTuple, MetIsNotApart, SharedTupleIsNotApart};
+ghost use Rattle.lf_numbered.specs.SharedTuples.{SharedInstanceHasTuple, MetHasTuple, MetSharesTuple, SharedTupleIsNotApart};
 
 /// So each tuple that an instance holds which a case and a pattern share, the case holds and the pattern has; and
 /// where there is one, they aren't apart.
 pub fn shared_instance_has_tuple()
     ensures tuple { SharedInstanceHasTuple }
     ensures ground { MetHasTuple }
-    ensures met { MetIsNotApart }
+    ensures met { MetSharesTuple }
     ensures apart { SharedTupleIsNotApart }
 {}
 
@@ -1320,15 +1370,15 @@ pub fn left_equations_are_true()
     ensures offered { HeadIsOffered }
 {}
 
-ghost use Rattle.lf_numbered.specs.DeepCases.{SplitCaseIsCaseOf, ReachedIsCaseOf, DeepSplitHasDeepCase, DeepRunHasDeepCase};
+ghost use Rattle.lf_numbered.specs.DeepCases.{SplitCaseIsCaseOf, ReachedIsCaseOf, DeepSplitIsOfCase, DeepRunIsOfGoal};
 
-/// Where a split or a run by number is too deep, a case of the case that is split, or of the goal, is deep; or it has
-/// deep equations of a head, which each tuple with this head unifies.
+/// Where a split or a run by number is too deep, the case that is deep is one of the case that is split, or of the
+/// goal; or the equations of a head that are deep are unified by each tuple with this head.
 pub fn deep_cases_are_cases()
     ensures split_case { SplitCaseIsCaseOf }
     ensures reached_case { ReachedIsCaseOf }
-    ensures split { DeepSplitHasDeepCase }
-    ensures run { DeepRunHasDeepCase }
+    ensures split { DeepSplitIsOfCase }
+    ensures run { DeepRunIsOfGoal }
 {}
 
 ghost use Rattle.lf_numbered.specs.LeftExamples.{CircleIsLeft, CircleIsTrue, OlderIsGiven, OlderIsHead};
@@ -1356,12 +1406,47 @@ pub fn circle_run_is_left()
     ensures head { CircleHasHead }
 {}
 
-ghost use Rattle.lf_numbered.specs.DeepExamples.{DeepZeroHasDeepCase, EntryIsCaseOf};
+ghost use Rattle.lf_numbered.specs.NeededLeft.{NeededCandidateTakes, NeededDeepRunMeets, NeededLeftHoldsTrue, OfferedTakesBelow, ReachedIsBeside};
 
-/// p b.x is a case of p X, and p X is none of p b.x; a goal with 4,096 times s has a deep case.
-pub fn deep_zero_has_deep_case()
+/// Where what `cover` needs is so, an equation that a run leaves is true of each tuple with the head, which is one of
+/// the goal, and each such tuple unifies equations that are deep: beside each set beside which the goal is to be
+/// covered. What a candidate and its heads take is in the set, and below.
+pub fn needed_left_holds_true()
+    ensures offered { OfferedTakesBelow }
+    ensures beside { ReachedIsBeside }
+    ensures takes { NeededCandidateTakes }
+    ensures left { NeededLeftHoldsTrue }
+    ensures deep { NeededDeepRunMeets }
+{}
+
+ghost use Rattle.lf_numbered.specs.NeededLeftExamples.{CircleAloneIsRefused, CircleHasTuple, CircleIsNeeded, NeededCircleIsTrue};
+
+/// The goal p T K W X, covered at all places, may be handed in with p Z ([x] Z) W (refl Z); the run stops at K W = T,
+/// which each tuple of the goal with refl for X makes true, as p z ([x] z) n (refl z) is one. Covered at X alone it may
+/// not be handed in.
+pub fn circle_is_needed()
+    ensures run { CircleIsNeeded }
+    ensures tuples { NeededCircleIsTrue }
+    ensures tuple { CircleHasTuple }
+    ensures alone { CircleAloneIsRefused }
+{}
+
+ghost use Rattle.lf_numbered.specs.NeededLeftUnsolved.{TwiceHasNoTuple};
+
+/// Of eq (F z) (F z) and the head eq z (s z) unification leaves F z = z and F z = s z, which have no typed unifier; so
+/// no tuple of both stands there.
+pub fn unsolved_left_has_no_tuple()
+    ensures { TwiceHasNoTuple }
+{}
+
+ghost use Rattle.lf_numbered.specs.DeepExamples.{DeepZeroIsItsCase, DeeperIsNoCase, EntryIsCaseOf};
+
+/// p b.x is a case of p X, and p X is none of p b.x; a goal with 4,096 times s is a case of itself, where a run from it
+/// is too deep, and the case with one s more is deep too, and none of the goal.
+pub fn deep_zero_is_its_case()
     ensures entry { EntryIsCaseOf }
-    ensures deep { DeepZeroHasDeepCase }
+    ensures deep { DeepZeroIsItsCase }
+    ensures deeper { DeeperIsNoCase }
 {}
 
 ghost use Rattle.lf_numbered.specs.ReadyPlaces.{PlacedStoreHasSkeletons, NeededPlacesAreReadyToSolve, NeededOffersAreReadyToSolve};
