@@ -387,3 +387,4 @@ pub mod CoveredAnswerWorked
 pub mod NeededLeft
 pub mod NeededLeftExamples
 pub mod NeededLeftUnsolved
+pub mod MetDeep

@@ -139,3 +139,4 @@ pub mod CoveredAnswerExamples
 pub mod NeededLeft
 pub mod NeededLeftExamples
 pub mod NeededLeftUnsolved
+pub mod MetDeep

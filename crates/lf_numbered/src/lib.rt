@@ -1333,6 +1333,15 @@ pub fn tuples_solve_what_is_left()
     ensures stands { TupleStandsSomewhere }
 {}
 
+ghost use Rattle.lf_numbered.specs.MetDeep.{UnifierSolvesReached, StandingTupleUnifiesDeep};
+
+/// So it is a typed unifier of each store that steps reach there, and where the equations are deep it unifies what is
+/// deep.
+pub fn tuples_unify_what_is_deep()
+    ensures reached { UnifierSolvesReached }
+    ensures deep { StandingTupleUnifiesDeep }
+{}
+
 ghost use Rattle.lf_numbered.specs.SharedTuplesExamples.{CopiesShareGround, AppliedZeroIsMet};
 ghost use Rattle.lf_numbered.specs.MetEquationsExamples.{CopiesStandAtOne, AppliedZeroSolvesLeft};
 
