@@ -79,7 +79,7 @@ abbrev pub HeadIsGiven : Type 0
 HeadIsGiven = (Σ : Signature) (W : List Block) (S : ℕ → Bool) (G : List LfType) (w : World Σ W S G) (first : ℕ) (o : NumberedOffer) (θ : ℕ → ℕ → Image) (σ : ℕ → Image) → IsNumberedInstance w first o.case θ σ → AreApart o.case θ → HasHead first o θ σ → GivesHead w first o.case θ σ o.variable o
 
 -- An entry of an instance for which no block variable stands is given by the case with a new one, which stands for this
--- instance.
+-- instance. X is the variable's type beside the `some` variables of the new block variable.
 abbrev pub NewHeadIsGiven : Type 0
 NewHeadIsGiven = (Σ Σ' : Signature) → IsSignature Σ → (S : ℕ → Bool) → Extends S Σ Σ' → (W : List Block) → AreTypedBlocks Σ W → (first : ℕ) → IsFreeFrom Σ first → (C : NumberedCase) → IsTypedNumberedCase Σ first W C → (G : List LfType) (w : World Σ' W S G) (θ : ℕ → ℕ → Image) (σ : ℕ → Image) → IsNumberedInstance w first C θ σ → AreApart C θ → (B : Block) → Member B W → (φ : ℕ → Image) → InstanceIn w B φ → StandsForNone C θ B φ → (x : ℕ) (X : LfType) (h : Head) (U : Spine) (A : LfType) → (T : Spine) → σ x ≡ put (skeleton X) (lambdas (length (taken X)) (root (head_in first (blocks_of (with_new_block B C).blocks) (with_instance (length C.blocks) φ θ) (length (taken X)) h) T)) → GivesHead w first C θ σ x (record { case = with_new_block B C; variable = x + length B.some; type = X; head = h; terms = U; left = A })
 

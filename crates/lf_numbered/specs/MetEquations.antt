@@ -85,7 +85,8 @@ StandingTupleHasUnifier = (Σ : Signature) (first : ℕ) (W : List Block) (C : N
 abbrev pub StandingTupleSolvesLeft : Type 0
 StandingTupleSolvesLeft = (Σ : Signature) (first : ℕ) (W : List Block) (C : NumberedCase) (p : Pattern) → NumberedMatchedNeeds Σ first W C p → (K : Kind) → Σ.kinds C.family ≡ Some K → (t : SharesTuple Σ first C p) (π : ℕ → ℕ) (J : NumberedCase) (φ : ℕ → Image) (x : IsPlace first C p π J φ) → TupleStandsAt Σ first C p t π J φ x → (after : Store) (l : Left (entries_at Σ first J) (meet_store_by_number π J p φ K) after) → (u : HasUnifier (entries_at Σ first J) (meet_store_by_number π J p φ K)) × IsMadeOf t J u.signature u.context u.filling × SolvesLeft (entries_at Σ first J) (meet_store_by_number π J p φ K) after l u
 
--- And where what is left has none, over each signature that extends that of the place, no tuple stands there.
+-- And where what is left has no typed unifier, over each signature that extends that of the place, no tuple stands
+-- there.
 abbrev pub UnsolvedLeftHasNoTuple : Type 0
 UnsolvedLeftHasNoTuple = (Σ : Signature) (first : ℕ) (W : List Block) (C : NumberedCase) (p : Pattern) → NumberedMatchedNeeds Σ first W C p → (K : Kind) → Σ.kinds C.family ≡ Some K → (t : SharesTuple Σ first C p) (π : ℕ → ℕ) (J : NumberedCase) (φ : ℕ → Image) (x : IsPlace first C p π J φ) → (after : Store) → Left (entries_at Σ first J) (meet_store_by_number π J p φ K) after → ((Σe : Signature) → Extends nothing (entries_at Σ first J) Σe → Never Σe [] after) → TupleStandsAt Σ first C p t π J φ x → ⊥
 

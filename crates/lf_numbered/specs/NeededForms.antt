@@ -1,5 +1,5 @@
--- What a program has in hand when it asks for coverage: a signature of entries, and cases of free variables alone, as
--- goals of inputs are.
+-- What a program has in hand when it asks for coverage: a signature that is a list of declarations, and cases of free
+-- variables alone, as goals of inputs are.
 use Rattle.std.specs.Prelude.{◌≡◌, ℕ, List, [], length, Bool}
 use Rattle.lf.specs.Syntax.{Kind}
 use Rattle.lf.specs.Entries.{Entry, signature_of}
@@ -9,8 +9,8 @@ use Rattle.lf_numbered.specs.EntryConstants.{IsFreeFrom}
 use Rattle.lf_numbered.specs.NumberedCase.{NumberedCase}
 use Rattle.lf_numbered.specs.Numbering.{numbered}
 
--- No constant and no family has the count of the entries as its number, or a greater one: of nat, z, s none has 3 or
--- more, and s has 2.
+-- No constant and no family has the count of the entries as its number, or a greater one: after nat, z and s the
+-- number 3 is free, and 2 isn't, which is that of s.
 abbrev pub EntriesAreFreeFrom : Type 0
 EntriesAreFreeFrom = (es : List Entry) → IsFreeFrom (signature_of es) (length es)
 

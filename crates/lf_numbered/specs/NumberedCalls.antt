@@ -1,6 +1,9 @@
 -- What the calls of coverage are to answer of cases whose block variables have numbers: the contracts that `instance_of`, `split`, `cover`, `input_goal` and
 -- `output_goal` will carry. Σ is the signature that the case was made in, whose constants have numbers below `first`; from there on the entries of block
--- variables have theirs. Laws tie `instance`, `apart`, a split's cases, `all_covered` and `one_missing` to the tuples that a case holds: `NumberedCallsLaws`.
+-- variables have theirs. Laws tie each answer to the tuples that a case holds.
+-- Of `instance`, `apart`, a split's cases, `all_covered` and `one_missing` they stand in `NumberedCallsLaws` and `NumberedNeedsLaws`; of what meets, and so of
+-- `one_unsplit`, in `SharedTuples`, `MetEquations` and `MetDeep`; of `outside_over` and `one_outside` in `LeftEquations` and `NeededLeft`; of what is too deep in
+-- `DeepCases` and `NeededLeft`. That a split has one list is in `OnlyList`, and that runs give `all_covered` from the needs alone in `NeededRuns`.
 -- The goals have what the calls need, splits keep it, and where it is so nothing else is asked: `NumberedNeeds`, `NumberedNeedsLaws`. Worked rows stand in
 -- `NumberedCallsExamples` and `NumberedNeedsExamples`.
 use Rattle.std.specs.Prelude.{◌≡◌, ℕ, zero, ◌⊎◌, List, [], length, Bool, true, false, Some}

@@ -38,9 +38,9 @@ over_head below o =
 -- The split of x in C leaves this equation: for one of the heads unification solves all but equations outside the
 -- pattern fragment, and this is one of those that are left, with the bindings put in. It is shown over the case that
 -- the head is offered to, which is C, or C with a new block variable: a metavariable whose number is below the count of
--- its variables is the variable of this number. One with a greater number was made by solving, and stands in what
--- solving gave for one of these variables; it is no variable of the case, and has no type there. So is G' in G' z = z,
--- where G had lost an argument (`MadeBySolving`). The side of the variable that is split stands on the left; the text
+-- its variables is the variable of this number. Any other was made by solving, and stands in what solving gave for one
+-- of these variables; it is no variable of the case, and has no type there. So is G' in G' z = z, where G had lost an
+-- argument (`MadeBySolving`). The equation's context is as it was, without the bindings, and its type isn't said. The side of the variable that is split stands on the left; the text
 -- of a refusal shows it on the right, as the head's type is written first there.
 pub record SplitLeavesByNumber (Σ : Signature) (first : ℕ) (W : List Block) (below : ℕ → ℕ → Bool) (C : NumberedCase) (x : ℕ) (over : NumberedCase) (shown : Equation) : Type 0 where
   pub type : LfType

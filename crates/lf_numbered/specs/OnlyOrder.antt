@@ -16,7 +16,7 @@ use Rattle.lf_numbered.specs.NumberedSplits.{IsOfferTo, NumberedOffer}
 abbrev pub PlaceIsOfOneOffer : Type 0
 PlaceIsOfOneOffer = (Σ : Signature) (first : ℕ) → IsFreeFrom Σ first → (W : List Block) (C : NumberedCase) (x : ℕ) (X : LfType) (o q : NumberedOffer) → IsOfferTo Σ first W C x X o → IsOfferTo Σ first W C x X q → (r : List ℕ) → HasNumberedRank first W C o r → HasNumberedRank first W C q r → o ≡ q
 
--- The other way round two places of one head differ at most in that of its block, which stands at both: in worlds that
+-- Two places of one head differ at most in the number of its block, which stands in the worlds at both: in worlds that
 -- have {x:exp} {u:p x} twice those of b.x are 1, 0, 0, 0 and 1, 1, 0, 0.
 abbrev pub PlacesAreOfOneBlock : Type 0
 PlacesAreOfOneBlock = (first : ℕ) (W : List Block) (C : NumberedCase) (o : NumberedOffer) (r s : List ℕ) → HasNumberedRank first W C o r → HasNumberedRank first W C o s → (r ≡ s) ⊎ ((v : ℕ) × (w : ℕ) × (B : Block) × (t : List ℕ) × (r ≡ 1 ∷ v ∷ t) × (s ≡ 1 ∷ w ∷ t) × StandsAt v B W × StandsAt w B W)
