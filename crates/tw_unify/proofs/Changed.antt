@@ -34,8 +34,8 @@ binds_pruned s c m Y S u t e =
       equations = refl;
     })
 
--- what is closed stays so where a metavariable is bound to something that was met
-pub closed_value : (s : State) → IsConsistent s → (m : ℕ) (N : Term) → IsUnbound s m → (w : Marking) → IsClosed (types_of s) (bindings_of s) w → MetavariablesIn (IsMarked w) N → IsClosed (types_of (with_value s m N)) (bindings_of (with_value s m N)) w
+-- what is closed stays so where a metavariable is bound that wasn't met, or is bound to something that was
+pub closed_value : (s : State) → IsConsistent s → (m : ℕ) (N : Term) → IsUnbound s m → (w : Marking) → IsClosed (types_of s) (bindings_of s) w → (IsMarked w m → MetavariablesIn (IsMarked w) N) → IsClosed (types_of (with_value s m N)) (bindings_of (with_value s m N)) w
 closed_value s c m N u w k i = subst (λ bs. IsClosed (types_of s) bs w) (sym (bindings_with_value s c m N u)) (closed_bound (types_of s) (bindings_of s) (record { of = m; value = N }) w k i)
 
 -- and where the metavariables and the bindings stay

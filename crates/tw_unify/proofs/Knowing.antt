@@ -1,6 +1,5 @@
 -- Of a store that is ready, what is reached from an equation's sides is declared.
-use Rattle.std.proofs.Common.{◌≡◌, ℕ, List, [], ◌∷◌, Option, Some, inl, inr}
-use Rattle.lf.specs.Subordination.{Member}
+use Rattle.std.proofs.Common.{◌≡◌, ℕ, List, [], ◌∷◌, Some, inl, inr}
 use Rattle.lf.specs.Syntax.{LfType, Term}
 use Rattle.lf.specs.Typing.{Signature}
 use Rattle.lf_unification.specs.OpenTyping.{Declares, MetavariablesIn}

@@ -2,6 +2,7 @@ pub mod Results
 pub mod Orders
 pub mod Spines
 pub mod Reaching
+pub mod Glancing
 pub mod Renewals
 pub mod Apart
 pub mod Takers

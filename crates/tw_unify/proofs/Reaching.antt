@@ -184,7 +184,7 @@ module _ (Ψ : ℕ → Option LfType) (bs : List Binding) where
         closed = λ j h. elim (q.marked_are_due j h) [ inl a ↦ elim (p.marked_are_due j a) [ inl b ↦ from_w j (back j b) | inr b ↦ inl (q.due_stay j b) ] | inr a ↦ inl a ];
       }
 
-  values_in : (V : ℕ → Type 0) (cs : List Binding) → ((b : Binding) → Member b cs → V b.of → MetavariablesIn V b.value) → ValuesIn V cs
+  pub values_in : (V : ℕ → Type 0) (cs : List Binding) → ((b : Binding) → Member b cs → V b.of → MetavariablesIn V b.value) → ValuesIn V cs
   values_in V [] f = tt
   values_in V (b ∷ cs) f = (λ v. f b (inl refl) v, values_in V cs (λ c h v. f c (inr h) v))
 
@@ -290,12 +290,12 @@ none_marked w e k h = subst Holds (e k) h
 pub nothing_in : {S : Type 0} (s : HashSet ℕ S) → IsEmpty s → (k : ℕ) → contains nat_eq s k ≡ false
 nothing_in s e k = ap (λ ks. list_any (nat_eq k) ks) e
 
--- what is closed stays so where a metavariable is bound to something that was met
-pub closed_bound : (Ψ : ℕ → Option LfType) (bs : List Binding) (b : Binding) (w : Marking) → IsClosed Ψ bs w → MetavariablesIn (IsMarked w) b.value → IsClosed Ψ (b ∷ bs) w
+-- what is closed stays so where a metavariable is bound that wasn't met, or is bound to something that was
+pub closed_bound : (Ψ : ℕ → Option LfType) (bs : List Binding) (b : Binding) (w : Marking) → IsClosed Ψ bs w → (IsMarked w b.of → MetavariablesIn (IsMarked w) b.value) → IsClosed Ψ (b ∷ bs) w
 closed_bound Ψ bs b w c i = record {
   nothing_due = c.nothing_due;
   types = c.types;
-  values = λ k h d m e. elim m [ inl q ↦ subst (λ (x : Binding). MetavariablesIn (IsMarked w) x.value) (sym q) i | inr j ↦ c.values k h d j e ];
+  values = λ k h d m e. elim m [ inl q ↦ subst (λ (x : Binding). MetavariablesIn (IsMarked w) x.value) (sym q) (i (subst (IsMarked w) (sym e ∙ ap (λ (x : Binding). x.of) q) h)) | inr j ↦ c.values k h d j e ];
 }
 
 -- What is left of a walk: each turn takes one that is due away, and as many come to be due as are newly marked.

@@ -102,10 +102,10 @@ abbrev pub TakesWhole : State → Equation → Taker → Type 0
 TakesWhole s e (Left m) = (V : Open) → open_term_of V ≡ e.right → AllowsMove s e (Bind m V)
 TakesWhole s e (Right m) = (V : Open) → open_term_of V ≡ e.left → AllowsMove s e (Bind m V)
 
--- the metavariables of the side that is taken were met
+-- where the metavariable that takes a side was met, those of the side were too
 abbrev pub TakenIsMet : Marking → Equation → Taker → Type 0
-TakenIsMet w e (Left m) = MetavariablesIn (IsMarked w) e.right
-TakenIsMet w e (Right m) = MetavariablesIn (IsMarked w) e.left
+TakenIsMet w e (Left m) = IsMarked w m.0 → MetavariablesIn (IsMarked w) e.right
+TakenIsMet w e (Right m) = IsMarked w m.0 → MetavariablesIn (IsMarked w) e.left
 
 -- a step leads from the equation e, in front of whatever stands, to the state t
 abbrev pub IsTaken : Signature → State → Equation → State → Type 0

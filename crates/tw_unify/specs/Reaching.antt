@@ -2,7 +2,7 @@
 use Rattle.std.specs.Prelude.{◌≡◌, ℕ, ◌+◌, ◌≤◌, List, [], length, Bool, Option, Some, nat_eq, ◌⊎◌}
 use Rattle.std.specs.HashSet.{contains, hash_set_len}
 use Rattle.lf.specs.Subordination.{Member}
-use Rattle.lf.specs.Syntax.{Term, LfType}
+use Rattle.lf.specs.Syntax.{Term, LfType, atom, nil}
 use Rattle.lf_unification.specs.OpenTyping.{Declares, MetavariablesIn, MetavariablesInType}
 use Rattle.lf_unification.specs.Outside.{Avoids, Holds}
 use Rattle.lf_unification.specs.Reach.{Mentions, TypeMentions}
@@ -61,6 +61,10 @@ pub record IsAvoided (Ψ : ℕ → Option LfType) (bs : List Binding) (N : Term)
   pub reached : ℕ → Bool
   pub avoids : Avoids Ψ bs m (λ k. Holds (reached k))
   pub within : MetavariablesIn (λ k. Holds (reached k)) N
+
+-- the type of k is a family without arguments, so that no metavariable stands in it
+abbrev pub HasBareType : (ℕ → Option LfType) → ℕ → Type 0
+HasBareType Ψ k = (c : ℕ) × (Ψ k ≡ Some (atom c nil))
 
 -- What may be kept of a store's walks: it is closed, and each metavariable that was met is declared, so that nothing is known of one that comes later.
 pub record IsKnown (s : State) (w : Marking) : Type 0 where

@@ -14,7 +14,7 @@ use std::collections::HashMap;
 use tw_metas::{Equation, Store};
 use tw_terms::MetaId;
 
-/// When the postponed equations were found to be left, and when metavariables were bound. A time is how many bindings there were since the call began.
+/// When the postponed equations were found to be left, and when metavariables were bound. A time is how many bindings were noted since the call began: none is where nothing is postponed.
 #[derive(Drop)]
 pub struct Watch {
     /// By place; none where the equation isn't known to have been left.

@@ -2,6 +2,7 @@
 ghost use Rattle.std.specs.Prelude.{[], ℕ, ◌⊎◌, IfOk, IfSome, OnOk};
 ghost use Rattle.lf.specs.Typing.{Signature};
 ghost use Rattle.tw_terms.specs.OpenView.{open_term_of};
+ghost use Rattle.tw_metas.specs.State.{State};
 ghost use Rattle.tw_metas.specs.View.{equation_of};
 ghost use Rattle.tw_putting.specs.Ready.{IsLater};
 ghost use Rattle.tw_putting.specs.Whole.{IsConsistent};
@@ -13,6 +14,7 @@ ghost use Rattle.tw_unify.specs.Moving.{HeadsFit};
 ghost use Rattle.tw_unify.specs.Reaching.{IsClosed, IsMarked, Marking, marking_of};
 ghost use Rattle.tw_unify.specs.Watching.{BindsOne};
 
+use crate::glance::is_avoided_at_once;
 use crate::reach::{Walk, is_reached_now};
 use std::alloc::{AllocError, Global};
 use tw_metas::{Equation, Store};
@@ -62,7 +64,7 @@ fn takes_whole(
     requires fits { HeadsFit store.now.now [] (open_term_of left.now) (open_term_of right.now) }
     requires closed { IsClosed (types_of store.now.now) (bindings_of store.now.now) (marking_of met.old) }
     ensures binds { IfOk result (λ r. IfSome r (λ m. BindsWhole store.now.now (open_term_of left.now) (open_term_of right.now) m)) }
-    ensures met { IfOk result (λ r. IfSome r (λ m. MetavariablesIn (IsMarked (marking_of met.new)) (open_term_of right.now))) }
+    ensures met { IfOk result (λ r. IfSome r (λ m. IsMarked (marking_of met.new) m.0 → MetavariablesIn (IsMarked (marking_of met.new)) (open_term_of right.now))) }
     ensures closed { OnOk result (IsClosed (types_of store.now.now) (bindings_of store.now.now) (marking_of met.new)) }
     ensures spread { OnOk result ((k : ℕ) → IsMarked (marking_of met.new) k → IsMarked (marking_of met.old) k ⊎ IsReached (types_of store.now.now) (bindings_of store.now.now) (open_term_of right.now) k) }
 {
@@ -71,6 +73,10 @@ fn takes_whole(
             if !spine.args.is_empty() {
                 return Ok(None);
             }
+            if is_avoided_at_once(store, right, *meta) {
+                forget_met(alloc, met, *meta);
+                return Ok(Some(*meta));
+            }
             if is_reached_now(alloc, store, met, right, *meta)? {
                 Ok(None)
             } else {
@@ -78,6 +84,17 @@ fn takes_whole(
             }
         }
         _ => Ok(None),
+    }
+}
+
+/// Forgets all that was met where the metavariable is of it.
+fn forget_met(alloc: Global, met: &mut Walk, meta: MetaId)
+    ensures unmarked { IsMarked (marking_of met.new) meta.0 → ⊥ }
+    ensures closed { (s : State) → IsClosed (types_of s) (bindings_of s) (marking_of met.old) → IsClosed (types_of s) (bindings_of s) (marking_of met.new) }
+    ensures fewer { (k : ℕ) → IsMarked (marking_of met.new) k → IsMarked (marking_of met.old) k }
+{
+    if met.is_marked(meta) {
+        *met = Walk::new(alloc);
     }
 }
 

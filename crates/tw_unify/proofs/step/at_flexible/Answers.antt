@@ -1,4 +1,4 @@
-use Rattle.std.proofs.Common.{◌≡◌, ℕ, Option, Some, inl, inr, subst}
+use Rattle.std.proofs.Common.{◌≡◌, ℕ, Some, inl, inr, subst}
 use Rattle.std.specs.Option.{IfSome}
 use Rattle.lf.specs.Entries.{signature_of}
 use Rattle.lf.specs.Syntax.{LfType}

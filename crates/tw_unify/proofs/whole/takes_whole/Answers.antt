@@ -1,5 +1,5 @@
 use Rattle.std.proofs.Common.{◌≡◌, subst, arith}
-use Rattle.std.specs.Bool.{MatchBool}
+use Rattle.std.specs.Bool.{MatchBool, OnTrue}
 use Rattle.lf.specs.Syntax.{metavariable, nil, root}
 use Rattle.lf_unification.specs.Reach.{IsReached}
 use Rattle.tw_putting.specs.Stores.{bindings_of, types_of}
@@ -18,3 +18,15 @@ returns-else-branch-clause-binds c =
     let avoided : IsAvoided (types_of s) (bindings_of s) N m.0 =
     subst (λ b. MatchBool b (IsReached (types_of s) (bindings_of s) N m.0) (IsAvoided (types_of s) (bindings_of s) N m.0)) c.if-branch.false c.in_ok-is_reached_now-in-Root-Meta-default.ensures.reached in
     binds_whole s (open_term_of c.args.left.now) N c.requires.fits m is avoided
+
+pub returns-then-is_avoided_at_once-clause-binds : goal.returns-then-is_avoided_at_once-clause-binds
+returns-then-is_avoided_at_once-clause-binds c =
+    let s = c.args.store.now.now in
+    let m = c.in-Root-Meta-default.meta in
+    let N = open_term_of c.args.right.now in
+    let is : open_term_of c.args.left.now ≡ root (metavariable m.0) nil = grind (arith, open_types) in
+    let avoided : IsAvoided (types_of s) (bindings_of s) N m.0 = subst (λ b. OnTrue b (IsAvoided (types_of s) (bindings_of s) N m.0)) c.if-is_avoided_at_once.true c.is_avoided_at_once.ensures in
+    binds_whole s (open_term_of c.args.left.now) N c.requires.fits m is avoided
+
+pub returns-then-is_avoided_at_once-clause-closed : goal.returns-then-is_avoided_at_once-clause-closed
+returns-then-is_avoided_at_once-clause-closed c = c.forget_met.ensures.closed c.args.store.now.now c.requires.closed
