@@ -6,3 +6,6 @@ pub mod KindMoves
 pub mod NewTerms
 pub mod Arguments
 pub mod PlainKinds
+pub mod Faults
+pub mod DeepKinds
+pub mod Telescopes

@@ -11,12 +11,12 @@ use Rattle.tw_open.specs.Indices.{TakesBoth}
 use Rattle.tw_open.specs.Plain.{IsPlain, IsPlainType}
 use Rattle.tw_open.specs.declared.indices.Wanted.TheVariants.{Every}
 
-plain_type_stays : (r : Skeleton → Term → Spine → Term) (σ : ℕ → Image) (A : LfType) → IsPlainType A → substitute_type r σ A ≡ A
+pub plain_type_stays : (r : Skeleton → Term → Spine → Term) (σ : ℕ → Image) (A : LfType) → IsPlainType A → substitute_type r σ A ≡ A
 plain_type_stays r σ (pi A B) (a, b) = ap₂ pi (plain_type_stays r σ A a) (plain_type_stays r (lift σ) B b)
 plain_type_stays r σ (atom a nil) p = refl
 plain_type_stays r σ (atom a (app M S)) p = absurd p
 
-plain_stays : (r : Skeleton → Term → Spine → Term) (σ : ℕ → Image) (K : Kind) → IsPlain K → substitute_kind r σ K ≡ K
+pub plain_stays : (r : Skeleton → Term → Spine → Term) (σ : ℕ → Image) (K : Kind) → IsPlain K → substitute_kind r σ K ≡ K
 plain_stays r σ (kind_pi A K) (a, k) = ap₂ kind_pi (plain_type_stays r σ A a) (plain_stays r (lift σ) K k)
 plain_stays r σ star p = refl
 

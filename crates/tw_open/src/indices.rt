@@ -1,15 +1,18 @@
 //! The equations between the arguments of two atoms of one family, in order.
-ghost use Rattle.std.specs.Prelude.{◌≡◌, ◌∷◌, [], IfOk, MatchOption, OnOk, map};
-ghost use Rattle.lf.specs.Syntax.{app, nil, star};
+ghost use Rattle.std.specs.Prelude.{◌≡◌, ◌∷◌, [], IfOk, IsErrOf, MatchOption, OnOk, map};
+ghost use Rattle.lf.specs.Depth.{depth_limit};
+ghost use Rattle.lf.specs.Syntax.{Spine, app, nil, star};
 ghost use Rattle.lf_unification.specs.Lists.{followed};
 ghost use Rattle.lf_unification.specs.Offering.{spine_equations};
 ghost use Rattle.tw_metas.specs.View.{equation_of};
 ghost use Rattle.tw_terms.specs.OpenView.{open_spine_of, open_term_of, open_type_of};
+ghost use Rattle.tw_open.specs.Deep.{KindTakesDeep};
 ghost use Rattle.tw_open.specs.Indices.{IndicesFit, TakesBoth, wanted_of};
 ghost use Rattle.tw_open.specs.View.{open_kind_of};
 
 use crate::kinds::{OpenKind, instantiate_kind};
 use std::alloc::{AllocError, Global};
+use tw_hered::HeredFault;
 use tw_metas::Equation;
 use tw_terms::{Open, OpenContext, OpenSpine, OpenTy};
 
@@ -20,7 +23,8 @@ pub enum Wanted {
     Differing,
 }
 
-/// Adds the equations of the arguments that the kind takes behind those that were found, the first one's side on the left. Fails only for want of memory.
+/// Adds the equations of the arguments that the kind takes behind those that were found, the first one's side on the left.
+/// Answers `TooDeep` only where the kind that is left behind one of these is deeper than 4,096.
 pub fn index_equations(
     alloc: Global,
     locals: &OpenContext,
@@ -29,9 +33,10 @@ pub fn index_equations(
     right: &OpenSpine,
     wanted: Wanted,
     found: &mut Vec<Equation>,
-) -> Result<(), AllocError>
+) -> Result<(), HeredFault>
     requires { IndicesFit locals.now (open_kind_of kind) (open_spine_of left.now) }
-    ensures { OnOk result (map equation_of found.new.items ≡ followed (map equation_of found.old.items) (wanted_of wanted (spine_equations locals.now (open_kind_of kind) (open_spine_of left.now) (open_spine_of right.now)))) }
+    ensures ok { OnOk result (map equation_of found.new.items ≡ followed (map equation_of found.old.items) (wanted_of wanted (spine_equations locals.now (open_kind_of kind) (open_spine_of left.now) (open_spine_of right.now)))) }
+    ensures too_deep { IsErrOf result HeredFault.TooDeep → KindTakesDeep depth_limit (open_kind_of kind) (open_spine_of left.now) }
 {
     let mut rest = kind;
     for (place, arg) in left.args.iter().enumerate() {
@@ -57,9 +62,10 @@ fn take_argument(
     right: &Open,
     wanted: Wanted,
     found: &mut Vec<Equation>,
-) -> Result<Option<OpenKind>, AllocError>
+) -> Result<Option<OpenKind>, HeredFault>
     requires { IndicesFit locals.now (open_kind_of kind) (app (open_term_of left.now) nil) }
-    ensures { IfOk result (λ r. MatchOption r ((open_kind_of kind ≡ star) × (found.new.items ≡ found.old.items)) (λ k. TakesBoth wanted locals.now (open_kind_of kind) (open_term_of left.now) (open_term_of right.now) (open_kind_of k) (map equation_of found.old.items) (map equation_of found.new.items))) }
+    ensures ok { IfOk result (λ r. MatchOption r ((open_kind_of kind ≡ star) × (found.new.items ≡ found.old.items)) (λ k. TakesBoth wanted locals.now (open_kind_of kind) (open_term_of left.now) (open_term_of right.now) (open_kind_of k) (map equation_of found.old.items) (map equation_of found.new.items))) }
+    ensures too_deep { IsErrOf result HeredFault.TooDeep → (S : Spine) → KindTakesDeep depth_limit (open_kind_of kind) (app (open_term_of left.now) S) }
 {
     match kind {
         OpenKind::Pi(domain, range) => {

@@ -1,6 +1,7 @@
 //! Open kinds.
-ghost use Rattle.std.specs.Prelude.{◌≡◌, IfOk};
+ghost use Rattle.std.specs.Prelude.{◌≡◌, ◌<◌, IfOk, IsErrOf};
 ghost use Rattle.lf.specs.AtOnce.{lift_renaming_by, shift_by};
+ghost use Rattle.lf.specs.Depth.{depth_limit, kind_depth};
 ghost use Rattle.lf.specs.Substitution.{reduce, substitute_kind};
 ghost use Rattle.lf.specs.Syntax.{kind_pi as kind_pi_of, rename_kind, skeleton};
 ghost use Rattle.tw_hered.specs.Fits.{KindFits, put_at};
@@ -9,6 +10,7 @@ ghost use Rattle.tw_terms.specs.View.{kind_of};
 ghost use Rattle.tw_open.specs.View.{open_kind_of};
 
 use std::alloc::{AllocError, Global};
+use tw_hered::HeredFault;
 use tw_putting::{open_type, shift_type, substitute_type};
 use tw_terms::{Kind, Open, OpenTy};
 
@@ -32,25 +34,24 @@ pub fn open_kind(alloc: Global, kind: &Kind) -> Result<OpenKind, AllocError>
 }
 
 /// The kind with `arg`, a term of the skeleton of `ty`, put in for the variable `index`, as `tw_putting::substitute_type` has it.
-/// A type that comes out deeper than 4,096 wants memory.
+/// Answers `TooDeep` only where the kind that comes out is deeper than 4,096, and `NoMemory` where memory is wanting.
 pub fn instantiate_kind(
     alloc: Global,
     kind: &OpenKind,
     index: u64,
     arg: &Open,
     ty: &OpenTy,
-) -> Result<OpenKind, AllocError>
+) -> Result<OpenKind, HeredFault>
     requires { KindFits (put_at index (skeleton (open_type_of ty.now)) (open_term_of arg.now)) (open_kind_of kind.now) }
-    ensures { IfOk result (λ k. open_kind_of k ≡ substitute_kind reduce (put_at index (skeleton (open_type_of ty.now)) (open_term_of arg.now)) (open_kind_of kind.now)) }
+    ensures ok { IfOk result (λ k. open_kind_of k ≡ substitute_kind reduce (put_at index (skeleton (open_type_of ty.now)) (open_term_of arg.now)) (open_kind_of kind.now)) }
+    ensures too_deep { IsErrOf result HeredFault.TooDeep → depth_limit < kind_depth (substitute_kind reduce (put_at index (skeleton (open_type_of ty.now)) (open_term_of arg.now)) (open_kind_of kind.now)) }
 {
     match kind {
         OpenKind::Pi(domain, range) => {
             let inside = index.checked_add(1).ok_or(AllocError)?;
-            let Ok(domain) = substitute_type(alloc, domain, index, arg, ty) else {
-                return Err(AllocError);
-            };
+            let domain = substitute_type(alloc, domain, index, arg, ty)?;
             let range = instantiate_kind(alloc, range, inside, arg, ty)?;
-            kind_pi(alloc, domain, range)
+            Ok(kind_pi(alloc, domain, range)?)
         }
         OpenKind::Star => Ok(OpenKind::Star),
     }

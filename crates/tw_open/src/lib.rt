@@ -15,5 +15,5 @@ mod raising;
 pub use fresh::{new_term, new_term_of};
 pub use indices::{Wanted, index_equations};
 pub use kinds::{OpenKind, instantiate_kind, kind_pi, open_kind, shift_kind};
-pub use plain::kind_equations;
+pub use plain::{is_plain, is_plain_type, kind_equations};
 pub use raising::{closed_over, expanded, lambda, local_arguments, pi, with_argument};

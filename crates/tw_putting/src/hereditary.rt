@@ -3,7 +3,7 @@ ghost use Rattle.std.specs.Prelude.{◌≡◌, ◌≤◌, ◌<◌, IfOk, IsErrOf
 ghost use Rattle.lf.specs.Syntax.{atom, nil, skeleton};
 ghost use Rattle.lf.specs.Substitution.{single, substitute as put_in, substitute_type as put_in_type, reduce};
 ghost use Rattle.lf.specs.Depth.{depth, type_depth, depth_limit};
-ghost use Rattle.lf.specs.Deep.{DeepSubstitution, DeepTypeSubstitution, DeepReduction};
+ghost use Rattle.lf.specs.Deep.{DeepSubstitution, DeepReduction};
 ghost use Rattle.lf_closures.specs.Environments.{outside, under, extended};
 ghost use Rattle.tw_hered.specs.Fits.{put_at, TermFits, TypeFits, Applies};
 ghost use Rattle.tw_terms.specs.OpenView.{open_term_of, open_spine_of, open_type_of};
@@ -47,7 +47,7 @@ pub fn substitute(
     normal_term(alloc, &arena, &store, 0, body, environment, DEPTH_LIMIT)
 }
 
-/// The same in a type.
+/// The same in a type. Answers `TooDeep` only where the type that comes out is deeper than 4,096.
 pub fn substitute_type(
     alloc: Global,
     body: &OpenTy,
@@ -58,7 +58,7 @@ pub fn substitute_type(
     requires { TypeFits (put_at index (skeleton (open_type_of ty.now)) (open_term_of arg.now)) (open_type_of body.now) }
     ensures ok { IfOk result (λ a. open_type_of a ≡ put_in_type reduce (put_at index (skeleton (open_type_of ty.now)) (open_term_of arg.now)) (open_type_of body.now)) }
     ensures shallow { IfOk result (λ a. type_depth (open_type_of a) ≤ depth_limit) }
-    ensures too_deep { IsErrOf result HeredFault.TooDeep → DeepTypeSubstitution depth_limit (put_at index (skeleton (open_type_of ty.now)) (open_term_of arg.now)) (open_type_of body.now) }
+    ensures too_deep { IsErrOf result HeredFault.TooDeep → depth_limit < type_depth (put_in_type reduce (put_at index (skeleton (open_type_of ty.now)) (open_term_of arg.now)) (open_type_of body.now)) }
 {
     if let Some(family) = bare_family(body) {
         return Ok(bare_atom(alloc, family));

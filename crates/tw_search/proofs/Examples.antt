@@ -1,13 +1,18 @@
 -- Heads of goals, marks of subgoals, and the numbers of a root's variables.
-use Rattle.std.proofs.Common.{◌≡◌, ℕ, [], ◌∷◌, refl}
+use Rattle.std.proofs.Common.{◌≡◌, ℕ, zero, suc, [], ◌∷◌, Option, Some, None, inl, refl}
 use Rattle.std.specs.Prelude.{true, false}
-use Rattle.lf.specs.Syntax.{constant, lambda, metavariable, variable, Term, LfType, root, nil, app, pi, atom}
+use Rattle.lf.specs.Syntax.{constant, kind_pi, lambda, metavariable, star, variable, Term, LfType, root, nil, app, pi, atom}
+use Rattle.lf.specs.Typing.{Signature}
 use Rattle.lf_checks.specs.Parts.{shape}
+use Rattle.lf_search.specs.AppliedHeads.{AppliedHead, with_applied}
 use Rattle.lf_search.specs.Goals.{type_with_heads}
 use Rattle.lf_search.specs.Heads.{clash_here, outer_head, variable_head}
+use Rattle.tw_metas.specs.State.{State}
+use Rattle.tw_search.specs.Beside.{IndicesComeApart, IndicesDiffer, constants_differ, equation_between, index_differs, leads_by_value, leads_to_itself, next_argument, next_index, no_argument, no_index, same_constants, stays}
 use Rattle.tw_search.specs.Choosing.{locals_for}
 use Rattle.tw_search.specs.Clashing.{TypeClashes, head_under}
 use Rattle.tw_search.specs.Offers.{unmarked}
+use Rattle.tw_search.specs.Reducing.{is_loose}
 use Rattle.tw_search.specs.Roots.{head_with, heads_at}
 use Rattle.tw_search.specs.Taking.{numbers_from}
 
@@ -60,3 +65,31 @@ heads_of_three = refl
 under_a_binder : type_with_heads (heads_at 1 0) (pi nat (plus (at 0) (at 1) (at 0))) ≡ pi nat (plus (at 0) (root (metavariable 0) nil) (at 0))
 unfolding heads_at
 under_a_binder = refl
+
+-- the types of z and s, and no kinds
+abbrev numeral_type : ℕ → Option LfType
+numeral_type zero = None
+numeral_type (suc zero) = Some nat
+numeral_type (suc (suc c)) = Some (pi nat nat)
+
+abbrev numerals : Signature
+numerals = record { types = numeral_type; kinds = λ a. None }
+
+abbrev open_at : ℕ → Term
+open_at m = root (metavariable m) nil
+
+-- s X and Y beside s x and y leave X beside x and Y beside y
+apart_at_s : (p : ℕ → AppliedHead) → IndicesComeApart numerals [] p (app (s (open_at 0)) (app (open_at 1) nil)) (app (s (at 1)) (app (at 0) nil)) (kind_pi nat (kind_pi nat star)) (equation_between (open_at 0) (with_applied p (at 1)) nat ∷ equation_between (open_at 1) (with_applied p (at 0)) nat ∷ [])
+apart_at_s p = next_index (same_constants leads_to_itself refl (tt, tt) (next_argument (stays leads_to_itself) no_argument)) (next_index (stays leads_to_itself) no_index)
+
+-- where X is z, X and s x differ
+differ_at_value : (p : ℕ → AppliedHead) → IndicesDiffer numerals (record { of = 0; value = root (constant 1) nil } ∷ []) p (app (open_at 0) nil) (app (s (at 0)) nil) (kind_pi nat star)
+differ_at_value p = index_differs (constants_differ (leads_by_value (record { of = 0; value = root (constant 1) nil }) (inl refl) leads_to_itself) (λ e. cc))
+
+-- metavariables 0 and 1 are of the type nat, and 1 is bound to z
+abbrev two_numerals : State
+two_numerals = record { declared = record { context = []; of_type = nat } ∷ record { context = []; of_type = nat } ∷ []; values = None ∷ Some (root (constant 1) nil) ∷ []; bound = 1 ∷ []; equations = [] }
+
+-- so a metavariable 2 of the goal can take s 0, and neither s 1 nor, were it 0, s 0
+loose_ones : is_loose two_numerals 2 0 ∷ is_loose two_numerals 2 1 ∷ is_loose two_numerals 0 0 ∷ [] ≡ true ∷ false ∷ false ∷ []
+loose_ones = refl

@@ -16,8 +16,15 @@ pub mod Standing
 pub mod Beginning
 pub mod Leaving
 pub mod Going
+pub mod Passing
 pub mod Calling
 pub mod StillKnown
 pub mod StillLeft
 pub mod Naming
 pub mod Applied
+pub mod Reductions
+pub mod Settling
+pub mod GivingPairs
+pub mod BesideRuns
+pub mod BesideTakes
+pub mod BesideWalks

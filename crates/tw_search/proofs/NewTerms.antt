@@ -4,7 +4,7 @@ use Rattle.lf.specs.Eta.{append}
 use Rattle.lf.specs.SkeletonTyping.{HeadSkeletons, TermSkeleton, TypeBySkeletons}
 use Rattle.lf.specs.Skeletons.{family_skeletons}
 use Rattle.lf.specs.Substitution.{Image, lift, reduce, single, substitute_type}
-use Rattle.lf.specs.Syntax.{LfType, Skeleton, Spine, Term, app, atom, nil, pi, skeleton}
+use Rattle.lf.specs.Syntax.{LfType, Skeleton, Spine, Term, app, atom, metavariable, nil, pi, root, skeleton}
 use Rattle.lf.specs.Typing.{instantiate_type}
 use Rattle.lf_elaboration.specs.Skeletons.{heads_of}
 use Rattle.lf_elaboration.specs.State.{State, with_metavariable}
@@ -27,6 +27,7 @@ use Rattle.tw_open.specs.View.{made_with}
 use Rattle.tw_open.proofs.NewTerms.{longer}
 use Rattle.tw_open.proofs.Standing.{rest_stands}
 use Rattle.tw_search.specs.Applied.{taken_at}
+use Rattle.tw_search.specs.Reducing.{IsAtom}
 use Rattle.tw_search.specs.Taking.{TakesAll, TakesOne, numbers_from}
 
 -- Below, the type that is left is seen with the metavariables put in that were taken before.
@@ -150,3 +151,8 @@ numbers_end X a T n metas whole e w = sym (w ∙ ap (λ Y. map (λ (k : MetaId).
     none_behind : (xs : List ℕ) → xs ++ [] ≡ xs
     none_behind [] = refl
     none_behind (x ∷ xs) = ap (λ l. x ∷ l) (none_behind xs)
+
+-- where no local variable is in scope, a metavariable of an atomic type is its own eta-long form
+pub stands_alone : (D : List LfType) (A : LfType) (n : ℕ) → D ≡ [] → IsAtom A → raised D A n ≡ root (metavariable n) nil
+stands_alone D (atom a S) n e i = ap (λ E. raised E (atom a S) n) e
+stands_alone D (pi A B) n e i = absurd i

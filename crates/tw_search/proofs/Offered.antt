@@ -15,7 +15,7 @@ use Rattle.lf_unification.specs.Solving.{IsWellFormed}
 use Rattle.lf_unification.specs.Unifiers.{Equation}
 use Rattle.lf_unification.proofs.OfferForm.{offer_form}
 use Rattle.lf_unification.proofs.Runs.{run_form}
-use Rattle.tw_metas.specs.State.{IsUnbound, State, Story, with_value}
+use Rattle.tw_metas.specs.State.{IsUnbound, State, Story, changed, with_value}
 use Rattle.tw_putting.specs.Ready.{IsReady, TypesBySkeletons}
 use Rattle.tw_putting.specs.Stores.{bindings_of, types_of}
 use Rattle.tw_putting.specs.Whole.{IsConsistent}
@@ -24,11 +24,19 @@ use Rattle.tw_putting.proofs.Skeletons.{types_both, types_grow}
 use Rattle.tw_terms.specs.OpenView.{open_spine_of}
 use Rattle.tw_terms.specs.declared.canonical.MetaId.{MetaId}
 use Rattle.tw_search.specs.Goals.{StandsAtGoal, goal_type, node_of}
-use Rattle.tw_search.specs.Offers.{Applies, EquationsFit, HasEquations, IsOffered, offered_store, unmarked}
-use Rattle.tw_search.specs.Taking.{numbers_from}
+use Rattle.tw_search.specs.Offers.{EquationsFit, HasEquations, IsOffered, offered_store, unmarked}
+use Rattle.tw_open.specs.Fresh.{OnlyDeclares}
+use Rattle.tw_search.specs.Taking.{TakesAll, numbers_from}
 use Rattle.tw_open.specs.View.{made_with}
 use Rattle.tw_search.specs.declared.goal.OpenGoal.{OpenGoal}
 use Rattle.tw_search.proofs.Offering.{Keeps, goal_spine, has_kind, holes_unmarked, indices_fit, new_first, only_keeps, parts_typed, spine_types}
+
+-- the goal's hole is bound to the head on new metavariables S; the atom of the family a on T is left of the head's type
+pub record Applies (g : OpenGoal) (h : Head) (A : LfType) (old new : Story) (S : Spine) (a : ℕ) (T : Spine) : Type 0 where
+  pub middle : Story
+  pub declares : OnlyDeclares old middle
+  pub taken : TakesAll g.locals A old.now middle.now S a T
+  pub binds : new ≡ changed middle (with_value middle.now g.hole.0 (lambda_over g.locals (root h S)))
 
 applied_target : {D : List LfType} {Ψ : ℕ → Option LfType} {n : ℕ} {A : LfType} {Ψ' : ℕ → Option LfType} {n' : ℕ} {S : Spine} {a : ℕ} {T : Spine} → AppliesToNew D Ψ n A Ψ' n' S a T → skeleton_target (skeleton A) ≡ a
 applied_target applied_to_all = refl

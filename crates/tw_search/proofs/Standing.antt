@@ -147,31 +147,48 @@ came_later es G old new agenda agenda' budget s r w = record {
   then_is = w.then_is;
 }
 
+-- what a call does, behind a run
+module _ (es : List Entry) (first old new : Search) (agenda agenda' : List Pending) (k : ℕ) (r : SearchesFrom es agenda [] k agenda') (count : old.tries ≡ first.tries + k) (variables : old.variables ≡ first.variables) (same_goal : old.goal ≡ first.goal) where
+  pub run_then : WentOn es old new agenda' → WentOn es first new agenda
+  run_then v = record {
+    tries = k + v.tries;
+    after = v.after;
+    run = search_then (signature_of es) (declared_constants es) r v.run;
+    count = (let d = v.count in omega (arith, count, d));
+    variables = v.variables ∙ variables;
+    same_goal = v.same_goal ∙ same_goal;
+    at = v.at;
+  }
+
+  pub run_then_came : (G : List LfType) (last : ℕ) (s : Step) → old.tries ≤ last → Came es G old new agenda' (last - old.tries) s → Came es G first new agenda (last - first.tries) s
+  run_then_came G last s h v = record {
+    seen = v.seen;
+    tries = k + v.tries;
+    after = v.after;
+    comes = (let z : k + (last - old.tries) ≡ last - first.tries = omega (arith, h, count) in subst (λ n. Comes es depth_limit G agenda n v.seen (k + v.tries) v.after) z (goes_on es depth_limit G k (last - old.tries) agenda agenda' v.after v.seen v.tries r v.comes));
+    shows = v.shows;
+    passes = passes_later es G new agenda agenda' k v.tries v.after s r v.passes;
+    count = (let d = v.count in omega (arith, count, d));
+    variables = v.variables ∙ variables;
+    same_goal = v.same_goal ∙ same_goal;
+    then_is = v.then_is;
+  }
+
+  pub run_then_gave : (last : ℕ) → GaveOut es old new agenda' last → GaveOut es first new agenda last
+  run_then_gave last v = record {
+    tries = k + v.tries;
+    reached = v.reached;
+    run = search_then (signature_of es) (declared_constants es) r v.run;
+    count = (let d = v.count in omega (arith, count, d));
+    within = v.within;
+  }
+
 -- one call after other steps
 pub went_then_came : (es : List Entry) (G : List LfType) (first old new : Search) (agenda : List Pending) (last : ℕ) (s : Step) (w : WentOn es first old agenda) → old.tries ≤ last → Came es G old new w.after (last - old.tries) s → Came es G first new agenda (last - first.tries) s
-went_then_came es G first old new agenda last s w h v = record {
-  seen = v.seen;
-  tries = w.tries + v.tries;
-  after = v.after;
-  comes = (let c = w.count in let z : w.tries + (last - old.tries) ≡ last - first.tries = omega (arith, h, c) in subst (λ k. Comes es depth_limit G agenda k v.seen (w.tries + v.tries) v.after) z (goes_on es depth_limit G w.tries (last - old.tries) agenda w.after v.after v.seen v.tries w.run v.comes));
-  shows = v.shows;
-  passes = passes_later es G new agenda w.after w.tries v.tries v.after s w.run v.passes;
-  count = (let c = w.count in let d = v.count in omega (arith, c, d));
-  variables = v.variables ∙ w.variables;
-  same_goal = v.same_goal ∙ w.same_goal;
-  then_is = v.then_is;
-}
+went_then_came es G first old new agenda last s w = run_then_came es first old new agenda w.after w.tries w.run w.count w.variables w.same_goal G last s
 
 pub went_then : (es : List Entry) (first old new : Search) (agenda : List Pending) (w : WentOn es first old agenda) → WentOn es old new w.after → WentOn es first new agenda
-went_then es first old new agenda w v = record {
-  tries = w.tries + v.tries;
-  after = v.after;
-  run = search_then (signature_of es) (declared_constants es) w.run v.run;
-  count = (let c = w.count in let d = v.count in omega (arith, c, d));
-  variables = v.variables ∙ w.variables;
-  same_goal = v.same_goal ∙ w.same_goal;
-  at = v.at;
-}
+went_then es first old new agenda w = run_then es first old new agenda w.after w.tries w.run w.count w.variables w.same_goal
 
 -- what holds at all holds where a call failed
 pub on_err_all : {T E P : Type 0} (r : Result T E) → P → OnErr r P
@@ -201,13 +218,7 @@ gave_same es old mid new new' agenda last t u w = record {
 }
 
 pub went_then_gave : (es : List Entry) (first old new : Search) (agenda : List Pending) (last : ℕ) (w : WentOn es first old agenda) → GaveOut es old new w.after last → GaveOut es first new agenda last
-went_then_gave es first old new agenda last w v = record {
-  tries = w.tries + v.tries;
-  reached = v.reached;
-  run = search_then (signature_of es) (declared_constants es) w.run v.run;
-  count = (let c = w.count in let d = v.count in omega (arith, c, d));
-  within = v.within;
-}
+went_then_gave es first old new agenda last w = run_then_gave es first old new agenda w.after w.tries w.run w.count w.variables w.same_goal last
 
 -- a head that is offered has a type of the goal's target
 offered_type : (Σ : Signature) (g : OpenGoal) (hs : List Head) (k : Head) (ks : List Head) → AreOffered Σ g.locals g.family.0 hs (k ∷ ks) → IsHeadFor Σ g k

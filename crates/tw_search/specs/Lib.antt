@@ -14,3 +14,5 @@ pub mod Standing
 pub mod Going
 pub mod Applied
 pub mod HeadTypes
+pub mod Beside
+pub mod Reducing

@@ -1,22 +1,22 @@
 -- A head that is offered to a goal, between the states of the store before and after.
 use Rattle.std.specs.Prelude.{◌≡◌, ℕ, List, [], ◌∷◌, Bool, true, false, Some, None, length, map, reverse}
-use Rattle.lf.specs.Syntax.{Head, Kind, LfType, Spine, constant, metavariable, root, variable}
+use Rattle.lf.specs.Syntax.{Head, Kind, LfType, Spine, constant, metavariable, variable}
 use Rattle.lf.specs.Typing.{Signature}
-use Rattle.lf.specs.Variables.{same_number}
+use Rattle.lf.specs.Variables.{same_number, target_arguments}
 use Rattle.lf_unification.specs.Lists.{followed}
-use Rattle.lf_unification.specs.Offering.{lambda_over, spine_equations}
+use Rattle.lf_unification.specs.Offering.{local_arguments, spine_equations}
+use Rattle.lf_search.specs.AppliedHeads.{spine_with_applied}
+use Rattle.tw_search.specs.Applied.{taken_at}
 use Rattle.lf_unification.specs.Search.{Offer, holes}
 use Rattle.lf_unification.specs.Solving.{IsWellFormed}
 use Rattle.lf_unification.specs.Unifiers.{Equation, Store}
-use Rattle.tw_metas.specs.State.{State, Story, changed, with_value}
+use Rattle.tw_metas.specs.State.{State}
 use Rattle.tw_putting.specs.Ready.{IsReady}
 use Rattle.tw_putting.specs.Stores.{bindings_of, types_of}
 use Rattle.tw_terms.specs.OpenView.{open_spine_of}
 use Rattle.tw_terms.specs.declared.canonical.MetaId.{MetaId}
 use Rattle.tw_search.specs.Goals.{node_of}
 use Rattle.tw_open.specs.Indices.{IndicesFit}
-use Rattle.tw_open.specs.Fresh.{OnlyDeclares}
-use Rattle.tw_search.specs.Taking.{TakesAll}
 use Rattle.tw_search.specs.declared.goal.OpenGoal.{OpenGoal}
 
 -- those at the places that aren't marked
@@ -31,13 +31,6 @@ abbrev pub is_variable : ℕ → Head → Bool
 is_variable i (constant c) = false
 is_variable i (variable j) = same_number i j
 is_variable i (metavariable m) = false
-
--- the goal's hole is bound to the head on new metavariables S; the atom of the family a on T is left of the head's type
-pub record Applies (g : OpenGoal) (h : Head) (A : LfType) (old new : Story) (S : Spine) (a : ℕ) (T : Spine) : Type 0 where
-  pub middle : Story
-  pub declares : OnlyDeclares old middle
-  pub taken : TakesAll g.locals A old.now middle.now S a T
-  pub binds : new ≡ changed middle (with_value middle.now g.hole.0 (lambda_over g.locals (root h S)))
 
 -- the goal's family has a kind, which takes the goal's indices
 pub record EquationsFit (Σ : Signature) (g : OpenGoal) : Type 0 where
@@ -54,6 +47,10 @@ pub record HasEquations (Σ : Signature) (g : OpenGoal) (T : Spine) (es : List E
 abbrev pub offered_store : List Equation → State → Store
 offered_store es s = record { metavariables = types_of s; bindings = bindings_of s; equations = followed s.equations es }
 
+-- the arguments of the target of a head of type A, with these new metavariables on the local variables put in
+abbrev pub offered_arguments : OpenGoal → List MetaId → LfType → Spine
+offered_arguments g ms A = spine_with_applied (taken_at (local_arguments g.locals) ms 0) (target_arguments A)
+
 -- The head is offered to the goal: the equations `es` are to be solved, and `subgoals` are the holes of the head's subgoals, in the order of its quantifiers.
 pub record IsOffered (Σ : Signature) (old : State) (g : OpenGoal) (h : Head) (es : List Equation) (subgoals : List MetaId) (new : State) : Type 0 where
   pub head_type : LfType
@@ -62,3 +59,7 @@ pub record IsOffered (Σ : Signature) (old : State) (g : OpenGoal) (h : Head) (e
   pub postponed : new.equations ≡ old.equations
   pub well_formed : IsWellFormed Σ (offered_store es new)
   pub ready : IsReady Σ es new
+
+-- the same with the new metavariables ms put into the target of the head, of type A: whatever the equations are
+abbrev pub OffersNew : Signature → State → OpenGoal → Head → LfType → List MetaId → List MetaId → State → Type 0
+OffersNew Σ old g h A ms subgoals new = (es : List Equation) → HasEquations Σ g (offered_arguments g ms A) es → IsOffered Σ old g h es subgoals new

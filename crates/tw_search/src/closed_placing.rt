@@ -36,7 +36,7 @@ pub(crate) fn closed_type_over(
 
 /// The same of a term.
 #[cycle(over)]
-fn closed_term_over(
+pub(crate) fn closed_term_over(
     alloc: Global,
     arguments: &OpenSpine,
     metas: &[MetaId],

@@ -12,13 +12,13 @@ ghost use Rattle.tw_search.specs.Standing.{Came, IsAt, IsTakenUp, TriesHead, Wen
 ghost use Rattle.tw_search.specs.declared.step.Place.TheVariants as places;
 
 use crate::answer::read_answer;
-use crate::choice::{Next, next_head};
+use crate::choice::next_head;
 use crate::frames::Frame;
 use crate::goal::open_goal;
 use crate::left::first_equation;
 use crate::search::Search;
 use crate::step::{Choice, End, Place, Step};
-use crate::trying::attempt;
+use crate::trying::{attempt, heads_clash};
 use std::alloc::{AllocError, Global};
 use tw_hered::HeredFault;
 use tw_metas::{Mark, Store};
@@ -173,7 +173,8 @@ impl Search {
         }
     }
 
-    /// The next head at a choice point, with the store and the frames as they were there.
+    /// The next head at a choice point, with the store and the frames as they were there. A head that clashes with the goal is a try that gives no child and changes nothing of the store:
+    /// such heads are passed over while the choice point is in hand, up to one that doesn't clash.
     fn take_up(
         &mut self,
         alloc: Global,
@@ -188,21 +189,31 @@ impl Search {
         ensures gave_out { OnErr result (GivesOutUp signature.now last self.old self.new choice) }
         ensures nears { IfOk result (λ o. NearsBelow last self.old self.new o) }
     {
-        let next = next_head(
-            signature,
-            &choice.goal.locals,
-            choice.goal.family,
-            choice.local,
-            choice.constant,
-        );
-        match next {
-            None => Ok(None),
-            Some(next) => {
-                if self.tries == last {
-                    push_choice(&mut self.choices, choice)?;
-                    return Ok(Some(Step::Budget));
+        signature.is_canonical();
+        let mut choice = choice;
+        'heads: loop {
+            let next = next_head(
+                signature,
+                &choice.goal.locals,
+                choice.goal.family,
+                choice.local,
+                choice.constant,
+            );
+            match next {
+                None => return Ok(None),
+                Some(next) => {
+                    if self.tries == last {
+                        push_choice(&mut self.choices, choice)?;
+                        return Ok(Some(Step::Budget));
+                    }
+                    choice.local = next.local;
+                    choice.constant = next.constant;
+                    if heads_clash(&self.store, signature, &choice.goal, next.head) {
+                        self.tries += 1;
+                    } else {
+                        return self.try_head(alloc, signature, last, choice, next.head);
+                    }
                 }
-                self.try_head(alloc, signature, last, past(choice, next), next.head)
             }
         }
     }
@@ -261,16 +272,6 @@ fn forget(alloc: Global, met: &mut Walk, store: &Store, mark: &Mark)
     if !store.is_at(mark) {
         *met = Walk::new(alloc);
     }
-}
-
-/// The choice point behind a head.
-fn past(choice: Choice, next: Next) -> Choice
-    ensures { result ≡ record choice { local = next.local; constant = next.constant } }
-{
-    let mut choice = choice;
-    choice.local = next.local;
-    choice.constant = next.constant;
-    choice
 }
 
 /// One more choice point, the newest.

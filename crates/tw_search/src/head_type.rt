@@ -1,5 +1,6 @@
 //! The type of a head that is offered, part by part: a constant's is read as it was declared, without a copy.
 ghost use Rattle.std.specs.Prelude.{◌≡◌, IfOk};
+ghost use Rattle.lf.specs.Variables.{target_arguments as target_arguments_of};
 ghost use Rattle.lf_search.specs.AppliedHeads.{spine_with_applied, type_with_applied};
 ghost use Rattle.tw_terms.specs.OpenView.{open_spine_of, open_type_of};
 ghost use Rattle.tw_search.specs.Applied.{taken_at};
@@ -46,6 +47,19 @@ pub(crate) fn first_level<'a>(ty: HeadType<'a>) -> Part<'a>
             Part::Pi(HeadType::Open(domain), HeadType::Open(range))
         }
         HeadType::Open(OpenTy::Atom(family, spine)) => Part::Atom(*family, Arguments::Open(spine)),
+    }
+}
+
+/// The arguments of the atom that the type targets.
+pub(crate) fn target_arguments<'a>(ty: HeadType<'a>) -> Arguments<'a>
+    ensures { arguments_of result ≡ target_arguments_of (head_type_of ty.entry) }
+{
+    let mut rest = ty;
+    loop {
+        match first_level(rest) {
+            Part::Pi(_, range) => rest = range,
+            Part::Atom(_, arguments) => return arguments,
+        }
     }
 }
 

@@ -1,5 +1,6 @@
 use Rattle.std.proofs.Common.{◌≡◌, [], ◌++◌, List, ap, length, map, refl, sym, subst, ◌∙◌}
 use Rattle.lf.specs.Syntax.{atom, pi}
+use Rattle.lf.specs.Variables.{target_arguments}
 use Rattle.lf_search.specs.AppliedHeads.{spine_with_applied, type_with_applied}
 use Rattle.tw_terms.specs.declared.canonical.MetaId.{MetaId}
 use Rattle.tw_terms.specs.OpenView.{open_spine_of, open_term_of}
@@ -25,6 +26,7 @@ loop-domain-init c =
       stands = subst (TypeStands (made_with [] s) D) e c.requires;
       keeps = declares_same c.args.store.now c.args.store.now refl;
       numbers = ap (λ (l : List MetaId). map (λ (m : MetaId). m.0) l ++ numbers_from (length s.declared) A) (sym c.in_ok-metas.ensures.items) ∙ ap (λ X. map (λ (m : MetaId). m.0) c.in_ok-metas.metas.items ++ numbers_from (length s.declared) X) e;
+      target = refl;
       so_far = subst (λ X. TakesBefore D A s X s c.in_ok-args.args.items) e (subst (TakesBefore D A s A s) (sym c.in_ok-args.ensures.items) (takes_start D A s));
     }
 
@@ -49,6 +51,7 @@ loop-domain-preserved c =
       stands = stands_after D X Y M a b o c.loop-domain.invariant.stands;
       keeps = declares_then c.loop-domain.invariant.keeps taken.ensures.keeps;
       numbers = numbers_step D X Y M a b ms us taken.meta (numbers_from (length c.args.store.now.now.declared) (head_type_of c.args.ty)) o taken.ensures.number c.in_ok-push-in-Pi.ensures.items c.loop-domain.invariant.numbers;
+      target = ap target_arguments (sym t) ∙ c.loop-domain.invariant.target;
       so_far = takes_step D (head_type_of c.args.ty) X Y c.args.store.now.now c.loop-domain.args.items c.push-in-Pi.new.self.items taken.arg a b c.in_ok-push-in-Pi-2.ensures.items o c.loop-domain.invariant.so_far;
     }
 
@@ -73,12 +76,12 @@ returns-in_err-push-in-Pi-2-clause-keeps c = declares_then c.loop-domain.invaria
 pub returns-in-Atom-clause-ok : goal.returns-in-Atom-clause-ok
 returns-in-Atom-clause-ok c =
     let p = taken_at (open_spine_of c.in_ok-arguments.arguments) c.loop-domain.metas.items 0 in
+    let A = head_type_of c.args.ty in
     let T = head_type_of c.loop-domain.rest in
-    let U = open_spine_of c.in_ok-indices-in-Atom.indices in
-    let t : T ≡ atom c.in-Atom.family.0 (arguments_of c.in-Atom.indices) = sym c.first_level.ensures ∙ ap part_of c.in-Atom.is in
-    let I = arguments_of c.in-Atom.indices in
-    let L = open_spine_of c.in_ok-arguments.arguments in
-    let put : spine_with_applied p I ≡ U = ap (λ (l : List MetaId). spine_with_applied (taken_at L l 0) I) (sym c.deref-in-Atom.ensures.value) ∙ sym c.in_ok-indices-in-Atom.ensures in
-    let here : type_with_applied p T ≡ atom c.in-Atom.family.0 (spine_with_applied p I) = ap (type_with_applied p) t in
-    let e : type_with_applied p T ≡ atom c.in-Atom.family.0 U = here ∙ ap (atom c.in-Atom.family.0) put in
-    takes_end c.args.locals.now (head_type_of c.args.ty) (type_with_applied p T) c.args.store.now.now c.loop-domain.store.now c.loop-domain.args.items (open_spine_of (roll-OpenSpine (record { args = c.loop-domain.args }))) _ _ e (open_spine_of-roll c.loop-domain.args) c.loop-domain.invariant.so_far
+    let I = arguments_of c.in-Atom.field-1 in
+    let t : T ≡ atom c.in-Atom.field-0.0 I = sym c.first_level.ensures ∙ ap part_of c.in-Atom.is in
+    let same : I ≡ target_arguments A = ap target_arguments (sym t) ∙ c.loop-domain.invariant.target in
+    let e : type_with_applied p T ≡ atom c.in-Atom.field-0.0 (spine_with_applied p (target_arguments A)) = ap (type_with_applied p) t ∙ ap (λ J. atom c.in-Atom.field-0.0 (spine_with_applied p J)) same in (
+      c.in-Atom.field-0.0,
+      takes_end c.args.locals.now A (type_with_applied p T) c.args.store.now.now c.loop-domain.store.now c.loop-domain.args.items (open_spine_of (roll-OpenSpine (record { args = c.loop-domain.args }))) _ _ e (open_spine_of-roll c.loop-domain.args) c.loop-domain.invariant.so_far,
+    )

@@ -1,5 +1,6 @@
 use Rattle.std.proofs.Common.{◌≡◌, [], ◌++◌, length, map}
 use Rattle.lf.specs.Entries.{quantifiers}
+use Rattle.lf.specs.Variables.{target_arguments}
 use Rattle.lf_search.specs.AppliedHeads.{type_with_applied}
 use Rattle.tw_terms.specs.declared.canonical.MetaId.{MetaId}
 use Rattle.tw_terms.specs.OpenView.{open_spine_of}
@@ -18,6 +19,7 @@ invariant-loop-domain l = record {
   stands : TypeStands (made_with [] l.store.now) l.locals (type_with_applied (taken_at (open_spine_of l.arguments) l.metas.items 0) (head_type_of l.rest));
   keeps : OnlyDeclares l.fn.store l.store;
   numbers : numbers_from (length l.fn.store.now.declared) (head_type_of l.fn.ty) ≡ map (λ (m : MetaId). m.0) l.metas.items ++ numbers_from (length l.store.now.declared) (type_with_applied (taken_at (open_spine_of l.arguments) l.metas.items 0) (head_type_of l.rest));
+  target : target_arguments (head_type_of l.rest) ≡ target_arguments (head_type_of l.fn.ty);
   so_far : TakesBefore l.locals (head_type_of l.fn.ty) l.fn.store.now (type_with_applied (taken_at (open_spine_of l.arguments) l.metas.items 0) (head_type_of l.rest)) l.store.now l.args.items;
 }
 
