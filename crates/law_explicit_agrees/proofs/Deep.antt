@@ -1,4 +1,4 @@
--- What can be deep of an explicit declaration that gives an entry: the entry alone.
+-- What can be deep of an explicit declaration that gives an entry: the entry, or its typing.
 use Rattle.std.proofs.Common.{◌≡◌, ℕ, ◌<◌, zero, suc, List, [], Option, None, Some, inl, inr, refl, sym, ap, ap₂, ◌∙◌, subst, arith}
 use Rattle.std.proofs.Math.Nat.{le-max_left, le-max_right}
 use Rattle.lf.specs.Depth.{depth, depth_limit, kind_depth, type_depth}
@@ -23,6 +23,7 @@ use Rattle.lf_elaboration.proofs.Full.{fill_none, fill_none_kind, fill_none_type
 use Rattle.lf_elaboration.proofs.Principal.{BodyIsMade, body_made, read_off_principal}
 use Rattle.tw_approx.specs.Answer.{Rows}
 use Rattle.tw_approx.specs.Names.{IsFreeVariable}
+use Rattle.tw_approx.specs.Nesting.{written_depth}
 use Rattle.tw_lexer.specs.declared.place.Place.{Place}
 use Rattle.tw_metas.specs.State as metas
 use Rattle.tw_parse.specs.Syntax.{Term, declare, define, give, prefer}
@@ -38,10 +39,11 @@ use Rattle.law_explicit_form.specs.Explicit.{IsExplicit}
 use Rattle.law_explicit_form.proofs.Gives.{kind_typed, type_typed}
 use Rattle.law_explicit_agrees.specs.Agreement.{IsPrincipallyCompleted}
 use Rattle.law_explicit_agrees.specs.Shallow.{ExplicitIsDeepOnlySo}
+use Rattle.law_explicit_agrees.proofs.Given.{kind_depth_given, type_depth_given}
 use Rattle.law_explicit_agrees.proofs.Bare.{type_closed, whole_bare}
 use Rattle.law_explicit_agrees.proofs.Fitting.{some_is}
 use Rattle.law_explicit_agrees.proofs.Nothing.{body_none, made_none, none_is_not_some}
-use Rattle.law_explicit_agrees.proofs.PlainTexts.{no_elaboration_deep}
+use Rattle.law_explicit_agrees.proofs.Reached.{elaboration_deep}
 use Rattle.law_explicit_agrees.proofs.Shallow.{IsShallow, empty_shallow, nothing_deep}
 use Rattle.law_explicit_agrees.proofs.Whole.{completed_principal}
 
@@ -146,15 +148,21 @@ module _ (es : List Entry) (canonical : IsCanonicalSignature es) (c : List ℕ) 
 
     explicit_shallow : (BodyReachesDeep (signature_of es) e.body → ⊥) → IsShallow es w
     explicit_shallow entry = record {
-      elaboration = no_elaboration_deep es c at U w x r;
+      elaboration = λ h. entry (elaboration_deep es canonical c at U e.body w x g.body r h);
       equations = equations_shallow;
       body = λ frees s b after made z h. entry (open_body_deep frees s b made after z h);
       completion = λ frees b p h. entry (subst (BodyReachesDeep (signature_of es)) (completion_body (record { quantifiers = []; frees = frees; body = b }) p.completion) h);
     }
 
+    -- The text nests no deeper than the entry.
+    text_deep : (b : Body) → BodyGiven es U b → depth_limit < written_depth es U → BodyReachesDeep (signature_of es) b
+    text_deep (declare_family K) k h = let l = kind_depth_given es U [] [] K k in inl (omega (arith, h, l))
+    text_deep (declare_constant A) k h = let l = type_depth_given es U [] [] A k in inl (omega (arith, h, l))
+    text_deep (declare_definition M A b) k h = absurd k
+
     -- Where the entry isn't deep, nothing is.
     nothing_deep_explicit : (BodyReachesDeep (signature_of es) e.body → ⊥) → HasCause es (declare c at U) TooDeep → ⊥
-    nothing_deep_explicit entry = nothing_deep es (declare c at U) not_free makes_none principal.skeletons w r (explicit_shallow entry)
+    nothing_deep_explicit entry = nothing_deep es (declare c at U) not_free makes_none principal.skeletons w r (λ h. entry (text_deep e.body g.body h)) (explicit_shallow entry)
 
 pub explicit_deep_only_so : ExplicitIsDeepOnlySo
 explicit_deep_only_so es canonical (declare c at U) e x g entry =

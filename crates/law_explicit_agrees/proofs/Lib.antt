@@ -14,6 +14,11 @@ pub mod Full
 pub mod Only
 pub mod OnlyDefinitions
 pub mod Shallow
-pub mod Plain
 pub mod PlainTexts
+pub mod Elaborated
+pub mod Spines
+pub mod DeepNames
+pub mod DeepParts
+pub mod Reached
+pub mod Given
 pub mod Deep

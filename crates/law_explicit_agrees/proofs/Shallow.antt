@@ -1,5 +1,5 @@
 -- Of what is written in full nothing deep is reached but in elaboration, in its equations, in the open body, or in what is completed: no metavariable is made of it.
-use Rattle.std.proofs.Common.{◌≡◌, ℕ, zero, List, [], ◌∷◌, length, map, Option, None, Some, ◌⊎◌, inl, inr, refl, sym, ap, ◌∙◌, subst}
+use Rattle.std.proofs.Common.{◌≡◌, ℕ, ◌<◌, zero, List, [], ◌∷◌, length, map, Option, None, Some, ◌⊎◌, inl, inr, refl, sym, ap, ◌∙◌, subst}
 use Rattle.std.specs.Prelude.{slice_get}
 use Rattle.std.specs.Option.{option_map}
 use Rattle.lf.specs.Depth.{depth_limit}
@@ -20,6 +20,7 @@ use Rattle.lf_elaboration.specs.Sites.{body_spots}
 use Rattle.lf_elaboration.specs.State.{State, nothing_yet, store_of}
 use Rattle.tw_approx.specs.Answer.{HasDeep, HasSkeletons, Rows, frees_of}
 use Rattle.tw_approx.specs.Names.{IsFreeVariable}
+use Rattle.tw_approx.specs.Nesting.{declared_depth}
 use Rattle.tw_elaborate.specs.Bodies.{FromNothingDeep}
 use Rattle.tw_metas.specs.State as metas
 use Rattle.tw_metas.specs.State.{joined, value_of}
@@ -127,11 +128,12 @@ module _ (es : List Entry) (d : Declaration) (not_free : (x : List ℕ) → IsFr
   no_deep_row rows o e f (inl h) = subst (λ (rs : Rows). HasDeep (map (λ r. r.1) rs)) e h
   no_deep_row rows o e f (inr h) = subst HasDeep f h
 
-  -- so a declaration of which nothing is left out isn't too deep
-  pub nothing_deep : HasSkeletons es d [] [] → (w : WrittenBody) → resolved_body es [] [] d ≡ Some w → IsShallow es w → HasCause es d TooDeep → ⊥
-  nothing_deep s w r k (inl (objects, deep)) =
+  -- so a declaration of which nothing is left out, and which doesn't nest too deep, isn't too deep
+  pub nothing_deep : HasSkeletons es d [] [] → (w : WrittenBody) → resolved_body es [] [] d ≡ Some w → (depth_limit < declared_depth es d → ⊥) → IsShallow es w → HasCause es d TooDeep → ⊥
+  nothing_deep s w r n k (inl (inl (known, deep))) = n deep
+  nothing_deep s w r n k (inl (inr (objects, deep))) =
       let same = deep.once.only (frees_of []) [] s.fits in
       no_deep_row deep.rows deep.omitted (no_rows es d not_free deep.rows deep.omitted deep.once) (sym same.omitted) deep.deep
-  nothing_deep s w r k (inr (rows, v, h, deep)) =
+  nothing_deep s w r n k (inr (rows, v, h, deep)) =
       let (e, same) = written_once es d not_free s w r rows v h in
       nothing_reached rows v h (subst (IsShallow es) (sym same) k) deep

@@ -30,7 +30,7 @@ use Rattle.law_explicit_agrees.proofs.Views.{rename_id_kind, view_empty}
 
 module _ (es : List Entry) where
   -- a kind ends in `type`, and a type doesn't
-  kind_ends : (U : Term) (N : Names) (G : List LfType) (K : Kind) → KindGives es N G U K → ends_in_type U ≡ true
+  pub kind_ends : (U : Term) (N : Names) (G : List LfType) (K : Kind) → KindGives es N G U K → ends_in_type U ≡ true
   kind_ends star N G lf_star g = refl
   kind_ends (arrow U V) N G (kind_pi A K) (u, v) = kind_ends V (None ∷ N) (A ∷ G) K v
   kind_ends (pi x at D V) N G (kind_pi A K) (d, v) = kind_ends V (binder_name x ∷ N) (A ∷ G) K v

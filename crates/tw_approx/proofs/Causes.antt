@@ -1,5 +1,5 @@
 -- What the solved store says of a declaration and of a query.
-use Rattle.std.proofs.Common.{◌≡◌, ℕ, List, [], ◌∷◌, Bool, true, false, Option, None, Some, Result, Ok, Err, IfErr, refl, ap}
+use Rattle.std.proofs.Common.{◌≡◌, ℕ, List, [], ◌∷◌, Bool, true, false, Option, None, Some, Result, Ok, Err, IfErr, inr, refl, ap}
 use Rattle.lf.specs.Entries.{Entry}
 use Rattle.lf.specs.Syntax.{Skeleton, arrow as arrow_skeleton}
 use Rattle.tw_approx.specs.Answer.{IsOfObjects, HasCause, IsQueryOfObjects, HasQueryCause}
@@ -26,7 +26,7 @@ module _ (es : List Entry) (t : State) where
   declaration_open d objects found (TypeLevel place) o = absurd o
   declaration_open d objects found Clash o = absurd o
   declaration_open d objects found Loose o = (objects, open_twice (λ x. IsFreeVariable es x d) (λ f p. Fits es f p d) t found o)
-  declaration_open d objects found TooDeep o = (objects, deep_once (λ x. IsFreeVariable es x d) (λ f p. Fits es f p d) t found o)
+  declaration_open d objects found TooDeep o = inr (objects, deep_once (λ x. IsFreeVariable es x d) (λ f p. Fits es f p d) t found o)
   declaration_open d objects found NoMemory o = tt
 
   pub query_open : (A : Term) → IsQueryOfObjects es A → IsFound (λ f o. FitsQuery es f o A) (λ x. IsFreeIn es x [] A) t → (f : ApproxFault) → IsLeftOpen t f → HasQueryCause es A f
@@ -34,7 +34,7 @@ module _ (es : List Entry) (t : State) where
   query_open A objects found (TypeLevel place) o = absurd o
   query_open A objects found Clash o = absurd o
   query_open A objects found Loose o = (objects, open_twice (λ x. IsFreeIn es x [] A) (λ f p. FitsQuery es f p A) t found o)
-  query_open A objects found TooDeep o = (objects, deep_once (λ x. IsFreeIn es x [] A) (λ f p. FitsQuery es f p A) t found o)
+  query_open A objects found TooDeep o = inr (objects, deep_once (λ x. IsFreeIn es x [] A) (λ f p. FitsQuery es f p A) t found o)
   query_open A objects found NoMemory o = tt
 
 module _ (es : List Entry) (f : Frees) where

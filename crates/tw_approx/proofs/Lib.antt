@@ -19,3 +19,5 @@ pub mod Defining
 pub mod Rows
 pub mod Ways
 pub mod Objects
+pub mod Nested
+pub mod ExamplesNesting

@@ -6,6 +6,7 @@ use Rattle.lf.specs.Entries.{Entry}
 use Rattle.lf.specs.Syntax.{Skeleton, base}
 use Rattle.tw_approx.specs.Levels.{is_type_definition, type_lambdas, lambdas_in_type, IsEarliest}
 use Rattle.tw_approx.specs.Names.{IsFreeVariable, IsFreeIn}
+use Rattle.tw_approx.specs.Nesting.{declared_depth, written_depth}
 use Rattle.tw_approx.specs.Skeletons.{Frees, Fits, FitsQuery}
 use Rattle.tw_approx.specs.declared.approximation.Row.{Row}
 use Rattle.tw_approx.specs.declared.fault.ApproxFault.{ApproxFault}
@@ -91,6 +92,10 @@ IsLoose es d = FitsTwice (λ x. IsFreeVariable es x d) (λ f p. Fits es f p d)
 abbrev pub IsDeep : List Entry → Declaration → Type 0
 IsDeep es d = FitsDeeply (λ x. IsFreeVariable es x d) (λ f p. Fits es f p d)
 
+-- each name is known, and the text nests deeper than 4,096
+abbrev pub NestsDeeply : List Entry → Declaration → Type 0
+NestsDeeply es d = (unknown_in es d ≡ []) × (depth_limit < declared_depth es d)
+
 abbrev pub IsClash : List Entry → Declaration → Type 0
 IsClash es d = NeverFits (λ f p. Fits es f p d)
 
@@ -101,7 +106,7 @@ HasCause es d (TypeLevel None) = (unknown_in es d ≡ []) × (is_type_definition
 HasCause es d (TypeLevel (Some p)) = (unknown_in es d ≡ []) × (is_type_definition es d ≡ false) × IsEarliest p (type_lambdas d)
 HasCause es d Clash = IsOfObjects es d × IsClash es d
 HasCause es d Loose = IsOfObjects es d × IsLoose es d
-HasCause es d TooDeep = IsOfObjects es d × IsDeep es d
+HasCause es d TooDeep = NestsDeeply es d ⊎ (IsOfObjects es d × IsDeep es d)
 HasCause es d NoMemory = Unit {0}
 
 -- Queries, by their goals
@@ -120,6 +125,9 @@ IsLooseQuery es A = FitsTwice (λ x. IsFreeIn es x [] A) (λ f p. FitsQuery es f
 abbrev pub IsDeepQuery : List Entry → Term → Type 0
 IsDeepQuery es A = FitsDeeply (λ x. IsFreeIn es x [] A) (λ f p. FitsQuery es f p A)
 
+abbrev pub QueryNestsDeeply : List Entry → Term → Type 0
+QueryNestsDeeply es A = (unknown_names es [] A ≡ []) × (depth_limit < written_depth es A)
+
 abbrev pub IsQueryClash : List Entry → Term → Type 0
 IsQueryClash es A = NeverFits (λ f p. FitsQuery es f p A)
 
@@ -130,7 +138,7 @@ HasQueryCause es A (TypeLevel None) = ⊥
 HasQueryCause es A (TypeLevel (Some p)) = (unknown_names es [] A ≡ []) × IsEarliest p (lambdas_in_type A)
 HasQueryCause es A Clash = IsQueryOfObjects es A × IsQueryClash es A
 HasQueryCause es A Loose = IsQueryOfObjects es A × IsLooseQuery es A
-HasQueryCause es A TooDeep = IsQueryOfObjects es A × IsDeepQuery es A
+HasQueryCause es A TooDeep = QueryNestsDeeply es A ⊎ (IsQueryOfObjects es A × IsDeepQuery es A)
 HasQueryCause es A NoMemory = Unit {0}
 
 -- the rows that values of the program stand for

@@ -8,3 +8,5 @@ pub mod Reading
 pub mod Solving
 pub mod Ways
 pub mod Lambdas
+pub mod Nesting
+pub mod Nested

@@ -1,8 +1,10 @@
 //! The skeletons of a declaration.
-ghost use Rattle.std.specs.Prelude.{◌≡◌, [], map, true, false, Some, None, IfOk, IfErr, MatchOption, option_map};
+ghost use Rattle.std.specs.Prelude.{◌≡◌, [], map, true, false, Some, None, ◌≤◌, IfOk, IfErr, MatchOption, option_map};
+ghost use Rattle.lf.specs.Depth.{depth_limit};
 ghost use Rattle.tw_approx.specs.Answer.{rows_of, IsOfObjects, HasSkeletons, HasCause, NeverFits};
 ghost use Rattle.tw_approx.specs.Levels.{is_type_definition, earliest, type_lambdas, lambdas_in_written};
 ghost use Rattle.tw_approx.specs.Names.{IsFreeVariable, IsFreeIn};
+ghost use Rattle.tw_approx.specs.Nesting.{declared_depth};
 ghost use Rattle.tw_approx.specs.Reading.{state_of};
 ghost use Rattle.tw_approx.specs.Skeletons.{Fits, FitsClassifier};
 ghost use Rattle.tw_names.specs.Texts.{ends_in_type};
@@ -17,6 +19,7 @@ use crate::fault::ApproxFault;
 use crate::frames::FRAMES;
 use crate::lambdas::{Part, first_lambda};
 use crate::levels::{is_written_kind, is_written_type};
+use crate::nesting::declares_deeply;
 use crate::skeletons::{ascribed, kind_due, term_shape, type_shape};
 use crate::solving::{are_settled, rows_are_settled, solved_all, solved_rows};
 use crate::walk::Walk;
@@ -46,7 +49,8 @@ pub struct Approx {
     pub omitted: Vec<Skeleton>,
 }
 
-/// The skeletons of a declaration's free variables, holes and untyped binders. The causes of a refusal are tried in the order of `ApproxFault`.
+/// The skeletons of a declaration's free variables, holes and untyped binders. The causes of a refusal are tried in the order of `ApproxFault`, but that a text which nests too
+/// deep is told right behind an unknown name.
 ///
 /// A hole stands for a term or a type, never for a kind. What has no term, as a row of operators, has no skeletons: it clashes.
 pub fn approximate(
@@ -54,11 +58,15 @@ pub fn approximate(
     signature: &Signature,
     decl: &ExtDecl,
 ) -> Result<Approx, ApproxFault>
+    ensures within { IfOk result (λ _. declared_depth signature.now (declaration_of decl.now) ≤ depth_limit) }
     ensures objects { IfOk result (λ _. IsOfObjects signature.now (declaration_of decl.now)) }
     ensures skeletons { IfOk result (λ a. HasSkeletons signature.now (declaration_of decl.now) (rows_of a.free.items) (map skeleton_of a.omitted.items)) }
     ensures refused { IfErr result (λ f. HasCause signature.now (declaration_of decl.now) f) }
 {
     known(alloc, signature, decl)?;
+    if declares_deeply(alloc, signature, decl)? {
+        return Err(ApproxFault::TooDeep);
+    }
     of_objects(alloc, signature, decl)?;
     match found(alloc, signature, decl)? {
         Some(walk) => solved(alloc, &walk),

@@ -22,8 +22,8 @@ pub enum ApproxFault {
     /// More than one choice fits.
     #[error("the skeletons of the declaration are left open")]
     Loose,
-    /// A skeleton of what isn't written is deeper than 4,096, and so are the types that have it.
-    #[error("a skeleton of what isn't written is too deep")]
+    /// The text nests deeper than 4,096, which is told right behind an unknown name; or a skeleton of what isn't written is deeper than that, and so are the types that have it.
+    #[error("the text nests too deep, or a skeleton of what isn't written does")]
     TooDeep,
     /// Memory is wanting, the machine's stack included.
     #[error("memory is wanting")]

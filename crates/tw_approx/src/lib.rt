@@ -14,6 +14,8 @@ mod lambdas;
 pub mod laws;
 #[tactic(auto, using(crate::proofs::Places::places))]
 mod levels;
+#[tactic(auto, using(crate::proofs::Nested::nested))]
+mod nesting;
 #[tactic(auto, using(crate::proofs::Places::places))]
 mod query;
 #[tactic(auto, using(crate::proofs::Spines::spines))]

@@ -18,10 +18,11 @@ use Rattle.lf_elaboration.specs.Written.{Written}
 use Rattle.lf_elaboration.specs.Written as forms
 use Rattle.tw_approx.specs.Answer.{HasSkeletons, Rows}
 use Rattle.tw_approx.specs.Names.{IsFreeVariable}
+use Rattle.tw_approx.specs.Nesting.{declared_depth}
 use Rattle.tw_approx.proofs.Sequences.{parts_of}
 use Rattle.tw_approx.proofs.Ways.{not_twice}
-use Rattle.tw_elaborate.specs.Bodies.{BodyDeep, deep_definition_body}
-use Rattle.tw_elaborate.specs.Deep.{InfersDeep, deep_definition}
+use Rattle.tw_elaborate.specs.Bodies.{BodyDeep, FromNothingDeep, deep_behind_frees, deep_definition_body, deep_frees}
+use Rattle.tw_elaborate.specs.Deep.{InfersDeep, deep_defined_implicit, deep_definition, deep_implicit}
 use Rattle.tw_fixity.specs.Rows.{name_order}
 use Rattle.tw_lexer.proofs.Pieces.{pieces-at, pieces-end}
 use Rattle.tw_lexer.specs.Characters.{first_piece, pieces_from}
@@ -41,6 +42,7 @@ use Rattle.tw_parse.specs.declared.words.Word.TheVariants as words
 use Rattle.tw_recon.specs.Causes.{BodyReachesDeep}
 use Rattle.tw_recon.specs.Reading.{BodyIsDeep}
 use Rattle.tw_resolve.specs.Resolved.{resolved_body}
+use Rattle.law_explicit_agrees.proofs.DeepNames.{no_frees_deep, none_deep}
 use Rattle.law_explicit_agrees.proofs.Fitting.{some_is}
 use Rattle.law_explicit_agrees.proofs.Full.{no_equation}
 use Rattle.law_explicit_agrees.proofs.Nothing.{none_is_not_some}
@@ -214,9 +216,15 @@ body_made frees s s' (declare_constant A) x = absurd x
 
 no_substitution : {frees : List ℕ} {s : State} → InfersDeep entries frees [] written_c s → ⊥
 no_substitution (deep_definition {e = e} {N = N} {B = B} {b = b} q k t deep) = not_definition e N B b q k
+no_substitution (deep_implicit {e = e} q k t) = none_deep t (none_implicit e q)
+no_substitution (deep_defined_implicit {e = e} q k t) = none_deep t (none_implicit e q)
 
 no_elaboration : {frees : List ℕ} {s : State} → BodyDeep entries frees written s → ⊥
 no_elaboration (deep_definition_body x) = no_substitution x
+
+nothing_elaborated : FromNothingDeep entries [] written → ⊥
+nothing_elaborated (deep_frees t) = no_frees_deep t refl
+nothing_elaborated (deep_behind_frees f d) = no_elaboration d
 
 put_nil : {Ψ : ℕ → Option LfType} {bs : List Binding} {k : ℕ} {S : Spine} → PutsInSpine Ψ bs k nil S → S ≡ nil
 put_nil put_nowhere = refl
@@ -241,6 +249,9 @@ read_shallow : (after : metas.State) → BodyIsDeep after body → ⊥
 read_shallow after (inl (M, p, l)) = c_shallow M (put_c p) l
 read_shallow after (inr (A, p, l)) = o_shallow A (put_o p) l
 
+text_shallow : depth_limit < declared_depth entries d_is_c → ⊥
+text_shallow l = let deep : depth_limit < 1 = l in omega (arith, deep)
+
 body_shallow : BodyReachesDeep (signature_of entries) body → ⊥
 body_shallow (inl (inl l)) = o_shallow o_type refl l
 body_shallow (inl (inr (inl l))) = o_shallow o_type refl l
@@ -252,7 +263,7 @@ body_shallow (inr (inr (inr (inr (A, a, l))))) = o_shallow A (sym (some_is a)) l
 
 is_shallow : IsShallow entries written
 is_shallow = record {
-  elaboration = λ x. no_elaboration x.deep;
+  elaboration = nothing_elaborated;
   equations = λ frees s b made deep. unmade_shallow entries frees made.with_frees s made.frees_made (body_made frees made.with_frees s b made.body_made).0 deep;
   body = λ frees s b after made z deep. read_shallow after (subst (BodyIsDeep after) (body_made frees made.with_frees s b made.body_made).1 deep);
   completion = λ frees b p deep. body_shallow (subst (BodyReachesDeep (signature_of entries)) (body_completed frees b p.completion.completed) deep);
@@ -271,7 +282,7 @@ completable = record {
   };
   not_loose = not_twice entries d_is_c [] [] skeletons;
   none_left = λ left h. no_equation entries d_is_c not_free makes_none left h;
-  shallow = nothing_deep entries d_is_c not_free makes_none skeletons written refl is_shallow;
+  shallow = nothing_deep entries d_is_c not_free makes_none skeletons written refl text_shallow is_shallow;
 }
 
 definition_good : IsGood with_constant text

@@ -1,5 +1,5 @@
 -- What a call answers, from its parts: one rule of elaboration each, or one place that is too deep.
-use Rattle.std.proofs.Common.{◌≡◌, ℕ, ◌⊎◌, inl, inr, Box, Global, zero, List, ◌∷◌, Result, Err, IsErrOf, refl, sym, ap, ap₂, ◌∙◌, subst}
+use Rattle.std.proofs.Common.{◌≡◌, ℕ, ◌⊎◌, inl, inr, Box, Global, zero, List, ◌∷◌, refl, sym, ap, ap₂, ◌∙◌, subst}
 use Rattle.lf.specs.Entries.{Entry, IsCanonicalSignature, signature_of}
 use Rattle.lf.specs.Eta.{add_last}
 use Rattle.lf.specs.Syntax.{Kind, LfType, Spine, Term, atom, kind_pi, kind_skeleton, lambda, pi, star}
@@ -17,8 +17,9 @@ use Rattle.tw_written.specs.declared.written.WrittenType.{WrittenType as Written
 use Rattle.tw_terms.specs.declared.canonical.Skeleton.{Skeleton as SkeletonSyntax}
 use Rattle.tw_written.proofs.Views.{written_of-Applied, written_of-Ascribed, written_of-Bound, written_of-Declared, written_of-Free, written_of-Function, written_of-Hole}
 use Rattle.tw_elaborate.specs.Comparing.{ChecksDomain, ComparesKinds, ComparesTypes, IsProduct}
-use Rattle.tw_elaborate.specs.Deep.{ChecksDeep, DomainDeep, IsReducible, deep_checked_domain, deep_under_domain}
+use Rattle.tw_elaborate.specs.Deep.{ChecksDeep, ChecksDomainDeep, at_domain, deep_checked_domain, deep_compared_domain, deep_under_domain, in_domain}
 use Rattle.tw_elaborate.specs.Fits.{Stands}
+use Rattle.tw_elaborate.specs.Plain.{IsReducible}
 use Rattle.tw_elaborate.specs.View.{made}
 use Rattle.tw_elaborate.specs.declared.state.Elaboration.{Elaboration}
 use Rattle.tw_elaborate.proofs.Following.{compared_stands, compared_type, domain_found, domain_kept, domain_stands}
@@ -70,8 +71,12 @@ module _ (es : List Entry) (ns : List ℕ) where
       go : ChecksDomain es ns d A a b → ChecksDeep es ns (A ∷ a.locals) M B (made b) → ChecksDeep es ns a.locals (function d M) (pi A B) (made a)
       go (z, Z, i, q, m) c = deep_under_domain i q (subst (ChecksDeep es ns (A ∷ a.locals) M B) m c)
 
-  pub domain_deep : (D : List LfType) (d : WrittenDomain) (M : Written) (A B X : LfType) (s : State) → X ≡ pi A B → DomainDeep es ns D d s → ChecksDeep es ns D (function d M) X s
-  domain_deep D d M A B X s x h = subst (λ Y. ChecksDeep es ns D (function d M) Y s) (sym x) (deep_checked_domain h)
+  pub domain_deep : (D : List LfType) (d : WrittenDomain) (M : Written) (A B X : LfType) (s : State) → X ≡ pi A B → ChecksDomainDeep es ns D d A s → ChecksDeep es ns D (function d M) X s
+  domain_deep D d M A B X s x h = subst (λ Y. ChecksDeep es ns D (function d M) Y s) (sym x) (go h)
+    where
+      go : ChecksDomainDeep es ns D d A s → ChecksDeep es ns D (function d M) (pi A B) s
+      go (in_domain n i) = deep_checked_domain n i
+      go (at_domain i k) = deep_compared_domain i k
 
   module _ (o : IsCanonicalSignature es) where
     pub domain_checked : (a b : Elaboration) (d : WrittenDomain) (A Y : LfType) → ChecksDomain es ns d A a b → Stands (signature_of es) (made a) a.locals → TypeHasSkeletons (signature_of es) (made a) a.locals A → TypeHasSkeletons (signature_of es) (made a) a.locals Y →
@@ -82,10 +87,6 @@ module _ (es : List Entry) (ns : List ℕ) where
           subst (λ v. Stands (signature_of es) v a.locals) (sym m) (compared_stands es o ns z a.locals Z A q w' z' (domain_kept es o ns w i A x)),
           subst (λ v. TypeHasSkeletons (signature_of es) v a.locals Y) (sym m) (compared_type es o ns z a.locals Z A Y w' (domain_kept es o ns w i Y y)),
         )
-
--- the same fault
-pub fault_of_call : {T U E : Type 0} (r : Result T E) (x y : E) → r ≡ Err x → IsErrOf r y → IsErrOf {T = U} (Err x) y
-fault_of_call r x y e f = cc (e, f)
 
 -- neither a hole nor a function
 pub is_inferred : (W : Syntax) → ((i : ℕ) × (p : Place) × (W ≡ Free i p)) ⊎ (((i : ℕ) × (W ≡ Bound i)) ⊎ (((c : ConstId) × (p : Place) × (W ≡ Declared c p)) ⊎ (((M : Box Syntax Global) × (P : Box Syntax Global) × (W ≡ Applied M P)) ⊎ ((M : Box Syntax Global) × (U : Box WrittenTypeSyntax Global) × (W ≡ Ascribed M U))))) → IsInferred (written_of W)

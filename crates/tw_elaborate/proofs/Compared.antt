@@ -1,5 +1,5 @@
 -- Types that are still to be compared: each step leaves fewer parts, and the same equations in the end.
-use Rattle.std.proofs.Common.{◌≡◌, ℕ, suc, ◌+◌, ◌<◌, List, [], ◌∷◌, ◌++◌, refl, sym, ap, ap₂, ◌∙◌, subst, arith}
+use Rattle.std.proofs.Common.{◌≡◌, ℕ, suc, ◌+◌, ◌<◌, List, [], ◌∷◌, ◌++◌, ◌⊎◌, inl, inr, refl, sym, ap, ap₂, ◌∙◌, subst, arith}
 use Rattle.lf.specs.Syntax.{LfType, Spine, arrow, atom, base, pi, skeleton}
 use Rattle.lf.specs.Typing.{Signature}
 use Rattle.lf_elaboration.specs.Skeletons.{TypeHasSkeletons}
@@ -8,9 +8,10 @@ use Rattle.lf_elaboration.proofs.Differing.{same_type}
 use Rattle.lf_unification.specs.Lists.{followed}
 use Rattle.lf_unification.specs.Unifiers.{Equation}
 use Rattle.tw_terms.specs.OpenView.{open_type_of}
-use Rattle.tw_elaborate.specs.Compared.{AllFound, AllSame, ComparesNext, equations_left, parts, parts_left}
+use Rattle.tw_elaborate.specs.Compared.{AllFound, AllSame, AnyDeep, ComparesNext, equations_left, parts, parts_left}
 use Rattle.tw_elaborate.specs.Comparing.{ComparesIn}
 use Rattle.tw_elaborate.specs.Fresh.{Keeps}
+use Rattle.tw_elaborate.specs.IndicesDeep.{IndicesDeep}
 use Rattle.tw_elaborate.specs.View.{made}
 use Rattle.tw_elaborate.specs.declared.equations.Comparison.{Comparison}
 use Rattle.tw_elaborate.specs.declared.state.Elaboration.{Elaboration}
@@ -46,6 +47,40 @@ module _ (Σ : Signature) where
   found_pop s [] c (f, h) = (tt, f)
   found_pop s (d ∷ cs) c (k, h) = let (i, f) = found_pop s cs c h in ((k, i), f)
 
+  deep_before : (cs : List Comparison) (c : Comparison) → AnyDeep Σ cs → AnyDeep Σ (cs ++ c ∷ [])
+  deep_before [] c d = absurd d
+  deep_before (b ∷ cs) c (inl d) = inl d
+  deep_before (b ∷ cs) c (inr d) = inr (deep_before cs c d)
+
+  deep_last : (cs : List Comparison) (c : Comparison) → IndicesDeep Σ (open_type_of c.found.now) → AnyDeep Σ (cs ++ c ∷ [])
+  deep_last [] c d = inl d
+  deep_last (b ∷ cs) c d = inr (deep_last cs c d)
+
+  deep_parts : (cs : List Comparison) (c : Comparison) → AnyDeep Σ (cs ++ c ∷ []) → AnyDeep Σ cs ⊎ IndicesDeep Σ (open_type_of c.found.now)
+  deep_parts [] c (inl d) = inr d
+  deep_parts [] c (inr d) = absurd d
+  deep_parts (b ∷ cs) c (inl d) = inl (inl d)
+  deep_parts (b ∷ cs) c (inr d) = by (deep_parts cs c d)
+    where
+      by : AnyDeep Σ cs ⊎ IndicesDeep Σ (open_type_of c.found.now) → AnyDeep Σ (b ∷ cs) ⊎ IndicesDeep Σ (open_type_of c.found.now)
+      by (inl e) = inl (inr e)
+      by (inr e) = inr e
+
+  -- a part that is deep makes the whole deep
+  deep_whole : (next p q : Comparison) (old mid new : List Comparison) (A B : LfType) → open_type_of next.found.now ≡ pi A B → mid ≡ old ++ p ∷ [] → new ≡ mid ++ q ∷ [] → open_type_of p.found.now ≡ B → open_type_of q.found.now ≡ A → AnyDeep Σ new → AnyDeep Σ (old ++ next ∷ [])
+  deep_whole next p q old mid new A B t m n pf qf k = by (deep_parts mid q (subst (AnyDeep Σ) n k))
+    where
+      of_next : IndicesDeep Σ (pi A B) → AnyDeep Σ (old ++ next ∷ [])
+      of_next d = deep_last old next (subst (IndicesDeep Σ) (sym t) d)
+
+      inner : AnyDeep Σ old ⊎ IndicesDeep Σ (open_type_of p.found.now) → AnyDeep Σ (old ++ next ∷ [])
+      inner (inl d) = deep_before old next d
+      inner (inr d) = of_next (inr (subst (IndicesDeep Σ) pf d))
+
+      by : AnyDeep Σ mid ⊎ IndicesDeep Σ (open_type_of q.found.now) → AnyDeep Σ (old ++ next ∷ [])
+      by (inl d) = inner (deep_parts old p (subst (AnyDeep Σ) m d))
+      by (inr d) = of_next (inl (subst (IndicesDeep Σ) qf d))
+
   -- equations make no difference
   found_on : (s : State) (es : List Equation) (cs : List Comparison) → AllFound Σ s cs → AllFound Σ (with_equations es s) cs
   found_on s es [] h = tt
@@ -78,6 +113,7 @@ module _ (Σ : Signature) where
             let in_range : TypeHasSkeletons Σ (made a) p.context (open_type_of p.found.now) = subst (λ G. TypeHasSkeletons Σ (made a) G (open_type_of p.found.now)) (sym pc) (subst (TypeHasSkeletons Σ (made a) (A ∷ D)) (sym pf) typed.1) in
             let in_domain : TypeHasSkeletons Σ (made a) q.context (open_type_of q.found.now) = subst (λ G. TypeHasSkeletons Σ (made a) G (open_type_of q.found.now)) (sym qc) (subst (TypeHasSkeletons Σ (made a) D) (sym qf) typed.0) in
             subst (AllFound Σ (made a)) (sym n) (found_push (made a) mid q (subst (AllFound Σ (made a)) (sym m) (found_push (made a) old p k in_range)) in_domain);
+        deep = deep_whole next p q old mid new A B t m n pf qf;
       }
 
   pub compares_atoms : (next : Comparison) (old : List Comparison) (f g : ℕ) (S T : Spine) (a b : Elaboration) → open_type_of next.found.now ≡ atom f S → open_type_of next.expected.now ≡ atom g T → f ≡ g
@@ -93,6 +129,7 @@ module _ (Σ : Signature) where
         same = λ k. same_push old next k (ap skeleton t ∙ ap base e ∙ sym (ap skeleton u));
         less = omega (arith, size);
         found = λ k. subst (λ s. AllFound Σ s old) (sym q) (found_on (made a) es old k);
+        deep = deep_before old next;
       }
 
   -- of two types these are left, behind what was compared
@@ -101,6 +138,11 @@ module _ (Σ : Signature) where
     pub same : AllSame left → skeleton A ≡ skeleton X
     pub found : AllFound Σ (made now) left
     pub keeps : Keeps start now
+    pub deep : AnyDeep Σ left → IndicesDeep Σ A
+
+  only_deep : (c : Comparison) → AnyDeep Σ (c ∷ []) → IndicesDeep Σ (open_type_of c.found.now)
+  only_deep c (inl d) = d
+  only_deep c (inr d) = absurd d
 
   pub comparing_whole : (c : Comparison) (before left : List Comparison) (a : Elaboration) → before ≡ [] → left ≡ before ++ c ∷ [] → TypeHasSkeletons Σ (made a) c.context (open_type_of c.found.now) → IsComparing c.context (open_type_of c.found.now) (open_type_of c.expected.now) left a a
   comparing_whole c before left a b e h = subst (λ l. IsComparing c.context (open_type_of c.found.now) (open_type_of c.expected.now) l a a) (sym (e ∙ ap (λ l. l ++ c ∷ []) b)) (record {
@@ -108,6 +150,7 @@ module _ (Σ : Signature) where
     same = λ (k, n). k;
     found = (h, tt);
     keeps = keeps_same a;
+    deep = only_deep c;
   })
 
   pub next_found : {D : List LfType} {A X : LfType} {start now : Elaboration} (old new : List Comparison) (next : Comparison) → old ≡ new ++ next ∷ [] → IsComparing D A X old start now → TypeHasSkeletons Σ (made now) next.context (open_type_of next.found.now)
@@ -119,7 +162,11 @@ module _ (Σ : Signature) where
     same = λ h. k.same (subst AllSame (sym e) (n.same h));
     found = n.found (found_pop (made a) mid next (subst (AllFound Σ (made a)) e k.found)).0;
     keeps = keeps_then start a b k.keeps p;
+    deep = λ h. k.deep (subst (AnyDeep Σ) (sym e) (n.deep h));
   }
+
+  pub next_deep : {D : List LfType} {A X : LfType} {start now : Elaboration} (old new : List Comparison) (next : Comparison) → old ≡ new ++ next ∷ [] → IsComparing D A X old start now → IndicesDeep Σ (open_type_of next.found.now) → IndicesDeep Σ A
+  next_deep old new next e k d = k.deep (subst (AnyDeep Σ) (sym e) (deep_last new next d))
 
   pub fewer_left : {a b : Elaboration} (old mid new : List Comparison) (next : Comparison) → old ≡ mid ++ next ∷ [] → ComparesNext Σ next mid new a b → parts_left new < parts_left old
   fewer_left old mid new next e n = subst (λ l. parts_left new < parts_left l) (sym e) n.less

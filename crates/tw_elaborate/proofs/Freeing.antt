@@ -17,6 +17,7 @@ use Rattle.tw_terms.specs.View.{skeleton_of}
 use Rattle.tw_elaborate.specs.Fits.{Stands}
 use Rattle.tw_elaborate.specs.Frees.{IsNewFree}
 use Rattle.tw_elaborate.specs.Fresh.{Keeps}
+use Rattle.tw_elaborate.specs.NewDeep.{NewFreesDeep, NewTypeDeep, deep_free, deep_later_free}
 use Rattle.tw_elaborate.specs.View.{made, numbers_of}
 use Rattle.tw_elaborate.specs.declared.state.Elaboration.{Elaboration}
 use Rattle.tw_open.proofs.NewTerms.{declares_fresh, declares_same, declares_then, one_more_made}
@@ -31,22 +32,27 @@ module _ (es : List Entry) (canonical : IsCanonicalSignature es) where
 -- some of the skeletons have their variables, and these are left
 pub record FreesBefore (es : List Entry) (ts : List Skeleton) (s : State) (us : List Skeleton) (s' : State) (ms : List ℕ) : Type 0 where
   pub rest : (s'' : State) (ns : List ℕ) → NewFrees es us s' s'' ns → NewFrees es ts s s'' (ms ++ ns)
+  pub deep : NewFreesDeep es us s' → NewFreesDeep es ts s
 
 pub frees_start : (es : List Entry) (ts : List Skeleton) (s : State) → FreesBefore es ts s ts s []
-frees_start es ts s = record { rest = λ s'' ns f. f }
+frees_start es ts s = record { rest = λ s'' ns f. f; deep = λ d. d }
 
 one_more : (ms : List ℕ) (m : ℕ) (ns : List ℕ) → (ms ++ m ∷ []) ++ ns ≡ ms ++ (m ∷ ns)
 one_more [] m ns = refl
 one_more (k ∷ ms) m ns = ap (λ l. k ∷ l) (one_more ms m ns)
 
 pub frees_step : (es : List Entry) (ts us vs : List Skeleton) (t : Skeleton) (s : State) (m : ℕ) (ms ns : List ℕ) (a b : Elaboration) → us ≡ t ∷ vs → ns ≡ ms ++ m ∷ [] → IsNewFree es t m a b → FreesBefore es ts s us (made a) ms → FreesBefore es ts s vs (made b) ns
-frees_step es ts us vs t s m ms ns a b u n f g = record { rest = rest }
+frees_step es ts us vs t s m ms ns a b u n f g = record { rest = rest; deep = λ d. g.deep (subst (λ l. NewFreesDeep es l (made a)) (sym u) (deep_later_free f.type_made (subst (NewFreesDeep es vs) f.state d))) }
   where
     rest : (s'' : State) (ks : List ℕ) → NewFrees es vs (made b) s'' ks → NewFrees es ts s s'' (ns ++ ks)
     rest s'' ks h =
         let x : NewFrees es (t ∷ vs) (made a) s'' (f.between.next ∷ ks) = next_free f.type_made (subst (λ z. NewFrees es vs z s'' ks) f.state h) in
         let y : NewFrees es us (made a) s'' (m ∷ ks) = subst (λ l. NewFrees es l (made a) s'' (m ∷ ks)) (sym u) (subst (λ k. NewFrees es (t ∷ vs) (made a) s'' (k ∷ ks)) (sym f.number) x) in
         subst (NewFrees es ts s s'') (sym (ap (λ l. l ++ ks) n ∙ one_more ms m ks)) (g.rest s'' (m ∷ ks) y)
+
+-- where one is deep
+pub frees_deep : (es : List Entry) (ts us vs : List Skeleton) (t : Skeleton) (s s' : State) (ms : List ℕ) → us ≡ t ∷ vs → NewTypeDeep es [] t s' → FreesBefore es ts s us s' ms → NewFreesDeep es ts s
+frees_deep es ts us vs t s s' ms u d g = g.deep (subst (λ l. NewFreesDeep es l s') (sym u) (deep_free d))
 
 append_nothing : (ms : List ℕ) → ms ++ [] ≡ ms
 append_nothing [] = refl

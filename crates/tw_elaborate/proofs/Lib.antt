@@ -8,7 +8,11 @@ pub mod NewHoles
 pub mod Naming
 pub mod Following
 pub mod Rows
+pub mod FamilyRows
+pub mod Ascriptions
+pub mod FamilyAscriptions
 pub mod Arrows
+pub mod Unascribed
 pub mod Declaring
 pub mod Answering
 pub mod Compared

@@ -1,6 +1,7 @@
 -- A head on arguments takes one more, and a row of arguments is put to what stands before it.
-use Rattle.std.proofs.Common.{◌≡◌, ℕ, zero, suc, List, [], ◌∷◌, ◌++◌, Bor, Box, Global, MatchOption, None, Option, Some, Vec, refl, sym, ap, ap₂, ◌∙◌, subst}
+use Rattle.std.proofs.Common.{◌≡◌, ◌<◌, ℕ, zero, suc, List, [], ◌∷◌, ◌++◌, Bor, Box, Global, MatchOption, None, Option, Some, Vec, inl, inr, refl, sym, ap, ap₂, ◌∙◌, subst}
 use Rattle.std.proofs.lemmas.List.{map-append}
+use Rattle.lf.specs.Depth.{depth_limit, type_depth}
 use Rattle.lf.specs.Entries.{Entry, IsCanonicalSignature, signature_of}
 use Rattle.lf.specs.Eta.{add_last, eta_expand}
 use Rattle.lf.specs.SkeletonTyping.{HeadSkeletons, TermSkeleton}
@@ -22,10 +23,10 @@ use Rattle.tw_terms.proofs.Args.{types_and_skeletons}
 use Rattle.tw_written.proofs.Views.{written_views}
 use Rattle.tw_written.specs.View.{written_of}
 use Rattle.tw_written.specs.declared.written.Written.{Written as Syntax}
-use Rattle.tw_elaborate.specs.Deep.{ChecksDeep, InfersDeep, deep_application, deep_argument, deep_function, deep_inferred}
+use Rattle.tw_elaborate.specs.Deep.{ChecksDeep, InfersDeep, deep_application, deep_argument, deep_function, deep_inferred, deep_left_type}
 use Rattle.tw_elaborate.specs.Fits.{Stands}
 use Rattle.tw_elaborate.specs.Fresh.{Keeps}
-use Rattle.tw_elaborate.specs.Operators.{Applies, IsNext, IsTerm, PutsIn, PutsInDeep, applied_to, operator_of, written_terms}
+use Rattle.tw_elaborate.specs.Operators.{Applies, IsNext, IsTerm, PutsIn, PutsInDeep, TakesArgumentDeep, applied_to, operator_of, written_terms}
 use Rattle.tw_elaborate.specs.Rows.{Reached}
 use Rattle.tw_elaborate.specs.declared.operators.Next.{Next}
 use Rattle.tw_elaborate.specs.declared.operators.Next.TheVariants.{Argument, Nothing}
@@ -78,7 +79,7 @@ pub applied_to-push : (F P : Written) (Ps : List Written) → applied_to F (Ps +
 applied_to-push F P [] = refl
 applied_to-push F P (Q ∷ Ps) = ap (λ M. applied M Q) (applied_to-push F P Ps)
 
-arguments_less : (old new : List (Bor Syntax)) (p : Bor Syntax) → old ≡ new ++ p ∷ [] → written_terms old ≡ written_terms new ++ written_of p.now ∷ []
+pub arguments_less : (old new : List (Bor Syntax)) (p : Bor Syntax) → old ≡ new ++ p ∷ [] → written_terms old ≡ written_terms new ++ written_of p.now ∷ []
 arguments_less old new p e = ap written_terms e ∙ map-append (λ (x : Bor Syntax). written_of x.now) new (p ∷ [])
 
 module _ (es : List Entry) (ns : List ℕ) (D : List LfType) where
@@ -110,7 +111,7 @@ module _ (es : List Entry) (ns : List ℕ) (D : List LfType) where
           inferred = subst (λ a. Infers es ns D (applied r.so_far P) s u (operator_of a o') Y) (sym k) (subst (λ Z. Infers es ns D (applied r.so_far P) s u (operator_of (skeleton B) o') Z) (sym y) (subst (λ M. Infers es ns D (applied r.so_far P) s u M (instantiate_type X Q B)) (sym p.result) i));
         }
 
-    pub put_deep : {u : State} {Q : Term} → Checks es ns D P X t u Q → PutsInDeep (skeleton X) (operator_of (arrow (skeleton X) (skeleton B)) o) Q → IsTerm o → InfersDeep es ns D W s
+    put_deep : {u : State} {Q : Term} → Checks es ns D P X t u Q → PutsInDeep (skeleton X) (operator_of (arrow (skeleton X) (skeleton B)) o) Q → IsTerm o → InfersDeep es ns D W s
     put_deep c p i = subst (λ F. InfersDeep es ns D F s) next_is (deep_row (applied r.so_far P) s Ps (deep_application (r.reducible i) (subst (λ M. Infers es ns D r.so_far s t M (pi X B)) p.is next_inferred) c p.deep))
 
     module _ (canonical : IsCanonicalSignature es) (w : Stands (signature_of es) s D) where
@@ -130,6 +131,16 @@ module _ (es : List Entry) (ns : List ℕ) (D : List LfType) where
       argument_deep d =
           let (R, m) = is_lambda _ _ (operator_of (arrow (skeleton X) (skeleton B)) o) (skeleton X) (skeleton B) next_typed in
           subst (λ F. InfersDeep es ns D F s) next_is (deep_row (applied r.so_far P) s Ps (deep_argument (subst (λ M. Infers es ns D r.so_far s t M (pi X B)) m next_inferred) d))
+
+      left_deep : {u : State} {Q : Term} → Checks es ns D P X t u Q → depth_limit < type_depth (instantiate_type X Q B) → InfersDeep es ns D W s
+      left_deep c d =
+          let (R, m) = is_lambda _ _ (operator_of (arrow (skeleton X) (skeleton B)) o) (skeleton X) (skeleton B) next_typed in
+          subst (λ F. InfersDeep es ns D F s) next_is (deep_row (applied r.so_far P) s Ps (deep_left_type (at_applied (subst (λ M. Infers es ns D r.so_far s t M (pi X B)) m next_inferred) c) d))
+
+      -- in the term, or in the type that is left
+      pub taken_deep : {u : State} {Q : Term} → Checks es ns D P X t u Q → TakesArgumentDeep o X B Q → InfersDeep es ns D W s
+      taken_deep c (inl (i, p)) = put_deep c p i
+      taken_deep c (inr d) = left_deep c d
 
       pub next_applies : {u : State} {Q : Term} → Checks es ns D P X t u Q → Applies (skeleton X) (skeleton B) (operator_of (arrow (skeleton X) (skeleton B)) o) Q
       next_applies c = operator_applies es canonical ns (next_stands D refl) next_type.0 c (operator_of (arrow (skeleton X) (skeleton B)) o) B next_typed
@@ -300,7 +311,7 @@ module _ (es : List Entry) (ns : List ℕ) (D : List LfType) where
         pub asked_range_fits : TypeFits (single (skeleton (open_type_of p.domain)) Q) (open_type_of p.range)
         asked_range_fits = next_range_fits es ns D k.asks (written_terms p.args.items) P refl (open_type_of p.domain) (open_type_of p.range) refl canonical begin_stands c
 
-        pub asked_put_deep : PutsInDeep (skeleton (open_type_of p.domain)) (operator_of (arrow (skeleton (open_type_of p.domain)) (skeleton (open_type_of p.range))) p.operator) Q → IsTerm p.operator → InfersDeep es ns D W s
-        asked_put_deep d i = waiting_deep canonical ps W k.inner s k.begin k.waits w (put_deep es ns D k.asks (written_terms p.args.items) P refl (open_type_of p.domain) (open_type_of p.range) refl c d i)
+        pub asked_taken_deep : TakesArgumentDeep p.operator (open_type_of p.domain) (open_type_of p.range) Q → InfersDeep es ns D W s
+        asked_taken_deep d = waiting_deep canonical ps W k.inner s k.begin k.waits w (taken_deep es ns D k.asks (written_terms p.args.items) P refl (open_type_of p.domain) (open_type_of p.range) refl canonical begin_stands c d)
 
 pub ruleset rows = (types_and_skeletons, written_views, applied_to-push)

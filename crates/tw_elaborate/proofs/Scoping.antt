@@ -12,6 +12,7 @@ use Rattle.tw_open.specs.Fits.{KindStands}
 use Rattle.tw_elaborate.specs.Fits.{Stands}
 use Rattle.tw_open.specs.Fresh.{OnlyDeclares}
 use Rattle.tw_elaborate.specs.Fresh.{Keeps}
+use Rattle.tw_elaborate.specs.NewDeep.{NewTypeDeep, TakesAllNewDeep, deep_new_atom, deep_new_pi_range}
 use Rattle.tw_elaborate.specs.declared.state.Elaboration.{Elaboration}
 use Rattle.tw_open.proofs.NewTerms.{declares_then}
 
@@ -54,3 +55,10 @@ module _ (es : List Entry) where
   pub pi_is_new : (T t u : Skeleton) (s s₁ s₂ s' : State) (D E : List LfType) (A B X Y : LfType) → T ≡ arrow t u → NewType es D t s s₁ A → E ≡ X ∷ D → X ≡ A → NewType es E u s₁ s₂ B → s' ≡ s₂ → Y ≡ pi A B → NewType es D T s s' Y
   pi_is_new T t u s s₁ s₂ s' D E A B X Y h n q x r p y =
       subst (λ v. NewType es D v s s' Y) (sym h) (subst (λ w. NewType es D (arrow t u) s w Y) (sym p) (subst (NewType es D (arrow t u) s s₂) (sym y) (new_pi n (subst (λ F. NewType es F u s₁ s₂ B) (q ∙ ap (λ Z. Z ∷ D) x) r))))
+
+  -- where one is deep
+  pub atom_is_deep : (s : State) (D : List LfType) (a : ℕ) (K L : Kind) → Some K ≡ (signature_of es).kinds a → L ≡ K → TakesAllNewDeep D L s → NewTypeDeep es D (base a) s
+  atom_is_deep s D a K L e l t = deep_new_atom (sym e) (subst (λ x. TakesAllNewDeep D x s) l t)
+
+  pub range_is_deep : (T t u : Skeleton) (s s₁ : State) (D E : List LfType) (A X : LfType) → T ≡ arrow t u → NewType es D t s s₁ A → E ≡ X ∷ D → X ≡ A → NewTypeDeep es E u s₁ → NewTypeDeep es D T s
+  range_is_deep T t u s s₁ D E A X h n q x d = subst (λ v. NewTypeDeep es D v s) (sym h) (deep_new_pi_range n (subst (λ F. NewTypeDeep es F u s₁) (q ∙ ap (λ Z. Z ∷ D) x) d))

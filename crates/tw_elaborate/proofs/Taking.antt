@@ -1,5 +1,6 @@
 -- New metavariables, step by step.
 use Rattle.std.proofs.Common.{◌≡◌, ℕ, suc, ◌+◌, ◌-◌, ◌<◌, List, [], ◌∷◌, ◌++◌, refl, sym, ap, ◌∙◌, subst, arith}
+use Rattle.lf.specs.Depth.{depth_limit, kind_depth, type_depth}
 use Rattle.lf.specs.Eta.{append}
 use Rattle.lf.specs.Syntax.{Kind, LfType, Spine, Term, app, kind_pi, nil, pi, star}
 use Rattle.lf.specs.Typing.{instantiate_kind, instantiate_type}
@@ -12,6 +13,7 @@ use Rattle.tw_prune.proofs.Walking.{append-nil}
 use Rattle.tw_open.specs.Fits.{KindStands, TypeStands}
 use Rattle.tw_open.specs.Fresh.{declares_nothing}
 use Rattle.tw_elaborate.specs.Fresh.{Keeps, KindTakesOne, TakesOne}
+use Rattle.tw_elaborate.specs.NewDeep.{KindTakesNewDeep, KindTakesOneDeep, TakesAllNewDeep, TakesNewDeep, TakesOneDeep, all_deep_later_new, all_deep_new, deep_later_new, deep_new, kind_deep_later_new, kind_deep_new}
 use Rattle.tw_elaborate.specs.View.{made}
 use Rattle.tw_elaborate.specs.declared.state.Elaboration.{Elaboration}
 use Rattle.tw_open.proofs.NewTerms.{declares_then, longer}
@@ -41,12 +43,13 @@ kind_stands_after K L M a b k o f =
 -- i of n arguments are taken, and these are the terms
 pub record TakesBefore (n : ℕ) (D : List LfType) (A : LfType) (s : State) (i : ℕ) (B : LfType) (t : State) (ts : List Open) : Type 0 where
   pub rest : (s' : State) (S : Spine) (C : LfType) → TakesNew (n - i) D B t s' S C → TakesNew n D A s s' (append (open_args_of ts) S) C
+  pub deep : TakesNewDeep (n - i) D B t → TakesNewDeep n D A s
 
 pub takes_start : (n : ℕ) (D : List LfType) (A : LfType) (s : State) → TakesBefore n D A s 0 A s []
-takes_start n D A s = record { rest = λ s' S C d. subst (λ k. TakesNew k D A s s' S C) (omega arith) d }
+takes_start n D A s = record { rest = λ s' S C d. subst (λ k. TakesNew k D A s s' S C) (omega arith) d; deep = λ h. subst (λ k. TakesNewDeep k D A s) (omega arith) h }
 
 pub takes_step : (n i : ℕ) (D : List LfType) (A X Y : LfType) (s : State) (ts us : List Open) (m : Open) (a b : Elaboration) → i < n → a.locals ≡ D → us ≡ ts ++ m ∷ [] → TakesOne X (open_term_of m) Y a b → TakesBefore n D A s i X (made a) ts → TakesBefore n D A s (i + 1) Y (made b) us
-takes_step n i D A X Y s ts us m a b h l u o f = record { rest = rest }
+takes_step n i D A X Y s ts us m a b h l u o f = record { rest = rest; deep = λ d. f.deep (one_deep d) }
   where
     M : Term
     M = open_term_of m
@@ -63,18 +66,34 @@ takes_step n i D A X Y s ts us m a b h l u o f = record { rest = rest }
     rest : (s' : State) (S : Spine) (C : LfType) → TakesNew (n - (i + 1)) D Y (made b) s' S C → TakesNew n D A s s' (append (open_args_of us) S) C
     rest s' S C d = subst (λ T. TakesNew n D A s s' T C) (longer ts us m S u) (f.rest s' (app M S) C (one s' S C d))
 
+    one_deep : TakesNewDeep (n - (i + 1)) D Y (made b) → TakesNewDeep (n - i) D X (made a)
+    one_deep d =
+        let y : Y ≡ instantiate_type o.domain (raised D o.domain (made a).next) o.range = o.left_over ∙ ap (λ N. instantiate_type o.domain N o.range) o.fresh.term ∙ ap (λ E. instantiate_type o.domain (raised E o.domain (made a).next) o.range) l in
+        let z : made b ≡ with_metavariable D o.domain (made a) = o.fresh.state ∙ ap (λ E. with_metavariable E o.domain (made a)) l in
+        let q : suc (n - (i + 1)) ≡ n - i = omega arith in
+        let e : TakesNewDeep (suc (n - (i + 1))) D (pi o.domain o.range) (made a) = deep_later_new (subst (TakesNewDeep (n - (i + 1)) D (instantiate_type o.domain (raised D o.domain (made a).next) o.range)) z (subst (λ V. TakesNewDeep (n - (i + 1)) D V (made b)) y d)) in
+        subst (λ k. TakesNewDeep k D X (made a)) q (subst (λ V. TakesNewDeep (suc (n - (i + 1))) D V (made a)) (sym o.is) e)
+
+-- what is left behind the next one is deep
+pub takes_deep : (n i : ℕ) (D : List LfType) (A X : LfType) (s : State) (ts : List Open) (a : Elaboration) → i < n → a.locals ≡ D → TakesOneDeep X a → TakesBefore n D A s i X (made a) ts → TakesNewDeep n D A s
+takes_deep n i D A X s ts a h l o f =
+    let q : suc (n - (i + 1)) ≡ n - i = omega arith in
+    let d = subst (λ E. depth_limit < type_depth (instantiate_type o.domain (raised E o.domain (made a).next) o.range)) l o.deep in
+    f.deep (subst (λ k. TakesNewDeep k D X (made a)) q (subst (λ V. TakesNewDeep (suc (n - (i + 1))) D V (made a)) (sym o.is) (deep_new d)))
+
 pub takes_end : (n i : ℕ) (D : List LfType) (A B : LfType) (s t : State) (ts : List Open) (S : Spine) → i ≡ n → S ≡ open_args_of ts → TakesBefore n D A s i B t ts → TakesNew n D A s t S B
 takes_end n i D A B s t ts S e q f = subst (λ T. TakesNew n D A s t T B) (append-nil (open_args_of ts) ∙ sym q) (f.rest t nil B (subst (λ k. TakesNew k D B t t nil B) (omega (arith, e)) takes_none))
 
 -- the same of a kind
 pub record KindTakesBefore (n : ℕ) (D : List LfType) (K : Kind) (s : State) (i : ℕ) (L : Kind) (t : State) (ts : List Open) : Type 0 where
   pub rest : (s' : State) (S : Spine) (C : Kind) → KindTakesNew (n - i) D L t s' S C → KindTakesNew n D K s s' (append (open_args_of ts) S) C
+  pub deep : KindTakesNewDeep (n - i) D L t → KindTakesNewDeep n D K s
 
 pub kind_takes_start : (n : ℕ) (D : List LfType) (K : Kind) (s : State) → KindTakesBefore n D K s 0 K s []
-kind_takes_start n D K s = record { rest = λ s' S C d. subst (λ k. KindTakesNew k D K s s' S C) (omega arith) d }
+kind_takes_start n D K s = record { rest = λ s' S C d. subst (λ k. KindTakesNew k D K s s' S C) (omega arith) d; deep = λ h. subst (λ k. KindTakesNewDeep k D K s) (omega arith) h }
 
 pub kind_takes_step : (n i : ℕ) (D : List LfType) (K X Y : Kind) (s : State) (ts us : List Open) (m : Open) (a b : Elaboration) → i < n → a.locals ≡ D → us ≡ ts ++ m ∷ [] → KindTakesOne X (open_term_of m) Y a b → KindTakesBefore n D K s i X (made a) ts → KindTakesBefore n D K s (i + 1) Y (made b) us
-kind_takes_step n i D K X Y s ts us m a b h l u o f = record { rest = rest }
+kind_takes_step n i D K X Y s ts us m a b h l u o f = record { rest = rest; deep = λ d. f.deep (one_deep d) }
   where
     M : Term
     M = open_term_of m
@@ -91,18 +110,34 @@ kind_takes_step n i D K X Y s ts us m a b h l u o f = record { rest = rest }
     rest : (s' : State) (S : Spine) (C : Kind) → KindTakesNew (n - (i + 1)) D Y (made b) s' S C → KindTakesNew n D K s s' (append (open_args_of us) S) C
     rest s' S C d = subst (λ T. KindTakesNew n D K s s' T C) (longer ts us m S u) (f.rest s' (app M S) C (one s' S C d))
 
+    one_deep : KindTakesNewDeep (n - (i + 1)) D Y (made b) → KindTakesNewDeep (n - i) D X (made a)
+    one_deep d =
+        let y : Y ≡ instantiate_kind o.domain (raised D o.domain (made a).next) o.range = o.left_over ∙ ap (λ N. instantiate_kind o.domain N o.range) o.fresh.term ∙ ap (λ E. instantiate_kind o.domain (raised E o.domain (made a).next) o.range) l in
+        let z : made b ≡ with_metavariable D o.domain (made a) = o.fresh.state ∙ ap (λ E. with_metavariable E o.domain (made a)) l in
+        let q : suc (n - (i + 1)) ≡ n - i = omega arith in
+        let e : KindTakesNewDeep (suc (n - (i + 1))) D (kind_pi o.domain o.range) (made a) = kind_deep_later_new (subst (KindTakesNewDeep (n - (i + 1)) D (instantiate_kind o.domain (raised D o.domain (made a).next) o.range)) z (subst (λ V. KindTakesNewDeep (n - (i + 1)) D V (made b)) y d)) in
+        subst (λ k. KindTakesNewDeep k D X (made a)) q (subst (λ V. KindTakesNewDeep (suc (n - (i + 1))) D V (made a)) (sym o.is) e)
+
+-- what is left behind the next one is deep
+pub kind_takes_deep : (n i : ℕ) (D : List LfType) (A X : Kind) (s : State) (ts : List Open) (a : Elaboration) → i < n → a.locals ≡ D → KindTakesOneDeep X a → KindTakesBefore n D A s i X (made a) ts → KindTakesNewDeep n D A s
+kind_takes_deep n i D A X s ts a h l o f =
+    let q : suc (n - (i + 1)) ≡ n - i = omega arith in
+    let d = subst (λ E. depth_limit < kind_depth (instantiate_kind o.domain (raised E o.domain (made a).next) o.range)) l o.deep in
+    f.deep (subst (λ k. KindTakesNewDeep k D X (made a)) q (subst (λ V. KindTakesNewDeep (suc (n - (i + 1))) D V (made a)) (sym o.is) (kind_deep_new d)))
+
 pub kind_takes_end : (n i : ℕ) (D : List LfType) (K L : Kind) (s t : State) (ts : List Open) (S : Spine) → i ≡ n → S ≡ open_args_of ts → KindTakesBefore n D K s i L t ts → KindTakesNew n D K s t S L
 kind_takes_end n i D K L s t ts S e q f = subst (λ T. KindTakesNew n D K s t T L) (append-nil (open_args_of ts) ∙ sym q) (f.rest t nil L (subst (λ k. KindTakesNew k D L t t nil L) (omega (arith, e)) kind_takes_none))
 
 -- all arguments of a kind, those so far
 pub record TakesAllBefore (D : List LfType) (K : Kind) (s : State) (L : Kind) (t : State) (ts : List Open) : Type 0 where
   pub rest : (s' : State) (S : Spine) → TakesAllNew D L t s' S → TakesAllNew D K s s' (append (open_args_of ts) S)
+  pub deep : TakesAllNewDeep D L t → TakesAllNewDeep D K s
 
 pub takes_all_start : (D : List LfType) (K : Kind) (s : State) → TakesAllBefore D K s K s []
-takes_all_start D K s = record { rest = λ s' S d. d }
+takes_all_start D K s = record { rest = λ s' S d. d; deep = λ d. d }
 
 pub takes_all_step : (D : List LfType) (K X Y : Kind) (s : State) (ts us : List Open) (m : Open) (a b : Elaboration) → a.locals ≡ D → us ≡ ts ++ m ∷ [] → KindTakesOne X (open_term_of m) Y a b → TakesAllBefore D K s X (made a) ts → TakesAllBefore D K s Y (made b) us
-takes_all_step D K X Y s ts us m a b l u o f = record { rest = rest }
+takes_all_step D K X Y s ts us m a b l u o f = record { rest = rest; deep = λ d. f.deep (one_deep d) }
   where
     M : Term
     M = open_term_of m
@@ -117,6 +152,17 @@ takes_all_step D K X Y s ts us m a b l u o f = record { rest = rest }
 
     rest : (s' : State) (S : Spine) → TakesAllNew D Y (made b) s' S → TakesAllNew D K s s' (append (open_args_of us) S)
     rest s' S d = subst (TakesAllNew D K s s') (longer ts us m S u) (f.rest s' (app M S) (one s' S d))
+
+    one_deep : TakesAllNewDeep D Y (made b) → TakesAllNewDeep D X (made a)
+    one_deep d =
+        let y : Y ≡ instantiate_kind o.domain (raised D o.domain (made a).next) o.range = o.left_over ∙ ap (λ N. instantiate_kind o.domain N o.range) o.fresh.term ∙ ap (λ E. instantiate_kind o.domain (raised E o.domain (made a).next) o.range) l in
+        let z : made b ≡ with_metavariable D o.domain (made a) = o.fresh.state ∙ ap (λ E. with_metavariable E o.domain (made a)) l in
+        subst (λ V. TakesAllNewDeep D V (made a)) (sym o.is) (all_deep_later_new (subst (TakesAllNewDeep D (instantiate_kind o.domain (raised D o.domain (made a).next) o.range)) z (subst (λ V. TakesAllNewDeep D V (made b)) y d)))
+
+pub takes_all_deep : (D : List LfType) (K X : Kind) (s : State) (ts : List Open) (a : Elaboration) → a.locals ≡ D → KindTakesOneDeep X a → TakesAllBefore D K s X (made a) ts → TakesAllNewDeep D K s
+takes_all_deep D K X s ts a l o f =
+    let d = subst (λ E. depth_limit < kind_depth (instantiate_kind o.domain (raised E o.domain (made a).next) o.range)) l o.deep in
+    f.deep (subst (λ V. TakesAllNewDeep D V (made a)) (sym o.is) (all_deep_new d))
 
 pub takes_all_end : (D : List LfType) (K L : Kind) (s t : State) (ts : List Open) (S : Spine) → L ≡ star → S ≡ open_args_of ts → TakesAllBefore D K s L t ts → TakesAllNew D K s t S
 takes_all_end D K L s t ts S e q f = subst (TakesAllNew D K s t) (append-nil (open_args_of ts) ∙ sym q) (f.rest t nil (subst (λ X. TakesAllNew D X t t nil) (sym e) takes_all))

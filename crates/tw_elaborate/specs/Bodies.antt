@@ -10,6 +10,7 @@ use Rattle.lf_elaboration.specs.Written.{Written, WrittenKind, WrittenType}
 use Rattle.tw_metas.specs.State.{empty_story}
 use Rattle.tw_terms.specs.OpenView.{open_term_of, open_type_of}
 use Rattle.tw_elaborate.specs.Deep.{ChecksDeep, InfersDeep, KindDeep, TypeDeep}
+use Rattle.tw_elaborate.specs.NewDeep.{NewFreesDeep}
 use Rattle.tw_open.specs.Fresh.{OnlyDeclares}
 use Rattle.tw_elaborate.specs.Unbound.{NothingBound}
 use Rattle.tw_open.specs.View.{open_kind_of}
@@ -33,7 +34,7 @@ pub record IsElaborated (es : List Entry) (ts : List Skeleton) (w : WrittenBody)
   pub store : OnlyDeclares empty_story e.state.store
   pub unbound : NothingBound e.state.store.now
 
--- elaboration reaches a substitution with a term deeper than 4,096
+-- elaboration reaches a substitution with a term deeper than 4,096, or a type or kind that is left behind an argument and is deeper
 module _ (es : List Entry) (frees : List ℕ) where
   pub data BodyDeep : WrittenBody → State → Type 0 where
     deep_family_body : {k : WrittenKind} {s : State} → KindDeep es frees [] k s → BodyDeep (written_family k) s
@@ -42,9 +43,8 @@ module _ (es : List Entry) (frees : List ℕ) where
     deep_type_body : {M : Written} {U : WrittenType} {b : Bool} {s : State} → TypeDeep es frees [] U s → BodyDeep (written_definition_of M U b) s
     deep_checked_body : {M : Written} {U : WrittenType} {A : LfType} {b : Bool} {s s' : State} → ElaboratesType es frees [] U s s' A → ChecksDeep es frees [] M A s' → BodyDeep (written_definition_of M U b) s
 
--- with the free variables that are made first
-pub record FromNothingDeep (es : List Entry) (ts : List Skeleton) (w : WrittenBody) : Type 0 where
-  pub with_frees : State
-  pub frees : List ℕ
-  pub frees_made : NewFrees es ts nothing_yet with_frees frees
-  pub deep : BodyDeep es frees w with_frees
+-- in the types of the free variables, which are made first, or behind them
+module _ (es : List Entry) (ts : List Skeleton) (w : WrittenBody) where
+  pub data FromNothingDeep : Type 0 where
+    deep_frees : NewFreesDeep es ts nothing_yet → FromNothingDeep
+    deep_behind_frees : {frees : List ℕ} {s : State} → NewFrees es ts nothing_yet s frees → BodyDeep es frees w s → FromNothingDeep

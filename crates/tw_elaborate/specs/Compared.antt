@@ -1,5 +1,5 @@
 -- Types that are still to be compared, the next one last.
-use Rattle.std.specs.Prelude.{◌≡◌, ℕ, zero, suc, ◌+◌, ◌<◌, List, [], ◌∷◌, ◌++◌}
+use Rattle.std.specs.Prelude.{◌≡◌, ℕ, zero, suc, ◌+◌, ◌<◌, List, [], ◌∷◌, ◌++◌, ◌⊎◌}
 use Rattle.lf.specs.Syntax.{LfType, atom, pi, skeleton}
 use Rattle.lf.specs.Typing.{Signature}
 use Rattle.lf_elaboration.specs.Skeletons.{TypeHasSkeletons}
@@ -7,6 +7,7 @@ use Rattle.lf_elaboration.specs.State.{State, type_equations, with_equations}
 use Rattle.lf_unification.specs.Lists.{followed}
 use Rattle.lf_unification.specs.Unifiers.{Equation}
 use Rattle.tw_terms.specs.OpenView.{open_type_of}
+use Rattle.tw_elaborate.specs.IndicesDeep.{IndicesDeep}
 use Rattle.tw_elaborate.specs.View.{made}
 use Rattle.tw_elaborate.specs.declared.equations.Comparison.{Comparison}
 use Rattle.tw_elaborate.specs.declared.state.Elaboration.{Elaboration}
@@ -37,6 +38,11 @@ module _ (Σ : Signature) where
   AllFound s [] = Unit {0}
   AllFound s (c ∷ cs) = TypeHasSkeletons Σ s c.context (open_type_of c.found.now) × AllFound s cs
 
+  -- one of the types that were found comes out deep
+  abbrev pub AnyDeep : List Comparison → Type 0
+  AnyDeep [] = ⊥
+  AnyDeep (c ∷ cs) = IndicesDeep Σ (open_type_of c.found.now) ⊎ AnyDeep cs
+
   -- The next one was compared, or its parts are to be: there is less to compare, and in the end there are the same equations.
   pub record ComparesNext (next : Comparison) (old new : List Comparison) (a b : Elaboration) : Type 0 where
     pub added : List Equation
@@ -45,3 +51,4 @@ module _ (Σ : Signature) where
     pub same : AllSame new → AllSame (old ++ next ∷ [])
     pub less : parts_left new < parts_left (old ++ next ∷ [])
     pub found : AllFound (made a) old → AllFound (made b) new
+    pub deep : AnyDeep new → AnyDeep (old ++ next ∷ [])

@@ -3,8 +3,13 @@ pub mod Fits
 pub mod Fresh
 pub mod Operators
 pub mod Arrows
+pub mod Unascribed
 pub mod Rows
+pub mod FamilyRows
 pub mod Comparing
+pub mod NewDeep
+pub mod IndicesDeep
+pub mod Plain
 pub mod Deep
 pub mod Frees
 pub mod Unbound

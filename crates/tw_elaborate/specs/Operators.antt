@@ -1,12 +1,13 @@
 -- What is applied to arguments.
 use Rattle.std.specs.Borrow.{Bor}
-use Rattle.std.specs.Prelude.{◌≡◌, List, [], ◌∷◌, ◌++◌, map}
+use Rattle.std.specs.Prelude.{◌≡◌, List, [], ◌∷◌, ◌++◌, map, ◌<◌, ◌⊎◌}
 use Rattle.lf.specs.Deep.{DeepSubstitution}
-use Rattle.lf.specs.Depth.{depth_limit}
+use Rattle.lf.specs.Depth.{depth_limit, type_depth}
 use Rattle.lf.specs.Eta.{eta_expand}
 use Rattle.lf.specs.SkeletonTyping.{HeadSkeletons, TermSkeleton}
 use Rattle.lf.specs.Substitution.{reduce, single, substitute}
 use Rattle.lf.specs.Syntax as lf
+use Rattle.lf.specs.Typing.{instantiate_type}
 use Rattle.lf_elaboration.specs.Written as theory
 use Rattle.tw_terms.specs.OpenView.{open_head_of, open_spine_of, open_term_of, open_type_of}
 use Rattle.tw_written.specs.View.{written_of}
@@ -45,6 +46,10 @@ pub record PutsInDeep (a : lf.Skeleton) (M N : lf.Term) : Type 0 where
   pub body : lf.Term
   pub is : M ≡ lf.lambda body
   pub deep : DeepSubstitution depth_limit (single a N) body
+
+-- an argument of the type A is put into the term, and there a term is deeper than 4,096, or the type that is left of B is deeper
+abbrev pub TakesArgumentDeep : Operator → lf.LfType → lf.LfType → lf.Term → Type 0
+TakesArgumentDeep o A B N = (IsTerm o × PutsInDeep (lf.skeleton A) (operator_of (lf.arrow (lf.skeleton A) (lf.skeleton B)) o) N) ⊎ (depth_limit < type_depth (instantiate_type A N B))
 
 -- what is written on arguments, the last one first
 abbrev pub applied_to : theory.Written → List theory.Written → theory.Written

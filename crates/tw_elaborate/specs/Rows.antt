@@ -5,7 +5,7 @@ use Rattle.lf.specs.Syntax.{LfType, skeleton}
 use Rattle.lf_elaboration.specs.Elaboration.{Infers}
 use Rattle.lf_elaboration.specs.State.{State}
 use Rattle.lf_elaboration.specs.Written.{Written}
-use Rattle.tw_elaborate.specs.Deep.{IsReducible}
+use Rattle.tw_elaborate.specs.Plain.{IsReducible}
 use Rattle.tw_elaborate.specs.Operators.{IsTerm, applied_to, operator_of}
 use Rattle.tw_elaborate.specs.declared.operators.Operator.{Operator}
 

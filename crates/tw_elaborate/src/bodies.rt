@@ -41,7 +41,7 @@ pub struct Elaborated {
 
 /// What is declared, with free variables of these skeletons. What has no skeleton has none, and memory counts as used up.
 ///
-/// Answers `TooDeep` only where elaboration reaches a substitution with a term deeper than 4,096.
+/// Answers `TooDeep` only where elaboration reaches a substitution with a term deeper than 4,096, or a type or kind that is left behind an argument and is deeper.
 pub fn elaborate(
     alloc: Global,
     signature: &Signature,

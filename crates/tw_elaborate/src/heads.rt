@@ -7,9 +7,10 @@ ghost use Rattle.lf.specs.Syntax.{skeleton};
 ghost use Rattle.lf_elaboration.specs.Elaboration.{ElaboratesFamily, Infers};
 ghost use Rattle.lf_elaboration.specs.Written.{Place, bound as bound_variable, declared as declared_name, family as family_name, free as free_name};
 ghost use Rattle.tw_terms.specs.OpenView.{open_spine_of, open_term_of, open_type_of};
-ghost use Rattle.tw_elaborate.specs.Deep.{InfersDeep, IsDefined, TakesDeep};
+ghost use Rattle.tw_elaborate.specs.Deep.{FamilyDeep, InfersDeep, TakesDeep};
 ghost use Rattle.tw_elaborate.specs.Fits.{GivesArguments, Stands};
 ghost use Rattle.tw_elaborate.specs.Fresh.{Keeps};
+ghost use Rattle.tw_elaborate.specs.Plain.{IsDefined};
 ghost use Rattle.tw_elaborate.specs.Operators.{IsTerm, operator_of};
 ghost use Rattle.tw_open.specs.View.{open_kind_of};
 ghost use Rattle.tw_elaborate.specs.View.{made, numbers_of};
@@ -146,21 +147,22 @@ pub fn named_family(
     signature: &Signature,
     state: &mut Elaboration,
     id: ConstId,
-) -> Result<(OpenSpine, OpenKind), AllocError>
+) -> Result<(OpenSpine, OpenKind), HeredFault>
     requires canonical { IsCanonicalSignature signature.now }
     requires stands { Stands (signature_of signature.now) (made state.old) state.old.locals }
     ensures ok { IfOk result (λ p. (numbers : List ℕ) (at : Place) → ElaboratesFamily signature.now numbers state.old.locals (family_name id.0 at) (made state.old) (made state.new) id.0 (open_spine_of p.0) (open_kind_of p.1)) }
+    ensures too_deep { IsErrOf result HeredFault.TooDeep → (numbers : List ℕ) (at : Place) → FamilyDeep signature.now numbers state.old.locals (family_name id.0 at) (made state.old) }
     ensures keeps { Keeps state.old state.new }
 {
     let Some(entry) = signature.entry(id) else {
         // Resolution takes each family from this signature; no clause of what is written says so.
-        return Err(AllocError);
+        return Err(HeredFault::NoMemory);
     };
     match &entry.body {
         Body::Family(kind) => {
             kind_take_new(alloc, state, entry.implicit as u64, open_kind(alloc, kind)?)
         }
         // What has a skeleton has no constant as a family; no clause says that what is written has one.
-        Body::Constant(_) | Body::Defined { .. } => Err(AllocError),
+        Body::Constant(_) | Body::Defined { .. } => Err(HeredFault::NoMemory),
     }
 }

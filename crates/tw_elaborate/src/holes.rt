@@ -1,5 +1,5 @@
 //! Holes, for which metavariables stand.
-ghost use Rattle.std.specs.Prelude.{List, ℕ, IfOk, ◌≡◌};
+ghost use Rattle.std.specs.Prelude.{List, ℕ, IfOk, IsErrOf, ◌≡◌};
 ghost use Rattle.lf.specs.Entries.{Entry as Entered, signature_of, IsCanonicalSignature};
 ghost use Rattle.lf_elaboration.specs.Elaboration.{Checks, Infers};
 ghost use Rattle.lf_elaboration.specs.Written.{Place, hole};
@@ -7,6 +7,7 @@ ghost use Rattle.tw_terms.specs.OpenView.{open_term_of, open_type_of};
 ghost use Rattle.tw_terms.specs.View.{skeleton_of};
 ghost use Rattle.tw_elaborate.specs.Fits.{Stands};
 ghost use Rattle.tw_elaborate.specs.Fresh.{Keeps};
+ghost use Rattle.tw_elaborate.specs.NewDeep.{NewTypeDeep};
 ghost use Rattle.tw_elaborate.specs.View.{made};
 
 use crate::equations::has_skeleton;
@@ -14,6 +15,7 @@ use crate::frames::LEVELS;
 use crate::fresh::{new_term, new_type};
 use crate::state::Elaboration;
 use std::alloc::{AllocError, Global};
+use tw_hered::HeredFault;
 use tw_signature::Signature;
 use tw_terms::{Open, OpenTy, Skeleton};
 
@@ -24,10 +26,11 @@ pub fn term_hole(
     signature: &Signature,
     state: &mut Elaboration,
     skeleton: &Skeleton,
-) -> Result<(Open, OpenTy), AllocError>
+) -> Result<(Open, OpenTy), HeredFault>
     requires canonical { IsCanonicalSignature signature.now }
     requires stands { Stands (signature_of signature.now) (made state.old) state.old.locals }
     ensures ok { IfOk result (λ p. (numbers : List ℕ) (at : Place) → Infers signature.now numbers state.old.locals (hole (skeleton_of skeleton.now) at) (made state.old) (made state.new) (open_term_of p.0) (open_type_of p.1)) }
+    ensures too_deep { IsErrOf result HeredFault.TooDeep → NewTypeDeep signature.now state.old.locals (skeleton_of skeleton.now) (made state.old) }
     ensures keeps { Keeps state.old state.new }
 {
     let ty = new_type(alloc, signature, state, skeleton, LEVELS)?;

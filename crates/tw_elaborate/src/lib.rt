@@ -18,6 +18,8 @@ mod holes;
 mod operators;
 #[tactic(auto, using(tw_open::proofs::Steps::steps))]
 mod parts;
+#[tactic(auto, using(tw_written::proofs::Steps::steps))]
+mod plain;
 mod state;
 #[tactic(auto, using(tw_open::proofs::Steps::steps))]
 mod terms;

@@ -1,19 +1,21 @@
 //! What is applied, and arguments that are put to it.
-ghost use Rattle.std.specs.Prelude.{◌≡◌, ℕ, [], ◌∷◌, ◌++◌, IfOk, IsErrOf, IsTrue, MatchOption, OnOk};
+ghost use Rattle.std.specs.Prelude.{◌≡◌, ◌<◌, ℕ, [], ◌∷◌, ◌++◌, IfOk, IsErrOf, IsTrue, MatchOption, OnOk};
+ghost use Rattle.lf.specs.Depth.{depth_limit, type_depth};
 ghost use Rattle.lf.specs.Syntax.{Term as LfTerm, arrow, lambda, pi, skeleton};
 ghost use Rattle.lf.specs.Substitution.{Image, reduce, single, substitute_type};
 ghost use Rattle.lf.specs.Typing.{instantiate_type};
 ghost use Rattle.tw_hered.specs.Fits.{TermFits, TypeFits};
 ghost use Rattle.tw_terms.specs.OpenView.{open_term_of, open_type_of};
-ghost use Rattle.tw_written.specs.View.{written_of};
-ghost use Rattle.tw_elaborate.specs.Operators.{Applies, IsNext, IsTerm, PutsIn, PutsInDeep, applied_to, operator_of, written_terms};
+ghost use Rattle.tw_written.specs.View.{written_of, written_type_of};
+ghost use Rattle.tw_elaborate.specs.FamilyRows.{family_applied_to};
+ghost use Rattle.tw_elaborate.specs.Operators.{Applies, IsNext, IsTerm, PutsIn, PutsInDeep, TakesArgumentDeep, applied_to, operator_of, written_terms};
 
 use std::alloc::{AllocError, Global};
 use tw_hered::HeredFault;
 use tw_open::{expanded, with_argument};
 use tw_putting::{substitute, substitute_type};
 use tw_terms::{Open, OpenHead, OpenSpine, OpenTy};
-use tw_written::Written;
+use tw_written::{Written, WrittenType};
 
 /// What arguments are put to.
 #[derive(Drop, Debug)]
@@ -24,8 +26,9 @@ pub enum Operator {
     Term(Open),
 }
 
-/// How many rows wait for an argument at most; past these memory is wanting. What nests deeper would be copied and dropped by recursion, which takes the machine's stack.
-const WAITING: usize = 8_000;
+/// How many rows with a head wait for an argument at most; past these memory is wanting. They come to a term of so many levels, which would be copied and dropped by recursion, and that takes
+/// the machine's stack. Rows of other operators, as definitions, come to no such term.
+const WAITING: u32 = 8_000;
 
 /// A row of arguments, as far as it is elaborated: what is put to some of them, its type, and those that are left, the last one first.
 #[derive(Drop)]
@@ -94,19 +97,29 @@ fn wait<'a>(begun: Begun<'a>) -> Result<Waiting<'a>, AllocError>
     })
 }
 
-/// One row more waits, for the next one. Past `WAITING` rows memory counts as used up.
+/// One row more waits, for the next one. Past `WAITING` rows with a head memory counts as used up.
 #[inline(never)]
 pub fn push_waiting<'a>(
     waiting: &mut Vec<Waiting<'a>>,
+    heads: &mut u32,
     row: Box<Waiting<'a>>,
 ) -> Result<(), AllocError>
     ensures { OnOk result (waiting.new.items ≡ waiting.old.items ++ (row.entry.value ∷ [])) }
 {
-    if waiting.len() >= WAITING {
+    *heads = heads.saturating_add(has_head(&row));
+    if *heads > WAITING {
         return Err(AllocError);
     }
     waiting.push(Box::into_inner(row))?;
     Ok(())
+}
+
+/// 1 where the row has a head, and 0 where it has another operator.
+fn has_head<'a>(row: &Waiting<'a>) -> u32 {
+    match row.operator {
+        Operator::Head(_, _) => 1,
+        Operator::Term(_) => 0,
+    }
 }
 
 /// The row that waits for the last one, which is taken off, if one waits.
@@ -114,11 +127,15 @@ pub fn push_waiting<'a>(
 pub fn pop_waiting<'a>(
     alloc: Global,
     waiting: &mut Vec<Waiting<'a>>,
+    heads: &mut u32,
 ) -> Result<Option<Box<Waiting<'a>>>, AllocError>
     ensures { IfOk result (λ r. MatchOption r (waiting.old.items ≡ []) (λ w. waiting.old.items ≡ waiting.new.items ++ (w.value ∷ []))) }
 {
     match waiting.pop() {
-        Some(row) => Ok(Some(Box::new(alloc, row)?)),
+        Some(row) => {
+            *heads = heads.saturating_sub(has_head(&row));
+            Ok(Some(Box::new(alloc, row)?))
+        }
         None => Ok(None),
     }
 }
@@ -144,8 +161,7 @@ pub fn resume<'a>(
     requires range { TypeFits (single (skeleton (open_type_of row.value.domain)) (open_term_of arg)) (open_type_of row.value.range) }
     ensures ok { IfOk result (λ r. let a = skeleton (open_type_of row.entry.value.domain) in let b = skeleton (open_type_of row.entry.value.range) in PutsIn a (operator_of (arrow a b) row.entry.value.operator) (open_term_of arg) (operator_of b r.value.operator) × (open_type_of r.value.ty ≡ instantiate_type (open_type_of row.entry.value.domain) (open_term_of arg) (open_type_of row.entry.value.range)) × (r.value.args ≡ row.entry.value.args)) }
     ensures stays { IfOk result (λ r. IsTerm r.value.operator → IsTerm row.entry.value.operator) }
-    ensures too_deep { IsErrOf result HeredFault.TooDeep → let a = skeleton (open_type_of row.entry.value.domain) in PutsInDeep a (operator_of (arrow a (skeleton (open_type_of row.entry.value.range))) row.entry.value.operator) (open_term_of arg) }
-    ensures in_term { IsErrOf result HeredFault.TooDeep → IsTerm row.entry.value.operator }
+    ensures too_deep { IsErrOf result HeredFault.TooDeep → TakesArgumentDeep row.entry.value.operator (open_type_of row.entry.value.domain) (open_type_of row.entry.value.range) (open_term_of arg) }
 {
     let row = Box::into_inner(row);
     let domain = row.domain;
@@ -187,8 +203,7 @@ fn put(
     requires range { TypeFits (single (skeleton (open_type_of domain.now)) (open_term_of arg)) (open_type_of range) }
     ensures ok { IfOk result (λ p. let a = skeleton (open_type_of domain.now) in let b = skeleton (open_type_of range) in PutsIn a (operator_of (arrow a b) operator) (open_term_of arg) (operator_of b p.0) × (open_type_of p.1 ≡ instantiate_type (open_type_of domain.now) (open_term_of arg) (open_type_of range))) }
     ensures stays { IfOk result (λ p. IsTerm p.0 → IsTerm operator) }
-    ensures too_deep { IsErrOf result HeredFault.TooDeep → let a = skeleton (open_type_of domain.now) in PutsInDeep a (operator_of (arrow a (skeleton (open_type_of range))) operator) (open_term_of arg) }
-    ensures in_term { IsErrOf result HeredFault.TooDeep → IsTerm operator }
+    ensures too_deep { IsErrOf result HeredFault.TooDeep → TakesArgumentDeep operator (open_type_of domain.now) (open_type_of range) (open_term_of arg) }
 {
     let rest = left_over(alloc, domain, range, &arg)?;
     match operator {
@@ -215,15 +230,16 @@ fn reduced(alloc: Global, function: &Open, domain: &OpenTy, arg: &Open) -> Resul
     }
 }
 
-/// The type that is left behind an argument: the range itself, where it is simple. One that comes out deeper than 4,096 wants memory.
+/// The type that is left behind an argument: the range itself, where it is simple.
 fn left_over(
     alloc: Global,
     domain: &OpenTy,
     range: OpenTy,
     arg: &Open,
-) -> Result<OpenTy, AllocError>
+) -> Result<OpenTy, HeredFault>
     requires { TypeFits (single (skeleton (open_type_of domain.now)) (open_term_of arg.now)) (open_type_of range) }
-    ensures { IfOk result (λ a. open_type_of a ≡ instantiate_type (open_type_of domain.now) (open_term_of arg.now) (open_type_of range)) }
+    ensures ok { IfOk result (λ a. open_type_of a ≡ instantiate_type (open_type_of domain.now) (open_term_of arg.now) (open_type_of range)) }
+    ensures too_deep { IsErrOf result HeredFault.TooDeep → depth_limit < type_depth (instantiate_type (open_type_of domain.now) (open_term_of arg.now) (open_type_of range)) }
 {
     if is_simple(&range) {
         Ok(range)
@@ -232,21 +248,19 @@ fn left_over(
     }
 }
 
-/// The type with an argument of the type `ty` put in for its newest variable. One that comes out deeper than 4,096 wants memory: the stack is kept for what nests in the text.
+/// The type with an argument of the type `ty` put in for its newest variable. `TooDeep` only where it is deeper than 4,096.
 #[inline(never)]
 pub fn instantiated(
     alloc: Global,
     body: &OpenTy,
     arg: &Open,
     ty: &OpenTy,
-) -> Result<OpenTy, AllocError>
+) -> Result<OpenTy, HeredFault>
     requires { TypeFits (single (skeleton (open_type_of ty.now)) (open_term_of arg.now)) (open_type_of body.now) }
-    ensures { IfOk result (λ a. open_type_of a ≡ instantiate_type (open_type_of ty.now) (open_term_of arg.now) (open_type_of body.now)) }
+    ensures ok { IfOk result (λ a. open_type_of a ≡ instantiate_type (open_type_of ty.now) (open_term_of arg.now) (open_type_of body.now)) }
+    ensures too_deep { IsErrOf result HeredFault.TooDeep → depth_limit < type_depth (instantiate_type (open_type_of ty.now) (open_term_of arg.now) (open_type_of body.now)) }
 {
-    match substitute_type(alloc, body, 0, arg, ty) {
-        Ok(rest) => Ok(rest),
-        Err(_) => Err(AllocError),
-    }
+    substitute_type(alloc, body, 0, arg, ty)
 }
 
 /// Whether no family in the type has arguments. Then it is the same whatever is put in.
@@ -272,6 +286,23 @@ pub fn row<'a>(
     while let Written::Applied(function, arg) = head {
         args.push(arg)?;
         head = function;
+    }
+    Ok((head, args))
+}
+
+/// What stands before the arguments of a family, and these, the last one first.
+#[tactic(auto, using(crate::proofs::FamilyRows::family_rows))]
+pub fn family_row<'a>(
+    alloc: Global,
+    written: &'a WrittenType,
+) -> Result<(&'a WrittenType, Vec<&'a Written>), AllocError>
+    ensures { IfOk result (λ p. family_applied_to (written_type_of p.0.now) (written_terms p.1.items) ≡ written_type_of written.now) }
+{
+    let mut args: Vec<&'a Written> = Vec::new(alloc);
+    let mut head = written;
+    while let WrittenType::Applied(family, arg) = head {
+        args.push(arg)?;
+        head = family;
     }
     Ok((head, args))
 }

@@ -1,5 +1,6 @@
 //! Terms, types and kinds put together of their parts.
-ghost use Rattle.std.specs.Prelude.{◌≡◌, [], ◌∷◌, ◌++◌, map, IfOk, OnOk};
+ghost use Rattle.std.specs.Prelude.{◌≡◌, ◌<◌, [], ◌∷◌, ◌++◌, map, IfOk, IsErrOf, OnOk};
+ghost use Rattle.lf.specs.Depth.{depth_limit, kind_depth};
 ghost use Rattle.lf.specs.Entries.{signature_of, IsCanonicalSignature};
 ghost use Rattle.lf.specs.Eta.{add_last};
 ghost use Rattle.lf.specs.Substitution.{single};
@@ -11,16 +12,21 @@ ghost use Rattle.tw_elaborate.specs.Arrows.{arrows_to, kind_arrows_to};
 ghost use Rattle.tw_elaborate.specs.Comparing.{ComparesKinds, IsProduct};
 ghost use Rattle.tw_hered.specs.Fits.{KindFits};
 ghost use Rattle.tw_elaborate.specs.Fresh.{Keeps};
+ghost use Rattle.tw_elaborate.specs.IndicesDeep.{KindIndicesDeep};
 ghost use Rattle.tw_open.specs.View.{open_kind_of};
+ghost use Rattle.tw_elaborate.specs.Unascribed.{IsUnascribed};
 ghost use Rattle.tw_elaborate.specs.View.{made};
+ghost use Rattle.tw_written.specs.View.{written_type_of};
 
 use crate::equations::compare_kinds;
 use crate::state::Elaboration;
 use std::alloc::{AllocError, Global};
+use tw_hered::HeredFault;
 use tw_open::{OpenKind, instantiate_kind, kind_pi, lambda, pi, shift_kind, with_argument};
 use tw_putting::shift_type;
 use tw_signature::Signature;
 use tw_terms::{Open, OpenSpine, OpenTy};
+use tw_written::{WrittenKind, WrittenType};
 
 /// A function and its type.
 #[inline(never)]
@@ -41,6 +47,28 @@ pub fn push_domain(domains: &mut Vec<OpenTy>, domain: OpenTy) -> Result<(), Allo
 {
     domains.push(domain)?;
     Ok(())
+}
+
+/// One kind more, behind the others.
+pub fn push_kind(kinds: &mut Vec<OpenKind>, kind: OpenKind) -> Result<(), AllocError>
+    ensures { OnOk result (kinds.new.items ≡ kinds.old.items ++ (kind ∷ [])) }
+{
+    kinds.push(kind)?;
+    Ok(())
+}
+
+/// The type without the kinds `type` that are written behind it.
+pub fn unascribed<'a>(written: &'a WrittenType) -> &'a WrittenType
+    ensures { IsUnascribed (written_type_of written.now) (written_type_of result.now) }
+{
+    let mut rest = written;
+    while let WrittenType::Ascribed(ty, kind) = rest {
+        match &**kind {
+            WrittenKind::Star => rest = ty,
+            WrittenKind::Arrow(_, _) | WrittenKind::Quantified(_, _) => return rest,
+        }
+    }
+    rest
 }
 
 /// Arrows from these types, in order, to the type at the end. No variable of theirs is in scope in what follows, so that each part moves over the arrows before it.
@@ -83,9 +111,10 @@ pub fn family_application(
     domain: &OpenTy,
     range: &OpenKind,
     arg: Open,
-) -> Result<(OpenSpine, OpenKind), AllocError>
+) -> Result<(OpenSpine, OpenKind), HeredFault>
     requires { KindFits (single (skeleton (open_type_of domain.now)) (open_term_of arg)) (open_kind_of range.now) }
-    ensures { IfOk result (λ p. (open_spine_of p.0 ≡ add_last (open_spine_of spine) (open_term_of arg)) × (open_kind_of p.1 ≡ instantiate_kind_of (open_type_of domain.now) (open_term_of arg) (open_kind_of range.now))) }
+    ensures ok { IfOk result (λ p. (open_spine_of p.0 ≡ add_last (open_spine_of spine) (open_term_of arg)) × (open_kind_of p.1 ≡ instantiate_kind_of (open_type_of domain.now) (open_term_of arg) (open_kind_of range.now))) }
+    ensures too_deep { IsErrOf result HeredFault.TooDeep → depth_limit < kind_depth (instantiate_kind_of (open_type_of domain.now) (open_term_of arg) (open_kind_of range.now)) }
 {
     let rest = instantiate_kind(alloc, range, 0, &arg, domain)?;
     Ok((with_argument(spine, arg)?, rest))
@@ -99,16 +128,17 @@ pub fn compare_ascribed(
     state: &mut Elaboration,
     found: &OpenKind,
     expected: &OpenKind,
-) -> Result<(), AllocError>
+) -> Result<(), HeredFault>
     requires canonical { IsCanonicalSignature signature.now }
     requires found { KindHasSkeletons (signature_of signature.now) (made state.old) state.old.locals (open_kind_of found.now) }
     ensures product { OnOk result (IsProduct (open_kind_of found.now)) }
     ensures ok { OnOk result (ComparesKinds (signature_of signature.now) (open_kind_of found.now) (open_kind_of expected.now) state.old state.new) }
+    ensures too_deep { IsErrOf result HeredFault.TooDeep → KindIndicesDeep (signature_of signature.now) (open_kind_of found.now) }
     ensures keeps { Keeps state.old state.new }
 {
     match found {
         OpenKind::Pi(_, _) => compare_kinds(alloc, signature, state, found, expected),
         // A type with its kind is elaborated as a type, and what has a skeleton has no other kind there; no clause says that what is written has one.
-        OpenKind::Star => Err(AllocError),
+        OpenKind::Star => Err(HeredFault::NoMemory),
     }
 }

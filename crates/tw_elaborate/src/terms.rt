@@ -7,26 +7,30 @@ ghost use Rattle.lf_elaboration.specs.Skeletons.{TypeHasSkeletons};
 ghost use Rattle.lf_elaboration.specs.Written.{function as function_of, quantified as quantified_of};
 ghost use Rattle.tw_terms.specs.OpenView.{open_spine_of, open_term_of, open_type_of};
 ghost use Rattle.tw_elaborate.specs.Comparing.{ChecksDomain};
-ghost use Rattle.tw_elaborate.specs.Deep.{ChecksDeep, DomainDeep, FamilyDeep, InfersDeep, IsReducible, KindDeep, TypeDeep};
+ghost use Rattle.tw_elaborate.specs.Deep.{ChecksDeep, ChecksDomainDeep, DomainDeep, FamilyDeep, InfersDeep, KindDeep, TypeDeep};
 ghost use Rattle.tw_elaborate.specs.Fits.{Stands};
 ghost use Rattle.tw_elaborate.specs.Fresh.{Keeps};
 ghost use Rattle.tw_elaborate.specs.Operators.{IsTerm, operator_of, written_terms};
+ghost use Rattle.tw_elaborate.specs.Plain.{DomainIsPlain, IsReducible};
 ghost use Rattle.tw_elaborate.specs.Rows.{Reached};
 ghost use Rattle.tw_open.specs.View.{open_kind_of};
 ghost use Rattle.tw_elaborate.specs.View.{made, numbers_of};
 ghost use Rattle.tw_written.specs.View.{written_domain_of, written_kind_of, written_of, written_type_of};
 
 use crate::equations::compare_types;
-use crate::frames::LEVELS;
+use crate::frames::{LEVELS, PARTS};
 use crate::fresh::new_type;
 use crate::heads::{bound, declared, free, named_family};
 use crate::holes::{checked_hole, term_hole};
 use crate::operators::{
-    Begun, Next, Operator, advance, begun_with, finish, pop_waiting, push_waiting, resume, row,
+    Begun, Next, Operator, advance, begun_with, family_row, finish, pop_waiting, push_waiting,
+    resume, row,
 };
 use crate::parts::{
-    arrows, compare_ascribed, family_application, function, kind_arrows, push_domain,
+    arrows, compare_ascribed, family_application, function, kind_arrows, push_domain, push_kind,
+    unascribed,
 };
+use crate::plain::{domain_nests_within, is_plain_domain};
 use crate::state::Elaboration;
 use std::alloc::Global;
 use tw_hered::HeredFault;
@@ -38,7 +42,7 @@ use tw_written::{Written, WrittenDomain, WrittenKind, WrittenType};
 
 /// The term that is written, and its type. What has no skeleton has none, and memory counts as used up.
 ///
-/// Answers `TooDeep` only where elaboration reaches a substitution with a term deeper than 4,096.
+/// Answers `TooDeep` only where elaboration reaches a substitution with a term deeper than 4,096, or a type or kind that is left behind an argument and is deeper.
 #[cycle(elaborate)]
 pub fn infer(
     alloc: Global,
@@ -56,7 +60,7 @@ pub fn infer(
 {
     let frames = nested(frames)?;
     match written {
-        Written::Hole(skeleton, _) => Ok(term_hole(alloc, signature, state, skeleton)?),
+        Written::Hole(skeleton, _) => term_hole(alloc, signature, state, skeleton),
         Written::Function(domain, body) => infer_function(
             alloc, signature, frees, state, domain, body, frames,
         ),
@@ -64,12 +68,45 @@ pub fn infer(
         | Written::Bound(_)
         | Written::Declared(_, _)
         | Written::Applied(_, _) => infer_applied(alloc, signature, frees, state, written, frames),
-        Written::Ascribed(term, ty) => {
-            let ty = elaborate_type(alloc, signature, frees, state, ty, frames)?;
-            let term = check(alloc, signature, frees, state, term, &ty, frames)?;
-            Ok((term, ty))
-        }
+        Written::Ascribed(_, _) => infer_ascribed(alloc, signature, frees, state, written, frames),
     }
+}
+
+/// A term at a type, and that type; or at several, one behind the other. They are elaborated from the outside in, and compared from the inside out.
+#[cycle(elaborate)]
+#[inline(never)]
+fn infer_ascribed(
+    alloc: Global,
+    signature: &Signature,
+    frees: &[MetaId],
+    state: &mut Elaboration,
+    written: &Written,
+    frames: u32,
+) -> Result<(Open, OpenTy), HeredFault>
+    requires canonical { IsCanonicalSignature signature.now }
+    requires stands { Stands (signature_of signature.now) (made state.old) state.old.locals }
+    ensures ok { IfOk result (λ p. Infers signature.now (numbers_of frees.now) state.old.locals (written_of written.now) (made state.old) (made state.new) (open_term_of p.0) (open_type_of p.1)) }
+    ensures too_deep { IsErrOf result HeredFault.TooDeep → InfersDeep signature.now (numbers_of frees.now) state.old.locals (written_of written.now) (made state.old) }
+    ensures keeps { Keeps state.old state.new }
+{
+    let mut types = Vec::new(alloc);
+    let mut rest = written;
+    while let Written::Ascribed(term, ty) = rest {
+        let ty = elaborate_type(alloc, signature, frees, state, ty, frames)?;
+        push_domain(&mut types, ty)?;
+        rest = term;
+    }
+    let Some(innermost) = types.pop() else {
+        // What is handed in is an ascription; no clause says so.
+        return Err(HeredFault::NoMemory);
+    };
+    let term = check(alloc, signature, frees, state, rest, &innermost, frames)?;
+    let mut found = innermost;
+    while let Some(expected) = types.pop() {
+        compare_types(alloc, signature, state, &found, &expected)?;
+        found = expected;
+    }
+    Ok((term, found))
 }
 
 /// A function, and its type.
@@ -90,7 +127,7 @@ fn infer_function(
     ensures too_deep { IsErrOf result HeredFault.TooDeep → InfersDeep signature.now (numbers_of frees.now) state.old.locals (function_of (written_domain_of domain.now) (written_of body.now)) (made state.old) }
     ensures keeps { Keeps state.old state.new }
 {
-    let domain = elaborate_domain(alloc, signature, frees, state, domain, frames)?;
+    let domain = lambda_domain(alloc, signature, frees, state, domain, frames)?;
     state.locals.push(domain.copy(alloc)?)?;
     let inferred = infer(alloc, signature, frees, state, body, frames);
     state.locals.pop();
@@ -116,12 +153,13 @@ fn infer_applied(
     ensures keeps { Keeps state.old state.new }
 {
     let mut waiting = Vec::new(alloc);
+    let mut heads = 0;
     let mut begun = begin(alloc, signature, frees, state, written, frames)?;
     for _ in 0..u64::MAX {
         match advance(alloc, begun)? {
             Next::Argument(arg, outer) => match arg {
                 Written::Applied(_, _) => {
-                    push_waiting(&mut waiting, outer)?;
+                    push_waiting(&mut waiting, &mut heads, outer)?;
                     begun = begin(alloc, signature, frees, state, arg, frames)?;
                 }
                 Written::Free(_, _)
@@ -136,7 +174,7 @@ fn infer_applied(
             },
             Next::Nothing(whole) => {
                 let (term, ty) = finish(alloc, whole)?;
-                match pop_waiting(alloc, &mut waiting)? {
+                match pop_waiting(alloc, &mut waiting, &mut heads)? {
                     Some(outer) => {
                         compare_types(alloc, signature, state, &ty, &outer.domain)?;
                         begun = resume(alloc, outer, term)?;
@@ -288,11 +326,43 @@ fn check_domain(
     requires stands { Stands (signature_of signature.now) (made state.old) state.old.locals }
     requires expected { TypeHasSkeletons (signature_of signature.now) (made state.old) state.old.locals (open_type_of expected.now) }
     ensures ok { OnOk result (ChecksDomain signature.now (numbers_of frees.now) (written_domain_of written.now) (open_type_of expected.now) state.old state.new) }
-    ensures too_deep { IsErrOf result HeredFault.TooDeep → DomainDeep signature.now (numbers_of frees.now) state.old.locals (written_domain_of written.now) (made state.old) }
+    ensures too_deep { IsErrOf result HeredFault.TooDeep → ChecksDomainDeep signature.now (numbers_of frees.now) state.old.locals (written_domain_of written.now) (open_type_of expected.now) (made state.old) }
     ensures keeps { Keeps state.old state.new }
 {
-    let found = elaborate_domain(alloc, signature, frees, state, written, frames)?;
-    Ok(compare_types(alloc, signature, state, &found, expected)?)
+    let found = lambda_domain(alloc, signature, frees, state, written, frames)?;
+    compare_types(alloc, signature, state, &found, expected)
+}
+
+/// The type at a binder of a function. The typing of what is written doesn't go through it, so where it is written in full and is too deep, memory counts as used up; so it does where more
+/// parts nest in it than `PARTS`.
+#[cycle(elaborate)]
+#[inline(never)]
+fn lambda_domain(
+    alloc: Global,
+    signature: &Signature,
+    frees: &[MetaId],
+    state: &mut Elaboration,
+    written: &WrittenDomain,
+    frames: u32,
+) -> Result<OpenTy, HeredFault>
+    requires canonical { IsCanonicalSignature signature.now }
+    requires stands { Stands (signature_of signature.now) (made state.old) state.old.locals }
+    ensures ok { IfOk result (λ a. ElaboratesDomain signature.now (numbers_of frees.now) state.old.locals (written_domain_of written.now) (made state.old) (made state.new) (open_type_of a)) }
+    ensures too_deep { IsErrOf result HeredFault.TooDeep → DomainDeep signature.now (numbers_of frees.now) state.old.locals (written_domain_of written.now) (made state.old) }
+    ensures left_out { IsErrOf result HeredFault.TooDeep → DomainIsPlain signature.now (written_domain_of written.now) → ⊥ }
+    ensures keeps { Keeps state.old state.new }
+{
+    match elaborate_domain(alloc, signature, frees, state, written, frames) {
+        Ok(ty) => Ok(ty),
+        Err(HeredFault::TooDeep) => {
+            if !domain_nests_within(written, PARTS) || is_plain_domain(signature, written) {
+                Err(HeredFault::NoMemory)
+            } else {
+                Err(HeredFault::TooDeep)
+            }
+        }
+        Err(HeredFault::NoMemory) => Err(HeredFault::NoMemory),
+    }
 }
 
 /// The type that is written.
@@ -311,20 +381,37 @@ pub fn elaborate_type(
     ensures too_deep { IsErrOf result HeredFault.TooDeep → TypeDeep signature.now (numbers_of frees.now) state.old.locals (written_type_of written.now) (made state.old) }
     ensures keeps { Keeps state.old state.new }
 {
+    let bare = unascribed(written);
+    elaborate_bare_type(alloc, signature, frees, state, bare, frames)
+}
+
+/// The same without a kind `type` behind it.
+#[cycle(elaborate)]
+fn elaborate_bare_type(
+    alloc: Global,
+    signature: &Signature,
+    frees: &[MetaId],
+    state: &mut Elaboration,
+    written: &WrittenType,
+    frames: u32,
+) -> Result<OpenTy, HeredFault>
+    requires canonical { IsCanonicalSignature signature.now }
+    requires stands { Stands (signature_of signature.now) (made state.old) state.old.locals }
+    ensures ok { IfOk result (λ a. ElaboratesType signature.now (numbers_of frees.now) state.old.locals (written_type_of written.now) (made state.old) (made state.new) (open_type_of a)) }
+    ensures too_deep { IsErrOf result HeredFault.TooDeep → TypeDeep signature.now (numbers_of frees.now) state.old.locals (written_type_of written.now) (made state.old) }
+    ensures keeps { Keeps state.old state.new }
+{
     let frames = nested(frames)?;
     match written {
-        WrittenType::Hole(skeleton, _) => Ok(new_type(alloc, signature, state, skeleton, LEVELS)?),
+        WrittenType::Hole(skeleton, _) => new_type(alloc, signature, state, skeleton, LEVELS),
         WrittenType::Arrow(_, _) => elaborate_arrows(
             alloc, signature, frees, state, written, frames,
         ),
         WrittenType::Quantified(domain, range) => elaborate_quantified(
             alloc, signature, frees, state, domain, range, frames,
         ),
-        WrittenType::Ascribed(ty, kind) => match &**kind {
-            WrittenKind::Star => elaborate_type(alloc, signature, frees, state, ty, frames),
-            // What has a skeleton has a type only with the kind `type`; no clause says that what is written has one.
-            WrittenKind::Arrow(_, _) | WrittenKind::Quantified(_, _) => Err(HeredFault::NoMemory),
-        },
+        // What has a skeleton has a type only with the kind `type`; no clause says that what is written has one.
+        WrittenType::Ascribed(_, _) => Err(HeredFault::NoMemory),
         WrittenType::Family(_, _) | WrittenType::Applied(_, _) => {
             let (family, spine, kind) = elaborate_family(
                 alloc, signature, frees, state, written, frames,
@@ -410,15 +497,16 @@ fn elaborate_domain(
 {
     let frames = nested(frames)?;
     match written {
-        WrittenDomain::OfSkeleton(skeleton, _) => Ok(new_type(
+        WrittenDomain::OfSkeleton(skeleton, _) => new_type(
             alloc, signature, state, skeleton, LEVELS,
-        )?),
+        ),
         WrittenDomain::OfType(ty) => elaborate_type(alloc, signature, frees, state, ty, frames),
     }
 }
 
-/// A family on the arguments that are written, and the kind that is left.
+/// A family on the arguments that are written, none or more, and the kind that is left. The arguments of a row don't nest.
 #[cycle(elaborate)]
+#[inline(never)]
 fn elaborate_family(
     alloc: Global,
     signature: &Signature,
@@ -434,38 +522,90 @@ fn elaborate_family(
     ensures keeps { Keeps state.old state.new }
 {
     let frames = nested(frames)?;
+    let (head, args) = family_row(alloc, written)?;
+    let (family, first, whole) = elaborate_family_head(
+        alloc, signature, frees, state, head, frames,
+    )?;
+    let mut left = args;
+    let mut spine = first;
+    let mut kind = whole;
+    while let Some(next) = left.pop() {
+        match kind {
+            OpenKind::Pi(domain, range) => {
+                let arg = check(alloc, signature, frees, state, next, &domain, frames)?;
+                let (longer, rest) = family_application(alloc, spine, &domain, &range, arg)?;
+                spine = longer;
+                kind = rest;
+            }
+            // What has a skeleton has no argument behind a type; no clause says that what is written has one.
+            OpenKind::Star => return Err(HeredFault::NoMemory),
+        }
+    }
+    Ok((family, spine, kind))
+}
+
+/// What stands before the arguments of a family: its name, perhaps with a kind.
+#[cycle(elaborate)]
+#[inline(never)]
+fn elaborate_family_head(
+    alloc: Global,
+    signature: &Signature,
+    frees: &[MetaId],
+    state: &mut Elaboration,
+    written: &WrittenType,
+    frames: u32,
+) -> Result<(ConstId, OpenSpine, OpenKind), HeredFault>
+    requires canonical { IsCanonicalSignature signature.now }
+    requires stands { Stands (signature_of signature.now) (made state.old) state.old.locals }
+    ensures ok { IfOk result (λ f. ElaboratesFamily signature.now (numbers_of frees.now) state.old.locals (written_type_of written.now) (made state.old) (made state.new) f.0.0 (open_spine_of f.1) (open_kind_of f.2)) }
+    ensures too_deep { IsErrOf result HeredFault.TooDeep → FamilyDeep signature.now (numbers_of frees.now) state.old.locals (written_type_of written.now) (made state.old) }
+    ensures keeps { Keeps state.old state.new }
+{
     match written {
         WrittenType::Family(id, _) => {
             let (spine, kind) = named_family(alloc, signature, state, *id)?;
             Ok((*id, spine, kind))
         }
-        WrittenType::Applied(family, arg) => {
-            let (family, spine, kind) = elaborate_family(
-                alloc, signature, frees, state, family, frames,
-            )?;
-            match kind {
-                OpenKind::Pi(domain, range) => {
-                    let arg = check(alloc, signature, frees, state, arg, &domain, frames)?;
-                    let (spine, rest) = family_application(alloc, spine, &domain, &range, arg)?;
-                    Ok((family, spine, rest))
-                }
-                // What has a skeleton has no argument behind a type; no clause says that what is written has one.
-                OpenKind::Star => Err(HeredFault::NoMemory),
-            }
-        }
-        WrittenType::Ascribed(family, kind) => {
-            let expected = elaborate_kind(alloc, signature, frees, state, kind, frames)?;
-            let (family, spine, found) = elaborate_family(
-                alloc, signature, frees, state, family, frames,
-            )?;
-            compare_ascribed(alloc, signature, state, &found, &expected)?;
-            Ok((family, spine, found))
-        }
+        WrittenType::Ascribed(_, _) => elaborate_ascribed_family(
+            alloc, signature, frees, state, written, frames,
+        ),
         // What has a skeleton has a name before arguments and kinds; no clause says that what is written has one.
-        WrittenType::Hole(_, _) | WrittenType::Arrow(_, _) | WrittenType::Quantified(_, _) => {
-            Err(HeredFault::NoMemory)
-        }
+        WrittenType::Hole(_, _)
+        | WrittenType::Arrow(_, _)
+        | WrittenType::Quantified(_, _)
+        | WrittenType::Applied(_, _) => Err(HeredFault::NoMemory),
     }
+}
+
+/// A family with a kind, or with several, one behind the other. They are elaborated from the outside in, and compared from the inside out.
+#[cycle(elaborate)]
+#[inline(never)]
+fn elaborate_ascribed_family(
+    alloc: Global,
+    signature: &Signature,
+    frees: &[MetaId],
+    state: &mut Elaboration,
+    written: &WrittenType,
+    frames: u32,
+) -> Result<(ConstId, OpenSpine, OpenKind), HeredFault>
+    requires canonical { IsCanonicalSignature signature.now }
+    requires stands { Stands (signature_of signature.now) (made state.old) state.old.locals }
+    ensures ok { IfOk result (λ f. ElaboratesFamily signature.now (numbers_of frees.now) state.old.locals (written_type_of written.now) (made state.old) (made state.new) f.0.0 (open_spine_of f.1) (open_kind_of f.2)) }
+    ensures too_deep { IsErrOf result HeredFault.TooDeep → FamilyDeep signature.now (numbers_of frees.now) state.old.locals (written_type_of written.now) (made state.old) }
+    ensures keeps { Keeps state.old state.new }
+{
+    let mut kinds = Vec::new(alloc);
+    let mut rest = written;
+    while let WrittenType::Ascribed(family, kind) = rest {
+        let kind = elaborate_kind(alloc, signature, frees, state, kind, frames)?;
+        push_kind(&mut kinds, kind)?;
+        rest = family;
+    }
+    let (family, spine, found) = elaborate_family(alloc, signature, frees, state, rest, frames)?;
+    while let Some(expected) = kinds.pop() {
+        compare_ascribed(alloc, signature, state, &found, &expected)?;
+    }
+    Ok((family, spine, found))
 }
 
 /// The kind that is written.

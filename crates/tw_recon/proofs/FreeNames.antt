@@ -1,5 +1,6 @@
 -- The free variables that are listed are those that the text has.
-use Rattle.std.proofs.Common.{◌≡◌, ℕ, zero, suc, List, [], ◌∷◌, ◌++◌, Option, None, Some, Bool, true, false, ◌⊎◌, inl, inr, refl, sym, ap, ◌∙◌, subst, is_some, if◌then◌else◌}
+use Rattle.std.proofs.Common.{◌≡◌, ℕ, zero, suc, ◌+◌, arith, reverse, List, [], ◌∷◌, ◌++◌, Option, None, Some, Bool, true, false, ◌⊎◌, inl, inr, refl, sym, ap, ◌∙◌, subst, is_some, if◌then◌else◌}
+use Rattle.std.proofs.lemmas.List.{reverse-append}
 use Rattle.std.specs.Option.{option_map}
 use Rattle.std.specs.Prelude.{MatchOption}
 use Rattle.std.specs.Str.{bytes_eq}
@@ -17,8 +18,17 @@ use Rattle.tw_names.proofs.Unknowns.{unknowns}
 use Rattle.tw_parse.specs.Syntax.{Domain, Term, application, arrow, ascription, hole, identifier, lambda, pi, star, typed, untyped}
 use Rattle.tw_signature.specs.Names.{number_of}
 use Rattle.tw_recon.specs.FreeNames.{HasNoFreeVariable, IsFirstFreeVariable, free_in_domain, free_names, where_free}
+use Rattle.tw_recon.specs.Waiting.{steps, work}
+use Rattle.tw_recon.specs.declared.waiting.Waiting.{Waiting}
 
-pub ruleset frees = (unknowns)
+pub next_first : {X : Type 0} (xs : List X) (x : X) → reverse (xs ++ x ∷ []) ≡ x ∷ reverse xs
+next_first xs x = reverse-append xs (x ∷ [])
+
+pub work_last : (ws : List Waiting) (w : Waiting) → work (ws ++ w ∷ []) ≡ steps w + work ws
+work_last [] w = refl
+work_last (v ∷ ws) w = let e = work_last ws w in omega (arith, e)
+
+pub ruleset frees = (unknowns, next_first, work_last)
 
 -- Two scopes have the same names: an arrow's variable has none.
 abbrev HaveSameNames : Names → Names → Type 0

@@ -8,4 +8,5 @@ pub mod Completed
 pub mod Causes
 pub mod Queries
 pub mod FreeNames
+pub mod Waiting
 pub mod Families

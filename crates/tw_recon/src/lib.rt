@@ -24,6 +24,8 @@ mod names;
 mod query;
 mod reconstruction;
 mod solving;
+#[tactic(auto, using(crate::proofs::FreeNames::frees))]
+mod waiting;
 #[tactic(auto, using(crate::proofs::Steps::steps))]
 mod within;
 

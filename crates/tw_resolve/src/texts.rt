@@ -13,7 +13,8 @@ use tw_parse::ExtTerm;
 use tw_signature::Signature;
 use tw_written::{Written, WrittenKind, WrittenType};
 
-/// How many calls the walk nests at most; past these it wants memory. What nests 4,096 deep takes a call a level, so what is somewhat deeper is still told to be too deep.
+/// How many calls the walk nests at most; past these it wants memory. What nests 4,096 deep takes a call a level, so only what doesn't count in that depth comes to more: ascriptions,
+/// the types at lambdas, and what a definition, a lambda, a hole or a free variable stands on.
 const FRAMES: u32 = 5_300;
 
 /// A written term with its names resolved. What isn't written takes its skeletons from what is left of the list. There is none where a name is unknown, where the

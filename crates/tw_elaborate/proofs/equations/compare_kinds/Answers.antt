@@ -1,11 +1,13 @@
-use Rattle.std.proofs.Common.{◌≡◌, ◌∷◌, sym, ap, ◌∙◌, arith}
+use Rattle.std.proofs.Common.{◌≡◌, ◌∷◌, sym, ap, ◌∙◌, arith, rules}
 use Rattle.lf.specs.Entries.{signature_of}
 use Rattle.lf.specs.Syntax.{kind_pi}
 use Rattle.tw_terms.specs.OpenView.{open_type_of}
 use Rattle.tw_open.specs.View.{open_kind_of}
-use Rattle.tw_elaborate.proofs.ComparedKinds.{comparing_kinds, kinds_on}
+use Rattle.tw_elaborate.proofs.ComparedKinds.{comparing_kinds, kind_domain_deep, kinds_on}
 use Rattle.tw_open.proofs.Steps.{steps}
 use Rattle.tw_elaborate.proofs.Taking.{keeps_same, keeps_then}
+use Rattle.tw_hered.specs.declared.fault.HeredFault.TheVariants.{TooDeep}
+use Rattle.tw_open.proofs.DeepKinds.{fault_of_call}
 use Rattle.tw_elaborate.proofs.equations.compare_kinds.Goals as goal
 
 pub returns-in_err-context-clause-keeps : goal.returns-in_err-context-clause-keeps
@@ -34,3 +36,10 @@ loop-found-preserved c =
     let z : open_type_of c.in_ok-copy.field-0 ≡ A = c.in_ok-copy.ensures ∙ ap open_type_of (c.deref-in-Pi-2.ensures ∙ sym c.deref.ensures) in
     let g : c.push.new.self ≡ A ∷ c.loop-found.context = c.in_ok-push.ensures.ok ∙ ap (λ Y. Y ∷ c.loop-found.context) z in
     kinds_on (signature_of c.args.signature.now) c.loop-found.invariant c.in_ok-outside.outside c.push.new.self A X M N c.compare_in.new.state e f c.in_ok-outside.ensures g c.in_ok-compare_in.ensures.ok c.in_ok-compare_in.ensures.keeps
+
+pub returns-in_err-compare_in-clause-too_deep : goal.returns-in_err-compare_in-clause-too_deep
+returns-in_err-compare_in-clause-too_deep c = λ is.
+    let A = open_type_of c.deref.result.now in
+    let M = open_kind_of c.in-Pi.range.value in
+    let e : open_kind_of c.loop-found.found.now ≡ kind_pi A M = grind (arith, steps) in
+    kind_domain_deep (signature_of c.args.signature.now) c.loop-found.invariant A M e (c.in_err-compare_in.ensures.too_deep (fault_of_call c.from_residual-in_err-compare_in.result c.in_err-compare_in.field-0.0 TooDeep (search rules) is)).deep

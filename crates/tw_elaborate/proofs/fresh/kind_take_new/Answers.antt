@@ -1,11 +1,13 @@
-use Rattle.std.proofs.Common.{◌<◌, arith, sym, subst}
+use Rattle.std.proofs.Common.{◌<◌, arith, sym, subst, rules}
 use Rattle.tw_terms.specs.OpenView.{open_term_of}
 use Rattle.tw_terms.proofs.OpenViews.{open_spine_of-roll}
 use Rattle.tw_terms.specs.declared.open_terms.OpenSpine.{roll-OpenSpine}
 use Rattle.tw_terms.specs.OpenView.{open_spine_of}
 use Rattle.tw_open.specs.View.{open_kind_of}
 use Rattle.tw_elaborate.specs.View.{made}
-use Rattle.tw_elaborate.proofs.Taking.{KindTakesBefore, keeps_same, keeps_then, kind_stands_after, kind_takes_end, kind_takes_start, kind_takes_step}
+use Rattle.tw_elaborate.proofs.Taking.{KindTakesBefore, keeps_same, keeps_then, kind_stands_after, kind_takes_deep, kind_takes_end, kind_takes_start, kind_takes_step}
+use Rattle.tw_hered.specs.declared.fault.HeredFault.TheVariants.{TooDeep}
+use Rattle.tw_open.proofs.DeepKinds.{fault_of_call}
 use Rattle.tw_elaborate.proofs.fresh.kind_take_new.Goals as goal
 
 pub loop-init : goal.loop-init
@@ -22,8 +24,8 @@ loop-init c =
 pub returns-in_err-arg-clause-keeps : goal.returns-in_err-arg-clause-keeps
 returns-in_err-arg-clause-keeps c = keeps_then c.args.state.now c.loop.state c.kind_take_one.new.state c.loop.invariant.keeps c.in_err-arg.ensures.keeps
 
-pub returns-in_err-push-clause-keeps : goal.returns-in_err-push-clause-keeps
-returns-in_err-push-clause-keeps c = keeps_then c.args.state.now c.loop.state c.kind_take_one.new.state c.loop.invariant.keeps c.in_ok-arg.ensures.keeps
+pub returns-in_err-push_argument-clause-keeps : goal.returns-in_err-push_argument-clause-keeps
+returns-in_err-push_argument-clause-keeps c = keeps_then c.args.state.now c.loop.state c.kind_take_one.new.state c.loop.invariant.keeps c.in_ok-arg.ensures.keeps
 
 pub loop-preserved : goal.loop-preserved
 loop-preserved c =
@@ -33,8 +35,14 @@ loop-preserved c =
     record {
       stands = kind_stands_after X Y (open_term_of c.in_ok-arg.arg) c.loop.state c.kind_take_one.new.state c.in_ok-arg.ensures.keeps c.in_ok-arg.ensures.ok c.loop.invariant.stands;
       keeps = keeps_then c.args.state.now c.loop.state c.kind_take_one.new.state c.loop.invariant.keeps c.in_ok-arg.ensures.keeps;
-      so_far = kind_takes_step c.args.count c.loop.counter c.args.state.now.locals (open_kind_of c.args.kind) X Y (made c.args.state.now) c.loop.args.items c.push.new.self.items c.in_ok-arg.arg c.loop.state c.kind_take_one.new.state h c.loop.invariant.keeps.locals c.in_ok-push.ensures.items c.in_ok-arg.ensures.ok c.loop.invariant.so_far;
+      so_far = kind_takes_step c.args.count c.loop.counter c.args.state.now.locals (open_kind_of c.args.kind) X Y (made c.args.state.now) c.loop.args.items c.push_argument.new.args.items c.in_ok-arg.arg c.loop.state c.kind_take_one.new.state h c.loop.invariant.keeps.locals c.in_ok-push_argument.ensures c.in_ok-arg.ensures.ok c.loop.invariant.so_far;
     }
 
 pub returns-clause-ok : goal.returns-clause-ok
 returns-clause-ok c = kind_takes_end c.args.count c.loop.counter c.args.state.now.locals (open_kind_of c.args.kind) (open_kind_of c.loop.rest) (made c.args.state.now) (made c.loop.state) c.loop.args.items (open_spine_of (roll-OpenSpine (record { args = c.loop.args }))) (omega arith) (open_spine_of-roll c.loop.args) c.loop.invariant.so_far
+
+pub returns-in_err-arg-clause-too_deep : goal.returns-in_err-arg-clause-too_deep
+returns-in_err-arg-clause-too_deep c = λ is.
+    let h : c.loop.counter < c.args.count = omega arith in
+    kind_takes_deep c.args.count c.loop.counter c.args.state.now.locals (open_kind_of c.args.kind) (open_kind_of c.loop.rest) (made c.args.state.now) c.loop.args.items c.loop.state h c.loop.invariant.keeps.locals
+    (c.in_err-arg.ensures.too_deep (fault_of_call c.from_residual.result c.in_err-arg.field-0.0 TooDeep (search rules) is)) c.loop.invariant.so_far

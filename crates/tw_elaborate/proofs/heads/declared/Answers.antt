@@ -9,9 +9,11 @@ use Rattle.tw_terms.proofs.OpenViews.{open_head_of-Const}
 use Rattle.tw_terms.specs.declared.open_terms.OpenHead.TheVariants.{Const}
 use Rattle.tw_elaborate.specs.View.{made}
 use Rattle.tw_hered.specs.declared.fault.HeredFault.TheVariants.{TooDeep}
-use Rattle.tw_elaborate.proofs.Answering.{fault_of_call}
+use Rattle.tw_open.proofs.DeepKinds.{fault_of_call}
 use Rattle.tw_elaborate.proofs.Declaring.{constant_inferred, declared_type_stands, defined_deep, defined_gives, defined_inferred, defined_type_stands}
 use Rattle.tw_elaborate.proofs.Taking.{keeps_same}
+use Rattle.tw_elaborate.specs.Deep.{deep_defined_implicit, deep_implicit}
+use Rattle.tw_elaborate.specs.NewDeep.{TakesNewDeep}
 use Rattle.tw_elaborate.proofs.heads.declared.Goals as goal
 
 pub returns-in_default-clause-keeps : goal.returns-in_default-clause-keeps
@@ -46,3 +48,13 @@ returns-in_ok-term-in-Defined-clause-ok c = λ ns at. defined_inferred c.args.si
 
 pub returns-in_ok-spine-in-Constant-clause-ok : goal.returns-in_ok-spine-in-Constant-clause-ok
 returns-in_ok-spine-in-Constant-clause-ok c = λ ns at. constant_inferred c.args.signature.now ns at c.args.state.now.locals (made c.args.state.now) (made c.take_new.new.state) c.args.id.0 (entry_of c.in-Some.entry.now) (sym c.in-Some.ensures) (type_of c.in-Constant.ty) (open_type_of c.in_ok-ty-in-Constant.ty) (open_type_of c.in_ok-spine-in-Constant.rest) (open_spine_of c.in_ok-spine-in-Constant.spine) (eta_expand (skeleton (open_type_of c.in_ok-spine-in-Constant.rest)) (open_head_of (Const c.args.id)) (open_spine_of c.in_ok-spine-in-Constant.spine)) c.in_ok-ty-in-Constant.ensures (ap body_of c.in-Constant.is) c.in_ok-spine-in-Constant.ensures.ok (ap (λ (h : Head). eta_expand (skeleton (open_type_of c.in_ok-spine-in-Constant.rest)) h (open_spine_of c.in_ok-spine-in-Constant.spine)) (open_head_of-Const c.args.id))
+
+pub returns-in_err-spine-in-Constant-clause-too_deep : goal.returns-in_err-spine-in-Constant-clause-too_deep
+returns-in_err-spine-in-Constant-clause-too_deep c = λ is ns at.
+    let h = c.in_err-spine-in-Constant.ensures.too_deep (fault_of_call c.from_residual-in_err-spine-in-Constant.result c.in_err-spine-in-Constant.field-0.0 TooDeep (search rules) is) in
+    deep_implicit (sym c.in-Some.ensures) (ap body_of c.in-Constant.is) (subst (λ Y. TakesNewDeep c.in-Some.entry.now.implicit c.args.state.now.locals Y (made c.args.state.now)) c.in_ok-ty-in-Constant.ensures h)
+
+pub returns-in_err-spine-in-Defined-clause-too_deep : goal.returns-in_err-spine-in-Defined-clause-too_deep
+returns-in_err-spine-in-Defined-clause-too_deep c = λ is ns at.
+    let h = c.in_err-spine-in-Defined.ensures.too_deep (fault_of_call c.from_residual-in_err-spine-in-Defined.result c.in_err-spine-in-Defined.field-0.0 TooDeep (search rules) is) in
+    deep_defined_implicit (sym c.in-Some.ensures) (ap body_of c.in-Defined.is) (subst (λ Y. TakesNewDeep c.in-Some.entry.now.implicit c.args.state.now.locals Y (made c.args.state.now)) c.in_ok-open_type-in-Defined.ensures h)

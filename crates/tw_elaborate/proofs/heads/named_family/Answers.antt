@@ -1,4 +1,4 @@
-use Rattle.std.proofs.Common.{sym, ap}
+use Rattle.std.proofs.Common.{sym, ap, subst}
 use Rattle.tw_prune.proofs.Options.{if_ok}
 use Rattle.tw_signature.specs.View.{body_of, entry_of}
 use Rattle.tw_terms.specs.OpenView.{open_spine_of}
@@ -7,6 +7,8 @@ use Rattle.tw_open.specs.View.{open_kind_of}
 use Rattle.tw_elaborate.specs.View.{made}
 use Rattle.tw_elaborate.proofs.Declaring.{declared_kind_stands, family_named}
 use Rattle.tw_elaborate.proofs.Taking.{keeps_same}
+use Rattle.tw_elaborate.specs.Deep.{deep_family_implicit}
+use Rattle.tw_elaborate.specs.NewDeep.{KindTakesNewDeep}
 use Rattle.tw_elaborate.proofs.heads.named_family.Goals as goal
 
 pub returns-in_default-clause-keeps : goal.returns-in_default-clause-keeps
@@ -26,3 +28,7 @@ returns-in_ok-open_kind-in-Family-clause-ok c = if_ok c.kind_take_new.result _ _
 
 pub returns-in-Constant-clause-keeps : goal.returns-in-Constant-clause-keeps
 returns-in-Constant-clause-keeps c = keeps_same c.args.state.now
+
+pub returns-in_ok-open_kind-in-Family-clause-too_deep : goal.returns-in_ok-open_kind-in-Family-clause-too_deep
+returns-in_ok-open_kind-in-Family-clause-too_deep c = λ is ns at.
+    deep_family_implicit (sym c.in-Some.ensures) (ap body_of c.in-Family.is) (subst (λ Y. KindTakesNewDeep c.in-Some.entry.now.implicit c.args.state.now.locals Y (made c.args.state.now)) c.in_ok-open_kind-in-Family.ensures (c.kind_take_new.ensures.too_deep is))

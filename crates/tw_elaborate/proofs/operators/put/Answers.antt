@@ -16,4 +16,4 @@ returns-in_ok-with_argument-in-Head-clause-ok c =
     let S = c.in-Head.spine in
     let T = c.in_ok-with_argument-in-Head.field-0 in
     let f : Applies a b (operator_of (arrow a b) (Head h S)) N = subst (λ (o : Operator). Applies a b (operator_of (arrow a b) o) N) c.in-Head.is c.requires.applies in
-    (subst (λ (o : Operator). PutsIn a (operator_of (arrow a b) o) N (operator_of b (Head h T))) (sym c.in-Head.is) (head_put a b (open_head_of h) (open_spine_of S) (open_spine_of T) N f c.in_ok-with_argument-in-Head.ensures), c.in_ok-rest.ensures)
+    (subst (λ (o : Operator). PutsIn a (operator_of (arrow a b) o) N (operator_of b (Head h T))) (sym c.in-Head.is) (head_put a b (open_head_of h) (open_spine_of S) (open_spine_of T) N f c.in_ok-with_argument-in-Head.ensures), c.in_ok-rest.ensures.ok)
