@@ -26,11 +26,12 @@ use Rattle.tw_signature.specs.View.{body_of}
 use Rattle.tw_signature.specs.declared.entry.Body.{Body as ProgramBody}
 use Rattle.tw_signature.specs.declared.entry.Body.TheVariants.{Constant, Defined, Family}
 use Rattle.tw_terms.specs.declared.canonical.Ty.{Ty}
-use Rattle.tw_recon.specs.Causes.{in_entry}
+use Rattle.tw_recon.specs.Causes.{Stops, in_entry}
 use Rattle.tw_recon.specs.Names.{add_some, variables_of}
 use Rattle.tw_recon.specs.Queries.{ContextIsWithin, HasGoalCause, IsCanonicalGoal, IsGoalWrittenAs}
 use Rattle.tw_recon.specs.Reconstruction.{AreReadOff, IsCompletedTo, LeavesNothingOut}
-use Rattle.tw_recon.specs.declared.fault.ReconFault.TheVariants.{TooDeep}
+use Rattle.tw_recon.specs.declared.fault.ReconFault.{ReconFault}
+use Rattle.tw_recon.specs.declared.fault.ReconFault.TheVariants.{Leftover, Loose, Mismatch, NoMemory, TooDeep, TypeLevel, Unknown}
 use Rattle.tw_recon.proofs.Entering.{context_each, hint_each}
 
 -- A goal with skeletons in just one way is resolved.
@@ -97,3 +98,13 @@ pub constant_body : (b : ProgramBody) (C : LfType) → body_of b ≡ declare_con
 constant_body (Family K) C e n = cc
 constant_body (Constant A) C e n = n A refl
 constant_body (Defined M A d) C e n = cc
+
+-- what stops what is written stops the query
+pub goal_stops : (es : List Entry) (A : Term) (rows : Rows) (w : WrittenBody) (f : ReconFault) → IsGoalWrittenAs es A rows w → Stops es rows w f → HasGoalCause es A f
+goal_stops es A rows w (Unknown name place) i h = absurd h
+goal_stops es A rows w (TypeLevel place) i h = absurd h
+goal_stops es A rows w Loose i h = absurd h
+goal_stops es A rows w Mismatch i h = inr (rows, w, i, h)
+goal_stops es A rows w (Leftover left) i h = (rows, w, i, h)
+goal_stops es A rows w TooDeep i h = inr (rows, w, i, h)
+goal_stops es A rows w NoMemory i h = tt

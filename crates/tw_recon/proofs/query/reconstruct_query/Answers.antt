@@ -7,7 +7,7 @@ use Rattle.tw_terms.specs.View.{type_of}
 use Rattle.tw_written.specs.View.{written_body_of}
 use Rattle.tw_recon.specs.Queries.{IsCanonicalGoal}
 use Rattle.tw_recon.specs.Reconstruction.{IsCompletedTo}
-use Rattle.tw_recon.proofs.Asking.{constant_body, goal_canonical, goal_deep, goal_is_type}
+use Rattle.tw_recon.proofs.Asking.{constant_body, goal_canonical, goal_deep, goal_is_type, goal_stops}
 use Rattle.tw_recon.proofs.query.reconstruct_query.Goals as goal
 
 pub unreachable-requires : goal.unreachable-requires
@@ -39,3 +39,7 @@ returns-clause-canonical c =
     let completed = subst (λ b. IsCompletedTo es rows w m.quantifiers m.hints.items m.shown.items (body_of b)) c.in-Constant.is c.in-Ok-complete.ensures.completed in
     subst (λ G. IsCanonicalGoal (signature_of es) (record { variables = G; names = c.reverse.new.self.items; shown = m.shown.items; proof = c.in_ok-copy_option.field-0; goal = T })) variables
     (goal_canonical es rows w m.quantifiers m.hints.items c.reverse.new.self.items m.shown.items T c.in_ok-copy_option.field-0 completed turned (c.is_within.ensures.context yes) (c.is_within.ensures.goal yes))
+
+pub returns-in-Err-complete-clause-refused : goal.returns-in-Err-complete-clause-refused
+returns-in-Err-complete-clause-refused c =
+    goal_stops c.args.signature.now (term_of c.args.query.now.goal) (rows_of c.in-Ok.told.rows.items) (written_body_of c.in-Ok.told.written) c.in-Err-complete.fault c.in-Ok.ensures.written c.in-Err-complete.ensures.refused
