@@ -1,4 +1,3 @@
-pub mod Marking
 pub mod Renumbered
 pub mod Numbering
 pub mod Walks

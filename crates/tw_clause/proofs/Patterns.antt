@@ -8,7 +8,7 @@ use Rattle.lf_checks.specs.Tests.{both, either, is_in}
 use Rattle.std.proofs.Math.ListN.{drop_of_length-le}
 use Rattle.tw_terms.specs.View.{args_of}
 use Rattle.tw_terms.specs.declared.canonical.Term.{Term as RustTerm}
-use Rattle.tw_clause.proofs.Marking.{same_not, same_self}
+use Rattle.tw_signature.proofs.Marking.{same_not, same_self}
 use Rattle.tw_clause.specs.Patterns.{heads, newest}
 
 -- what is so of an outcome's value in one way is so in another

@@ -1,6 +1,5 @@
 pub mod View
 pub mod Cases
-pub mod Marks
 pub mod Numbers
 pub mod Entries
 pub mod Laws

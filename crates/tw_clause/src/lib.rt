@@ -20,8 +20,6 @@ mod pattern;
 mod reading;
 #[tactic(auto, using(crate::proofs::Renumbered::renumbered))]
 mod renumbering;
-#[tactic(auto, using(tw_terms::proofs::Args::types))]
-mod shape;
 
 pub use block::{Block, Origin, Worlds};
 pub use case::{BlockVar, Case};
@@ -33,4 +31,3 @@ pub use name::{ClauseName, Mark3};
 pub use order::Order;
 pub use pattern::{is_newest, is_pattern, pattern_variables};
 pub use reading::{clause_of, clause_of_entry, clauses};
-pub use shape::{mark_spine, mark_term, shape_of};

@@ -11,9 +11,8 @@ use crate::clause::Clause;
 use crate::collected::Collected;
 use crate::counts::count_variables;
 use crate::renumbering::{numbers_at, renumber_spine};
-use crate::shape::shape_of;
 use std::alloc::{AllocError, Global};
-use tw_signature::Signature;
+use tw_signature::{Signature, shape_of};
 use tw_terms::{ConstId, Context, Ty};
 
 /// The clause of a type, closed or not: outside its variables it has what stands outside the type, by number. Costs the size of the type. Fails only for

@@ -7,7 +7,7 @@ use Rattle.lf.specs.Subordination.{Block}
 use Rattle.lf.specs.Variables.{same_number}
 use Rattle.lf_checks.specs.Tests.{either, is_in}
 use Rattle.lf_checks.specs.WorldFaults.{WorldRow}
-use Rattle.tw_clause.proofs.Marking.{same_not, same_self}
+use Rattle.tw_signature.proofs.Marking.{same_not, same_self}
 use Rattle.tw_terms.specs.declared.canonical.ConstId.{ConstId}
 use Rattle.tw_decl.specs.View.{rows_beside, world_row}
 

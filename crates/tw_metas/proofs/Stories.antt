@@ -3,8 +3,8 @@ use Rattle.std.proofs.Common.{◌≡◌, ℕ, zero, suc, List, [], ◌∷◌, �
 use Rattle.lf.specs.Syntax.{Term}
 use Rattle.tw_metas.specs.State.{State, Story, changed, states, with_value, IsUnbound}
 use Rattle.tw_metas.specs.Undoing.{undone, states_before, story_of}
-use Rattle.tw_metas.specs.declared.store.Change.{Change}
-use Rattle.tw_metas.specs.declared.store.Change.TheVariants.{Bound}
+use Rattle.tw_metas.specs.declared.change.Change.{Change}
+use Rattle.tw_metas.specs.declared.change.Change.TheVariants.{Bound}
 use Rattle.tw_metas.proofs.Lists.{set_and_freed}
 use Rattle.tw_metas.proofs.Room.{newest_change, count_changes}
 use Rattle.tw_metas.proofs.States.{made}
@@ -15,13 +15,12 @@ told s' s cs = record { now = s'; before = s ∷ states_before cs s }
 pub next_story : (s s' : State) (ts us : List Change) (c : Change) → us ≡ ts ++ c ∷ [] → undone c s' ≡ s → story_of s' (reverse us) ≡ changed (story_of s (reverse ts)) s'
 next_story s s' ts us c e u = ap (λ cs. story_of s' cs) (newest_change ts us c e) ∙ ap (λ x. told s' x (reverse ts)) u
 
-unbound_again : (s : State) (m : ℕ) (N : Term) → IsUnbound s m → undone Bound (with_value s m N) ≡ s
-unbound_again s m N e = ap (λ vs. made s.declared vs s.bound s.equations) (set_and_freed s.values m N e)
-
-pub bind_story : (s s' : State) (ts us : List Change) (st : Story) (m : ℕ) (N : Term) → us ≡ ts ++ Bound ∷ [] → s' ≡ with_value s m N → story_of s (reverse ts) ≡ st → IsUnbound st.now m → story_of s' (reverse us) ≡ changed st (with_value st.now m N)
+-- what a binding is noted by, and what it changes, is one change of the store
+pub bind_story : (s s' : State) (ts us : List Change) (st : Story) (m : ℕ) (N : Term) → us ≡ ts ++ Bound m ∷ [] → s' ≡ with_value s m N → story_of s (reverse ts) ≡ st → IsUnbound st.now m → story_of s' (reverse us) ≡ changed st (with_value st.now m N)
 bind_story s s' ts us st m N e is view free =
     let here : IsUnbound s m = subst (λ (x : Story). IsUnbound x.now m) (sym view) free in
-    next_story s s' ts us Bound e (ap (λ x. undone Bound x) is ∙ unbound_again s m N here)
+    let again : undone (Bound m) (with_value s m N) ≡ s = ap (λ vs. made s.declared vs s.bound s.equations) (set_and_freed s.values m N here) in
+    next_story s s' ts us (Bound m) e (ap (λ x. undone (Bound m) x) is ∙ again)
     ∙ ap (λ x. changed (story_of s (reverse ts)) x) is
     ∙ ap (λ (x : Story). changed x (with_value x.now m N)) view
 

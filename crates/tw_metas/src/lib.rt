@@ -1,6 +1,7 @@
 //! The store of metavariables: their types and values, the equations that are postponed, and the way back to an earlier mark.
 #![tactic(auto)]
 
+mod change;
 mod contents;
 mod equation;
 mod laws;

@@ -4,31 +4,18 @@ ghost use Rattle.tw_terms.specs.OpenView.{open_term_of, open_type_of};
 ghost use Rattle.tw_metas.specs.View.{state_of, equation_of, kept_equation_of};
 ghost use Rattle.tw_metas.specs.Undoing.{HasRoom, states_before, undone};
 
+use crate::change::Change;
 use crate::contents::Contents;
 use crate::equation::Equation;
 use std::alloc::{AllocError, Global};
 use std::marker::Model;
 use tw_terms::{MetaId, Open, OpenContext, OpenTy};
 
-/// A change of a store, with what it takes to take it back.
-#[derive(Drop)]
-pub enum Change {
-    /// A metavariable was declared.
-    Declared,
-    /// A metavariable was bound.
-    Bound,
-    /// An equation was postponed.
-    Postponed,
-    /// This equation was settled, which stood at this place.
-    Settled(usize, Box<Equation>),
-}
-
 /// The metavariables with their types and values, the equations that are postponed, and the way back to each earlier mark.
 /// Contracts see a story: what the store holds now, and what it held before each change that stands.
 #[derive(Drop)]
 pub struct Store {
     contents: Contents,
-    trail: Vec<Change>,
 }
 
 impl Model for Store {
@@ -36,16 +23,16 @@ impl Model for Store {
     ghost use Rattle.std.specs.Vec.{vec_capacity, vec_len};
     ghost use Rattle.tw_metas.specs.State.{Story};
     ghost use Rattle.tw_metas.specs.View.{state_of};
-    ghost use Rattle.tw_metas.specs.Undoing.{story_of, HasRoom};
+    ghost use Rattle.tw_metas.specs.Undoing.{story_of, HasRoom, IsCounted};
     ghost use Rattle.tw_metas.specs.Codes.{story_code};
 
     ghost Value = { Story };
 
     ghost coded = { story_code };
 
-    ghost view = { λ s. story_of (state_of s.contents) (reverse s.trail.items) };
+    ghost view = { λ s. story_of (state_of s.contents) (reverse s.contents.trail.items) };
 
-    ghost invariant = { λ s. HasRoom (vec_capacity s.contents.equations) (reverse s.trail.items) (vec_len s.contents.equations) };
+    ghost invariant = { λ s. HasRoom (vec_capacity s.contents.equations) (reverse s.contents.trail.items) (vec_len s.contents.equations) × IsCounted s.contents };
 }
 
 /// A moment of a store: how many changes stood.
@@ -74,12 +61,11 @@ impl Store {
     {
         Store {
             contents: Contents {
-                declared: Vec::new(alloc),
-                values: Vec::new(alloc),
-                bound: Vec::new(alloc),
+                metas: Vec::new(alloc),
+                bound: 0,
                 equations: Vec::new(alloc),
+                trail: Vec::new(alloc),
             },
-            trail: Vec::new(alloc),
         }
     }
 
@@ -89,10 +75,10 @@ impl Store {
         ensures number { IfOk result (λ m. m.0 ≡ length self.old.now.declared) }
         ensures err { OnErr result (self.new ≡ self.old) }
     {
-        let number = self.contents.declared.len() as u64;
-        self.trail.reserve(1)?;
+        let number = self.contents.metas.len() as u64;
+        self.contents.trail.reserve(1)?;
         self.contents.declare(context, ty)?;
-        self.trail.push(Change::Declared)?;
+        self.contents.trail.push_reserved(Change::Declared);
         Ok(MetaId(number))
     }
 
@@ -101,7 +87,7 @@ impl Store {
         ensures { result ≡ length self.now.before }
     {
         Mark {
-            changes: self.trail.len(),
+            changes: self.contents.trail.len(),
         }
     }
 
@@ -109,7 +95,7 @@ impl Store {
     pub fn is_at(&self, mark: &Mark) -> bool
         ensures { result ≡ nat_eq (length self.now.before) mark.now }
     {
-        self.trail.len() == mark.changes
+        self.contents.trail.len() == mark.changes
     }
 
     /// The context and the type of a metavariable, as they were handed to `fresh`.
@@ -130,14 +116,14 @@ impl Store {
     pub fn declared_count(&self) -> usize
         ensures { result ≡ length self.now.now.declared }
     {
-        self.contents.declared.len()
+        self.contents.metas.len()
     }
 
     /// How many of them are bound.
     pub fn bound_count(&self) -> usize
         ensures { result ≡ length self.now.now.bound }
     {
-        self.contents.bound.len()
+        self.contents.bound
     }
 
     /// The equations that are postponed, in order.
@@ -153,9 +139,8 @@ impl Store {
         ensures ok { OnOk result (self.new ≡ changed self.old (with_value self.old.now meta.0 (open_term_of value))) }
         ensures err { OnErr result (self.new ≡ self.old) }
     {
-        self.trail.reserve(1)?;
-        self.contents.bind(meta.0 as usize, value)?;
-        self.trail.push(Change::Bound)?;
+        self.contents.trail.push(Change::Bound(meta.0 as usize))?;
+        self.contents.bind(meta.0 as usize, value);
         Ok(())
     }
 
@@ -164,10 +149,10 @@ impl Store {
         ensures ok { OnOk result (self.new ≡ changed self.old (with_equation self.old.now (equation_of equation))) }
         ensures err { OnErr result (self.new ≡ self.old) }
     {
-        self.trail.reserve(1)?;
+        self.contents.trail.reserve(1)?;
         let equation = Box::new(alloc, equation)?;
         self.contents.postpone(equation)?;
-        self.trail.push(Change::Postponed)?;
+        self.contents.trail.push_reserved(Change::Postponed);
         Ok(())
     }
 
@@ -177,9 +162,11 @@ impl Store {
         ensures ok { OnOk result (self.new ≡ changed self.old (without_equation self.old.now at)) }
         ensures err { OnErr result (self.new ≡ self.old) }
     {
-        self.trail.reserve(1)?;
+        self.contents.trail.reserve(1)?;
         let equation = self.contents.settle(at);
-        self.trail.push(Change::Settled(at, equation))?;
+        self.contents
+            .trail
+            .push_reserved(Change::Settled(at, equation));
         Ok(())
     }
 
@@ -188,10 +175,10 @@ impl Store {
         requires { 0 < length self.old.before }
         ensures { states self.new ≡ drop 1 (states self.old) }
     {
-        match self.trail.pop() {
+        match self.contents.trail.pop() {
             None => (),
             Some(Change::Declared) => self.contents.undo_declared(),
-            Some(Change::Bound) => self.contents.undo_bound(),
+            Some(Change::Bound(meta)) => self.contents.undo_bound(meta),
             Some(Change::Postponed) => self.contents.undo_postponed(),
             Some(Change::Settled(at, equation)) => self.contents.put_back(at, equation),
         }
@@ -202,7 +189,7 @@ impl Store {
         requires { mark.now ≤ length self.old.before }
         ensures { states self.new ≡ drop (length self.old.before - mark.now) (states self.old) }
     {
-        while self.trail.len() > mark.changes {
+        while self.contents.trail.len() > mark.changes {
             self.undo();
         }
     }

@@ -5,8 +5,8 @@ use Rattle.lf_unification.specs.Search.{occurs_type}
 use Rattle.lf_checks.specs.Marks.{Mark, input, output, free}
 use Rattle.lf_checks.specs.ModeForms.{completed_marks, implicit_mark, occurs_in_types}
 use Rattle.lf_checks.specs.Tests.{both, either}
-use Rattle.tw_clause.specs.Marks.{marked}
-use Rattle.tw_clause.proofs.Marking.{marked_length, marked_nothing, marked_shift, marked_twice}
+use Rattle.tw_signature.specs.Marks.{marked}
+use Rattle.tw_signature.proofs.Marking.{marked_length, marked_nothing, marked_shift, marked_twice}
 use Rattle.tw_clause.specs.View.{mark_of}
 use Rattle.tw_clause.specs.declared.name.Mark3.{Mark3}
 use Rattle.tw_mode.specs.Rows.{places_with}

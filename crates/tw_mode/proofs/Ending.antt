@@ -13,8 +13,8 @@ use Rattle.lf_checks.specs.Modes.{AllGround, occurs_at}
 use Rattle.lf_checks.specs.Tests.{either}
 use Rattle.lf_checks.proofs.EndDecided.{end_decided}
 use Rattle.lf_checks.proofs.ModeRefuted.{used}
-use Rattle.tw_clause.specs.Marks.{marked}
-use Rattle.tw_clause.proofs.Marking.{marked_length}
+use Rattle.tw_signature.specs.Marks.{marked}
+use Rattle.tw_signature.proofs.Marking.{marked_length}
 use Rattle.tw_terms.specs.View.{args_of}
 use Rattle.tw_terms.specs.declared.canonical.Term.{Term as RustTerm}
 use Rattle.tw_mode.specs.Checks.{Outcome}
@@ -24,7 +24,7 @@ use Rattle.tw_mode.specs.Rows.{marks_in}
 use Rattle.tw_mode.specs.Scopes.{in_marks}
 use Rattle.tw_mode.specs.declared.table.Table.{Table}
 use Rattle.lf.proofs.Checker.{number_is}
-use Rattle.tw_clause.proofs.Marking.{same_self}
+use Rattle.tw_signature.proofs.Marking.{same_self}
 use Rattle.tw_mode.proofs.Sets.{in_marks_past, marked_set}
 use mathlib.Core.Path.{fun_ext}
 

@@ -5,8 +5,8 @@ use Rattle.lf.specs.Syntax.{Term, Spine, nil, app, LfType, pi, atom}
 use Rattle.lf_unification.specs.Search.{occurs}
 use Rattle.lf_checks.specs.Modes.{occurs_at, occurs_goal}
 use Rattle.lf_checks.specs.Tests.{both, either}
-use Rattle.tw_clause.specs.Marks.{marked}
-use Rattle.tw_clause.proofs.Marking.{marked_twice, marked_nothing, marked_shift}
+use Rattle.tw_signature.specs.Marks.{marked}
+use Rattle.tw_signature.proofs.Marking.{marked_twice, marked_nothing, marked_shift}
 use Rattle.tw_terms.specs.View.{args_of}
 use Rattle.tw_terms.specs.declared.canonical.Term.{Term as RustTerm}
 use mathlib.Core.Path.{fun_ext}

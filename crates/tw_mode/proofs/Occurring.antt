@@ -11,7 +11,7 @@ use Rattle.lf_checks.specs.Tests.{both, either}
 use Rattle.lf_checks.proofs.EtaTest.{both_l, both_r}
 use Rattle.tw_clause.proofs.Walks.{at_quantifier}
 use Rattle.lf.proofs.Checker.{number_is}
-use Rattle.tw_clause.proofs.Marking.{same_self}
+use Rattle.tw_signature.proofs.Marking.{same_self}
 use Rattle.tw_mode.proofs.Sets.{same_turned}
 
 either_left : (a b : Bool) → a ≡ true → either a b ≡ true

@@ -16,11 +16,11 @@ use Rattle.lf_checks.specs.Tests.{both, either}
 use Rattle.lf_checks.proofs.Numbered.{all_outside, number_of, one_number, part_found, past_subgoal, past_variable, subgoal_inside, subgoal_type, three_ways}
 use Rattle.lf_checks.proofs.PartTypes.{counted_number}
 use Rattle.lf_checks.proofs.Shape.{shape, shape_head}
-use Rattle.tw_clause.specs.Marks.{marked}
+use Rattle.tw_signature.specs.Marks.{marked}
 use Rattle.tw_clause.specs.Patterns.{newest}
 use Rattle.tw_clause.specs.View.{subgoal_of}
 use Rattle.tw_clause.specs.declared.clause.Clause.{Clause}
-use Rattle.tw_clause.proofs.Marking.{same_not, same_self}
+use Rattle.tw_signature.proofs.Marking.{same_not, same_self}
 use Rattle.tw_terms.specs.View.{spine_of}
 use Rattle.tw_mode.specs.Before.{AreGroundBefore, IsClauseOf, IsGroundBefore, older_entries}
 use Rattle.tw_mode.specs.Scopes.{in_marks}

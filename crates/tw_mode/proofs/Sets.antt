@@ -4,9 +4,9 @@ use Rattle.std.specs.Prelude.{cond}
 use Rattle.lf.specs.Variables.{hide, same_number, under}
 use Rattle.lf_checks.specs.Clause.{with_newest}
 use Rattle.lf_checks.specs.Tests.{either}
-use Rattle.tw_clause.specs.Marks.{marked}
+use Rattle.tw_signature.specs.Marks.{marked}
 use Rattle.lf.proofs.Checker.{number_is}
-use Rattle.tw_clause.proofs.Marking.{same_not, same_self}
+use Rattle.tw_signature.proofs.Marking.{same_not, same_self}
 use Rattle.tw_mode.specs.Scopes.{in_marks}
 use mathlib.Core.Path.{fun_ext}
 

@@ -5,8 +5,8 @@ use Rattle.lf.specs.Syntax.{Term, Spine, nil, app, root, constant, variable, lam
 use Rattle.lf.specs.Variables.{hide, same_number, under}
 use Rattle.lf_checks.specs.Strict.{pattern_arguments, strict, strict_at, strict_goal, strict_spine}
 use Rattle.lf_checks.specs.Tests.{both, either}
-use Rattle.tw_clause.specs.Marks.{marked}
-use Rattle.tw_clause.proofs.Marking.{marked_twice, marked_nothing, marked_shift}
+use Rattle.tw_signature.specs.Marks.{marked}
+use Rattle.tw_signature.proofs.Marking.{marked_twice, marked_nothing, marked_shift}
 use Rattle.tw_terms.specs.View.{args_of}
 use Rattle.tw_terms.specs.declared.canonical.Term.{Term as RustTerm}
 use mathlib.Core.Path.{fun_ext}

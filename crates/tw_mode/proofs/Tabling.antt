@@ -16,7 +16,7 @@ use Rattle.tw_mode.specs.ModeTables.{MarksByFamily, mode_row, mode_rows, rows_ma
 use Rattle.tw_mode.specs.Rows.{with_row}
 use Rattle.tw_mode.specs.declared.table.Row.{Row}
 use Rattle.lf.proofs.Checker.{number_is}
-use Rattle.tw_clause.proofs.Marking.{same_not, same_self}
+use Rattle.tw_signature.proofs.Marking.{same_not, same_self}
 
 abbrev pub Marks : Type 0
 Marks = Vec Mark3 Global

@@ -11,7 +11,7 @@ use Rattle.lf_checks.specs.GroundUntil.{ground_past}
 use Rattle.lf_checks.specs.Marks.{Mark, input_places, output_places}
 use Rattle.lf_checks.specs.Strict.{strict_at, strict_goal}
 use Rattle.lf_checks.specs.Tests.{both, either}
-use Rattle.tw_clause.specs.Marks.{marked}
+use Rattle.tw_signature.specs.Marks.{marked}
 use Rattle.tw_mode.specs.Scopes.{in_marks}
 use Rattle.tw_mode.specs.Solved.{after, with_hidden}
 use Rattle.tw_mode.proofs.Occurring.{goal_occurs, places_occur, target_uses_variables}

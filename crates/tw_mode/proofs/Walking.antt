@@ -19,7 +19,7 @@ use Rattle.lf_checks.specs.Tests.{either}
 use Rattle.lf_checks.proofs.ModeRefuted.{moded_parts}
 use Rattle.lf_checks.proofs.Numbered.{past_variable, subgoal_inside, type_both}
 use Rattle.lf_checks.proofs.PartTypes.{counted_number}
-use Rattle.tw_clause.specs.Marks.{marked}
+use Rattle.tw_signature.specs.Marks.{marked}
 use Rattle.tw_clause.proofs.Walks.{shape_length}
 use Rattle.tw_mode.specs.Ends.{AreAllTrue}
 use Rattle.tw_mode.specs.Scopes.{in_marks}

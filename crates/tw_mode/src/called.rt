@@ -8,7 +8,7 @@ ghost use Rattle.tw_mode.specs.Rows.{moded_in};
 
 use crate::table::Table;
 use std::alloc::{AllocError, Global};
-use tw_clause::shape_of;
+use tw_signature::shape_of;
 use tw_terms::{ConstId, Ty, target};
 
 /// The first family without a mode that a clause of this type calls, if there is one: for each subgoal in solving order its family, and then what its hypotheses of

@@ -2,7 +2,7 @@
 ghost use Rattle.std.specs.Prelude.{◌≡◌, ◌≤◌, true, length, map, Decides, IfOk};
 ghost use Rattle.lf_checks.specs.Tests.{either};
 ghost use Rattle.lf_unification.specs.Search.{occurs_spine};
-ghost use Rattle.tw_clause.specs.Marks.{marked};
+ghost use Rattle.tw_signature.specs.Marks.{marked};
 ghost use Rattle.tw_clause.specs.View.{mark_of};
 ghost use Rattle.tw_terms.specs.View.{spine_of, term_of};
 ghost use Rattle.tw_mode.specs.Allowed.{allowed_in};
@@ -16,7 +16,8 @@ use crate::rows::{has_mark, nth_mark, places_for};
 use crate::table::Table;
 use crate::uses::{Allowed, uses_term};
 use std::alloc::{AllocError, Global};
-use tw_clause::{Mark3, mark_spine};
+use tw_clause::Mark3;
+use tw_signature::mark_spine;
 use tw_terms::numbers::one_more;
 use tw_terms::{ConstId, Spine, Term};
 

@@ -4,7 +4,7 @@ ghost use Rattle.lf.specs.Entries.{quantifiers};
 ghost use Rattle.lf.specs.Variables.{nothing, target_arguments};
 ghost use Rattle.lf_checks.specs.Marks.{input_places};
 ghost use Rattle.lf_checks.specs.Strict.{strict_at};
-ghost use Rattle.tw_clause.specs.Marks.{marked};
+ghost use Rattle.tw_signature.specs.Marks.{marked};
 ghost use Rattle.tw_terms.specs.View.{spine_of, type_of};
 ghost use Rattle.tw_mode.specs.Rows.{marks_in};
 ghost use Rattle.tw_mode.specs.Scopes.{fixed_in};

@@ -1,7 +1,7 @@
 //! Sets of variables as marks, the outermost variable's first.
 ghost use Rattle.std.specs.Prelude.{◌≡◌};
 ghost use Rattle.lf.specs.Variables.{same_number};
-ghost use Rattle.tw_clause.specs.Marks.{marked};
+ghost use Rattle.tw_signature.specs.Marks.{marked};
 ghost use Rattle.tw_mode.specs.Scopes.{in_marks};
 
 /// Whether a variable is marked, where so many are in scope; one without a mark counts as `other`.

@@ -3,12 +3,12 @@ ghost use Rattle.std.specs.Prelude.{◌≡◌, ◌≤◌, length, OnOk};
 ghost use Rattle.lf_unification.specs.Search.{occurs, occurs_type};
 ghost use Rattle.lf_checks.specs.Modes.{occurs_at, occurs_goal};
 ghost use Rattle.lf_checks.specs.Tests.{both};
-ghost use Rattle.tw_clause.specs.Marks.{marked};
+ghost use Rattle.tw_signature.specs.Marks.{marked};
 ghost use Rattle.tw_terms.specs.View.{spine_of, term_of, type_of};
 
 use crate::places::is_chosen;
 use std::alloc::AllocError;
-use tw_clause::{mark_spine, mark_term};
+use tw_signature::{mark_spine, mark_term};
 use tw_terms::numbers::one_more;
 use tw_terms::{Spine, Term, Ty};
 

@@ -2,7 +2,7 @@
 ghost use Rattle.std.specs.Prelude.{◌≡◌, ◌≤◌, false, get_or, length, OnOk};
 ghost use Rattle.lf_checks.specs.Strict.{strict, strict_at, strict_goal};
 ghost use Rattle.lf_checks.specs.Tests.{both};
-ghost use Rattle.tw_clause.specs.Marks.{marked};
+ghost use Rattle.tw_signature.specs.Marks.{marked};
 ghost use Rattle.tw_terms.specs.View.{spine_of, term_of, type_of};
 ghost use Rattle.tw_mode.specs.Scopes.{bound_in, fixed_in};
 

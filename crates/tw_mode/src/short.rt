@@ -3,7 +3,7 @@ ghost use Rattle.std.specs.Prelude.{◌≡◌, ◌≤◌, ◌∷◌, zero, lengt
 ghost use Rattle.lf_unification.specs.Search.{occurs_type};
 ghost use Rattle.lf_checks.specs.ModeForms.{completed_marks, implicit_mark as mark_of_implicit, occurs_in_types};
 ghost use Rattle.lf_checks.specs.Tests.{both};
-ghost use Rattle.tw_clause.specs.Marks.{marked};
+ghost use Rattle.tw_signature.specs.Marks.{marked};
 ghost use Rattle.tw_clause.specs.View.{mark_of};
 ghost use Rattle.tw_terms.specs.View.{kind_of, type_of};
 ghost use Rattle.tw_mode.specs.Rows.{places_with};

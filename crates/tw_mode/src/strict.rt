@@ -3,7 +3,7 @@ ghost use Rattle.std.specs.Prelude.{◌≡◌, ◌≤◌, [], length, OnOk};
 ghost use Rattle.lf_checks.specs.Strict.{pattern_arguments, strict, strict_spine};
 ghost use Rattle.lf_checks.specs.Tests.{both, either};
 ghost use Rattle.lf.specs.Variables.{same_number};
-ghost use Rattle.tw_clause.specs.Marks.{marked};
+ghost use Rattle.tw_signature.specs.Marks.{marked};
 ghost use Rattle.tw_terms.specs.View.{spine_of, term_of};
 ghost use Rattle.tw_mode.specs.Scopes.{bound_in, fixed_in};
 

@@ -8,7 +8,7 @@ ghost use Rattle.tw_terms.specs.View.{type_of};
 ghost use Rattle.tw_order.specs.Goals.{goal_here, goals_of};
 
 use std::alloc::{AllocError, Global};
-use tw_clause::shape_of;
+use tw_signature::shape_of;
 use tw_terms::numbers::one_more;
 use tw_terms::{Ty, weaken};
 

@@ -23,7 +23,7 @@ use Rattle.lf_unification.proofs.Runs.{run_form}
 use Rattle.tw_open.specs.Plain.{IsPlain, IsPlainType}
 use Rattle.tw_open.proofs.PlainKinds.{plain_stays, plain_type_stays}
 use Rattle.tw_unify.proofs.Orders.{both_reached, both_runs, followed_twice, none_made, one_step, places_change}
-use Rattle.tw_search.specs.Beside.{ComesApart, Differs, IndicesComeApart, IndicesDiffer, LeadsTo, RowComesApart, RowDiffers, arguments_differ, constants_differ, differs_here, differs_later, equation_between, index_differs, later_differs, leads_by_value, leads_to_itself, next_argument, next_index, no_argument, no_index, same_constants, stays}
+use Rattle.tw_search.specs.Beside.{ComesApart, Differs, FirstDiffers, IndicesComeApart, IndicesDiffer, LeadsTo, RowComesApart, RowDiffers, arguments_differ, constants_differ, differs_here, differs_later, equation_between, index_differs, later_differs, leads_by_value, leads_to_itself, next_argument, next_index, no_argument, no_index, same_constants, stays}
 
 -- What has no arguments in it stays as it is, whatever is put in.
 range_stays : (A B : LfType) (M : Term) → IsPlainType B → instantiate_type A M B ≡ B
@@ -85,6 +85,10 @@ module _ (Σ : Signature) (ok : IsSignature Σ) (Ψ : ℕ → Option LfType) (bs
   leads_run : {M V : Term} → LeadsTo bs M V → (N : Term) (A : LfType) (fs : List Equation) → IsWellFormed Σ (with_equations (equation_between M N A ∷ fs)) → ReachedRun Σ (with_equations (equation_between M N A ∷ fs)) (with_equations (equation_between V N A ∷ fs))
   leads_run {M = M} l N A fs w = one_step Σ (put_bindings (leads_puts Σ Ψ bs (IsFilling Σ [] (with_equations (equation_between M N A ∷ fs))) w.typed.bindings_typed l A w.typed.equations_typed.0.left_typed) put_nothing) tt
 
+  -- So is the other side.
+  pub right_leads : {N V : Term} → LeadsTo bs N V → (M : Term) (A : LfType) (fs : List Equation) → IsWellFormed Σ (with_equations (equation_between M N A ∷ fs)) → ReachedRun Σ (with_equations (equation_between M N A ∷ fs)) (with_equations (equation_between M V A ∷ fs))
+  right_leads {N = N} l M A fs w = one_step Σ (put_bindings put_nothing (leads_puts Σ Ψ bs (IsFilling Σ [] (with_equations (equation_between M N A ∷ fs))) w.typed.bindings_typed l A w.typed.equations_typed.0.right_typed)) tt
+
   -- and at equal constants come the equations of the arguments
   heads_run : {M : Term} {S : Spine} (c : ℕ) → LeadsTo bs M (root (constant c) S) → (T : Spine) (a : ℕ) (I : Spine) (B : LfType) → Σ.types c ≡ Some B → (fs : List Equation) → IsWellFormed Σ (with_equations (equation_between M (root (constant c) T) (atom a I) ∷ fs)) → ReachedRun Σ (with_equations (equation_between M (root (constant c) T) (atom a I) ∷ fs)) (with_equations (followed (argument_equations [] B S T) fs))
   heads_run c l T a I B e fs w = both_reached Σ (leads_run l (root (constant c) T) (atom a I) fs w) (one_step Σ (equal_heads (constant c) B tt e) tt)
@@ -127,7 +131,7 @@ module _ (Σ : Signature) (ok : IsSignature Σ) (Ψ : ℕ → Option LfType) (bs
       (both_apart (equation_between M (with_applied p N) A) es gs (spine_equations [] K S (spine_with_applied p T)) fs here (comes_apart_runs first (tail K) here) (λ v. indices_run row k (followed es fs) v))
 
   -- What a run leads to is refuted.
-  refuted_then : {s t : Store} → ReachedRun Σ s t → CanRefute Σ t → CanRefute Σ s
+  pub refuted_then : {s t : Store} → ReachedRun Σ s t → CanRefute Σ t → CanRefute Σ s
   refuted_then r c = record { reached = c.reached; run = both_runs Σ r.run c.run; refuted = c.refuted }
 
   -- the first of the equations is passed over
@@ -138,31 +142,42 @@ module _ (Σ : Signature) (ok : IsSignature Σ) (Ψ : ℕ → Option LfType) (bs
 
   mutual
     -- where constants differ in two terms
-    pub terms_refute : {M N : Term} {A : LfType} → Differs Σ bs p M N A → (fs : List Equation) → IsWellFormed Σ (with_equations (equation_between M (with_applied p N) A ∷ fs)) → CanRefute Σ (with_equations (equation_between M (with_applied p N) A ∷ fs))
-    terms_refute (constants_differ {S = S} {T = T} {I = I} {a = a} {c = c} {d = d} l n) fs w = record {
-      reached = with_equations (equation_between (root (constant c) S) (root (constant d) (spine_with_applied p T)) (atom a I) ∷ fs);
-      run = (leads_run l (root (constant d) (spine_with_applied p T)) (atom a I) fs w).run;
-      refuted = steps.constants_differ n;
-    }
-    terms_refute (arguments_differ {T = T} {I = I} {a = a} {c = c} {B = B} l e b row) fs w =
-        let opened = heads_run c l (spine_with_applied p T) a I B e fs w in
+    pub terms_refute : {M N : Term} {A : LfType} → Differs Σ bs M N A → (fs : List Equation) → IsWellFormed Σ (with_equations (equation_between M N A ∷ fs)) → CanRefute Σ (with_equations (equation_between M N A ∷ fs))
+    terms_refute (constants_differ {N = N} {S = S} {T = T} {I = I} {a = a} {c = c} {d = d} l k n) fs w =
+        let first = leads_run l N (atom a I) fs w in
+        let second = right_leads k (root (constant c) S) (atom a I) fs (run_form Σ ok w first.run) in
+        record {
+          reached = with_equations (equation_between (root (constant c) S) (root (constant d) T) (atom a I) ∷ fs);
+          run = both_runs Σ first.run second.run;
+          refuted = steps.constants_differ n;
+        }
+    terms_refute (arguments_differ {M = M} {S = S} {T = T} {I = I} {a = a} {c = c} {B = B} l k e b row) fs w =
+        let first = right_leads k M (atom a I) fs w in
+        let opened = both_reached Σ first (heads_run c l T a I B e fs (run_form Σ ok w first.run)) in
         refuted_then opened (row_refutes row b fs (run_form Σ ok w opened.run))
 
-    pub row_refutes : {S T : Spine} {B : LfType} → RowDiffers Σ bs p S T B → IsPlainType B → (fs : List Equation) → IsWellFormed Σ (with_equations (followed (argument_equations [] B S (spine_with_applied p T)) fs)) → CanRefute Σ (with_equations (followed (argument_equations [] B S (spine_with_applied p T)) fs))
-    row_refutes (differs_here {M = M} {N = N} {S = S} {T = T} {A = A} {B = B} d) b fs w = terms_refute d (followed (argument_equations [] (instantiate_type A M B) S (spine_with_applied p T)) fs) w
+    pub row_refutes : {S T : Spine} {B : LfType} → RowDiffers Σ bs S T B → IsPlainType B → (fs : List Equation) → IsWellFormed Σ (with_equations (followed (argument_equations [] B S T) fs)) → CanRefute Σ (with_equations (followed (argument_equations [] B S T) fs))
+    row_refutes (differs_here {M = M} {N = N} {S = S} {T = T} {A = A} {B = B} d) b fs w = terms_refute d (followed (argument_equations [] (instantiate_type A M B) S T) fs) w
     row_refutes (differs_later {M = M} {N = N} {S = S} {T = T} {A = A} {B = B} row) (a, b) fs w =
-        let tail : LfType → List Equation = λ X. followed (argument_equations [] X S (spine_with_applied p T)) fs in
+        let tail : LfType → List Equation = λ X. followed (argument_equations [] X S T) fs in
         let same : instantiate_type A M B ≡ B = range_stays A B M b in
-        let here : IsWellFormed Σ (with_equations (equation_between M (with_applied p N) A ∷ tail B)) = subst (λ X. IsWellFormed Σ (with_equations (equation_between M (with_applied p N) A ∷ tail X))) same w in
-        subst (λ X. CanRefute Σ (with_equations (equation_between M (with_applied p N) A ∷ tail X))) (sym same)
-        (later_refuted (equation_between M (with_applied p N) A) (argument_equations [] B S (spine_with_applied p T)) fs here (λ v. row_refutes row b (equation_between M (with_applied p N) A ∷ fs) v))
+        let here : IsWellFormed Σ (with_equations (equation_between M N A ∷ tail B)) = subst (λ X. IsWellFormed Σ (with_equations (equation_between M N A ∷ tail X))) same w in
+        subst (λ X. CanRefute Σ (with_equations (equation_between M N A ∷ tail X))) (sym same)
+        (later_refuted (equation_between M N A) (argument_equations [] B S T) fs here (λ v. row_refutes row b (equation_between M N A ∷ fs) v))
 
   -- THE theorem of rows in which constants differ
-  pub indices_refute : {S T : Spine} {K : Kind} → IndicesDiffer Σ bs p S T K → IsPlain K → (fs : List Equation) → IsWellFormed Σ (with_equations (followed (spine_equations [] K S (spine_with_applied p T)) fs)) → CanRefute Σ (with_equations (followed (spine_equations [] K S (spine_with_applied p T)) fs))
-  indices_refute (index_differs {M = M} {N = N} {S = S} {T = T} {A = A} {K = K} d) k fs w = terms_refute d (followed (spine_equations [] (instantiate_kind A M K) S (spine_with_applied p T)) fs) w
+  pub indices_refute : {S T : Spine} {K : Kind} → IndicesDiffer Σ bs S T K → IsPlain K → (fs : List Equation) → IsWellFormed Σ (with_equations (followed (spine_equations [] K S T) fs)) → CanRefute Σ (with_equations (followed (spine_equations [] K S T) fs))
+  indices_refute (index_differs {M = M} {N = N} {S = S} {T = T} {A = A} {K = K} d) k fs w = terms_refute d (followed (spine_equations [] (instantiate_kind A M K) S T) fs) w
   indices_refute (later_differs {M = M} {N = N} {S = S} {T = T} {A = A} {K = K} row) (a, k) fs w =
-      let tail : Kind → List Equation = λ L. followed (spine_equations [] L S (spine_with_applied p T)) fs in
+      let tail : Kind → List Equation = λ L. followed (spine_equations [] L S T) fs in
       let same : instantiate_kind A M K ≡ K = kind_range_stays A K M k in
-      let here : IsWellFormed Σ (with_equations (equation_between M (with_applied p N) A ∷ tail K)) = subst (λ L. IsWellFormed Σ (with_equations (equation_between M (with_applied p N) A ∷ tail L))) same w in
-      subst (λ L. CanRefute Σ (with_equations (equation_between M (with_applied p N) A ∷ tail L))) (sym same)
-      (later_refuted (equation_between M (with_applied p N) A) (spine_equations [] K S (spine_with_applied p T)) fs here (λ v. indices_refute row k (equation_between M (with_applied p N) A ∷ fs) v))
+      let here : IsWellFormed Σ (with_equations (equation_between M N A ∷ tail K)) = subst (λ L. IsWellFormed Σ (with_equations (equation_between M N A ∷ tail L))) same w in
+      subst (λ L. CanRefute Σ (with_equations (equation_between M N A ∷ tail L))) (sym same)
+      (later_refuted (equation_between M N A) (spine_equations [] K S T) fs here (λ v. indices_refute row k (equation_between M N A ∷ fs) v))
+
+  -- where they differ in the first equation
+  pub first_refutes : (es fs : List Equation) → FirstDiffers Σ bs es → IsWellFormed Σ (with_equations (followed es fs)) → CanRefute Σ (with_equations (followed es fs))
+  first_refutes [] fs d w = absurd d
+  first_refutes (e ∷ es) fs (n, d) w =
+      let same : equation_between e.left e.right e.of_type ≡ e = ap (λ D. record { local = D; left = e.left; right = e.right; of_type = e.of_type }) (sym n) in
+      subst (λ x. CanRefute Σ (with_equations (x ∷ followed es fs))) same (terms_refute d (followed es fs) (subst (λ x. IsWellFormed Σ (with_equations (x ∷ followed es fs))) (sym same) w))

@@ -28,12 +28,11 @@ use Rattle.tw_putting.specs.Whole.{IsConsistent, whole}
 use Rattle.tw_putting.proofs.Changes.{bindings_with_value, consistent_with_value}
 use Rattle.tw_putting.proofs.HeadValues.{stays_unbound}
 use Rattle.tw_putting.proofs.Readiness.{ready_after}
-use Rattle.tw_terms.specs.OpenView.{open_spine_of}
 use Rattle.tw_terms.specs.declared.canonical.MetaId.{MetaId}
 use Rattle.tw_unify.specs.Reaching.{IsKnown, IsMarked, Marking}
 use Rattle.tw_unify.proofs.Orders.{one_step}
 use Rattle.tw_search.specs.Beside.{ComesApart, IndicesComeApart, LeadsTo, LeftsIn, RowComesApart, leads_by_value, leads_to_itself, next_argument, next_index, no_argument, no_index, same_constants, stays}
-use Rattle.tw_search.specs.Goals.{IsDeclared, StandsAtGoal, goal_type}
+use Rattle.tw_search.specs.Goals.{IsDeclared, StandsAtGoal, goal_type, indices_of}
 use Rattle.tw_search.specs.Offers.{IsOffered}
 use Rattle.tw_search.specs.declared.goal.OpenGoal.{OpenGoal}
 
@@ -170,7 +169,7 @@ pub record IsBehindHole (s : State) (g : OpenGoal) (t : State) : Type 0 where
   pub types : (k : ℕ) (A : LfType) → Holds (has k) → types_of t k ≡ Some A → MetavariablesInType (λ j. Holds (has j)) A
   pub values : ValuesIn (λ j. Holds (has j)) (bindings_of t)
   pub without_hole : Holds (has g.hole.0) → ⊥
-  pub indices : MetavariablesInSpine (λ j. Holds (has j)) (open_spine_of g.indices)
+  pub indices : MetavariablesInSpine (λ j. Holds (has j)) (indices_of s g.hole.0)
   pub declared : (k : ℕ) → Holds (has k) → IsDeclared s k
 
 -- no metavariable that came later is in it
@@ -182,7 +181,7 @@ module _ (Σ : Signature) (s : State) (g : OpenGoal) (h : Head) (es : List Equat
   is_order = at.ready.well_formed.is_order
 
   place : StandsIn Σ (types_of s) (IsFilling Σ [] (whole [] s)) at.ready.well_formed.order g.hole.0
-  place = stands_in Σ (types_of s) (IsFilling Σ [] (whole [] s)) at.ready.well_formed.order g.hole.0 is_order (at.ready.well_formed.all_listed g.hole.0 (goal_type g) at.declared)
+  place = stands_in Σ (types_of s) (IsFilling Σ [] (whole [] s)) at.ready.well_formed.order g.hole.0 is_order (at.ready.well_formed.all_listed g.hole.0 (goal_type s g) at.declared)
 
   grows : (k : ℕ) (A : LfType) → types_of s k ≡ Some A → types_of t k ≡ Some A
   grows = (applied_adds o.offer.offered at.node.scoped.fresh).grows
@@ -210,12 +209,12 @@ module _ (Σ : Signature) (s : State) (g : OpenGoal) (h : Head) (es : List Equat
     values_behind = subst (ValuesIn (λ j. Holds (listed r.rest j))) (sym o.offer.bindings)
         ((λ x. absurd (no_hole x)), all_within (λ j. Holds (listed r.rest j)) (bindings_of s) value_behind)
 
-    indices_behind : MetavariablesInSpine (λ j. Holds (listed r.rest j)) (open_spine_of g.indices)
+    indices_behind : MetavariablesInSpine (λ j. Holds (listed r.rest j)) (indices_of s g.hole.0)
     indices_behind =
-        let same : r.item.of_type ≡ goal_type g = some_is (sym r.order.1 ∙ ap (types_of s) r.is_it ∙ at.declared) in
-        let closed : MetavariablesInType (IsListed r.rest) (goal_type g) = subst (MetavariablesInType (IsListed r.rest)) same r.order.3 in
-        let atomic : MetavariablesInType (IsListed r.rest) (atom g.family.0 (open_spine_of g.indices)) = subst (λ D. MetavariablesInType (IsListed r.rest) (pi_over D (atom g.family.0 (open_spine_of g.indices)))) no_locals closed in
-        in_weaker_type (IsListed r.rest) (λ j. Holds (listed r.rest j)) to_set (atom g.family.0 (open_spine_of g.indices)) atomic
+        let same : r.item.of_type ≡ goal_type s g = some_is (sym r.order.1 ∙ ap (types_of s) r.is_it ∙ at.declared) in
+        let closed : MetavariablesInType (IsListed r.rest) (goal_type s g) = subst (MetavariablesInType (IsListed r.rest)) same r.order.3 in
+        let atomic : MetavariablesInType (IsListed r.rest) (atom g.family.0 (indices_of s g.hole.0)) = subst (λ D. MetavariablesInType (IsListed r.rest) (pi_over D (atom g.family.0 (indices_of s g.hole.0)))) no_locals closed in
+        in_weaker_type (IsListed r.rest) (λ j. Holds (listed r.rest j)) to_set (atom g.family.0 (indices_of s g.hole.0)) atomic
 
     declared_behind : (k : ℕ) → Holds (listed r.rest k) → IsDeclared s k
     declared_behind k x = let (A, d, i) = type_listed Σ (types_of s) (IsFilling Σ [] (whole [] s)) r.rest r.order.0 k (is_listed r.rest k x) in (A, d)

@@ -1,8 +1,9 @@
 -- Rows that are gone along beside one another, and the values that are followed.
-use Rattle.std.proofs.Common.{◌≡◌, ℕ, List, [], ◌∷◌, ◌++◌, Some, refl, sym, ap, ◌∙◌, subst}
+use Rattle.std.proofs.Common.{◌≡◌, ◌≤◌, ℕ, List, [], ◌∷◌, ◌++◌, Option, None, Some, arith, refl, sym, ap, ◌∙◌, subst}
+use Rattle.std.specs.Prelude.{MatchOption}
 use Rattle.lf.specs.Syntax.{Kind, LfType, Spine, Term, app, atom, constant, kind_pi, metavariable, nil, pi, root}
 use Rattle.lf.specs.Typing.{Signature}
-use Rattle.lf_search.specs.AppliedHeads.{AppliedHead}
+use Rattle.lf_search.specs.AppliedHeads.{AppliedHead, spine_with_applied, with_applied}
 use Rattle.lf_search.proofs.Ends.{followed_after, followed_none}
 use Rattle.lf_unification.specs.Lists.{followed}
 use Rattle.lf_unification.specs.Unifiers.{Binding, Equation}
@@ -12,6 +13,7 @@ use Rattle.tw_putting.specs.Stores.{ValuesAreBound, bindings_of}
 use Rattle.tw_terms.specs.OpenView.{open_term_of}
 use Rattle.tw_terms.specs.View.{term_of, type_of}
 use Rattle.tw_search.specs.Beside.{Adds, ComesApart, Differs, IndicesComeApart, IndicesDiffer, IndicesWent, LeadsTo, RowComesApart, RowDiffers, RowWent, TermWent, arguments_differ, constants_differ, differs_here, differs_later, equation_at, equations_at, index_differs, later_differs, leads_by_value, leads_to_itself, next_argument, next_index, no_argument, no_index, same_constants, stays}
+use Rattle.tw_search.specs.Reducing.{IsAtom}
 use Rattle.tw_search.specs.declared.beside.Pair.{Pair}
 use Rattle.tw_search.specs.declared.beside.Went.{Went}
 use Rattle.tw_search.specs.declared.beside.Went.TheVariants.{On, Clash, Away}
@@ -69,7 +71,7 @@ gone_to_end A B D E old new w n = record {
 
 -- rows that a type takes
 abbrev pub RowGoneTo : Signature → List Binding → Spine → Spine → LfType → Spine → Spine → LfType → List Pair → List Pair → Type 0
-RowGoneTo Σ bs S T B S' T' B' old new = GoneTo (λ p. RowComesApart Σ bs p S T B) (λ p. RowComesApart Σ bs p S' T' B') (λ p. RowDiffers Σ bs p S T B) (λ p. RowDiffers Σ bs p S' T' B') old new
+RowGoneTo Σ bs S T B S' T' B' old new = GoneTo (λ p. RowComesApart Σ bs p S T B) (λ p. RowComesApart Σ bs p S' T' B') (λ p. RowDiffers Σ bs S (spine_with_applied p T) B) (λ p. RowDiffers Σ bs S' (spine_with_applied p T') B') old new
 
 pub row_begins : (Σ : Signature) (bs : List Binding) (S T S' T' : Spine) (B : LfType) (old : List Pair) → S ≡ S' → T ≡ T' → RowGoneTo Σ bs S T B S' T' B old old
 row_begins Σ bs S T S' T' B old e f = subst (λ X. RowGoneTo Σ bs S T B X T' B old old) e (subst (λ X. RowGoneTo Σ bs S T B S X B old old) f (record {
@@ -88,14 +90,14 @@ row_goes_on Σ bs S T S' T' S'' T'' B B' B'' A M N old mid new e f g w a =
 pub row_clashes : (Σ : Signature) (bs : List Binding) (S T S' T' S'' T'' : Spine) (B B' B'' A : LfType) (M N : Term) (old mid new : List Pair) → S' ≡ app M S'' → T' ≡ app N T'' → B' ≡ pi A B''
     → RowGoneTo Σ bs S T B S' T' B' old mid → TermWent Σ bs M N A mid new Clash → RowWent Σ bs S T B old new Clash
 row_clashes Σ bs S T S' T' S'' T'' B B' B'' A M N old mid new e f g w d p =
-    w.differ p (subst (RowDiffers Σ bs p S' T') (sym g) (subst (λ X. RowDiffers Σ bs p S' X (pi A B'')) (sym f) (subst (λ X. RowDiffers Σ bs p X (app N T'') (pi A B'')) (sym e) (differs_here (d p)))))
+    w.differ p (subst (RowDiffers Σ bs S' (spine_with_applied p T')) (sym g) (subst (λ X. RowDiffers Σ bs S' (spine_with_applied p X) (pi A B'')) (sym f) (subst (λ X. RowDiffers Σ bs X (spine_with_applied p (app N T'')) (pi A B'')) (sym e) (differs_here (d p)))))
 
 pub row_ends : (Σ : Signature) (bs : List Binding) (S T S' T' : Spine) (B B' : LfType) (old new : List Pair) → S' ≡ nil → RowGoneTo Σ bs S T B S' T' B' old new → RowWent Σ bs S T B old new On
 row_ends Σ bs S T S' T' B B' old new e w = gone_to_end _ _ _ _ old new w (λ p. subst (λ X. RowComesApart Σ bs p X T' B' []) (sym e) no_argument)
 
 -- rows that a kind takes
 abbrev pub IndicesGoneTo : Signature → List Binding → Spine → Spine → Kind → Spine → Spine → Kind → List Pair → List Pair → Type 0
-IndicesGoneTo Σ bs S T K S' T' K' old new = GoneTo (λ p. IndicesComeApart Σ bs p S T K) (λ p. IndicesComeApart Σ bs p S' T' K') (λ p. IndicesDiffer Σ bs p S T K) (λ p. IndicesDiffer Σ bs p S' T' K') old new
+IndicesGoneTo Σ bs S T K S' T' K' old new = GoneTo (λ p. IndicesComeApart Σ bs p S T K) (λ p. IndicesComeApart Σ bs p S' T' K') (λ p. IndicesDiffer Σ bs S (spine_with_applied p T) K) (λ p. IndicesDiffer Σ bs S' (spine_with_applied p T') K') old new
 
 pub indices_begin : (Σ : Signature) (bs : List Binding) (S T S' T' : Spine) (K : Kind) (old : List Pair) → S ≡ S' → T ≡ T' → IndicesGoneTo Σ bs S T K S' T' K old old
 indices_begin Σ bs S T S' T' K old e f = subst (λ X. IndicesGoneTo Σ bs S T K X T' K old old) e (subst (λ X. IndicesGoneTo Σ bs S T K S X K old old) f (record {
@@ -114,14 +116,14 @@ indices_go_on Σ bs S T S' T' S'' T'' K K' K'' A M N old mid new e f g w a =
 pub indices_clash : (Σ : Signature) (bs : List Binding) (S T S' T' S'' T'' : Spine) (K K' K'' : Kind) (A : LfType) (M N : Term) (old mid new : List Pair) → S' ≡ app M S'' → T' ≡ app N T'' → K' ≡ kind_pi A K''
     → IndicesGoneTo Σ bs S T K S' T' K' old mid → TermWent Σ bs M N A mid new Clash → IndicesWent Σ bs S T K old new Clash
 indices_clash Σ bs S T S' T' S'' T'' K K' K'' A M N old mid new e f g w d p =
-    w.differ p (subst (IndicesDiffer Σ bs p S' T') (sym g) (subst (λ X. IndicesDiffer Σ bs p S' X (kind_pi A K'')) (sym f) (subst (λ X. IndicesDiffer Σ bs p X (app N T'') (kind_pi A K'')) (sym e) (index_differs (d p)))))
+    w.differ p (subst (IndicesDiffer Σ bs S' (spine_with_applied p T')) (sym g) (subst (λ X. IndicesDiffer Σ bs S' (spine_with_applied p X) (kind_pi A K'')) (sym f) (subst (λ X. IndicesDiffer Σ bs X (spine_with_applied p (app N T'')) (kind_pi A K'')) (sym e) (index_differs (d p)))))
 
 pub indices_end : (Σ : Signature) (bs : List Binding) (S T S' T' : Spine) (K K' : Kind) (old new : List Pair) → S' ≡ nil → IndicesGoneTo Σ bs S T K S' T' K' old new → IndicesWent Σ bs S T K old new On
 indices_end Σ bs S T S' T' K K' old new e w = gone_to_end _ _ _ _ old new w (λ p. subst (λ X. IndicesComeApart Σ bs p X T' K' []) (sym e) no_index)
 
 -- two terms that begin with constants
 pub heads_differ : (Σ : Signature) (bs : List Binding) (M N : Term) (A : LfType) (S T I : Spine) (a c d : ℕ) (old new : List Pair) → LeadsTo bs M (root (constant c) S) → N ≡ root (constant d) T → A ≡ atom a I → (c ≡ d → ⊥) → TermWent Σ bs M N A old new Clash
-heads_differ Σ bs M N A S T I a c d old new l n e x p = subst (λ X. Differs Σ bs p M X A) (sym n) (subst (Differs Σ bs p M (root (constant d) T)) (sym e) (constants_differ l x))
+heads_differ Σ bs M N A S T I a c d old new l n e x p = subst (λ X. Differs Σ bs M (with_applied p X) A) (sym n) (subst (Differs Σ bs M (with_applied p (root (constant d) T))) (sym e) (constants_differ l leads_to_itself x))
 
 pub same_heads : (Σ : Signature) (bs : List Binding) (M N : Term) (A B : LfType) (S T I : Spine) (a c d : ℕ) (old new : List Pair) → LeadsTo bs M (root (constant c) S) → N ≡ root (constant d) T → A ≡ atom a I → c ≡ d → Σ.types d ≡ Some B → IsPlainType B
     → (w : Went) → RowWent Σ bs S T B old new w → TermWent Σ bs M N A old new w
@@ -130,5 +132,29 @@ same_heads Σ bs M N A B S T I a c d old new l n e q t b w r =
   where
     go : (v : Went) → LeadsTo bs M (root (constant d) S) → RowWent Σ bs S T B old new v → TermWent Σ bs M (root (constant d) T) (atom a I) old new v
     go On k x = record { added = x.added; behind = x.behind; apart = λ p. same_constants k t b (x.apart p) }
-    go Clash k x = λ p. arguments_differ k t b (x p)
+    go Clash k x = λ p. arguments_differ k leads_to_itself t b (x p)
     go Away k x = tt
+
+-- two open terms that lead to roots of the same constant
+pub arguments_apart : (Σ : Signature) (bs : List Binding) (M N : Term) (S T : Spine) (B : LfType) (c d : ℕ) → LeadsTo bs M (root (constant c) S) → LeadsTo bs N (root (constant d) T) → c ≡ d → Some B ≡ Σ.types d → IsPlainType B → RowDiffers Σ bs S T B → (a : ℕ) (I : Spine) → Differs Σ bs M N (atom a I)
+arguments_apart Σ bs M N S T B c d l k e t b row a I = arguments_differ (subst (λ x. LeadsTo bs M (root (constant x) S)) e l) k (sym t) b row
+
+-- of a count of visits that is left, where there is none if P
+pub visits_left : (r : Option ℕ) (P Q : Type 0) (n m : ℕ) → (P → Q) → n ≤ m → MatchOption r P (λ v. v ≤ n) → MatchOption r Q (λ v. v ≤ m)
+visits_left None P Q n m f l h = f h
+visits_left (Some v) P Q n m f l h = omega (arith, l, h)
+
+-- Where the first arguments of two rows differ, and where what is behind them does.
+at_atom : (Σ : Signature) (bs : List Binding) (M N : Term) (A : LfType) → IsAtom A → ((a : ℕ) (I : Spine) → Differs Σ bs M N (atom a I)) → Differs Σ bs M N A
+at_atom Σ bs M N (atom a I) i d = d a I
+at_atom Σ bs M N (pi A B) i d = absurd i
+
+module _ (Σ : Signature) (bs : List Binding) (S T S' T' : Spine) (B A C : LfType) (M N : Term) (e : S ≡ app M S') (f : T ≡ app N T') (g : B ≡ pi A C) where
+  from_parts : RowDiffers Σ bs (app M S') (app N T') (pi A C) → RowDiffers Σ bs S T B
+  from_parts d = subst (RowDiffers Σ bs S T) (sym g) (subst (λ X. RowDiffers Σ bs S X (pi A C)) (sym f) (subst (λ X. RowDiffers Σ bs X (app N T') (pi A C)) (sym e) d))
+
+  pub row_differs_here : IsAtom A → ((a : ℕ) (I : Spine) → Differs Σ bs M N (atom a I)) → RowDiffers Σ bs S T B
+  row_differs_here i d = from_parts (differs_here (at_atom Σ bs M N A i d))
+
+  pub row_differs_later : RowDiffers Σ bs S' T' C → RowDiffers Σ bs S T B
+  row_differs_later d = from_parts (differs_later d)

@@ -1,14 +1,14 @@
 -- Heads of goals, marks of subgoals, and the numbers of a root's variables.
-use Rattle.std.proofs.Common.{◌≡◌, ℕ, zero, suc, [], ◌∷◌, Option, Some, None, inl, refl}
+use Rattle.std.proofs.Common.{◌≡◌, ℕ, zero, suc, [], ◌∷◌, Option, Some, None, inl, inr, refl}
 use Rattle.std.specs.Prelude.{true, false}
 use Rattle.lf.specs.Syntax.{constant, kind_pi, lambda, metavariable, star, variable, Term, LfType, root, nil, app, pi, atom}
 use Rattle.lf.specs.Typing.{Signature}
 use Rattle.lf_checks.specs.Parts.{shape}
-use Rattle.lf_search.specs.AppliedHeads.{AppliedHead, with_applied}
+use Rattle.lf_search.specs.AppliedHeads.{AppliedHead, spine_with_applied, with_applied}
 use Rattle.lf_search.specs.Goals.{type_with_heads}
 use Rattle.lf_search.specs.Heads.{clash_here, outer_head, variable_head}
 use Rattle.tw_metas.specs.State.{State}
-use Rattle.tw_search.specs.Beside.{IndicesComeApart, IndicesDiffer, constants_differ, equation_between, index_differs, leads_by_value, leads_to_itself, next_argument, next_index, no_argument, no_index, same_constants, stays}
+use Rattle.tw_search.specs.Beside.{FirstDiffers, IndicesComeApart, IndicesDiffer, arguments_differ, constants_differ, differs_here, equation_between, index_differs, leads_by_value, leads_to_itself, next_argument, next_index, no_argument, no_index, same_constants, stays}
 use Rattle.tw_search.specs.Choosing.{locals_for}
 use Rattle.tw_search.specs.Clashing.{TypeClashes, head_under}
 use Rattle.tw_search.specs.Offers.{unmarked}
@@ -83,8 +83,15 @@ apart_at_s : (p : ℕ → AppliedHead) → IndicesComeApart numerals [] p (app (
 apart_at_s p = next_index (same_constants leads_to_itself refl (tt, tt) (next_argument (stays leads_to_itself) no_argument)) (next_index (stays leads_to_itself) no_index)
 
 -- where X is z, X and s x differ
-differ_at_value : (p : ℕ → AppliedHead) → IndicesDiffer numerals (record { of = 0; value = root (constant 1) nil } ∷ []) p (app (open_at 0) nil) (app (s (at 0)) nil) (kind_pi nat star)
-differ_at_value p = index_differs (constants_differ (leads_by_value (record { of = 0; value = root (constant 1) nil }) (inl refl) leads_to_itself) (λ e. cc))
+differ_at_value : (p : ℕ → AppliedHead) → IndicesDiffer numerals (record { of = 0; value = root (constant 1) nil } ∷ []) (app (open_at 0) nil) (spine_with_applied p (app (s (at 0)) nil)) (kind_pi nat star)
+differ_at_value p = index_differs (constants_differ (leads_by_value (record { of = 0; value = root (constant 1) nil }) (inl refl) leads_to_itself) leads_to_itself (λ e. cc))
+
+-- where X is z and Y is s z, s X and s Y differ
+differ_at_values : FirstDiffers numerals (record { of = 0; value = root (constant 1) nil } ∷ record { of = 1; value = s (root (constant 1) nil) } ∷ []) (equation_between (s (open_at 0)) (s (open_at 1)) nat ∷ [])
+differ_at_values =
+    let x = leads_by_value (record { of = 0; value = root (constant 1) nil }) (inl refl) leads_to_itself in
+    let y = leads_by_value (record { of = 1; value = s (root (constant 1) nil) }) (inr (inl refl)) leads_to_itself in
+    (refl, arguments_differ leads_to_itself leads_to_itself refl (tt, tt) (differs_here (constants_differ x y (λ e. cc))))
 
 -- metavariables 0 and 1 are of the type nat, and 1 is bound to z
 abbrev two_numerals : State

@@ -13,7 +13,7 @@ use Rattle.lf_unification.specs.OpenTyping.{MetavariablesIn, MetavariablesInSpin
 use Rattle.lf_unification.specs.Outside.{Avoids, Holds, ValuesIn}
 use Rattle.lf_unification.specs.Putting.{Unbound}
 use Rattle.lf_unification.specs.ReachedRuns.{ReachedRun}
-use Rattle.lf_unification.specs.Unifiers.{Binding, Equation, on_left}
+use Rattle.lf_unification.specs.Unifiers.{Binding, Equation, on_left, on_right}
 use Rattle.tw_metas.specs.State.{Declaration, State, value_of, with_value}
 use Rattle.tw_metas.specs.View.{equation_of}
 use Rattle.tw_metas.specs.declared.equation.Equation.{Equation as KeptEquation}
@@ -28,11 +28,13 @@ use Rattle.tw_terms.specs.declared.canonical.MetaId.{MetaId}
 use Rattle.tw_terms.specs.declared.canonical.Term.{Term as ClosedTerm}
 use Rattle.tw_unify.proofs.Orders.{both_reached, followed_nothing}
 use Rattle.tw_search.specs.Applied.{taken_at}
-use Rattle.tw_search.specs.Beside.{equation_at, equation_between, equations_at}
-use Rattle.tw_search.specs.Reducing.{GivesOne, IsAtom, IsGiven, IsOpenAtom, LeavesThese, adds_equation, is_bare, is_loose, takes_right}
+use Rattle.tw_search.specs.Beside.{LeadsTo, equation_between, equations_at, leads_to_itself}
+use Rattle.tw_search.specs.Reducing.{CanTake, GivesOne, GivesSides, IsAtom, IsGiven, IsOpenAtom, LeavesThese, adds_equation, gives_sides, is_bare, is_loose, left_takes, right_takes, takes_right}
 use Rattle.tw_search.specs.declared.beside.Pair.{Pair}
+use Rattle.tw_search.proofs.BesideRuns.{right_leads}
 use Rattle.tw_search.proofs.BesideTakes.{all_within, settle_ready, settle_runs}
 use Rattle.tw_search.proofs.ClashingHeads.{closed_arguments_from}
+use Rattle.tw_search.proofs.Reductions.{leaves_both}
 use Rattle.tw_search.proofs.Settling.{has_place, leaves_itself, to_back}
 
 -- What a test says that has no argument in the type.
@@ -85,46 +87,86 @@ giving_starts Σ ms ps rest found s e f w =
 pub giving_ends : (Σ : Signature) (ms : List MetaId) (es found : List Equation) (rest : List Pair) (s u : State) → rest ≡ [] → Giving Σ ms es s rest found u → LeavesThese Σ es found s u
 giving_ends Σ ms es found rest s u e g = subst (λ qs. Giving Σ ms es s qs found u) e g
 
-module _ (Σ : Signature) (ok : IsSignature Σ) (ms : List MetaId) (es : List Equation) (s : State) (q : Pair) (rest : List Pair) (found : List Equation) (u : State) (c : Giving Σ ms es s (q ∷ rest) found u) where
-  adds : Giving Σ ms es s rest (found ++ equation_at (taken_at nil ms 0) q ∷ []) u
-  adds =
-      let p = taken_at nil ms 0 in
-      let back = to_back Σ ms q rest found u in
-      record {
-        run = both_reached Σ c.run back;
-        ready = ready_after Σ ok (followed (equations_at p (q ∷ rest)) found) (followed (equations_at p rest) (found ++ equation_at p q ∷ [])) u u c.ready back.run c.ready.consistent;
-        declared = c.declared;
-        postponed = c.postponed;
-      }
+-- An equation whose right side leads to V is given.
+module _ (Σ : Signature) (ok : IsSignature Σ) (M N V : Term) (A : LfType) (fs : List Equation) (u : State) (ready : IsReady Σ (equation_between M N A ∷ fs) u) (l : LeadsTo (bindings_of u) N V) where
+  led_run : ReachedRun Σ (whole (equation_between M N A ∷ fs) u) (whole (equation_between M V A ∷ fs) u)
+  led_run = right_leads Σ ok (types_of u) (bindings_of u) (taken_at nil [] 0) l M A (followed fs u.equations) ready.well_formed
 
-  takes : (m : MetaId) → IsGiven u ms (open_term_of q.left) (term_of q.right.now) m → Giving Σ ms es s rest found (with_value u m.0 (with_applied (taken_at nil ms 0) (term_of q.right.now)))
-  takes m k =
-      let p = taken_at nil ms 0 in
-      let N = with_applied p (term_of q.right.now) in
-      let A = type_of q.ty.now in
-      let fs = followed (equations_at p rest) found in
-      let W : ℕ → Bool = is_loose u m.0 in
-      let ready : IsReady Σ (equation_between (root (metavariable m.0) nil) N A ∷ fs) u = subst (λ M. IsReady Σ (equation_between M N A ∷ fs) u) k.is c.ready in
-      let run : ReachedRun Σ (whole (equation_between (open_term_of q.left) N A ∷ fs) u) (whole fs (with_value u m.0 N)) =
-      subst (λ M. ReachedRun Σ (whole (equation_between M N A ∷ fs) u) (whole fs (with_value u m.0 N))) (sym k.is)
-      (settle_runs Σ ok on_left N A fs u m.0 k.open_atom.family k.open_atom.indices ready k.open_atom.unbound k.open_atom.atomic W (avoids_loose u m.0) k.within) in
-      record {
-        run = both_reached Σ c.run run;
-        ready = settle_ready Σ ok on_left N A fs u m.0 k.open_atom.family k.open_atom.indices ready k.open_atom.unbound k.open_atom.atomic W (avoids_loose u m.0) k.within;
-        declared = c.declared;
-        postponed = c.postponed;
-      }
+  led_ready : IsReady Σ (equation_between M V A ∷ fs) u
+  led_ready = ready_after Σ ok (equation_between M N A ∷ fs) (equation_between M V A ∷ fs) u u ready led_run.run ready.consistent
+
+  module _ (m : MetaId) where
+    -- the left side takes it
+    leaves_left : CanTake u M V m → LeavesThese Σ (equation_between M N A ∷ fs) fs u (with_value u m.0 V)
+    leaves_left k =
+        let at : IsReady Σ (equation_between (root (metavariable m.0) nil) V A ∷ fs) u = subst (λ X. IsReady Σ (equation_between X V A ∷ fs) u) k.is led_ready in
+        let run : ReachedRun Σ (whole (equation_between M V A ∷ fs) u) (whole fs (with_value u m.0 V)) =
+        subst (λ X. ReachedRun Σ (whole (equation_between X V A ∷ fs) u) (whole fs (with_value u m.0 V))) (sym k.is)
+        (settle_runs Σ ok on_left V A fs u m.0 k.open_atom.family k.open_atom.indices at k.open_atom.unbound k.open_atom.atomic k.avoided.reached k.avoided.avoids k.avoided.within) in
+        record {
+          run = both_reached Σ led_run run;
+          ready = settle_ready Σ ok on_left V A fs u m.0 k.open_atom.family k.open_atom.indices at k.open_atom.unbound k.open_atom.atomic k.avoided.reached k.avoided.avoids k.avoided.within;
+          declared = refl;
+          postponed = refl;
+        }
+
+    -- it takes the left side
+    leaves_right : CanTake u V M m → LeavesThese Σ (equation_between M N A ∷ fs) fs u (with_value u m.0 M)
+    leaves_right k =
+        let at : IsReady Σ (equation_between M (root (metavariable m.0) nil) A ∷ fs) u = subst (λ X. IsReady Σ (equation_between M X A ∷ fs) u) k.is led_ready in
+        let run : ReachedRun Σ (whole (equation_between M V A ∷ fs) u) (whole fs (with_value u m.0 M)) =
+        subst (λ X. ReachedRun Σ (whole (equation_between M X A ∷ fs) u) (whole fs (with_value u m.0 M))) (sym k.is)
+        (settle_runs Σ ok on_right M A fs u m.0 k.open_atom.family k.open_atom.indices at k.open_atom.unbound k.open_atom.atomic k.avoided.reached k.avoided.avoids k.avoided.within) in
+        record {
+          run = both_reached Σ led_run run;
+          ready = settle_ready Σ ok on_right M A fs u m.0 k.open_atom.family k.open_atom.indices at k.open_atom.unbound k.open_atom.atomic k.avoided.reached k.avoided.avoids k.avoided.within;
+          declared = refl;
+          postponed = refl;
+        }
+
+-- an equation stands in front of others, and comes behind them as it leads
+leaves_behind : (Σ : Signature) → IsSignature Σ → (M N V : Term) (A : LfType) (rest found : List Equation) (u : State) → IsReady Σ (equation_between M N A ∷ followed rest found) u → LeadsTo (bindings_of u) N V →
+    LeavesThese Σ (equation_between M N A ∷ followed rest found) (followed rest (found ++ equation_between M V A ∷ [])) u u
+leaves_behind Σ ok M N V A rest found u ready l =
+    let run : ReachedRun Σ (whole (equation_between M N A ∷ followed rest found) u) (whole (followed rest (found ++ equation_between M V A ∷ [])) u) =
+    both_reached Σ (led_run Σ ok M N V A (followed rest found) u ready l) (to_back Σ (equation_between M V A) rest found u) in
+    record {
+      run = run;
+      ready = ready_after Σ ok (equation_between M N A ∷ followed rest found) (followed rest (found ++ equation_between M V A ∷ [])) u u ready run.run ready.consistent;
+      declared = refl;
+      postponed = refl;
+    }
+
+sides_leave : (Σ : Signature) → IsSignature Σ → (M N : Term) (A : LfType) (rest found more : List Equation) (u v : State) → IsReady Σ (equation_between M N A ∷ followed rest found) u → GivesSides M N A found u more v →
+    LeavesThese Σ (equation_between M N A ∷ followed rest found) (followed rest more) u v
+sides_leave Σ ok M N A rest found more u v ready (left_takes V l m k) = leaves_left Σ ok M N V A (followed rest found) u ready l m k
+sides_leave Σ ok M N A rest found more u v ready (right_takes V l m k) = leaves_right Σ ok M N V A (followed rest found) u ready l m k
+sides_leave Σ ok M N A rest found more u v ready (adds_equation V l) = leaves_behind Σ ok M N V A rest found u ready l
+
+-- the goal's metavariable takes the clause's term, in which only loose ones stand
+can_take : (s : State) (ms : List MetaId) (M N : Term) (m : MetaId) → IsGiven s ms M N m → CanTake s M (with_applied (taken_at nil ms 0) N) m
+can_take s ms M N m k = record {
+  is = k.is;
+  open_atom = k.open_atom;
+  avoided = record { reached = is_loose s m.0; avoids = avoids_loose s m.0; within = k.within };
+}
 
 -- one pair more is given
 pub giving_on : (Σ : Signature) → IsSignature Σ → (ms : List MetaId) (es : List Equation) (s : State) (q : Pair) (rest : List Pair) (found more : List Equation) (u v : State) → Giving Σ ms es s (q ∷ rest) found u → GivesOne ms q found u more v → Giving Σ ms es s rest more v
-giving_on Σ ok ms es s q rest found more u v c (takes_right m k) = takes Σ ok ms es s q rest found u c m k
-giving_on Σ ok ms es s q rest found more u v c adds_equation = adds Σ ok ms es s q rest found u c
+giving_on Σ ok ms es s q rest found more u v c g =
+    let p = taken_at nil ms 0 in
+    leaves_both Σ es (followed (equations_at p (q ∷ rest)) found) (followed (equations_at p rest) more) s u v c
+    (sides_leave Σ ok (open_term_of q.left) (with_applied p (term_of q.right.now)) (type_of q.ty.now) (equations_at p rest) found more u v c.ready (as_sides g))
+  where
+    as_sides : {fs gs : List Equation} {t w : State} → GivesOne ms q fs t gs w → GivesSides (open_term_of q.left) (with_applied (taken_at nil ms 0) (term_of q.right.now)) (type_of q.ty.now) fs t gs w
+    as_sides (takes_right {s = t} m k) = left_takes (with_applied (taken_at nil ms 0) (term_of q.right.now)) leads_to_itself m (can_take t ms (open_term_of q.left) (term_of q.right.now) m k)
+    as_sides (gives_sides x) = x
 
--- the pair's equation is added
-pub adds_one : (ms : List MetaId) (q : Pair) (found more : List KeptEquation) (x : KeptEquation) (s : State) → more ≡ found ++ x ∷ [] → equation_of x ≡ equation_at (taken_at nil ms 0) q → GivesOne ms q (map equation_of found) s (map equation_of more) s
-adds_one ms q found more x s e f =
-    let to : map equation_of found ++ equation_at (taken_at nil ms 0) q ∷ [] ≡ map equation_of more = ap (λ y. map equation_of found ++ y ∷ []) (sym f) ∙ sym (ap (map equation_of) e ∙ map-append equation_of found (x ∷ [])) in
-    subst (λ l. GivesOne ms q (map equation_of found) s l s) to adds_equation
+-- the equation of the sides is added
+pub adds_sides : (M N V : Term) (A : LfType) (found more : List KeptEquation) (x : KeptEquation) (s : State) → more ≡ found ++ x ∷ [] → equation_of x ≡ equation_between M V A → LeadsTo (bindings_of s) N V → GivesSides M N A (map equation_of found) s (map equation_of more) s
+adds_sides M N V A found more x s e f l =
+    let to : map equation_of found ++ equation_between M V A ∷ [] ≡ map equation_of more = ap (λ y. map equation_of found ++ y ∷ []) (sym f) ∙ sym (ap (map equation_of) e ∙ map-append equation_of found (x ∷ [])) in
+    subst (λ l. GivesSides M N A (map equation_of found) s l s) to (adds_equation V l)
 
 -- what isn't bound, and has an atom as its type
 pub open_atom : (s : State) (m : ℕ) (d : Declaration) → IsConsistent s → slice_get s.declared m ≡ Some d → value_of s m ≡ None → IsAtom d.of_type → IsOpenAtom s m

@@ -6,7 +6,7 @@ use Rattle.lf.specs.Entries.{Entry, IsCanonicalSignature, signature_of}
 use Rattle.lf.specs.Syntax.{Head, LfType}
 use Rattle.lf.proofs.Entries.{canonical_is_signature}
 use Rattle.lf_unification.specs.Lists.{followed}
-use Rattle.lf_unification.specs.Search.{Pending, SearchesFrom, begin_search}
+use Rattle.lf_unification.specs.Search.{Pending, SearchesFrom, begin_search, declared_constants, tried_heads}
 use Rattle.lf_unification.specs.Unifiers.{Equation}
 use Rattle.lf_search.specs.Coming.{AnswerIsDeep, Comes}
 use Rattle.tw_metas.specs.State.{Story}
@@ -20,7 +20,7 @@ use Rattle.tw_unify.specs.declared.reach.Walk.{Walk}
 use Rattle.tw_search.specs.Answers.{values_of}
 use Rattle.tw_search.specs.Chains.{GoalsAre, IsFirst, IsGrown, frames_of}
 use Rattle.tw_search.specs.Choosing.{heads_left}
-use Rattle.tw_search.specs.Going.{Goes, GoesFrom, IsBelow}
+use Rattle.tw_search.specs.Going.{GivesOutUp, Goes, GoesFrom, GoesUp, IsBelow}
 use Rattle.tw_search.specs.Goals.{IsOpened}
 use Rattle.tw_search.specs.Leaves.{IsLeaf, IsReadOff}
 use Rattle.tw_search.specs.Left.{ShowingIsDeep, ShowsFirst}
@@ -142,20 +142,39 @@ below_more steps steps' last new None h (b, t) = (omega (arith, h, b), t)
 below_more steps steps' last new (Some s) h b = tt
 
 -- A goal that is chosen.
-module _ (es : List Entry) (old new : Search) (list : ℕ) (agenda : List Pending) (w : NodeStands es old.variables list old.store (frames_of old.frames) (choices_of old) agenda) where
-  pub goal_chosen : (f : Frame) → IsFirst (frames_of old.frames) list (Some f) → (g : OpenGoal) → IsOpened old.store.now f.hole.0 g → (c : Choice) → c ≡ record { mark = length old.store.before; frames = length (frames_of old.frames); goal = g; rest = f.next; local = 0; constant = 0 } →
-      new.tries ≡ old.tries → new.variables ≡ old.variables → new.goal ≡ old.goal → new.store ≡ old.store → frames_of new.frames ≡ frames_of old.frames → choices_of new ≡ c ∷ choices_of old → new.place ≡ place.Heads → KeepsMet new → WentOn es old new agenda
-  goal_chosen f first g o c is t v same q e k p met = record {
-    tries = 0;
-    after = standing.chosen es old.variables list old.store (frames_of old.frames) (choices_of old) agenda w f first g o c is;
-    run = standing.run_chosen es old.variables list old.store (frames_of old.frames) (choices_of old) agenda w f first g o c is;
-    count = omega (arith, t);
-    variables = v;
-    same_goal = same;
-    at = heads_are es new old.variables (c ∷ choices_of old) (frames_of old.frames) old.store _ p v q e k (standing.chosen_stands es old.variables list old.store (frames_of old.frames) (choices_of old) agenda w f first g o c is) met;
-  }
+module _ (es : List Entry) (old : Search) (list : ℕ) (agenda : List Pending) (w : NodeStands es old.variables list old.store (frames_of old.frames) (choices_of old) agenda) where
+  abbrev at_heads : Search
+  at_heads = record old { place = place.Heads }
 
-  -- A leaf.
+  module _ (f : Frame) (first : IsFirst (frames_of old.frames) list (Some f)) (g : OpenGoal) (o : IsOpened old.store.now f.hole.0 g) (c : Choice) (is : c ≡ record { mark = length old.store.before; frames = length (frames_of old.frames); goal = g; rest = f.next; local = 0; constant = 0 }) (met : KeepsMet old) where
+    abbrev chosen : List Pending
+    chosen = standing.chosen es old.variables list old.store (frames_of old.frames) (choices_of old) agenda w f first g o
+
+    run_chosen : SearchesFrom es agenda [] 0 chosen
+    run_chosen = standing.run_chosen es old.variables list old.store (frames_of old.frames) (choices_of old) agenda w f first g o
+
+    taken : IsTakenUp es at_heads c chosen
+    taken = subst (λ (x : Choice). IsTakenUp es at_heads x chosen) (sym is) (record {
+      goals = (standing.behind es old.variables list old.store (frames_of old.frames) (choices_of old) agenda w f first).0;
+      heads = tried_heads g.locals (declared_constants es);
+      rest = w.rest;
+      is = refl;
+      at = standing.at_chosen es old.variables list old.store (frames_of old.frames) (choices_of old) agenda w f first g o;
+      older = w.choices;
+      met = met;
+    })
+
+    pub goal_taken : (agenda' : List Pending) × IsTakenUp es at_heads c agenda'
+    goal_taken = (chosen, taken)
+
+    pub goes_taken : (last : ℕ) (new : Search) (x : Option Step) → GoesUp es last at_heads new c x → GoesFrom es last old new x agenda
+    goes_taken last new x up = goes_from_same es last old at_heads new x agenda refl refl refl (goes_later es last at_heads new x agenda chosen run_chosen (up chosen taken))
+
+    pub gives_out_taken : (last : ℕ) (new : Search) → GivesOutUp es last at_heads new c → GaveOut es old new agenda last
+    gives_out_taken last new gave = standing.gave_same es old at_heads new new agenda last refl refl (standing.gave_later es at_heads new agenda chosen last run_chosen (gave chosen taken))
+
+-- A leaf.
+module _ (es : List Entry) (old new : Search) (list : ℕ) (agenda : List Pending) (w : NodeStands es old.variables list old.store (frames_of old.frames) (choices_of old) agenda) where
   module _ (ok : IsCanonicalSignature es) (first : IsFirst (frames_of old.frames) list None) where
     pub is_leaf : old.store.now.equations ≡ [] → IsLeaf old.store.now old.variables
     is_leaf e = record { signature = signature_of es; is_signature = canonical_is_signature es ok; ready = w.kept.ready; none_left = e; declared = w.kept.declared; reached = w.kept.from_query }

@@ -15,11 +15,10 @@ use Rattle.tw_metas.specs.declared.left.LeftEquation.{LeftEquation}
 use Rattle.tw_putting.specs.Whole.{whole}
 use Rattle.tw_signature.specs.Goal.{Goal, goal_of}
 use Rattle.tw_signature.specs.declared.goal.Goal.{Goal as Asked}
-use Rattle.tw_terms.specs.OpenView.{open_spine_of}
 use Rattle.tw_terms.specs.View.{term_of}
 use Rattle.tw_search.specs.Answers.{values_of}
 use Rattle.tw_search.specs.Chains.{IsFirst, frames_of}
-use Rattle.tw_search.specs.Goals.{at_goal, node_of}
+use Rattle.tw_search.specs.Goals.{at_goal, indices_of, node_of}
 use Rattle.tw_search.specs.Leaves.{AllFromQuery, IsLeaf, IsReadOff}
 use Rattle.tw_search.specs.Left.{IsLeftAt, IsStoreOf, ShowingIsDeep, ShowsFirst}
 use Rattle.tw_search.specs.Standing.{Came, ChoicesStand, IsAnswerOfLeaf, IsAt, IsOver, NodeStands, PlaceStands, Shows, Stands, StandsAfter, StepIs, TriesHead, asked_of, choices_of}
@@ -161,7 +160,7 @@ budget_came es G old new agenda reached budget r d b t v g at = record {
 pub try_deep_came : (es : List Entry) (G : List LfType) (old new : Search) (c : Choice) (h : Head) (agenda : List Pending) (budget : ℕ) → TriesHead es old c h agenda → OfferIsDeep (signature_of es) old.store.now c.goal h → 0 < budget → new.tries ≡ old.tries → new.variables ≡ old.variables → new.goal ≡ old.goal → IsOver end.TooDeep new → Came es G old new agenda budget step.TooDeep
 try_deep_came es G old new c h agenda budget w d b t v g o =
     let f = d.has.offer in
-    let offer : Offer (signature_of es) (node_of old.store.now (c.goal.hole.0 ∷ w.goals)) c.goal.hole.0 c.goal.locals c.goal.family.0 (open_spine_of c.goal.indices) h d.has.head_type d.has.offered d.has.next =
+    let offer : Offer (signature_of es) (node_of old.store.now (c.goal.hole.0 ∷ w.goals)) c.goal.hole.0 c.goal.locals c.goal.family.0 (indices_of old.store.now c.goal.hole.0) h d.has.head_type d.has.offered d.has.next =
     record { typed = f.typed; kind = f.kind; kind_of = f.kind_of; spine = f.spine; indices = f.indices; offered = f.offered; bindings = f.bindings; equations = f.equations } in
     let n : suc (budget - 1) ≡ budget = omega (arith, b) in
     let z : 0 + budget ≡ budget = omega arith in

@@ -22,6 +22,7 @@ pub mod StillKnown
 pub mod StillLeft
 pub mod Naming
 pub mod Applied
+pub mod GoalEquations
 pub mod Reductions
 pub mod Settling
 pub mod GivingPairs

@@ -21,9 +21,8 @@ use Rattle.tw_putting.specs.Stores.{bindings_of, types_of}
 use Rattle.tw_putting.specs.Whole.{IsConsistent}
 use Rattle.tw_putting.proofs.Changes.{bindings_with_value, consistent_with_value, is_unbound}
 use Rattle.tw_putting.proofs.Skeletons.{types_both, types_grow}
-use Rattle.tw_terms.specs.OpenView.{open_spine_of}
 use Rattle.tw_terms.specs.declared.canonical.MetaId.{MetaId}
-use Rattle.tw_search.specs.Goals.{StandsAtGoal, goal_type, node_of}
+use Rattle.tw_search.specs.Goals.{StandsAtGoal, goal_type, indices_of, node_of}
 use Rattle.tw_search.specs.Offers.{EquationsFit, HasEquations, IsOffered, offered_store, unmarked}
 use Rattle.tw_open.specs.Fresh.{OnlyDeclares}
 use Rattle.tw_search.specs.Taking.{TakesAll, numbers_from}
@@ -56,12 +55,12 @@ one_type Σ D (metavariable m) A B a b = absurd a
 module _ (Σ : Signature) (ok : IsSignature Σ) (g : OpenGoal) (h : Head) where
   -- what the calls ask for
   pub hole_unbound : (s : State) → StandsAtGoal Σ s g → IsUnbound s g.hole.0
-  hole_unbound s w = is_unbound s w.ready.consistent g.hole.0 (goal_type g) w.declared w.unbound
+  hole_unbound s w = is_unbound s w.ready.consistent g.hole.0 (goal_type s g) w.declared w.unbound
 
-  pub equations_fit : (s : State) → StandsAtGoal Σ s g → EquationsFit Σ g
-  equations_fit s w = record { has_kind = has_kind Σ ok s g w; fits = indices_fit Σ ok s g w }
+  pub equations_fit : (s : State) → StandsAtGoal Σ s g → EquationsFit Σ s g
+  equations_fit s w = record { declared = (goal_type s g, w.declared); has_kind = has_kind Σ ok s g w; fits = indices_fit Σ ok s g w }
 
-  module _ (old new : Story) (w : StandsAtGoal Σ old.now g) (A : LfType) (typed : OfferedHeadHasType Σ g.locals h A) (target : skeleton_target (skeleton A) ≡ g.family.0) (S : Spine) (a : ℕ) (T : Spine) (p : Applies g h A old new S a T) (es : List Equation) (q : HasEquations Σ g T es) (subgoals : List MetaId) (is : map (λ (m : MetaId). m.0) subgoals ≡ unmarked (shape A) (numbers_from (length old.now.declared) A)) where
+  module _ (old new : Story) (w : StandsAtGoal Σ old.now g) (A : LfType) (typed : OfferedHeadHasType Σ g.locals h A) (target : skeleton_target (skeleton A) ≡ g.family.0) (S : Spine) (a : ℕ) (T : Spine) (p : Applies g h A old new S a T) (es : List Equation) (q : HasEquations Σ old.now g T es) (subgoals : List MetaId) (is : map (λ (m : MetaId). m.0) subgoals ≡ unmarked (shape A) (numbers_from (length old.now.declared) A)) where
     keeps : Keeps old.now p.middle.now
     keeps = only_keeps p.declares
 
@@ -77,7 +76,7 @@ module _ (Σ : Signature) (ok : IsSignature Σ) (g : OpenGoal) (h : Head) where
     abbrev t : State
     t = with_value p.middle.now g.hole.0 (lambda_over g.locals (root h S))
 
-    the_offer : Offer Σ (node_of old.now []) g.hole.0 g.locals g.family.0 (open_spine_of g.indices) h A (offered_store es (with_value p.middle.now g.hole.0 (lambda_over g.locals (root h S)))) (length p.middle.now.declared)
+    the_offer : Offer Σ (node_of old.now []) g.hole.0 g.locals g.family.0 (indices_of old.now g.hole.0) h A (offered_store es (with_value p.middle.now g.hole.0 (lambda_over g.locals (root h S)))) (length p.middle.now.declared)
     the_offer = record {
       typed = typed;
       kind = q.kind;
@@ -91,15 +90,15 @@ module _ (Σ : Signature) (ok : IsSignature Σ) (g : OpenGoal) (h : Head) where
 
     new_types : TypesBySkeletons Σ (types_of p.middle.now) es
     new_types = subst (TypesBySkeletons Σ (types_of p.middle.now)) (sym q.equations)
-        (types_grow Σ (types_of old.now) (types_of p.middle.now) keeps.grows (spine_equations g.locals q.kind (open_spine_of g.indices) T)
-        (spine_types Σ ok (types_of old.now) g.locals (parts_typed Σ ok old.now g w).0 g.family.0 (base g.family.0) q.kind (open_spine_of g.indices) T
+        (types_grow Σ (types_of old.now) (types_of p.middle.now) keeps.grows (spine_equations g.locals q.kind (indices_of old.now g.hole.0) T)
+        (spine_types Σ ok (types_of old.now) g.locals (parts_typed Σ ok old.now g w).0 g.family.0 (base g.family.0) q.kind (indices_of old.now g.hole.0) T
         (kind_closed Σ ok (made_with [] old.now) g.locals q.kind (ok.kinds_ok g.family.0 q.kind q.kind_of)) (goal_spine Σ ok old.now g w q.kind q.kind_of)))
 
     old_types : TypesBySkeletons Σ (types_of p.middle.now) p.middle.now.equations
     old_types = subst (TypesBySkeletons Σ (types_of p.middle.now)) (sym keeps.equations) (types_grow Σ (types_of old.now) (types_of p.middle.now) keeps.grows old.now.equations w.ready.types)
 
     form : IsWellFormed Σ (offered_store es (with_value p.middle.now g.hole.0 (lambda_over g.locals (root h S))))
-    form = offer_form Σ ok (node_of old.now []) g.hole.0 g.locals g.family.0 (open_spine_of g.indices) h A (offered_store es (with_value p.middle.now g.hole.0 (lambda_over g.locals (root h S)))) (length p.middle.now.declared) w.ready.well_formed w.node w.declared w.unbound the_offer
+    form = offer_form Σ ok (node_of old.now []) g.hole.0 g.locals g.family.0 (indices_of old.now g.hole.0) h A (offered_store es (with_value p.middle.now g.hole.0 (lambda_over g.locals (root h S)))) (length p.middle.now.declared) w.ready.well_formed w.node w.declared w.unbound the_offer
 
     is_ready : IsReady Σ es (with_value p.middle.now g.hole.0 (lambda_over g.locals (root h S)))
     is_ready = record {

@@ -32,10 +32,9 @@ use Rattle.tw_putting.specs.Whole.{IsConsistent, whole}
 use Rattle.tw_putting.proofs.Changes.{bindings_with_declared, consistent_with_declared, past_end, still_unbound, there_is}
 use Rattle.tw_putting.proofs.Kept.{declared_types}
 use Rattle.tw_putting.proofs.Skeletons.{type_declared}
-use Rattle.tw_terms.specs.OpenView.{open_spine_of}
 use Rattle.lf_unification.specs.ReachedRuns.{ReachedRun}
 use Rattle.tw_unify.proofs.Orders.{followed_nothing, places_change}
-use Rattle.tw_search.specs.Goals.{StandsAtGoal, goal_type}
+use Rattle.tw_search.specs.Goals.{StandsAtGoal, goal_type, indices_of}
 use Rattle.tw_open.specs.Indices.{IndicesFit}
 use Rattle.tw_search.specs.Offers.{unmarked}
 use Rattle.tw_open.specs.Fits.{TypeStands}
@@ -89,8 +88,8 @@ module _ (Σ : Signature) (ok : IsSignature Σ) where
   goal_parts Ψ (A ∷ D) P t = let (l, (a, p)) = goal_parts Ψ D (pi A P) t in ((l, a), p)
 
   module _ (s : State) (g : OpenGoal) (w : StandsAtGoal Σ s g) where
-    pub parts_typed : LocalsBySkeletons Σ (types_of s) g.locals × TypeBySkeletons (family_skeletons Σ) (declared_skeletons Σ (types_of s)) (local_skeletons g.locals []) (atom g.family.0 (open_spine_of g.indices))
-    parts_typed = goal_parts (types_of s) g.locals (atom g.family.0 (open_spine_of g.indices)) (type_declared Σ (types_of s) (IsFilling Σ [] (whole [] s)) [] (goal_type g) (w.ready.well_formed.typed.declarations_typed.metavariables_typed g.hole.0 (goal_type g) w.declared))
+    pub parts_typed : LocalsBySkeletons Σ (types_of s) g.locals × TypeBySkeletons (family_skeletons Σ) (declared_skeletons Σ (types_of s)) (local_skeletons g.locals []) (atom g.family.0 (indices_of s g.hole.0))
+    parts_typed = goal_parts (types_of s) g.locals (atom g.family.0 (indices_of s g.hole.0)) (type_declared Σ (types_of s) (IsFilling Σ [] (whole [] s)) [] (goal_type s g) (w.ready.well_formed.typed.declarations_typed.metavariables_typed g.hole.0 (goal_type s g) w.declared))
 
     locals_have : (D : List LfType) → LocalsBySkeletons Σ (types_of s) D → LocalHasSkeletons Σ (made_with [] s) D
     locals_have [] l = tt
@@ -118,11 +117,11 @@ module _ (Σ : Signature) (ok : IsSignature Σ) where
     pub has_kind : Σ.kinds g.family.0 ≡ None → ⊥
     has_kind e = (let p : None ≡ Some parts_typed.1.0 = sym (ap (family_skeleton g.family.0) e) ∙ parts_typed.1.1 in cc)
 
-    pub goal_spine : (K : Kind) → Σ.kinds g.family.0 ≡ Some K → SpineSkeleton (declared_skeletons Σ (types_of s)) (local_skeletons g.locals []) (open_spine_of g.indices) (kind_skeleton g.family.0 K) (base g.family.0)
-    goal_spine K e = subst (λ x. SpineSkeleton (declared_skeletons Σ (types_of s)) (local_skeletons g.locals []) (open_spine_of g.indices) x (base g.family.0)) (some_kind g.family.0 K parts_typed.1.0 (Σ.kinds g.family.0) e parts_typed.1.1) parts_typed.1.2
+    pub goal_spine : (K : Kind) → Σ.kinds g.family.0 ≡ Some K → SpineSkeleton (declared_skeletons Σ (types_of s)) (local_skeletons g.locals []) (indices_of s g.hole.0) (kind_skeleton g.family.0 K) (base g.family.0)
+    goal_spine K e = subst (λ x. SpineSkeleton (declared_skeletons Σ (types_of s)) (local_skeletons g.locals []) (indices_of s g.hole.0) x (base g.family.0)) (some_kind g.family.0 K parts_typed.1.0 (Σ.kinds g.family.0) e parts_typed.1.1) parts_typed.1.2
 
     -- its kind takes the goal's arguments
-    pub indices_fit : (K : Kind) → Σ.kinds g.family.0 ≡ Some K → IndicesFit g.locals K (open_spine_of g.indices)
+    pub indices_fit : (K : Kind) → Σ.kinds g.family.0 ≡ Some K → IndicesFit g.locals K (indices_of s g.hole.0)
     indices_fit K e = record {
       families = family_skeletons Σ;
       heads = heads_of Σ (made_with [] s);

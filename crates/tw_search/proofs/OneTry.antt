@@ -24,7 +24,6 @@ use Rattle.tw_metas.specs.State.{State}
 use Rattle.tw_putting.specs.Ready.{IsReady}
 use Rattle.tw_putting.specs.Stores.{bindings_of, types_of}
 use Rattle.tw_putting.specs.Whole.{whole}
-use Rattle.tw_terms.specs.OpenView.{open_spine_of}
 use Rattle.tw_terms.specs.declared.canonical.MetaId.{MetaId}
 use Rattle.tw_unify.specs.Faults.{fault_of}
 use Rattle.tw_unify.specs.Outcomes.{Explains}
@@ -32,7 +31,7 @@ use Rattle.lf_unification.specs.ReachedRuns.{ReachedRun}
 use Rattle.tw_unify.specs.declared.fault.UnifyFault.{UnifyFault}
 use Rattle.tw_unify.specs.declared.fault.UnifyFault.TheVariants.{TooDeep, NoMemory}
 use Rattle.tw_unify.proofs.Orders.{both_reached, both_runs, none_made}
-use Rattle.tw_search.specs.Goals.{AreLeft, IsHeadFor, StandsAtGoal, node_of}
+use Rattle.tw_search.specs.Goals.{AreLeft, IsHeadFor, StandsAtGoal, indices_of, node_of}
 use Rattle.tw_search.specs.Offers.{HasEquations, IsOffered, offered_store}
 use Rattle.tw_search.specs.Reducing.{LeavesThese, Reduces}
 use Rattle.tw_search.specs.declared.reducing.Reduced.{Reduced}
@@ -42,7 +41,7 @@ use Rattle.tw_search.specs.Tries.{GivesChild, HasOffer, NeverFits, OfferIsDeep, 
 use Rattle.tw_search.specs.declared.goal.OpenGoal.{OpenGoal}
 use Rattle.tw_search.proofs.Offered.{one_type}
 use Rattle.tw_search.proofs.Offering.{new_first}
-use Rattle.tw_search.proofs.Reductions.{the_equations}
+use Rattle.tw_search.proofs.GoalEquations.{in_other, offered_indices, the_equations}
 
 pub on_true : {P Q : Type 0} (b : Bool) → (P → Q) → OnTrue b P → OnTrue b Q
 on_true true f p = f p
@@ -50,13 +49,13 @@ on_true false f p = tt
 
 module _ (Σ : Signature) (ok : IsSignature Σ) (s : State) (g : OpenGoal) (h : Head) where
   -- a clash is seen before anything is made
-  pub clash_never_fits : (w : StandsAtGoal Σ s g) (k : IsHeadFor Σ g h) (A : LfType) → OfferedHeadHasType Σ g.locals h A → Clash (bindings_of s) (quantifiers A) (open_spine_of g.indices) (target_arguments A) → NeverFits Σ s g h
+  pub clash_never_fits : (w : StandsAtGoal Σ s g) (k : IsHeadFor Σ g h) (A : LfType) → OfferedHeadHasType Σ g.locals h A → Clash (bindings_of s) (quantifiers A) (indices_of s g.hole.0) (target_arguments A) → NeverFits Σ s g h
   clash_never_fits w k A t c =
       let target : skeleton_target (skeleton A) ≡ g.family.0 = ap (λ X. skeleton_target (skeleton X)) (one_type Σ g.locals h A k.head_type t k.typed) ∙ k.target in
-      let (offered, next, o) = offer_is_there Σ (node_of s []) g.hole.0 g.locals g.family.0 (open_spine_of g.indices) h A w.node w.declared t target in
+      let (offered, next, o) = offer_is_there Σ (node_of s []) g.hole.0 g.locals g.family.0 (indices_of s g.hole.0) h A w.node w.declared t target in
       record {
         has = record { head_type = A; offered = offered; next = next; offer = o };
-        never = clash_is_never Σ (node_of s []) g.hole.0 g.locals g.family.0 (open_spine_of g.indices) h A offered next w.node w.declared o c;
+        never = clash_is_never Σ (node_of s []) g.hole.0 g.locals g.family.0 (indices_of s g.hole.0) h A offered next w.node w.declared o c;
       }
 
   module _ (es : List Equation) (subgoals : List MetaId) (t : State) (o : IsOffered Σ s g h es subgoals t) where
@@ -139,17 +138,20 @@ passed_on hered.TooDeep Σ s g h d = d refl
 passed_on hered.NoMemory Σ s g h d = tt
 
 -- An offer whose equations are deep.
-pub offered_deep : (Σ : Signature) → IsSignature Σ → (s : State) (g : OpenGoal) (h : Head) → StandsAtGoal Σ s g → (T : Spine) (subgoals : List MetaId) (t : State) → ((es : List Equation) → HasEquations Σ g T es → IsOffered Σ s g h es subgoals t) → ((es : List Equation) → HasEquations Σ g T es → AreDeep depth_limit Σ (whole es t)) → OfferIsDeep Σ s g h
-offered_deep Σ ok s g h w T subgoals t offered deep = let (es, q) = the_equations Σ ok s g w T in offer_is_deep Σ ok s g h es subgoals t (offered es q) (deep es q)
+pub offered_deep : (Σ : Signature) → IsSignature Σ → (s : State) (g : OpenGoal) (h : Head) → StandsAtGoal Σ s g → (T : Spine) (subgoals : List MetaId) (t : State) → ((es : List Equation) → HasEquations Σ s g T es → IsOffered Σ s g h es subgoals t) → ((es : List Equation) → HasEquations Σ t g T es → AreDeep depth_limit Σ (whole es t)) → OfferIsDeep Σ s g h
+offered_deep Σ ok s g h w T subgoals t offered deep = let (es, q) = the_equations Σ ok s g w T in offer_is_deep Σ ok s g h es subgoals t (offered es q) (deep es (in_other Σ s t g (sym (offered_indices Σ s g h es subgoals t w (offered es q))) T es q))
 
 -- An offer whose equations are reduced.
-module _ (Σ : Signature) (ok : IsSignature Σ) (s : State) (g : OpenGoal) (h : Head) (w : StandsAtGoal Σ s g) (T : Spine) (subgoals : List MetaId) (t : State) (offered : (es : List Equation) → HasEquations Σ g T es → IsOffered Σ s g h es subgoals t) (r : Reduced) (u : State) (reduces : (es : List Equation) → HasEquations Σ g T es → Reduces r Σ es t u) where
+module _ (Σ : Signature) (ok : IsSignature Σ) (s : State) (g : OpenGoal) (h : Head) (w : StandsAtGoal Σ s g) (T : Spine) (subgoals : List MetaId) (t : State) (offered : (es : List Equation) → HasEquations Σ s g T es → IsOffered Σ s g h es subgoals t) (r : Reduced) (u : State) (reduces : (es : List Equation) → HasEquations Σ t g T es → Reduces r Σ es t u) where
+  reduced : (es : List Equation) → HasEquations Σ s g T es → Reduces r Σ es t u
+  reduced es q = reduces es (in_other Σ s t g (sym (offered_indices Σ s g h es subgoals t w (offered es q))) T es q)
+
   pub reduced_refuted : r ≡ Reduced.Never → NeverFits Σ s g h
-  reduced_refuted e = let (es, q) = the_equations Σ ok s g w T in refuted_never Σ ok s g h es subgoals t (offered es q) (subst (λ x. Reduces x Σ es t u) e (reduces es q))
+  reduced_refuted e = let (es, q) = the_equations Σ ok s g w T in refuted_never Σ ok s g h es subgoals t (offered es q) (subst (λ x. Reduces x Σ es t u) e (reduced es q))
 
   module _ (v : Vec KeptEquation Global) (e : r ≡ Reduced.Left v) where
-    leaves : (es : List Equation) → HasEquations Σ g T es → LeavesThese Σ es (map equation_of v.items) t u × AreLeft u
-    leaves es q = subst (λ x. Reduces x Σ es t u) e (reduces es q)
+    leaves : (es : List Equation) → HasEquations Σ s g T es → LeavesThese Σ es (map equation_of v.items) t u × AreLeft u
+    leaves es q = subst (λ x. Reduces x Σ es t u) e (reduced es q)
 
     pub reduced_ready : IsReady Σ (map equation_of v.items) u
     reduced_ready = let (es, q) = the_equations Σ ok s g w T in (leaves es q).0.ready

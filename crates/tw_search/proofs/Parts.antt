@@ -20,10 +20,9 @@ use Rattle.tw_putting.specs.Ready.{IsReady, TypesBySkeletons}
 use Rattle.tw_putting.specs.Stores.{bindings_from, bindings_of, types_of}
 use Rattle.tw_putting.specs.Whole.{whole}
 use Rattle.tw_putting.proofs.Changes.{past_end}
-use Rattle.tw_terms.specs.OpenView.{open_spine_of}
 use Rattle.tw_terms.specs.declared.canonical.MetaId.{MetaId}
 use Rattle.tw_search.specs.Answers.{IsIfRead}
-use Rattle.tw_search.specs.Goals.{IsDeclared, StandsAtGoal, at_goal, child_node, goal_type, node_of}
+use Rattle.tw_search.specs.Goals.{IsDeclared, StandsAtGoal, at_goal, child_node, goal_type, indices_of, node_of}
 use Rattle.tw_search.specs.Leaves.{AllFromQuery, IsFromQuery, IsLeaf, IsReadOff, sites_of}
 use Rattle.tw_search.specs.Roots.{IsRoot}
 use Rattle.tw_search.specs.Tries.{GivesChild, NeverFits}
@@ -64,7 +63,7 @@ module _ (Σ : Signature) (ok : IsSignature Σ) (G : List LfType) (A : LfType) (
 -- a try
 module _ (Σ : Signature) (s : State) (g : OpenGoal) (h : Head) where
   -- an offer asks nothing of the other goals
-  with_goals : (gs : List ℕ) (A : LfType) (x : Store) (n : ℕ) → Offer Σ (node_of s []) g.hole.0 g.locals g.family.0 (open_spine_of g.indices) h A x n → Offer Σ (node_of s gs) g.hole.0 g.locals g.family.0 (open_spine_of g.indices) h A x n
+  with_goals : (gs : List ℕ) (A : LfType) (x : Store) (n : ℕ) → Offer Σ (node_of s []) g.hole.0 g.locals g.family.0 (indices_of s g.hole.0) h A x n → Offer Σ (node_of s gs) g.hole.0 g.locals g.family.0 (indices_of s g.hole.0) h A x n
   with_goals gs A x n o = record { typed = o.typed; kind = o.kind; kind_of = o.kind_of; spine = o.spine; indices = o.indices; offered = o.offered; bindings = o.bindings; equations = o.equations }
 
   pub no_child_step : (constants : List ℕ) (gs : List ℕ) (hs : List Head) (rest : List Pending) → NeverFits Σ s g h → SearchStep Σ constants (at_goal s g gs (h ∷ hs) rest) [] 1 (at_goal s g gs hs rest)
@@ -75,7 +74,7 @@ module _ (Σ : Signature) (s : State) (g : OpenGoal) (h : Head) where
     fresh m l = ap (option_map (λ (d : Declaration). d.of_type)) (past_end new.declared m l)
 
     pub child_is_node : IsNode Σ (child_node new subgoals gs)
-    child_is_node = is_child_node Σ ok (node_of s []) g.hole.0 g.locals g.family.0 (open_spine_of g.indices) h c.has.head_type c.has.offered c.has.next w.node w.declared c.has.offer (whole [] new) (length new.declared) (followed (reverse (map (λ (m : MetaId). m.0) subgoals)) gs) c.child fresh
+    child_is_node = is_child_node Σ ok (node_of s []) g.hole.0 g.locals g.family.0 (indices_of s g.hole.0) h c.has.head_type c.has.offered c.has.next w.node w.declared c.has.offer (whole [] new) (length new.declared) (followed (reverse (map (λ (m : MetaId). m.0) subgoals)) gs) c.child fresh
 
     pub child_step : (constants : List ℕ) (hs : List Head) (rest : List Pending) → SearchStep Σ constants (at_goal s g gs (h ∷ hs) rest) [] 1 (at_node (child_node new subgoals gs) ∷ at_goal s g gs hs rest)
     child_step constants hs rest = child (with_goals (g.hole.0 ∷ gs) c.has.head_type c.has.offered c.has.next c.has.offer) c.child child_is_node (ap (λ l. followed l gs) c.subgoals_are)
@@ -91,7 +90,7 @@ module _ (Σ : Signature) (s : State) (g : OpenGoal) (h : Head) where
         go : Declares (types_of s) m ⊎ SpineMentions m c.has.offer.spine → ComesFrom c.has.offered.metavariables (record { of = g.hole.0; value = lambda_over g.locals (root h c.has.offer.spine) } ∷ bindings_of s) n m
         go (inl e) = more m e
         go (inr i) = comes_by_value c.has.offered.metavariables (record { of = g.hole.0; value = lambda_over g.locals (root h c.has.offer.spine) } ∷ bindings_of s) n m (record { of = g.hole.0; value = lambda_over g.locals (root h c.has.offer.spine) }) (inl refl)
-            (more g.hole.0 (goal_type g, w.declared)) (mentions_over g.locals m (root h c.has.offer.spine) (mentions_root Σ g.locals h c.has.head_type c.has.offer.spine m c.has.offer.typed i))
+            (more g.hole.0 (goal_type s g, w.declared)) (mentions_over g.locals m (root h c.has.offer.spine) (mentions_root Σ g.locals h c.has.head_type c.has.offer.spine m c.has.offer.typed i))
 
     pub child_comes : (m : ℕ) → IsDeclared new m → IsFromQuery new n m
     child_comes = run_comes Σ n c.child.run offered_comes

@@ -75,27 +75,24 @@ settling_ends Σ ms es found rest s u e c = record {
   postponed = c.postponed;
 }
 
-module _ (Σ : Signature) (ms : List MetaId) (q : Pair) (rest : List Pair) (found : List Equation) (u : State) where
+module _ (Σ : Signature) (e : Equation) (rest found : List Equation) (u : State) where
   behind : (xs : List Equation) (e : Equation) (ys : List Equation) → followed xs (e ∷ ys) ≡ followed (xs ++ e ∷ []) ys
   behind [] e ys = refl
   behind (x ∷ xs) e ys = ap (λ l. x ∷ l) (behind xs e ys)
 
-  -- the first pair's equation comes behind the others
-  pub to_back : ReachedRun Σ (whole (followed (equations_at (taken_at nil ms 0) (q ∷ rest)) found) u) (whole (followed (equations_at (taken_at nil ms 0) rest) (found ++ equation_at (taken_at nil ms 0) q ∷ [])) u)
+  -- the first equation comes behind the others
+  pub to_back : ReachedRun Σ (whole (e ∷ followed rest found) u) (whole (followed rest (found ++ e ∷ [])) u)
   to_back =
-      let p = taken_at nil ms 0 in
-      let e = equation_at p q in
-      let r = equations_at p rest in
-      let to : followed (followed r found) (e ∷ u.equations) ≡ followed (followed r (found ++ e ∷ [])) u.equations =
-      followed_twice r found (e ∷ u.equations) ∙ ap (followed r) (behind found e u.equations) ∙ sym (followed_twice r (found ++ e ∷ []) u.equations) in
-      subst (λ l. ReachedRun Σ (whole (e ∷ followed r found) u) (record { metavariables = types_of u; bindings = bindings_of u; equations = l })) to
-      (places_change Σ (types_of u) (bindings_of u) (e ∷ []) (followed r found) u.equations)
+      let to : followed (followed rest found) (e ∷ u.equations) ≡ followed (followed rest (found ++ e ∷ [])) u.equations =
+      followed_twice rest found (e ∷ u.equations) ∙ ap (followed rest) (behind found e u.equations) ∙ sym (followed_twice rest (found ++ e ∷ []) u.equations) in
+      subst (λ l. ReachedRun Σ (whole (e ∷ followed rest found) u) (record { metavariables = types_of u; bindings = bindings_of u; equations = l })) to
+      (places_change Σ (types_of u) (bindings_of u) (e ∷ []) (followed rest found) u.equations)
 
 module _ (Σ : Signature) (ms : List MetaId) (es : List Equation) (s : State) (q : Pair) (rest : List Pair) (found : List Equation) (u : State) (c : Settling Σ ms es s (q ∷ rest) found u) where
   keeps : Settling Σ ms es s rest (found ++ equation_at (taken_at nil ms 0) q ∷ []) u
   keeps =
       let p = taken_at nil ms 0 in
-      let back = to_back Σ ms q rest found u in
+      let back = to_back Σ (equation_at p q) (equations_at p rest) found u in
       record {
         typed_signature = c.typed_signature;
         run = both_reached Σ c.run back;

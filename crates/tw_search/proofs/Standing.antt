@@ -25,12 +25,11 @@ use Rattle.tw_metas.proofs.Marks.{mark_is_kept}
 use Rattle.tw_putting.specs.Ready.{IsLater}
 use Rattle.tw_putting.specs.Stores.{bindings_of, types_of}
 use Rattle.tw_putting.specs.Whole.{whole}
-use Rattle.tw_terms.specs.OpenView.{open_spine_of}
 use Rattle.tw_terms.specs.declared.canonical.MetaId.{MetaId}
 use Rattle.tw_unify.proofs.Stories.{later_then}
 use Rattle.tw_search.specs.Chains.{GoalsAre, IsFirst, IsGrown, frames_of}
 use Rattle.tw_search.specs.Choosing.{heads_left}
-use Rattle.tw_search.specs.Goals.{IsDeclared, IsHeadFor, IsOpened, IsUnreached, at_goal, child_node, goal_type, node_of}
+use Rattle.tw_search.specs.Goals.{IsDeclared, IsHeadFor, IsOpened, IsUnreached, at_goal, child_node, goal_type, indices_of, node_of}
 use Rattle.tw_search.specs.Standing.{AtChoice, Came, ChoicesStand, GaveOut, IsTakenUp, KeepsMet, NodeStands, PassesLeaf, TriesHead, WentOn, choices_of, no_choice, one_choice}
 use Rattle.tw_search.specs.Tries.{GivesChild, NeverFits}
 use Rattle.tw_search.specs.declared.frames.Frame.{Frame}
@@ -236,7 +235,7 @@ module _ (es : List Entry) (s : Search) (c : Choice) (agenda : List Pending) (w 
 
   pub passed_over : left ≡ [] → SearchesFrom es agenda [] 0 w.rest
   passed_over e = subst (λ a. SearchesFrom es a [] 0 w.rest) (sym w.is)
-      (heads_are_skipped Σ (declared_constants es) (node_of s.store.now (c.goal.hole.0 ∷ w.goals)) c.goal.hole.0 w.goals c.goal.locals c.goal.family.0 (open_spine_of c.goal.indices) w.rest w.heads
+      (heads_are_skipped Σ (declared_constants es) (node_of s.store.now (c.goal.hole.0 ∷ w.goals)) c.goal.hole.0 w.goals c.goal.locals c.goal.family.0 (indices_of s.store.now c.goal.hole.0) w.rest w.heads
       (subst (AreOffered Σ c.goal.locals c.goal.family.0 w.heads) e w.at.offered))
 
   module _ (k : Head) (ks : List Head) (e : left ≡ k ∷ ks) where
@@ -244,7 +243,7 @@ module _ (es : List Entry) (s : Search) (c : Choice) (agenda : List Pending) (w 
     offered = subst (AreOffered Σ c.goal.locals c.goal.family.0 w.heads) e w.at.offered
 
     pub reached : (later : List Head) × SearchesFrom es (at_goal s.store.now c.goal w.goals w.heads w.rest) [] 0 (at_goal s.store.now c.goal w.goals (k ∷ later) w.rest) × AreOffered Σ c.goal.locals c.goal.family.0 later ks
-    reached = heads_are_reached Σ (declared_constants es) (node_of s.store.now (c.goal.hole.0 ∷ w.goals)) c.goal.hole.0 w.goals c.goal.locals c.goal.family.0 (open_spine_of c.goal.indices) w.rest w.heads k ks offered
+    reached = heads_are_reached Σ (declared_constants es) (node_of s.store.now (c.goal.hole.0 ∷ w.goals)) c.goal.hole.0 w.goals c.goal.locals c.goal.family.0 (indices_of s.store.now c.goal.hole.0) w.rest w.heads k ks offered
 
     abbrev pub next_agenda : List Pending
     next_agenda = at_goal s.store.now c.goal w.goals (k ∷ reached.0) w.rest
@@ -270,7 +269,7 @@ module _ (es : List Entry) (s : Search) (c : Choice) (agenda : List Pending) (w 
     pub try_due : TryIsDue Σ next_agenda
     try_due =
         let node : IsNode Σ (node_of s.store.now (c.goal.hole.0 ∷ w.goals)) = record { scoped = w.at.kept.node.scoped; skeletons = w.at.kept.node.skeletons } in
-        let (x, n, o) = offer_is_there Σ (node_of s.store.now (c.goal.hole.0 ∷ w.goals)) c.goal.hole.0 c.goal.locals c.goal.family.0 (open_spine_of c.goal.indices) k head_is.head_type node w.at.stands.declared head_is.typed head_is.target in
+        let (x, n, o) = offer_is_there Σ (node_of s.store.now (c.goal.hole.0 ∷ w.goals)) c.goal.hole.0 c.goal.locals c.goal.family.0 (indices_of s.store.now c.goal.hole.0) k head_is.head_type node w.at.stands.declared head_is.typed head_is.target in
         is_due o
 
     -- where the budget is at its end, the choice point stays
@@ -317,10 +316,10 @@ module _ (es : List Entry) (ok : IsCanonicalSignature es) (s : Search) (c : Choi
         let node = node_of s.store.now (c.goal.hole.0 ∷ w.goals) in
         let is : IsNode Σ' node = record { scoped = w.at.kept.node.scoped; skeletons = w.at.kept.node.skeletons } in
         let f = child.has.offer in
-        let offer : Offer Σ' node c.goal.hole.0 c.goal.locals c.goal.family.0 (open_spine_of c.goal.indices) h child.has.head_type child.has.offered child.has.next =
+        let offer : Offer Σ' node c.goal.hole.0 c.goal.locals c.goal.family.0 (indices_of s.store.now c.goal.hole.0) h child.has.head_type child.has.offered child.has.next =
         record { typed = f.typed; kind = f.kind; kind_of = f.kind_of; spine = f.spine; indices = f.indices; offered = f.offered; bindings = f.bindings; equations = f.equations } in
         subst (λ ns. HolesAreOpen (node_of y.now (followed ns w.goals))) (sym child.subgoals_are)
-        (child_holes Σ' (canonical_is_signature es ok) node c.goal.hole.0 w.goals c.goal.locals c.goal.family.0 (open_spine_of c.goal.indices) h child.has.head_type child.has.offered child.has.next is refl w.at.stands.declared w.at.holes offer (whole [] y.now) child.child child.renews (length y.now.declared))
+        (child_holes Σ' (canonical_is_signature es ok) node c.goal.hole.0 w.goals c.goal.locals c.goal.family.0 (indices_of s.store.now c.goal.hole.0) h child.has.head_type child.has.offered child.has.next is refl w.at.stands.declared w.at.holes offer (whole [] y.now) child.child child.renews (length y.now.declared))
 
     pub node_after : (fs : List Frame) (list : ℕ) → IsGrown (frames_of s.frames) fs → ((gs : List ℕ) → GoalsAre (frames_of s.frames) c.rest gs → GoalsAre fs list (followed (reverse (map (λ (m : MetaId). m.0) subgoals)) gs)) → NodeStands es s.variables list y fs (c ∷ choices_of s) after_child
     node_after fs list g gs = record {
@@ -355,37 +354,35 @@ module _ (es : List Entry) (n list : ℕ) (y : Story) (fs : List Frame) (cs : Li
   goal_holes : HolesAreOpen (node_of y.now (f.hole.0 ∷ behind.0))
   goal_holes = subst (λ gs. HolesAreOpen (node_of y.now gs)) behind.1 w.holes
 
-  module _ (g : OpenGoal) (o : IsOpened y.now f.hole.0 g) (c : Choice) (is : c ≡ record { mark = length y.before; frames = length fs; goal = g; rest = f.next; local = 0; constant = 0 }) where
+  module _ (g : OpenGoal) (o : IsOpened y.now f.hole.0 g) where
     abbrev pub chosen : List Pending
     chosen = at_goal y.now g behind.0 (tried_heads g.locals (declared_constants es)) w.rest
 
     goals_are : w.goals ≡ g.hole.0 ∷ behind.0
     goals_are = behind.1 ∙ ap (λ m. m ∷ behind.0) (sym o.hole)
 
-    declared : types_of y.now g.hole.0 ≡ Some (goal_type g)
+    declared : types_of y.now g.hole.0 ≡ Some (goal_type y.now g)
     declared = ap (types_of y.now) o.hole ∙ o.declared
 
     pub run_chosen : SearchesFrom es agenda [] 0 chosen
     run_chosen = subst (λ a. SearchesFrom es a [] 0 (at_goal y.now g behind.0 (tried_heads g.locals (declared_constants es)) w.rest)) (sym (w.is ∙ ap (λ gs. at_node (node_of y.now gs) ∷ w.rest) goals_are))
         (one_step (signature_of es) (declared_constants es) (take_goal refl declared))
 
-    pub chosen_stands : ChoicesStand es n y fs (c ∷ cs) chosen
-    chosen_stands = subst (λ (x : Choice). ChoicesStand es n y fs (x ∷ cs) (at_goal y.now g behind.0 (tried_heads g.locals (declared_constants es)) w.rest)) (sym is) (one_choice {first = y} {older = fs} {gs = behind.0} {hs = tried_heads g.locals (declared_constants es)} {rest = w.rest} ([], refl) (grown_itself fs)
-        (record {
-          mark = refl;
-          frames = refl;
-          kept = w.kept;
-          stands = record {
-            ready = w.kept.ready;
-            node = w.kept.node;
-            declared = declared;
-            unbound = subst (Unbound (bindings_of y.now)) (sym o.hole) goal_holes.open_holes.1;
-            left = w.kept.left;
-            unreached = subst (IsUnreached y.now) (sym o.hole) (hole_unreached (node_of y.now (f.hole.0 ∷ behind.0)) f.hole.0 behind.0 refl goal_holes);
-          };
-          goals_are = behind.2;
-          declared = λ m i. w.declared m (subst (Member m) (sym behind.1) (inr i));
-          holes = subst (λ m. HolesAreOpen (node_of y.now (m ∷ behind.0))) (sym o.hole) goal_holes;
-          offered = all_offered es g.locals g.family.0 0 0 refl refl;
-        })
-        w.choices)
+    pub at_chosen : AtChoice es n y fs (record { mark = length y.before; frames = length fs; goal = g; rest = f.next; local = 0; constant = 0 }) behind.0 (tried_heads g.locals (declared_constants es))
+    at_chosen = record {
+      mark = refl;
+      frames = refl;
+      kept = w.kept;
+      stands = record {
+        ready = w.kept.ready;
+        node = w.kept.node;
+        declared = declared;
+        unbound = subst (Unbound (bindings_of y.now)) (sym o.hole) goal_holes.open_holes.1;
+        left = w.kept.left;
+        unreached = subst (IsUnreached y.now) (sym o.hole) (hole_unreached (node_of y.now (f.hole.0 ∷ behind.0)) f.hole.0 behind.0 refl goal_holes);
+      };
+      goals_are = behind.2;
+      declared = λ m i. w.declared m (subst (Member m) (sym behind.1) (inr i));
+      holes = subst (λ m. HolesAreOpen (node_of y.now (m ∷ behind.0))) (sym o.hole) goal_holes;
+      offered = all_offered es g.locals g.family.0 0 0 refl refl;
+    }

@@ -4,7 +4,7 @@ use Rattle.std.specs.Prelude.{◌≡◌, ℕ, List, [], ◌∷◌, Some, map}
 use Rattle.lf.specs.Subordination.{Member}
 use Rattle.lf.specs.Syntax.{Kind, LfType, Spine, Term, app, atom, constant, kind_pi, metavariable, nil, pi, root}
 use Rattle.lf.specs.Typing.{Signature}
-use Rattle.lf_search.specs.AppliedHeads.{AppliedHead, with_applied}
+use Rattle.lf_search.specs.AppliedHeads.{AppliedHead, spine_with_applied, with_applied}
 use Rattle.lf_unification.specs.Lists.{followed}
 use Rattle.lf_unification.specs.OpenTyping.{MetavariablesIn}
 use Rattle.lf_unification.specs.Unifiers.{Binding, Equation}
@@ -41,11 +41,12 @@ module _ (Σ : Signature) (bs : List Binding) (p : ℕ → AppliedHead) where
     no_index : {T : Spine} {K : Kind} → IndicesComeApart nil T K []
     next_index : {M N : Term} {S T : Spine} {A : LfType} {K : Kind} {es fs : List Equation} → ComesApart M N A es → IndicesComeApart S T K fs → IndicesComeApart (app M S) (app N T) (kind_pi A K) (followed es fs)
 
+module _ (Σ : Signature) (bs : List Binding) where
   mutual
     -- somewhere in the two terms constants stand in the same place that differ
     pub data Differs : Term → Term → LfType → Type 0 where
-      constants_differ : {M : Term} {S T I : Spine} {a c d : ℕ} → LeadsTo bs M (root (constant c) S) → (c ≡ d → ⊥) → Differs M (root (constant d) T) (atom a I)
-      arguments_differ : {M : Term} {S T I : Spine} {a c : ℕ} {B : LfType} → LeadsTo bs M (root (constant c) S) → Σ.types c ≡ Some B → IsPlainType B → RowDiffers S T B → Differs M (root (constant c) T) (atom a I)
+      constants_differ : {M N : Term} {S T I : Spine} {a c d : ℕ} → LeadsTo bs M (root (constant c) S) → LeadsTo bs N (root (constant d) T) → (c ≡ d → ⊥) → Differs M N (atom a I)
+      arguments_differ : {M N : Term} {S T I : Spine} {a c : ℕ} {B : LfType} → LeadsTo bs M (root (constant c) S) → LeadsTo bs N (root (constant c) T) → Σ.types c ≡ Some B → IsPlainType B → RowDiffers S T B → Differs M N (atom a I)
 
     pub data RowDiffers : Spine → Spine → LfType → Type 0 where
       differs_here : {M N : Term} {S T : Spine} {A B : LfType} → Differs M N A → RowDiffers (app M S) (app N T) (pi A B)
@@ -54,6 +55,11 @@ module _ (Σ : Signature) (bs : List Binding) (p : ℕ → AppliedHead) where
   pub data IndicesDiffer : Spine → Spine → Kind → Type 0 where
     index_differs : {M N : Term} {S T : Spine} {A : LfType} {K : Kind} → Differs M N A → IndicesDiffer (app M S) (app N T) (kind_pi A K)
     later_differs : {M N : Term} {S T : Spine} {A : LfType} {K : Kind} → IndicesDiffer S T K → IndicesDiffer (app M S) (app N T) (kind_pi A K)
+
+  -- so it is with the first of the equations, which has no local variables
+  abbrev pub FirstDiffers : List Equation → Type 0
+  FirstDiffers [] = ⊥
+  FirstDiffers (e ∷ es) = (e.local ≡ []) × Differs e.left e.right e.of_type
 
 -- the equation of a pair, with p for the variables of the clause
 abbrev pub equation_at : (ℕ → AppliedHead) → Pair → Equation
@@ -76,13 +82,13 @@ WentBeside Away old new Apart Differ = Unit {0}
 
 -- the same of two rows that a kind takes, of two rows of arguments that a type takes, and of two terms, whatever stands for the variables of the clause
 abbrev pub IndicesWent : Signature → List Binding → Spine → Spine → Kind → List Pair → List Pair → Went → Type 0
-IndicesWent Σ bs S T K old new w = WentBeside w old new (λ es. (p : ℕ → AppliedHead) → IndicesComeApart Σ bs p S T K (es p)) ((p : ℕ → AppliedHead) → IndicesDiffer Σ bs p S T K)
+IndicesWent Σ bs S T K old new w = WentBeside w old new (λ es. (p : ℕ → AppliedHead) → IndicesComeApart Σ bs p S T K (es p)) ((p : ℕ → AppliedHead) → IndicesDiffer Σ bs S (spine_with_applied p T) K)
 
 abbrev pub RowWent : Signature → List Binding → Spine → Spine → LfType → List Pair → List Pair → Went → Type 0
-RowWent Σ bs S T B old new w = WentBeside w old new (λ es. (p : ℕ → AppliedHead) → RowComesApart Σ bs p S T B (es p)) ((p : ℕ → AppliedHead) → RowDiffers Σ bs p S T B)
+RowWent Σ bs S T B old new w = WentBeside w old new (λ es. (p : ℕ → AppliedHead) → RowComesApart Σ bs p S T B (es p)) ((p : ℕ → AppliedHead) → RowDiffers Σ bs S (spine_with_applied p T) B)
 
 abbrev pub TermWent : Signature → List Binding → Term → Term → LfType → List Pair → List Pair → Went → Type 0
-TermWent Σ bs M N A old new w = WentBeside w old new (λ es. (p : ℕ → AppliedHead) → ComesApart Σ bs p M N A (es p)) ((p : ℕ → AppliedHead) → Differs Σ bs p M N A)
+TermWent Σ bs M N A old new w = WentBeside w old new (λ es. (p : ℕ → AppliedHead) → ComesApart Σ bs p M N A (es p)) ((p : ℕ → AppliedHead) → Differs Σ bs M (with_applied p N) A)
 
 -- each left side mentions only metavariables of V
 abbrev pub LeftsIn : (ℕ → Type 0) → List Equation → Type 0

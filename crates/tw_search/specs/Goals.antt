@@ -1,8 +1,9 @@
 -- A goal of a state of the store, and the heads that can be offered to it; the nodes and the agendas of goals.
-use Rattle.std.specs.Prelude.{◌≡◌, ◌⊎◌, ℕ, List, [], ◌∷◌, length, Option, Some, map, reverse}
+use Rattle.std.specs.Prelude.{◌≡◌, ◌⊎◌, ℕ, List, [], ◌∷◌, length, Option, None, Some, map, reverse}
 use Rattle.lf.specs.Subordination.{Member}
-use Rattle.lf.specs.Syntax.{Head, LfType, atom, skeleton}
+use Rattle.lf.specs.Syntax.{Head, LfType, Spine, atom, nil, skeleton}
 use Rattle.lf.specs.Typing.{Signature}
+use Rattle.lf.specs.Variables.{target_arguments}
 use Rattle.lf_unification.specs.Lists.{followed}
 use Rattle.lf_unification.specs.Offering.{pi_over}
 use Rattle.lf_unification.specs.Patterns.{skeleton_target}
@@ -15,7 +16,6 @@ use Rattle.tw_metas.specs.State.{State}
 use Rattle.tw_putting.specs.Ready.{IsReady}
 use Rattle.tw_putting.specs.Stores.{bindings_of, types_of}
 use Rattle.tw_putting.specs.Whole.{whole}
-use Rattle.tw_terms.specs.OpenView.{open_spine_of}
 use Rattle.tw_terms.specs.declared.canonical.MetaId.{MetaId}
 use Rattle.tw_search.specs.declared.goal.OpenGoal.{OpenGoal}
 
@@ -23,14 +23,23 @@ use Rattle.tw_search.specs.declared.goal.OpenGoal.{OpenGoal}
 abbrev pub IsDeclared : State → ℕ → Type 0
 IsDeclared s m = (A : LfType) × (types_of s m ≡ Some A)
 
+-- the arguments of the target of the type, where there is one
+abbrev pub arguments_in : Option LfType → Spine
+arguments_in None = nil
+arguments_in (Some A) = target_arguments A
+
+-- the indices of the goal of the hole m
+abbrev pub indices_of : State → ℕ → Spine
+indices_of s m = arguments_in (types_of s m)
+
 -- the type of the goal's hole
-abbrev pub goal_type : OpenGoal → LfType
-goal_type g = pi_over g.locals (atom g.family.0 (open_spine_of g.indices))
+abbrev pub goal_type : State → OpenGoal → LfType
+goal_type s g = pi_over g.locals (atom g.family.0 (indices_of s g.hole.0))
 
 -- the goal of the hole m
 pub record IsOpened (s : State) (m : ℕ) (g : OpenGoal) : Type 0 where
   pub hole : g.hole.0 ≡ m
-  pub declared : types_of s m ≡ Some (goal_type g)
+  pub declared : types_of s m ≡ Some (goal_type s g)
 
 -- the node of a state of the store, with these goals
 abbrev pub node_of : State → List ℕ → Node
@@ -48,7 +57,7 @@ IsUnreached s m = (e : Equation) → Member e s.equations → IsReached (types_o
 pub record StandsAtGoal (Σ : Signature) (s : State) (g : OpenGoal) : Type 0 where
   pub ready : IsReady Σ [] s
   pub node : IsNode Σ (node_of s [])
-  pub declared : types_of s g.hole.0 ≡ Some (goal_type g)
+  pub declared : types_of s g.hole.0 ≡ Some (goal_type s g)
   pub unbound : Unbound (bindings_of s) g.hole.0
   pub left : AreLeft s
   pub unreached : IsUnreached s g.hole.0
@@ -61,7 +70,7 @@ pub record IsHeadFor (Σ : Signature) (g : OpenGoal) (h : Head) : Type 0 where
 
 -- the heads that are still to be tried at a goal, in front of the rest of the agenda
 abbrev pub at_goal : State → OpenGoal → List ℕ → List Head → List Pending → List Pending
-at_goal s g gs hs rest = at_heads (node_of s (g.hole.0 ∷ gs)) g.hole.0 gs g.locals g.family.0 (open_spine_of g.indices) hs ∷ rest
+at_goal s g gs hs rest = at_heads (node_of s (g.hole.0 ∷ gs)) g.hole.0 gs g.locals g.family.0 (indices_of s g.hole.0) hs ∷ rest
 
 -- the node of a child, with the holes of its subgoals in front of the goals that were left
 abbrev pub child_node : State → List MetaId → List ℕ → Node

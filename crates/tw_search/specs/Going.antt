@@ -9,6 +9,15 @@ use Rattle.tw_search.specs.declared.step.Choice.{Choice}
 use Rattle.tw_search.specs.declared.step.Place.{Place}
 use Rattle.tw_search.specs.declared.step.Place.TheVariants as place
 use Rattle.tw_search.specs.declared.step.Step.{Step}
+use Rattle.tw_search.specs.declared.step.Step.TheVariants as step
+use Rattle.tw_search.specs.declared.step.Stop.{Stop}
+use Rattle.tw_search.specs.declared.step.Stop.TheVariants as stop
+
+-- what is shown where a search stops
+abbrev pub step_of : Stop → Step
+step_of stop.Exhausted = step.Exhausted
+step_of stop.Budget = step.Budget
+step_of stop.TooDeep = step.TooDeep
 
 -- from an agenda: it went on, where nothing is to be shown yet, or it came to what is shown, up to so many tries
 abbrev pub GoesFrom : List Entry → ℕ → Search → Search → Option Step → List Pending → Type 0

@@ -13,9 +13,8 @@ use Rattle.lf_unification.specs.Unifiers.{Equation, Store}
 use Rattle.tw_metas.specs.State.{State}
 use Rattle.tw_putting.specs.Ready.{IsReady}
 use Rattle.tw_putting.specs.Stores.{bindings_of, types_of}
-use Rattle.tw_terms.specs.OpenView.{open_spine_of}
 use Rattle.tw_terms.specs.declared.canonical.MetaId.{MetaId}
-use Rattle.tw_search.specs.Goals.{node_of}
+use Rattle.tw_search.specs.Goals.{IsDeclared, indices_of, node_of}
 use Rattle.tw_open.specs.Indices.{IndicesFit}
 use Rattle.tw_search.specs.declared.goal.OpenGoal.{OpenGoal}
 
@@ -32,16 +31,17 @@ is_variable i (constant c) = false
 is_variable i (variable j) = same_number i j
 is_variable i (metavariable m) = false
 
--- the goal's family has a kind, which takes the goal's indices
-pub record EquationsFit (Σ : Signature) (g : OpenGoal) : Type 0 where
+-- the goal's hole is declared, and its family has a kind, which takes the goal's indices
+pub record EquationsFit (Σ : Signature) (s : State) (g : OpenGoal) : Type 0 where
+  pub declared : IsDeclared s g.hole.0
   pub has_kind : Σ.kinds g.family.0 ≡ None → ⊥
-  pub fits : (K : Kind) → Σ.kinds g.family.0 ≡ Some K → IndicesFit g.locals K (open_spine_of g.indices)
+  pub fits : (K : Kind) → Σ.kinds g.family.0 ≡ Some K → IndicesFit g.locals K (indices_of s g.hole.0)
 
 -- the equations between the goal's indices and T
-pub record HasEquations (Σ : Signature) (g : OpenGoal) (T : Spine) (es : List Equation) : Type 0 where
+pub record HasEquations (Σ : Signature) (s : State) (g : OpenGoal) (T : Spine) (es : List Equation) : Type 0 where
   pub kind : Kind
   pub kind_of : Σ.kinds g.family.0 ≡ Some kind
-  pub equations : es ≡ spine_equations g.locals kind (open_spine_of g.indices) T
+  pub equations : es ≡ spine_equations g.locals kind (indices_of s g.hole.0) T
 
 -- the store with the equations that an offer adds behind those that were there
 abbrev pub offered_store : List Equation → State → Store
@@ -54,7 +54,7 @@ offered_arguments g ms A = spine_with_applied (taken_at (local_arguments g.local
 -- The head is offered to the goal: the equations `es` are to be solved, and `subgoals` are the holes of the head's subgoals, in the order of its quantifiers.
 pub record IsOffered (Σ : Signature) (old : State) (g : OpenGoal) (h : Head) (es : List Equation) (subgoals : List MetaId) (new : State) : Type 0 where
   pub head_type : LfType
-  pub offer : Offer Σ (node_of old []) g.hole.0 g.locals g.family.0 (open_spine_of g.indices) h head_type (offered_store es new) (length new.declared)
+  pub offer : Offer Σ (node_of old []) g.hole.0 g.locals g.family.0 (indices_of old g.hole.0) h head_type (offered_store es new) (length new.declared)
   pub subgoals_are : reverse (map (λ m. m.0) subgoals) ≡ holes (length old.declared) head_type
   pub postponed : new.equations ≡ old.equations
   pub well_formed : IsWellFormed Σ (offered_store es new)
@@ -62,4 +62,4 @@ pub record IsOffered (Σ : Signature) (old : State) (g : OpenGoal) (h : Head) (e
 
 -- the same with the new metavariables ms put into the target of the head, of type A: whatever the equations are
 abbrev pub OffersNew : Signature → State → OpenGoal → Head → LfType → List MetaId → List MetaId → State → Type 0
-OffersNew Σ old g h A ms subgoals new = (es : List Equation) → HasEquations Σ g (offered_arguments g ms A) es → IsOffered Σ old g h es subgoals new
+OffersNew Σ old g h A ms subgoals new = (es : List Equation) → HasEquations Σ old g (offered_arguments g ms A) es → IsOffered Σ old g h es subgoals new

@@ -17,11 +17,11 @@ use Rattle.tw_putting.specs.Ready.{IsReady}
 use Rattle.tw_putting.specs.Stores.{bindings_of, types_of}
 use Rattle.tw_putting.specs.Whole.{whole}
 use Rattle.tw_terms.specs.OpenView.{open_term_of}
-use Rattle.tw_terms.specs.View.{term_of}
+use Rattle.tw_terms.specs.View.{term_of, type_of}
 use Rattle.tw_terms.specs.declared.canonical.MetaId.{MetaId}
-use Rattle.tw_unify.specs.Reaching.{IsKnown, IsMarked, Marking}
+use Rattle.tw_unify.specs.Reaching.{IsAvoided, IsKnown, IsMarked, Marking}
 use Rattle.tw_search.specs.Applied.{taken_at}
-use Rattle.tw_search.specs.Beside.{LeftsIn, equation_at, equations_at}
+use Rattle.tw_search.specs.Beside.{LeadsTo, LeftsIn, equation_between, equations_at}
 use Rattle.tw_search.specs.Goals.{AreLeft, StandsAtGoal}
 use Rattle.tw_search.specs.Offers.{HasEquations, OffersNew, offered_arguments}
 use Rattle.tw_search.specs.Taking.{numbers_from}
@@ -65,11 +65,11 @@ Reduces (Left fs) Σ es old new = LeavesThese Σ es (map equation_of fs.items) o
 
 -- so it is with the equations of an offer of a head of type A
 abbrev pub ReducesOffer : Signature → OpenGoal → LfType → List MetaId → State → State → Reduced → Type 0
-ReducesOffer Σ g A ms old new r = (es : List unifiers.Equation) → HasEquations Σ g (offered_arguments g ms A) es → Reduces r Σ es old new
+ReducesOffer Σ g A ms old new r = (es : List unifiers.Equation) → HasEquations Σ old g (offered_arguments g ms A) es → Reduces r Σ es old new
 
 -- the equations of an offer of a head of type A are deep, with those of the store
 abbrev pub OfferedAreDeep : Signature → OpenGoal → LfType → List MetaId → State → Type 0
-OfferedAreDeep Σ g A ms t = (es : List unifiers.Equation) → HasEquations Σ g (offered_arguments g ms A) es → AreDeep depth_limit Σ (whole es t)
+OfferedAreDeep Σ g A ms t = (es : List unifiers.Equation) → HasEquations Σ t g (offered_arguments g ms A) es → AreDeep depth_limit Σ (whole es t)
 
 -- The pairs can be settled: the store is ready for their equations, and the metavariables that are reached from the goal's terms are none of ms.
 pub record CanSettle (Σ : Signature) (ms : List MetaId) (ps : List Pair) (s : State) : Type 0 where
@@ -127,10 +127,22 @@ pub record IsGiven (s : State) (ms : List MetaId) (M N : Term) (m : MetaId) : Ty
   pub open_atom : IsOpenAtom s m.0
   pub within : MetavariablesIn (λ k. Holds (is_loose s m.0 k)) (with_applied (taken_at nil ms 0) N)
 
--- The goal's metavariable that the pair's left side is is bound to the right side, or the pair's equation comes behind the others.
+-- M is the metavariable m, of an atomic type and not bound, and m is not reached from N
+pub record CanTake (s : State) (M N : Term) (m : MetaId) : Type 0 where
+  pub is : M ≡ root (metavariable m.0) nil
+  pub open_atom : IsOpenAtom s m.0
+  pub avoided : IsAvoided (types_of s) (bindings_of s) N m.0
+
+-- With the term to which N leads in its place, M is bound to it, or it to M, or their equation, of type A, comes behind the others.
+pub data GivesSides (M N : Term) (A : LfType) : List unifiers.Equation → State → List unifiers.Equation → State → Type 0 where
+  left_takes : {found : List unifiers.Equation} {s : State} (V : Term) → LeadsTo (bindings_of s) N V → (m : MetaId) → CanTake s M V m → GivesSides M N A found s found (with_value s m.0 V)
+  right_takes : {found : List unifiers.Equation} {s : State} (V : Term) → LeadsTo (bindings_of s) N V → (m : MetaId) → CanTake s V M m → GivesSides M N A found s found (with_value s m.0 M)
+  adds_equation : {found : List unifiers.Equation} {s : State} (V : Term) → LeadsTo (bindings_of s) N V → GivesSides M N A found s (found ++ equation_between M V A ∷ []) s
+
+-- The goal's metavariable that the pair's left side is is bound to the right side; or it is given as its sides are.
 pub data GivesOne (ms : List MetaId) (q : Pair) : List unifiers.Equation → State → List unifiers.Equation → State → Type 0 where
   takes_right : {found : List unifiers.Equation} {s : State} (m : MetaId) → IsGiven s ms (open_term_of q.left) (term_of q.right.now) m → GivesOne ms q found s found (with_value s m.0 (with_applied (taken_at nil ms 0) (term_of q.right.now)))
-  adds_equation : {found : List unifiers.Equation} {s : State} → GivesOne ms q found s (found ++ equation_at (taken_at nil ms 0) q ∷ []) s
+  gives_sides : {found more : List unifiers.Equation} {s t : State} → GivesSides (open_term_of q.left) (with_applied (taken_at nil ms 0) (term_of q.right.now)) (type_of q.ty.now) found s more t → GivesOne ms q found s more t
 
 -- steps lead from the equations of the pairs to fs, where the store is ready for them
 abbrev pub GivesAll : List MetaId → List Pair → List unifiers.Equation → State → State → Type 0

@@ -13,11 +13,10 @@ use Rattle.lf_unification.specs.ReachedRuns.{RunRenewsReached}
 use Rattle.tw_metas.specs.State.{State}
 use Rattle.tw_putting.specs.Ready.{IsReady}
 use Rattle.tw_putting.specs.Whole.{whole}
-use Rattle.tw_terms.specs.OpenView.{open_spine_of}
 use Rattle.tw_terms.specs.declared.canonical.MetaId.{MetaId}
 use Rattle.tw_unify.specs.declared.fault.UnifyFault.{UnifyFault}
 use Rattle.tw_unify.specs.declared.fault.UnifyFault.TheVariants.{TooDeep, NoMemory}
-use Rattle.tw_search.specs.Goals.{node_of}
+use Rattle.tw_search.specs.Goals.{indices_of, node_of}
 use Rattle.tw_search.specs.declared.goal.OpenGoal.{OpenGoal}
 
 -- the head's offer to the goal, from a state of the store
@@ -25,7 +24,7 @@ pub record HasOffer (Σ : Signature) (s : State) (g : OpenGoal) (h : Head) : Typ
   pub head_type : LfType
   pub offered : Store
   pub next : ℕ
-  pub offer : Offer Σ (node_of s []) g.hole.0 g.locals g.family.0 (open_spine_of g.indices) h head_type offered next
+  pub offer : Offer Σ (node_of s []) g.hole.0 g.locals g.family.0 (indices_of s g.hole.0) h head_type offered next
 
 -- what is offered has no typed unifier
 pub record NeverFits (Σ : Signature) (s : State) (g : OpenGoal) (h : Head) : Type 0 where

@@ -1,5 +1,5 @@
 //! The arguments of a goal without local variables beside those of a constant's type: what can be seen without changing anything.
-ghost use Rattle.std.specs.Prelude.{IfOk, IfSome};
+ghost use Rattle.std.specs.Prelude.{◌≡◌, IfOk, IfSome};
 ghost use Rattle.lf.specs.Entries.{signature_of};
 ghost use Rattle.lf.specs.Syntax.{constant, root};
 ghost use Rattle.lf.specs.Typing.{Signature as Theory};
@@ -142,13 +142,34 @@ fn keep<'a>(
     requires { ValuesAreBound store.now.now }
     ensures { IfOk result (λ w. (Σ : Theory) → TermWent Σ (bindings_of store.now.now) (open_term_of left.now) (term_of right.now) (type_of ty.now) pairs.old.items pairs.new.items w) }
 {
-    let left = nearest(store, left).copy(alloc)?;
+    let left = copied(alloc, nearest(store, left))?;
     pairs.push(Pair { left, right, ty })?;
     Ok(Went::On)
 }
 
+/// An equal term. A head alone is made anew.
+fn copied(alloc: Global, term: &Open) -> Result<Open, AllocError>
+    ensures { IfOk result (λ m. open_term_of m ≡ open_term_of term.now) }
+{
+    match term {
+        Open::Root(head, spine) => {
+            if spine.args.is_empty() {
+                let none = OpenSpine {
+                    args: Vec::new(alloc),
+                };
+                return Ok(Open::Root(*head, none));
+            }
+            term.copy(alloc)
+        }
+        Open::Lam(_) => term.copy(alloc),
+    }
+}
+
 /// The constant root that a term leads to.
-fn constant_root<'b>(store: &'b Store, term: &'b Open) -> Option<(ConstId, &'b OpenSpine)>
+pub(crate) fn constant_root<'b>(
+    store: &'b Store,
+    term: &'b Open,
+) -> Option<(ConstId, &'b OpenSpine)>
     requires { ValuesAreBound store.now.now }
     ensures { IfSome result (λ r. LeadsTo (bindings_of store.now.now) (open_term_of term.now) (root (constant r.0.0) (open_spine_of r.1.now))) }
 {
@@ -169,7 +190,7 @@ fn constant_root<'b>(store: &'b Store, term: &'b Open) -> Option<(ConstId, &'b O
 }
 
 /// The last of the metavariables without arguments to which the term leads, so that what is bound to it leads no further than that one did.
-fn nearest<'b>(store: &'b Store, term: &'b Open) -> &'b Open
+pub(crate) fn nearest<'b>(store: &'b Store, term: &'b Open) -> &'b Open
     requires { ValuesAreBound store.now.now }
     ensures { LeadsTo (bindings_of store.now.now) (open_term_of term.now) (open_term_of result.now) }
 {

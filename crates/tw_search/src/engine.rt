@@ -1,5 +1,5 @@
-//! The steps of the engine: a goal is chosen, its heads are tried one after the other, and a leaf is shown.
-ghost use Rattle.std.specs.Prelude.{◌≡◌, ◌+◌, ◌-◌, ◌≤◌, ◌<◌, ◌∷◌, [], ℕ, IfOk, List, MatchOption, None, OnErr, OnOk, Option, Some, drop, length, reverse};
+//! The steps of the engine: at a goal the heads are tried one after the other, and a leaf is shown.
+ghost use Rattle.std.specs.Prelude.{◌≡◌, ◌+◌, ◌-◌, ◌≤◌, ◌<◌, ◌∷◌, [], ℕ, IfOk, List, MatchOption, None, OnErr, OnOk, Option, Some, drop, length, option_map, reverse};
 ghost use Rattle.lf.specs.Entries.{Entry};
 ghost use Rattle.lf.specs.Syntax.{LfType};
 ghost use Rattle.lf_unification.specs.Search.{Pending};
@@ -7,8 +7,8 @@ ghost use Rattle.tw_metas.specs.State.{Story, states};
 ghost use Rattle.tw_terms.specs.View.{head_of};
 ghost use Rattle.tw_unify.specs.Reaching.{IsKnown, marking_of};
 ghost use Rattle.tw_search.specs.Chains.{IsFirst, frames_of};
-ghost use Rattle.tw_search.specs.Going.{GivesOut, GivesOutTrying, GivesOutUp, Goes, GoesUp, Nears, NearsBelow, Tried};
-ghost use Rattle.tw_search.specs.Standing.{Came, IsAt, IsTakenUp, TriesHead, WentOn};
+ghost use Rattle.tw_search.specs.Going.{GivesOut, GivesOutTrying, GivesOutUp, Goes, GoesUp, Nears, NearsBelow, Tried, step_of};
+ghost use Rattle.tw_search.specs.Standing.{Came, IsAt, IsTakenUp, TriesHead};
 ghost use Rattle.tw_search.specs.declared.step.Place.TheVariants as places;
 
 use crate::answer::read_answer;
@@ -17,7 +17,7 @@ use crate::frames::Frame;
 use crate::goal::open_goal;
 use crate::left::first_equation;
 use crate::search::Search;
-use crate::step::{Choice, End, Place, Step};
+use crate::step::{Choice, End, Place, Step, Stop};
 use crate::trying::{attempt, heads_clash};
 use std::alloc::{AllocError, Global};
 use tw_hered::HeredFault;
@@ -27,64 +27,22 @@ use tw_terms::Head;
 use tw_unify::{UnifyFault, Walk};
 
 impl Search {
-    /// One step of the engine. None where there is nothing to show yet.
-    pub(crate) fn advance(
+    /// At the first goal of a node, which is not a leaf, the heads are tried at once.
+    pub(crate) fn enter(
         &mut self,
         alloc: Global,
         signature: &Signature,
         last: u64,
-    ) -> Result<Option<Step>, AllocError>
-        requires at { (agenda : List Pending) × IsAt signature.now self.old agenda }
-        requires within { self.old.tries ≤ last }
-        ensures goes { IfOk result (λ o. Goes signature.now last self.old self.new o) }
-        ensures gave_out { OnErr result (GivesOut signature.now last self.old self.new) }
-        ensures nears { IfOk result (λ o. Nears last self.old self.new o) }
-    {
-        match self.place {
-            Place::Node(list) => self.enter(alloc, signature, last, list),
-            Place::Heads => self.retry(alloc, signature, last),
-            Place::Over(_) => unreachable!(),
-        }
-    }
-
-    /// At a node its first goal is chosen; without goals it is a leaf.
-    fn enter(
-        &mut self,
-        alloc: Global,
-        signature: &Signature,
-        last: u64,
-        list: usize,
-    ) -> Result<Option<Step>, AllocError>
-        requires place { self.old.place ≡ places.Node list }
-        requires at { (agenda : List Pending) × IsAt signature.now self.old agenda }
-        requires within { self.old.tries ≤ last }
-        ensures goes { IfOk result (λ o. Goes signature.now last self.old self.new o) }
-        ensures gave_out { OnErr result (GivesOut signature.now last self.old self.new) }
-        ensures nears { IfOk result (λ o. Nears last self.old self.new o) }
-    {
-        match self.frames.first(list) {
-            Some(frame) => {
-                self.choose(alloc, signature, list, frame)?;
-                Ok(None)
-            }
-            None => Ok(Some(self.leaf(alloc, signature, list)?)),
-        }
-    }
-
-    /// All heads are to be tried at the first goal of the node.
-    fn choose(
-        &mut self,
-        alloc: Global,
-        signature: &Signature,
         list: usize,
         frame: Frame,
-    ) -> Result<(), AllocError>
+    ) -> Result<Option<Stop>, AllocError>
         requires place { self.old.place ≡ places.Node list }
         requires first { IsFirst (frames_of self.old.frames) list (Some frame) }
         requires at { (agenda : List Pending) × IsAt signature.now self.old agenda }
-        ensures gave_out { OnErr result (self.new.tries ≡ self.old.tries) }
-        ensures went { OnOk result ((agenda : List Pending) → IsAt signature.now self.old agenda → WentOn signature.now self.old self.new agenda) }
-        ensures nears { OnOk result ((last : ℕ) → self.old.tries ≤ last → Nears last self.old self.new None) }
+        requires within { self.old.tries ≤ last }
+        ensures goes { IfOk result (λ o. Goes signature.now last self.old self.new (option_map step_of o)) }
+        ensures gave_out { OnErr result (GivesOut signature.now last self.old self.new) }
+        ensures nears { IfOk result (λ o. Nears last self.old self.new (option_map step_of o)) }
     {
         let goal = open_goal(alloc, &self.store, frame.hole)?;
         let choice = Choice {
@@ -95,13 +53,12 @@ impl Search {
             local: 0,
             constant: 0,
         };
-        push_choice(&mut self.choices, choice)?;
         self.place = Place::Heads;
-        Ok(())
+        self.take_up(alloc, signature, last, choice)
     }
 
     /// What is shown of a leaf.
-    fn leaf(
+    pub(crate) fn leaf(
         &mut self,
         alloc: Global,
         signature: &Signature,
@@ -146,23 +103,23 @@ impl Search {
     }
 
     /// The next head at the newest choice point.
-    fn retry(
+    pub(crate) fn retry(
         &mut self,
         alloc: Global,
         signature: &Signature,
         last: u64,
-    ) -> Result<Option<Step>, AllocError>
+    ) -> Result<Option<Stop>, AllocError>
         requires place { self.old.place ≡ places.Heads }
         requires at { (agenda : List Pending) × IsAt signature.now self.old agenda }
         requires within { self.old.tries ≤ last }
-        ensures goes { IfOk result (λ o. Goes signature.now last self.old self.new o) }
+        ensures goes { IfOk result (λ o. Goes signature.now last self.old self.new (option_map step_of o)) }
         ensures gave_out { OnErr result (GivesOut signature.now last self.old self.new) }
-        ensures nears { IfOk result (λ o. Nears last self.old self.new o) }
+        ensures nears { IfOk result (λ o. Nears last self.old self.new (option_map step_of o)) }
     {
         match pop_choice(&mut self.choices) {
             None => {
                 self.place = Place::Over(End::Exhausted);
-                Ok(Some(Step::Exhausted))
+                Ok(Some(Stop::Exhausted))
             }
             Some(choice) => {
                 forget(alloc, &mut self.met, &self.store, &choice.mark);
@@ -181,13 +138,13 @@ impl Search {
         signature: &Signature,
         last: u64,
         choice: Choice,
-    ) -> Result<Option<Step>, AllocError>
+    ) -> Result<Option<Stop>, AllocError>
         requires place { self.old.place ≡ places.Heads }
         requires up { (agenda : List Pending) × IsTakenUp signature.now self.old choice agenda }
         requires within { self.old.tries ≤ last }
-        ensures goes { IfOk result (λ o. GoesUp signature.now last self.old self.new choice o) }
+        ensures goes { IfOk result (λ o. GoesUp signature.now last self.old self.new choice (option_map step_of o)) }
         ensures gave_out { OnErr result (GivesOutUp signature.now last self.old self.new choice) }
-        ensures nears { IfOk result (λ o. NearsBelow last self.old self.new o) }
+        ensures nears { IfOk result (λ o. NearsBelow last self.old self.new (option_map step_of o)) }
     {
         signature.is_canonical();
         let mut choice = choice;
@@ -204,7 +161,7 @@ impl Search {
                 Some(next) => {
                     if self.tries == last {
                         push_choice(&mut self.choices, choice)?;
-                        return Ok(Some(Step::Budget));
+                        return Ok(Some(Stop::Budget));
                     }
                     choice.local = next.local;
                     choice.constant = next.constant;
@@ -226,13 +183,13 @@ impl Search {
         last: u64,
         choice: Choice,
         head: Head,
-    ) -> Result<Option<Step>, AllocError>
+    ) -> Result<Option<Stop>, AllocError>
         requires place { self.old.place ≡ places.Heads }
         requires tries { (agenda : List Pending) × TriesHead signature.now self.old choice (head_of head) agenda }
         requires within { self.old.tries < last }
-        ensures tried { IfOk result (λ o. Tried signature.now last self.old self.new choice (head_of head) o) }
+        ensures tried { IfOk result (λ o. Tried signature.now last self.old self.new choice (head_of head) (option_map step_of o)) }
         ensures gave_out { OnErr result (GivesOutTrying signature.now last self.old self.new choice (head_of head)) }
-        ensures nears { IfOk result (λ o. NearsBelow last self.old self.new o) }
+        ensures nears { IfOk result (λ o. NearsBelow last self.old self.new (option_map step_of o)) }
     {
         signature.is_canonical();
         match attempt(
@@ -257,7 +214,7 @@ impl Search {
             }
             Err(UnifyFault::TooDeep) => {
                 self.place = Place::Over(End::TooDeep);
-                Ok(Some(Step::TooDeep))
+                Ok(Some(Stop::TooDeep))
             }
             Err(UnifyFault::NoMemory) => Err(AllocError),
         }
@@ -270,7 +227,7 @@ fn forget(alloc: Global, met: &mut Walk, store: &Store, mark: &Mark)
     ensures { (y : Story) → states y ≡ drop (length store.now.before - mark.now) (states store.now) → IsKnown y.now (marking_of met.new) }
 {
     if !store.is_at(mark) {
-        *met = Walk::new(alloc);
+        met.forget(alloc);
     }
 }
 

@@ -11,7 +11,5 @@ pub(crate) fn pass_over(alloc: Global, met: &mut Walk, meta: MetaId)
     ensures unmarked { IsMarked (marking_of met.new) meta.0 → ⊥ }
     ensures known { (s : State) → IsKnown s (marking_of met.old) → IsKnown s (marking_of met.new) }
 {
-    if met.is_marked(meta) {
-        *met = Walk::new(alloc);
-    }
+    met.forget_with(alloc, meta);
 }

@@ -1,27 +1,30 @@
-//! What a goal's metavariable can take of the clause at once it takes: constants, on new metavariables that aren't bound yet.
+//! What a goal's metavariable can take of the clause at once it takes: constants, on new metavariables that aren't bound yet. Where a new one is bound already, the one side takes the other if it is a metavariable.
 ghost use Rattle.std.specs.Prelude.{◌≡◌, IfOk, IfSome, OnOk, map};
 ghost use Rattle.std.specs.Bool.{OnTrue};
 ghost use Rattle.lf.specs.Syntax.{nil};
 ghost use Rattle.lf_search.specs.AppliedHeads.{spine_with_applied, with_applied};
 ghost use Rattle.lf_unification.specs.OpenTyping.{MetavariablesIn, MetavariablesInSpine};
 ghost use Rattle.lf_unification.specs.Outside.{Holds};
+ghost use Rattle.tw_metas.specs.State.{IsUnbound, with_value};
 ghost use Rattle.tw_metas.specs.View.{equation_of};
 ghost use Rattle.tw_putting.specs.Ready.{IsLater};
+ghost use Rattle.tw_putting.specs.Stores.{bindings_of};
 ghost use Rattle.tw_putting.specs.Whole.{IsConsistent};
 ghost use Rattle.tw_terms.specs.OpenView.{open_spine_of, open_term_of, open_type_of};
-ghost use Rattle.tw_terms.specs.View.{spine_of, term_of};
+ghost use Rattle.tw_terms.specs.View.{spine_of, term_of, type_of};
 ghost use Rattle.tw_unify.specs.Reaching.{IsKnown, marking_of};
 ghost use Rattle.tw_search.specs.Applied.{taken_at};
-ghost use Rattle.tw_search.specs.Reducing.{GivesAll, GivesOne, IsAtom, IsGiven, IsNewFor, IsOpenAtom, is_loose};
+ghost use Rattle.tw_search.specs.Beside.{LeadsTo};
+ghost use Rattle.tw_search.specs.Reducing.{CanTake, GivesAll, GivesOne, GivesSides, IsAtom, IsGiven, IsNewFor, IsOpenAtom, is_loose};
 
-use crate::beside::Pair;
+use crate::beside::{Pair, nearest};
 use crate::closed_placing::closed_term_over;
 use crate::forgetting::pass_over;
 use std::alloc::{AllocError, Global};
 use tw_metas::{Equation, Store};
 use tw_putting::open_type;
-use tw_terms::{Head, MetaId, Open, OpenContext, OpenHead, OpenSpine, OpenTy, Spine, Term};
-use tw_unify::Walk;
+use tw_terms::{Head, MetaId, Open, OpenContext, OpenHead, OpenSpine, OpenTy, Spine, Term, Ty};
+use tw_unify::{Walk, is_avoided_at_once};
 
 /// Binds the goal's metavariables that the pairs allow to be bound at once, in order, and gives the equations of the other pairs. What the occurs check met before is forgotten where such a metavariable is of it.
 pub(crate) fn give<'a>(
@@ -33,6 +36,7 @@ pub(crate) fn give<'a>(
 ) -> Result<Vec<Equation>, AllocError>
     requires { IsConsistent store.old.now }
     ensures ok { IfOk result (λ v. GivesAll metas.now pairs.entry.items (map equation_of v.items) store.old.now store.new.now) }
+    ensures consistent { IsConsistent store.new.now }
     ensures known { OnOk result (IsKnown store.old.now (marking_of met.old) → IsKnown store.new.now (marking_of met.new)) }
     ensures story { IsLater store.old store.new }
 {
@@ -67,20 +71,91 @@ fn give_one<'a>(
 {
     let right = closed_term_over(alloc, arguments, metas, 0, pair.right)?;
     match given(store, metas, &pair.left, pair.right) {
-        Some(meta) => {
-            pass_over(alloc, met, meta);
-            store.bind(meta, right)
+        Some(meta) => take(alloc, store, met, meta, right),
+        None => give_sides(alloc, store, met, pair.left, right, pair.ty, found),
+    }
+}
+
+/// Binds the one side to the other, where that is a metavariable that allows it at once, or adds the equation of the sides. The right one is taken as far as it leads.
+fn give_sides(
+    alloc: Global,
+    store: &mut Store,
+    met: &mut Walk,
+    left: Open,
+    right: Open,
+    ty: &Ty,
+    found: &mut Vec<Equation>,
+) -> Result<(), AllocError>
+    requires { IsConsistent store.old.now }
+    ensures ok { OnOk result (GivesSides (open_term_of left) (open_term_of right) (type_of ty.now) (map equation_of found.old.items) store.old.now (map equation_of found.new.items) store.new.now) }
+    ensures consistent { IsConsistent store.new.now }
+    ensures known { OnOk result (IsKnown store.old.now (marking_of met.old) → IsKnown store.new.now (marking_of met.new)) }
+    ensures story { IsLater store.old store.new }
+{
+    let near = led(alloc, store, right)?;
+    if let Some(meta) = taker_of(store, &left, &near) {
+        return take(alloc, store, met, meta, near);
+    }
+    if let Some(meta) = taker_of(store, &near, &left) {
+        return take(alloc, store, met, meta, left);
+    }
+    let ty = open_type(alloc, ty)?;
+    found.push(Equation {
+        context: OpenContext::new(alloc),
+        left,
+        right: near,
+        ty,
+    })?;
+    Ok(())
+}
+
+/// Binds the metavariable. What was met before is forgotten where it is of it.
+fn take(
+    alloc: Global,
+    store: &mut Store,
+    met: &mut Walk,
+    meta: MetaId,
+    value: Open,
+) -> Result<(), AllocError>
+    requires consistent { IsConsistent store.old.now }
+    requires unbound { IsUnbound store.old.now meta.0 }
+    ensures ok { OnOk result (store.new.now ≡ with_value store.old.now meta.0 (open_term_of value)) }
+    ensures consistent { IsConsistent store.new.now }
+    ensures known { OnOk result (IsKnown store.old.now (marking_of met.old) → IsKnown store.new.now (marking_of met.new)) }
+    ensures story { IsLater store.old store.new }
+{
+    pass_over(alloc, met, meta);
+    store.bind(meta, value)
+}
+
+/// The last metavariable without arguments to which the term leads, or the term, which moves.
+fn led(alloc: Global, store: &Store, term: Open) -> Result<Open, AllocError>
+    requires { IsConsistent store.now.now }
+    ensures { IfOk result (λ v. LeadsTo (bindings_of store.now.now) (open_term_of term) (open_term_of v)) }
+{
+    match term {
+        Open::Root(OpenHead::Meta(_), _) => nearest(store, &term).copy(alloc),
+        _ => Ok(term),
+    }
+}
+
+/// The metavariable that the side is, where it is of an atom and not bound yet, and a glance shows that it isn't reached from the other side.
+fn taker_of(store: &Store, side: &Open, other: &Open) -> Option<MetaId>
+    requires { IsConsistent store.now.now }
+    ensures { IfSome result (λ m. CanTake store.now.now (open_term_of side.now) (open_term_of other.now) m) }
+{
+    match side {
+        Open::Root(OpenHead::Meta(meta), spine) => {
+            if spine.args.is_empty()
+                && is_open_atom(store, *meta)
+                && is_avoided_at_once(store, other, *meta)
+            {
+                Some(*meta)
+            } else {
+                None
+            }
         }
-        None => {
-            let ty = open_type(alloc, pair.ty)?;
-            found.push(Equation {
-                context: OpenContext::new(alloc),
-                left: pair.left,
-                right,
-                ty,
-            })?;
-            Ok(())
-        }
+        _ => None,
     }
 }
 

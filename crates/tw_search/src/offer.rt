@@ -20,7 +20,7 @@ ghost use Rattle.tw_open.specs.Fits.{TypeStands};
 ghost use Rattle.tw_open.specs.View.{made_with};
 ghost use Rattle.tw_search.specs.Taking.{numbers_from};
 
-use crate::goal::OpenGoal;
+use crate::goal::{OpenGoal, indices};
 use crate::head_type::{HeadType, placed_arguments, target_arguments};
 use crate::taking::{Taken, take_all};
 use std::alloc::{AllocError, Global};
@@ -78,24 +78,28 @@ pub(crate) fn offer<'a>(
 /// The equations of the goal's arguments and those of the head's target, with the new metavariables put in. Answers `TooDeep` only where the type of one of them is deeper than 4,096.
 pub(crate) fn equations<'a>(
     alloc: Global,
+    store: &Store,
     signature: &Signature,
     goal: &OpenGoal,
     offered: &Offered,
     ty: HeadType<'a>,
 ) -> Result<Vec<Equation>, HeredFault>
-    requires fits { EquationsFit (signature_of signature.now) goal.now }
+    requires fits { EquationsFit (signature_of signature.now) store.now.now goal.now }
     requires arguments { open_spine_of offered.now.arguments ≡ local_arguments_of goal.now.locals }
-    ensures ok { IfOk result (λ v. HasEquations (signature_of signature.now) goal.now (offered_arguments goal.now offered.now.metas.items (head_type_of ty.entry)) (map equation_of v.items)) }
-    ensures too_deep { IsErrOf result HeredFault.TooDeep → (es : List unifiers.Equation) → HasEquations (signature_of signature.now) goal.now (offered_arguments goal.now offered.now.metas.items (head_type_of ty.entry)) es → HasDeepType depth_limit es }
+    ensures ok { IfOk result (λ v. HasEquations (signature_of signature.now) store.now.now goal.now (offered_arguments goal.now offered.now.metas.items (head_type_of ty.entry)) (map equation_of v.items)) }
+    ensures too_deep { IsErrOf result HeredFault.TooDeep → (es : List unifiers.Equation) → HasEquations (signature_of signature.now) store.now.now goal.now (offered_arguments goal.now offered.now.metas.items (head_type_of ty.entry)) es → HasDeepType depth_limit es }
 {
-    let indices = placed_arguments(
+    let arguments = placed_arguments(
         alloc,
         &offered.arguments,
         &offered.metas,
         target_arguments(ty),
     )?;
     match signature.family_kind(goal.family) {
-        Some(kind) => kind_equations(alloc, &goal.locals, kind, &goal.indices, indices),
+        Some(kind) => {
+            let left = indices(store, goal.hole);
+            kind_equations(alloc, &goal.locals, kind, left, arguments)
+        }
         None => unreachable!(),
     }
 }

@@ -13,8 +13,9 @@ ghost use Rattle.tw_unify.specs.Reaching.{marking_of};
 ghost use Rattle.tw_search.specs.Reducing.{IsTaker, KeepsKnown, OfferedAreDeep, ReducesOffer, SettlesAll, SettlesOne, StaysKnown, WasOffered};
 
 use crate::beside::{Pair, Went, indices_beside};
+use crate::differing::first_differs;
 use crate::giving::{give, is_open_atom, new_for};
-use crate::goal::OpenGoal;
+use crate::goal::{OpenGoal, indices};
 use crate::head_type::{Arguments, HeadType, target_arguments};
 use crate::offer::{Offered, equations};
 use std::alloc::{AllocError, Global};
@@ -89,19 +90,25 @@ fn reduce_closed<'a>(
     if !is_plain(kind) {
         return as_they_are(alloc, store, signature, goal, offered, ty);
     }
-    let mut pairs = Vec::with_capacity(alloc, spine.args.len())?;
+    let room = offered.metas.len().saturating_add(spine.args.len());
+    let mut pairs = Vec::with_capacity(alloc, room)?;
     match indices_beside(
         alloc,
         store,
         signature,
         kind,
-        &goal.indices,
+        indices(store, goal.hole),
         spine,
         &mut pairs,
     )? {
         Went::On => {
             let left = settle(alloc, store, &offered.metas, pairs)?;
-            Ok(Reduced::Left(give(alloc, store, met, &offered.metas, left)?))
+            let equations = give(alloc, store, met, &offered.metas, left)?;
+            if first_differs(store, signature, &equations) {
+                Ok(Reduced::Never)
+            } else {
+                Ok(Reduced::Left(equations))
+            }
         }
         Went::Clash => Ok(Reduced::Never),
         Went::Away => as_they_are(alloc, store, signature, goal, offered, ty),
@@ -123,7 +130,7 @@ fn as_they_are<'a>(
     ensures too_deep { IsErrOf result HeredFault.TooDeep → OfferedAreDeep (signature_of signature.now) goal.now (head_type_of ty.entry) offered.now.metas.items store.now.now }
 {
     signature.is_canonical();
-    Ok(Reduced::Left(equations(alloc, signature, goal, offered, ty)?))
+    Ok(Reduced::Left(equations(alloc, store, signature, goal, offered, ty)?))
 }
 
 /// Binds the new metavariables that the pairs allow to be bound at once, in order, and gives the other pairs.

@@ -7,13 +7,13 @@ ghost use Rattle.lf_unification.specs.Search.{Node, Pending, at_node};
 ghost use Rattle.lf_search.specs.Goals.{root_of};
 ghost use Rattle.tw_signature.specs.Goal.{Goal as Asked, goal_of};
 ghost use Rattle.tw_terms.specs.View.{type_of};
-ghost use Rattle.tw_search.specs.Going.{GivesOut};
+ghost use Rattle.tw_search.specs.Going.{GivesOut, step_of};
 ghost use Rattle.tw_search.specs.Standing.{Came, GaveOut, IsAt, IsOver, IsSearch, Stands, StepIs, tries_of};
 ghost use Rattle.tw_search.specs.declared.step.End.TheVariants as ends;
 
 use crate::frames::Frames;
 use crate::root::declare_root;
-use crate::step::{Choice, End, Place, Step};
+use crate::step::{Choice, End, Place, Step, Stop};
 use std::alloc::{AllocError, Global};
 use tw_metas::Store;
 use tw_signature::{Goal, Signature};
@@ -124,9 +124,22 @@ impl Search {
         ensures came { IfOk result (λ s. (G : List LfType) → length G ≡ self.old.variables → (agenda : List Pending) → IsAt signature.now self.old agenda → Came signature.now G self.old self.new agenda (last - self.old.tries) s) }
         ensures gave_out { OnErr result (GivesOut signature.now last self.old self.new) }
     {
-        loop {
-            if let Some(step) = self.advance(alloc, signature, last)? {
-                return Ok(step);
+        'steps: loop {
+            match self.place {
+                Place::Node(list) => match self.frames.first(list) {
+                    Some(frame) => {
+                        if let Some(stop) = self.enter(alloc, signature, last, list, frame)? {
+                            return Ok(shown(stop));
+                        }
+                    }
+                    None => return self.leaf(alloc, signature, list),
+                },
+                Place::Heads => {
+                    if let Some(stop) = self.retry(alloc, signature, last)? {
+                        return Ok(shown(stop));
+                    }
+                }
+                Place::Over(_) => unreachable!(),
             }
         }
     }
@@ -143,5 +156,16 @@ fn over(end: End) -> Result<Step, AllocError>
         End::Exhausted => Ok(Step::Exhausted),
         End::TooDeep => Ok(Step::TooDeep),
         End::NoMemory => Err(AllocError),
+    }
+}
+
+/// What is shown where a search stops.
+fn shown(stop: Stop) -> Step
+    ensures { result ≡ step_of stop }
+{
+    match stop {
+        Stop::Exhausted => Step::Exhausted,
+        Stop::Budget => Step::Budget,
+        Stop::TooDeep => Step::TooDeep,
     }
 }

@@ -18,6 +18,14 @@ pub enum Step {
     TooDeep,
 }
 
+/// Why a search stops without a leaf to show.
+#[derive(Clone, Copy, PartialEq, Eq, Debug)]
+pub(crate) enum Stop {
+    Exhausted,
+    Budget,
+    TooDeep,
+}
+
 /// Why a search is over.
 #[derive(Clone, Copy, PartialEq, Eq, Debug)]
 pub(crate) enum End {

@@ -12,12 +12,12 @@ ghost use Rattle.tw_search.specs.HeadTypes.{head_type_of};
 ghost use Rattle.tw_search.specs.Reducing.{IsAtom};
 ghost use Rattle.tw_search.specs.Taking.{TakesAll, numbers_from};
 
-use crate::giving::is_atom;
+use crate::closed_placing::closed_spine_over;
 use crate::head_type::{HeadType, Part, first_level, placed_type};
 use std::alloc::{AllocError, Global};
 use tw_metas::Store;
 use tw_open::{local_arguments, new_term_of};
-use tw_terms::{MetaId, Open, OpenContext, OpenHead, OpenSpine, OpenTy};
+use tw_terms::{MetaId, Open, OpenContext, OpenHead, OpenSpine, OpenTy, Ty};
 
 /// What a head is applied to: the new metavariables in eta-long form, their numbers, and the local variables that each of them stands on.
 #[derive(Drop)]
@@ -40,29 +40,37 @@ fn take_one<'a>(
     ensures number { IfOk result (λ p. p.0.0 ≡ length store.old.now.declared) }
     ensures keeps { OnlyDeclares store.old store.new }
 {
-    let ty = placed_type(alloc, arguments, metas, domain)?;
     if locals.len() == 0 {
-        return take_closed(alloc, store, locals, ty);
+        return take_closed(alloc, store, locals, arguments, metas, domain);
     }
+    let ty = placed_type(alloc, arguments, metas, domain)?;
     new_term_of(alloc, store, locals, ty)
 }
 
-/// The same where no local variable is in scope.
-fn take_closed(
+/// The same where no local variable is in scope. Of an atom no type is placed part by part.
+fn take_closed<'a>(
     alloc: Global,
     store: &mut Store,
     locals: &OpenContext,
-    ty: OpenTy,
+    arguments: &OpenSpine,
+    metas: &[MetaId],
+    domain: HeadType<'a>,
 ) -> Result<(MetaId, Open), AllocError>
     requires { locals.now ≡ [] }
-    ensures ok { IfOk result (λ p. IsNew locals.now (open_type_of ty) (open_term_of p.1) store.old.now store.new.now) }
+    ensures ok { IfOk result (λ p. IsNew locals.now (type_with_applied (taken_at (open_spine_of arguments.now) metas.now 0) (head_type_of domain.entry)) (open_term_of p.1) store.old.now store.new.now) }
     ensures number { IfOk result (λ p. p.0.0 ≡ length store.old.now.declared) }
     ensures keeps { OnlyDeclares store.old store.new }
 {
-    if is_atom(&ty) {
-        return take_atom(alloc, store, locals, ty);
+    match domain {
+        HeadType::Closed(Ty::Atom(family, spine)) => {
+            let spine = closed_spine_over(alloc, arguments, metas, 0, spine)?;
+            take_atom(alloc, store, locals, OpenTy::Atom(*family, spine))
+        }
+        _ => {
+            let ty = placed_type(alloc, arguments, metas, domain)?;
+            new_term_of(alloc, store, locals, ty)
+        }
     }
-    new_term_of(alloc, store, locals, ty)
 }
 
 /// The same of an atom: the metavariable is declared at once, and is its own eta-long form.
@@ -85,6 +93,18 @@ fn take_atom(
     Ok((meta, Open::Root(OpenHead::Meta(meta), spine)))
 }
 
+/// The local variables as arguments.
+fn arguments_on(alloc: Global, locals: &OpenContext) -> Result<OpenSpine, AllocError>
+    ensures { IfOk result (λ s. open_spine_of s ≡ local_arguments_of locals.now) }
+{
+    if locals.len() == 0 {
+        return Ok(OpenSpine {
+            args: Vec::new(alloc),
+        });
+    }
+    local_arguments(alloc, locals)
+}
+
 /// New metavariables for all quantifiers of the type. There is room for so many at once. It fails only for want of memory.
 pub(crate) fn take_all<'a>(
     alloc: Global,
@@ -99,7 +119,7 @@ pub(crate) fn take_all<'a>(
     ensures metas { IfOk result (λ t. map (λ m. m.0) t.metas.items ≡ numbers_from (length store.old.now.declared) (head_type_of ty.entry)) }
     ensures keeps { OnlyDeclares store.old store.new }
 {
-    let arguments = local_arguments(alloc, locals)?;
+    let arguments = arguments_on(alloc, locals)?;
     let mut metas = Vec::with_capacity(alloc, room)?;
     let mut args = Vec::with_capacity(alloc, room)?;
     let mut rest = ty;

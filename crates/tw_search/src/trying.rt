@@ -13,13 +13,12 @@ ghost use Rattle.tw_search.specs.Tries.{IsTried, NeverFits, TriesDeep};
 
 use crate::clash::{clashes, local_clashes};
 use crate::forgetting::pass_over;
-use crate::goal::OpenGoal;
+use crate::goal::{OpenGoal, indices};
 use crate::head_type::HeadType;
 use crate::occurs::open_shape_of;
 use crate::offer::offer;
 use crate::reducing::{Reduced, reduce};
 use std::alloc::{AllocError, Global};
-use tw_clause::shape_of;
 use tw_metas::Store;
 use tw_putting::shift_type;
 use tw_signature::Signature;
@@ -46,21 +45,18 @@ pub(crate) fn attempt(
 {
     signature.is_canonical();
     match head {
-        Head::Const(id) => match signature.constant_type(id) {
-            Some(ty) => {
-                let variables = shape_of(alloc, ty)?;
-                attempt_at(
-                    alloc,
-                    store,
-                    signature,
-                    met,
-                    goal,
-                    head,
-                    HeadType::Closed(ty),
-                    &variables,
-                )
-            }
-            None => unreachable!(),
+        Head::Const(id) => match (signature.constant_type(id), signature.constant_marks(id)) {
+            (Some(ty), Some(variables)) => attempt_at(
+                alloc,
+                store,
+                signature,
+                met,
+                goal,
+                head,
+                HeadType::Closed(ty),
+                variables,
+            ),
+            _ => unreachable!(),
         },
         Head::Var(variable) => match goal.locals.get(variable) {
             Some(ty) => {
@@ -131,12 +127,12 @@ pub(crate) fn heads_clash(store: &Store, signature: &Signature, goal: &OpenGoal,
     signature.is_canonical();
     match head {
         Head::Const(id) => match signature.constant_type(id) {
-            Some(ty) => clashes(store, &goal.indices, ty),
+            Some(ty) => clashes(store, indices(store, goal.hole), ty),
             None => false,
         },
         Head::Var(variable) => match goal.locals.get(variable) {
             Some(ty) => match variable.checked_add(1) {
-                Some(by) => local_clashes(store, &goal.indices, ty, by),
+                Some(by) => local_clashes(store, indices(store, goal.hole), ty, by),
                 None => false,
             },
             None => false,

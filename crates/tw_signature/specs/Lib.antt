@@ -3,3 +3,5 @@ pub mod Names
 pub mod Codes
 pub mod Constants
 pub mod Goal
+pub mod Marks
+pub mod Kept

@@ -1,8 +1,10 @@
 //! The entries of a signature. Contracts see an entry as the plain one of the crate `lf`, through the views in `specs/View.antt`.
 ghost use Rattle.std.specs.Prelude.{◌≡◌, IfOk, option_map};
 ghost use Rattle.lf.specs.Constants.{family_of as family_of_body};
+ghost use Rattle.tw_signature.specs.Kept.{marks_of};
 ghost use Rattle.tw_signature.specs.View.{body_of, entry_of};
 
+use crate::shape::shape_of;
 use std::alloc::{AllocError, Global};
 use tw_fixity::{Name, copy_options};
 use tw_terms::{ConstId, Kind, Term, Ty, target};
@@ -38,6 +40,16 @@ impl Body {
         match self {
             Body::Constant(ty) => Some(target(ty)),
             Body::Family(_) | Body::Defined { .. } => None,
+        }
+    }
+
+    /// For each leading quantifier of a declared constant's type, the outermost first, whether it is a variable; a family and a definition have no marks. Fails only for want of memory.
+    pub(crate) fn marks(&self, alloc: Global) -> Result<Vec<bool>, AllocError>
+        ensures { IfOk result (λ marks. marks.items ≡ marks_of (body_of self.now)) }
+    {
+        match self {
+            Body::Constant(ty) => shape_of(alloc, ty),
+            Body::Family(_) | Body::Defined { .. } => Ok(Vec::new(alloc)),
         }
     }
 

@@ -2,6 +2,7 @@
 ghost use Rattle.std.specs.Prelude.{◌≡◌, ◌∷◌, [], OnErr, OnOk, IfOk, option_map, length, map};
 ghost use Rattle.lf.specs.Entries.{entry as entry_numbered, signature_of, IsCanonicalEntry, IsCanonicalSignature};
 ghost use Rattle.lf.specs.Constants.{constants_of as constants_of_family};
+ghost use Rattle.lf_checks.specs.Parts.{shape};
 ghost use Rattle.tw_terms.specs.View.{type_of, kind_of};
 ghost use Rattle.tw_signature.specs.View.{entry_of};
 ghost use Rattle.tw_signature.specs.Names.{number_of};
@@ -21,6 +22,8 @@ pub struct Signature {
     /// The number of the newest entry of each name.
     newest: IndexMap<Vec<u8>, u64>,
     constants: Constants,
+    /// For each entry which quantifiers of its type are variables, if it is a declared constant.
+    marks: Vec<Vec<bool>>,
 }
 
 impl Model for Signature {
@@ -40,8 +43,9 @@ impl Model for Signature {
     ghost view = { λ s. entries_of s.entries.items };
 
     ghost use Rattle.tw_signature.specs.Constants.{AreKept};
+    ghost use Rattle.tw_signature.specs.Kept.{MarksAreKept};
 
-    ghost invariant = { λ s. IsCanonicalSignature (entries_of s.entries.items) × ((name : List ℕ) → number_at s.newest name ≡ number_of (entries_of s.entries.items) name) × AreKept s.constants (entries_of s.entries.items) };
+    ghost invariant = { λ s. IsCanonicalSignature (entries_of s.entries.items) × ((name : List ℕ) → number_at s.newest name ≡ number_of (entries_of s.entries.items) name) × AreKept s.constants (entries_of s.entries.items) × MarksAreKept s.marks.items s.entries.items };
 }
 
 impl Signature {
@@ -53,6 +57,7 @@ impl Signature {
             entries: Vec::new(alloc),
             newest: IndexMap::new(alloc),
             constants: Constants::new(alloc),
+            marks: Vec::new(alloc),
         }
     }
 
@@ -77,6 +82,18 @@ impl Signature {
         match &self.entry(id)?.body {
             Body::Constant(ty) => Some(ty),
             Body::Family(_) | Body::Defined { .. } => None,
+        }
+    }
+
+    /// For each leading quantifier of a declared constant's type, the outermost first, whether it is a variable. They are made once, when the constant is
+    /// added, so to ask for them takes no memory. A definition has none.
+    pub fn constant_marks(&self, id: ConstId) -> Option<&[bool]>
+        ensures { option_map (λ m. m.now) result ≡ option_map shape ((signature_of self.now).types id.0) }
+    {
+        self.constant_type(id)?;
+        match self.marks.get(id.0 as usize) {
+            Some(marks) => Some(marks.as_slice()),
+            None => unreachable!(),
         }
     }
 
@@ -123,11 +140,14 @@ impl Signature {
     {
         let number = self.len();
         let family = entry.body.family();
+        let marks = entry.body.marks(*self.entries.allocator())?;
         self.entries.reserve(1)?;
         self.constants.reserve(family)?;
+        self.marks.reserve(1)?;
         let name = Vec::from_slice(*self.entries.allocator(), entry.name.as_bytes())?;
         self.newest.insert(name, number)?;
         self.entries.push(entry)?;
+        self.marks.push(marks)?;
         self.constants.add(family, ConstId(number));
         Ok(ConstId(number))
     }

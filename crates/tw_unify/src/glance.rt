@@ -10,7 +10,7 @@ use tw_metas::Store;
 use tw_terms::{MetaId, Open, OpenHead, OpenTy};
 
 /// How many terms a glance visits at most.
-const VISITS: u32 = 24;
+const VISITS: u32 = 96;
 
 /// Whether a glance shows that the metavariable is not reached from the term: few terms stand in it and in the values of
 /// the metavariables that it meets, and each of these is another one, whose type has no arguments. Takes no memory.

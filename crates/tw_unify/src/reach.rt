@@ -1,5 +1,6 @@
 //! The occurs check, which goes through types and values.
 ghost use Rattle.std.specs.Prelude.{◌≡◌, ℕ, ◌⊎◌, [], OnOk, IfOk, MatchBool};
+ghost use Rattle.std.specs.Bool.{OnTrue};
 ghost use Rattle.std.specs.HashSet.{IsEmpty};
 ghost use Rattle.lf_unification.specs.OpenTyping.{MetavariablesIn, MetavariablesInSpine, MetavariablesInType};
 ghost use Rattle.lf_unification.specs.Reach.{Mentions, SpineMentions, TypeMentions, IsReached};
@@ -97,6 +98,34 @@ impl Walk {
         ensures { MatchBool result (IsMarked (marking_of self.now) meta.0) (IsMarked (marking_of self.now) meta.0 → ⊥) }
     {
         !self.marks.is_empty() && self.marks.contains(&meta.0)
+    }
+
+    /// Whether nothing was met, so that nothing is known that could be lost.
+    pub fn is_empty(&self) -> bool
+        ensures { OnTrue result ((s : State) → IsKnown s (marking_of self.now)) }
+    {
+        self.marks.is_empty() && self.due.is_empty()
+    }
+
+    /// Forgets all that was met. Where nothing was met it makes nothing.
+    pub fn forget(&mut self, alloc: Global)
+        ensures { (s : State) → IsKnown s (marking_of self.new) }
+    {
+        if !self.is_empty() {
+            *self = Walk::new(alloc);
+        }
+    }
+
+    /// Forgets all that was met where the metavariable is of it.
+    pub fn forget_with(&mut self, alloc: Global, meta: MetaId)
+        ensures unmarked { IsMarked (marking_of self.new) meta.0 → ⊥ }
+        ensures closed { (s : State) → IsClosed (types_of s) (bindings_of s) (marking_of self.old) → IsClosed (types_of s) (bindings_of s) (marking_of self.new) }
+        ensures known { (s : State) → IsKnown s (marking_of self.old) → IsKnown s (marking_of self.new) }
+        ensures fewer { (k : ℕ) → IsMarked (marking_of self.new) k → IsMarked (marking_of self.old) k }
+    {
+        if self.is_marked(meta) {
+            *self = Walk::new(alloc);
+        }
     }
 
     /// Goes through the type of a metavariable.

@@ -110,7 +110,7 @@ fn at_flexible(
             Ok(Advance::Bound(taken))
         }
         None => {
-            *met = Walk::new(alloc);
+            met.forget(alloc);
             at_patterns(alloc, store, signature, work, equation)
         }
     }

@@ -74,7 +74,7 @@ fn takes_whole(
                 return Ok(None);
             }
             if is_avoided_at_once(store, right, *meta) {
-                forget_met(alloc, met, *meta);
+                met.forget_with(alloc, *meta);
                 return Ok(Some(*meta));
             }
             if is_reached_now(alloc, store, met, right, *meta)? {
@@ -84,17 +84,6 @@ fn takes_whole(
             }
         }
         _ => Ok(None),
-    }
-}
-
-/// Forgets all that was met where the metavariable is of it.
-fn forget_met(alloc: Global, met: &mut Walk, meta: MetaId)
-    ensures unmarked { IsMarked (marking_of met.new) meta.0 → ⊥ }
-    ensures closed { (s : State) → IsClosed (types_of s) (bindings_of s) (marking_of met.old) → IsClosed (types_of s) (bindings_of s) (marking_of met.new) }
-    ensures fewer { (k : ℕ) → IsMarked (marking_of met.new) k → IsMarked (marking_of met.old) k }
-{
-    if met.is_marked(meta) {
-        *met = Walk::new(alloc);
     }
 }
 

@@ -20,7 +20,7 @@ use Rattle.tw_world.specs.Faults.{fault_of}
 use Rattle.tw_world.specs.declared.check.Check.{Check}
 use Rattle.tw_world.specs.declared.fault.WorldFault.{WorldFault}
 use Rattle.tw_world.specs.declared.fault.WorldFault.TheVariants.{Fault, NoMemory, TooDeep}
-use Rattle.tw_clause.proofs.Marking.{same_not, same_self}
+use Rattle.tw_signature.proofs.Marking.{same_not, same_self}
 
 -- Lists.
 nothing_behind : {A : Type 0} (xs : List A) → xs ++ [] ≡ xs

@@ -24,7 +24,7 @@ use Rattle.lf_checks.specs.Tests.{both, either, is_in}
 use Rattle.tw_clause.specs.Patterns.{heads, newest}
 use Rattle.tw_world.specs.Finding.{abstracted, arguments_of, first_of, inverted, nearer, standing, to_front, value_in, value_in_spine, value_in_type}
 use Rattle.lf.proofs.Checker.{number_is}
-use Rattle.tw_clause.proofs.Marking.{same_not, same_self}
+use Rattle.tw_signature.proofs.Marking.{same_not, same_self}
 use Rattle.tw_clause.proofs.Patterns.{newest_out}
 use Rattle.lf.proofs.AtOnce.{shift_zero}
 use Rattle.lf.proofs.Uses.{uses_renamed}

@@ -7,7 +7,7 @@ use Rattle.lf.specs.Syntax.{Term, lambda, rename, rename_head, variable}
 use Rattle.lf.specs.Variables.{same_number}
 use Rattle.lf.proofs.AtOnce.{lift_renaming_by_bound, lift_renaming_by_free}
 use Rattle.tw_world.specs.Finding.{abstracted, to_front}
-use Rattle.tw_clause.proofs.Marking.{same_not, same_self}
+use Rattle.tw_signature.proofs.Marking.{same_not, same_self}
 
 pub front_same : (y j : ℕ) → j ≡ y → to_front y j ≡ zero
 front_same y j e = ap (λ b. cond b zero (suc j)) (ap (same_number j) (sym e) ∙ same_self j)

@@ -7,7 +7,7 @@ use Rattle.lf.specs.Syntax.{LfType}
 use Rattle.lf.specs.Variables.{same_number, target}
 use Rattle.lf_checks.specs.WorldFaults.{WorldRow, worlds_of}
 use Rattle.tw_world.specs.Serving.{is_below_target}
-use Rattle.tw_clause.proofs.Marking.{same_not, same_self}
+use Rattle.tw_signature.proofs.Marking.{same_not, same_self}
 
 -- from one element on
 pub mapped_at : {X A : Type 0} (f : X → A) (xs : List X) (k : ℕ) (x : X) → k < length xs → x ≡ get_or xs k x → map f (drop k xs) ≡ f x ∷ map f (drop (k + 1) xs)

@@ -12,7 +12,7 @@ use Rattle.tw_hered.specs.declared.fault.HeredFault.{HeredFault}
 use Rattle.tw_world.specs.Sequences.{Adds, Extends, OpenAt, SequenceGoesDeep, Stands, StandsDeep, TableAt, first_said, none_said, says}
 use Rattle.tw_world.proofs.Joining.{drop_first}
 use Rattle.lf.proofs.Checker.{number_is}
-use Rattle.tw_clause.proofs.Marking.{same_not, same_self}
+use Rattle.tw_signature.proofs.Marking.{same_not, same_self}
 
 -- One place of the table.
 pub said_after : (t : List Bool) (p k : ℕ) → p < length t → says (set t p true) k ≡ cond (same_number k p) true (says t k)

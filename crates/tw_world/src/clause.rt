@@ -12,8 +12,8 @@ ghost use Rattle.tw_world.specs.Checks.{ClauseGoesDeep, ClauseOutcome, HasTypedB
 use crate::check::Check;
 use crate::subgoal::{subgoal_is_worlded, under_quantifiers};
 use std::alloc::Global;
-use tw_clause::shape_of;
 use tw_hered::HeredFault;
+use tw_signature::shape_of;
 use tw_terms::numbers::one_more;
 use tw_terms::{Context, Ty, weaken};
 

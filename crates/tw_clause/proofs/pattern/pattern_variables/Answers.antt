@@ -4,7 +4,7 @@ use Rattle.lf_checks.specs.Strict.{is_bound, pattern_arguments}
 use Rattle.tw_terms.specs.View.{args_of, spine_of, term_of}
 use Rattle.tw_terms.proofs.Args.{types}
 use Rattle.tw_clause.specs.Patterns.{heads, newest_of}
-use Rattle.tw_clause.proofs.Marking.{args_at}
+use Rattle.tw_signature.proofs.Marking.{args_at}
 use Rattle.tw_clause.proofs.Patterns.{heads_done, heads_next, pattern_done, pattern_fails, pattern_next}
 use Rattle.tw_clause.proofs.pattern.pattern_variables.Goals.{in_default-via-in-Some+in_ok-is_unseen+else-branch, in_default-via-in_default}
 use Rattle.tw_clause.proofs.pattern.pattern_variables.Goals as goal

@@ -1,5 +1,5 @@
 use Rattle.std.proofs.Common.{◌+◌, ◌∙◌, ap, ap₂}
-use Rattle.tw_clause.proofs.Marking.{on_ok}
+use Rattle.tw_signature.proofs.Marking.{on_ok}
 use Rattle.tw_terms.specs.View.{spine_of}
 use Rattle.tw_mode.specs.Rows.{marks_in}
 use Rattle.tw_mode.proofs.Reaching.{solved_marked}

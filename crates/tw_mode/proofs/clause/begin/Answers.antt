@@ -2,7 +2,7 @@ use Rattle.std.proofs.Common.{◌∙◌, ◌-◌, ap, ap₂, false, length, refl
 use Rattle.lf.specs.Variables.{nothing, target, target_arguments}
 use Rattle.lf_checks.specs.Marks.{input_places}
 use Rattle.lf_checks.specs.Strict.{strict_at}
-use Rattle.tw_clause.specs.Marks.{marked}
+use Rattle.tw_signature.specs.Marks.{marked}
 use Rattle.tw_terms.specs.View.{type_of}
 use Rattle.tw_mode.specs.Rows.{marks_in}
 use Rattle.tw_mode.specs.Scopes.{in_marks}

@@ -3,8 +3,8 @@ use Rattle.std.specs.Prelude.{not}
 use Rattle.lf.specs.Variables.{target, target_arguments}
 use Rattle.lf_checks.specs.Marks.{free_places}
 use Rattle.lf_checks.specs.Modes.{occurs_at}
-use Rattle.tw_clause.proofs.Marking.{marked_length}
-use Rattle.tw_clause.specs.Marks.{marked}
+use Rattle.tw_signature.proofs.Marking.{marked_length}
+use Rattle.tw_signature.specs.Marks.{marked}
 use Rattle.tw_terms.specs.View.{type_of}
 use Rattle.tw_terms.proofs.Args.{types}
 use Rattle.tw_mode.specs.Rows.{marks_in}

@@ -1,6 +1,6 @@
 use Rattle.std.proofs.Common.{◌∙◌, ap}
 use Rattle.lf_checks.specs.Marks.{output_places}
-use Rattle.tw_clause.proofs.Marking.{on_ok}
+use Rattle.tw_signature.proofs.Marking.{on_ok}
 use Rattle.tw_terms.specs.View.{type_of}
 use Rattle.tw_mode.specs.Rows.{marks_in}
 use Rattle.tw_clause.specs.Patterns.{newest}

@@ -1,8 +1,8 @@
 use Rattle.std.proofs.Common.{◌≡◌, ◌∙◌, ap, arith, length, subst, true}
 use Rattle.lf_unification.specs.Search.{occurs_spine}
 use Rattle.lf_checks.specs.Modes.{occurs_at}
-use Rattle.tw_clause.proofs.Marking.{marked_length}
-use Rattle.tw_clause.specs.Marks.{marked}
+use Rattle.tw_signature.proofs.Marking.{marked_length}
+use Rattle.tw_signature.specs.Marks.{marked}
 use Rattle.tw_terms.specs.View.{spine_of}
 use Rattle.tw_terms.proofs.Args.{types}
 use Rattle.tw_mode.specs.Allowed.{allowed_in}

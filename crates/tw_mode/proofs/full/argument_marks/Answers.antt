@@ -1,7 +1,7 @@
 use Rattle.std.proofs.Common.{◌≡◌, ◌∙◌, ◌+◌, ◌++◌, ap, arith, drop, map, reverse}
 use Rattle.lf_checks.specs.ModeForms.{argument_marks as marks_of_spine, variable_mark as mark_of_variable}
 use Rattle.tw_clause.specs.View.{mark_of}
-use Rattle.tw_clause.proofs.Marking.{args_at}
+use Rattle.tw_signature.proofs.Marking.{args_at}
 use Rattle.tw_terms.specs.View.{args_of, spine_of, term_of}
 use Rattle.tw_terms.proofs.Args.{types}
 use Rattle.tw_mode.proofs.Placing.{placed_all, placed_next}

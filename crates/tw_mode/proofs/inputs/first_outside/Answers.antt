@@ -1,5 +1,5 @@
 use Rattle.std.proofs.Common.{◌≡◌, ◌+◌, ◌∙◌, ap, arith, drop, get_or, suc, subst, sym, Some, None}
-use Rattle.tw_clause.proofs.Marking.{args_at}
+use Rattle.tw_signature.proofs.Marking.{args_at}
 use Rattle.tw_terms.specs.View.{args_of, spine_of, term_of}
 use Rattle.tw_terms.proofs.Args.{types}
 use Rattle.tw_mode.specs.Allowed.{allowed_in}

@@ -5,7 +5,7 @@ use Rattle.tw_clause.specs.View.{block_of}
 use Rattle.tw_terms.specs.View.{type_of}
 use Rattle.tw_mode.specs.Listing.{is_of}
 use Rattle.tw_mode.proofs.Listing.{entry_left, entry_pushed}
-use Rattle.tw_clause.proofs.Marking.{same_not, same_self}
+use Rattle.tw_signature.proofs.Marking.{same_not, same_self}
 use Rattle.tw_mode.proofs.listed.list_entry.Goals as goal
 
 pub returns-then-target-family : goal.returns-then-target-family

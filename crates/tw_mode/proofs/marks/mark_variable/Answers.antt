@@ -1,6 +1,6 @@
 use Rattle.std.proofs.Common.{◌∙◌, ap, arith}
-use Rattle.tw_clause.proofs.Marking.{marked_variable, marked_outside}
-use Rattle.tw_clause.specs.Marks.{marked}
+use Rattle.tw_signature.proofs.Marking.{marked_variable, marked_outside}
+use Rattle.tw_signature.specs.Marks.{marked}
 use Rattle.tw_mode.proofs.Sets.{same_turned}
 use Rattle.tw_mode.proofs.marks.mark_variable.Goals as goal
 use mathlib.Core.Path.{fun_ext}

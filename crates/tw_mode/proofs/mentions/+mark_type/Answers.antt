@@ -2,7 +2,7 @@ use Rattle.std.proofs.Common.{◌≡◌, arith}
 use Rattle.lf.specs.Syntax.{pi}
 use Rattle.tw_terms.specs.View.{type_of}
 use Rattle.tw_terms.proofs.Args.{types}
-use Rattle.tw_clause.proofs.Marking.{on_ok, pi_marked}
+use Rattle.tw_signature.proofs.Marking.{on_ok, pi_marked}
 use Rattle.tw_mode.proofs.mentions.+mark_type.Goals as goal
 
 pub returns-in_ok-mark_type-in-Pi : goal.returns-in_ok-mark_type-in-Pi

@@ -1,8 +1,8 @@
 use Rattle.std.proofs.Common.{◌+◌, ◌∙◌, ap, arith, drop, get_or, length}
 use Rattle.lf_unification.specs.Search.{occurs}
 use Rattle.lf_checks.specs.Tests.{both}
-use Rattle.tw_clause.specs.Marks.{marked}
-use Rattle.tw_clause.proofs.Marking.{args_at, marked_length}
+use Rattle.tw_signature.specs.Marks.{marked}
+use Rattle.tw_signature.proofs.Marking.{args_at, marked_length}
 use Rattle.tw_terms.specs.View.{args_of, spine_of, term_of}
 use Rattle.tw_terms.proofs.Args.{types}
 use Rattle.tw_mode.proofs.Mentioning.{place_next, places_done}

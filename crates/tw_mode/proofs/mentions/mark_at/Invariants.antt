@@ -1,7 +1,7 @@
 use Rattle.std.proofs.Common.{◌≡◌, drop, length}
 use Rattle.tw_terms.specs.View.{args_of}
 use Rattle.lf_checks.specs.Modes.{occurs_at}
-use Rattle.tw_clause.specs.Marks.{marked}
+use Rattle.tw_signature.specs.Marks.{marked}
 use Rattle.tw_mode.proofs.mentions.mark_at.Given as goal
 
 abbrev pub invariant-loop-place : goal.invariant-loop-place

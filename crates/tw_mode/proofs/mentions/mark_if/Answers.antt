@@ -1,5 +1,5 @@
 use Rattle.tw_terms.specs.View.{term_of}
-use Rattle.tw_clause.proofs.Marking.{on_ok}
+use Rattle.tw_signature.proofs.Marking.{on_ok}
 use Rattle.tw_mode.proofs.Mentioning.{chosen_one, not_chosen}
 use Rattle.tw_mode.proofs.mentions.mark_if.Goals as goal
 

@@ -1,6 +1,6 @@
 use Rattle.std.proofs.Common.{◌≡◌, arith}
 use Rattle.lf.specs.Syntax.{atom, pi}
-use Rattle.tw_clause.proofs.Marking.{on_ok}
+use Rattle.tw_signature.proofs.Marking.{on_ok}
 use Rattle.tw_terms.specs.View.{spine_of, type_of}
 use Rattle.tw_terms.proofs.Args.{types}
 use Rattle.tw_mode.specs.Scopes.{bound_in, fixed_in}

@@ -1,6 +1,6 @@
 use Rattle.tw_mode.specs.Scopes.{bound_in, fixed_in}
 use Rattle.tw_terms.specs.View.{term_of}
-use Rattle.tw_clause.proofs.Marking.{on_ok}
+use Rattle.tw_signature.proofs.Marking.{on_ok}
 use Rattle.tw_mode.proofs.Strictness.{chosen_one, not_chosen}
 use Rattle.tw_mode.proofs.places.mark_strict_if.Goals as goal
 

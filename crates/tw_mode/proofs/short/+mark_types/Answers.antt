@@ -3,7 +3,7 @@ use Rattle.std.proofs.lemmas.Grind.{common_steps}
 use Rattle.lf.specs.Syntax.{kind_pi, star}
 use Rattle.tw_clause.specs.declared.name.Mark3.{Mark3}
 use Rattle.tw_clause.specs.View.{mark_of}
-use Rattle.tw_clause.proofs.Marking.{on_ok}
+use Rattle.tw_signature.proofs.Marking.{on_ok}
 use Rattle.tw_terms.specs.View.{kind_of, type_of}
 use Rattle.tw_terms.proofs.Args.{types}
 use Rattle.tw_mode.specs.Rows.{places_with}

@@ -2,7 +2,7 @@ use Rattle.std.proofs.Common.{◌≡◌, ◌+◌, ◌∙◌, ap, arith, length, 
 use Rattle.lf.specs.Syntax.{lambda, root, constant, variable}
 use Rattle.tw_terms.specs.View.{term_of, spine_of, args_of}
 use Rattle.tw_terms.proofs.Args.{types}
-use Rattle.tw_clause.proofs.Marking.{on_ok, marked_length, args_at}
+use Rattle.tw_signature.proofs.Marking.{on_ok, marked_length, args_at}
 use Rattle.tw_mode.specs.Scopes.{bound_in, fixed_in}
 use Rattle.tw_mode.proofs.Strictness.{strict_constant, strict_done, strict_flexible, strict_lambda, strict_next, strict_rigid}
 use Rattle.tw_mode.proofs.strict.+strict.Goals as goal

@@ -1,7 +1,7 @@
 use Rattle.std.proofs.Common.{◌≡◌, drop, length}
 use Rattle.tw_terms.specs.View.{args_of}
 use Rattle.lf_checks.specs.Strict.{strict_spine}
-use Rattle.tw_clause.specs.Marks.{marked}
+use Rattle.tw_signature.specs.Marks.{marked}
 use Rattle.tw_mode.specs.Scopes.{bound_in, fixed_in}
 use Rattle.tw_mode.proofs.strict.+strict.Given as goal
 

@@ -2,7 +2,7 @@ use Rattle.std.proofs.Common.{◌≡◌, ◌+◌, arith, drop, false, subst, tru
 use Rattle.std.specs.Prelude.{Decides}
 use Rattle.lf.specs.Syntax.{lambda}
 use Rattle.lf.specs.Variables.{UsesSpine}
-use Rattle.tw_clause.proofs.Marking.{args_at}
+use Rattle.tw_signature.proofs.Marking.{args_at}
 use Rattle.tw_terms.specs.View.{args_of, spine_of, term_of}
 use Rattle.tw_terms.proofs.Args.{types}
 use Rattle.tw_mode.specs.Allowed.{allowed_in}

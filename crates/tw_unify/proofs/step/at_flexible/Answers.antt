@@ -29,4 +29,4 @@ returns-in_ok-taken-in-Some-clause-known c =
 
 pub returns-in-None-clause-known : goal.returns-in-None-clause-known
 returns-in-None-clause-known c =
-    on_ok_anyway c.at_patterns.result (c.new.ensures.known c.at_patterns.new.store.now)
+    on_ok_anyway c.at_patterns.result (c.forget.ensures c.at_patterns.new.store.now)

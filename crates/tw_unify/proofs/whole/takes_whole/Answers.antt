@@ -29,4 +29,4 @@ returns-then-is_avoided_at_once-clause-binds c =
     binds_whole s (open_term_of c.args.left.now) N c.requires.fits m is avoided
 
 pub returns-then-is_avoided_at_once-clause-closed : goal.returns-then-is_avoided_at_once-clause-closed
-returns-then-is_avoided_at_once-clause-closed c = c.forget_met.ensures.closed c.args.store.now.now c.requires.closed
+returns-then-is_avoided_at_once-clause-closed c = c.forget_with.ensures.closed c.args.store.now.now c.requires.closed

@@ -3,7 +3,7 @@ use Rattle.std.specs.Prelude.{cond}
 use Rattle.lf.specs.Variables.{same_number}
 use Rattle.tw_terms.specs.View.{spine_of, term_of}
 use Rattle.tw_world.specs.Finding.{standing}
-use Rattle.tw_clause.proofs.Marking.{same_not, same_self}
+use Rattle.tw_signature.proofs.Marking.{same_not, same_self}
 use Rattle.tw_clause.proofs.Patterns.{on_value}
 use Rattle.tw_world.proofs.finding.value_here.Goals as goal
 

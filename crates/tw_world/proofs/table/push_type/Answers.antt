@@ -1,6 +1,6 @@
 use Rattle.std.proofs.Common.{◌∙◌, ◌∷◌, ap}
 use Rattle.tw_terms.specs.View.{type_of}
-use Rattle.tw_clause.proofs.Marking.{on_ok}
+use Rattle.tw_signature.proofs.Marking.{on_ok}
 use Rattle.tw_world.proofs.Tables.{none_within, type_pushed}
 use Rattle.tw_world.proofs.table.push_type.Goals as goal
 

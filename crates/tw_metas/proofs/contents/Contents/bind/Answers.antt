@@ -1,7 +1,11 @@
-use Rattle.std.proofs.Common.{map}
-use Rattle.tw_metas.specs.View.{declaration_of, kept_equation_of}
-use Rattle.tw_metas.proofs.States.{bound_state}
+use Rattle.std.proofs.Common.{reverse, map, refl, ap, Some}
+use Rattle.tw_metas.specs.View.{bound_by, declaration_of, kept_equation_of}
+use Rattle.tw_metas.proofs.States.{valued_state}
+use Rattle.tw_metas.specs.declared.contents.Metavariable.{Metavariable}
 use Rattle.tw_metas.proofs.contents.Contents.bind.Goals as goal
 
-pub returns-clause-ok : goal.returns-clause-ok
-returns-clause-ok c = bound_state (map declaration_of c.args.self.now.declared.items) c.args.self.now.values.items c.args.self.now.bound.items c.push.new.self.items (map kept_equation_of c.args.self.now.equations.items) c.args.meta c.args.value c.in_ok-push.ensures.items
+pub returns-clause-state : goal.returns-clause-state
+returns-clause-state c =
+    let found : Metavariable = c.index_mut.result.now in
+    let given : Metavariable = record { context = found.context; ty = found.ty; value = Some c.args.value } in
+    valued_state c.args.self.now.metas.items _ c.args.meta given found (bound_by (reverse c.args.self.now.trail.items)) (map kept_equation_of c.args.self.now.equations.items) refl (ap declaration_of c.index_mut.ensures.value)

@@ -1,7 +1,7 @@
-use Rattle.std.proofs.Common.{◌-◌, refl, reverse}
+use Rattle.std.proofs.Common.{◌-◌, option_map, refl, reverse}
 use Rattle.std.proofs.lemmas.Result.{IfOk-weaker, on_err_weaker}
 use Rattle.tw_search.specs.Chains.{frames_of}
-use Rattle.tw_search.specs.Going.{Goes, GoesUp}
+use Rattle.tw_search.specs.Going.{Goes, GoesUp, step_of}
 use Rattle.tw_search.specs.Standing.{choices_of}
 use Rattle.tw_search.specs.declared.search.Search.{Search}
 use Rattle.tw_search.proofs.Going.{goes_from_same}
@@ -36,8 +36,8 @@ returns-in-Some-clause-goes c =
     let new = c.take_up.new.self in
     let es = c.args.signature.now in
     let back : Search = record { store = c.undo_to.new.self; frames = c.shrink_to.new.self; choices = c.pop_choice.new.choices; met = c.forget.new.met; place = old.place; variables = old.variables; goal = old.goal; tries = old.tries } in
-    IfOk-weaker c.take_up.result (λ o. GoesUp es c.args.last back new c.in-Some.choice o) (λ o. Goes es c.args.last old new o)
-    (λ o up agenda w. goes_from_same es c.args.last old back new o agenda refl refl refl
+    IfOk-weaker c.take_up.result (λ o. GoesUp es c.args.last back new c.in-Some.choice (option_map step_of o)) (λ o. Goes es c.args.last old new (option_map step_of o))
+    (λ o up agenda w. goes_from_same es c.args.last old back new (option_map step_of o) agenda refl refl refl
     (up agenda (taken_up es old.store (frames_of old.frames) c.in-Some.choice (reverse c.pop_choice.new.choices.items) (choices_of old) agenda back c.in-Some.ensures (at_choices es old agenda c.requires.place w) c.undo_to.ensures c.shrink_to.ensures refl (c.forget.ensures c.undo_to.new.self c.undo_to.ensures))))
     c.take_up.ensures.goes
 

@@ -1,9 +1,9 @@
-use Rattle.std.proofs.Common.{Some, None, refl, subst, arith}
+use Rattle.std.proofs.Common.{Some, None, option_map, refl, subst, arith}
 use Rattle.std.specs.Bool.{OnTrue}
 use Rattle.std.proofs.lemmas.Result.{IfOk-weaker, on_err_weaker}
 use Rattle.lf.specs.Entries.{signature_of}
 use Rattle.tw_terms.specs.View.{head_of}
-use Rattle.tw_search.specs.Going.{GivesOutUp, GoesUp, NearsBelow, Tried}
+use Rattle.tw_search.specs.Going.{GivesOutUp, GoesUp, NearsBelow, Tried, step_of}
 use Rattle.tw_search.specs.Tries.{NeverFits}
 use Rattle.tw_search.specs.declared.step.Choice.{Choice}
 use Rattle.tw_search.specs.declared.step.Step.TheVariants as step
@@ -73,8 +73,8 @@ returns-else-heads_clash-clause-goes c =
     let new = c.try_head.new.self in
     let k = head_of c.in-Some.next.head in
     let behind : Choice = record c.heads.choice { local = c.in-Some.next.local; constant = c.in-Some.next.constant } in
-    IfOk-weaker c.try_head.result (λ o. Tried es c.args.last s new behind k o) (λ o. GoesUp es c.args.last first new c.args.choice o)
-    (λ o tried agenda w. goes_trying es first s c.heads.choice agenda (c.heads.invariant.passed agenda w) k c.in-Some.next.local c.in-Some.next.constant c.in-Some.ensures behind refl c.args.last new o c.heads.invariant.within tried)
+    IfOk-weaker c.try_head.result (λ o. Tried es c.args.last s new behind k (option_map step_of o)) (λ o. GoesUp es c.args.last first new c.args.choice (option_map step_of o))
+    (λ o tried agenda w. goes_trying es first s c.heads.choice agenda (c.heads.invariant.passed agenda w) k c.in-Some.next.local c.in-Some.next.constant c.in-Some.ensures behind refl c.args.last new (option_map step_of o) c.heads.invariant.within tried)
     c.try_head.ensures.tried
 
 pub returns-else-heads_clash-clause-gave_out : goal.returns-else-heads_clash-clause-gave_out
@@ -92,7 +92,7 @@ returns-else-heads_clash-clause-nears c =
     let new = c.try_head.new.self in
     let (agenda, w) = c.requires.up in
     let grow = tries_grow c.args.signature.now first s c.heads.choice agenda (c.heads.invariant.passed agenda w) in
-    IfOk-weaker c.try_head.result (λ o. NearsBelow c.args.last s new o) (λ o. NearsBelow c.args.last first new o) (λ o b. below_after c.args.last first s new o grow c.heads.invariant.choices b) c.try_head.ensures.nears
+    IfOk-weaker c.try_head.result (λ o. NearsBelow c.args.last s new (option_map step_of o)) (λ o. NearsBelow c.args.last first new (option_map step_of o)) (λ o b. below_after c.args.last first s new (option_map step_of o) grow c.heads.invariant.choices b) c.try_head.ensures.nears
 
 pub heads-preserved : goal.heads-preserved
 heads-preserved c =

@@ -4,6 +4,7 @@ use Rattle.tw_signature.specs.View.{entry_of, entries_of}
 use Rattle.tw_signature.specs.Constants.{numbers_of, with_constant}
 use Rattle.tw_signature.proofs.FamilyConstants.{family_within, kept}
 use Rattle.tw_signature.proofs.Numbers.{length-entries_of}
+use Rattle.tw_signature.proofs.KeptMarks.{marks_added}
 use Rattle.tw_signature.proofs.NewestNames.{added}
 use Rattle.tw_signature.proofs.signature.Signature.add.Goals as goal
 
@@ -26,4 +27,5 @@ invariant_of-self-2 c =
       named,
       kept c.self.inside.entries.items c.push.new.self.items c.args.entry c.self.inside.constants c.add.new.self c.family-family.result c.len-number.result pushed number c.family-family.ensures may
           c.self.invariant.2 lists,
+      marks_added c.self.inside.entries.items c.push.new.self.items c.args.entry c.self.inside.marks.items c.push-2.new.self.items c.in_ok-marks.marks pushed (search rules) c.in_ok-marks.ensures c.self.invariant.3,
     )

@@ -1,8 +1,8 @@
 use Rattle.std.proofs.Common.{◌≡◌, drop, length}
 use Rattle.tw_terms.specs.View.{args_of}
-use Rattle.tw_clause.specs.Marks.{marked}
+use Rattle.tw_signature.specs.Marks.{marked}
 use Rattle.lf_unification.specs.Search.{occurs_spine}
-use Rattle.tw_clause.proofs.shape.+mark.Given as goal
+use Rattle.tw_signature.proofs.shape.+mark.Given as goal
 
 abbrev pub invariant-mark_spine-loop-arg : goal.invariant-mark_spine-loop-arg
 invariant-mark_spine-loop-arg l = record {

@@ -3,8 +3,8 @@ use Rattle.lf.specs.Entries.{quantifiers}
 use Rattle.lf_unification.specs.Search.{occurs_type}
 use Rattle.lf_checks.specs.Parts.{shape}
 use Rattle.tw_terms.specs.View.{type_of}
-use Rattle.tw_clause.specs.Marks.{marked}
-use Rattle.tw_clause.proofs.shape.shape_of.Given as goal
+use Rattle.tw_signature.specs.Marks.{marked}
+use Rattle.tw_signature.proofs.shape.shape_of.Given as goal
 
 abbrev pub decreases-loop-rest : goal.decreases-loop-rest
 decreases-loop-rest l = quantifiers (type_of l.rest)

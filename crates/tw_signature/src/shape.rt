@@ -5,7 +5,7 @@ ghost use Rattle.lf.specs.Variables.{same_number};
 ghost use Rattle.lf_unification.specs.Search.{occurs, occurs_spine, occurs_type};
 ghost use Rattle.lf_checks.specs.Parts.{shape as shape_of_type};
 ghost use Rattle.tw_terms.specs.View.{head_of, term_of, spine_of, type_of};
-ghost use Rattle.tw_clause.specs.Marks.{is_variable, marked};
+ghost use Rattle.tw_signature.specs.Marks.{is_variable, marked};
 
 use std::alloc::{AllocError, Global};
 use tw_terms::numbers::one_more;

@@ -9,7 +9,7 @@ use Rattle.tw_terms.specs.View.{term_of, args_of}
 use Rattle.tw_terms.specs.declared.canonical.Term.{Term as RustTerm}
 use Rattle.lf_unification.specs.Search.{either, occurs, occurs_spine, occurs_type}
 use Rattle.lf_checks.specs.Parts.{shape}
-use Rattle.tw_clause.specs.Marks.{is_variable, marked}
+use Rattle.tw_signature.specs.Marks.{is_variable, marked}
 
 or_assoc : (a b c : Bool) → either (either a b) c ≡ either a (either b c)
 or_assoc true b c = refl

@@ -1,6 +1,6 @@
 use Rattle.std.proofs.Common.{arith}
-use Rattle.tw_clause.proofs.Marking.{marked_variable, marked_outside}
-use Rattle.tw_clause.proofs.shape.mark_variable.Goals as goal
+use Rattle.tw_signature.proofs.Marking.{marked_variable, marked_outside}
+use Rattle.tw_signature.proofs.shape.mark_variable.Goals as goal
 
 pub returns-then-variable-depth : goal.returns-then-variable-depth
 returns-then-variable-depth c = marked_outside c.args.depth c.args.variable c.args.marks.now (λ a b. omega (arith, a, b))

@@ -1,10 +1,10 @@
 use Rattle.std.proofs.Common.{◌≡◌, ◌+◌, ◌∙◌, ap, arith, length, drop}
 use Rattle.lf.specs.Syntax.{lambda, root}
-use Rattle.tw_clause.proofs.Marking.{args_at}
+use Rattle.tw_signature.proofs.Marking.{args_at}
 use Rattle.tw_terms.specs.View.{head_of, term_of, spine_of, args_of}
 use Rattle.tw_terms.proofs.Args.{types}
-use Rattle.tw_clause.proofs.Marking.{on_ok, spine_step, spine_done, lambda_marked, root_marked, marked_length}
-use Rattle.tw_clause.proofs.shape.+mark.Goals as goal
+use Rattle.tw_signature.proofs.Marking.{on_ok, spine_step, spine_done, lambda_marked, root_marked, marked_length}
+use Rattle.tw_signature.proofs.shape.+mark.Goals as goal
 
 pub mark_spine-loop-arg-preserved : goal.mark_spine-loop-arg-preserved
 mark_spine-loop-arg-preserved t c =

@@ -3,9 +3,9 @@ use Rattle.lf.specs.Syntax.{pi}
 use Rattle.lf_unification.specs.Search.{occurs_type}
 use Rattle.tw_terms.specs.View.{type_of}
 use Rattle.tw_terms.proofs.Args.{types}
-use Rattle.tw_clause.specs.Marks.{marked}
-use Rattle.tw_clause.proofs.Marking.{shape_step}
-use Rattle.tw_clause.proofs.shape.shape_of.Goals as goal
+use Rattle.tw_signature.specs.Marks.{marked}
+use Rattle.tw_signature.proofs.Marking.{shape_step}
+use Rattle.tw_signature.proofs.shape.shape_of.Goals as goal
 
 pub loop-rest-preserved : goal.loop-rest-preserved
 loop-rest-preserved c =
