@@ -1,5 +1,5 @@
 -- What can be deep of an explicit declaration that gives an entry: the entry, or its typing.
-use Rattle.std.proofs.Common.{◌≡◌, ℕ, ◌<◌, zero, suc, List, [], Option, None, Some, inl, inr, refl, sym, ap, ap₂, ◌∙◌, subst, arith}
+use Rattle.std.proofs.Common.{◌≡◌, ℕ, ◌<◌, zero, suc, List, [], Option, None, Some, ◌⊎◌, inl, inr, refl, sym, ap, ap₂, ◌∙◌, subst, arith}
 use Rattle.std.proofs.Math.Nat.{le-max_left, le-max_right}
 use Rattle.lf.specs.Depth.{depth, depth_limit, kind_depth, type_depth}
 use Rattle.lf.specs.Entries.{Body, Entry, IsCanonicalSignature, declare_constant, declare_definition, declare_family, signature_of}
@@ -7,6 +7,7 @@ use Rattle.lf.specs.Substitution.{Image, reduce}
 use Rattle.lf.specs.Syntax.{Kind, LfType, Skeleton, Spine, Term as LfTerm, app, atom, constant, kind_pi, lambda as lf_lambda, metavariable, pi as lf_pi, root, star, variable}
 use Rattle.lf.specs.Typing.{Signature}
 use Rattle.lf.proofs.Closed.{closed_kind_substituted, closed_type_substituted}
+use Rattle.lf.proofs.Depth.{below_max}
 use Rattle.lf_unification.specs.DeepEquations.{AreDeep}
 use Rattle.lf_unification.specs.OpenTyping.{Declares, MetavariablesIn, MetavariablesInSpine, MetavariablesInType}
 use Rattle.lf_unification.specs.Putting.{PutsIn, PutsInSpine, PutsInType, put_at_bound, put_at_rigid, put_at_unbound, put_in_argument, put_in_atom, put_in_pi, put_nowhere, put_under_lambda}
@@ -23,7 +24,7 @@ use Rattle.lf_elaboration.proofs.Full.{fill_none, fill_none_kind, fill_none_type
 use Rattle.lf_elaboration.proofs.Principal.{BodyIsMade, body_made, read_off_principal}
 use Rattle.tw_approx.specs.Answer.{Rows}
 use Rattle.tw_approx.specs.Names.{IsFreeVariable}
-use Rattle.tw_approx.specs.Nesting.{written_depth}
+use Rattle.tw_approx.specs.Nesting.{annotation_depth, text_depth, written_depth}
 use Rattle.tw_lexer.specs.declared.place.Place.{Place}
 use Rattle.tw_metas.specs.State as metas
 use Rattle.tw_parse.specs.Syntax.{Term, declare, define, give, prefer}
@@ -39,6 +40,7 @@ use Rattle.law_explicit_form.specs.Explicit.{IsExplicit}
 use Rattle.law_explicit_form.proofs.Gives.{kind_typed, type_typed}
 use Rattle.law_explicit_agrees.specs.Agreement.{IsPrincipallyCompleted}
 use Rattle.law_explicit_agrees.specs.Shallow.{ExplicitIsDeepOnlySo}
+use Rattle.law_explicit_agrees.proofs.Annotations.{kind_annotated, type_annotated}
 use Rattle.law_explicit_agrees.proofs.Given.{kind_depth_given, type_depth_given}
 use Rattle.law_explicit_agrees.proofs.Bare.{type_closed, whole_bare}
 use Rattle.law_explicit_agrees.proofs.Fitting.{some_is}
@@ -154,11 +156,16 @@ module _ (es : List Entry) (canonical : IsCanonicalSignature es) (c : List ℕ) 
       completion = λ frees b p h. entry (subst (BodyReachesDeep (signature_of es)) (completion_body (record { quantifiers = []; frees = frees; body = b }) p.completion) h);
     }
 
-    -- The text nests no deeper than the entry.
-    text_deep : (b : Body) → BodyGiven es U b → depth_limit < written_depth es U → BodyReachesDeep (signature_of es) b
-    text_deep (declare_family K) k h = let l = kind_depth_given es U [] [] K k in inl (omega (arith, h, l))
-    text_deep (declare_constant A) k h = let l = type_depth_given es U [] [] A k in inl (omega (arith, h, l))
-    text_deep (declare_definition M A b) k h = absurd k
+    -- What stays of the text is no deeper than the entry, and where an annotation is deep, so is what the entry's typing reaches.
+    text_deep : (b : Body) → BodyGiven es U b → depth_limit < text_depth es U → BodyReachesDeep (signature_of es) b
+    text_deep b k h = by b k (below_max depth_limit (written_depth es U) (annotation_depth es U) h)
+      where
+        by : (b : Body) → BodyGiven es U b → (depth_limit < written_depth es U) ⊎ (depth_limit < annotation_depth es U) → BodyReachesDeep (signature_of es) b
+        by (declare_family K) k (inl h) = let l = kind_depth_given es U [] [] K k in inl (omega (arith, h, l))
+        by (declare_family K) k (inr h) = inr (kind_annotated es U [] [] K k h)
+        by (declare_constant A) k (inl h) = let l = type_depth_given es U [] [] A k in inl (omega (arith, h, l))
+        by (declare_constant A) k (inr h) = inr (type_annotated es U [] [] A k h)
+        by (declare_definition M A b) k h = absurd k
 
     -- Where the entry isn't deep, nothing is.
     nothing_deep_explicit : (BodyReachesDeep (signature_of es) e.body → ⊥) → HasCause es (declare c at U) TooDeep → ⊥

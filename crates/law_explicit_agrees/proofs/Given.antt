@@ -67,7 +67,7 @@ module _ (es : List Entry) where
     type_depth_given (application M P) N G (atom a S) g = family_depth_given (application M P) N G a S lf_star g
     type_depth_given U N G A g = absurd g
 
-    domain_depth_given : (D : Domain) (N : Names) (G : List LfType) (A : LfType) → DomainGives es N G D A → domain_depth es D ≤ type_depth A
+    pub domain_depth_given : (D : Domain) (N : Names) (G : List LfType) (A : LfType) → DomainGives es N G D A → domain_depth es D ≤ type_depth A
     domain_depth_given untyped N G A g = absurd g
     domain_depth_given (typed U) N G A g = type_depth_given U N G A g
 

@@ -21,4 +21,5 @@ pub mod DeepNames
 pub mod DeepParts
 pub mod Reached
 pub mod Given
+pub mod Annotations
 pub mod Deep

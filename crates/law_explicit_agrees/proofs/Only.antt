@@ -50,7 +50,7 @@ pub no_other_cause : ExplicitHasNoOtherCause
 no_other_cause es canonical (declare c at U) (known, form) (Unknown name place) h = no_name es (declare c at U) (of_objects es c at U form known) (record { name = name; at = place }) h.stands
 no_other_cause es canonical (declare c at U) (known, form) (TypeLevel None) h = let clash : false ≡ true = h.1 in absurd cc
 no_other_cause es canonical (declare c at U) (known, form) (TypeLevel (Some p)) h = no_lambda es (declare c at U) (of_objects es c at U form known) p h.2.stands
-no_other_cause es canonical (declare c at U) (known, form) Loose h = not_loose es (declare c at U) (decided es c at U (bare es c at U form)) h.1
+no_other_cause es canonical (declare c at U) (known, form) Loose h = not_loose es (declare c at U) (decided es c at U (bare es c at U form)) h.2
 no_other_cause es canonical (declare c at U) (known, form) Mismatch h = mismatched es c at U form known canonical h
 no_other_cause es canonical (declare c at U) (known, form) (Leftover left) h = no_equation es (declare c at U) (not_free es c at U form) (makes_none es c at U form) left h
 no_other_cause es canonical (declare c at U) (known, form) TooDeep h = tt

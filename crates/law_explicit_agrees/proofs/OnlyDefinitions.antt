@@ -31,7 +31,7 @@ definition_no_other es canonical c U P abbreviation A M form g (TypeLevel None) 
 definition_no_other es canonical c U P abbreviation A M form g (TypeLevel (Some p)) h =
     no_lambda es (define c (Some U) P abbreviation) (definition_objects es c U P abbreviation A M form g) p h.2.stands
 definition_no_other es canonical c U P abbreviation A M form g Loose h =
-    not_loose es (define c (Some U) P abbreviation) (inl (definition_skeletons es c U P abbreviation A M form g)) h.1
+    not_loose es (define c (Some U) P abbreviation) (inl (definition_skeletons es c U P abbreviation A M form g)) h.2
 definition_no_other es canonical c U P abbreviation A M form g Mismatch h =
     let p = definition_principal es c U P abbreviation A M form g canonical in
     not_mismatched es (define c (Some U) P abbreviation) (nothing_free es c U P abbreviation A M form g) (definition_skeletons es c U P abbreviation A M form g) p.written p.resolved (closed es (declare_definition M A abbreviation)) p.principal.completion h

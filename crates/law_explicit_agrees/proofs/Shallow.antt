@@ -131,7 +131,7 @@ module _ (es : List Entry) (d : Declaration) (not_free : (x : List ℕ) → IsFr
   -- so a declaration of which nothing is left out, and which doesn't nest too deep, isn't too deep
   pub nothing_deep : HasSkeletons es d [] [] → (w : WrittenBody) → resolved_body es [] [] d ≡ Some w → (depth_limit < declared_depth es d → ⊥) → IsShallow es w → HasCause es d TooDeep → ⊥
   nothing_deep s w r n k (inl (inl (known, deep))) = n deep
-  nothing_deep s w r n k (inl (inr (objects, deep))) =
+  nothing_deep s w r n k (inl (inr (within, objects, deep))) =
       let same = deep.once.only (frees_of []) [] s.fits in
       no_deep_row deep.rows deep.omitted (no_rows es d not_free deep.rows deep.omitted deep.once) (sym same.omitted) deep.deep
   nothing_deep s w r n k (inr (rows, v, h, deep)) =

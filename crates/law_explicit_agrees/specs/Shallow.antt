@@ -1,6 +1,7 @@
 -- What may be too deep of an explicit declaration that gives an entry: the entry, or its typing. Its elaboration is deep only where its typing is: no name in the explicit form is that of a
--- definition, and only names take arguments, so no term is put into another, and a type that is left behind an argument stands in the typing too. What stands in no typing, the type that is
--- written at a lambda, is told as deep only where it isn't written in full. And it makes no equation, since types are the same wherever they are compared.
+-- definition, and only names take arguments, so no term is put into another, and a type that is left behind an argument stands in the typing too. The type that is written at a lambda nests no
+-- deeper than the domain that it gives, which the typing goes through; the typing of it, which stands in no typing, is told as deep only where it isn't written in full. And it makes no
+-- equation, since types are the same wherever they are compared.
 use Rattle.std.specs.Prelude.{List}
 use Rattle.lf.specs.Entries.{Entry, IsCanonicalSignature, signature_of}
 use Rattle.law_explicit_form.specs.Explicit.{IsExplicit}

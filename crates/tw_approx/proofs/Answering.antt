@@ -4,23 +4,23 @@ use Rattle.std.proofs.lemmas.List.{map-append}
 use Rattle.lf.specs.Entries.{Entry}
 use Rattle.tw_parse.specs.Applied.{applied_to, written_terms}
 use Rattle.tw_approx.specs.Names.{IsFreeIn, IsFreeInDomain}
-use Rattle.tw_approx.specs.Reading.{family_at, ReadsFamily, ReadsDue, TermIsRead, FamilyIsRead, TypeIsRead, IsAscribed, IsFamilyAscribed, IsWhole}
-use Rattle.tw_approx.specs.Skeletons.{applied, family_applied, term_skeleton, family_skeleton, type_skeleton, domain_skeleton, kind_due}
+use Rattle.tw_approx.specs.Reading.{family_at, ReadsFamily, TermIsRead, TypeIsRead, IsWhole}
+use Rattle.tw_approx.specs.Skeletons.{family_applied, term_skeleton, family_skeleton, domain_skeleton}
 use Rattle.tw_approx.specs.Walks.{State, Nothing, filled_all, IsSound, Refuses, ReadsShape, inside, outside}
 use Rattle.tw_approx.specs.declared.family.FamilyShape.{FamilyShape}
 use Rattle.tw_names.specs.Scope.{binder_name}
 use Rattle.tw_lexer.specs.declared.place.Place.{Place}
 use Rattle.tw_parse.proofs.Views.{term_of-Pi-untyped, term_of-Pi-typed, term_of-Lam-untyped, term_of-Lam-typed}
-use Rattle.tw_parse.specs.Syntax.{Term, Domain, pi, lambda, application, ascription}
+use Rattle.tw_parse.specs.Syntax.{Term, Domain, pi, lambda, application}
 use Rattle.tw_parse.specs.View.{term_of, boxed_domain}
 use Rattle.tw_parse.specs.declared.term.ExtTerm.{ExtTerm, Pi, Lam}
 use Rattle.tw_shapes.specs.Shapes as plain
 use Rattle.tw_shapes.specs.Shapes.{Shape, IsWithin, count_of}
 use Rattle.tw_shapes.specs.View.{shape_of}
 use Rattle.tw_shapes.specs.declared.shape.Shape as program
-use Rattle.tw_approx.proofs.Applying.{IsApplying, IsFamilyApplying}
-use Rattle.tw_approx.proofs.Families.{family_application_reads, family_application_refuses, family_application_refuses_argument, family_arguments_refuse, family_ascription_reads, family_ascription_refuses}
-use Rattle.tw_approx.proofs.Forms.{type_reads, type_refuses_whole, lambda_reads, lambda_refuses_body, application_reads, application_refuses, application_refuses_argument, arguments_refuse, ascription_reads, ascription_refuses}
+use Rattle.tw_approx.proofs.Applying.{IsFamilyApplying}
+use Rattle.tw_approx.proofs.Families.{family_application_reads, family_application_refuses, family_application_refuses_argument, family_arguments_refuse}
+use Rattle.tw_approx.proofs.Forms.{type_reads, type_refuses_whole, lambda_reads, lambda_refuses_body, arguments_refuse}
 use Rattle.tw_parse.proofs.Spines.{applied_to-push}
 
 pub if_ok : {T E : Type 0} (r : Result T E) (P Q : T → Type 0) → ((x : T) → P x → Q x) → IfOk r P → IfOk r Q
@@ -60,31 +60,7 @@ module _ (es : List Entry) (s : State) (sound : IsSound s) where
       let moved = subst (λ j. Refuses (λ f θ. term_skeleton es f j.names (filled_all θ j.context) M) j) e two in
       lambda_refuses_body es s sound x at D M t S one moved
 
-  pub ascription_read : (M A : Term) (t u w : State) (S U : Shape) → ReadsShape (λ f θ. term_skeleton es f s.names (filled_all θ s.context) M) (λ y. IsFreeIn es y s.names M) s t S → ReadsShape (λ f θ. type_skeleton es f t.names (filled_all θ t.context) A) (λ y. IsFreeIn es y t.names A) t u U → (o : Option program.Shape) → IsAscribed u w S U o → TermIsRead es s w (ascription M A) o
-  ascription_read M A t u w S U one two None three = ascription_refuses es s sound M A t u S U one two three
-  ascription_read M A t u w S U one two (Some T) three = ascription_reads es s sound M A t u w S U (shape_of T) one two three
-
-  pub family_ascription_read : (M K : Term) (t u w : State) (G : FamilyShape) (Ss : List Shape) → ReadsFamily (λ f θ. family_skeleton es f s.names (filled_all θ s.context) M) (λ y. IsFreeIn es y s.names M) s t G → ReadsDue (λ f θ. kind_due es f t.names (filled_all θ t.context) K) (λ y. IsFreeIn es y t.names K) t u Ss → (o : Option FamilyShape) → IsFamilyAscribed u w G Ss o → FamilyIsRead es s w (ascription M K) o
-  family_ascription_read M K t u w G Ss one two None three = family_ascription_refuses es s sound M K t u G Ss one two three
-  family_ascription_read M K t u w G Ss one two (Some H) three = family_ascription_reads es s sound M K t u w G H Ss one two three
-
   -- the loops over arguments
-  pub applying_next : (W : Term) (old new : List (Bor ExtTerm)) (a : Bor ExtTerm) (t u w : State) (S U V : Shape) → old ≡ new ++ a ∷ [] → IsApplying es s t W (written_terms old) S
-      → ReadsShape (λ f θ. term_skeleton es f t.names (filled_all θ t.context) (term_of a.now)) (λ y. IsFreeIn es y t.names (term_of a.now)) t u U → ReadsShape (λ f θ. applied (plain.filled θ S) (plain.filled θ U)) Nothing u w V
-      → IsApplying es s w W (written_terms new) V
-  applying_next W old new a t u w S U V e (T, f, one) two three = (application T (term_of a.now), next_applied T W old new a e f, application_reads es s sound T (term_of a.now) t u w S U V one two three)
-
-  pub applying_argument : (W : Term) (old new : List (Bor ExtTerm)) (a : Bor ExtTerm) (t : State) (S : Shape) → old ≡ new ++ a ∷ [] → IsApplying es s t W (written_terms old) S
-      → Refuses (λ f θ. term_skeleton es f t.names (filled_all θ t.context) (term_of a.now)) t → Refuses (λ f θ. term_skeleton es f s.names (filled_all θ s.context) W) s
-  applying_argument W old new a t S e (T, f, one) two =
-      subst (λ X. Refuses (λ f θ. term_skeleton es f s.names (filled_all θ s.context) X) s) (next_applied T W old new a e f) (arguments_refuse es s sound (application T (term_of a.now)) (written_terms new) (application_refuses_argument es s sound T (term_of a.now) t S one two))
-
-  pub applying_refuses : (W : Term) (old new : List (Bor ExtTerm)) (a : Bor ExtTerm) (t u : State) (S U : Shape) → old ≡ new ++ a ∷ [] → IsApplying es s t W (written_terms old) S
-      → ReadsShape (λ f θ. term_skeleton es f t.names (filled_all θ t.context) (term_of a.now)) (λ y. IsFreeIn es y t.names (term_of a.now)) t u U → Refuses (λ f θ. applied (plain.filled θ S) (plain.filled θ U)) u
-      → Refuses (λ f θ. term_skeleton es f s.names (filled_all θ s.context) W) s
-  applying_refuses W old new a t u S U e (T, f, one) two three =
-      subst (λ X. Refuses (λ f θ. term_skeleton es f s.names (filled_all θ s.context) X) s) (next_applied T W old new a e f) (arguments_refuse es s sound (application T (term_of a.now)) (written_terms new) (application_refuses es s sound T (term_of a.now) t u S U one two three))
-
   pub head_refuses : (h W : Term) (Ps : List Term) → applied_to h Ps ≡ W → Refuses (λ f θ. term_skeleton es f s.names (filled_all θ s.context) h) s → Refuses (λ f θ. term_skeleton es f s.names (filled_all θ s.context) W) s
   head_refuses h W Ps e r = subst (λ X. Refuses (λ f θ. term_skeleton es f s.names (filled_all θ s.context) X) s) e (arguments_refuse es s sound h Ps r)
 

@@ -2,7 +2,7 @@
 use Rattle.std.proofs.Common.{◌≡◌, ℕ, List, [], ◌∷◌, Bool, true, false, Option, None, Some, Result, Ok, Err, IfErr, inr, refl, ap}
 use Rattle.lf.specs.Entries.{Entry}
 use Rattle.lf.specs.Syntax.{Skeleton, arrow as arrow_skeleton}
-use Rattle.tw_approx.specs.Answer.{IsOfObjects, HasCause, IsQueryOfObjects, HasQueryCause}
+use Rattle.tw_approx.specs.Answer.{IsOfObjects, NestsWithin, HasCause, IsQueryOfObjects, QueryNestsWithin, HasQueryCause}
 use Rattle.tw_approx.specs.Names.{IsFreeVariable, IsFreeIn}
 use Rattle.tw_approx.specs.Readings.{Reading, and_then}
 use Rattle.tw_approx.specs.Skeletons.{Frees, known, whole, type_skeleton, domain_skeleton, Fits, FitsQuery}
@@ -21,21 +21,21 @@ if_err (Ok x) P Q f p = tt
 if_err (Err e) P Q f p = f e p
 
 module _ (es : List Entry) (t : State) where
-  pub declaration_open : (d : Declaration) → IsOfObjects es d → IsFound (λ f o. Fits es f o d) (λ x. IsFreeVariable es x d) t → (f : ApproxFault) → IsLeftOpen t f → HasCause es d f
-  declaration_open d objects found (Unknown name place) o = absurd o
-  declaration_open d objects found (TypeLevel place) o = absurd o
-  declaration_open d objects found Clash o = absurd o
-  declaration_open d objects found Loose o = (objects, open_twice (λ x. IsFreeVariable es x d) (λ f p. Fits es f p d) t found o)
-  declaration_open d objects found TooDeep o = inr (objects, deep_once (λ x. IsFreeVariable es x d) (λ f p. Fits es f p d) t found o)
-  declaration_open d objects found NoMemory o = tt
+  pub declaration_open : (d : Declaration) → NestsWithin es d → IsOfObjects es d → IsFound (λ f o. Fits es f o d) (λ x. IsFreeVariable es x d) t → (f : ApproxFault) → IsLeftOpen t f → HasCause es d f
+  declaration_open d within objects found (Unknown name place) o = absurd o
+  declaration_open d within objects found (TypeLevel place) o = absurd o
+  declaration_open d within objects found Clash o = absurd o
+  declaration_open d within objects found Loose o = (within, objects, open_twice (λ x. IsFreeVariable es x d) (λ f p. Fits es f p d) t found o)
+  declaration_open d within objects found TooDeep o = inr (within, objects, deep_once (λ x. IsFreeVariable es x d) (λ f p. Fits es f p d) t found o)
+  declaration_open d within objects found NoMemory o = tt
 
-  pub query_open : (A : Term) → IsQueryOfObjects es A → IsFound (λ f o. FitsQuery es f o A) (λ x. IsFreeIn es x [] A) t → (f : ApproxFault) → IsLeftOpen t f → HasQueryCause es A f
-  query_open A objects found (Unknown name place) o = absurd o
-  query_open A objects found (TypeLevel place) o = absurd o
-  query_open A objects found Clash o = absurd o
-  query_open A objects found Loose o = (objects, open_twice (λ x. IsFreeIn es x [] A) (λ f p. FitsQuery es f p A) t found o)
-  query_open A objects found TooDeep o = inr (objects, deep_once (λ x. IsFreeIn es x [] A) (λ f p. FitsQuery es f p A) t found o)
-  query_open A objects found NoMemory o = tt
+  pub query_open : (A : Term) → QueryNestsWithin es A → IsQueryOfObjects es A → IsFound (λ f o. FitsQuery es f o A) (λ x. IsFreeIn es x [] A) t → (f : ApproxFault) → IsLeftOpen t f → HasQueryCause es A f
+  query_open A within objects found (Unknown name place) o = absurd o
+  query_open A within objects found (TypeLevel place) o = absurd o
+  query_open A within objects found Clash o = absurd o
+  query_open A within objects found Loose o = (within, objects, open_twice (λ x. IsFreeIn es x [] A) (λ f p. FitsQuery es f p A) t found o)
+  query_open A within objects found TooDeep o = inr (within, objects, deep_once (λ x. IsFreeIn es x [] A) (λ f p. FitsQuery es f p A) t found o)
+  query_open A within objects found NoMemory o = tt
 
 module _ (es : List Entry) (f : Frees) where
   no_range : (N : Names) (G : List Skeleton) (x : Option (List ℕ)) (V : Term) (r : Reading Skeleton) → ((s : Skeleton) (p : List Skeleton) → type_skeleton es f (x ∷ N) (s ∷ G) V p ≡ None)

@@ -3,8 +3,8 @@ use Rattle.std.proofs.Common.{◌≡◌, zero, List, [], ◌∷◌, codes, false
 use Rattle.lf.specs.Entries.{Entry, declare_constant, declare_definition}
 use Rattle.lf.specs.Syntax.{atom, lambda as lf_lambda, nil, root, variable}
 use Rattle.tw_lexer.specs.declared.place.Place.{Place}
-use Rattle.tw_parse.specs.Syntax.{Term, application, arrow, ascription, identifier, lambda, typed}
-use Rattle.tw_approx.specs.Nesting.{written_depth}
+use Rattle.tw_parse.specs.Syntax.{Term, application, arrow, ascription, identifier, lambda, pi, typed}
+use Rattle.tw_approx.specs.Nesting.{annotation_depth, text_depth, written_depth}
 
 abbrev place : Place
 place = record { line = 1; column = 1 }
@@ -45,9 +45,27 @@ on_definition = refl
 arrows : written_depth entries (arrow x (arrow x x)) ≡ 3
 arrows = refl
 
--- the type at a lambda doesn't count, nor does an ascribed type: `[x : x -> x -> x] x`, `s x : x -> x -> x`
-function : written_depth entries (lambda (codes "x") place (typed (arrow x (arrow x x))) x) ≡ 2
-function = refl
+-- An annotation counts by itself: the type at a lambda, as in `[x : x -> x -> x] x`, and an ascribed type, as in `s x : x -> x -> x`.
+abbrev function : Term
+function = lambda (codes "x") place (typed (arrow x (arrow x x))) x
 
-ascribed : written_depth entries (ascription (application s x) (arrow x (arrow x x))) ≡ 2
-ascribed = refl
+abbrev ascribed : Term
+ascribed = ascription (application s x) (arrow x (arrow x x))
+
+beside_function : (written_depth entries function ≡ 2) × (annotation_depth entries function ≡ 3)
+beside_function = (refl, refl)
+
+beside_ascribed : (written_depth entries ascribed ≡ 2) × (annotation_depth entries ascribed ≡ 3)
+beside_ascribed = (refl, refl)
+
+-- so it does on the arguments of a definition: `d (s x : x -> x -> x)`
+argument : text_depth entries (application d ascribed) ≡ 3
+argument = refl
+
+-- and in the domain of a quantifier: `{x : s (s x : x -> x -> x)} x`
+domain : annotation_depth entries (pi (codes "x") place (typed (application s ascribed)) x) ≡ 3
+domain = refl
+
+-- but inside of an annotation another one doesn't: `[x : s (s x : x -> x -> x)] x`
+inside : annotation_depth entries (lambda (codes "x") place (typed (application s ascribed)) x) ≡ 3
+inside = refl

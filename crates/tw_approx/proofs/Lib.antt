@@ -10,6 +10,8 @@ pub mod Known
 pub mod Applying
 pub mod Families
 pub mod Answering
+pub mod Ascribing
+pub mod WaitingRows
 pub mod Places
 pub mod Behind
 pub mod Fitting

@@ -3,11 +3,10 @@ use Rattle.std.proofs.Common.{◌≡◌, ℕ, ◌<◌, ◌≤◌, zero, suc, ◌
 use Rattle.std.proofs.Math.Nat.{le-max_left, le-max_right, max-le}
 use Rattle.std.proofs.lemmas.Bool.Decides.{nat_tests}
 use Rattle.lf.specs.Entries.{Entry}
-use Rattle.tw_approx.specs.Nested.{all_within, is_within, work}
+use Rattle.tw_approx.specs.Nested.{all_within, is_within, steps, work}
 use Rattle.tw_approx.specs.Nesting.{domain_depth, is_kept, written_depth}
-use Rattle.tw_approx.specs.declared.nesting.Waiting.{Waiting}
+use Rattle.tw_approx.specs.declared.waiting.Waiting.{Waiting}
 use Rattle.tw_names.specs.Waiting.{size}
-use Rattle.tw_parse.specs.View.{term_of}
 use Rattle.tw_parse.specs.Syntax.{Term, identifier, hole, star, arrow, pi, lambda, application, ascription}
 use Rattle.tw_approx.proofs.Answering.{term_of-Pi}
 use Rattle.tw_approx.proofs.Views.{shapes}
@@ -72,7 +71,7 @@ size_some (lambda x at D M) = omega arith
 size_some (application M P) = omega arith
 size_some (ascription M A) = omega arith
 
-pub work-last : (ws : List Waiting) (w : Waiting) → work (ws ++ w ∷ []) ≡ size (term_of w.term.now) + work ws
+pub work-last : (ws : List Waiting) (w : Waiting) → work (ws ++ w ∷ []) ≡ steps w + work ws
 work-last [] w = refl
 work-last (v ∷ ws) w = let e = work-last ws w in omega (arith, e)
 

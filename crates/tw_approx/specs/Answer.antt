@@ -1,12 +1,12 @@
 -- What the answers say.
-use Rattle.std.specs.Prelude.{◌≡◌, ℕ, ◌<◌, List, [], ◌∷◌, map, true, false, None, Some, if◌then◌else◌, ◌⊎◌, zero}
+use Rattle.std.specs.Prelude.{◌≡◌, ℕ, ◌<◌, ◌≤◌, List, [], ◌∷◌, map, true, false, None, Some, if◌then◌else◌, ◌⊎◌, zero}
 use Rattle.std.specs.Str.{bytes_eq}
 use Rattle.lf.specs.Depth.{depth_limit}
 use Rattle.lf.specs.Entries.{Entry}
 use Rattle.lf.specs.Syntax.{Skeleton, base}
 use Rattle.tw_approx.specs.Levels.{is_type_definition, type_lambdas, lambdas_in_type, IsEarliest}
 use Rattle.tw_approx.specs.Names.{IsFreeVariable, IsFreeIn}
-use Rattle.tw_approx.specs.Nesting.{declared_depth, written_depth}
+use Rattle.tw_approx.specs.Nesting.{declared_depth, text_depth}
 use Rattle.tw_approx.specs.Skeletons.{Frees, Fits, FitsQuery}
 use Rattle.tw_approx.specs.declared.approximation.Row.{Row}
 use Rattle.tw_approx.specs.declared.fault.ApproxFault.{ApproxFault}
@@ -96,17 +96,21 @@ IsDeep es d = FitsDeeply (λ x. IsFreeVariable es x d) (λ f p. Fits es f p d)
 abbrev pub NestsDeeply : List Entry → Declaration → Type 0
 NestsDeeply es d = (unknown_in es d ≡ []) × (depth_limit < declared_depth es d)
 
+-- each name is known, and the text nests 4,096 deep at most
+abbrev pub NestsWithin : List Entry → Declaration → Type 0
+NestsWithin es d = (unknown_in es d ≡ []) × (declared_depth es d ≤ depth_limit)
+
 abbrev pub IsClash : List Entry → Declaration → Type 0
 IsClash es d = NeverFits (λ f p. Fits es f p d)
 
--- Why a declaration is refused.
+-- Why a declaration is refused. A text that nests too deep has no other cause, once each name is known.
 abbrev pub HasCause : List Entry → Declaration → ApproxFault → Type 0
 HasCause es d (Unknown name place) = IsFirst (record { name = name; at = place }) (unknown_in es d)
-HasCause es d (TypeLevel None) = (unknown_in es d ≡ []) × (is_type_definition es d ≡ true)
-HasCause es d (TypeLevel (Some p)) = (unknown_in es d ≡ []) × (is_type_definition es d ≡ false) × IsEarliest p (type_lambdas d)
-HasCause es d Clash = IsOfObjects es d × IsClash es d
-HasCause es d Loose = IsOfObjects es d × IsLoose es d
-HasCause es d TooDeep = NestsDeeply es d ⊎ (IsOfObjects es d × IsDeep es d)
+HasCause es d (TypeLevel None) = NestsWithin es d × (is_type_definition es d ≡ true)
+HasCause es d (TypeLevel (Some p)) = NestsWithin es d × (is_type_definition es d ≡ false) × IsEarliest p (type_lambdas d)
+HasCause es d Clash = NestsWithin es d × IsOfObjects es d × IsClash es d
+HasCause es d Loose = NestsWithin es d × IsOfObjects es d × IsLoose es d
+HasCause es d TooDeep = NestsDeeply es d ⊎ (NestsWithin es d × IsOfObjects es d × IsDeep es d)
 HasCause es d NoMemory = Unit {0}
 
 -- Queries, by their goals
@@ -126,7 +130,10 @@ abbrev pub IsDeepQuery : List Entry → Term → Type 0
 IsDeepQuery es A = FitsDeeply (λ x. IsFreeIn es x [] A) (λ f p. FitsQuery es f p A)
 
 abbrev pub QueryNestsDeeply : List Entry → Term → Type 0
-QueryNestsDeeply es A = (unknown_names es [] A ≡ []) × (depth_limit < written_depth es A)
+QueryNestsDeeply es A = (unknown_names es [] A ≡ []) × (depth_limit < text_depth es A)
+
+abbrev pub QueryNestsWithin : List Entry → Term → Type 0
+QueryNestsWithin es A = (unknown_names es [] A ≡ []) × (text_depth es A ≤ depth_limit)
 
 abbrev pub IsQueryClash : List Entry → Term → Type 0
 IsQueryClash es A = NeverFits (λ f p. FitsQuery es f p A)
@@ -135,10 +142,10 @@ IsQueryClash es A = NeverFits (λ f p. FitsQuery es f p A)
 abbrev pub HasQueryCause : List Entry → Term → ApproxFault → Type 0
 HasQueryCause es A (Unknown name place) = IsFirst (record { name = name; at = place }) (unknown_names es [] A)
 HasQueryCause es A (TypeLevel None) = ⊥
-HasQueryCause es A (TypeLevel (Some p)) = (unknown_names es [] A ≡ []) × IsEarliest p (lambdas_in_type A)
-HasQueryCause es A Clash = IsQueryOfObjects es A × IsQueryClash es A
-HasQueryCause es A Loose = IsQueryOfObjects es A × IsLooseQuery es A
-HasQueryCause es A TooDeep = QueryNestsDeeply es A ⊎ (IsQueryOfObjects es A × IsDeepQuery es A)
+HasQueryCause es A (TypeLevel (Some p)) = QueryNestsWithin es A × IsEarliest p (lambdas_in_type A)
+HasQueryCause es A Clash = QueryNestsWithin es A × IsQueryOfObjects es A × IsQueryClash es A
+HasQueryCause es A Loose = QueryNestsWithin es A × IsQueryOfObjects es A × IsLooseQuery es A
+HasQueryCause es A TooDeep = QueryNestsDeeply es A ⊎ (QueryNestsWithin es A × IsQueryOfObjects es A × IsDeepQuery es A)
 HasQueryCause es A NoMemory = Unit {0}
 
 -- the rows that values of the program stand for

@@ -4,7 +4,9 @@ pub mod Levels
 pub mod Names
 pub mod Answer
 pub mod Walks
+pub mod Ascribed
 pub mod Reading
+pub mod ReadingRows
 pub mod Solving
 pub mod Ways
 pub mod Lambdas

@@ -1,4 +1,4 @@
--- How deep a text nests, at the least, where it is declared: how many names, rows, arrows and binders stand inside one another in what stays of it.
+-- How deep a text nests, at the least, where it is declared: how many names, rows, arrows and binders stand inside one another in what stays of it, or of a type that annotates it.
 use Rattle.std.specs.Prelude.{ℕ, zero, suc, max, List, Bool, true, false, Option, None, Some, if◌then◌else◌}
 use Rattle.lf.specs.Entries.{Entry, Body, declare_family, declare_constant, declare_definition, entry}
 use Rattle.tw_parse.specs.Syntax.{Term, Domain, identifier, hole, star, arrow, pi, lambda, application, ascription, untyped, typed, Declaration, declare, define, prefer, give}
@@ -29,8 +29,8 @@ is_kept es (identifier x at) = is_declared es x
 is_kept es (application M P) = is_kept es M
 is_kept es _ = false
 
--- A row that is kept is one level, however many its arguments are: `plus X Y` is 2 deep, and `s (s X)` is 3. The arguments of other rows don't count, nor does an ascribed
--- type, nor the type at a lambda: `same (s (s X))`, where `same` is a definition, is 1 deep, `z : a -> b` is 1 deep, and `[x : a -> b] x` is 2 deep, as `[x] x` is.
+-- A row that is kept is one level, however many its arguments are: `plus X Y` is 2 deep, and `s (s X)` is 3. The arguments of other rows don't count: `same (s (s X))`, where
+-- `same` is a definition, is 1 deep. Nor does an annotation, which is a type at a lambda or an ascribed one: `z : a -> b` is 1 deep, and `[x : a -> b] x` is 2 deep, as `[x] x` is.
 module _ (es : List Entry) where
   abbrev mutual
     pub written_depth : Term → ℕ
@@ -47,14 +47,36 @@ module _ (es : List Entry) where
     domain_depth untyped = zero
     domain_depth (typed A) = written_depth A
 
+  -- The deepest annotation of a text: of the types at lambdas and of those that are ascribed, wherever they stand, also on arguments that don't stay. What is annotated inside
+  -- of one doesn't count, since no entry's typing goes through it: in `[x : a -> b] f (y : c -> a -> b)` it is 3, and in `[x : vec (y : a -> b)] x` it is 2.
+  abbrev mutual
+    pub annotation_depth : Term → ℕ
+    annotation_depth (identifier x at) = zero
+    annotation_depth (hole at) = zero
+    annotation_depth star = zero
+    annotation_depth (arrow U V) = max (annotation_depth U) (annotation_depth V)
+    annotation_depth (pi x at D V) = max (domain_annotation_depth D) (annotation_depth V)
+    annotation_depth (lambda x at D M) = max (domain_depth D) (annotation_depth M)
+    annotation_depth (application M P) = max (annotation_depth M) (annotation_depth P)
+    annotation_depth (ascription M A) = max (annotation_depth M) (written_depth A)
+
+    -- a domain of a quantifier is a part of its type
+    pub domain_annotation_depth : Domain → ℕ
+    domain_annotation_depth untyped = zero
+    domain_annotation_depth (typed A) = annotation_depth A
+
+  -- how deep a text nests, in what stays of it or in an annotation
+  abbrev pub text_depth : Term → ℕ
+  text_depth U = max (written_depth U) (annotation_depth U)
+
   -- of the type of a definition, if it is written
   abbrev pub type_depth : Option Term → ℕ
   type_depth None = zero
-  type_depth (Some A) = written_depth A
+  type_depth (Some A) = text_depth A
 
   -- of a declaration
   abbrev pub declared_depth : Declaration → ℕ
-  declared_depth (declare c at U) = written_depth U
-  declared_depth (define c A M b) = max (type_depth A) (written_depth M)
+  declared_depth (declare c at U) = text_depth U
+  declared_depth (define c A M b) = max (type_depth A) (text_depth M)
   declared_depth (prefer a x y) = zero
   declared_depth (give fix names) = zero

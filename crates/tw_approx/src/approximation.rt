@@ -1,7 +1,7 @@
 //! The skeletons of a declaration.
 ghost use Rattle.std.specs.Prelude.{◌≡◌, [], map, true, false, Some, None, ◌≤◌, IfOk, IfErr, MatchOption, option_map};
 ghost use Rattle.lf.specs.Depth.{depth_limit};
-ghost use Rattle.tw_approx.specs.Answer.{rows_of, IsOfObjects, HasSkeletons, HasCause, NeverFits};
+ghost use Rattle.tw_approx.specs.Answer.{rows_of, IsOfObjects, NestsWithin, HasSkeletons, HasCause, NeverFits};
 ghost use Rattle.tw_approx.specs.Levels.{is_type_definition, earliest, type_lambdas, lambdas_in_written};
 ghost use Rattle.tw_approx.specs.Names.{IsFreeVariable, IsFreeIn};
 ghost use Rattle.tw_approx.specs.Nesting.{declared_depth};
@@ -124,7 +124,7 @@ fn first_unknown(
 
 /// Fails where a definition or a lambda stands at the level of types.
 fn of_objects(alloc: Global, signature: &Signature, decl: &ExtDecl) -> Result<(), ApproxFault>
-    requires { unknown_in signature.now (declaration_of decl.now) ≡ [] }
+    requires { NestsWithin signature.now (declaration_of decl.now) }
     ensures objects { IfOk result (λ _. IsOfObjects signature.now (declaration_of decl.now)) }
     ensures refused { IfErr result (λ f. HasCause signature.now (declaration_of decl.now) f) }
 {

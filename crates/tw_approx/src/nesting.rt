@@ -1,25 +1,19 @@
-//! How deep a text nests, where only what stays of it counts.
-ghost use Rattle.std.specs.Prelude.{◌≡◌, ◌<◌, ◌≤◌, ◌+◌, ◌&&◌, nat_le, suc, zero, true, List, IfOk, OnOk, MatchBool, MatchOption};
+//! How deep a text nests, where what stays of it counts, and each of its annotations by itself.
+ghost use Rattle.std.specs.Prelude.{◌≡◌, ◌<◌, ◌≤◌, ◌+◌, ◌&&◌, nat_le, suc, zero, true, IfOk, OnOk, MatchBool, MatchOption};
 ghost use Rattle.lf.specs.Depth.{depth_limit};
-ghost use Rattle.lf.specs.Entries.{Entry};
-ghost use Rattle.tw_approx.specs.Nested.{all_within, work};
-ghost use Rattle.tw_approx.specs.Nesting.{declared_depth, domain_depth, is_declared, is_kept, written_depth};
-ghost use Rattle.tw_names.specs.Waiting.{size, size_of_domain};
+ghost use Rattle.tw_approx.specs.Nested.{all_within, is_within, steps, work};
+ghost use Rattle.tw_approx.specs.Nesting.{declared_depth, is_declared, is_kept, text_depth, written_depth};
+ghost use Rattle.tw_names.specs.Waiting.{size};
 ghost use Rattle.tw_parse.specs.Syntax.{application};
-ghost use Rattle.tw_parse.specs.View.{boxed_domain, declaration_of, term_of};
+ghost use Rattle.tw_parse.specs.View.{declaration_of, term_of};
 
+use crate::annotations::open_annotated;
+use crate::waiting::{Waiting, wait_for, wait_for_annotations, wait_for_domain};
 use std::alloc::{AllocError, Global};
 use tw_fixity::Name;
 use tw_parse::{ExtDecl, ExtTerm};
 use tw_signature::{Body, Signature};
 use tw_terms::DEPTH_LIMIT;
-
-/// A part of a text that waits to be gone over, with the levels that it may nest.
-#[derive(Clone, Copy)]
-pub struct Waiting<'a> {
-    pub term: &'a ExtTerm,
-    pub levels: u32,
-}
 
 /// Whether a declaration nests deeper than 4,096.
 pub fn declares_deeply(
@@ -45,21 +39,41 @@ pub fn nests_deeply(
     signature: &Signature,
     term: &ExtTerm,
 ) -> Result<bool, AllocError>
-    ensures { IfOk result (λ b. MatchBool b (depth_limit < written_depth signature.now (term_of term.now)) (written_depth signature.now (term_of term.now) ≤ depth_limit)) }
+    ensures { IfOk result (λ b. MatchBool b (depth_limit < text_depth signature.now (term_of term.now)) (text_depth signature.now (term_of term.now) ≤ depth_limit)) }
 {
     let mut waiting = Vec::new(alloc);
+    wait_for_annotations(&mut waiting, term)?;
     wait_for(&mut waiting, term, DEPTH_LIMIT)?;
     while let Some(next) = waiting.pop() {
-        if !opened(signature, &mut waiting, next.term, next.levels)? {
+        if !opened(signature, &mut waiting, next)? {
             return Ok(true);
         }
     }
     Ok(false)
 }
 
-/// The parts of a term wait; false where it may nest no level.
+/// What counts of a part waits; false where it may nest no level.
 #[inline(never)]
 fn opened<'a>(
+    signature: &Signature,
+    waiting: &mut Vec<Waiting<'a>>,
+    part: Waiting<'a>,
+) -> Result<bool, AllocError>
+    ensures within { IfOk result (λ b. (b && all_within signature.now waiting.new.items) ≡ (is_within signature.now part.entry && all_within signature.now waiting.old.items)) }
+    ensures work { OnOk result (work waiting.new.items < steps part.entry + work waiting.old.items) }
+{
+    match part {
+        Waiting::Counted(term, levels) => counted(signature, waiting, term, levels),
+        Waiting::Searched(term) => {
+            open_annotated(waiting, term)?;
+            Ok(true)
+        }
+    }
+}
+
+/// The parts of a term that stay wait; false where it may nest no level.
+#[inline(never)]
+fn counted<'a>(
     signature: &Signature,
     waiting: &mut Vec<Waiting<'a>>,
     term: &'a ExtTerm,
@@ -84,7 +98,7 @@ fn below(levels: u32) -> Option<u32>
     levels.checked_sub(1)
 }
 
-/// The parts of a term that count wait, where it may nest so many levels, and so many are left behind its own.
+/// The parts of a term that stay wait, where it may nest so many levels, and so many are left behind its own.
 #[inline(never)]
 fn open<'a>(
     signature: &Signature,
@@ -185,35 +199,5 @@ fn is_declared(signature: &Signature, name: &Name) -> bool
             Body::Defined { .. } => false,
         },
         None => false,
-    }
-}
-
-/// A part waits.
-#[inline(never)]
-fn wait_for<'a>(
-    waiting: &mut Vec<Waiting<'a>>,
-    term: &'a ExtTerm,
-    levels: u32,
-) -> Result<(), AllocError>
-    ensures within { (es : List Entry) → OnOk result (all_within es waiting.new.items ≡ (nat_le (written_depth es (term_of term.now)) levels && all_within es waiting.old.items)) }
-    ensures work { OnOk result (work waiting.new.items ≡ size (term_of term.now) + work waiting.old.items) }
-{
-    waiting.push(Waiting { term, levels })?;
-    Ok(())
-}
-
-/// The type at a binder waits, if it is written.
-#[inline(never)]
-fn wait_for_domain<'a>(
-    waiting: &mut Vec<Waiting<'a>>,
-    domain: &'a Option<Box<ExtTerm>>,
-    left: u32,
-) -> Result<(), AllocError>
-    ensures within { (es : List Entry) → OnOk result (all_within es waiting.new.items ≡ (nat_le (domain_depth es (boxed_domain domain.now)) left && all_within es waiting.old.items)) }
-    ensures work { OnOk result (work waiting.new.items ≡ size_of_domain (boxed_domain domain.now) + work waiting.old.items) }
-{
-    match domain {
-        Some(ty) => wait_for(waiting, ty, left),
-        None => Ok(()),
     }
 }

@@ -2,7 +2,7 @@
 ghost use Rattle.std.specs.Prelude.{◌≡◌, ◌≤◌, [], map, false, None, IfOk, IfErr};
 ghost use Rattle.lf.specs.Depth.{depth_limit};
 ghost use Rattle.tw_approx.specs.Answer.{rows_of, IsQueryOfObjects, HasQuerySkeletons, HasQueryCause};
-ghost use Rattle.tw_approx.specs.Nesting.{written_depth};
+ghost use Rattle.tw_approx.specs.Nesting.{text_depth};
 ghost use Rattle.tw_names.specs.Texts.{ends_in_type};
 ghost use Rattle.tw_names.specs.Earliest.{earliest as first_mention};
 ghost use Rattle.tw_names.specs.Unknown.{unknown_names};
@@ -27,7 +27,7 @@ pub fn approximate_query(
     query: &ExtQuery,
 ) -> Result<Approx, ApproxFault>
     ensures ty { IfOk result (λ _. ends_in_type (term_of query.now.goal) ≡ false) }
-    ensures within { IfOk result (λ _. written_depth signature.now (term_of query.now.goal) ≤ depth_limit) }
+    ensures within { IfOk result (λ _. text_depth signature.now (term_of query.now.goal) ≤ depth_limit) }
     ensures objects { IfOk result (λ _. IsQueryOfObjects signature.now (term_of query.now.goal)) }
     ensures skeletons { IfOk result (λ a. HasQuerySkeletons signature.now (term_of query.now.goal) (rows_of a.free.items) (map skeleton_of a.omitted.items)) }
     ensures refused { IfErr result (λ f. HasQueryCause signature.now (term_of query.now.goal) f) }
@@ -41,7 +41,7 @@ pub fn approximate_query(
 
 /// Fails at the first name that is unknown, or else where the goal nests too deep, or else where a lambda stands at the level of types.
 fn of_objects(alloc: Global, signature: &Signature, goal: &ExtTerm) -> Result<(), ApproxFault>
-    ensures within { IfOk result (λ _. written_depth signature.now (term_of goal.now) ≤ depth_limit) }
+    ensures within { IfOk result (λ _. text_depth signature.now (term_of goal.now) ≤ depth_limit) }
     ensures objects { IfOk result (λ _. IsQueryOfObjects signature.now (term_of goal.now)) }
     ensures refused { IfErr result (λ f. HasQueryCause signature.now (term_of goal.now) f) }
 {

@@ -1,26 +1,28 @@
 //! Shapes of what is written, which solve the equations of its skeletons.
 ghost use Rattle.std.specs.Prelude.{◌≡◌, [], map, reverse, slice_get, true, Some, None, IfOk, option_map};
 ghost use Rattle.lf.specs.Entries.{entry};
-ghost use Rattle.tw_approx.specs.Reading.{state_of, shape_from, due_of, TermIsRead, FamilyIsRead, TypeIsRead, DomainIsRead, KindIsRead, NameIsRead, FamilyNameIsRead, RangeIsRead, RestIsRead, IsApplied, IsAscribed, IsFamilyApplied, IsFamilyAscribed, IsWhole, FamilyWithin, UnifiesAll};
+ghost use Rattle.tw_approx.specs.Reading.{state_of, shape_from, due_of, TermIsRead, FamilyIsRead, TypeIsRead, DomainIsRead, KindIsRead, NameIsRead, FamilyNameIsRead, RangeIsRead, RestIsRead, IsAscribed, IsFamilyApplied, IsFamilyAscribed, IsWhole, FamilyWithin, UnifiesAll};
+ghost use Rattle.tw_approx.specs.ReadingRows.{IsBegun};
 ghost use Rattle.tw_approx.specs.Skeletons.{entry_skeleton};
 ghost use Rattle.tw_approx.specs.declared.family.FamilyShape.TheVariants.{Known};
 ghost use Rattle.tw_approx.specs.Walks.{State, IsSound, ShapesWithin};
 ghost use Rattle.tw_names.specs.Scope.{named};
 ghost use Rattle.tw_names.specs.Unknown.{is_uppercase};
 ghost use Rattle.tw_lexer.specs.declared.place.Place.{Place};
-ghost use Rattle.tw_parse.specs.Syntax.{arrow as written_arrow, pi, lambda, ascription};
+ghost use Rattle.tw_parse.specs.Syntax.{arrow as written_arrow, pi, lambda};
 ghost use Rattle.tw_parse.specs.View.{term_of, boxed_domain};
 ghost use Rattle.tw_shapes.specs.Shapes as plain;
 ghost use Rattle.tw_shapes.specs.Shapes.{count_of, IsWithin};
 ghost use Rattle.tw_shapes.specs.View.{shape_of};
 
+use crate::chains::{ArgumentRow, arrow, ascriptions, resumed};
 use crate::family::{Due, FamilyShape, closed_shape, family_due, kind_behind, type_behind};
 use crate::walk::Walk;
 use std::alloc::{AllocError, Global};
 use tw_fixity::{Name, Scope};
 use tw_names::{binder_name, is_uppercase, named, nested};
 use tw_parse::ExtTerm;
-use tw_shapes::{Parts, Shape, Shapes};
+use tw_shapes::{Shape, Shapes};
 use tw_signature::{Body, Entry, Signature};
 use tw_terms::{ConstId, Head};
 
@@ -44,7 +46,7 @@ pub fn term_shape(
             lambda_shape(alloc, signature, walk, name, domain, body, frames)
         }
         ExtTerm::App(_, _) => application_shape(alloc, signature, walk, term, frames),
-        ExtTerm::Ascribe(inner, ty) => ascription_shape(alloc, signature, walk, inner, ty, frames),
+        ExtTerm::Ascribe(_, _) => ascription_shape(alloc, signature, walk, term, frames),
         ExtTerm::Star | ExtTerm::Arrow(_, _) | ExtTerm::Pi(_, _, _, _) => Ok(None),
     }
 }
@@ -74,13 +76,8 @@ fn lambda_shape(
     Ok(Some(arrow(alloc, domain, range)?))
 }
 
-fn arrow(alloc: Global, domain: Shape, range: Shape) -> Result<Shape, AllocError>
-    ensures { IfOk result (λ s. shape_of s ≡ plain.arrow (shape_of domain) (shape_of range)) }
-{
-    Ok(Shape::Arrow(Box::new(alloc, domain)?, Box::new(alloc, range)?))
-}
-
-/// Of an application.
+/// Of an application. An argument that is an application is a row of its own, for which the outer one waits on the heap.
+#[inline(never)]
 #[cycle(shapes)]
 fn application_shape(
     alloc: Global,
@@ -92,42 +89,101 @@ fn application_shape(
     requires { IsSound (state_of walk.old) }
     ensures { IfOk result (λ o. TermIsRead signature.now (state_of walk.old) (state_of walk.new) (term_of term.now) o) }
 {
-    let (head, mut arguments) = term.spine(alloc)?;
-    let Some(mut function) = term_shape(alloc, signature, walk, head, frames)? else {
+    let frames = nested(frames)?;
+    let mut waiting = Vec::new(alloc);
+    let Some(mut row) = begin(alloc, signature, walk, term, frames)? else {
         return Ok(None);
     };
-    while let Some(argument) = arguments.pop() {
-        let Some(argument) = term_shape(alloc, signature, walk, argument, frames)? else {
-            return Ok(None);
-        };
-        match applied(alloc, walk, function, argument)? {
-            Some(result) => function = result,
-            None => return Ok(None),
+    for _ in 0..u64::MAX {
+        match row.arguments.pop() {
+            Some(argument) => match argument {
+                ExtTerm::App(_, _) => {
+                    waiting.push(row)?;
+                    match begin(alloc, signature, walk, argument, frames)? {
+                        Some(begun) => row = begun,
+                        None => return Ok(None),
+                    }
+                }
+                ExtTerm::Ident(_, _)
+                | ExtTerm::Hole(_)
+                | ExtTerm::Star
+                | ExtTerm::Arrow(_, _)
+                | ExtTerm::Pi(_, _, _, _)
+                | ExtTerm::Lam(_, _, _, _)
+                | ExtTerm::Ascribe(_, _) => {
+                    let Some(shape) = term_shape(alloc, signature, walk, argument, frames)? else {
+                        return Ok(None);
+                    };
+                    match resumed(alloc, walk, row, shape)? {
+                        Some(rest) => row = rest,
+                        None => return Ok(None),
+                    }
+                }
+            },
+            None => match waiting.pop() {
+                Some(outer) => match resumed(alloc, walk, outer, row.function)? {
+                    Some(rest) => row = rest,
+                    None => return Ok(None),
+                },
+                None => return Ok(Some(row.function)),
+            },
         }
     }
-    Ok(Some(function))
+    // No text in memory has so many rows and arguments; no clause of a text says so.
+    Err(AllocError)
 }
 
-/// Of a term with its type.
+/// A row of which what stands before the arguments is read.
+#[inline(never)]
+#[cycle(shapes)]
+fn begin<'a>(
+    alloc: Global,
+    signature: &Signature,
+    walk: &mut Walk,
+    term: &'a ExtTerm,
+    frames: u32,
+) -> Result<Option<ArgumentRow<'a>>, AllocError>
+    requires { IsSound (state_of walk.old) }
+    ensures { IfOk result (IsBegun signature.now (state_of walk.old) (state_of walk.new) (term_of term.now)) }
+{
+    let (head, arguments) = term.spine(alloc)?;
+    match term_shape(alloc, signature, walk, head, frames)? {
+        Some(function) => Ok(Some(ArgumentRow {
+            function,
+            arguments,
+        })),
+        None => Ok(None),
+    }
+}
+
+/// Of a term with its type, or with several, one behind the other. They are read from the inside out.
+#[inline(never)]
 #[cycle(shapes)]
 fn ascription_shape(
     alloc: Global,
     signature: &Signature,
     walk: &mut Walk,
     term: &ExtTerm,
-    ty: &ExtTerm,
     frames: u32,
 ) -> Result<Option<Shape>, AllocError>
     requires { IsSound (state_of walk.old) }
-    ensures { IfOk result (λ o. TermIsRead signature.now (state_of walk.old) (state_of walk.new) (ascription (term_of term.now) (term_of ty.now)) o) }
+    ensures { IfOk result (λ o. TermIsRead signature.now (state_of walk.old) (state_of walk.new) (term_of term.now) o) }
 {
-    let Some(shape) = term_shape(alloc, signature, walk, term, frames)? else {
+    let frames = nested(frames)?;
+    let (inner, mut types) = ascriptions(alloc, term)?;
+    let Some(mut shape) = term_shape(alloc, signature, walk, inner, frames)? else {
         return Ok(None);
     };
-    let Some(expected) = type_shape(alloc, signature, walk, ty, frames)? else {
-        return Ok(None);
-    };
-    ascribed(walk, shape, expected)
+    while let Some(ty) = types.pop() {
+        let Some(expected) = type_shape(alloc, signature, walk, ty, frames)? else {
+            return Ok(None);
+        };
+        match ascribed(walk, shape, expected)? {
+            Some(result) => shape = result,
+            None => return Ok(None),
+        }
+    }
+    Ok(Some(shape))
 }
 
 /// What a name is in a term.
@@ -212,54 +268,6 @@ fn uppercase_shape(alloc: Global, walk: &mut Walk, name: &Name) -> Result<Shape,
     }
 }
 
-/// What a term is on an argument.
-fn applied(
-    alloc: Global,
-    walk: &mut Walk,
-    function: Shape,
-    argument: Shape,
-) -> Result<Option<Shape>, AllocError>
-    requires sound { IsSound (state_of walk.old) }
-    requires function { IsWithin (count_of walk.old.shapes) (shape_of function) }
-    requires argument { IsWithin (count_of walk.old.shapes) (shape_of argument) }
-    ensures { IfOk result (λ o. IsApplied (state_of walk.old) (state_of walk.new) (shape_of function) (shape_of argument) o) }
-{
-    match function.parts() {
-        Parts::Arrow(domain, range) => {
-            if walk.shapes.unify(&domain, &argument)? {
-                Ok(Some(Box::into_inner(range)))
-            } else {
-                Ok(None)
-            }
-        }
-        Parts::Variable(variable) => {
-            applied_unknown(alloc, walk, Shape::Variable(variable), argument)
-        }
-        Parts::Base(family) => applied_unknown(alloc, walk, Shape::Base(family), argument),
-    }
-}
-
-/// The same where the term's shape may not be known.
-fn applied_unknown(
-    alloc: Global,
-    walk: &mut Walk,
-    function: Shape,
-    argument: Shape,
-) -> Result<Option<Shape>, AllocError>
-    requires sound { IsSound (state_of walk.old) }
-    requires function { IsWithin (count_of walk.old.shapes) (shape_of function) }
-    requires argument { IsWithin (count_of walk.old.shapes) (shape_of argument) }
-    ensures { IfOk result (λ o. IsApplied (state_of walk.old) (state_of walk.new) (shape_of function) (shape_of argument) o) }
-{
-    let range = walk.shapes.fresh()?;
-    let expected = arrow(alloc, argument, Shape::Variable(range))?;
-    if walk.shapes.unify(&function, &expected)? {
-        Ok(Some(Shape::Variable(range)))
-    } else {
-        Ok(None)
-    }
-}
-
 /// What a term is with its type.
 pub fn ascribed(walk: &mut Walk, shape: Shape, expected: Shape) -> Result<Option<Shape>, AllocError>
     requires sound { IsSound (state_of walk.old) }
@@ -334,9 +342,7 @@ fn family_shape(
             pi_shape(alloc, signature, walk, name, domain, range, frames)
         }
         ExtTerm::App(_, _) => applied_family(alloc, signature, walk, term, frames),
-        ExtTerm::Ascribe(inner, kind) => {
-            ascribed_family(alloc, signature, walk, inner, kind, frames)
-        }
+        ExtTerm::Ascribe(_, _) => ascribed_family(alloc, signature, walk, term, frames),
         ExtTerm::Star | ExtTerm::Lam(_, _, _, _) => Ok(None),
     }
 }
@@ -400,6 +406,7 @@ fn pi_shape(
     requires { IsSound (state_of walk.old) }
     ensures { (at : Place) → IfOk result (λ o. FamilyIsRead signature.now (state_of walk.old) (state_of walk.new) (pi name.now at (boxed_domain domain.now) (term_of range.now)) o) }
 {
+    let frames = nested(frames)?;
     match domain_shape(alloc, signature, walk, domain, frames)? {
         Some(domain) => {
             let name = binder_name(alloc, name)?;
@@ -446,6 +453,7 @@ fn applied_family(
     requires { IsSound (state_of walk.old) }
     ensures { IfOk result (λ o. FamilyIsRead signature.now (state_of walk.old) (state_of walk.new) (term_of term.now) o) }
 {
+    let frames = nested(frames)?;
     let (head, mut arguments) = term.spine(alloc)?;
     let Some(mut family) = family_shape(alloc, signature, walk, head, frames)? else {
         return Ok(None);
@@ -507,7 +515,7 @@ fn known_on_argument(
     }
 }
 
-/// What a family is with its kind.
+/// What a family is with its kind, or with several, one behind the other. They are read from the inside out.
 #[inline(never)]
 #[cycle(shapes)]
 fn ascribed_family(
@@ -515,19 +523,26 @@ fn ascribed_family(
     signature: &Signature,
     walk: &mut Walk,
     term: &ExtTerm,
-    kind: &ExtTerm,
     frames: u32,
 ) -> Result<Option<FamilyShape>, AllocError>
     requires { IsSound (state_of walk.old) }
-    ensures { IfOk result (λ o. FamilyIsRead signature.now (state_of walk.old) (state_of walk.new) (ascription (term_of term.now) (term_of kind.now)) o) }
+    ensures { IfOk result (λ o. FamilyIsRead signature.now (state_of walk.old) (state_of walk.new) (term_of term.now) o) }
 {
-    let Some(family) = family_shape(alloc, signature, walk, term, frames)? else {
+    let frames = nested(frames)?;
+    let (inner, mut kinds) = ascriptions(alloc, term)?;
+    let Some(mut family) = family_shape(alloc, signature, walk, inner, frames)? else {
         return Ok(None);
     };
-    let Some(expected) = kind_due(alloc, signature, walk, kind, frames)? else {
-        return Ok(None);
-    };
-    of_kind(walk, family, expected)
+    while let Some(kind) = kinds.pop() {
+        let Some(expected) = kind_due(alloc, signature, walk, kind, frames)? else {
+            return Ok(None);
+        };
+        match of_kind(walk, family, expected)? {
+            Some(result) => family = result,
+            None => return Ok(None),
+        }
+    }
+    Ok(Some(family))
 }
 
 /// What a family is where its kind is due this.
@@ -633,6 +648,7 @@ pub fn kind_due(
 }
 
 /// What is due from a domain of this shape on.
+#[inline(never)]
 #[cycle(shapes)]
 fn rest_due(
     alloc: Global,
@@ -647,6 +663,7 @@ fn rest_due(
     requires domain { IsWithin (count_of walk.old.shapes) (shape_of domain) }
     ensures { IfOk result (λ o. RestIsRead signature.now (state_of walk.old) (state_of walk.new) name (shape_of domain) (term_of rest.now) o) }
 {
+    let frames = nested(frames)?;
     walk.enter(name, domain.copy(alloc)?)?;
     let Some(due) = kind_due(alloc, signature, walk, rest, frames)? else {
         return Ok(None);

@@ -108,7 +108,7 @@ module _ (v : View) (d : Declaration) (k : IsCompletable v d) where
   nothing_stops first (Unknown place name) h = absurd (no_unknown name place h)
   nothing_stops first (Unsupported place shown) (inl h, e) = absurd (no_type_level None h.0)
   nothing_stops first (Unsupported place shown) (inr h, e) = absurd (no_type_level (Some place) h)
-  nothing_stops first (Loose place) h = absurd (k.not_loose h.0.1)
+  nothing_stops first (Loose place) h = absurd (k.not_loose h.0.2)
   nothing_stops first (Mismatch place) h = absurd (h.0.none k.completed)
   nothing_stops first (Leftover place text) ((left, h, e), there) = absurd (k.none_left left h)
   nothing_stops first (TooDeep place) h = absurd (k.shallow h.0)

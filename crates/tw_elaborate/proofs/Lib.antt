@@ -3,6 +3,7 @@ pub mod Scoping
 pub mod Freeing
 pub mod Equating
 pub mod Unbound
+pub mod Nesting
 pub mod Bodying
 pub mod NewHoles
 pub mod Naming

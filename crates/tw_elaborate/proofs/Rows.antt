@@ -28,12 +28,12 @@ use Rattle.tw_elaborate.specs.Fits.{Stands}
 use Rattle.tw_elaborate.specs.Fresh.{Keeps}
 use Rattle.tw_elaborate.specs.Operators.{Applies, IsNext, IsTerm, PutsIn, PutsInDeep, TakesArgumentDeep, applied_to, operator_of, written_terms}
 use Rattle.tw_elaborate.specs.Rows.{Reached}
-use Rattle.tw_elaborate.specs.declared.operators.Next.{Next}
-use Rattle.tw_elaborate.specs.declared.operators.Next.TheVariants.{Argument, Nothing}
+use Rattle.tw_elaborate.specs.declared.waiting.Next.{Next}
+use Rattle.tw_elaborate.specs.declared.waiting.Next.TheVariants.{Argument, Nothing}
 use Rattle.tw_elaborate.specs.declared.operators.Operator.{Operator}
 use Rattle.tw_elaborate.specs.View.{made}
-use Rattle.tw_elaborate.specs.declared.operators.Begun.{Begun}
-use Rattle.tw_elaborate.specs.declared.operators.Waiting.{Waiting}
+use Rattle.tw_elaborate.specs.declared.waiting.Begun.{Begun}
+use Rattle.tw_elaborate.specs.declared.waiting.Waiting.{Waiting}
 use Rattle.tw_elaborate.specs.declared.state.Elaboration.{Elaboration}
 use Rattle.tw_elaborate.proofs.Following.{inferred_stands, inferred_term, inferred_type, operator_applies, range_fits}
 

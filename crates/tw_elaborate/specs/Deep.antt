@@ -8,9 +8,9 @@ use Rattle.lf.specs.Substitution.{reduce, single, substitute}
 use Rattle.lf.specs.Syntax.{Kind, LfType, Skeleton, Spine, Term, app, arrow as arrow_skeleton, kind_pi, lambda, pi, skeleton}
 use Rattle.lf_elaboration.specs.Elaboration.{Checks, ElaboratesDomain, ElaboratesFamily, ElaboratesKind, ElaboratesType, Infers, IsInferred, TakesNew}
 use Rattle.lf_elaboration.specs.State.{State, type_equations, with_equations}
-use Rattle.lf_elaboration.specs.Written.{Place, Written, WrittenDomain, WrittenKind, WrittenType, applied, arrow, ascribed, bound, declared, family, family_applied, family_ascribed, free, function, hole, kind_arrow, kind_quantified, of_skeleton, of_type, quantified, type_hole, written_star}
+use Rattle.lf_elaboration.specs.Written.{Place, Written, WrittenDomain, WrittenKind, WrittenType, applied, arrow, ascribed, declared, family, family_applied, family_ascribed, function, hole, kind_arrow, kind_quantified, of_skeleton, of_type, quantified, type_hole, written_star}
 use Rattle.tw_elaborate.specs.IndicesDeep.{KindIndicesDeep, TypesDeep}
-use Rattle.tw_elaborate.specs.Plain.{DomainIsPlain, IsDefined, IsReducible}
+use Rattle.tw_elaborate.specs.Plain.{DomainIsPlain, IsReducible}
 use Rattle.tw_elaborate.specs.NewDeep.{KindTakesNewDeep, NewTypeDeep, TakesNewDeep}
 
 -- of the arguments that a term takes one after another, one is put in with a term deeper than the limit

@@ -1,4 +1,4 @@
--- Types and kinds that are compared: behind an argument of a family a kind is left that is deeper than 4,096.
+-- Types and kinds that are compared: behind an argument of a family a kind is left with a domain that is deeper than 4,096.
 use Rattle.std.specs.Prelude.{◌≡◌, Some, ◌⊎◌}
 use Rattle.lf.specs.Depth.{depth_limit}
 use Rattle.lf.specs.Syntax.{Kind, LfType, atom, kind_pi, pi, star}

@@ -10,6 +10,7 @@ pub mod Comparing
 pub mod NewDeep
 pub mod IndicesDeep
 pub mod Plain
+pub mod Nesting
 pub mod Deep
 pub mod Frees
 pub mod Unbound

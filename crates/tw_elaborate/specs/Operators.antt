@@ -12,9 +12,9 @@ use Rattle.lf_elaboration.specs.Written as theory
 use Rattle.tw_terms.specs.OpenView.{open_head_of, open_spine_of, open_term_of, open_type_of}
 use Rattle.tw_written.specs.View.{written_of}
 use Rattle.tw_written.specs.declared.written.Written.{Written}
-use Rattle.tw_elaborate.specs.declared.operators.Begun.{Begun}
-use Rattle.tw_elaborate.specs.declared.operators.Next.{Next}
-use Rattle.tw_elaborate.specs.declared.operators.Next.TheVariants.{Argument, Nothing}
+use Rattle.tw_elaborate.specs.declared.waiting.Begun.{Begun}
+use Rattle.tw_elaborate.specs.declared.waiting.Next.{Next}
+use Rattle.tw_elaborate.specs.declared.waiting.Next.TheVariants.{Argument, Nothing}
 use Rattle.tw_elaborate.specs.declared.operators.Operator.{Operator}
 use Rattle.tw_elaborate.specs.declared.operators.Operator.TheVariants.{Head, Term}
 

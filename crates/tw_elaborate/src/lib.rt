@@ -23,6 +23,8 @@ mod plain;
 mod state;
 #[tactic(auto, using(tw_open::proofs::Steps::steps))]
 mod terms;
+#[tactic(auto, using(tw_open::proofs::Steps::steps))]
+mod waiting;
 
 pub use bodies::{Elaborated, OpenBody, elaborate};
 pub use frames::FRAMES;

@@ -1,5 +1,6 @@
 //! Whether something is written in full.
-ghost use Rattle.std.specs.Prelude.{MatchBool};
+ghost use Rattle.std.specs.Prelude.{◌<◌, ◌≤◌, MatchBool};
+ghost use Rattle.tw_elaborate.specs.Nesting.{domain_nesting, term_nesting, type_nesting};
 ghost use Rattle.tw_elaborate.specs.Plain.{DomainIsPlain, HasNoImplicit, IsDefined, IsSteady, TermIsPlain, TypeIsPlain};
 ghost use Rattle.tw_written.specs.View.{written_domain_of, written_of, written_type_of};
 
@@ -96,7 +97,9 @@ fn has_no_implicit(signature: &Signature, id: ConstId) -> bool
 
 /// Whether no more than so many parts nest in the type of a binder. A walk through it by calls takes the machine's stack, of which this one takes no more than for these. It takes no memory.
 #[cycle(nesting)]
-pub fn domain_nests_within(domain: &WrittenDomain, levels: u32) -> bool {
+pub fn domain_nests_within(domain: &WrittenDomain, levels: u32) -> bool
+    ensures { MatchBool result (domain_nesting (written_domain_of domain.now) ≤ levels) (levels < domain_nesting (written_domain_of domain.now)) }
+{
     match domain {
         WrittenDomain::OfType(ty) => type_nests_within(ty, levels),
         WrittenDomain::OfSkeleton(_, _) => true,
@@ -105,7 +108,9 @@ pub fn domain_nests_within(domain: &WrittenDomain, levels: u32) -> bool {
 
 /// The same of a type. What isn't written in full is gone into nowhere.
 #[cycle(nesting)]
-fn type_nests_within(ty: &WrittenType, levels: u32) -> bool {
+fn type_nests_within(ty: &WrittenType, levels: u32) -> bool
+    ensures { MatchBool result (type_nesting (written_type_of ty.now) ≤ levels) (levels < type_nesting (written_type_of ty.now)) }
+{
     let Some(left) = levels.checked_sub(1) else {
         return false;
     };
@@ -125,7 +130,9 @@ fn type_nests_within(ty: &WrittenType, levels: u32) -> bool {
 
 /// The same of a term.
 #[cycle(nesting)]
-fn term_nests_within(term: &Written, levels: u32) -> bool {
+fn term_nests_within(term: &Written, levels: u32) -> bool
+    ensures { MatchBool result (term_nesting (written_of term.now) ≤ levels) (levels < term_nesting (written_of term.now)) }
+{
     let Some(left) = levels.checked_sub(1) else {
         return false;
     };

@@ -22,16 +22,17 @@ use crate::frames::{LEVELS, PARTS};
 use crate::fresh::new_type;
 use crate::heads::{bound, declared, free, named_family};
 use crate::holes::{checked_hole, term_hole};
-use crate::operators::{
-    Begun, Next, Operator, advance, begun_with, family_row, finish, pop_waiting, push_waiting,
-    resume, row,
-};
+use crate::operators::Operator;
 use crate::parts::{
     arrows, compare_ascribed, family_application, function, kind_arrows, push_domain, push_kind,
     unascribed,
 };
 use crate::plain::{domain_nests_within, is_plain_domain};
 use crate::state::Elaboration;
+use crate::waiting::{
+    Begun, Next, advance, begun_with, family_row, finish, left_under, pop_waiting, push_waiting,
+    resume, row,
+};
 use std::alloc::Global;
 use tw_hered::HeredFault;
 use tw_open::{OpenKind, kind_pi, lambda, pi};
@@ -135,7 +136,8 @@ fn infer_function(
     Ok(function(alloc, domain, body, range)?)
 }
 
-/// A row of arguments, none or more, put to what stands before them, and the type that is left. A row that is an argument of another one nests on the heap.
+/// A row of arguments, none or more, put to what stands before them, and the type that is left. A row that is an argument of another one nests on the heap,
+/// and each level that it comes to leaves a call fewer to what it waits for.
 #[cycle(elaborate)]
 #[inline(never)]
 fn infer_applied(
@@ -153,14 +155,22 @@ fn infer_applied(
     ensures keeps { Keeps state.old state.new }
 {
     let mut waiting = Vec::new(alloc);
-    let mut heads = 0;
-    let mut begun = begin(alloc, signature, frees, state, written, frames)?;
+    let mut begun = begin(alloc, signature, frees, state, written, frames, 0)?;
     for _ in 0..u64::MAX {
         match advance(alloc, begun)? {
             Next::Argument(arg, outer) => match arg {
                 Written::Applied(_, _) => {
-                    push_waiting(&mut waiting, &mut heads, outer)?;
-                    begun = begin(alloc, signature, frees, state, arg, frames)?;
+                    let above = outer.inside;
+                    push_waiting(&mut waiting, outer)?;
+                    begun = begin(
+                        alloc,
+                        signature,
+                        frees,
+                        state,
+                        arg,
+                        left_under(frames, above),
+                        above,
+                    )?;
                 }
                 Written::Free(_, _)
                 | Written::Bound(_)
@@ -168,13 +178,21 @@ fn infer_applied(
                 | Written::Hole(_, _)
                 | Written::Function(_, _)
                 | Written::Ascribed(_, _) => {
-                    let arg = check(alloc, signature, frees, state, arg, &outer.domain, frames)?;
+                    let arg = check(
+                        alloc,
+                        signature,
+                        frees,
+                        state,
+                        arg,
+                        &outer.domain,
+                        left_under(frames, outer.inside),
+                    )?;
                     begun = resume(alloc, outer, arg)?;
                 }
             },
             Next::Nothing(whole) => {
                 let (term, ty) = finish(alloc, whole)?;
-                match pop_waiting(alloc, &mut waiting, &mut heads)? {
+                match pop_waiting(alloc, &mut waiting)? {
                     Some(outer) => {
                         compare_types(alloc, signature, state, &ty, &outer.domain)?;
                         begun = resume(alloc, outer, term)?;
@@ -188,7 +206,7 @@ fn infer_applied(
     Err(HeredFault::NoMemory)
 }
 
-/// A row of which what stands before the arguments is elaborated.
+/// A row of which what stands before the arguments is elaborated, below so many levels of the rows that wait for it.
 #[cycle(elaborate)]
 #[inline(never)]
 fn begin<'a>(
@@ -198,6 +216,7 @@ fn begin<'a>(
     state: &mut Elaboration,
     written: &'a Written,
     frames: u32,
+    above: u64,
 ) -> Result<Box<Begun<'a>>, HeredFault>
     requires canonical { IsCanonicalSignature signature.now }
     requires stands { Stands (signature_of signature.now) (made state.old) state.old.locals }
@@ -207,7 +226,7 @@ fn begin<'a>(
 {
     let (head, args) = row(alloc, written)?;
     let (operator, ty) = elaborate_operator(alloc, signature, frees, state, head, frames)?;
-    Ok(begun_with(alloc, operator, ty, args)?)
+    Ok(begun_with(alloc, operator, ty, args, above)?)
 }
 
 /// What stands before arguments, and its type. A row itself stands before none, and memory counts as used up.

@@ -24,7 +24,7 @@ pub enum Wanted {
 }
 
 /// Adds the equations of the arguments that the kind takes behind those that were found, the first one's side on the left.
-/// Answers `TooDeep` only where the kind that is left behind one of these is deeper than 4,096.
+/// Answers `TooDeep` only where the kind that is left behind one of these has a domain deeper than 4,096.
 pub fn index_equations(
     alloc: Global,
     locals: &OpenContext,

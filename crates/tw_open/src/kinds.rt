@@ -7,6 +7,7 @@ ghost use Rattle.lf.specs.Syntax.{kind_pi as kind_pi_of, rename_kind, skeleton};
 ghost use Rattle.tw_hered.specs.Fits.{KindFits, put_at};
 ghost use Rattle.tw_terms.specs.OpenView.{open_term_of, open_type_of};
 ghost use Rattle.tw_terms.specs.View.{kind_of};
+ghost use Rattle.tw_open.specs.Deep.{HasDeepDomain};
 ghost use Rattle.tw_open.specs.View.{open_kind_of};
 
 use std::alloc::{AllocError, Global};
@@ -34,7 +35,7 @@ pub fn open_kind(alloc: Global, kind: &Kind) -> Result<OpenKind, AllocError>
 }
 
 /// The kind with `arg`, a term of the skeleton of `ty`, put in for the variable `index`, as `tw_putting::substitute_type` has it.
-/// Answers `TooDeep` only where the kind that comes out is deeper than 4,096, and `NoMemory` where memory is wanting.
+/// Answers `TooDeep` only where a domain of the kind that comes out is deeper than 4,096, and `NoMemory` where memory is wanting.
 pub fn instantiate_kind(
     alloc: Global,
     kind: &OpenKind,
@@ -45,6 +46,7 @@ pub fn instantiate_kind(
     requires { KindFits (put_at index (skeleton (open_type_of ty.now)) (open_term_of arg.now)) (open_kind_of kind.now) }
     ensures ok { IfOk result (λ k. open_kind_of k ≡ substitute_kind reduce (put_at index (skeleton (open_type_of ty.now)) (open_term_of arg.now)) (open_kind_of kind.now)) }
     ensures too_deep { IsErrOf result HeredFault.TooDeep → depth_limit < kind_depth (substitute_kind reduce (put_at index (skeleton (open_type_of ty.now)) (open_term_of arg.now)) (open_kind_of kind.now)) }
+    ensures deep_domain { IsErrOf result HeredFault.TooDeep → HasDeepDomain depth_limit (substitute_kind reduce (put_at index (skeleton (open_type_of ty.now)) (open_term_of arg.now)) (open_kind_of kind.now)) }
 {
     match kind {
         OpenKind::Pi(domain, range) => {

@@ -6,6 +6,7 @@ pub mod Marking
 pub mod Declared
 pub mod Whole
 pub mod Spines
+pub mod Waiting
 pub mod Rests
 pub mod Answering
 pub mod WholeBodies

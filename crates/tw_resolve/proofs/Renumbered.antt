@@ -1,5 +1,5 @@
 -- A text that is resolved with its free variables in another order.
-use Rattle.std.proofs.Common.{◌≡◌, ℕ, List, [], ◌∷◌, option_map, Bool, true, false, Option, None, Some, if◌then◌else◌, refl, ap, ◌∙◌}
+use Rattle.std.proofs.Common.{◌≡◌, ℕ, List, [], ◌∷◌, option_map, Bool, true, false, Option, None, Some, refl, ap, ◌∙◌}
 use Rattle.lf.specs.Entries.{Entry}
 use Rattle.lf.specs.Syntax.{Head, Skeleton, constant, metavariable, variable}
 use Rattle.lf_elaboration.specs.Principal.{written_constant, written_definition, written_definition_of, written_family}

@@ -1,4 +1,5 @@
 pub mod Resolving
 pub mod Resolved
 pub mod Rest
+pub mod Rows
 pub mod Fitting

@@ -8,6 +8,8 @@ pub mod laws;
 mod resolution;
 #[tactic(auto, using(crate::proofs::Rests::rests))]
 mod resolving;
+#[tactic(auto, using(crate::proofs::Spines::texts))]
+mod rows;
 mod texts;
 
 pub use bodies::{resolve, resolve_goal};

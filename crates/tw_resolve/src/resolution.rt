@@ -9,7 +9,9 @@ ghost use Rattle.tw_resolve.specs.Resolving.{resolved_term, resolved_type, resol
 ghost use Rattle.tw_written.specs.View.{place_of, written_of, written_domain_of as domain_of, written_type_of as type_of, written_kind_of as kind_of};
 
 use crate::resolving::Resolving;
+use crate::rows::{Next, advance};
 use std::alloc::{AllocError, Global};
+use tw_approx::ascriptions;
 use tw_fixity::Name;
 use tw_lexer::Place;
 use tw_names::{binder_name, nested};
@@ -41,21 +43,13 @@ pub fn resolved_term(
             function(alloc, signature, resolving, name, *at, domain, body, frames)
         }
         ExtTerm::App(_, _) => application(alloc, signature, resolving, term, frames),
-        ExtTerm::Ascribe(inner, ty) => {
-            let Some(inner) = resolved_term(alloc, signature, resolving, inner, frames)? else {
-                return Ok(None);
-            };
-            let Some(ty) = resolved_type(alloc, signature, resolving, ty, frames)? else {
-                return Ok(None);
-            };
-            let inner = Box::new(alloc, inner)?;
-            Ok(Some(Written::Ascribed(inner, Box::new(alloc, ty)?)))
-        }
+        ExtTerm::Ascribe(_, _) => ascribed_term(alloc, signature, resolving, term, frames),
         ExtTerm::Star | ExtTerm::Arrow(_, _) | ExtTerm::Pi(_, _, _, _) => Ok(None),
     }
 }
 
 /// A lambda.
+#[inline(never)]
 #[cycle(resolved)]
 fn function(
     alloc: Global,
@@ -71,6 +65,7 @@ fn function(
     ensures scope { OnOk result (resolving.new.scope ≡ resolving.old.scope) }
     ensures free { OnOk result (resolving.new.free ≡ resolving.old.free) }
 {
+    let frames = nested(frames)?;
     let Some(domain) = resolved_domain(alloc, signature, resolving, at, domain, frames)? else {
         return Ok(None);
     };
@@ -83,7 +78,8 @@ fn function(
     }
 }
 
-/// An application.
+/// A row of arguments, put to what stands before them. A row that is an argument of another one nests on the heap.
+#[inline(never)]
 #[cycle(resolved)]
 fn application(
     alloc: Global,
@@ -96,18 +92,50 @@ fn application(
     ensures scope { OnOk result (resolving.new.scope ≡ resolving.old.scope) }
     ensures free { OnOk result (resolving.new.free ≡ resolving.old.free) }
 {
-    let (head, mut arguments) = term.spine(alloc)?;
-    let Some(mut function) = resolved_term(alloc, signature, resolving, head, frames)? else {
-        return Ok(None);
-    };
-    while let Some(argument) = arguments.pop() {
-        let Some(argument) = resolved_term(alloc, signature, resolving, argument, frames)? else {
+    let frames = nested(frames)?;
+    let mut waiting = Vec::new(alloc);
+    let mut next = term;
+    for _ in 0..u64::MAX {
+        let (head, arguments) = next.spine(alloc)?;
+        let Some(function) = resolved_term(alloc, signature, resolving, head, frames)? else {
             return Ok(None);
         };
-        let before = Box::new(alloc, function)?;
-        function = Written::Applied(before, Box::new(alloc, argument)?);
+        match advance(alloc, &mut waiting, function, arguments)? {
+            Next::Argument(argument) => next = argument,
+            Next::Nothing(whole) => return Ok(Some(whole)),
+        }
     }
-    Ok(Some(function))
+    // No text in memory has so many arguments; no clause of a text says so.
+    Err(AllocError)
+}
+
+/// A term at a type, or at several, one behind the other. Their types are resolved from the inside out.
+#[inline(never)]
+#[cycle(resolved)]
+fn ascribed_term(
+    alloc: Global,
+    signature: &Signature,
+    resolving: &mut Resolving,
+    term: &ExtTerm,
+    frames: u32,
+) -> Result<Option<Written>, AllocError>
+    ensures read { IfOk result (λ o. found (option_map written_of o) (rest_of resolving.new) ≡ resolved_term signature.now resolving.old.free resolving.old.scope (term_of term.now) (rest_of resolving.old)) }
+    ensures scope { OnOk result (resolving.new.scope ≡ resolving.old.scope) }
+    ensures free { OnOk result (resolving.new.free ≡ resolving.old.free) }
+{
+    let frames = nested(frames)?;
+    let (inner, mut types) = ascriptions(alloc, term)?;
+    let Some(mut found) = resolved_term(alloc, signature, resolving, inner, frames)? else {
+        return Ok(None);
+    };
+    while let Some(ty) = types.pop() {
+        let Some(ty) = resolved_type(alloc, signature, resolving, ty, frames)? else {
+            return Ok(None);
+        };
+        let before = Box::new(alloc, found)?;
+        found = Written::Ascribed(before, Box::new(alloc, ty)?);
+    }
+    Ok(Some(found))
 }
 
 /// A written type or family.
@@ -146,20 +174,13 @@ pub fn resolved_type(
             )
         }
         ExtTerm::App(_, _) => applied_family(alloc, signature, resolving, term, frames),
-        ExtTerm::Ascribe(inner, kind) => {
-            let Some(inner) = resolved_type(alloc, signature, resolving, inner, frames)? else {
-                return Ok(None);
-            };
-            let Some(kind) = resolved_kind(alloc, signature, resolving, kind, frames)? else {
-                return Ok(None);
-            };
-            of_kind(alloc, inner, kind)
-        }
+        ExtTerm::Ascribe(_, _) => ascribed_type(alloc, signature, resolving, term, frames),
         ExtTerm::Star | ExtTerm::Lam(_, _, _, _) => Ok(None),
     }
 }
 
 /// A quantifier in a type.
+#[inline(never)]
 #[cycle(resolved)]
 fn quantifier(
     alloc: Global,
@@ -175,6 +196,7 @@ fn quantifier(
     ensures scope { OnOk result (resolving.new.scope ≡ resolving.old.scope) }
     ensures free { OnOk result (resolving.new.free ≡ resolving.old.free) }
 {
+    let frames = nested(frames)?;
     let Some(domain) = resolved_domain(alloc, signature, resolving, at, domain, frames)? else {
         return Ok(None);
     };
@@ -188,6 +210,7 @@ fn quantifier(
 }
 
 /// A family on arguments.
+#[inline(never)]
 #[cycle(resolved)]
 fn applied_family(
     alloc: Global,
@@ -200,6 +223,7 @@ fn applied_family(
     ensures scope { OnOk result (resolving.new.scope ≡ resolving.old.scope) }
     ensures free { OnOk result (resolving.new.free ≡ resolving.old.free) }
 {
+    let frames = nested(frames)?;
     let (head, mut arguments) = term.spine(alloc)?;
     let Some(mut family) = resolved_type(alloc, signature, resolving, head, frames)? else {
         return Ok(None);
@@ -209,6 +233,37 @@ fn applied_family(
             return Ok(None);
         };
         match on_argument(alloc, family, argument)? {
+            Some(result) => family = result,
+            None => return Ok(None),
+        }
+    }
+    Ok(Some(family))
+}
+
+/// A family or a type with its kind, or with several, one behind the other. They are resolved from the inside out.
+#[inline(never)]
+#[cycle(resolved)]
+fn ascribed_type(
+    alloc: Global,
+    signature: &Signature,
+    resolving: &mut Resolving,
+    term: &ExtTerm,
+    frames: u32,
+) -> Result<Option<WrittenType>, AllocError>
+    ensures read { IfOk result (λ o. found (option_map type_of o) (rest_of resolving.new) ≡ resolved_type signature.now resolving.old.free resolving.old.scope (term_of term.now) (rest_of resolving.old)) }
+    ensures scope { OnOk result (resolving.new.scope ≡ resolving.old.scope) }
+    ensures free { OnOk result (resolving.new.free ≡ resolving.old.free) }
+{
+    let frames = nested(frames)?;
+    let (inner, mut kinds) = ascriptions(alloc, term)?;
+    let Some(mut family) = resolved_type(alloc, signature, resolving, inner, frames)? else {
+        return Ok(None);
+    };
+    while let Some(kind) = kinds.pop() {
+        let Some(kind) = resolved_kind(alloc, signature, resolving, kind, frames)? else {
+            return Ok(None);
+        };
+        match of_kind(alloc, family, kind)? {
             Some(result) => family = result,
             None => return Ok(None),
         }
@@ -335,6 +390,7 @@ pub fn resolved_kind(
 }
 
 /// A quantifier in a kind.
+#[inline(never)]
 #[cycle(resolved)]
 fn kind_quantifier(
     alloc: Global,
@@ -350,6 +406,7 @@ fn kind_quantifier(
     ensures scope { OnOk result (resolving.new.scope ≡ resolving.old.scope) }
     ensures free { OnOk result (resolving.new.free ≡ resolving.old.free) }
 {
+    let frames = nested(frames)?;
     let Some(domain) = resolved_domain(alloc, signature, resolving, at, domain, frames)? else {
         return Ok(None);
     };

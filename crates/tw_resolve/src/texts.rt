@@ -13,9 +13,9 @@ use tw_parse::ExtTerm;
 use tw_signature::Signature;
 use tw_written::{Written, WrittenKind, WrittenType};
 
-/// How many calls the walk nests at most; past these it wants memory. What nests 4,096 deep takes a call a level, so only what doesn't count in that depth comes to more: ascriptions,
-/// the types at lambdas, and what a definition, a lambda, a hole or a free variable stands on.
-const FRAMES: u32 = 5_300;
+/// How many calls the walk nests at most, over all groups in brackets together; past these it wants memory. What nests 4,096 deep takes a call a level, and three more at most for each of
+/// the 1,000 brackets that may be open, so only what doesn't count in that depth comes to more. Rows in rows and ascriptions one behind the other nest on the heap.
+const FRAMES: u32 = 7_200;
 
 /// A written term with its names resolved. What isn't written takes its skeletons from what is left of the list. There is none where a name is unknown, where the
 /// list is too short, or where a hole stands for a family. Fails for want of memory alone.

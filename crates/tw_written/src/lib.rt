@@ -5,6 +5,8 @@
 #[tactic(auto, using(crate::proofs::Steps::steps))]
 mod counts;
 #[tactic(auto, using(crate::proofs::Steps::steps))]
+mod dropping;
+#[tactic(auto, using(crate::proofs::Steps::steps))]
 mod first;
 #[tactic(auto, using(crate::proofs::Steps::steps))]
 mod occurrences;
@@ -18,6 +20,7 @@ mod places;
 mod site;
 #[tactic(auto, using(crate::proofs::Steps::steps))]
 mod spots;
+#[tactic(auto, using(crate::proofs::Steps::steps))]
 mod written;
 
 pub use places::{frees_in_text_order, sites};

@@ -21,4 +21,5 @@ returns-in-Some-clause-skeletons c =
 pub returns-in-Some-clause-refused : goal.returns-in-Some-clause-refused
 returns-in-Some-clause-refused c =
     let found = rw c.in-Some.is at c.in_ok-walk.ensures in
-    if_err c.solved.result _ _ (declaration_open c.args.signature.now (state_of c.in-Some.walk) (declaration_of c.args.decl.now) c.in_ok-of_objects.ensures.objects found) c.solved.ensures.open
+    let shallow = rw c.if-branch.false at c.in_ok-declares_deeply.ensures in
+    if_err c.solved.result _ _ (declaration_open c.args.signature.now (state_of c.in-Some.walk) (declaration_of c.args.decl.now) (c.in_ok-known.ensures.known, shallow) c.in_ok-of_objects.ensures.objects found) c.solved.ensures.open

@@ -8,4 +8,4 @@ pub returns-in-Some-clause-refused : goal.returns-in-Some-clause-refused
 returns-in-Some-clause-refused c = (c.requires, sym c.in_ok-is_type_definition.ensures ∙ c.if-branch.false, earliest_is (type_lambdas (declaration_of c.args.decl.now)) c.in-Some.place (sym c.in_ok-place.ensures ∙ c.in-Some.is))
 
 pub returns-in-None-clause-objects : goal.returns-in-None-clause-objects
-returns-in-None-clause-objects c = record { known = c.requires; no_definition = sym c.in_ok-is_type_definition.ensures ∙ c.if-branch.false; no_lambda = no_places (type_lambdas (declaration_of c.args.decl.now)) (sym c.in_ok-place.ensures ∙ c.in-None.is) }
+returns-in-None-clause-objects c = record { known = c.requires.0; no_definition = sym c.in_ok-is_type_definition.ensures ∙ c.if-branch.false; no_lambda = no_places (type_lambdas (declaration_of c.args.decl.now)) (sym c.in_ok-place.ensures ∙ c.in-None.is) }

@@ -29,4 +29,4 @@ returns-in-Some-clause-skeletons c =
 pub returns-in-Some-clause-refused : goal.returns-in-Some-clause-refused
 returns-in-Some-clause-refused c =
     let found = rw c.in-Some.is at c.in_ok-walk.ensures in
-    if_err c.solved.result _ _ (query_open c.args.signature.now (state_of c.in-Some.walk) (term_of c.args.query.now.goal) c.in_ok-of_objects.ensures.objects found) c.solved.ensures.open
+    if_err c.solved.result _ _ (query_open c.args.signature.now (state_of c.in-Some.walk) (term_of c.args.query.now.goal) (c.in_ok-of_objects.ensures.objects.known, c.in_ok-of_objects.ensures.within) c.in_ok-of_objects.ensures.objects found) c.solved.ensures.open

@@ -1,7 +1,9 @@
-use Rattle.std.proofs.Common.{◌∷◌, None, Some, IfOk, refl, sym, ap, ◌∙◌, subst}
+use Rattle.std.proofs.Common.{◌∷◌, None, Some, IfOk, arith, refl, sym, ap, ◌∙◌, subst}
+use Rattle.std.proofs.lemmas.List.{nil_from_length}
 use Rattle.tw_parse.specs.Applied.{written_terms}
 use Rattle.tw_approx.specs.Names.{IsFreeIn, IsFreeInDomain}
-use Rattle.tw_approx.specs.Reading.{state_of, due_of, TermIsRead, FamilyIsRead, TypeIsRead, DomainIsRead, KindIsRead, RangeIsRead, RestIsRead, IsApplied, IsFamilyApplied}
+use Rattle.tw_approx.specs.Reading.{state_of, due_of, TermIsRead, FamilyIsRead, TypeIsRead, DomainIsRead, KindIsRead, RangeIsRead, RestIsRead, IsAscribed, IsFamilyApplied, IsFamilyAscribed}
+use Rattle.tw_approx.specs.ReadingRows.{IsBegun, IsResumed}
 use Rattle.tw_approx.specs.Skeletons.{type_skeleton, domain_skeleton}
 use Rattle.tw_approx.specs.Walks.{filled_all}
 use Rattle.tw_names.specs.Scope.{binder_name}
@@ -9,40 +11,149 @@ use Rattle.tw_parse.proofs.Views.{term_of-Ident, term_of-Hole, term_of-Star, ter
 use Rattle.tw_parse.specs.Syntax.{arrow, pi, lambda}
 use Rattle.tw_parse.specs.View.{term_of, boxed_domain}
 use Rattle.tw_shapes.specs.View.{shape_of}
-use Rattle.tw_approx.proofs.Answering.{if_ok, term_of-Pi, term_of-Lam, entered, type_read, lambda_read, lambda_unread, ascription_read, family_ascription_read, applying_next, applying_argument, applying_refuses, head_refuses, family_applying_next, family_applying_argument, family_applying_refuses, family_head_refuses}
-use Rattle.tw_approx.proofs.Families.{hole_reads, quantifier_read, quantifier_refuses, rest_read, rest_refuses, range_reads, range_refuses, due_reads, due_refuses, family_ascription_refuses_family, family_ascription_refuses_kind}
-use Rattle.tw_approx.proofs.Forms.{both_parts, type_refuses_family, lambda_refuses_domain, ascription_refuses_term, ascription_refuses_type}
+use Rattle.tw_approx.proofs.Answering.{if_ok, term_of-Pi, term_of-Lam, entered, type_read, lambda_read, lambda_unread, head_refuses, family_applying_next, family_applying_argument, family_applying_refuses, family_head_refuses}
+use Rattle.tw_approx.proofs.Ascribing.{inner_refuses, inner_family_refuses, type_refused, type_taken, ascription_refused, kind_refused, kind_taken, family_ascription_refused}
+use Rattle.tw_approx.proofs.Families.{hole_reads, quantifier_read, quantifier_refuses, rest_read, rest_refuses, range_reads, range_refuses, due_reads, due_refuses}
+use Rattle.tw_approx.proofs.Forms.{both_parts, type_refuses_family, lambda_refuses_domain}
 use Rattle.tw_approx.proofs.Families.{family_more, star_reads}
 use Rattle.tw_approx.proofs.Assigning.{shape_more}
 use Rattle.tw_approx.proofs.Views.{due_of-Nothing, due_of-Next}
+use Rattle.tw_approx.specs.declared.chains.ArgumentRow.{ArgumentRow}
 use Rattle.tw_approx.specs.declared.family.Due.TheVariants.{Nothing, Next}
 use Rattle.tw_approx.specs.declared.family.FamilyShape.TheVariants.{Unknown}
 use Rattle.tw_shapes.specs.Shapes.{count_of}
+use Rattle.tw_approx.proofs.WaitingRows.{first_row, rows_stay, next_asked, outer_asked, row_asked, asked_refused, function_within, argument_taken, argument_refused}
 use Rattle.tw_approx.proofs.skeletons.+shapes.Goals as goal
+use Rattle.tw_approx.proofs.skeletons.+shapes.Goals.{application_shape-in-Some-pop+in-App+in_ok-push-in-App+in_ok-begun-in-App+in-Some-2, application_shape-in-Some-pop+in-Ident+in_ok-shape-in-Ident+in-Some-3+in_ok-rest-in-Ident+in-Some-4, application_shape-in-None+in-Some-pop-2+in_ok-rest-in-Some-pop-2+in-Some-5}
 
-pub application_shape-returns-in_default : goal.application_shape-returns-in_default
-application_shape-returns-in_default t c =
-    head_refuses c.args.signature.now (state_of c.args.walk.now) c.requires (term_of c.in_ok-head.head.now) (term_of c.args.term.now) (written_terms c.in_ok-head.arguments.items) c.in_ok-head.ensures (subst (TermIsRead c.args.signature.now (state_of c.args.walk.now) (state_of c.term_shape.new.walk) (term_of c.in_ok-head.head.now)) c.in_default.is c.in_ok-function.ensures)
+pub application_shape-loop-init : goal.application_shape-loop-init
+application_shape-loop-init t c =
+    first_row c.args.signature.now c.new-waiting.result.items c.in-Some.row (term_of c.args.term.now) (state_of c.args.walk.now) (state_of c.begin.new.walk) c.new-waiting.ensures.items (subst (IsBegun c.args.signature.now (state_of c.args.walk.now) (state_of c.begin.new.walk) (term_of c.args.term.now)) c.in-Some.is c.in_ok-row.ensures)
+
+pub application_shape-returns-in-None-2 : goal.application_shape-returns-in-None-2
+application_shape-returns-in-None-2 t c =
+    let es = c.args.signature.now in
+    let rest : ArgumentRow = record { function = c.loop.row.function; arguments = c.pop.new.self } in
+    let k = next_asked es c.loop.invariant rest c.in-Some-pop.argument c.in-Some-pop.ensures.items refl in
+    asked_refused es k c.requires (subst (IsBegun es (state_of c.loop.walk) (state_of c.begin-in-App.new.walk) (term_of c.in-Some-pop.argument.now)) c.in-None-2.is c.in_ok-begun-in-App.ensures)
 
 pub application_shape-returns-in_default-2 : goal.application_shape-returns-in_default-2
 application_shape-returns-in_default-2 t c =
-    applying_argument c.args.signature.now (state_of c.args.walk.now) c.requires (term_of c.args.term.now) c.loop-argument.arguments.items c.pop.new.self.items c.in-Some-pop.argument (state_of c.loop-argument.walk) (shape_of c.loop-argument.function) c.in-Some-pop.ensures.items c.loop-argument.invariant (subst (TermIsRead c.args.signature.now (state_of c.loop-argument.walk) (state_of c.term_shape-in-Some-pop.new.walk) (term_of c.in-Some-pop.argument.now)) c.in_default-2.is c.in_ok-argument.ensures)
+    let es = c.args.signature.now in
+    let rest : ArgumentRow = record { function = c.loop.row.function; arguments = c.pop.new.self } in
+    let k = next_asked es c.loop.invariant rest c.in-Some-pop.argument c.in-Some-pop.ensures.items refl in
+    asked_refused es k c.requires (subst (TermIsRead es (state_of c.loop.walk) (state_of c.term_shape.new.walk) (term_of c.in-Some-pop.argument.now)) c.in_default-2.is c.in_ok-shape-in-Ident.ensures)
 
-pub application_shape-applied-requires-clause-function : goal.application_shape-applied-requires-clause-function
-application_shape-applied-requires-clause-function t c =
-    let r = c.loop-argument.invariant.2 in
-    let u = subst (TermIsRead c.args.signature.now (state_of c.loop-argument.walk) (state_of c.term_shape-in-Some-pop.new.walk) (term_of c.in-Some-pop.argument.now)) c.in-Some-2.is c.in_ok-argument.ensures in
-    shape_more (count_of c.loop-argument.walk.shapes) (count_of c.term_shape-in-Some-pop.new.walk.shapes) (shape_of c.loop-argument.function) u.reading.count r.within
+pub application_shape-resumed-requires-clause-function : goal.application_shape-resumed-requires-clause-function
+application_shape-resumed-requires-clause-function t c =
+    let es = c.args.signature.now in
+    let rest : ArgumentRow = record { function = c.loop.row.function; arguments = c.pop.new.self } in
+    let k = next_asked es c.loop.invariant rest c.in-Some-pop.argument c.in-Some-pop.ensures.items refl in
+    function_within es k (subst (TermIsRead es (state_of c.loop.walk) (state_of c.term_shape.new.walk) (term_of c.in-Some-pop.argument.now)) c.in-Some-3.is c.in_ok-shape-in-Ident.ensures)
 
-pub application_shape-loop-argument-preserved : goal.application_shape-loop-argument-preserved
-application_shape-loop-argument-preserved t c =
-    applying_next c.args.signature.now (state_of c.args.walk.now) c.requires (term_of c.args.term.now) c.loop-argument.arguments.items c.pop.new.self.items c.in-Some-pop.argument (state_of c.loop-argument.walk) (state_of c.term_shape-in-Some-pop.new.walk) (state_of c.applied.new.walk) (shape_of c.loop-argument.function) (shape_of c.in-Some-2.argument) (shape_of c.in-Some-3.result) c.in-Some-pop.ensures.items c.loop-argument.invariant (subst (TermIsRead c.args.signature.now (state_of c.loop-argument.walk) (state_of c.term_shape-in-Some-pop.new.walk) (term_of c.in-Some-pop.argument.now)) c.in-Some-2.is c.in_ok-argument.ensures)
-    (subst (IsApplied (state_of c.term_shape-in-Some-pop.new.walk) (state_of c.applied.new.walk) (shape_of c.loop-argument.function) (shape_of c.in-Some-2.argument)) c.in-Some-3.is c.in_ok-result.ensures)
+pub application_shape-returns-in-None-3 : goal.application_shape-returns-in-None-3
+application_shape-returns-in-None-3 t c =
+    let es = c.args.signature.now in
+    let rest : ArgumentRow = record { function = c.loop.row.function; arguments = c.pop.new.self } in
+    let k = next_asked es c.loop.invariant rest c.in-Some-pop.argument c.in-Some-pop.ensures.items refl in
+    let one = subst (TermIsRead es (state_of c.loop.walk) (state_of c.term_shape.new.walk) (term_of c.in-Some-pop.argument.now)) c.in-Some-3.is c.in_ok-shape-in-Ident.ensures in
+    argument_refused es k one c.requires (state_of c.resumed.new.walk) (subst (IsResumed (state_of c.term_shape.new.walk) (state_of c.resumed.new.walk) rest (shape_of c.in-Some-3.shape)) c.in-None-3.is c.in_ok-rest-in-Ident.ensures)
 
-pub application_shape-returns-in-None : goal.application_shape-returns-in-None
-application_shape-returns-in-None t c =
-    applying_refuses c.args.signature.now (state_of c.args.walk.now) c.requires (term_of c.args.term.now) c.loop-argument.arguments.items c.pop.new.self.items c.in-Some-pop.argument (state_of c.loop-argument.walk) (state_of c.term_shape-in-Some-pop.new.walk) (shape_of c.loop-argument.function) (shape_of c.in-Some-2.argument) c.in-Some-pop.ensures.items c.loop-argument.invariant (subst (TermIsRead c.args.signature.now (state_of c.loop-argument.walk) (state_of c.term_shape-in-Some-pop.new.walk) (term_of c.in-Some-pop.argument.now)) c.in-Some-2.is c.in_ok-argument.ensures)
-    (subst (IsApplied (state_of c.term_shape-in-Some-pop.new.walk) (state_of c.applied.new.walk) (shape_of c.loop-argument.function) (shape_of c.in-Some-2.argument)) c.in-None.is c.in_ok-result.ensures)
+pub application_shape-resumed-requires-in-Some-pop-2-clause-function : goal.application_shape-resumed-requires-in-Some-pop-2-clause-function
+application_shape-resumed-requires-in-Some-pop-2-clause-function t c =
+    let es = c.args.signature.now in
+    let n = nil_from_length c.loop.row.arguments.items (omega (arith, c.in-None.ensures.cases)) in
+    let (P, u, k, one) = outer_asked es c.loop.invariant c.pop-in-None.new.self.items c.in-Some-pop-2.outer c.in-Some-pop-2.ensures.items n in
+    function_within es k one
+
+pub application_shape-returns-in-None-4 : goal.application_shape-returns-in-None-4
+application_shape-returns-in-None-4 t c =
+    let es = c.args.signature.now in
+    let n = nil_from_length c.loop.row.arguments.items (omega (arith, c.in-None.ensures.cases)) in
+    let (P, u, k, one) = outer_asked es c.loop.invariant c.pop-in-None.new.self.items c.in-Some-pop-2.outer c.in-Some-pop-2.ensures.items n in
+    argument_refused es k one c.requires (state_of c.resumed-in-Some-pop-2.new.walk) (subst (IsResumed (state_of c.loop.walk) (state_of c.resumed-in-Some-pop-2.new.walk) c.in-Some-pop-2.outer (shape_of c.loop.row.function)) c.in-None-4.is c.in_ok-rest-in-Some-pop-2.ensures)
+
+pub application_shape-loop-preserved : goal.application_shape-loop-preserved
+application_shape-loop-preserved t c =
+    let es = c.args.signature.now in
+    let W = term_of c.args.term.now in
+    let s = state_of c.args.walk.now in
+    let rest : ArgumentRow = record { function = c.loop.row.function; arguments = c.pop.new.self } in
+    elim c.match-pop.branch [
+      | application_shape-in-Some-pop+in-App+in_ok-push-in-App+in_ok-begun-in-App+in-Some-2 w ↦
+          let k = next_asked es c.loop.invariant rest w.in-Some-pop.argument w.in-Some-pop.ensures.items refl in
+          let b = subst (IsBegun es (state_of c.loop.walk) (state_of w.begin-in-App.new.walk) (term_of w.in-Some-pop.argument.now)) w.in-Some-2.is w.in_ok-begun-in-App.ensures in
+          rows_stay es c.match-pop.waiting w.push.new.self c.match-pop.row w.in-Some-2.begun c.match-pop.walk w.begin-in-App.new.walk W s w.walk-is w.waiting-is w.row-is
+          (row_asked es k w.push.new.self.items w.in-Some-2.begun (state_of w.begin-in-App.new.walk) w.in_ok-push-in-App.ensures.items b)
+      | application_shape-in-Some-pop+in-Ident+in_ok-shape-in-Ident+in-Some-3+in_ok-rest-in-Ident+in-Some-4 w ↦
+          let k = next_asked es c.loop.invariant rest w.in-Some-pop.argument w.in-Some-pop.ensures.items refl in
+          let one = subst (TermIsRead es (state_of c.loop.walk) (state_of w.term_shape.new.walk) (term_of w.in-Some-pop.argument.now)) w.in-Some-3.is w.in_ok-shape-in-Ident.ensures in
+          let two = subst (IsResumed (state_of w.term_shape.new.walk) (state_of w.resumed.new.walk) rest (shape_of w.in-Some-3.shape)) w.in-Some-4.is w.in_ok-rest-in-Ident.ensures in
+          rows_stay es c.match-pop.waiting c.loop.waiting c.match-pop.row w.in-Some-4.rest c.match-pop.walk w.resumed.new.walk W s w.walk-is w.waiting-is w.row-is
+          (argument_taken es k one c.requires (state_of w.resumed.new.walk) w.in-Some-4.rest two)
+      | application_shape-in-None+in-Some-pop-2+in_ok-rest-in-Some-pop-2+in-Some-5 w ↦
+          let n = nil_from_length c.loop.row.arguments.items (omega (arith, w.in-None.ensures.cases)) in
+          let (P, u, k, one) = outer_asked es c.loop.invariant w.pop-in-None.new.self.items w.in-Some-pop-2.outer w.in-Some-pop-2.ensures.items n in
+          let two = subst (IsResumed (state_of c.loop.walk) (state_of w.resumed-in-Some-pop-2.new.walk) w.in-Some-pop-2.outer (shape_of c.loop.row.function)) w.in-Some-5.is w.in_ok-rest-in-Some-pop-2.ensures in
+          rows_stay es c.match-pop.waiting w.pop-in-None.new.self c.match-pop.row w.in-Some-5.rest c.match-pop.walk w.resumed-in-Some-pop-2.new.walk W s w.walk-is w.waiting-is w.row-is
+          (argument_taken es k one c.requires (state_of w.resumed-in-Some-pop-2.new.walk) w.in-Some-5.rest two)
+    ]
+
+pub begin-returns : goal.begin-returns
+begin-returns t c =
+    head_refuses c.args.signature.now (state_of c.args.walk.now) c.requires (term_of c.in_ok-head.head.now) (term_of c.args.term.now) (written_terms c.in_ok-head.arguments.items) c.in_ok-head.ensures (subst (TermIsRead c.args.signature.now (state_of c.args.walk.now) (state_of c.term_shape.new.walk) (term_of c.in_ok-head.head.now)) c.in-None.is c.in_ok-function.ensures)
+
+pub ascribed_family-returns-in_default : goal.ascribed_family-returns-in_default
+ascribed_family-returns-in_default t c =
+    inner_family_refuses c.args.signature.now (state_of c.args.walk.now) c.requires (term_of c.in_ok-inner.inner.now) (term_of c.args.term.now) (written_terms c.in_ok-inner.kinds.items) c.in_ok-inner.ensures (subst (FamilyIsRead c.args.signature.now (state_of c.args.walk.now) (state_of c.family_shape.new.walk) (term_of c.in_ok-inner.inner.now)) c.in_default.is c.in_ok-family.ensures)
+
+pub ascribed_family-returns-in_default-2 : goal.ascribed_family-returns-in_default-2
+ascribed_family-returns-in_default-2 t c =
+    let k = subst (KindIsRead c.args.signature.now (state_of c.loop-kind.walk) (state_of c.kind_due.new.walk) (term_of c.in-Some-pop.kind.now)) c.in_default-2.is c.in_ok-expected.ensures in
+    kind_refused c.args.signature.now (state_of c.args.walk.now) c.requires c.loop-kind.invariant c.pop.new.self.items c.in-Some-pop.kind c.in-Some-pop.ensures.items k
+
+pub ascribed_family-of_kind-requires-clause-family : goal.ascribed_family-of_kind-requires-clause-family
+ascribed_family-of_kind-requires-clause-family t c =
+    let k = subst (KindIsRead c.args.signature.now (state_of c.loop-kind.walk) (state_of c.kind_due.new.walk) (term_of c.in-Some-pop.kind.now)) c.in-Some-2.is c.in_ok-expected.ensures in
+    family_more (count_of c.loop-kind.walk.shapes) (count_of c.kind_due.new.walk.shapes) c.loop-kind.family k.reading.count c.loop-kind.invariant.2.within
+
+pub ascribed_family-loop-kind-preserved : goal.ascribed_family-loop-kind-preserved
+ascribed_family-loop-kind-preserved t c =
+    let k = subst (KindIsRead c.args.signature.now (state_of c.loop-kind.walk) (state_of c.kind_due.new.walk) (term_of c.in-Some-pop.kind.now)) c.in-Some-2.is c.in_ok-expected.ensures in
+    kind_taken c.args.signature.now (state_of c.args.walk.now) c.requires c.loop-kind.invariant c.pop.new.self.items c.in-Some-pop.kind c.in-Some-pop.ensures.items k (state_of c.of_kind.new.walk) c.in-Some-3.result
+    (subst (IsFamilyAscribed (state_of c.kind_due.new.walk) (state_of c.of_kind.new.walk) c.loop-kind.family (due_of c.in-Some-2.expected)) c.in-Some-3.is c.in_ok-result.ensures)
+
+pub ascribed_family-returns-in-None : goal.ascribed_family-returns-in-None
+ascribed_family-returns-in-None t c =
+    let k = subst (KindIsRead c.args.signature.now (state_of c.loop-kind.walk) (state_of c.kind_due.new.walk) (term_of c.in-Some-pop.kind.now)) c.in-Some-2.is c.in_ok-expected.ensures in
+    family_ascription_refused c.args.signature.now (state_of c.args.walk.now) c.requires c.loop-kind.invariant c.pop.new.self.items c.in-Some-pop.kind c.in-Some-pop.ensures.items k
+    (subst (IsFamilyAscribed (state_of c.kind_due.new.walk) (state_of c.of_kind.new.walk) c.loop-kind.family (due_of c.in-Some-2.expected)) c.in-None.is c.in_ok-result.ensures)
+
+pub ascription_shape-returns-in_default : goal.ascription_shape-returns-in_default
+ascription_shape-returns-in_default t c =
+    inner_refuses c.args.signature.now (state_of c.args.walk.now) c.requires (term_of c.in_ok-inner.inner.now) (term_of c.args.term.now) (written_terms c.in_ok-inner.types.items) c.in_ok-inner.ensures (subst (TermIsRead c.args.signature.now (state_of c.args.walk.now) (state_of c.term_shape.new.walk) (term_of c.in_ok-inner.inner.now)) c.in_default.is c.in_ok-shape.ensures)
+
+pub ascription_shape-returns-in_default-2 : goal.ascription_shape-returns-in_default-2
+ascription_shape-returns-in_default-2 t c =
+    let k = subst (TypeIsRead c.args.signature.now (state_of c.loop-ty.walk) (state_of c.type_shape.new.walk) (term_of c.in-Some-pop.ty.now)) c.in_default-2.is c.in_ok-expected.ensures in
+    type_refused c.args.signature.now (state_of c.args.walk.now) c.requires c.loop-ty.invariant c.pop.new.self.items c.in-Some-pop.ty c.in-Some-pop.ensures.items k
+
+pub ascription_shape-ascribed-requires-clause-shape : goal.ascription_shape-ascribed-requires-clause-shape
+ascription_shape-ascribed-requires-clause-shape t c =
+    let k = subst (TypeIsRead c.args.signature.now (state_of c.loop-ty.walk) (state_of c.type_shape.new.walk) (term_of c.in-Some-pop.ty.now)) c.in-Some-2.is c.in_ok-expected.ensures in
+    shape_more (count_of c.loop-ty.walk.shapes) (count_of c.type_shape.new.walk.shapes) (shape_of c.loop-ty.shape) k.reading.count c.loop-ty.invariant.2.within
+
+pub ascription_shape-loop-ty-preserved : goal.ascription_shape-loop-ty-preserved
+ascription_shape-loop-ty-preserved t c =
+    let k = subst (TypeIsRead c.args.signature.now (state_of c.loop-ty.walk) (state_of c.type_shape.new.walk) (term_of c.in-Some-pop.ty.now)) c.in-Some-2.is c.in_ok-expected.ensures in
+    type_taken c.args.signature.now (state_of c.args.walk.now) c.requires c.loop-ty.invariant c.pop.new.self.items c.in-Some-pop.ty c.in-Some-pop.ensures.items k (state_of c.ascribed.new.walk) (shape_of c.in-Some-3.result)
+    (subst (IsAscribed (state_of c.type_shape.new.walk) (state_of c.ascribed.new.walk) (shape_of c.loop-ty.shape) (shape_of c.in-Some-2.expected)) c.in-Some-3.is c.in_ok-result.ensures)
+
+pub ascription_shape-returns-in-None : goal.ascription_shape-returns-in-None
+ascription_shape-returns-in-None t c =
+    let k = subst (TypeIsRead c.args.signature.now (state_of c.loop-ty.walk) (state_of c.type_shape.new.walk) (term_of c.in-Some-pop.ty.now)) c.in-Some-2.is c.in_ok-expected.ensures in
+    ascription_refused c.args.signature.now (state_of c.args.walk.now) c.requires c.loop-ty.invariant c.pop.new.self.items c.in-Some-pop.ty c.in-Some-pop.ensures.items k
+    (subst (IsAscribed (state_of c.type_shape.new.walk) (state_of c.ascribed.new.walk) (shape_of c.loop-ty.shape) (shape_of c.in-Some-2.expected)) c.in-None.is c.in_ok-result.ensures)
 
 pub applied_family-returns-in_default : goal.applied_family-returns-in_default
 applied_family-returns-in_default t c =
@@ -75,42 +186,6 @@ arrow_shape-returns-in-Some t c =
 pub arrow_shape-returns-in-None : goal.arrow_shape-returns-in-None
 arrow_shape-returns-in-None t c =
     quantifier_refuses c.args.signature.now (state_of c.args.walk.now) c.requires (λ f θ. type_skeleton c.args.signature.now f c.args.walk.now.scope (filled_all θ (state_of c.args.walk.now).context) (term_of c.args.domain.now)) None (term_of c.args.range.now) (subst (TypeIsRead c.args.signature.now (state_of c.args.walk.now) (state_of c.type_shape.new.walk) (term_of c.args.domain.now)) c.in-None.is c.in_ok-domain.ensures)
-
-pub ascribed_family-returns-in_default : goal.ascribed_family-returns-in_default
-ascribed_family-returns-in_default t c =
-    family_ascription_refuses_family c.args.signature.now (state_of c.args.walk.now) c.requires (term_of c.args.term.now) (term_of c.args.kind.now) (subst (FamilyIsRead c.args.signature.now (state_of c.args.walk.now) (state_of c.family_shape.new.walk) (term_of c.args.term.now)) c.in_default.is c.in_ok-family.ensures)
-
-pub ascribed_family-returns-in_default-2 : goal.ascribed_family-returns-in_default-2
-ascribed_family-returns-in_default-2 t c =
-    family_ascription_refuses_kind c.args.signature.now (state_of c.args.walk.now) c.requires (term_of c.args.term.now) (term_of c.args.kind.now) (state_of c.family_shape.new.walk) c.in-Some.family (subst (FamilyIsRead c.args.signature.now (state_of c.args.walk.now) (state_of c.family_shape.new.walk) (term_of c.args.term.now)) c.in-Some.is c.in_ok-family.ensures) (subst (KindIsRead c.args.signature.now (state_of c.family_shape.new.walk) (state_of c.kind_due.new.walk) (term_of c.args.kind.now)) c.in_default-2.is c.in_ok-expected.ensures)
-
-pub ascribed_family-of_kind-requires-clause-family : goal.ascribed_family-of_kind-requires-clause-family
-ascribed_family-of_kind-requires-clause-family t c =
-    let one = (subst (FamilyIsRead c.args.signature.now (state_of c.args.walk.now) (state_of c.family_shape.new.walk) (term_of c.args.term.now)) c.in-Some.is c.in_ok-family.ensures) in
-    let two = (subst (KindIsRead c.args.signature.now (state_of c.family_shape.new.walk) (state_of c.kind_due.new.walk) (term_of c.args.kind.now)) c.in-Some-2.is c.in_ok-expected.ensures) in
-    family_more (count_of c.family_shape.new.walk.shapes) (count_of c.kind_due.new.walk.shapes) c.in-Some.family two.reading.count one.within
-
-pub ascribed_family-returns : goal.ascribed_family-returns
-ascribed_family-returns t c =
-    if_ok c.of_kind.result _ _ (family_ascription_read c.args.signature.now (state_of c.args.walk.now) c.requires (term_of c.args.term.now) (term_of c.args.kind.now) (state_of c.family_shape.new.walk) (state_of c.kind_due.new.walk) (state_of c.of_kind.new.walk) c.in-Some.family (due_of c.in-Some-2.expected) (subst (FamilyIsRead c.args.signature.now (state_of c.args.walk.now) (state_of c.family_shape.new.walk) (term_of c.args.term.now)) c.in-Some.is c.in_ok-family.ensures) (subst (KindIsRead c.args.signature.now (state_of c.family_shape.new.walk) (state_of c.kind_due.new.walk) (term_of c.args.kind.now)) c.in-Some-2.is c.in_ok-expected.ensures)) c.of_kind.ensures
-
-pub ascription_shape-returns-in_default : goal.ascription_shape-returns-in_default
-ascription_shape-returns-in_default t c =
-    ascription_refuses_term c.args.signature.now (state_of c.args.walk.now) c.requires (term_of c.args.term.now) (term_of c.args.ty.now) (subst (TermIsRead c.args.signature.now (state_of c.args.walk.now) (state_of c.term_shape.new.walk) (term_of c.args.term.now)) c.in_default.is c.in_ok-shape.ensures)
-
-pub ascription_shape-returns-in_default-2 : goal.ascription_shape-returns-in_default-2
-ascription_shape-returns-in_default-2 t c =
-    ascription_refuses_type c.args.signature.now (state_of c.args.walk.now) c.requires (term_of c.args.term.now) (term_of c.args.ty.now) (state_of c.term_shape.new.walk) (shape_of c.in-Some.shape) (subst (TermIsRead c.args.signature.now (state_of c.args.walk.now) (state_of c.term_shape.new.walk) (term_of c.args.term.now)) c.in-Some.is c.in_ok-shape.ensures) (subst (TypeIsRead c.args.signature.now (state_of c.term_shape.new.walk) (state_of c.type_shape.new.walk) (term_of c.args.ty.now)) c.in_default-2.is c.in_ok-expected.ensures)
-
-pub ascription_shape-ascribed-requires-clause-shape : goal.ascription_shape-ascribed-requires-clause-shape
-ascription_shape-ascribed-requires-clause-shape t c =
-    let one = (subst (TermIsRead c.args.signature.now (state_of c.args.walk.now) (state_of c.term_shape.new.walk) (term_of c.args.term.now)) c.in-Some.is c.in_ok-shape.ensures) in
-    let two = (subst (TypeIsRead c.args.signature.now (state_of c.term_shape.new.walk) (state_of c.type_shape.new.walk) (term_of c.args.ty.now)) c.in-Some-2.is c.in_ok-expected.ensures) in
-    shape_more (count_of c.term_shape.new.walk.shapes) (count_of c.type_shape.new.walk.shapes) (shape_of c.in-Some.shape) two.reading.count one.within
-
-pub ascription_shape-returns : goal.ascription_shape-returns
-ascription_shape-returns t c =
-    if_ok c.ascribed.result _ _ (ascription_read c.args.signature.now (state_of c.args.walk.now) c.requires (term_of c.args.term.now) (term_of c.args.ty.now) (state_of c.term_shape.new.walk) (state_of c.type_shape.new.walk) (state_of c.ascribed.new.walk) (shape_of c.in-Some.shape) (shape_of c.in-Some-2.expected) (subst (TermIsRead c.args.signature.now (state_of c.args.walk.now) (state_of c.term_shape.new.walk) (term_of c.args.term.now)) c.in-Some.is c.in_ok-shape.ensures) (subst (TypeIsRead c.args.signature.now (state_of c.term_shape.new.walk) (state_of c.type_shape.new.walk) (term_of c.args.ty.now)) c.in-Some-2.is c.in_ok-expected.ensures)) c.ascribed.ensures
 
 pub domain_shape-returns-in-Some : goal.domain_shape-returns-in-Some
 domain_shape-returns-in-Some t c =

@@ -3,7 +3,8 @@ use Rattle.tw_parse.specs.Applied.{written_terms}
 use Rattle.tw_approx.specs.Reading.{state_of}
 use Rattle.tw_parse.specs.View.{term_of}
 use Rattle.tw_shapes.specs.View.{shape_of}
-use Rattle.tw_approx.proofs.Applying.{IsApplying, IsFamilyApplying}
+use Rattle.tw_approx.proofs.Applying.{IsAscribing, IsFamilyApplying, IsFamilyAscribing}
+use Rattle.tw_approx.proofs.WaitingRows.{RowsOf}
 use Rattle.tw_approx.proofs.skeletons.+shapes.Given as goal
 
 abbrev pub decreases-term_shape : goal.decreases-term_shape
@@ -33,6 +34,9 @@ decreases-lambda_shape l = 10 * l.frames + 2
 abbrev pub decreases-application_shape : goal.decreases-application_shape
 decreases-application_shape l = 10 * l.frames + 2
 
+abbrev pub decreases-begin : goal.decreases-begin
+decreases-begin l = 10 * l.frames + 1
+
 abbrev pub decreases-ascription_shape : goal.decreases-ascription_shape
 decreases-ascription_shape l = 10 * l.frames + 2
 
@@ -48,14 +52,26 @@ decreases-applied_family l = 10 * l.frames + 2
 abbrev pub decreases-ascribed_family : goal.decreases-ascribed_family
 decreases-ascribed_family l = 10 * l.frames + 2
 
-abbrev pub invariant-application_shape-loop-argument : goal.invariant-application_shape-loop-argument
-invariant-application_shape-loop-argument l = IsApplying l.signature (state_of l.fn.walk) (state_of l.walk) (term_of l.fn.term) (written_terms l.arguments.items) (shape_of l.function)
-
-abbrev pub decreases-application_shape-loop-argument : goal.decreases-application_shape-loop-argument
-decreases-application_shape-loop-argument l = vec_len l.arguments
+-- the rows that wait, and the one that is read
+abbrev pub invariant-application_shape-loop : goal.invariant-application_shape-loop
+invariant-application_shape-loop l = RowsOf l.signature l.waiting.items l.row (term_of l.fn.term) (state_of l.fn.walk) (state_of l.walk)
 
 abbrev pub invariant-applied_family-loop-argument : goal.invariant-applied_family-loop-argument
 invariant-applied_family-loop-argument l = IsFamilyApplying l.signature (state_of l.fn.walk) (state_of l.walk) (term_of l.fn.term) (written_terms l.arguments.items) l.family
 
 abbrev pub decreases-applied_family-loop-argument : goal.decreases-applied_family-loop-argument
 decreases-applied_family-loop-argument l = vec_len l.arguments
+
+-- the types that are left
+abbrev pub invariant-ascription_shape-loop-ty : goal.invariant-ascription_shape-loop-ty
+invariant-ascription_shape-loop-ty l = IsAscribing l.signature (state_of l.fn.walk) (state_of l.walk) (term_of l.fn.term) (written_terms l.types.items) (shape_of l.shape)
+
+abbrev pub decreases-ascription_shape-loop-ty : goal.decreases-ascription_shape-loop-ty
+decreases-ascription_shape-loop-ty l = vec_len l.types
+
+-- the kinds that are left
+abbrev pub invariant-ascribed_family-loop-kind : goal.invariant-ascribed_family-loop-kind
+invariant-ascribed_family-loop-kind l = IsFamilyAscribing l.signature (state_of l.fn.walk) (state_of l.walk) (term_of l.fn.term) (written_terms l.kinds.items) l.family
+
+abbrev pub decreases-ascribed_family-loop-kind : goal.decreases-ascribed_family-loop-kind
+decreases-ascribed_family-loop-kind l = vec_len l.kinds

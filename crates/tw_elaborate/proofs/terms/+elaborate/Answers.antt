@@ -24,7 +24,7 @@ use Rattle.tw_elaborate.specs.Rows.{Reached}
 use Rattle.tw_open.specs.View.{open_kind_of}
 use Rattle.tw_elaborate.specs.View.{made, numbers_of}
 use Rattle.tw_hered.specs.declared.fault.HeredFault.TheVariants.{TooDeep}
-use Rattle.tw_elaborate.specs.declared.operators.Waiting.{Waiting}
+use Rattle.tw_elaborate.specs.declared.waiting.Waiting.{Waiting}
 use Rattle.tw_open.specs.declared.kinds.OpenKind.{Star as OpenKind-Star}
 use Rattle.tw_open.proofs.DeepKinds.{fault_of_call}
 use Rattle.tw_elaborate.proofs.Answering.{body_deep, domain_checked, domain_compared, domain_deep, family_elaborated, function_checked, function_inferred, inferred_checked, is_inferred, is_reducible, kind_quantified_elaborated, quantified_elaborated}
@@ -914,7 +914,7 @@ infer_applied-check-requires t c =
     let p = c.in-Argument.outer.value in
     let k = next_asks es ns D c.loop.begun.value c.in_ok-arg.field-0 c.in-Argument.arg c.in-Argument.outer c.in-Argument.is c.in_ok-arg.ensures c.loop.invariant.0 in
     let l = c.loop.invariant.1.locals in
-    (omega arith, (c.requires.canonical, (asked_stands es ns D k c.requires.canonical c.requires.stands c.loop.state.locals l, subst (λ (q : Waiting). TypeHasSkeletons (signature_of es) (made c.loop.state) c.loop.state.locals (open_type_of q.domain)) (sym c.deref.ensures) (asked_domain es ns D k c.requires.canonical c.requires.stands c.loop.state.locals l))))
+    (omega arith, (c.requires.canonical, (asked_stands es ns D k c.requires.canonical c.requires.stands c.loop.state.locals l, subst (λ (q : Waiting). TypeHasSkeletons (signature_of es) (made c.loop.state) c.loop.state.locals (open_type_of q.domain)) (sym c.deref-in-Free.ensures) (asked_domain es ns D k c.requires.canonical c.requires.stands c.loop.state.locals l))))
 
 pub infer_applied-returns-in_err-arg-in-Free-clause-too_deep : goal.infer_applied-returns-in_err-arg-in-Free-clause-too_deep
 infer_applied-returns-in_err-arg-in-Free-clause-too_deep t c = λ is.
@@ -925,7 +925,7 @@ infer_applied-returns-in_err-arg-in-Free-clause-too_deep t c = λ is.
     let k = next_asks es ns D c.loop.begun.value c.in_ok-arg.field-0 c.in-Argument.arg c.in-Argument.outer c.in-Argument.is c.in_ok-arg.ensures c.loop.invariant.0 in
     let l = c.loop.invariant.1.locals in
     let P = written_of c.in-Argument.arg.now in
-    asked_deep es ns D k c.requires.canonical c.requires.stands (subst (λ (q : Waiting). ChecksDeep es ns D P (open_type_of q.domain) (made c.loop.state)) c.deref.ensures (subst (λ F. ChecksDeep es ns F P (open_type_of c.deref.result.now.domain) (made c.loop.state)) l (c.in_err-arg-in-Free.ensures.too_deep (fault_of_call c.from_residual-in_err-arg-in-Free.result c.in_err-arg-in-Free.field-0.0 TooDeep (search rules) is))))
+    asked_deep es ns D k c.requires.canonical c.requires.stands (subst (λ (q : Waiting). ChecksDeep es ns D P (open_type_of q.domain) (made c.loop.state)) c.deref-in-Free.ensures (subst (λ F. ChecksDeep es ns F P (open_type_of c.deref-in-Free.result.now.domain) (made c.loop.state)) l (c.in_err-arg-in-Free.ensures.too_deep (fault_of_call c.from_residual-in_err-arg-in-Free.result c.in_err-arg-in-Free.field-0.0 TooDeep (search rules) is))))
 
 pub infer_applied-returns-in_err-arg-in-Free-clause-keeps : goal.infer_applied-returns-in_err-arg-in-Free-clause-keeps
 infer_applied-returns-in_err-arg-in-Free-clause-keeps t c = keeps_then c.args.state.now c.loop.state c.check.new.state c.loop.invariant.1 c.check.ensures.keeps
@@ -940,7 +940,7 @@ infer_applied-resume-requires-clause-applies t c =
     let l = c.loop.invariant.1.locals in
     let P = written_of c.in-Argument.arg.now in
     let X = open_type_of p.domain in
-    let i : Checks es ns D P X (made c.loop.state) (made c.check.new.state) (open_term_of c.in_ok-arg-in-Free.arg) = subst (λ (q : Waiting). Checks es ns D P (open_type_of q.domain) (made c.loop.state) (made c.check.new.state) (open_term_of c.in_ok-arg-in-Free.arg)) c.deref.ensures (subst (λ F. Checks es ns F P (open_type_of c.deref.result.now.domain) (made c.loop.state) (made c.check.new.state) (open_term_of c.in_ok-arg-in-Free.arg)) l c.in_ok-arg-in-Free.ensures.ok) in
+    let i : Checks es ns D P X (made c.loop.state) (made c.check.new.state) (open_term_of c.in_ok-arg-in-Free.arg) = subst (λ (q : Waiting). Checks es ns D P (open_type_of q.domain) (made c.loop.state) (made c.check.new.state) (open_term_of c.in_ok-arg-in-Free.arg)) c.deref-in-Free.ensures (subst (λ F. Checks es ns F P (open_type_of c.deref-in-Free.result.now.domain) (made c.loop.state) (made c.check.new.state) (open_term_of c.in_ok-arg-in-Free.arg)) l c.in_ok-arg-in-Free.ensures.ok) in
     asked_applies es ns D k c.requires.canonical c.requires.stands i
 
 pub infer_applied-resume-requires-clause-range : goal.infer_applied-resume-requires-clause-range
@@ -953,7 +953,7 @@ infer_applied-resume-requires-clause-range t c =
     let l = c.loop.invariant.1.locals in
     let P = written_of c.in-Argument.arg.now in
     let X = open_type_of p.domain in
-    let i : Checks es ns D P X (made c.loop.state) (made c.check.new.state) (open_term_of c.in_ok-arg-in-Free.arg) = subst (λ (q : Waiting). Checks es ns D P (open_type_of q.domain) (made c.loop.state) (made c.check.new.state) (open_term_of c.in_ok-arg-in-Free.arg)) c.deref.ensures (subst (λ F. Checks es ns F P (open_type_of c.deref.result.now.domain) (made c.loop.state) (made c.check.new.state) (open_term_of c.in_ok-arg-in-Free.arg)) l c.in_ok-arg-in-Free.ensures.ok) in
+    let i : Checks es ns D P X (made c.loop.state) (made c.check.new.state) (open_term_of c.in_ok-arg-in-Free.arg) = subst (λ (q : Waiting). Checks es ns D P (open_type_of q.domain) (made c.loop.state) (made c.check.new.state) (open_term_of c.in_ok-arg-in-Free.arg)) c.deref-in-Free.ensures (subst (λ F. Checks es ns F P (open_type_of c.deref-in-Free.result.now.domain) (made c.loop.state) (made c.check.new.state) (open_term_of c.in_ok-arg-in-Free.arg)) l c.in_ok-arg-in-Free.ensures.ok) in
     asked_range_fits es ns D k c.requires.canonical c.requires.stands i
 
 pub infer_applied-returns-in_err-begun-in-Free-clause-too_deep : goal.infer_applied-returns-in_err-begun-in-Free-clause-too_deep
@@ -966,7 +966,7 @@ infer_applied-returns-in_err-begun-in-Free-clause-too_deep t c = λ is.
     let l = c.loop.invariant.1.locals in
     let P = written_of c.in-Argument.arg.now in
     let X = open_type_of p.domain in
-    let i : Checks es ns D P X (made c.loop.state) (made c.check.new.state) (open_term_of c.in_ok-arg-in-Free.arg) = subst (λ (q : Waiting). Checks es ns D P (open_type_of q.domain) (made c.loop.state) (made c.check.new.state) (open_term_of c.in_ok-arg-in-Free.arg)) c.deref.ensures (subst (λ F. Checks es ns F P (open_type_of c.deref.result.now.domain) (made c.loop.state) (made c.check.new.state) (open_term_of c.in_ok-arg-in-Free.arg)) l c.in_ok-arg-in-Free.ensures.ok) in
+    let i : Checks es ns D P X (made c.loop.state) (made c.check.new.state) (open_term_of c.in_ok-arg-in-Free.arg) = subst (λ (q : Waiting). Checks es ns D P (open_type_of q.domain) (made c.loop.state) (made c.check.new.state) (open_term_of c.in_ok-arg-in-Free.arg)) c.deref-in-Free.ensures (subst (λ F. Checks es ns F P (open_type_of c.deref-in-Free.result.now.domain) (made c.loop.state) (made c.check.new.state) (open_term_of c.in_ok-arg-in-Free.arg)) l c.in_ok-arg-in-Free.ensures.ok) in
     asked_taken_deep es ns D k c.requires.canonical c.requires.stands i (c.in_err-begun-in-Free.ensures.too_deep (fault_of_call c.from_residual-in_err-begun-in-Free.result c.in_err-begun-in-Free.field-0.0 TooDeep (search rules) is))
 
 pub infer_applied-returns-in_err-begun-in-Free-clause-keeps : goal.infer_applied-returns-in_err-begun-in-Free-clause-keeps
@@ -1070,7 +1070,7 @@ infer_applied-loop-preserved t c =
           let k = next_asks es ns D c.loop.begun.value c.in_ok-arg.field-0 w.in-Argument.arg w.in-Argument.outer w.in-Argument.is c.in_ok-arg.ensures c.loop.invariant.0 in
           let P = written_of w.in-Argument.arg.now in
           let X = open_type_of p.domain in
-          let i : Checks es ns D P X (made c.loop.state) (made w.check.new.state) (open_term_of w.in_ok-arg-in-Free.arg) = subst (λ (q : Waiting). Checks es ns D P (open_type_of q.domain) (made c.loop.state) (made w.check.new.state) (open_term_of w.in_ok-arg-in-Free.arg)) w.deref.ensures (subst (λ F. Checks es ns F P (open_type_of w.deref.result.now.domain) (made c.loop.state) (made w.check.new.state) (open_term_of w.in_ok-arg-in-Free.arg)) l w.in_ok-arg-in-Free.ensures.ok) in
+          let i : Checks es ns D P X (made c.loop.state) (made w.check.new.state) (open_term_of w.in_ok-arg-in-Free.arg) = subst (λ (q : Waiting). Checks es ns D P (open_type_of q.domain) (made c.loop.state) (made w.check.new.state) (open_term_of w.in_ok-arg-in-Free.arg)) w.deref-in-Free.ensures (subst (λ F. Checks es ns F P (open_type_of w.deref-in-Free.result.now.domain) (made c.loop.state) (made w.check.new.state) (open_term_of w.in_ok-arg-in-Free.arg)) l w.in_ok-arg-in-Free.ensures.ok) in
           let b = w.in_ok-begun-in-Free.begun in
           rows_stay es ns D c.match-branch-3.waiting c.loop.waiting c.match-branch-3.begun b c.args.state.now c.match-branch-3.state w.check.new.state (written_of c.args.written.now) w.state-is w.waiting-is w.begun-is (resumed es ns D k b.value.args b.value.operator (open_type_of b.value.ty) i w.in_ok-begun-in-Free.ensures.ok.0 w.in_ok-begun-in-Free.ensures.ok.1 w.in_ok-begun-in-Free.ensures.ok.2 w.in_ok-begun-in-Free.ensures.stays, keeps_then c.args.state.now c.loop.state w.check.new.state c.loop.invariant.1 w.check.ensures.keeps)
       | infer_applied-in-Nothing+in_ok-term-in-Nothing+in_ok-outer-in-Nothing+in-Some+in_ok-compare_types-in-Some+in_ok-begun-in-Some+in-Pi-1 w ↦

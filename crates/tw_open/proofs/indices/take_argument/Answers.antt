@@ -20,4 +20,4 @@ returns-in_err-rest-in-Pi-clause-too_deep c = λ is S.
     let A = open_type_of c.deref-in-Pi.result.now in
     let L = open_kind_of c.deref.result.now in
     let e : open_kind_of c.args.kind ≡ kind_pi A L = grind (arith, steps) in
-    takes_first_deep (open_kind_of c.args.kind) L A (open_term_of c.args.left.now) S e (c.in_err-rest-in-Pi.ensures.too_deep (fault_of_call c.from_residual.result c.in_err-rest-in-Pi.field-0.0 TooDeep (search rules) is))
+    takes_first_deep (open_kind_of c.args.kind) L A (open_term_of c.args.left.now) S e (c.in_err-rest-in-Pi.ensures.deep_domain (fault_of_call c.from_residual.result c.in_err-rest-in-Pi.field-0.0 TooDeep (search rules) is))

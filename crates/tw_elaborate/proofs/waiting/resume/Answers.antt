@@ -2,10 +2,10 @@ use Rattle.std.proofs.Common.{◌≡◌, arith, rules, subst}
 use Rattle.tw_hered.specs.declared.fault.HeredFault.TheVariants.{TooDeep}
 use Rattle.tw_terms.specs.OpenView.{open_term_of, open_type_of}
 use Rattle.tw_elaborate.specs.Operators.{TakesArgumentDeep}
-use Rattle.tw_elaborate.specs.declared.operators.Waiting.{Waiting}
+use Rattle.tw_elaborate.specs.declared.waiting.Waiting.{Waiting}
 use Rattle.tw_open.proofs.DeepKinds.{fault_of_call}
 use Rattle.tw_open.proofs.Steps.{steps}
-use Rattle.tw_elaborate.proofs.operators.resume.Goals as goal
+use Rattle.tw_elaborate.proofs.waiting.resume.Goals as goal
 
 pub returns-in_err-operator-clause-too_deep : goal.returns-in_err-operator-clause-too_deep
 returns-in_err-operator-clause-too_deep c = λ is.

@@ -5,7 +5,7 @@ use Rattle.tw_shapes.specs.Shapes.{count_of, arrow}
 use Rattle.tw_shapes.specs.View.{shape_of}
 use Rattle.tw_approx.proofs.Assigning.{shape_more}
 use Rattle.tw_approx.proofs.Unifying.{IsFresh, unified, not_unified, unknown_reads, unknown_refuses}
-use Rattle.tw_approx.proofs.skeletons.applied_unknown.Goals as goal
+use Rattle.tw_approx.proofs.chains.applied_unknown.Goals as goal
 
 pub unify-requires-clause-left : goal.unify-requires-clause-left
 unify-requires-clause-left c = shape_more (count_of c.args.walk.now.shapes) (count_of c.fresh.new.self) (shape_of c.args.function) c.in_ok-range.ensures.count c.requires.function

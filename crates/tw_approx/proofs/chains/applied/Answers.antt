@@ -4,7 +4,7 @@ use Rattle.tw_shapes.proofs.Views.{shape_of-Arrow}
 use Rattle.tw_shapes.specs.Dropping.{whole_of}
 use Rattle.tw_shapes.specs.View.{shape_of}
 use Rattle.tw_approx.proofs.Unifying.{unified, not_unified, arrow_reads_at, arrow_refuses_at}
-use Rattle.tw_approx.proofs.skeletons.applied.Goals as goal
+use Rattle.tw_approx.proofs.chains.applied.Goals as goal
 
 pub returns-then-branch : goal.returns-then-branch
 returns-then-branch c =
