@@ -10,7 +10,7 @@ use Rattle.tw_fixity.specs.Names.{Names as Scope}
 use Rattle.tw_fixity.specs.declared.table.Assoc.{Assoc}
 use Rattle.tw_fixity.specs.declared.table.Fix.{Fix}
 use Rattle.tw_fixity.specs.declared.table.Fix.TheVariants.{Infix, Prefix, Postfix}
-use Rattle.tw_terms.specs.View.{term_of, type_of}
+use Rattle.tw_terms.specs.View.{args_of, term_of, type_of}
 use Rattle.tw_terms.specs.declared.canonical.Term.{Term}
 use Rattle.tw_terms.specs.declared.canonical.Ty.{Ty}
 use Rattle.tw_print.specs.Arguments as spec
@@ -65,6 +65,14 @@ behind k zs ts (inr g) h = let m : k ≡ length zs = omega (arith, g, h) in ap (
 -- the arguments behind those that are left are those that are shown
 pub shown_behind : (keep : ℕ) (xs ys tail : List Argument) → xs ≡ ys ++ tail → (tail ≡ []) ⊎ (keep ≤ length ys) → length ys ≤ keep → map argument_of tail ≡ drop keep (map argument_of xs)
 shown_behind keep xs ys tail e k l = sym (ap (λ us. drop keep (map argument_of us)) e ∙ ap (drop keep) (map-append argument_of ys tail) ∙ behind keep ys tail k l)
+
+-- a term without a type
+abbrev pub bare : Term → Argument
+bare t = record { term = t; ty = None }
+
+bare_of : (ts : List Term) → map argument_of (map bare ts) ≡ spec.bare_arguments (args_of ts)
+bare_of [] = refl
+bare_of (t ∷ ts) = ap (λ xs. argument_of (bare t) ∷ xs) (bare_of ts)
 
 module _ (s : Scene) where
   pub puts_none : (old : List Due) → Puts s [] (λ G ns. []) old old
@@ -139,6 +147,20 @@ module _ (s : Scene) where
     -- those that are left and those that are shown
     pub all_shown : (keep : ℕ) (xs ys : List Argument) (old new : List Due) (p : PutsSpaced s n keep xs ys old new) → length ys ≤ keep → map argument_of p.tail ≡ drop keep (map argument_of xs)
     all_shown keep xs ys old new p l = shown_behind keep xs ys p.tail p.split p.kept l
+
+    -- the arguments behind the hidden ones, and the same of terms without types
+    pub spaced_due : (keep : ℕ) (xs ys : List Argument) (old new : List Due) → PutsSpaced s n keep xs ys old new → length ys ≤ keep → Puts s (drop keep (map argument_of xs)) (λ G ns. spaced (parts s n) s G ns (drop keep (map argument_of xs))) old new
+    spaced_due keep xs ys old new p l =
+        let k = all_shown keep xs ys old new p l in
+        puts_as (λ G ns. spaced (parts s n) s G ns (drop keep (map argument_of xs))) k (λ G ns. ap (spaced (parts s n) s G ns) k) p.puts
+
+    pub bare_due : (keep : ℕ) (ts us : List Term) (old new : List Due) → PutsSpaced s n keep (map bare ts) (map bare us) old new → length us ≤ keep → Puts s (drop keep (spec.bare_arguments (args_of ts))) (λ G ns. spaced (parts s n) s G ns (drop keep (spec.bare_arguments (args_of ts)))) old new
+    bare_due keep ts us old new p l =
+        subst (λ xs. Puts s (drop keep xs) (λ G ns. spaced (parts s n) s G ns (drop keep xs)) old new) (bare_of ts) (spaced_due keep (map bare ts) (map bare us) old new p (subst (λ k. k ≤ keep) (sym (length-map us bare)) l))
+
+    pub bare_more : (keep : ℕ) (ts us vs : List Term) (t : Term) (old one two new : List Due) → PutsSpaced s n keep (map bare ts) (map bare us) old one → us ≡ vs ++ t ∷ [] → keep < length us → Puts s (argument_of (bare t) ∷ []) (λ G ns. argument (parts s n) s G ns (argument_of (bare t))) one two → new ≡ Due.Space ∷ two → PutsSpaced s n keep (map bare ts) (map bare vs) old new
+    bare_more keep ts us vs t old one two new p e l q r =
+        spaced_more keep (map bare ts) (map bare us) (map bare vs) (bare t) old one two new p (ap (map bare) e ∙ map-append bare vs (t ∷ [])) (subst (λ k. keep < k) (sym (length-map us bare)) l) q r
 
   -- what stands behind all of a list
   behind_all : {X : Type 0} (xs ys : List X) (k : ℕ) → k ≡ length xs → drop k (xs ++ ys) ≡ ys
@@ -277,6 +299,22 @@ module _ (s : Scene) where
   opened : (p q : Page) (os zs ps : List Piece) (old new : List Due) → Writes p q os → pieces_due s new p.context p.scope ≡ zs → ps ++ pieces_due s old p.context p.scope ≡ os ++ zs → q.out.items ++ render (pieces_due s new p.context p.scope) ≡ p.out.items ++ render (ps ++ pieces_due s old p.context p.scope)
   opened p q os zs ps old new w e f =
       ap (λ us. q.out.items ++ render us) e ∙ ap (λ us. us ++ render zs) w.out ∙ append_assoc p.out.items (render os) (render zs) ∙ ap (λ us. p.out.items ++ us) (sym (render-append os zs) ∙ ap render (sym f))
+
+  -- A plain head is written, and its arguments are due.
+  pub head_written : (n : ℕ) (p q : Page) (word : List ℕ) (op : Option Fix) (h h' : ℕ) (xs : List spec.Argument) (old new : List Due) → op ≡ None → h ≡ h' → Writes p q (token word ∷ [])
+      → Puts s (drop h xs) (λ G ns. spaced (parts s n) s G ns (drop h xs)) old new → AreShowable signature p.context (drop h' xs) → AllFit signature p.context old
+      → Begins s p q (application (parts s n) s p.context p.scope word op (drop h' xs)) old new
+  head_written n p q word op h h' xs old new e c w u g f =
+      let v = subst (λ k. Puts s (drop k xs) (λ G ns. spaced (parts s n) s G ns (drop k xs)) old new) c u in
+      let ps = spaced (parts s n) s p.context p.scope (drop h' xs) in
+      subst (λ o. Begins s p q (application (parts s n) s p.context p.scope word o (drop h' xs)) old new) (sym e) (record {
+        out = opened p q (token word ∷ []) (ps ++ pieces_due s old p.context p.scope) (token word ∷ ps) old new w (v.pieces p.context p.scope) refl;
+        context = w.context;
+        scope = w.scope;
+        context_after = v.context p.context;
+        scope_after = v.scope p.scope;
+        fits = v.fits signature p.context g f;
+      })
 
   -- what is due under a variable, between a closing and the rest
   under_pieces : (n : ℕ) (T cs R rest : List Piece) (os : List Piece) → ((os ++ T) ++ cs) ++ R ≡ os ++ (T ++ (cs ++ R))
@@ -504,11 +542,12 @@ type_alone s n A B v new e f t =
     }
 
 -- what was begun alone is written whole
-pub begun_alone : (s : Scene) (p q : Page) (ps qs : List Piece) (old new : List Due) → old ≡ [] → Begins s p p ps old new → ps ≡ qs → Goes s p q new [] → Writes p q qs
-begun_alone s p q ps qs old new e b f g = record {
-  out = sym (append-nil q.out.items) ∙ g.out ∙ b.out ∙ ap (λ ds. p.out.items ++ render (ps ++ pieces_due s ds p.context p.scope)) e ∙ ap (λ us. p.out.items ++ render us) (append-nil ps ∙ f);
-  context = g.context ∙ b.context_after ∙ ap (λ ds. context_after ds p.context) e;
-  scope = g.scope ∙ b.scope_after ∙ ap (λ ds. scope_after ds p.scope) e;
+pub begun_alone : (s : Scene) (p m q : Page) (ps qs : List Piece) (old new : List Due) → old ≡ [] → Begins s p m ps old new → ps ≡ qs → Goes s m q new [] → Writes p q qs
+begun_alone s p m q ps qs old new e b f g = record {
+  out = sym (append-nil q.out.items) ∙ g.out ∙ ap (λ D. m.out.items ++ render (pieces_due s new D m.scope)) b.context ∙ ap (λ ns. m.out.items ++ render (pieces_due s new p.context ns)) b.scope ∙ b.out
+      ∙ ap (λ ds. p.out.items ++ render (ps ++ pieces_due s ds p.context p.scope)) e ∙ ap (λ us. p.out.items ++ render us) (append-nil ps ∙ f);
+  context = g.context ∙ ap (context_after new) b.context ∙ b.context_after ∙ ap (λ ds. context_after ds p.context) e;
+  scope = g.scope ∙ ap (scope_after new) b.scope ∙ b.scope_after ∙ ap (λ ds. scope_after ds p.scope) e;
 }
 
 -- by the kind of the operator

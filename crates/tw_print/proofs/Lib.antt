@@ -1,3 +1,4 @@
+pub mod Untyped
 pub mod Maps
 pub mod Scenes
 pub mod Writing

@@ -1,6 +1,7 @@
 //! What is still to be written on a page. It nests on the heap, so that a text may have any number of levels.
 ghost use Rattle.std.specs.Prelude.{◌≡◌, ◌∷◌, ◌++◌, ◌≤◌, ◌+◌, [], IfOk, MatchOption, OnOk, drop, length, map};
-ghost use Rattle.tw_terms.specs.View.{type_of};
+ghost use Rattle.tw_terms.specs.View.{args_of, type_of};
+ghost use Rattle.tw_print.specs.Arguments as counts;
 ghost use Rattle.tw_print.specs.ArgumentView.{argument_of};
 ghost use Rattle.tw_print.specs.Due.{Puts, PutsSpaced, PutsType, stacked};
 ghost use Rattle.tw_print.specs.SceneView.{scene_in};
@@ -117,6 +118,30 @@ fn push_spaced(
         match arguments.pop() {
             Some(argument) => {
                 push_argument(scene, due, argument, inner)?;
+                push(due, Due::Space)?;
+            }
+            None => return Ok(()),
+        }
+    }
+    Ok(())
+}
+
+/// Terms that need no types are due, but for the first `hidden`, each after one space.
+#[inline(never)]
+pub fn push_bare(
+    scene: &Scene,
+    due: &mut Vec<Due>,
+    terms: Vec<Term>,
+    hidden: usize,
+    inner: u64,
+) -> Result<(), AllocError>
+    ensures { OnOk result (Puts (scene_in scene.now) (drop hidden (counts.bare_arguments (args_of terms.items))) (λ G ns. layout.spaced (layout.parts (scene_in scene.now) inner) (scene_in scene.now) G ns (drop hidden (counts.bare_arguments (args_of terms.items)))) (stacked due.old.items) (stacked due.new.items)) }
+{
+    let mut left = terms;
+    while left.len() > hidden {
+        match left.pop() {
+            Some(term) => {
+                push_argument(scene, due, Argument { term, ty: None }, inner)?;
                 push(due, Due::Space)?;
             }
             None => return Ok(()),

@@ -1,9 +1,9 @@
 //! Heads and families, their words, operators and arguments.
-ghost use Rattle.std.specs.Prelude.{◌≡◌, IfOk, map, option_map};
+ghost use Rattle.std.specs.Prelude.{◌≡◌, IfOk, IfSome, false, map, option_map};
 ghost use Rattle.lf.specs.Entries.{signature_of, IsCanonicalSignature};
-ghost use Rattle.lf.specs.Syntax.{root, atom};
+ghost use Rattle.lf.specs.Syntax.{atom, constant, root};
 ghost use Rattle.tw_terms.specs.View.{head_of, term_of, spine_of, type_of};
-ghost use Rattle.tw_print.specs.ArgumentView.{argument_of};
+ghost use Rattle.tw_print.specs.ArgumentView.{any_lambda, argument_of};
 ghost use Rattle.tw_print.specs.Arguments as counts;
 ghost use Rattle.tw_print.specs.Names as names;
 ghost use Rattle.tw_print.specs.SceneView.{scene_in};
@@ -38,6 +38,19 @@ pub fn head_arguments(
     }
     let ty = head_type(alloc, scene, context, head)?;
     typed_arguments(alloc, scene, context, spine.args, ty)
+}
+
+/// The constant at the head of a root, where none of the arguments is a lambda.
+pub fn bare_constant(head: Head, spine: &Spine) -> Option<ConstId>
+    ensures { IfSome result (λ id. (head_of head ≡ constant id.0) × (any_lambda (spine_of spine.now) ≡ false)) }
+{
+    if has_lambda(&spine.args) {
+        return None;
+    }
+    match head {
+        Head::Const(id) => Some(id),
+        Head::Var(_) => None,
+    }
 }
 
 /// The arguments of a family.

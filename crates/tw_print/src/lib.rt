@@ -3,6 +3,8 @@
 
 #[tactic(auto, using(tw_terms::proofs::Args::types))]
 mod arguments;
+#[tactic(auto, using(tw_terms::proofs::Args::types))]
+mod bare;
 mod context;
 #[tactic(auto, using(tw_terms::proofs::Args::types))]
 mod declaration;

@@ -10,10 +10,13 @@ ghost use Rattle.tw_print.specs.SceneView.{scene_in};
 ghost use Rattle.tw_print.specs.Shown as layout;
 ghost use Rattle.tw_print.specs.Showable.{IsShowableContext, IsShowableType, IsShowable};
 
+use crate::arguments::has_lambda;
+use crate::bare::begin_bare;
 use crate::due::{Due, pop, push, push_application, push_type};
 use crate::fresh::fresh_name;
 use crate::heads::{
-    family_arguments, head_arguments, head_hidden, head_operator, head_word, is_quantified,
+    bare_constant, family_arguments, head_arguments, head_hidden, head_operator, head_word,
+    is_quantified,
 };
 use crate::page::Page;
 use crate::scene::Scene;
@@ -215,18 +218,21 @@ fn begin_lambda(
 fn begin_root(
     alloc: Global,
     scene: &Scene,
-    page: &Page,
+    page: &mut Page,
     head: Head,
     spine: Spine,
     inner: u64,
     due: &mut Vec<Due>,
 ) -> Result<(), AllocError>
     requires canonical { IsCanonicalSignature (scene_in scene.now).entries }
-    requires context { IsShowableContext (signature_of (scene_in scene.now).entries) page.now.context }
-    requires typed { IsShowable (signature_of (scene_in scene.now).entries) page.now.context (root (head_of head) (spine_of spine)) None }
-    requires fits { AllFit (signature_of (scene_in scene.now).entries) page.now.context (stacked due.old.items) }
-    ensures { OnOk result (Begins (scene_in scene.now) page.now page.now (layout.root_pieces (layout.parts (scene_in scene.now) inner) (scene_in scene.now) page.now.context page.now.scope (head_of head) (spine_of spine)) (stacked due.old.items) (stacked due.new.items)) }
+    requires context { IsShowableContext (signature_of (scene_in scene.now).entries) page.old.context }
+    requires typed { IsShowable (signature_of (scene_in scene.now).entries) page.old.context (root (head_of head) (spine_of spine)) None }
+    requires fits { AllFit (signature_of (scene_in scene.now).entries) page.old.context (stacked due.old.items) }
+    ensures { OnOk result (Begins (scene_in scene.now) page.old page.new (layout.root_pieces (layout.parts (scene_in scene.now) inner) (scene_in scene.now) page.old.context page.old.scope (head_of head) (spine_of spine)) (stacked due.old.items) (stacked due.new.items)) }
 {
+    if let Some(id) = bare_constant(head, &spine) {
+        return begin_bare(alloc, scene, page, id, spine.args, inner, due);
+    }
     let word = head_word(alloc, scene, page, head)?;
     let arguments = head_arguments(alloc, scene, &page.context, head, spine)?;
     push_application(
@@ -245,18 +251,21 @@ fn begin_root(
 fn begin_atom(
     alloc: Global,
     scene: &Scene,
-    page: &Page,
+    page: &mut Page,
     family: ConstId,
     spine: Spine,
     inner: u64,
     due: &mut Vec<Due>,
 ) -> Result<(), AllocError>
     requires canonical { IsCanonicalSignature (scene_in scene.now).entries }
-    requires context { IsShowableContext (signature_of (scene_in scene.now).entries) page.now.context }
-    requires typed { IsShowableType (signature_of (scene_in scene.now).entries) page.now.context (atom family.0 (spine_of spine)) }
-    requires fits { AllFit (signature_of (scene_in scene.now).entries) page.now.context (stacked due.old.items) }
-    ensures { OnOk result (Begins (scene_in scene.now) page.now page.now (layout.atom_pieces (layout.parts (scene_in scene.now) inner) (scene_in scene.now) page.now.context page.now.scope family.0 (spine_of spine)) (stacked due.old.items) (stacked due.new.items)) }
+    requires context { IsShowableContext (signature_of (scene_in scene.now).entries) page.old.context }
+    requires typed { IsShowableType (signature_of (scene_in scene.now).entries) page.old.context (atom family.0 (spine_of spine)) }
+    requires fits { AllFit (signature_of (scene_in scene.now).entries) page.old.context (stacked due.old.items) }
+    ensures { OnOk result (Begins (scene_in scene.now) page.old page.new (layout.atom_pieces (layout.parts (scene_in scene.now) inner) (scene_in scene.now) page.old.context page.old.scope family.0 (spine_of spine)) (stacked due.old.items) (stacked due.new.items)) }
 {
+    if !has_lambda(&spine.args) {
+        return begin_bare(alloc, scene, page, family, spine.args, inner, due);
+    }
     let word = scene.constant_word(alloc, family)?;
     let arguments = family_arguments(alloc, scene, &page.context, family, spine)?;
     push_application(

@@ -78,14 +78,14 @@ impl<'a> Scene<'a> {
     }
 
     /// Whether a constant is the newest entry of its name.
-    fn is_plain(self, id: ConstId) -> bool
+    pub fn is_plain(self, id: ConstId) -> bool
         ensures { result ≡ spec.is_plain (scene_in self.entry) id.0 }
     {
         is_newest(self.lookup(self.name(id)), id)
     }
 
     /// The name of a constant, which is empty where no entry has this number.
-    fn name(self, id: ConstId) -> &'a [u8]
+    pub fn name(self, id: ConstId) -> &'a [u8]
         ensures { result.now ≡ spec.name_in (entry_numbered (scene_in self.entry).entries id.0) }
     {
         match self.entry(id) {
@@ -98,8 +98,16 @@ impl<'a> Scene<'a> {
     pub fn constant_word(self, alloc: Global, id: ConstId) -> Result<Vec<u8>, AllocError>
         ensures { IfOk result (λ w. w.items ≡ spec.constant_word (scene_in self.entry) id.0) }
     {
+        self.word_by(alloc, id, self.is_plain(id))
+    }
+
+    /// The same, where it is known whether the constant is the newest of its name.
+    pub fn word_by(self, alloc: Global, id: ConstId, plain: bool) -> Result<Vec<u8>, AllocError>
+        requires { plain ≡ spec.is_plain (scene_in self) id.0 }
+        ensures { IfOk result (λ w. w.items ≡ spec.constant_word (scene_in self.entry) id.0) }
+    {
         let name = self.name(id);
-        if self.is_plain(id) {
+        if plain {
             return Vec::from_slice(alloc, name);
         }
         let mut word = Vec::from_slice(alloc, b"%")?;
@@ -115,7 +123,18 @@ impl<'a> Scene<'a> {
         if self.implicit {
             return None;
         }
-        if self.is_plain(id) {
+        self.operator_by(id, self.is_plain(id))
+    }
+
+    /// The same, where it is known whether the constant is the newest of its name.
+    pub fn operator_by(self, id: ConstId, plain: bool) -> Option<Fix>
+        requires { plain ≡ spec.is_plain (scene_in self) id.0 }
+        ensures { result ≡ layout.operator (scene_in self.entry) id.0 }
+    {
+        if self.implicit {
+            return None;
+        }
+        if plain {
             return self.row(self.name(id));
         }
         None

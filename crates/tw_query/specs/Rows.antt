@@ -1,10 +1,11 @@
 -- The lines of an answer, as the program has them, and what is needed to show them.
-use Rattle.std.specs.Prelude.{List, [], ◌∷◌, Option, Some, None}
+use Rattle.std.specs.Prelude.{◌≡◌, ◌≤◌, ◌⊎◌, ◌++◌, ℕ, suc, List, [], ◌∷◌, Option, Some, None, cond, is_some, length}
 use Rattle.lf.specs.Substitution.{single}
 use Rattle.lf.specs.Syntax.{LfType, Term, atom, pi, skeleton}
 use Rattle.lf.specs.Typing.{Signature, instantiate_type}
 use Rattle.tw_hered.specs.Fits.{TypeFits}
 use Rattle.tw_print.specs.Showable.{HasSkeleton, IsShowableType}
+use Rattle.tw_signature.specs.Goal.{Goal}
 use Rattle.tw_terms.specs.View.{term_of, type_of}
 use Rattle.tw_query.specs.Text as text
 use Rattle.tw_query.specs.declared.rows.Row.{Row}
@@ -21,6 +22,16 @@ abbrev pub FitAlong : Signature → List LfType → LfType → List Term → Typ
 FitAlong Σ F A [] = IsShowableType Σ F A
 FitAlong Σ F (pi A B) (M ∷ Ms) = IsShowableType Σ F A × HasSkeleton Σ F M (skeleton A) × TypeFits (single (skeleton A) M) B × FitAlong Σ F (instantiate_type A M B) Ms
 FitAlong Σ F (atom a S) (M ∷ Ms) = ⊥
+
+-- these are the first of the others, so many of them at least, or all
+pub record Suffices (count : ℕ) (ts all : List LfType) : Type 0 where
+  pub rest : List LfType
+  pub split : ts ++ rest ≡ all
+  pub enough : (rest ≡ []) ⊎ (count ≤ length ts)
+
+-- how many types the lines of an answer may need: one for each variable, and one more where the proof has a name
+abbrev pub types_needed : Goal → ℕ
+types_needed g = cond (is_some g.proof) (suc (length g.variables)) (length g.variables)
 
 -- skeletons type each line
 abbrev pub AreShowable : Signature → List LfType → List text.Row → Type 0

@@ -31,6 +31,9 @@ pub(crate) fn free_names(
     requires rows { AreShowable (signature_of env.now.sig.now) free.now (map row_of rows.now) }
     ensures { IfOk result (λ v. v.items ≡ free_names (scene_of env.now) (goal_of goal.now) free.now (map row_of rows.now)) }
 {
+    if free.len() == 0 {
+        return Ok(Vec::new(alloc));
+    }
     let mut names = nameless(alloc, free.len())?;
     for row in rows {
         give(alloc, &mut names, row)?;

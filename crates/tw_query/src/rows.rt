@@ -6,7 +6,7 @@ ghost use Rattle.lf_unification.specs.Offering.{pi_over};
 ghost use Rattle.tw_metas.specs.State.{joined};
 ghost use Rattle.tw_signature.specs.Goal.{goal_of};
 ghost use Rattle.tw_terms.specs.View.{term_of, type_of};
-ghost use Rattle.tw_query.specs.Rows.{FitAlong, option_list, row_of};
+ghost use Rattle.tw_query.specs.Rows.{FitAlong, Suffices, option_list, row_of, types_needed};
 ghost use Rattle.tw_query.specs.Text.{at, row_in, rows_of, types_along};
 
 use std::alloc::{AllocError, Global};
@@ -34,7 +34,7 @@ pub(crate) fn rows<'a>(
     ensures { IfOk result (λ v. map row_of v.items ≡ rows_of (goal_of goal.now) (map term_of answer.now.values.items) (option_map term_of answer.now.proof)) }
 {
     let over = type_over(alloc, &goal.variables, goal.goal.copy(alloc)?)?;
-    let types = types_along(alloc, over, &answer.values)?;
+    let types = types_along(alloc, over, &answer.values, needed(goal)?)?;
     let mut rows = Vec::new(alloc);
     for variable in &goal.shown {
         let place = place_of(&goal.variables, *variable);
@@ -57,6 +57,17 @@ pub(crate) fn rows<'a>(
     Ok(rows)
 }
 
+/// How many types the lines may need: one for each variable, and one more where the proof has a name. Fails where no context in memory is so long.
+fn needed(goal: &Goal) -> Result<usize, AllocError>
+    ensures { IfOk result (λ n. n ≡ types_needed (goal_of goal.now)) }
+{
+    let count = goal.variables.len();
+    match &goal.proof {
+        Some(_) => count.checked_add(1).ok_or(AllocError),
+        None => Ok(count),
+    }
+}
+
 /// The type under a quantifier for each variable of the context.
 fn type_over(alloc: Global, context: &Context, ty: Ty) -> Result<Ty, AllocError>
     ensures { IfOk result (λ a. type_of a ≡ pi_over context.now (type_of ty)) }
@@ -74,10 +85,10 @@ fn type_over(alloc: Global, context: &Context, ty: Ty) -> Result<Ty, AllocError>
     Ok(over)
 }
 
-/// The types of terms that are put in for the quantifiers of a type, and the type that is left.
-fn types_along(alloc: Global, ty: Ty, terms: &[Term]) -> Result<Vec<Ty>, AllocError>
+/// The types of terms that are put in for the quantifiers of a type, and the type that is left; no more than are needed.
+fn types_along(alloc: Global, ty: Ty, terms: &[Term], needed: usize) -> Result<Vec<Ty>, AllocError>
     requires { (Σ : Signature) × (F : List LfType) × FitAlong Σ F (type_of ty) (map term_of terms.now) }
-    ensures { IfOk result (λ v. map type_of v.items ≡ types_along (type_of ty) (map term_of terms.now)) }
+    ensures { IfOk result (λ v. Suffices needed (map type_of v.items) (types_along (type_of ty) (map term_of terms.now))) }
 {
     let mut types = Vec::new(alloc);
     let mut left = ty;
@@ -85,8 +96,11 @@ fn types_along(alloc: Global, ty: Ty, terms: &[Term]) -> Result<Vec<Ty>, AllocEr
         match left {
             Ty::Pi(domain, range) => {
                 let shape = skeleton(alloc, &domain)?;
+                types.push(Box::into_inner(domain))?;
+                if types.len() == needed {
+                    return Ok(types);
+                }
                 left = instantiated(alloc, &range, term, &shape)?;
-                types.push(domain.copy(alloc)?)?;
             }
             Ty::Atom(_, _) => unreachable!(),
         }

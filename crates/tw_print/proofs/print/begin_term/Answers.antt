@@ -22,6 +22,6 @@ returns-in-Root c =
     let t = option_map type_of c.args.ty in
     let e : term_of c.args.term ≡ root (head_of c.in-Root.head) (spine_of c.in-Root.spine) = grind (arith, types) in
     on_ok c.begin_root.result _ _
-    (λ b. subst (λ M. Begins s p p ((layout.parts s c.args.levels).term p.context p.scope M t) (stacked c.args.due.now.items) (stacked c.begin_root.new.due.items)) (sym e)
-    (term_begun s c.in_ok-inner.inner c.args.levels p p (root (head_of c.in-Root.head) (spine_of c.in-Root.spine)) t (stacked c.args.due.now.items) (stacked c.begin_root.new.due.items) c.in_ok-inner.ensures b))
+    (λ b. subst (λ M. Begins s p c.begin_root.new.page ((layout.parts s c.args.levels).term p.context p.scope M t) (stacked c.args.due.now.items) (stacked c.begin_root.new.due.items)) (sym e)
+    (term_begun s c.in_ok-inner.inner c.args.levels p c.begin_root.new.page (root (head_of c.in-Root.head) (spine_of c.in-Root.spine)) t (stacked c.args.due.now.items) (stacked c.begin_root.new.due.items) c.in_ok-inner.ensures b))
     c.begin_root.ensures

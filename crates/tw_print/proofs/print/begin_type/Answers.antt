@@ -23,6 +23,6 @@ returns-in-Atom c =
     let A = atom c.in-Atom.family.0 (spine_of c.in-Atom.spine) in
     let e : type_of c.args.ty ≡ A = grind (arith, types) in
     on_ok c.begin_atom.result _ _
-    (λ b. subst (λ X. Begins s p p ((layout.parts s c.args.levels).type p.context p.scope X) (stacked c.args.due.now.items) (stacked c.begin_atom.new.due.items)) (sym e)
-    (type_begun s c.in_ok-inner.inner c.args.levels p p A (stacked c.args.due.now.items) (stacked c.begin_atom.new.due.items) c.in_ok-inner.ensures b))
+    (λ b. subst (λ X. Begins s p c.begin_atom.new.page ((layout.parts s c.args.levels).type p.context p.scope X) (stacked c.args.due.now.items) (stacked c.begin_atom.new.due.items)) (sym e)
+    (type_begun s c.in_ok-inner.inner c.args.levels p c.begin_atom.new.page A (stacked c.args.due.now.items) (stacked c.begin_atom.new.due.items) c.in_ok-inner.ensures b))
     c.begin_atom.ensures

@@ -4,7 +4,7 @@ use Rattle.lf.specs.Syntax.{atom}
 use Rattle.tw_print.specs.Due.{AllFit, stacked}
 use Rattle.tw_print.specs.SceneView.{scene_in}
 use Rattle.tw_print.specs.Shown as layout
-use Rattle.tw_print.specs.Showable.{IsShowableType}
+use Rattle.tw_print.specs.Showable.{IsShowableContext, IsShowableType}
 use Rattle.tw_print.proofs.Dues.{begun_alone}
 use Rattle.tw_print.proofs.Printing.{on_ok}
 use Rattle.tw_print.proofs.print.print_atom.Goals as goal
@@ -18,8 +18,13 @@ begin_atom-requires-clause-fits c =
     let e : stacked c.new-due.result.items ≡ [] = ap reverse z in
     subst (AllFit (signature_of (scene_in c.args.scene.now).entries) c.args.page.now.context) (sym e) tt
 
+pub write_due-requires-clause-context : goal.write_due-requires-clause-context
+write_due-requires-clause-context c = subst (IsShowableContext (signature_of (scene_in c.args.scene.now).entries)) (sym c.in_ok-begin_atom.ensures.context) c.requires.context
+
 pub write_due-requires-clause-fits : goal.write_due-requires-clause-fits
-write_due-requires-clause-fits c = c.in_ok-begin_atom.ensures.fits
+write_due-requires-clause-fits c =
+    let b = c.in_ok-begin_atom.ensures in
+    subst (λ D. AllFit (signature_of (scene_in c.args.scene.now).entries) D (stacked c.begin_atom.new.due.items)) (sym b.context) b.fits
 
 pub returns : goal.returns
 returns c =
@@ -27,5 +32,5 @@ returns c =
     let z : c.new-due.result.items ≡ [] = search rules in
     let e : stacked c.new-due.result.items ≡ [] = ap reverse z in
     on_ok c.write_due.result _ _
-    (λ g. begun_alone s c.args.page.now c.write_due.new.page _ _ (stacked c.new-due.result.items) (stacked c.begin_atom.new.due.items) e c.in_ok-begin_atom.ensures (ap (layout.atom_pieces (layout.parts s c.args.inner) s c.args.page.now.context c.args.page.now.scope c.args.family.0) c.in_ok-copy.ensures) g)
+    (λ g. begun_alone s c.args.page.now c.begin_atom.new.page c.write_due.new.page _ _ (stacked c.new-due.result.items) (stacked c.begin_atom.new.due.items) e c.in_ok-begin_atom.ensures (ap (layout.atom_pieces (layout.parts s c.args.inner) s c.args.page.now.context c.args.page.now.scope c.args.family.0) c.in_ok-copy.ensures) g)
     c.write_due.ensures
