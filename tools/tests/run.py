@@ -104,7 +104,7 @@ def each_refusal(folder):
     status, out, _ = run([WHY, file, "2"], program=stand_in)
     expect("E0: twelf-why", status == 1 and "E0 Memory" in out, (status, out))
     if IS_REAL:
-        write(file, "b : type.\nc = [x : " + "b -> " * 20000 + "b] x.\n")
+        write(file, "b : type.\nz : b.\ns : b -> b.\n%prefix 10 s.\nd : b -> b = [x] z.\nc = d (" + "s " * 20000 + "z).\n")
         status, out, _ = run([CHECK, file])
         expect("E0 where a limit is passed", status == 1 and out.startswith(f"{file}: E0 Memory: "), (status, out))
 
